@@ -1,0 +1,44 @@
+-- From the rules' tests to the first broken rule.
+use Rattle.std.proofs.Common.{◌≡◌, ℕ, ◌-◌, Bool, true, false, List, [], ◌∷◌, Option, Some, None, refl, sym, ap, subst, ◌∙◌, length}
+use Rattle.std.specs.Prelude.{IsSome, IfSome, IfOk, Result, Ok, Err, is_some}
+use Rattle.std.specs.List.{slice_get}
+use Rattle.std.specs.Option.{option_map, option_map_or}
+use Rattle.pending_list.specs.Reply.{PendingItem, Reply}
+use Rattle.reply_rules.specs.declared.rule.Rule.{Rule}
+use Rattle.reply_rules.specs.Lists.{Lists, lists_of, split_last}
+use Rattle.reply_rules.specs.Rules.{lists}
+use Rattle.reply_rules.specs.Broken.{least, rules_of, broken}
+use Rattle.principals.specs.Table.{genesis}
+use Rattle.std.specs.Str.{bytes_eq}
+use Rattle.client_verify.specs.FirstBroken.{Known, own_last, own_pending, super_signature, of_reply, of_lists, cert_sent}
+
+mapped_some : {A B : Type 0} (f : A → B) (o : Option A) → IsSome o → IsSome (option_map f o)
+mapped_some f None h = absurd cc
+mapped_some f (Some a) h = refl
+
+split_some : (i : PendingItem) (is : List PendingItem) → IsSome (split_last (i ∷ is))
+split_some i is = refl
+
+something_last : (declared : List ℕ) (is : List PendingItem) → option_map_or (λ i. bytes_eq (cert_sent i) declared) (slice_get is (length is - 1)) false ≡ true → IsSome (split_last is)
+something_last declared [] h = absurd cc
+something_last declared (i ∷ is) h = split_some i is
+
+-- where a certificate is pending, there are lists
+pub something_pending : (r : Reply) (declared : List ℕ) → own_pending declared r ≡ true → IsSome (lists_of r)
+unfolding own_pending
+something_pending r declared h = mapped_some (λ s. record { structures = r.structures; others = s.0; own = s.1 }) (split_last r.pending) (something_last declared r.pending h)
+
+-- what is left to judge where the rules up to user 0's signatures hold
+pub rules_left : (k : Known) (r : Reply) → lists r ≡ true → own_last k.user k.last r ≡ true → own_pending k.declared r ≡ true → super_signature k.pinned r ≡ true
+    → of_reply k r ≡ least (of_lists k.pinned (lists_of r))
+unfolding of_reply
+rules_left k r in_order last waits signed = rw (in_order, last, waits, signed) refl
+
+-- the first broken rule of the lists, where there are some
+pub broken_first : (pinned : List ℕ) (o : Option Lists) (answer : Option Rule) → IsSome o → IfSome o (λ x. answer ≡ broken (genesis pinned) x) → answer ≡ least (of_lists pinned o)
+broken_first pinned None answer h told = absurd cc
+broken_first pinned (Some x) answer h told = told
+
+pub each_ok : {X E : Type 0} (r : Result X E) (P Q : X → Type 0) → ((x : X) → P x → Q x) → IfOk r P → IfOk r Q
+each_ok (Ok x) P Q h told = h x told
+each_ok (Err e) P Q h told = tt

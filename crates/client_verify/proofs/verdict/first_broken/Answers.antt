@@ -1,0 +1,24 @@
+use Rattle.std.proofs.Common.{◌≡◌, sym, ◌∙◌, ap, true, subst, List}
+use Rattle.std.specs.Prelude.{IfOk, IfSome}
+use Rattle.principals.specs.declared.table.Listing.{Listing}
+use Rattle.reply_rules.specs.Broken.{broken}
+use Rattle.std.specs.Option.{option_copied}
+use Rattle.reply_rules.specs.Lists.{lists_of}
+use Rattle.client_verify.specs.FirstBroken.{Known, own_last, own_pending, super_signature}
+use Rattle.client_verify.proofs.Judging.{something_pending, rules_left, broken_first, each_ok}
+use Rattle.client_verify.proofs.verdict.first_broken.Goals as goal
+
+pub broken-requires-clause-pending : goal.broken-requires-clause-pending
+broken-requires-clause-pending g c =
+    let waits : own_pending c.args.declared.now c.args.reply.now ≡ true = cc (c.in_ok-own_pending.ensures) in
+    something_pending c.args.reply.now c.args.declared.now waits
+
+pub returns-clause-first : goal.returns-clause-first
+returns-clause-first g c =
+    let known : Known = record { user = c.args.user; pinned = c.args.pinned.now; last = option_copied c.args.last; declared = c.args.declared.now } in
+    let waits : own_pending c.args.declared.now c.args.reply.now ≡ true = cc (c.in_ok-own_pending.ensures) in
+    let last : own_last c.args.user (option_copied c.args.last) c.args.reply.now ≡ true = cc (c.in_ok-own_last.ensures) in
+    let signed : super_signature c.args.pinned.now c.args.reply.now ≡ true = cc (c.in_ok-super_signature.ensures) in
+    let left = rules_left known c.args.reply.now (sym c.lists_hold.ensures ∙ c.if-not-lists_hold.false) last waits signed in
+    each_ok c.broken.result _ _ (λ answer told. broken_first c.args.pinned.now (lists_of c.args.reply.now) answer (something_pending c.args.reply.now c.args.declared.now waits) told ∙ sym left)
+    (subst (λ (table : List Listing). IfOk c.broken.result (λ answer. IfSome (lists_of c.args.reply.now) (λ x. answer ≡ broken table x))) c.genesis.ensures c.broken.ensures.first)

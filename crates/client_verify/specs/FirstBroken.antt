@@ -1,0 +1,84 @@
+-- The first broken rule of a reply: the least whose test doesn't hold.
+use Rattle.std.specs.Prelude.{ℕ, ◌-◌, List, [], ◌∷◌, Option, Some, None, Result, Ok, Err, Bool, true, false, ◌&&◌, ◌||◌, ◌==◌, not, if◌then◌else◌, length, find}
+use Rattle.std.specs.List.{list_all, slice_get}
+use Rattle.std.specs.Option.{option_map, option_map_or}
+use Rattle.std.specs.Str.{bytes_eq}
+use Rattle.layout.specs.declared.error.ReadError.{ReadError}
+use Rattle.layout.specs.Format.{whole}
+use Rattle.lms_sign.specs.Signature.{valid}
+use Rattle.version_order.specs.Structure.{Structure, structure}
+use Rattle.update_cert.specs.Cert.{cert}
+use Rattle.pending_list.specs.declared.signed.Signed.{Signed}
+use Rattle.pending_list.specs.Signed.{signed}
+use Rattle.pending_list.specs.Reply.{PendingItem, Reply, reply}
+use Rattle.principals.specs.Table.{genesis}
+use Rattle.reply_rules.specs.Lists.{Lists, lists_of}
+use Rattle.reply_rules.specs.Rules.{lists}
+use Rattle.reply_rules.specs.Broken.{least, rules_of}
+use Rattle.reply_rules.specs.declared.rule.Rule.{Rule}
+use Rattle.reply_rules.specs.declared.rule.Rule.TheVariants as rule
+
+-- what a client compares a reply with: who it is, user 0's key, its last signed structure and its declared certificate
+pub record Known : Type 0 where
+  pub user : ℕ
+  pub pinned : List ℕ
+  pub last : Option (Signed Structure)
+  pub declared : List ℕ
+
+-- a structure as it is sent
+abbrev pub structure_sent : Signed Structure → List ℕ
+structure_sent z = (signed structure).spell z
+
+-- a pending certificate as it was sent
+abbrev pub cert_sent : PendingItem → List ℕ
+cert_sent i = (signed cert).spell (record { value = i.cert; signature = i.signature })
+
+-- nothing and nothing, or the same bytes
+abbrev pub same_bytes : Option (List ℕ) → Option (List ℕ) → Bool
+same_bytes None None = true
+same_bytes None (Some b) = false
+same_bytes (Some a) None = false
+same_bytes (Some a) (Some b) = bytes_eq a b
+
+-- the structure that a reply has of a user
+abbrev pub shown_of : ℕ → List (Signed Structure) → Option (Signed Structure)
+shown_of user zs = find (λ z. z.value.plan.user == user) zs
+
+-- the own structure is the one that was signed last
+unfoldable pub own_last : ℕ → Option (Signed Structure) → Reply → Bool
+own_last user last r = same_bytes (option_map structure_sent (shown_of user r.structures)) (option_map structure_sent last)
+
+-- the last pending certificate is the declared one
+unfoldable pub own_pending : List ℕ → Reply → Bool
+own_pending declared r = option_map_or (λ i. bytes_eq (cert_sent i) declared) (slice_get r.pending (length r.pending - 1)) false
+
+-- a structure of user 0 verifies under the key that every client knows; one of another user isn't looked at here
+abbrev pub structure_verifies : List ℕ → Signed Structure → Bool
+structure_verifies key z = not (z.value.plan.user == 0) || valid key (structure.spell z.value) z.signature
+
+abbrev pub cert_verifies : List ℕ → PendingItem → Bool
+cert_verifies key i = not (i.cert.user == 0) || valid key (cert.spell i.cert) i.signature
+
+unfoldable pub super_signature : List ℕ → Reply → Bool
+super_signature key r = list_all (structure_verifies key) r.structures && list_all (cert_verifies key) r.pending
+
+-- the rules that speak of the lists alone, where something is pending
+abbrev pub of_lists : List ℕ → Option Lists → List (Rule × Bool)
+of_lists pinned x = option_map_or (rules_of (genesis pinned)) x []
+
+unfoldable pub of_reply : Known → Reply → Option Rule
+of_reply k r =
+    least ((rule.Lists, lists r)
+    ∷ (rule.OwnLast, own_last k.user k.last r)
+    ∷ (rule.OwnPending, own_pending k.declared r)
+    ∷ (rule.SuperSignature, super_signature k.pinned r)
+    ∷ of_lists k.pinned (lists_of r))
+
+abbrev pub of_read : Known → Result Reply ReadError → Option Rule
+of_read k (Err e) = Some rule.Form
+of_read k (Ok r) = of_reply k r
+
+-- The first broken rule of the bytes of a reply, or none. No block is asked for yet, and all items are user 0's once
+-- the rule on unknown users holds: so the rules on blocks, on others' signatures and on groups can't be broken first.
+unfoldable pub first_broken : Known → List ℕ → Option Rule
+first_broken k text = of_read k (whole reply text)

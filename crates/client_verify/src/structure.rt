@@ -1,0 +1,96 @@
+//! The structure that is signed over an accepted reply.
+
+ghost use Rattle.std.specs.Prelude.{◌≡◌, ◌<◌, ◌++◌, [], ◌∷◌, IfOk, vec_len, vec_capacity};
+ghost use Rattle.std.specs.Option.{option_copied};
+ghost use Rattle.lms_sign.specs.Signature.{signature_of};
+ghost use Rattle.version_order.specs.Structure.{structure};
+ghost use Rattle.pending_list.specs.Signed.{signed};
+ghost use Rattle.client_verify.specs.State.{structure_over, signed_by};
+
+use crate::genesis::handle_of;
+use crate::signing::{Sealed, seal};
+use layout::{Memory, Text};
+use lms_sign::{PrivateKey, PublicKey};
+use pending_list::Signed;
+use std::alloc::Allocator;
+use version_order::{GroupRecords, Plan, Structure};
+
+/// The structure over a plan, behind the one that was signed last.
+fn structure_over<A: Allocator + Copy>(
+    alloc: A,
+    pinned: &PublicKey,
+    last: Option<&Signed<Structure<A>>>,
+    plan: &Plan<A>,
+) -> Result<Structure<A>, Memory>
+    ensures { IfOk result (λ s. s ≡ structure_over pinned.now (option_copied last.entry) plan.now) }
+{
+    let plan = plan.copy(alloc)?;
+    match last {
+        Some(last) => {
+            let groups = last.value.groups().copy(alloc)?;
+            Ok(Structure::new(plan, last.value.handle(), groups))
+        }
+        None => Ok(Structure::new(plan, handle_of(pinned.as_bytes()), GroupRecords::new(alloc))),
+    }
+}
+
+/// A structure that was just signed: to be kept, to be shown in the view, and as it is sent, twice.
+pub(crate) struct SignedOver<A: Allocator> {
+    pub(crate) structure: Signed<Structure<A>>,
+    pub(crate) view: Vec<Signed<Structure<A>>, A>,
+    pub(crate) kept: Vec<u8, A>,
+    pub(crate) sent: Vec<u8, A>,
+}
+
+/// A list of this one structure, for which room was made.
+fn only<A: Allocator>(
+    room: Vec<Signed<Structure<A>>, A>,
+    structure: Signed<Structure<A>>,
+) -> Vec<Signed<Structure<A>>, A>
+    requires empty { room.items ≡ [] }
+    requires room { vec_len room < vec_capacity room }
+    ensures { result.items ≡ structure ∷ [] }
+{
+    let mut list = room;
+    list.push(structure).unwrap();
+    list
+}
+
+/// Signs the structure over a plan by this leaf. All growths come before the leaf is used.
+pub(crate) fn sign_over<A: Allocator + Copy>(
+    alloc: A,
+    key: &PrivateKey<A>,
+    leaf: u32,
+    pinned: &PublicKey,
+    last: Option<&Signed<Structure<A>>>,
+    plan: &Plan<A>,
+) -> Result<SignedOver<A>, Memory>
+    requires { leaf < 1024 }
+    ensures structure { IfOk result (λ over. over.structure ≡ signed_by key.now.seed key.now.id leaf (structure_over pinned.now (option_copied last.entry) plan.now)) }
+    ensures view { IfOk result (λ over. over.view.items ≡ over.structure ∷ []) }
+    ensures kept { IfOk result (λ over. over.kept.items ≡ (signed structure).spell over.structure) }
+    ensures sent { IfOk result (λ over. over.sent.items ≡ (signed structure).spell over.structure) }
+{
+    let value = structure_over(alloc, pinned, last, plan)?;
+    let shown = value.copy(alloc)?;
+    let room = Vec::with_capacity(alloc, 1)?;
+    let text = value.text(alloc)?;
+    let sealed = seal(alloc, key, leaf, text)?;
+    let Sealed {
+        kept,
+        sent,
+        signature,
+    } = sealed;
+    Ok(SignedOver {
+        structure: Signed { value, signature },
+        view: only(
+            room,
+            Signed {
+                value: shown,
+                signature,
+            },
+        ),
+        kept,
+        sent,
+    })
+}

@@ -1,0 +1,189 @@
+-- Formats: for a type of values its spelling as bytes, and reading with the first fault.
+use Rattle.std.specs.Prelude.{◌≡◌, ℕ, zero, suc, ◌<◌, ◌^◌, Bool, true, ◌&&◌, List, [], ◌∷◌, ◌++◌, length, take, drop, slice_index, Option, Some, None, Result, Ok, Err, nat_lt, nat_le, nat_eq, ◌==◌, IsSomeAnd, if◌then◌else◌}
+use Rattle.std.specs.Int.{Width, byte_len, from_be_bytes, to_be_bytes}
+use Rattle.std.specs.List.{starts_with}
+use Rattle.std.specs.Option.{option_map_or}
+use Rattle.layout.specs.declared.error.ReadError.{ReadError}
+use Rattle.layout.specs.declared.error.ReadError.TheVariants.{Short, BadTag, Range, Trailing, Memory}
+
+infixl 10 ◌>>=◌
+abbrev pub ◌>>=◌ : {A B : Type 0} → Result A ReadError → (A → Result B ReadError) → Result B ReadError
+(Ok x) >>= f = f x
+(Err e) >>= f = Err e
+
+-- What reading answers: the value and the bytes after it, or the first fault.
+abbrev pub Answer : Type 0 → Type 0
+Answer A = Result (A × List ℕ) ReadError
+
+pub record Format (A : Type 0) : Type 1 where
+  -- the one spelling
+  pub spell : A → List ℕ
+  -- a text with the spelling at its end, field by field, as code writes it
+  pub onto : List ℕ → A → List ℕ
+  -- what is read from the front of bytes
+  pub read : List ℕ → Answer A
+  -- what has a spelling
+  pub Fits : A → Type 0
+
+-- What a function returned, and the bytes that it left, are what reading gives, unless memory ran out.
+abbrev pub Fails : {Y : Type 0} → ReadError → Result Y ReadError → Type 0
+Fails e read = ¬ (e ≡ Memory) → read ≡ Err e
+
+abbrev pub ReadsAs : {X Y : Type 0} → (X → Y) → Result X ReadError → List ℕ → Answer Y → Type 0
+ReadsAs view (Ok x) left read = read ≡ Ok (view x, left)
+ReadsAs view (Err e) left read = Fails e read
+
+abbrev pub Reads : {X : Type 0} → Result X ReadError → List ℕ → Answer X → Type 0
+Reads r left read = ReadsAs (λ x. x) r left read
+
+abbrev pub IsBytes : List ℕ → Type 0
+IsBytes bytes = (i : ℕ) → slice_index bytes i < 256
+
+abbrev pub ends : List ℕ → Bool
+ends bytes = length bytes == 0
+
+-- ---- fields
+
+-- the bytes of a number, the high one first: a name that goals show, and that only laws of numbers open
+unfoldable pub be : Width → ℕ → List ℕ
+be w n = to_be_bytes w n
+
+-- a number of so many bytes
+abbrev pub uint : Width → Format ℕ
+uint w = record {
+  spell = be w;
+  onto = λ old n. old ++ be w n;
+  read = λ bytes. if nat_lt (length bytes) (byte_len w) then Err Short else Ok (from_be_bytes w (take (byte_len w) bytes), drop (byte_len w) bytes);
+  Fits = λ n. n < 256 ^ byte_len w;
+}
+
+-- that many bytes, whatever they are
+abbrev pub raw : ℕ → Format (List ℕ)
+raw count = record {
+  spell = λ bytes. bytes;
+  onto = λ old bytes. old ++ bytes;
+  read = λ bytes. if nat_lt (length bytes) count then Err Short else Ok (take count bytes, drop count bytes);
+  Fits = λ bytes. (length bytes ≡ count) × IsBytes bytes;
+}
+
+-- these very bytes
+abbrev pub tagged : List ℕ → Format (Unit {0})
+tagged tag = record {
+  spell = λ _. tag;
+  onto = λ old _. old ++ tag;
+  read = λ bytes. if nat_lt (length bytes) (length tag) then Err Short else if starts_with nat_eq bytes tag then Ok (tt, drop (length tag) bytes) else Err BadTag;
+  Fits = λ _. Unit {0};
+}
+
+-- a value that passes a test, which is made before anything after it is read
+abbrev pub guarded : {A : Type 0} → Format A → (A → Bool) → ReadError → Format A
+guarded f test fault = record {
+  spell = f.spell;
+  onto = f.onto;
+  read = λ bytes. f.read bytes >>= λ x. if test x.0 then Ok x else Err fault;
+  Fits = λ x. f.Fits x × (test x ≡ true);
+}
+
+abbrev pub uint_in : Width → ℕ → ℕ → Format ℕ
+uint_in w low high = guarded (uint w) (λ n. nat_le low n && nat_le n high) Range
+
+-- a value, and behind it one whose format the first decides
+abbrev pub followed : {A B : Type 0} → Format A → (A → Format B) → Format (A × B)
+followed f g = record {
+  spell = λ p. f.spell p.0 ++ (g p.0).spell p.1;
+  onto = λ old p. (g p.0).onto (f.onto old p.0) p.1;
+  read = λ bytes. f.read bytes >>= λ x. (g x.0).read x.1 >>= λ y. Ok ((x.0, y.0), y.1);
+  Fits = λ p. f.Fits p.0 × (g p.0).Fits p.1;
+}
+
+abbrev pub pair : {A B : Type 0} → Format A → Format B → Format (A × B)
+pair f g = followed f (λ _. g)
+
+-- a value behind a tag
+abbrev pub behind : {A : Type 0} → List ℕ → Format A → Format A
+behind tag f = record {
+  spell = λ x. tag ++ f.spell x;
+  onto = λ old x. f.onto (old ++ tag) x;
+  read = λ bytes. (tagged tag).read bytes >>= λ t. f.read t.1;
+  Fits = f.Fits;
+}
+
+-- the same values, seen another way
+abbrev pub mapped : {A B : Type 0} → (A → B) → (B → A) → Format A → Format B
+mapped to from f = record {
+  spell = λ y. f.spell (from y);
+  onto = λ old y. f.onto old (from y);
+  read = λ bytes. f.read bytes >>= λ x. Ok (to x.0, x.1);
+  Fits = λ y. f.Fits (from y);
+}
+
+-- rows, where the one before decides the format of the next
+abbrev pub Rows : Type 0 → Type 1
+Rows A = Option A → Format A
+
+unfoldable pub read_rows : {A : Type 0} → Rows A → ℕ → Option A → List ℕ → Answer (List A)
+read_rows row zero before bytes = Ok ([], bytes)
+read_rows row (suc n) before bytes = (row before).read bytes >>= λ x. read_rows row n (Some x.0) x.1 >>= λ xs. Ok (x.0 ∷ xs.0, xs.1)
+
+unfoldable pub spell_rows : {A : Type 0} → Rows A → Option A → List A → List ℕ
+spell_rows row before [] = []
+spell_rows row before (x ∷ xs) = (row before).spell x ++ spell_rows row (Some x) xs
+
+unfoldable pub rows_onto : {A : Type 0} → Rows A → Option A → List ℕ → List A → List ℕ
+rows_onto row before old [] = old
+rows_onto row before old (x ∷ xs) = rows_onto row (Some x) ((row before).onto old x) xs
+
+unfoldable pub FitRows : {A : Type 0} → Rows A → Option A → List A → Type 0
+FitRows row before [] = Unit {0}
+FitRows row before (x ∷ xs) = (row before).Fits x × FitRows row (Some x) xs
+
+abbrev pub rows : {A : Type 0} → Rows A → ℕ → Format (List A)
+rows row count = record {
+  spell = spell_rows row None;
+  onto = rows_onto row None;
+  read = read_rows row count None;
+  Fits = λ xs. (length xs ≡ count) × FitRows row None xs;
+}
+
+-- a size, and behind it what has that size
+abbrev pub sized : {A : Type 0} → Format ℕ → (A → ℕ) → (ℕ → Format A) → Format A
+sized count size f = mapped (λ p. p.1) (λ x. (size x, x)) (followed count f)
+
+-- a count, and as many rows
+abbrev pub listed : {A : Type 0} → Format ℕ → Rows A → Format (List A)
+listed count row = sized count length (rows row)
+
+-- all of the bytes
+abbrev pub whole : {A : Type 0} → Format A → List ℕ → Result A ReadError
+whole f bytes = f.read bytes >>= λ x. if ends x.1 then Ok x.0 else Err Trailing
+
+-- What a function returned, seen by view, is what reading gives, unless memory ran out.
+abbrev pub Gives : {X Y : Type 0} → (X → Y) → Result X ReadError → Result Y ReadError → Type 0
+Gives view (Ok x) read = read ≡ Ok (view x)
+Gives view (Err e) read = Fails e read
+
+-- a size, and as many bytes
+abbrev pub string : Format ℕ → Format (List ℕ)
+string count = sized count length raw
+
+-- a text inside another: its size, and in that many bytes the text and nothing else
+abbrev pub nested : {A : Type 0} → Format ℕ → Format A → Format A
+nested count f = record {
+  spell = λ x. (string count).spell (f.spell x);
+  onto = λ old x. (string count).onto old (f.spell x);
+  read = λ bytes. (string count).read bytes >>= λ t. whole f t.0 >>= λ x. Ok (x, t.1);
+  Fits = λ x. count.Fits (length (f.spell x)) × f.Fits x;
+}
+
+-- no bytes
+abbrev pub nothing : Format (Unit {0})
+nothing = record { spell = λ _. []; onto = λ old _. old; read = λ bytes. Ok (tt, bytes); Fits = λ _. Unit {0} }
+
+-- one variant of an enum: from is Some only at that variant
+abbrev pub variant : {A B : Type 0} → (A → B) → (B → Option A) → Format A → Format B
+variant to from f = record {
+  spell = λ y. option_map_or f.spell (from y) [];
+  onto = λ old y. option_map_or (f.onto old) (from y) old;
+  read = λ bytes. f.read bytes >>= λ x. Ok (to x.0, x.1);
+  Fits = λ y. IsSomeAnd (from y) f.Fits;
+}

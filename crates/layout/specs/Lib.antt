@@ -1,0 +1,6 @@
+pub mod Format
+pub mod Hash
+pub mod Hasher
+pub mod Laws
+pub mod Ranges
+pub mod Sizes

@@ -1,0 +1,96 @@
+-- How long a spelling may be.
+use Rattle.std.proofs.Common.{◌≡◌, ℕ, zero, suc, ◌+◌, ◌*◌, ◌^◌, ◌≤◌, ◌<◌, List, [], ◌∷◌, ◌++◌, length, Option, Some, None, arith, sym, ap, ◌∙◌, subst}
+use Rattle.std.specs.Prelude.{Bool}
+use Rattle.std.specs.Int.{Width, byte_len, to_be_bytes}
+use Rattle.std.proofs.lemmas.List.{length-append}
+use Rattle.std.proofs.lemmas.Nat.{mul-le}
+use Rattle.layout.specs.declared.error.ReadError.{ReadError}
+use Rattle.layout.specs.Format.{Format, Rows, be, uint, uint_in, raw, guarded, followed, pair, behind, mapped, rows, spell_rows, FitRows, sized, listed, string, nested}
+use Rattle.layout.specs.Laws.{IsWide, in_range, in_range_fits}
+
+-- no spelling of this format has more bytes
+pub record AtMost {A : Type 0} (f : Format A) (most : ℕ) : Type 0 where
+  pub holds : (x : A) → f.Fits x → length (f.spell x) ≤ most
+
+pub at_most_uint : (w : Width) → IsWide w → AtMost (uint w) (byte_len w)
+unfolding be
+at_most_uint w wide = record { holds = λ n fits. omega (arith, wide.len n) }
+
+pub at_most_guarded : {A : Type 0} (f : Format A) (test : A → Bool) (fault : ReadError) (m : ℕ) → AtMost f m → AtMost (guarded f test fault) m
+at_most_guarded f test fault m few = record { holds = λ x fits. few.holds x fits.0 }
+
+pub at_most_uint_in : (w : Width) (low high : ℕ) → IsWide w → AtMost (uint_in w low high) (byte_len w)
+at_most_uint_in w low high wide = record { holds = λ n fits. (at_most_uint w wide).holds n fits.0 }
+
+pub at_most_raw : (count : ℕ) → AtMost (raw count) count
+at_most_raw count = record { holds = λ x fits. omega (arith, fits.0) }
+
+pub at_most_pair : {A B : Type 0} (f : Format A) (g : Format B) (m n : ℕ) → AtMost f m → AtMost g n → AtMost (pair f g) (m + n)
+at_most_pair f g m n few rest = record { holds = λ p fits. omega (arith, length-append (f.spell p.0) (g.spell p.1), few.holds p.0 fits.0, rest.holds p.1 fits.1) }
+
+pub at_most_behind : {A : Type 0} (tag : List ℕ) (f : Format A) (m : ℕ) → AtMost f m → AtMost (behind tag f) (length tag + m)
+at_most_behind tag f m few = record { holds = λ x fits. omega (arith, length-append tag (f.spell x), few.holds x fits) }
+
+pub at_most_mapped : {A B : Type 0} (to : A → B) (from : B → A) (f : Format A) (m : ℕ) → AtMost f m → AtMost (mapped to from f) m
+at_most_mapped to from f m few = record { holds = λ y fits. few.holds (from y) fits }
+
+rows_at_most : {A : Type 0} (row : Rows A) (m : ℕ) → ((b : Option A) → AtMost (row b) m) → (b : Option A) (xs : List A) → FitRows row b xs → length (spell_rows row b xs) ≤ length xs * m
+unfolding spell_rows FitRows
+rows_at_most row m few b [] fits = omega arith
+rows_at_most row m few b (x ∷ xs) fits =
+    omega (arith, length-append ((row b).spell x) (spell_rows row (Some x) xs), (few b).holds x fits.0, rows_at_most row m few (Some x) xs fits.1)
+
+-- so many rows at most, each of so many bytes at most
+pub at_most_listed : {A : Type 0} (w : Width) (low high : ℕ) (row : Rows A) (m : ℕ) → IsWide w → ((b : Option A) → AtMost (row b) m) → AtMost (listed (uint_in w low high) row) (byte_len w + high * m)
+at_most_listed w low high row m wide few = record {
+  holds = λ xs fits.
+      let count : length xs ≤ high = (in_range w low high (length xs) fits.0).1 in
+      let all : length (spell_rows row None xs) ≤ length xs * m = rows_at_most row m few None xs fits.1.1 in
+      let most : length xs * m ≤ high * m = mul-le (length xs) m high m count (omega arith) in
+      omega (arith, length-append (be w (length xs)) (spell_rows row None xs), (at_most_uint w wide).holds (length xs) fits.0.0, all, most);
+}
+
+-- what the key of the next row is at least
+abbrev pub least_key : {A : Type 0} → (A → ℕ) → ℕ → Option A → ℕ
+least_key key low None = low
+least_key key low (Some before) = suc (key before)
+
+-- the keys of rows ascend from low, and stay below a limit
+pub record Ascends {A : Type 0} (row : Rows A) (key : A → ℕ) (low limit : ℕ) : Type 0 where
+  pub holds : (b : Option A) (x : A) → (row b).Fits x → (least_key key low b ≤ key x) × (key x < limit)
+
+-- no more rows than keys
+pub few_rows : {A : Type 0} (row : Rows A) (key : A → ℕ) (low limit : ℕ) → Ascends row key low limit → (b : Option A) (xs : List A) → FitRows row b xs → least_key key low b ≤ limit → length xs + least_key key low b ≤ limit
+unfolding FitRows
+few_rows row key low limit ascends b [] fits le = omega arith
+few_rows row key low limit ascends b (x ∷ xs) fits le =
+    let here = ascends.holds b x fits.0 in
+    omega (arith, here.0, here.1, few_rows row key low limit ascends (Some x) xs fits.1 (omega (arith, here.1)))
+
+pub length-ascending : {A : Type 0} (count : Format ℕ) (row : Rows A) (key : A → ℕ) (low limit : ℕ) → Ascends row key low limit → low ≤ limit → (xs : List A) → (listed count row).Fits xs → length xs + low ≤ limit
+length-ascending count row key low limit ascends le xs fits = few_rows row key low limit ascends None xs fits.1.1 le
+
+-- rows that ascend, so many at most, each of so many bytes at most
+pub at_most_ascending : {A : Type 0} (w : Width) (high : ℕ) (row : Rows A) (key : A → ℕ) (low many m : ℕ) → IsWide w → Ascends row key low (low + many) → ((b : Option A) → AtMost (row b) m) → AtMost (listed (uint_in w 0 high) row) (byte_len w + many * m)
+at_most_ascending w high row key low many m wide ascends few = record {
+  holds = λ xs fits.
+      let count : length xs ≤ many = omega (arith, length-ascending (uint_in w 0 high) row key low (low + many) ascends (omega arith) xs fits) in
+      let all : length (spell_rows row None xs) ≤ length xs * m = rows_at_most row m few None xs fits.1.1 in
+      let most : length xs * m ≤ many * m = mul-le (length xs) m many m count (omega arith) in
+      omega (arith, length-append (be w (length xs)) (spell_rows row None xs), (at_most_uint w wide).holds (length xs) fits.0.0, all, most);
+}
+
+-- a text inside another, behind its size
+pub at_most_nested : {A : Type 0} (w : Width) (low high : ℕ) (f : Format A) (m : ℕ) → IsWide w → AtMost f m → AtMost (nested (uint_in w low high) f) (byte_len w + m)
+at_most_nested w low high f m wide few = record {
+  holds = λ x fits.
+      omega (arith, length-append (be w (length (f.spell x))) (f.spell x), (at_most_uint w wide).holds (length (f.spell x)) fits.0.0, few.holds x fits.1);
+}
+
+-- a text of at most so many bytes can stand inside another
+pub nested_fits : {A : Type 0} (w : Width) (high : ℕ) (f : Format A) (m : ℕ) → AtMost f m → m ≤ high → high < 256 ^ byte_len w → (x : A) → f.Fits x → (nested (uint_in w 0 high) f).Fits x
+nested_fits w high f m few le wide x fits =
+    (in_range_fits w 0 high (length (f.spell x)) (omega (arith, few.holds x fits)) (omega arith) (omega (arith, few.holds x fits)), fits)
+
+pub at_most_more : {A : Type 0} (f : Format A) (m n : ℕ) → AtMost f m → m ≤ n → AtMost f n
+at_most_more f m n few le = record { holds = λ x fits. omega (arith, few.holds x fits) }

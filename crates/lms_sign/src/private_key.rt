@@ -1,0 +1,127 @@
+//! Private keys (RFC 8554 section 5.2).
+
+ghost use Rattle.std.specs.Prelude.{◌≡◌, true, ℕ, ◌+◌, ◌*◌, ◌<◌, ◌≤◌, ◌++◌, IfOk, [], length, slice_index_or, take, vec_len};
+ghost use Rattle.lms_sign.specs.Hashing.{joined};
+ghost use Rattle.lms_sign.specs.Keys.{public_key_of};
+ghost use Rattle.lms_sign.specs.OneTime.{key_of};
+ghost use Rattle.lms_sign.specs.Signature.{path_of, signature_of, valid};
+ghost use Rattle.lms_sign.specs.Tree.{leaf_node, inner_node};
+
+use crate::bytes::put;
+use crate::form::{LMS_TYPE, LMS_TYPE_AT, SIGNATURE_SIZE, put_front};
+use crate::one_time::{leaf_key, put_values, randomizer, text_digest};
+use crate::public_key::PublicKey;
+use crate::tree::{LEAF_COUNT, inner_node, leaf_node, put_path};
+use layout::{Digest, Memory};
+use std::alloc::Allocator;
+use std::marker::Model;
+
+/// The size of the seed that a private key is drawn from, in bytes.
+pub const SEED_SIZE: usize = 32;
+
+/// The number of the root.
+const ROOT: usize = 1;
+
+/// The nodes are kept at their numbers, so there is a place before that of the root.
+const PLACE_COUNT: usize = 2048;
+
+/// A private key: a seed, an identifier, and the whole tree that they make, so that a signature costs the chains of one
+/// leaf only.
+#[derive(Drop)]
+pub struct PrivateKey<A: Allocator> {
+    seed: [u8; 32],
+    id: [u8; 16],
+    nodes: Vec<Digest, A>,
+}
+
+impl<A: Allocator> Model for PrivateKey<A> {
+    ghost use Rattle.lms_sign.specs.Keys.{Secret};
+    ghost use Rattle.lms_sign.specs.Nodes.{IsTree};
+
+    ghost Value = { Secret };
+
+    ghost view = { λ k. record { seed = k.seed; id = k.id } };
+
+    ghost invariant = { λ k. IsTree k.seed k.id k.nodes.items };
+}
+
+/// The places of the nodes, with those of the leaves filled.
+fn leaf_nodes<A: Allocator>(
+    alloc: A,
+    seed: &[u8; 32],
+    id: &[u8; 16],
+) -> Result<Vec<Digest, A>, Memory>
+    ensures size { IfOk result (λ nodes. vec_len nodes ≡ 2048) }
+    ensures leaves { IfOk result
+        (λ nodes. (leaf : ℕ) → leaf < 1024
+        → slice_index_or nodes.items (1024 + leaf) []
+        ≡ leaf_node id.now (1024 + leaf) (key_of seed.now id.now leaf)) }
+{
+    let mut nodes = vec![in alloc; Digest::from_bytes([0; 32]); PLACE_COUNT]?;
+    for leaf in 0..LEAF_COUNT {
+        let number = LEAF_COUNT + leaf;
+        nodes[number as usize] = leaf_node(id, number, &leaf_key(seed, id, leaf));
+    }
+    Ok(nodes)
+}
+
+/// Fills the places of the inner nodes.
+fn fill_inner_nodes(nodes: &mut [Digest], id: &[u8; 16])
+    requires { length nodes.old ≡ 2048 }
+    ensures leaves { (number : ℕ) → 1024 ≤ number
+        → slice_index_or nodes.new number [] ≡ slice_index_or nodes.old number [] }
+    ensures inner { (number : ℕ) → 1 ≤ number → number < 1024
+        → slice_index_or nodes.new number []
+        ≡ inner_node id.now number (slice_index_or nodes.new (2 * number) [])
+        (slice_index_or nodes.new (2 * number + 1) []) }
+{
+    for number in (1..LEAF_COUNT).rev() {
+        let below = 2 * number as usize;
+        nodes[number as usize] = inner_node(id, number, &nodes[below], &nodes[below + 1]);
+    }
+}
+
+impl<A: Allocator> PrivateKey<A> {
+    /// Draws a key from a seed, in about a million compressions of SHA-256. Only want of memory is an error.
+    pub fn from_seed(alloc: A, seed: [u8; 32], id: [u8; 16]) -> Result<PrivateKey<A>, Memory>
+        ensures seed { IfOk result (λ key. key.seed ≡ seed) }
+        ensures id { IfOk result (λ key. key.id ≡ id) }
+    {
+        let mut nodes = leaf_nodes(alloc, &seed, &id)?;
+        fill_inner_nodes(&mut nodes, &id);
+        Ok(PrivateKey { seed, id, nodes })
+    }
+
+    /// The public key that goes with it.
+    pub fn public(&self) -> PublicKey
+        ensures { result ≡ public_key_of self.now.seed self.now.id }
+    {
+        PublicKey::new(&self.id, &self.nodes[ROOT])
+    }
+
+    /// Writes the path of a leaf into a signature.
+    fn put_path(&self, signature: &mut [u8], leaf: u32)
+        requires size { length signature.old ≡ 2508 }
+        requires leaf { leaf < 1024 }
+        ensures { take 2508 signature.new
+            ≡ take 2188 signature.old ++ joined 10 (path_of self.now.seed self.now.id leaf) }
+    {
+        put_path(signature, &self.nodes, leaf);
+    }
+
+    /// The signature of a text by one of the leaves.
+    pub(crate) fn signature(&self, leaf: u32, text: &[u8]) -> [u8; 2508]
+        requires { leaf < 1024 }
+        ensures signature { result ≡ signature_of self.now.seed self.now.id leaf text.now }
+        ensures valid { valid (public_key_of self.now.seed self.now.id) text.now result ≡ true }
+    {
+        let randomizer = randomizer(&self.seed, &self.id, leaf);
+        let digest = text_digest(&self.id, leaf, &randomizer, text);
+        let mut signature = [0; SIGNATURE_SIZE];
+        put_front(&mut signature, leaf, &randomizer);
+        put_values(&mut signature, &self.seed, &self.id, leaf, &digest);
+        put(&mut signature, LMS_TYPE_AT, &LMS_TYPE);
+        self.put_path(&mut signature, leaf);
+        signature
+    }
+}

@@ -1,0 +1,114 @@
+-- Replies: `SRL1`, the latest signed structure of each user, and the pending operations in their order.
+use Rattle.std.proofs.Common.{◌≤◌, arith, refl}
+use Rattle.std.specs.Prelude.{ℕ, Bool, List, [], ◌∷◌, length, Option, Some, None, nat_lt, codes, filter, if◌then◌else◌}
+use Rattle.std.specs.Int.{w8, w16}
+use Rattle.std.specs.List.{All}
+use Rattle.std.specs.Option.{option_map_or}
+use Rattle.layout.specs.Format.{Format, Rows, uint_in, pair, behind, mapped, listed, nested}
+use Rattle.layout.specs.Laws.{Lawful, laws, lawful_mapped, wide8, wide16, listed_fits, rows_fit}
+use Rattle.layout.specs.Sizes.{AtMost, at_most_listed, at_most_behind, at_most_mapped, at_most_pair, at_most_nested, at_most_more, nested_fits}
+use Rattle.layout.specs.Ranges.{size}
+use Rattle.version_order.specs.Vector.{depth}
+use Rattle.version_order.specs.Plan.{Plan, plan, lawful_plan, at_most_plan}
+use Rattle.version_order.specs.Structure.{Structure, structure, lawful_structure, at_most_structure}
+use Rattle.update_cert.specs.declared.Cert.{Cert}
+use Rattle.update_cert.specs.Cert.{cert, lawful_cert, at_most_cert}
+use Rattle.pending_list.specs.declared.signed.Signed.{Signed}
+use Rattle.pending_list.specs.Signed.{signature, signed, lawful_signed, at_most_signed}
+
+-- an operation that is pending, without where it lies in memory
+pub record PendingItem : Type 0 where
+  pub cert : Cert
+  pub signature : List ℕ
+  pub plan : Plan
+
+-- the latest structure of each user, and the pending operations, in order
+pub record Reply : Type 0 where
+  pub structures : List (Signed Structure)
+  pub pending : List PendingItem
+
+-- a structure in its size, and its signature
+abbrev pub signed_structure : Format (Signed Structure)
+signed_structure = signed (nested size structure)
+
+-- a certificate in its size, its signature, and the plan in its size
+abbrev pub pending_item : Format PendingItem
+pending_item =
+    mapped (λ p. record { cert = p.0.value; signature = p.0.signature; plan = p.1 }) (λ i. (record { value = i.cert; signature = i.signature }, i.plan))
+    (pair (signed (nested size cert)) (nested size plan))
+
+abbrev pub structure_rows : Rows (Signed Structure)
+structure_rows before = signed_structure
+
+abbrev pub pending_rows : Rows PendingItem
+pending_rows before = pending_item
+
+abbrev pub reply : Format Reply
+reply =
+    behind (codes "SRL1")
+    (mapped (λ p. record { structures = p.0; pending = p.1 }) (λ r. (r.structures, r.pending))
+    (pair (listed (uint_in w8 0 64) structure_rows) (listed (uint_in w8 0 64) pending_rows)))
+
+lawful_signed_structure : Lawful signed_structure
+lawful_signed_structure = search (laws, lawful_signed, lawful_structure)
+
+lawful_pending_item : Lawful pending_item
+lawful_pending_item =
+    lawful_mapped _ _ (pair (signed (nested size cert)) (nested size plan)) (λ i. refl) (λ p fits. refl) (search (laws, lawful_signed, lawful_cert, lawful_plan))
+
+pub lawful_reply : Lawful reply
+lawful_reply = search (laws, lawful_signed_structure, lawful_pending_item) depth 9
+
+-- ---- sizes
+
+-- a reply has at most 2,097,000 bytes
+pub at_most_reply : AtMost reply 2097000
+at_most_reply =
+    at_most_more reply 780614 2097000
+    (at_most_behind (codes "SRL1") _ 780610
+    (at_most_mapped _ _ _ 780610 (at_most_pair _ _ 432129 348481
+    (at_most_listed w8 0 64 structure_rows 6752 wide8 (λ _. at_most_signed (nested size structure) 4244 (at_most_nested w16 0 65535 structure 4242 wide16 at_most_structure)))
+    (at_most_listed w8 0 64 pending_rows 5445 wide8 (λ _. at_most_mapped _ _ _ 5445 (at_most_pair _ _ 2552 2893 (at_most_signed (nested size cert) 44 (at_most_nested w16 0 65535 cert 42 wide16 at_most_cert)) (at_most_nested w16 0 65535 plan 2891 wide16 at_most_plan)))))))
+    (omega arith)
+
+-- what fits alone fits a row
+pub structure_row_fits : (s : Signed Structure) → structure.Fits s.value → signature.Fits s.signature → signed_structure.Fits s
+structure_row_fits s value sign = (nested_fits w16 65535 structure 4242 at_most_structure (omega arith) (omega arith) s.value value, sign)
+
+pub pending_row_fits : (i : PendingItem) → cert.Fits i.cert → signature.Fits i.signature → plan.Fits i.plan → pending_item.Fits i
+pending_row_fits i c sign p =
+    ((nested_fits w16 65535 cert 42 at_most_cert (omega arith) (omega arith) i.cert c, sign), nested_fits w16 65535 plan 2891 at_most_plan (omega arith) (omega arith) i.plan p)
+
+-- few enough rows, each of which fits, make a reply
+pub reply_fits : (r : Reply) → length r.structures ≤ 64 → length r.pending ≤ 64 → All signed_structure.Fits r.structures → All pending_item.Fits r.pending → reply.Fits r
+reply_fits r few_structures few_pending structures pending = (
+  listed_fits w8 64 structure_rows r.structures (omega arith) few_structures (rows_fit signed_structure None r.structures structures),
+  listed_fits w8 64 pending_rows r.pending (omega arith) few_pending (rows_fit pending_item None r.pending pending),
+)
+
+-- ---- the top
+
+abbrev pub depth_of : Signed Structure → ℕ
+depth_of s = depth s.value.plan.vector
+
+-- the one of greater depth, of equal ones the first
+abbrev pub deeper : Signed Structure → Option (Signed Structure) → Option (Signed Structure)
+deeper s None = Some s
+deeper s (Some t) = if nat_lt (depth_of s) (depth_of t) then Some t else Some s
+
+-- the structure of greatest depth, of equal ones the first: it is the least user's
+abbrev pub top : List (Signed Structure) → Option (Signed Structure)
+top [] = None
+top (s ∷ ss) = deeper s (top ss)
+
+-- how many operations the top counts
+abbrev pub depth_of_top : List (Signed Structure) → ℕ
+depth_of_top ss = option_map_or depth_of (top ss) 0
+
+-- the operation counts more than the top
+abbrev pub is_above : List (Signed Structure) → PendingItem → Bool
+is_above ss i = nat_lt (depth_of_top ss) (depth i.plan.vector)
+
+-- the pending operations that count more than the top
+abbrev pub above_top : Reply → List PendingItem
+above_top r = filter (is_above r.structures) r.pending

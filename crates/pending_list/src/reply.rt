@@ -1,0 +1,239 @@
+//! Replies to updates.
+
+ghost use Rattle.std.specs.Prelude.{◌≡◌, ◌≤◌, OnOk, IfOk, vec_len};
+ghost use Rattle.std.specs.List.{All};
+ghost use Rattle.layout.specs.Format.{Reads};
+ghost use Rattle.pending_list.specs.Reply.{structure_rows, pending_rows, signed_structure, pending_item};
+
+use crate::signed::{Signature, Signed};
+use layout::{
+    Memory, ReadError, Reader, RowFormat, Text, Writer, read_nested, read_rows, write_nested,
+    write_rows,
+};
+use std::alloc::Allocator;
+use std::marker::Model;
+use update_cert::Cert;
+use version_order::{Plan, Structure};
+
+/// An operation that is pending: its signed certificate, and the plan that the server made for it.
+#[derive(Drop)]
+pub struct PendingItem<A: Allocator> {
+    cert: Signed<Cert>,
+    plan: Plan<A>,
+}
+
+impl<A: Allocator> Model for PendingItem<A> {
+    ghost use Rattle.pending_list.specs.Reply.{PendingItem, pending_item};
+
+    ghost Value = { PendingItem };
+
+    ghost view = { λ i. record { cert = i.cert.value; signature = i.cert.signature; plan = i.plan } };
+
+    ghost invariant = { λ i. pending_item.Fits (record { cert = i.cert.value; signature = i.cert.signature; plan = i.plan }) };
+}
+
+impl<A: Allocator> PendingItem<A> {
+    ghost use Rattle.pending_list.specs.Reply.{pending_item};
+
+    /// The operation of this certificate and plan, whose own contracts say that they fit.
+    pub fn new(cert: Signed<Cert>, plan: Plan<A>) -> PendingItem<A>
+        ensures { result ≡ record { cert = cert.value; signature = cert.signature; plan = plan } }
+    {
+        let Signed { value, signature } = cert;
+        let value = Cert::new(value.user, value.number, value.last);
+        let _signature = signature.as_bytes();
+        let _user = plan.user();
+        let cert = Signed { value, signature };
+        PendingItem { cert, plan }
+    }
+
+    /// The certificate.
+    pub fn cert(&self) -> &Cert
+        ensures same { result.now ≡ self.now.cert }
+        ensures fits { pending_item.Fits self.now }
+    {
+        &self.cert.value
+    }
+
+    /// The user's signature of the certificate.
+    pub fn signature(&self) -> &Signature
+        ensures { result.now ≡ self.now.signature }
+    {
+        &self.cert.signature
+    }
+
+    /// What the server expects of the operation.
+    pub fn plan(&self) -> &Plan<A>
+        ensures { result.now ≡ self.now.plan }
+    {
+        &self.plan
+    }
+}
+
+/// The rows of the structures.
+#[derive(Clone, Copy)]
+struct StructureRows;
+
+impl<A: Allocator + Copy> RowFormat<A> for StructureRows {
+    type Item = Signed<Structure<A>>;
+
+    ghost format = { λ _. structure_rows };
+
+    fn read_row(
+        &self,
+        alloc: A,
+        reader: &mut Reader<'_>,
+        _before: Option<&Signed<Structure<A>>>,
+    ) -> Result<Signed<Structure<A>>, ReadError> {
+        let value = read_nested(alloc, reader)?;
+        let signature = Signature::read_from(reader)?;
+        Ok(Signed { value, signature })
+    }
+
+    fn write_row(&self, writer: &mut Writer<A>, row: &Signed<Structure<A>>) -> Result<(), Memory> {
+        let _plan = row.value.plan();
+        write_nested(*writer.allocator(), writer, &row.value)?;
+        writer.bytes(row.signature.as_bytes())
+    }
+}
+
+/// The rows of the pending operations.
+#[derive(Clone, Copy)]
+struct PendingRows;
+
+impl<A: Allocator + Copy> RowFormat<A> for PendingRows {
+    type Item = PendingItem<A>;
+
+    ghost format = { λ _. pending_rows };
+
+    fn read_row(
+        &self,
+        alloc: A,
+        reader: &mut Reader<'_>,
+        _before: Option<&PendingItem<A>>,
+    ) -> Result<PendingItem<A>, ReadError> {
+        let value = read_nested(alloc, reader)?;
+        let signature = Signature::read_from(reader)?;
+        let plan = read_nested(alloc, reader)?;
+        Ok(PendingItem::new(Signed { value, signature }, plan))
+    }
+
+    fn write_row(&self, writer: &mut Writer<A>, row: &PendingItem<A>) -> Result<(), Memory> {
+        let alloc = *writer.allocator();
+        write_nested(alloc, writer, row.cert())?;
+        writer.bytes(row.signature().as_bytes())?;
+        write_nested(alloc, writer, row.plan())
+    }
+}
+
+/// The answer to an update.
+#[derive(Drop)]
+pub struct Reply<A: Allocator> {
+    structures: Vec<Signed<Structure<A>>, A>,
+    pending: Vec<PendingItem<A>, A>,
+}
+
+impl<A: Allocator> Model for Reply<A> {
+    ghost use Rattle.pending_list.specs.Reply.{Reply, reply};
+
+    ghost Value = { Reply };
+
+    ghost view = { λ r. record { structures = r.structures.items; pending = r.pending.items } };
+
+    ghost invariant = { λ r. reply.Fits (record { structures = r.structures.items; pending = r.pending.items }) };
+}
+
+impl<A: Allocator + Copy> Text<A> for Reply<A> {
+    ghost use Rattle.pending_list.specs.Reply.{reply, lawful_reply};
+
+    ghost format = { reply };
+
+    fn read_from(alloc: A, reader: &mut Reader<'_>) -> Result<Reply<A>, ReadError> {
+        reader.tag(b"SRL1")?;
+        let count = reader.u8_in(0, 64)?;
+        let structures = read_rows(alloc, reader, &StructureRows, usize::from(count))?;
+        let pending_count = reader.u8_in(0, 64)?;
+        let pending = read_rows(alloc, reader, &PendingRows, usize::from(pending_count))?;
+        Ok(Reply {
+            structures,
+            pending,
+        })
+    }
+
+    fn write_to(&self, writer: &mut Writer<A>) -> Result<(), Memory> {
+        writer.tag(b"SRL1")?;
+        writer.u8(self.structures.len() as u8)?;
+        write_rows(writer, &StructureRows, &self.structures)?;
+        writer.u8(self.pending.len() as u8)?;
+        write_rows(writer, &PendingRows, &self.pending)
+    }
+
+    ghost lawful = { lawful_reply };
+}
+
+/// That each structure fits its row, as its own contract says.
+fn structures_fit<A: Allocator>(structures: &[Signed<Structure<A>>])
+    ensures { All signed_structure.Fits structures.now }
+{
+    for structure in structures {
+        let _plan = structure.value.plan();
+        let _signature = structure.signature.as_bytes();
+    }
+}
+
+/// That each pending operation fits its row, as its own contract says.
+fn pending_fit<A: Allocator>(pending: &[PendingItem<A>])
+    ensures { All pending_item.Fits pending.now }
+{
+    for item in pending {
+        let _cert = item.cert();
+    }
+}
+
+impl<A: Allocator> Reply<A> {
+    ghost use Rattle.pending_list.specs.Reply.{reply};
+
+    /// The reply of these two lists, of at most 64 rows each.
+    pub fn new(
+        structures: Vec<Signed<Structure<A>>, A>,
+        pending: Vec<PendingItem<A>, A>,
+    ) -> Reply<A>
+        requires few_structures { vec_len structures ≤ 64 }
+        requires few_pending { vec_len pending ≤ 64 }
+        ensures { result ≡ record { structures = structures.items; pending = pending.items } }
+    {
+        structures_fit(&structures);
+        pending_fit(&pending);
+        Reply {
+            structures,
+            pending,
+        }
+    }
+
+    /// The latest structure of each user.
+    pub fn structures(&self) -> &[Signed<Structure<A>>]
+        ensures same { result.now ≡ self.now.structures }
+        ensures fits { reply.Fits self.now }
+    {
+        &self.structures
+    }
+
+    /// The pending operations, in their order.
+    pub fn pending(&self) -> &[PendingItem<A>]
+        ensures { result.now ≡ self.now.pending }
+    {
+        &self.pending
+    }
+
+    /// The two lists.
+    pub fn into_parts(self) -> (Vec<Signed<Structure<A>>, A>, Vec<PendingItem<A>, A>)
+        ensures structures { result.0.items ≡ self.structures }
+        ensures pending { result.1.items ≡ self.pending }
+    {
+        let Reply {
+            structures,
+            pending,
+        } = self;
+        (structures, pending)
+    }
+}

@@ -1,0 +1,4 @@
+pub mod Alone
+pub mod Reduced
+pub mod SameVector
+pub mod First

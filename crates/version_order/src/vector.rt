@@ -1,0 +1,256 @@
+//! Vectors of versions.
+
+ghost use Rattle.std.specs.Prelude.{◌≡◌, ◌<◌, ◌≤◌, ◌↔◌, ◌+◌, ◌++◌, Option, OnOk, OnErr, IfOk, IsTrue, MatchResult, [], length};
+ghost use Rattle.std.specs.Option.{option_copied};
+ghost use Rattle.layout.specs.Format.{Reads};
+ghost use Rattle.version_order.specs.VectorLaws.{Stands, IsFree};
+ghost use Rattle.version_order.specs.Vector.{vector, component, version_of, raised, place, version_at, depth, user_version, is_below};
+
+use crate::error::PlanError;
+use layout::{
+    Memory, Principal, ReadError, Reader, RowFormat, Text, Version, Writer, read_rows, write_rows,
+};
+use std::alloc::Allocator;
+use std::marker::Model;
+
+/// A principal and its version.
+#[derive(Clone, Copy, Debug, PartialEq, Eq)]
+pub struct Component {
+    pub principal: Principal,
+    pub version: Version,
+}
+
+/// The rows of a vector.
+#[derive(Clone, Copy)]
+struct Components;
+
+impl<A: Allocator + Copy> RowFormat<A> for Components {
+    type Item = Component;
+
+    ghost format = { λ _. component };
+
+    fn read_row(
+        &self,
+        _alloc: A,
+        reader: &mut Reader<'_>,
+        before: Option<&Component>,
+    ) -> Result<Component, ReadError> {
+        let principal = reader.principal()?;
+        if before.is_some_and(|before| principal.get() <= before.principal.get()) {
+            return Err(ReadError::Order);
+        }
+        let version = reader.version()?;
+        Ok(Component { principal, version })
+    }
+
+    fn write_row(&self, writer: &mut Writer<A>, row: &Component) -> Result<(), Memory> {
+        writer.principal(row.principal)?;
+        writer.version(row.version)
+    }
+}
+
+/// A version for each principal that has one, ascending by principal.
+#[derive(Drop)]
+pub struct Vector<A: Allocator> {
+    components: Vec<Component, A>,
+}
+
+impl<A: Allocator> Model for Vector<A> {
+    ghost use Rattle.std.specs.Prelude.{List};
+    ghost use Rattle.version_order.specs.declared.vector.Component.{Component};
+
+    ghost Value = { List Component };
+
+    ghost use Rattle.version_order.specs.Vector.{vector};
+
+    ghost view = { λ v. v.components.items };
+
+    ghost invariant = { λ v. vector.Fits v.components.items };
+}
+
+impl<A: Allocator + Copy> Text<A> for Vector<A> {
+    ghost use Rattle.version_order.specs.Vector.{vector, lawful_vector};
+
+    ghost format = { vector };
+
+    fn read_from(alloc: A, reader: &mut Reader<'_>) -> Result<Vector<A>, ReadError> {
+        let count = reader.u8_in(0, u8::MAX)?;
+        let components = read_rows(alloc, reader, &Components, usize::from(count))?;
+        Ok(Vector { components })
+    }
+
+    fn write_to(&self, writer: &mut Writer<A>) -> Result<(), Memory> {
+        writer.u8(self.components.len() as u8)?;
+        write_rows(writer, &Components, &self.components)
+    }
+
+    ghost lawful = { lawful_vector };
+}
+
+impl Component {
+    /// What it adds to the depth.
+    fn user_version(&self) -> u64
+        ensures same { result ≡ user_version self.now }
+        ensures range { result ≤ 4294967295 }
+    {
+        if self.principal.get() < 64 {
+            u64::from(self.version.get())
+        } else {
+            0
+        }
+    }
+}
+
+fn version_in(components: &[Component], principal: Principal) -> u32
+    ensures { result ≡ version_of principal components.now }
+{
+    for component in components {
+        if component.principal == principal {
+            return component.version.get();
+        }
+    }
+    0
+}
+
+fn depth_of(components: &[Component]) -> u64
+    requires { length components.now < 256 }
+    ensures { result ≡ depth components.now }
+{
+    let mut sum = 0;
+    for component in components {
+        sum += component.user_version();
+    }
+    sum
+}
+
+/// How many components stand before the principal.
+fn place_of(components: &[Component], principal: Principal) -> usize
+    ensures same { result ≡ place principal components.now }
+    ensures inside { result ≤ length components.now }
+{
+    let mut before = 0;
+    for component in components {
+        if component.principal.get() >= principal.get() {
+            return before;
+        }
+        before += 1;
+    }
+    before
+}
+
+/// The version at a place, if it is the principal's.
+fn version_at(components: &[Component], place: usize, principal: Principal) -> Option<Version>
+    ensures { result ≡ version_at components.now place principal }
+{
+    match components.get(place) {
+        Some(component) if component.principal == principal => Some(component.version),
+        _ => None,
+    }
+}
+
+/// Where the principal stands and its version, or where it would stand.
+fn find(components: &[Component], principal: Principal) -> Result<(usize, Version), usize>
+    requires { vector.Fits components.now }
+    ensures { MatchResult result (λ found. Stands principal components.now found.0 found.1) (IsFree principal components.now) }
+{
+    let place = place_of(components, principal);
+    match version_at(components, place, principal) {
+        Some(version) => Ok((place, version)),
+        None => Err(place),
+    }
+}
+
+fn raise<A: Allocator>(
+    components: &mut Vec<Component, A>,
+    principal: Principal,
+) -> Result<(), PlanError>
+    requires { vector.Fits components.old.items }
+    ensures ok { OnOk result (components.new.items ≡ raised principal components.old.items) }
+    ensures within { OnOk result (version_of principal components.old.items < 4294967295) }
+    ensures limit { (result ≡ Err PlanError.Limit) ↔ (version_of principal components.old.items ≡ 4294967295) }
+    ensures err { OnErr result (components.new.items ≡ components.old.items) }
+{
+    match find(components, principal) {
+        Ok((place, version)) => {
+            let Some(version) = version.next() else {
+                return Err(PlanError::Limit);
+            };
+            components[place] = Component { principal, version };
+        }
+        Err(place) => {
+            let version = Version::first();
+            components.insert(place, Component { principal, version })?;
+        }
+    }
+    Ok(())
+}
+
+impl<A: Allocator> Vector<A> {
+    /// No components: each version is 0.
+    pub fn new(alloc: A) -> Vector<A>
+        ensures { result ≡ [] }
+    {
+        Vector {
+            components: Vec::new(alloc),
+        }
+    }
+
+    /// The components, ascending by principal.
+    pub fn components(&self) -> &[Component]
+        ensures same { result.now ≡ self.now }
+        ensures fits { vector.Fits self.now }
+    {
+        &self.components
+    }
+
+    /// The version of a principal: 0 where it isn't listed.
+    pub fn version_of(&self, principal: Principal) -> u32
+        ensures { result ≡ version_of principal self.now }
+    {
+        version_in(&self.components, principal)
+    }
+
+    /// The sum of the users' versions.
+    pub fn depth(&self) -> u64
+        ensures { result ≡ depth self.now }
+    {
+        depth_of(&self.components)
+    }
+
+    /// Whether none of its components is greater than the other's.
+    pub fn is_below(&self, other: &Vector<A>) -> bool
+        ensures { result ≡ is_below self.now other.now }
+    {
+        self.components
+            .iter()
+            .all(|own| own.version.get() <= other.version_of(own.principal))
+    }
+
+    /// Adds one to the version of a principal. After an error the vector is as before.
+    pub fn raise(&mut self, principal: Principal) -> Result<(), PlanError>
+        ensures ok { OnOk result (self.new ≡ raised principal self.old) }
+        ensures within { OnOk result (version_of principal self.old < 4294967295) }
+        ensures limit { (result ≡ Err PlanError.Limit) ↔ (version_of principal self.old ≡ 4294967295) }
+        ensures err { OnErr result (self.new ≡ self.old) }
+    {
+        let _number = principal.get();
+        raise(&mut self.components, principal)
+    }
+
+    /// Whether the other one is the same vector.
+    pub fn same(&self, other: &Vector<A>) -> bool
+        ensures { IsTrue result ↔ (self.now ≡ other.now) }
+    {
+        self.components.as_slice() == other.components.as_slice()
+    }
+}
+
+impl<A: Allocator + Copy> Vector<A> {
+    /// A vector like this one.
+    pub fn copy(&self, alloc: A) -> Result<Vector<A>, Memory>
+        ensures { IfOk result (λ copy. copy ≡ self.now) }
+    {
+        let components = Vec::from_slice(alloc, &self.components)?;
+        Ok(Vector { components })
+    }
+}

@@ -1,0 +1,100 @@
+-- Frames: the length of a body, 1 to 2,097,152, and the body. A request's body is its kind and a payload, a reply's is
+-- its status and a payload, which only status 0 has.
+use Rattle.std.specs.Prelude.{◌≡◌, ℕ, Bool, true, ◌||◌, List, [], ◌∷◌, length, Option, Some, None, option_map, option_and_then, ◌==◌, if◌then◌else◌, refl}
+use Rattle.std.specs.Int.{w32}
+use Rattle.layout.specs.Format.{Format, uint_in, string}
+use Rattle.layout.specs.Laws.{Lawful, laws}
+use Rattle.wire.specs.declared.kinds.RequestKind.{RequestKind}
+use Rattle.wire.specs.declared.kinds.RequestKind.TheVariants.{Update, Commit, Put, Get}
+use Rattle.wire.specs.declared.kinds.Status.{Status}
+use Rattle.wire.specs.declared.kinds.Status.TheVariants.{Ok, Form, UnknownUser, BadSignature, WrongNumber, NotPending, Busy, TooLarge, Absent, Memory}
+
+-- a body behind its length
+abbrev pub frame : Format (List ℕ)
+frame = string (uint_in w32 1 2097152)
+
+pub lawful_frame : Lawful frame
+lawful_frame = search laws
+
+abbrev pub number_of_kind : RequestKind → ℕ
+number_of_kind Update = 1
+number_of_kind Commit = 2
+number_of_kind Put = 3
+number_of_kind Get = 4
+
+abbrev pub kind_of : ℕ → Option RequestKind
+kind_of n =
+    if n == 1 then Some Update
+    else if n == 2 then Some Commit
+    else if n == 3 then Some Put
+    else if n == 4 then Some Get
+    else None
+
+abbrev pub number_of_status : Status → ℕ
+number_of_status Ok = 0
+number_of_status Form = 1
+number_of_status UnknownUser = 2
+number_of_status BadSignature = 3
+number_of_status WrongNumber = 4
+number_of_status NotPending = 5
+number_of_status Busy = 6
+number_of_status TooLarge = 7
+number_of_status Absent = 8
+number_of_status Memory = 9
+
+abbrev pub status_of : ℕ → Option Status
+status_of n =
+    if n == 0 then Some Ok
+    else if n == 1 then Some Form
+    else if n == 2 then Some UnknownUser
+    else if n == 3 then Some BadSignature
+    else if n == 4 then Some WrongNumber
+    else if n == 5 then Some NotPending
+    else if n == 6 then Some Busy
+    else if n == 7 then Some TooLarge
+    else if n == 8 then Some Absent
+    else if n == 9 then Some Memory
+    else None
+
+-- the body of a request
+abbrev pub request : RequestKind → List ℕ → List ℕ
+request kind payload = number_of_kind kind ∷ payload
+
+-- the body of a reply
+abbrev pub reply_body : Status → List ℕ → List ℕ
+reply_body status payload = number_of_status status ∷ payload
+
+abbrev pub request_of : List ℕ → Option (RequestKind × List ℕ)
+request_of [] = None
+request_of (n ∷ payload) = option_map (λ kind. (kind, payload)) (kind_of n)
+
+-- only status 0 has a payload
+abbrev pub may_carry : Status → List ℕ → Bool
+may_carry status payload = (number_of_status status == 0) || (length payload == 0)
+
+abbrev pub reply_of : List ℕ → Option (Status × List ℕ)
+reply_of [] = None
+reply_of (n ∷ payload) =
+    option_and_then (λ status. if may_carry status payload then Some (status, payload) else None) (status_of n)
+
+-- what was written is read
+pub request_again : (kind : RequestKind) (payload : List ℕ) → request_of (request kind payload) ≡ Some (kind, payload)
+request_again Update payload = refl
+request_again Commit payload = refl
+request_again Put payload = refl
+request_again Get payload = refl
+
+pub status_again : (status : Status) → status_of (number_of_status status) ≡ Some status
+status_again Ok = refl
+status_again Form = refl
+status_again UnknownUser = refl
+status_again BadSignature = refl
+status_again WrongNumber = refl
+status_again NotPending = refl
+status_again Busy = refl
+status_again TooLarge = refl
+status_again Absent = refl
+status_again Memory = refl
+
+pub reply_again : (status : Status) (payload : List ℕ) → may_carry status payload ≡ true → reply_of (reply_body status payload) ≡ Some (status, payload)
+reply_again status payload may = rw (status_again status, may) refl

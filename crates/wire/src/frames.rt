@@ -1,0 +1,93 @@
+//! Frames, each a body behind its length.
+
+ghost use Rattle.std.specs.Prelude.{◌≡◌, ◌<◌, List, ℕ, ◌∷◌, Ok, IfOk, length, option_map};
+ghost use Rattle.layout.specs.Format.{Gives, whole};
+ghost use Rattle.wire.specs.Frame.{frame, request, reply_body, request_of, reply_of};
+
+use crate::kinds::{RequestKind, Status};
+use layout::{Memory, ReadError, Reader, Writer};
+use std::alloc::Allocator;
+
+/// The most bytes that a body has.
+pub const BODY_LIMIT: u32 = 2_097_152;
+
+fn framed<A: Allocator>(alloc: A, head: u8, payload: &[u8]) -> Result<Vec<u8, A>, Memory>
+    requires { length payload.now < 2097152 }
+    ensures { IfOk result (λ bytes. bytes.items ≡ frame.spell (head ∷ payload.now)) }
+{
+    let mut writer = Writer::new(alloc);
+    writer.u32(payload.len() as u32 + 1)?;
+    writer.bytes(&[head])?;
+    writer.bytes(payload)?;
+    Ok(writer.finish())
+}
+
+/// The frame of a request.
+pub fn request_frame<A: Allocator>(
+    alloc: A,
+    kind: RequestKind,
+    payload: &[u8],
+) -> Result<Vec<u8, A>, Memory>
+    requires { length payload.now < 2097152 }
+    ensures { IfOk result (λ bytes. bytes.items ≡ frame.spell (request kind payload.now)) }
+{
+    framed(alloc, kind.number(), payload)
+}
+
+/// The frame of a reply. Only status 0 is to have a payload.
+pub fn reply_frame<A: Allocator>(
+    alloc: A,
+    status: Status,
+    payload: &[u8],
+) -> Result<Vec<u8, A>, Memory>
+    requires { length payload.now < 2097152 }
+    ensures { IfOk result (λ bytes. bytes.items ≡ frame.spell (reply_body status payload.now)) }
+{
+    framed(alloc, status.number(), payload)
+}
+
+/// The body of one whole frame, with the first fault from the left.
+pub fn body_of(bytes: &[u8]) -> Result<&[u8], ReadError>
+    // What is read is spelled so.
+    ensures found { IfOk result (λ body. frame.Fits body.now × (bytes.now ≡ frame.spell body.now)) }
+    // What is spelled so is read.
+    ensures only { (body : List ℕ) → frame.Fits body → bytes.now ≡ frame.spell body → Gives (λ x. x.now) result (Ok body) }
+    // Which fault it is.
+    ensures exact { Gives (λ x. x.now) result (whole frame bytes.now) }
+{
+    whole_body(bytes)
+}
+
+fn whole_body(bytes: &[u8]) -> Result<&[u8], ReadError>
+    ensures { Gives (λ x. x.now) result (whole frame bytes.now) }
+{
+    let mut reader = Reader::new(bytes);
+    let size = reader.u32_in(1, BODY_LIMIT)?;
+    let body = reader.bytes(size as usize)?;
+    if !reader.is_empty() {
+        return Err(ReadError::Trailing);
+    }
+    Ok(body)
+}
+
+/// The kind and the payload of a request's body, if its kind is known.
+pub fn request_of(body: &[u8]) -> Option<(RequestKind, &[u8])>
+    ensures { option_map (λ x. (x.0, x.1.now)) result ≡ request_of body.now }
+{
+    let (first, payload) = body.split_first()?;
+    let kind = RequestKind::from_number(*first)?;
+    Some((kind, payload))
+}
+
+/// The status and the payload of a reply's body, if its status is known and has no payload where it isn't 0.
+pub fn reply_of(body: &[u8]) -> Option<(Status, &[u8])>
+    ensures { option_map (λ x. (x.0, x.1.now)) result ≡ reply_of body.now }
+{
+    let (first, payload) = body.split_first()?;
+    let status = Status::from_number(*first)?;
+    if status.number() == 0 || payload.is_empty() {
+        Some((status, payload))
+    } else {
+        None
+    }
+}

@@ -1,0 +1,10 @@
+//! What a client and the server say to each other: frames, each a body behind its length.
+#![tactic(auto)]
+
+mod frames;
+mod kinds;
+#[cfg(test)]
+mod tests;
+
+pub use frames::{BODY_LIMIT, body_of, reply_frame, reply_of, request_frame, request_of};
+pub use kinds::{RequestKind, Status};
