@@ -1,5 +1,5 @@
 -- From the rules' tests to the first broken rule.
-use Rattle.std.proofs.Common.{◌≡◌, ℕ, ◌-◌, Bool, true, false, List, [], ◌∷◌, Option, Some, None, refl, sym, ap, subst, ◌∙◌, length}
+use Rattle.std.proofs.Common.{◌≡◌, ℕ, ◌<◌, arith, ◌-◌, Bool, true, false, List, [], ◌∷◌, Option, Some, None, refl, sym, ap, subst, ◌∙◌, length}
 use Rattle.std.specs.Prelude.{IsSome, IfSome, IfOk, Result, Ok, Err, is_some}
 use Rattle.std.specs.List.{slice_get}
 use Rattle.std.specs.Option.{option_map, option_map_or}
@@ -27,6 +27,15 @@ something_last declared (i ∷ is) h = split_some i is
 pub something_pending : (r : Reply) (declared : List ℕ) → own_pending declared r ≡ true → IsSome (lists_of r)
 unfolding own_pending
 something_pending r declared h = mapped_some (λ s. record { structures = r.structures; others = s.0; own = s.1 }) (split_last r.pending) (something_last declared r.pending h)
+
+some_length : (declared : List ℕ) (is : List PendingItem) → option_map_or (λ i. bytes_eq (cert_sent i) declared) (slice_get is (length is - 1)) false ≡ true → 0 < length is
+some_length declared [] h = absurd cc
+some_length declared (i ∷ is) h = omega arith
+
+-- where a certificate is pending, the list isn't empty
+pub pending_length : (r : Reply) (declared : List ℕ) → own_pending declared r ≡ true → 0 < length r.pending
+unfolding own_pending
+pending_length r declared h = some_length declared r.pending h
 
 -- what is left to judge where the rules up to user 0's signatures hold
 pub rules_left : (k : Known) (r : Reply) → lists r ≡ true → own_last k.user k.last r ≡ true → own_pending k.declared r ≡ true → super_signature k.pinned r ≡ true

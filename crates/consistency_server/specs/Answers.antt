@@ -1,8 +1,9 @@
 -- What a call is answered, after the events before it: the first that applies.
-use Rattle.std.specs.Prelude.{ℕ, ◌+◌, List, [], ◌∷◌, Option, Some, None, Result, Ok, Err, Bool, true, false, ◌==◌, ◌&&◌, ◌||◌, not, if◌then◌else◌, nat_lt, find, replicate, is_some}
-use Rattle.std.specs.List.{list_any, list_all}
+use Rattle.std.specs.Prelude.{ℕ, ◌+◌, List, [], ◌∷◌, Option, Some, None, Result, Ok, Err, Bool, false, ◌==◌, ◌&&◌, not, if◌then◌else◌, replicate}
+use Rattle.std.specs.List.{list_any}
 use Rattle.std.specs.Option.{option_map_or}
 use Rattle.std.specs.Str.{bytes_eq}
+use Rattle.layout.specs.declared.error.ReadError.{ReadError}
 use Rattle.layout.specs.Format.{whole}
 use Rattle.lms_sign.specs.Signature.{valid}
 use Rattle.version_order.specs.Vector.{version_of}
@@ -11,11 +12,12 @@ use Rattle.version_order.specs.Structure as structure_spec
 use Rattle.version_order.specs.Plan.{plan}
 use Rattle.update_cert.specs.declared.Cert.{Cert}
 use Rattle.update_cert.specs.Cert.{cert}
-use Rattle.pending_list.specs.Signed.{Signed, signed}
-use Rattle.pending_list.specs.Reply.{PendingItem, Reply, reply}
+use Rattle.pending_list.specs.declared.signed.Signed.{Signed}
+use Rattle.pending_list.specs.Signed.{signed}
+use Rattle.pending_list.specs.Reply.{PendingItem, reply}
 use Rattle.principals.specs.Table.{genesis, key_of}
-use Rattle.wire.specs.declared.Status.{Status}
-use Rattle.wire.specs.declared.Status.TheVariants as status
+use Rattle.wire.specs.declared.kinds.Status.{Status}
+use Rattle.wire.specs.declared.kinds.Status.TheVariants as status
 use Rattle.consistency_server.specs.declared.call.CallKind.{CallKind}
 use Rattle.consistency_server.specs.declared.call.CallKind.TheVariants.{Update, Commit}
 use Rattle.consistency_server.specs.Event.{Event, Placed, Committed, count_of, last_of, vector_after, pending, reply_of}
@@ -32,9 +34,9 @@ pub record Answer : Type 0 where
 
 -- what a call leads to: a refusal, the same answer as before, or an event
 pub data Outcome : Type 0 where
-  pub Refused : Status → Outcome
-  pub Repeated : List ℕ → Outcome
-  pub Happens : Event → List ℕ → Outcome
+  Refused : Status → Outcome
+  Repeated : List ℕ → Outcome
+  Happens : Event → List ℕ → Outcome
 
 -- ---- UPDATE
 
@@ -101,12 +103,12 @@ read_commit pinned es (Ok s) = verified_commit es s (key_of s.value.plan.user (g
 
 -- ---- calls
 
-unfoldable pub outcome_of : List ℕ → List Event → Call → Outcome
-outcome_of pinned es call = by_kind pinned es call.text call.kind
-
 abbrev pub by_kind : List ℕ → List Event → List ℕ → CallKind → Outcome
 by_kind pinned es text Update = read_update pinned es (whole (signed cert) text)
 by_kind pinned es text Commit = read_commit pinned es (whole (signed structure) text)
+
+unfoldable pub outcome_of : List ℕ → List Event → Call → Outcome
+outcome_of pinned es call = by_kind pinned es call.text call.kind
 
 abbrev pub answer : Outcome → Answer
 answer (Refused s) = record { status = s; payload = [] }

@@ -1,19 +1,20 @@
 -- What the server did: an event places an operation or commits one. The newest event of a list is its first.
-use Rattle.std.specs.Prelude.{ℕ, zero, suc, ◌+◌, List, [], ◌∷◌, ◌++◌, Option, Some, None, Bool, ◌==◌, ◌&&◌, not, find, filter, filter_map, count_by, reverse}
+use Rattle.std.specs.Prelude.{ℕ, zero, suc, List, [], ◌∷◌, ◌++◌, Option, Some, None, Bool, ◌==◌, ◌&&◌, not, find, filter, filter_map, count_by, reverse}
+use Rattle.std.specs.Option.{option_map}
 use Rattle.std.specs.List.{list_any}
 use Rattle.version_order.specs.declared.vector.Component.{Component}
 use Rattle.version_order.specs.declared.plan.Entry.{Entry}
 use Rattle.version_order.specs.Vector.{raised}
-use Rattle.version_order.specs.Plan.{Plan, entry_of}
+use Rattle.version_order.specs.Plan.{entry_of}
 use Rattle.version_order.specs.Structure.{Structure}
 use Rattle.update_cert.specs.declared.Cert.{Cert}
 use Rattle.update_cert.specs.Cert as cert_spec
-use Rattle.pending_list.specs.Signed.{Signed}
+use Rattle.pending_list.specs.declared.signed.Signed.{Signed}
 use Rattle.pending_list.specs.Reply.{PendingItem, Reply}
 
 pub data Event : Type 0 where
-  pub Placed : Signed Cert → Event
-  pub Committed : Signed Structure → Event
+  Placed : Signed Cert → Event
+  Committed : Signed Structure → Event
 
 abbrev pub as_placed : Event → Option (Signed Cert)
 as_placed (Placed c) = Some c

@@ -1,13 +1,46 @@
 -- Histories: the calls that the server answered otherwise than busy or out of memory. The newest call is the first.
-use Rattle.std.specs.Prelude.{ℕ, List, [], ◌∷◌, ◌++◌}
+use Rattle.std.specs.Prelude.{◌≡◌, ◌⊎◌, ℕ, List, [], ◌∷◌, ◌++◌}
+use Rattle.wire.specs.declared.kinds.Status.{Status}
+use Rattle.wire.specs.declared.kinds.Status.TheVariants as status
+use Rattle.consistency_server.specs.declared.call.CallKind.TheVariants.{Update, Commit}
 use Rattle.consistency_server.specs.Event.{Event}
-use Rattle.consistency_server.specs.Answers.{Call, Answer, outcome_of, answer, happened}
+use Rattle.consistency_server.specs.Answers.{Call, Answer, Outcome, outcome_of, answer, happened}
+
+-- a server without where it lies in memory: user 0's key, and the calls that it answered
+pub record Ordered : Type 0 where
+  pub pinned : List ℕ
+  pub history : List Call
+
+abbrev pub update_of : List ℕ → Call
+update_of text = record { kind = Update; text = text }
+
+abbrev pub commit_of : List ℕ → Call
+commit_of text = record { kind = Commit; text = text }
 
 -- what the calls placed and committed, under the key of user 0
 unfoldable pub events : List ℕ → List Call → List Event
 events pinned [] = []
 events pinned (call ∷ earlier) = happened (outcome_of pinned (events pinned earlier) call) ++ events pinned earlier
 
+-- what a call leads to after a history
+abbrev pub outcome_after : Ordered → Call → Outcome
+outcome_after server call = outcome_of server.pinned (events server.pinned server.history) call
+
 -- what a call is answered after a history, want of memory and a full log aside
 abbrev pub answer_of : List ℕ → List Call → Call → Answer
 answer_of pinned history call = answer (outcome_of pinned (events pinned history) call)
+
+-- the log was full, or memory ran out
+abbrev pub IsTurnedAway : Status → Type 0
+IsTurnedAway s = (s ≡ status.Busy) ⊎ (s ≡ status.Memory)
+
+abbrev pub IsServed : Status → Type 0
+IsServed s = ¬ (IsTurnedAway s)
+
+-- what of a call goes to the log: the call itself, where it placed or committed
+abbrev pub logged_of : List Event → Call → List Call
+logged_of [] call = []
+logged_of (e ∷ es) call = call ∷ []
+
+abbrev pub logged : Ordered → Call → List Call
+logged server call = logged_of (happened (outcome_after server call)) call

@@ -1,11 +1,8 @@
-//! Scripts of clients and servers in one process: each line is a command, and prints one line.
+//! Scripts of clients and a server in one process: each line is a command, and prints one line.
 #![tactic(auto)]
 
 mod command;
-mod play;
+mod script;
 mod world;
 
-pub use play::{PlayError, play};
-
-#[cfg(test)]
-mod tests;
+pub use script::{PlayError, play};

@@ -1,9 +1,9 @@
 //! Replies to updates.
 
-ghost use Rattle.std.specs.Prelude.{◌≡◌, ◌≤◌, OnOk, IfOk, vec_len};
+ghost use Rattle.std.specs.Prelude.{◌≡◌, ◌≤◌, OnOk, IfOk, vec_len, length};
 ghost use Rattle.std.specs.List.{All};
 ghost use Rattle.layout.specs.Format.{Reads};
-ghost use Rattle.pending_list.specs.Reply.{structure_rows, pending_rows, signed_structure, pending_item};
+ghost use Rattle.pending_list.specs.Reply.{reply, structure_rows, pending_rows, signed_structure, pending_item};
 
 use crate::signed::{Signature, Signed};
 use layout::{
@@ -161,11 +161,7 @@ impl<A: Allocator + Copy> Text<A> for Reply<A> {
     }
 
     fn write_to(&self, writer: &mut Writer<A>) -> Result<(), Memory> {
-        writer.tag(b"SRL1")?;
-        writer.u8(self.structures.len() as u8)?;
-        write_rows(writer, &StructureRows, &self.structures)?;
-        writer.u8(self.pending.len() as u8)?;
-        write_rows(writer, &PendingRows, &self.pending)
+        write_lists(writer, &self.structures, &self.pending)
     }
 
     ghost lawful = { lawful_reply };
@@ -235,5 +231,41 @@ impl<A: Allocator> Reply<A> {
             pending,
         } = self;
         (structures, pending)
+    }
+}
+
+/// Writes the reply of two lists, of at most 64 rows each.
+fn write_lists<A: Allocator + Copy>(
+    writer: &mut Writer<A>,
+    structures: &[Signed<Structure<A>>],
+    pending: &[PendingItem<A>],
+) -> Result<(), Memory>
+    requires few_structures { length structures.now ≤ 64 }
+    requires few_pending { length pending.now ≤ 64 }
+    ensures { OnOk result (writer.new ≡ reply.onto writer.old (record { structures = structures.now; pending = pending.now })) }
+{
+    writer.tag(b"SRL1")?;
+    writer.u8(structures.len() as u8)?;
+    write_rows(writer, &StructureRows, structures)?;
+    writer.u8(pending.len() as u8)?;
+    write_rows(writer, &PendingRows, pending)
+}
+
+impl<A: Allocator + Copy> Reply<A> {
+    ghost use Rattle.pending_list.specs.Reply.{reply};
+
+    /// The text of the reply of these two lists, of at most 64 rows each, which stay where they are.
+    pub fn text_of(
+        alloc: A,
+        structures: &[Signed<Structure<A>>],
+        pending: &[PendingItem<A>],
+    ) -> Result<Vec<u8, A>, Memory>
+        requires few_structures { length structures.now ≤ 64 }
+        requires few_pending { length pending.now ≤ 64 }
+        ensures { IfOk result (λ text. text.items ≡ reply.spell (record { structures = structures.now; pending = pending.now })) }
+    {
+        let mut writer = Writer::new(alloc);
+        write_lists(&mut writer, structures, pending)?;
+        Ok(writer.finish())
     }
 }

@@ -1,6 +1,6 @@
 //! The first rule on the lists that doesn't hold.
 
-ghost use Rattle.std.specs.Prelude.{◌≡◌, ℕ, IfOk, IfSome, IsSome, None, map, true};
+ghost use Rattle.std.specs.Prelude.{◌≡◌, ℕ, IfOk, IfSome, None, length, map, true, ◌<◌};
 ghost use Rattle.std.specs.List.{list_all};
 ghost use Rattle.std.specs.Option.{option_copied};
 ghost use Rattle.principals.specs.Table.{is_listed};
@@ -99,7 +99,7 @@ pub fn broken<A: Allocator + Copy>(
     table: &Table,
 ) -> Result<Option<Rule>, Memory>
     requires lists { lists reply.now ≡ true }
-    requires pending { IsSome (lists_of reply.now) }
+    requires pending { 0 < length reply.now.pending }
     ensures first { IfOk result (λ rule. IfSome (lists_of reply.now) (λ x. rule ≡ broken table.now x)) }
     // Nobody else's structure stands in a reply that breaks none of these rules.
     ensures sole { IfOk result (λ rule. rule ≡ None → IfSome (lists_of reply.now) (λ x. is_of_one x ≡ true)) }

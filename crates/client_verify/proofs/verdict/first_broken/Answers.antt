@@ -5,13 +5,13 @@ use Rattle.reply_rules.specs.Broken.{broken}
 use Rattle.std.specs.Option.{option_copied}
 use Rattle.reply_rules.specs.Lists.{lists_of}
 use Rattle.client_verify.specs.FirstBroken.{Known, own_last, own_pending, super_signature}
-use Rattle.client_verify.proofs.Judging.{something_pending, rules_left, broken_first, each_ok}
+use Rattle.client_verify.proofs.Judging.{something_pending, pending_length, rules_left, broken_first, each_ok}
 use Rattle.client_verify.proofs.verdict.first_broken.Goals as goal
 
 pub broken-requires-clause-pending : goal.broken-requires-clause-pending
 broken-requires-clause-pending g c =
     let waits : own_pending c.args.declared.now c.args.reply.now ≡ true = cc (c.in_ok-own_pending.ensures) in
-    something_pending c.args.reply.now c.args.declared.now waits
+    pending_length c.args.reply.now c.args.declared.now waits
 
 pub returns-clause-first : goal.returns-clause-first
 returns-clause-first g c =

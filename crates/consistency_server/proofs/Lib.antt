@@ -1,0 +1,5 @@
+pub mod Sole
+pub mod Steps
+pub mod Texts
+pub mod Judging
+pub mod Serving

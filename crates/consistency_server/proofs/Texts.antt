@@ -1,0 +1,22 @@
+-- Texts, and what is known of an answer where it came.
+use Rattle.std.proofs.Common.{◌≡◌, ℕ, List, [], ◌++◌, Result, Ok, Err, sym, ap, ◌∙◌}
+use Rattle.std.specs.Prelude.{IfOk}
+use Rattle.layout.specs.Format.{Format, Answer}
+use Rattle.layout.specs.Laws.{Lawful}
+
+-- the value that was read, or the other one
+abbrev value_or : {V : Type 0} → V → Answer V → V
+value_or x (Ok p) = p.0
+value_or x (Err e) = x
+
+-- values of one text are one value
+pub same_value : {V : Type 0} (f : Format V) → Lawful f → (x y : V) → f.Fits x → f.Fits y → f.spell x ≡ f.spell y → x ≡ y
+same_value {V} f law x y fits fits' same =
+    let front : value_or x (f.read (f.spell x ++ [])) ≡ x = ap (value_or x) (law.again x [] fits) in
+    let back : value_or x (f.read (f.spell y ++ [])) ≡ y = ap (value_or x) (law.again y [] fits') in
+    sym front ∙ ap (λ (t : List ℕ). value_or x (f.read (t ++ []))) same ∙ back
+
+-- what follows where it came
+pub with_ok : {X E : Type 0} (r : Result X E) (P Q : X → Type 0) → ((x : X) → P x → Q x) → IfOk r P → IfOk r Q
+with_ok (Ok x) P Q more h = more x h
+with_ok (Err e) P Q more h = tt

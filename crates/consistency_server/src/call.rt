@@ -1,0 +1,111 @@
+//! Calls, and what they are answered.
+
+ghost use Rattle.std.specs.Prelude.{◌≡◌};
+
+use std::alloc::Allocator;
+use std::marker::Model;
+use wire::Status;
+
+/// Which call it is.
+#[derive(Clone, Copy, Debug, PartialEq, Eq)]
+pub enum CallKind {
+    /// A certificate is declared.
+    Update,
+    /// A structure is committed.
+    Commit,
+}
+
+/// A call, and the signed text that came with it.
+#[derive(Drop)]
+pub struct Call<A: Allocator> {
+    kind: CallKind,
+    text: Vec<u8, A>,
+}
+
+impl<A: Allocator> Model for Call<A> {
+    ghost use Rattle.consistency_server.specs.Answers.{Call};
+
+    ghost Value = { Call };
+
+    ghost view = { λ c. record { kind = c.kind; text = c.text.items } };
+}
+
+impl<A: Allocator> Call<A> {
+    pub fn new(kind: CallKind, text: Vec<u8, A>) -> Call<A>
+        ensures { result ≡ record { kind = kind; text = text.items } }
+    {
+        Call { kind, text }
+    }
+
+    pub fn kind(&self) -> CallKind
+        ensures { result ≡ self.now.kind }
+    {
+        self.kind
+    }
+
+    pub fn text(&self) -> &[u8]
+        ensures { result.now ≡ self.now.text }
+    {
+        &self.text
+    }
+}
+
+/// A status, and what comes with `Ok`.
+#[derive(Drop)]
+pub struct Answer<A: Allocator> {
+    status: Status,
+    payload: Vec<u8, A>,
+}
+
+impl<A: Allocator> Model for Answer<A> {
+    ghost use Rattle.consistency_server.specs.Answers.{Answer};
+
+    ghost Value = { Answer };
+
+    ghost view = { λ a. record { status = a.status; payload = a.payload.items } };
+}
+
+impl<A: Allocator> Answer<A> {
+    ghost use Rattle.std.specs.Prelude.{[]};
+    ghost use Rattle.wire.specs.declared.kinds.Status.TheVariants as status;
+
+    /// `Ok`, with what comes with it.
+    pub(crate) fn with_payload(payload: Vec<u8, A>) -> Answer<A>
+        ensures { result ≡ record { status = status.Ok; payload = payload.items } }
+    {
+        Answer {
+            status: Status::Ok,
+            payload,
+        }
+    }
+
+    /// An answer without a payload.
+    pub(crate) fn bare(alloc: A, status: Status) -> Answer<A>
+        ensures { result ≡ record { status = status; payload = [] } }
+    {
+        Answer {
+            status,
+            payload: Vec::new(alloc),
+        }
+    }
+
+    pub fn status(&self) -> Status
+        ensures { result ≡ self.now.status }
+    {
+        self.status
+    }
+
+    /// What comes with `Ok`: the reply to an update, and nothing to a commit.
+    pub fn payload(&self) -> &[u8]
+        ensures { result.now ≡ self.now.payload }
+    {
+        &self.payload
+    }
+
+    pub fn into_payload(self) -> Vec<u8, A>
+        ensures { result.items ≡ self.payload }
+    {
+        let Answer { status: _, payload } = self;
+        payload
+    }
+}

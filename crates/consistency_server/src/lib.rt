@@ -1,0 +1,13 @@
+//! The server of a file system whose clients don't trust it: the one order of their operations.
+#![tactic(auto)]
+
+mod call;
+mod log;
+mod server;
+mod state;
+#[cfg(test)]
+mod tests;
+
+pub use call::{Answer, Call, CallKind};
+pub use log::{Log, LogFull, MemoryLog};
+pub use server::Ordered;

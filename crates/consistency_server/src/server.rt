@@ -1,0 +1,237 @@
+//! The server's one order of calls.
+
+ghost use Rattle.std.specs.Prelude.{◌≡◌, [], ◌∷◌, ◌++◌, OnOk, OnErr, IfOk, IsTrue, Err, reverse};
+ghost use Rattle.consistency_server.specs.Judged.{answer_by, state_behind, logged_by};
+
+use crate::call::{Answer, Call, CallKind};
+use crate::log::{Log, LogFull};
+use crate::state::{Judged, State};
+use layout::Memory;
+use lms_sign::PublicKey;
+use std::alloc::{AllocError, Allocator};
+use std::marker::Model;
+use wire::Status;
+
+/// Why a call wasn't served.
+#[derive(Clone, Copy, Debug)]
+enum Refusal {
+    Busy,
+    Memory,
+}
+
+impl From<LogFull> for Refusal {
+    ghost use Rattle.consistency_server.specs.declared.server.Refusal.TheVariants as refusal;
+
+    ghost from_gives = { λ _ e. e ≡ refusal.Busy };
+
+    fn from(_e: LogFull) -> Refusal {
+        Refusal::Busy
+    }
+}
+
+impl From<Memory> for Refusal {
+    ghost use Rattle.consistency_server.specs.declared.server.Refusal.TheVariants as refusal;
+
+    ghost from_gives = { λ _ e. e ≡ refusal.Memory };
+
+    fn from(_e: Memory) -> Refusal {
+        Refusal::Memory
+    }
+}
+
+impl From<AllocError> for Refusal {
+    ghost use Rattle.consistency_server.specs.declared.server.Refusal.TheVariants as refusal;
+
+    ghost from_gives = { λ _ e. e ≡ refusal.Memory };
+
+    fn from(_e: AllocError) -> Refusal {
+        Refusal::Memory
+    }
+}
+
+/// The order of the calls so far, under the key of user 0.
+#[derive(Drop)]
+pub struct Ordered<A: Allocator> {
+    pinned: PublicKey,
+    state: State<A>,
+    history: Vec<Call<A>, A>,
+}
+
+impl<A: Allocator> Model for Ordered<A> {
+    ghost use Rattle.std.specs.Prelude.{reverse};
+    ghost use Rattle.consistency_server.specs.History.{Ordered, events};
+    ghost use Rattle.consistency_server.specs.State.{Keeps};
+
+    ghost Value = { Ordered };
+
+    ghost view = { λ o. record { pinned = o.pinned; history = reverse o.history.items } };
+
+    ghost invariant = { λ o. Keeps (events o.pinned (reverse o.history.items)) o.state };
+}
+
+/// What is done for a call once it is judged: room is made for it, it goes to the log if it happens, and then what is
+/// kept changes, which can't fail.
+fn settle<A: Allocator + Copy, G: Log<Call<A>>>(
+    state: &mut State<A>,
+    history: &mut Vec<Call<A>, A>,
+    log: &mut G,
+    kind: CallKind,
+    text: &[u8],
+    judged: Judged<A>,
+) -> Result<Answer<A>, Refusal>
+    ensures answer { IfOk result (λ answer. answer ≡ answer_by judged) }
+    ensures state { OnOk result (state.new ≡ state_behind state.old judged) }
+    ensures history { OnOk result (history.new.items ≡ history.old.items ++ record { kind = kind; text = text.now } ∷ []) }
+    ensures log { OnOk result (G.pushed log.new ≡ G.pushed log.old ++ logged_by judged (record { kind = kind; text = text.now })) }
+    ensures state_err { OnErr result (state.new ≡ state.old) }
+    ensures history_err { OnErr result (history.new.items ≡ history.old.items) }
+    ensures log_err { OnErr result (G.pushed log.new ≡ G.pushed log.old) }
+    ensures busy { result ≡ Err Refusal.Busy → IsTrue (G.is_full log.old) }
+{
+    let alloc = *history.allocator();
+    let call = Call::new(kind, Vec::from_slice(alloc, text)?);
+    history.reserve(1)?;
+    let answer = match judged {
+        Judged::Refused(status) => Answer::bare(alloc, status),
+        Judged::Repeated(payload) => Answer::with_payload(payload),
+        Judged::Happens(change, payload) => {
+            log.try_push(Call::new(kind, Vec::from_slice(alloc, text)?))?;
+            state.apply(change);
+            Answer::with_payload(payload)
+        }
+    };
+    history.push(call).unwrap();
+    Ok(answer)
+}
+
+impl Refusal {
+    ghost use Rattle.consistency_server.specs.Serving.{status_of};
+
+    fn status(self) -> Status
+        ensures { result ≡ status_of self }
+    {
+        match self {
+            Refusal::Busy => Status::Busy,
+            Refusal::Memory => Status::Memory,
+        }
+    }
+}
+
+impl<A: Allocator + Copy> Ordered<A> {
+    ghost use Rattle.consistency_server.specs.History.{update_of, commit_of, answer_of, logged, IsServed, IsTurnedAway};
+    ghost use Rattle.wire.specs.declared.kinds.Status.TheVariants as status;
+
+    /// Before the first call. `pinned` is the key that every client knows, user 0's.
+    pub fn genesis(alloc: A, pinned: PublicKey) -> Ordered<A>
+        ensures { result ≡ record { pinned = pinned; history = [] } }
+    {
+        Ordered {
+            pinned,
+            state: State::new(alloc),
+            history: Vec::new(alloc),
+        }
+    }
+
+    /// The calls that were answered otherwise than busy or out of memory, the oldest first.
+    pub fn history(&self) -> &[Call<A>]
+        ensures { result.now ≡ reverse self.now.history }
+    {
+        &self.history
+    }
+
+    /// Answers an UPDATE, whose text is a signed certificate.
+    pub fn update<G: Log<Call<A>>>(&mut self, log: &mut G, text: &[u8]) -> Answer<A>
+        ensures answer { IsServed result.status
+            → result ≡ answer_of self.old.pinned self.old.history (update_of text.now) }
+        ensures history { IsServed result.status
+            → self.new ≡ record self.old { history = update_of text.now ∷ self.old.history } }
+        ensures log { IsServed result.status
+            → G.pushed log.new ≡ G.pushed log.old ++ logged self.old (update_of text.now) }
+        ensures busy { result.status ≡ status.Busy → IsTrue (G.is_full log.old) }
+        ensures bare { IsTurnedAway result.status → result.payload ≡ [] }
+        ensures same { IsTurnedAway result.status → self.new ≡ self.old }
+        ensures log_same { IsTurnedAway result.status → G.pushed log.new ≡ G.pushed log.old }
+    {
+        let alloc = *self.history.allocator();
+        match self.try_update(log, text) {
+            Ok(answer) => answer,
+            Err(refusal) => Answer::bare(alloc, refusal.status()),
+        }
+    }
+
+    fn try_update<G: Log<Call<A>>>(
+        &mut self,
+        log: &mut G,
+        text: &[u8],
+    ) -> Result<Answer<A>, Refusal>
+        ensures answer { IfOk result
+            (λ answer. answer ≡ answer_of self.old.pinned self.old.history (update_of text.now)) }
+        ensures history { OnOk result
+            (self.new ≡ record self.old { history = update_of text.now ∷ self.old.history }) }
+        ensures log { OnOk result
+            (G.pushed log.new ≡ G.pushed log.old ++ logged self.old (update_of text.now)) }
+        ensures served { IfOk result (λ answer. IsServed answer.status) }
+        ensures same { OnErr result (self.new ≡ self.old) }
+        ensures log_same { OnErr result (G.pushed log.new ≡ G.pushed log.old) }
+        ensures busy { result ≡ Err Refusal.Busy → IsTrue (G.is_full log.old) }
+    {
+        let alloc = *self.history.allocator();
+        let judged = self.state.judge_update(alloc, &self.pinned, text)?;
+        settle(
+            &mut self.state,
+            &mut self.history,
+            log,
+            CallKind::Update,
+            text,
+            judged,
+        )
+    }
+
+    /// Answers a COMMIT, whose text is a signed structure.
+    pub fn commit<G: Log<Call<A>>>(&mut self, log: &mut G, text: &[u8]) -> Answer<A>
+        ensures answer { IsServed result.status
+            → result ≡ answer_of self.old.pinned self.old.history (commit_of text.now) }
+        ensures history { IsServed result.status
+            → self.new ≡ record self.old { history = commit_of text.now ∷ self.old.history } }
+        ensures log { IsServed result.status
+            → G.pushed log.new ≡ G.pushed log.old ++ logged self.old (commit_of text.now) }
+        ensures busy { result.status ≡ status.Busy → IsTrue (G.is_full log.old) }
+        ensures bare { IsTurnedAway result.status → result.payload ≡ [] }
+        ensures same { IsTurnedAway result.status → self.new ≡ self.old }
+        ensures log_same { IsTurnedAway result.status → G.pushed log.new ≡ G.pushed log.old }
+    {
+        let alloc = *self.history.allocator();
+        match self.try_commit(log, text) {
+            Ok(answer) => answer,
+            Err(refusal) => Answer::bare(alloc, refusal.status()),
+        }
+    }
+
+    fn try_commit<G: Log<Call<A>>>(
+        &mut self,
+        log: &mut G,
+        text: &[u8],
+    ) -> Result<Answer<A>, Refusal>
+        ensures answer { IfOk result
+            (λ answer. answer ≡ answer_of self.old.pinned self.old.history (commit_of text.now)) }
+        ensures history { OnOk result
+            (self.new ≡ record self.old { history = commit_of text.now ∷ self.old.history }) }
+        ensures log { OnOk result
+            (G.pushed log.new ≡ G.pushed log.old ++ logged self.old (commit_of text.now)) }
+        ensures served { IfOk result (λ answer. IsServed answer.status) }
+        ensures same { OnErr result (self.new ≡ self.old) }
+        ensures log_same { OnErr result (G.pushed log.new ≡ G.pushed log.old) }
+        ensures busy { result ≡ Err Refusal.Busy → IsTrue (G.is_full log.old) }
+    {
+        let alloc = *self.history.allocator();
+        let judged = self.state.judge_commit(alloc, &self.pinned, text)?;
+        settle(
+            &mut self.state,
+            &mut self.history,
+            log,
+            CallKind::Commit,
+            text,
+            judged,
+        )
+    }
+}

@@ -1,0 +1,81 @@
+//! Running a script.
+
+use crate::command::command_of;
+use crate::world::{Outcome, World};
+use layout::Memory;
+use std::alloc::{AllocError, Allocator};
+use std::io::{self, BufRead, Write};
+use thiserror::Error;
+
+/// Why a script could not be run to its end. The lines before stand.
+#[derive(Debug, Drop, Error)]
+pub enum PlayError {
+    /// The script could not be read.
+    #[error("the script can't be read")]
+    Read,
+    /// A line could not be written.
+    #[error("a line can't be written")]
+    Write,
+    /// Memory ran out.
+    #[error("out of memory")]
+    Memory,
+}
+
+impl From<Memory> for PlayError {
+    fn from(_e: Memory) -> PlayError {
+        PlayError::Memory
+    }
+}
+
+impl From<AllocError> for PlayError {
+    fn from(_e: AllocError) -> PlayError {
+        PlayError::Memory
+    }
+}
+
+/// The bytes of a line without its end.
+fn without_end(line: &[u8]) -> &[u8] {
+    line.strip_suffix(b"\n".as_slice()).unwrap_or(line)
+}
+
+/// What a line comes to; nothing where it is empty or a comment.
+fn outcome_of<A: Allocator + Copy>(
+    world: &mut World<A>,
+    line: &[u8],
+) -> Result<Option<Outcome>, Memory> {
+    if line.is_empty() || line.starts_with(b"#".as_slice()) {
+        return Ok(None);
+    }
+    let command = match std::str::from_utf8(line) {
+        Ok(text) => command_of(text),
+        Err(_) => None,
+    };
+    match command {
+        Some(command) => Ok(Some(world.run(command)?)),
+        None => Ok(Some(Outcome::Error)),
+    }
+}
+
+/// Runs the script that the reader gives, and writes a line for each command. Lines that are empty or begin with `#` are
+/// skipped.
+pub fn play<A: Allocator + Copy, R: BufRead, W: Write>(
+    alloc: A,
+    reader: &mut R,
+    writer: &mut W,
+) -> Result<(), PlayError> {
+    let mut world = World::new(alloc)?;
+    let mut line = Vec::new(alloc);
+    for _ in 0..u64::MAX {
+        line.clear();
+        let size = reader
+            .read_until(b'\n', &mut line)
+            .map_err(|_| PlayError::Read)?;
+        if size == 0 {
+            break;
+        }
+        if let Some(outcome) = outcome_of(&mut world, without_end(&line))? {
+            writeln!(writer, "{outcome}").map_err(|_| PlayError::Write)?;
+        }
+    }
+    Ok(())
+}
