@@ -78,7 +78,8 @@ abbrev pub of_read : Known → Result Reply ReadError → Option Rule
 of_read k (Err e) = Some rule.Form
 of_read k (Ok r) = of_reply k r
 
--- The first broken rule of the bytes of a reply, or none. No block is asked for yet, and all items are user 0's once
--- the rule on unknown users holds: so the rules on blocks, on others' signatures and on groups can't be broken first.
+-- The first broken rule of the bytes of a reply, or none, of the rules that can be broken first while user 0 alone is
+-- listed and operations have no changes: then no block is asked for, no item of another user is known, and a client's
+-- structures have no group records, so that the rules on blocks, on others' signatures and on group records are left out.
 unfoldable pub first_broken : Known → List ℕ → Option Rule
 first_broken k text = of_read k (whole reply text)

@@ -112,7 +112,8 @@ block_breaks digest (Some block) = if bytes_eq (hash block) digest then rule.Con
 
 -- ---- signing
 
--- the handle of the own i-table, which no operation without changes changes
+-- the handle of the own i-table, which no operation without changes changes: at the beginning that of user 0, whose
+-- client alone has a reply accepted while nobody else is listed
 abbrev pub handle : List ℕ → Option (Signed Structure) → List ℕ
 handle pinned last = option_map_or (λ z. z.value.handle) last (handle_of pinned)
 

@@ -180,7 +180,7 @@ impl<A: Allocator + Copy> Client<A> {
         ensures declared { OnOk result (self.new ≡ declared self.old) }
         ensures text { IfOk result (λ text. text.items ≡ self.new.text) }
         ensures no_leaf { IsErrOf result ClientError.NoLeaf ↔ (self.old.leaf ≡ 1024) }
-        ensures no_number { IsErrOf result ClientError.NoNumber → self.old.number ≡ 4294967295 }
+        ensures no_number { IsErrOf result ClientError.NoNumber ↔ ((self.old.number ≡ 4294967295) × (self.old.leaf ≢ 1024)) }
         ensures err { OnErr result (self.new ≡ self.old) }
     {
         if self.leaf >= LEAF_COUNT {
@@ -232,8 +232,8 @@ impl<A: Allocator + Copy> Client<A> {
         }
     }
 
-    /// Takes the block that was asked for, or its absence. No place asks for a block yet, so none is what its place asks
-    /// for, and none is ever asked for.
+    /// Takes the block that was asked for, or its absence. No reply asks for a block yet, so no client comes to call it;
+    /// what it says of a block is no more than that the block isn't there, has another digest, or has no place.
     pub fn on_block(&mut self, block: Option<&[u8]>) -> Result<Step<A>, ClientError>
         requires { IsSome self.old.asked }
         ensures broken { IfSome self.old.asked (λ digest. result ≡ Ok (Step.Broken (block_breaks digest (option_copied block.entry)))) }

@@ -1,6 +1,7 @@
 //! Digests as values.
 
-ghost use Rattle.std.specs.Prelude.{◌≡◌, OnErr, OnOk, ◌++◌, length};
+ghost use Rattle.layout.specs.declared.error.ReadError.TheVariants as read_error;
+ghost use Rattle.std.specs.Prelude.{◌≢◌, IfErr, ◌≡◌, OnErr, OnOk, ◌++◌, length};
 ghost use Rattle.layout.specs.Format.{IsBytes, Reads, raw};
 
 use crate::error::{Memory, ReadError};
@@ -52,6 +53,7 @@ impl Reader<'_> {
     pub fn digest(&mut self) -> Result<Digest, ReadError>
         ensures reads { Reads result self.new ((raw 32).read self.old) }
         ensures bytes { IsBytes self.old }
+        ensures no_memory { IfErr result (λ e. e ≢ read_error.Memory) }
         ensures err { OnErr result (self.new ≡ self.old) }
     {
         let bytes = self.bytes(32)?;

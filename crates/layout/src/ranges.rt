@@ -1,6 +1,7 @@
 //! Numbers with a range of their own.
 
-ghost use Rattle.std.specs.Prelude.{◌≡◌, ◌<◌, ◌≤◌, ◌⊎◌, OnErr, OnOk, ◌+◌, ◌++◌, MatchOption};
+ghost use Rattle.layout.specs.declared.error.ReadError.TheVariants as read_error;
+ghost use Rattle.std.specs.Prelude.{◌≢◌, IfErr, ◌≡◌, ◌<◌, ◌≤◌, ◌⊎◌, OnErr, OnOk, ◌+◌, ◌++◌, MatchOption};
 ghost use Rattle.std.specs.Int.{w8, w32};
 ghost use Rattle.layout.specs.Format.{IsBytes, Reads, be};
 ghost use Rattle.layout.specs.Ranges.{user, group, principal, version};
@@ -211,6 +212,7 @@ impl Reader<'_> {
     pub fn user(&mut self) -> Result<User, ReadError>
         ensures reads { Reads result self.new (user.read self.old) }
         ensures bytes { IsBytes self.old }
+        ensures no_memory { IfErr result (λ e. e ≢ read_error.Memory) }
         ensures err { OnErr result (self.new ≡ self.old) }
     {
         let number = self.u8_in(0, 63)?;
@@ -221,6 +223,7 @@ impl Reader<'_> {
     pub fn group(&mut self) -> Result<Group, ReadError>
         ensures reads { Reads result self.new (group.read self.old) }
         ensures bytes { IsBytes self.old }
+        ensures no_memory { IfErr result (λ e. e ≢ read_error.Memory) }
         ensures err { OnErr result (self.new ≡ self.old) }
     {
         let number = self.u8_in(64, 95)?;
@@ -231,6 +234,7 @@ impl Reader<'_> {
     pub fn principal(&mut self) -> Result<Principal, ReadError>
         ensures reads { Reads result self.new (principal.read self.old) }
         ensures bytes { IsBytes self.old }
+        ensures no_memory { IfErr result (λ e. e ≢ read_error.Memory) }
         ensures err { OnErr result (self.new ≡ self.old) }
     {
         let number = self.u8_in(0, 95)?;
@@ -241,6 +245,7 @@ impl Reader<'_> {
     pub fn version(&mut self) -> Result<Version, ReadError>
         ensures reads { Reads result self.new (version.read self.old) }
         ensures bytes { IsBytes self.old }
+        ensures no_memory { IfErr result (λ e. e ≢ read_error.Memory) }
         ensures err { OnErr result (self.new ≡ self.old) }
     {
         let number = self.u32_in(1, u32::MAX)?;

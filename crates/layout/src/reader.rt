@@ -1,6 +1,7 @@
 //! Reading fields from the front of a text.
 
-ghost use Rattle.std.specs.Prelude.{◌≡◌, length, OnErr, IfOk, nat_lt};
+ghost use Rattle.layout.specs.declared.error.ReadError.TheVariants as read_error;
+ghost use Rattle.std.specs.Prelude.{◌≢◌, IfErr, ◌≡◌, length, OnErr, IfOk, nat_lt};
 ghost use Rattle.std.specs.Int.{w8, w16, w32};
 ghost use Rattle.layout.specs.Format.{Reads, ReadsAs, IsBytes, uint_in, tagged, raw, string, ends};
 
@@ -40,6 +41,7 @@ impl<'a> Reader<'a> {
     pub fn u8_in(&mut self, low: u8, high: u8) -> Result<u8, ReadError>
         ensures reads { Reads result self.new ((uint_in w8 low high).read self.old) }
         ensures bytes { IsBytes self.old }
+        ensures no_memory { IfErr result (λ e. e ≢ read_error.Memory) }
         ensures err { OnErr result (self.new ≡ self.old) }
     {
         if is_short(self.left, 1) {
@@ -58,6 +60,7 @@ impl<'a> Reader<'a> {
     pub fn u16_in(&mut self, low: u16, high: u16) -> Result<u16, ReadError>
         ensures reads { Reads result self.new ((uint_in w16 low high).read self.old) }
         ensures bytes { IsBytes self.old }
+        ensures no_memory { IfErr result (λ e. e ≢ read_error.Memory) }
         ensures err { OnErr result (self.new ≡ self.old) }
     {
         if is_short(self.left, 2) {
@@ -76,6 +79,7 @@ impl<'a> Reader<'a> {
     pub fn u32_in(&mut self, low: u32, high: u32) -> Result<u32, ReadError>
         ensures reads { Reads result self.new ((uint_in w32 low high).read self.old) }
         ensures bytes { IsBytes self.old }
+        ensures no_memory { IfErr result (λ e. e ≢ read_error.Memory) }
         ensures err { OnErr result (self.new ≡ self.old) }
     {
         if is_short(self.left, 4) {
@@ -94,6 +98,7 @@ impl<'a> Reader<'a> {
     pub fn bytes(&mut self, count: usize) -> Result<&'a [u8], ReadError>
         ensures reads { ReadsAs (λ x. x.now) result self.new ((raw count).read self.old) }
         ensures bytes { IsBytes self.old }
+        ensures no_memory { IfErr result (λ e. e ≢ read_error.Memory) }
         ensures size { IfOk result (λ x. length x.now ≡ count) }
         ensures err { OnErr result (self.new ≡ self.old) }
     {
@@ -109,6 +114,7 @@ impl<'a> Reader<'a> {
     pub fn tag(&mut self, tag: &[u8]) -> Result<(), ReadError>
         ensures reads { Reads result self.new ((tagged tag.now).read self.old) }
         ensures bytes { IsBytes self.old }
+        ensures no_memory { IfErr result (λ e. e ≢ read_error.Memory) }
         ensures err { OnErr result (self.new ≡ self.old) }
     {
         if is_short(self.left, tag.len()) {
@@ -126,9 +132,18 @@ impl<'a> Reader<'a> {
     pub fn sized(&mut self) -> Result<&'a [u8], ReadError>
         ensures reads { ReadsAs (λ x. x.now) result self.new ((string (uint_in w16 0 65535)).read self.old) }
         ensures bytes { IsBytes self.old }
+        ensures no_memory { IfErr result (λ e. e ≢ read_error.Memory) }
+        ensures err { OnErr result (self.new ≡ self.old) }
     {
+        let start = self.left;
         let size = self.u16_in(0, u16::MAX)?;
-        self.bytes(usize::from(size))
+        match self.bytes(usize::from(size)) {
+            Ok(bytes) => Ok(bytes),
+            Err(fault) => {
+                self.left = start;
+                Err(fault)
+            }
+        }
     }
 
     /// Whether nothing is left.

@@ -96,7 +96,7 @@ abbrev pub deeper : Signed Structure → Option (Signed Structure) → Option (S
 deeper s None = Some s
 deeper s (Some t) = if nat_lt (depth_of s) (depth_of t) then Some t else Some s
 
--- the structure of greatest depth, of equal ones the first: it is the least user's
+-- the structure of greatest depth, of equal ones the first, which is the least user's where the list ascends by user
 abbrev pub top : List (Signed Structure) → Option (Signed Structure)
 top [] = None
 top (s ∷ ss) = deeper s (top ss)

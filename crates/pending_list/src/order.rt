@@ -36,7 +36,7 @@ fn deepest<A: Allocator>(structures: &[Signed<Structure<A>>]) -> Option<&Signed<
     best
 }
 
-/// The structure of greatest depth, of equal ones the first: it is the least user's.
+/// The structure of greatest depth, of equal ones the first, which is the least user's where the list ascends by user.
 pub fn top<A: Allocator>(reply: &Reply<A>) -> Option<&Signed<Structure<A>>>
     ensures { option_copied result ≡ top reply.now.structures }
 {

@@ -1,6 +1,7 @@
 //! Signatures, and texts with one behind them.
 
-ghost use Rattle.std.specs.Prelude.{◌≡◌, OnOk, OnErr, length};
+ghost use Rattle.std.specs.Prelude.{◌≡◌, ◌≢◌, IfErr, OnOk, OnErr, length};
+ghost use Rattle.layout.specs.declared.error.ReadError.TheVariants as read_error;
 ghost use Rattle.layout.specs.Format.{IsBytes, Reads};
 ghost use Rattle.pending_list.specs.Signed.{signature};
 
@@ -43,6 +44,7 @@ impl Signature {
     /// 2,508 bytes, whatever they are. Short where they aren't there.
     pub fn read_from(reader: &mut Reader<'_>) -> Result<Signature, ReadError>
         ensures reads { Reads result reader.new (signature.read reader.old) }
+        ensures no_memory { IfErr result (λ e. e ≢ read_error.Memory) }
         ensures bytes { IsBytes reader.old }
         ensures err { OnErr result (reader.new ≡ reader.old) }
     {

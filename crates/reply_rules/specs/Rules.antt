@@ -178,15 +178,15 @@ lists_entry es e = list_any (same_entry e) es
 abbrev pub entries_of : List Plan → List Entry
 entries_of ps = map entry_of ps
 
--- (a) each entry of top is of its user's structure or pending plan
+-- each entry of top is of its user's structure or pending plan
 abbrev pub top_known : Lists → Bool
 top_known x = list_all (λ e. lists_entry (entries_of (shown x)) e || lists_entry (entries_of (pending x)) e) (top_entries x)
 
--- (b) each pending plan that isn't above is an entry of top
+-- each pending plan that isn't above is an entry of top
 abbrev pub top_waiting : Lists → Bool
 top_waiting x = list_all (lists_entry (top_entries x)) (entries_of (below x))
 
--- (c) the rest of a plan's entries: those that aren't of the plans above before it
+-- the rest of a plan's entries: those that aren't of the plans above before it
 abbrev pub rest_of : List Plan → Plan → List Entry
 rest_of before p = filter (λ e. not (lists_entry (entries_of before) e)) p.entries
 
@@ -228,7 +228,7 @@ all_show x before rest (p ∷ ps) = shows x before rest p && all_show x (before 
 abbrev pub above_show : Lists → Bool
 above_show x = all_show x [] None (above x)
 
--- (d) the own plan's entries are those of the other pending items, and all of them
+-- the own plan's entries are those of the other pending items, and all of them
 abbrev pub other_entries : Lists → List Entry
 other_entries x = entries_of (map (λ i. i.plan) x.others)
 

@@ -1,6 +1,7 @@
 //! Frames, each a body behind its length.
 
-ghost use Rattle.std.specs.Prelude.{◌≡◌, ◌<◌, List, ℕ, ◌∷◌, Ok, IfOk, length, option_map};
+ghost use Rattle.layout.specs.declared.error.ReadError.TheVariants as read_error;
+ghost use Rattle.std.specs.Prelude.{◌≢◌, IfErr, ◌≡◌, ◌<◌, List, ℕ, ◌∷◌, Ok, IfOk, length, option_map};
 ghost use Rattle.layout.specs.Format.{Gives, whole};
 ghost use Rattle.wire.specs.Frame.{frame, request, reply_body, request_of, reply_of};
 
@@ -34,7 +35,8 @@ pub fn request_frame<A: Allocator>(
     framed(alloc, kind.number(), payload)
 }
 
-/// The frame of a reply. Only status 0 is to have a payload.
+/// The frame of a reply. It doesn't look whether the status may have a payload: `reply_of` refuses one behind a status
+/// other than 0.
 pub fn reply_frame<A: Allocator>(
     alloc: A,
     status: Status,
@@ -54,12 +56,14 @@ pub fn body_of(bytes: &[u8]) -> Result<&[u8], ReadError>
     ensures only { (body : List ℕ) → frame.Fits body → bytes.now ≡ frame.spell body → Gives (λ x. x.now) result (Ok body) }
     // Which fault it is.
     ensures exact { Gives (λ x. x.now) result (whole frame bytes.now) }
+    ensures no_memory { IfErr result (λ e. e ≢ read_error.Memory) }
 {
     whole_body(bytes)
 }
 
 fn whole_body(bytes: &[u8]) -> Result<&[u8], ReadError>
-    ensures { Gives (λ x. x.now) result (whole frame bytes.now) }
+    ensures gives { Gives (λ x. x.now) result (whole frame bytes.now) }
+    ensures no_memory { IfErr result (λ e. e ≢ read_error.Memory) }
 {
     let mut reader = Reader::new(bytes);
     let size = reader.u32_in(1, BODY_LIMIT)?;

@@ -23,21 +23,21 @@ pub enum Status {
     Ok = 0,
     /// The payload isn't of its format.
     Form = 1,
-    /// The user has no key.
+    /// The user isn't listed.
     UnknownUser = 2,
     /// The signature isn't the user's.
     BadSignature = 3,
-    /// The number isn't the user's next one.
+    /// The operation isn't the user's next one, doesn't name its last structure, or another of the user's is pending.
     WrongNumber = 4,
     /// The user has no pending operation of this plan.
     NotPending = 5,
-    /// The user has a pending operation, or another request holds what this one needs.
+    /// The log has no room for another event.
     Busy = 6,
-    /// The frame or the answer would be too long.
+    /// A version is the last one, or a block is larger than a stored block may be.
     TooLarge = 7,
     /// There is no such block.
     Absent = 8,
-    /// The server has no memory left.
+    /// Memory ran out.
     Memory = 9,
 }
 
