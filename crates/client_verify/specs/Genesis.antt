@@ -1,6 +1,6 @@
 -- The texts of the beginning: user 0's i-table has the table of principals at 1 and an empty directory at 2. They are
 -- computed by each client, and never asked for.
-use Rattle.std.specs.Prelude.{ℕ, List, [], ◌∷◌, ◌++◌, codes}
+use Rattle.std.specs.Prelude.{ℕ, List, [], ◌∷◌, ◌++◌, codes, ◌==◌, if◌then◌else◌}
 use Rattle.std.specs.Int.{w8, w16, w32}
 use Rattle.layout.specs.Format.{be}
 use Rattle.layout.specs.Hash.{hash}
@@ -35,3 +35,11 @@ directory_inode = hash (inode_text 2 6 (hash directory_text))
 -- the handle of user 0's i-table
 abbrev pub handle_of : List ℕ → List ℕ
 handle_of key = hash (root_text (hash (chunk_text (table_inode key) directory_inode)))
+
+-- the root of an i-table that has nothing
+unfoldable pub empty_root : ℕ → List ℕ
+empty_root principal = codes "STR1" ++ be w8 principal ++ be w8 0
+
+-- the handle of a user's i-table at the beginning
+abbrev pub first_handle : ℕ → List ℕ → List ℕ
+first_handle user key = if user == 0 then handle_of key else hash (empty_root user)

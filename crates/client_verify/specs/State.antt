@@ -23,7 +23,7 @@ use Rattle.wire.specs.declared.kinds.Status.{Status}
 use Rattle.wire.specs.declared.kinds.Status.TheVariants as status
 use Rattle.client_verify.specs.declared.phase.Phase.{Phase}
 use Rattle.client_verify.specs.declared.phase.Phase.TheVariants as phase
-use Rattle.client_verify.specs.Genesis.{handle_of}
+use Rattle.client_verify.specs.Genesis.{first_handle}
 use Rattle.client_verify.specs.FirstBroken.{Known, first_broken}
 
 pub record State : Type 0 where
@@ -112,21 +112,20 @@ block_breaks digest (Some block) = if bytes_eq (hash block) digest then rule.Con
 
 -- ---- signing
 
--- the handle of the own i-table, which no operation without changes changes: at the beginning that of user 0, whose
--- client alone has a reply accepted while nobody else is listed
-abbrev pub handle : List ℕ → Option (Signed Structure) → List ℕ
-handle pinned last = option_map_or (λ z. z.value.handle) last (handle_of pinned)
+-- the handle of the own i-table, which no operation without changes changes
+abbrev pub handle : ℕ → List ℕ → Option (Signed Structure) → List ℕ
+handle user pinned last = option_map_or (λ z. z.value.handle) last (first_handle user pinned)
 
 -- the records of groups, which are carried on
 abbrev pub groups : Option (Signed Structure) → List GroupRecord
 groups last = option_map_or (λ z. z.value.groups) last []
 
 -- the structure over a plan, behind the one that was signed last
-abbrev pub structure_over : List ℕ → Option (Signed Structure) → Plan → Structure
-structure_over pinned last plan = record { plan = plan; handle = handle pinned last; groups = groups last }
+abbrev pub structure_over : ℕ → List ℕ → Option (Signed Structure) → Plan → Structure
+structure_over user pinned last plan = record { plan = plan; handle = handle user pinned last; groups = groups last }
 
 abbrev pub next_structure : State → Lists → Structure
-next_structure s x = structure_over s.pinned s.last x.own.plan
+next_structure s x = structure_over s.user s.pinned s.last x.own.plan
 
 -- a structure with its signature by this leaf
 abbrev pub signed_by : List ℕ → List ℕ → ℕ → Structure → Signed Structure

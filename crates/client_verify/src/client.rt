@@ -269,6 +269,7 @@ impl<A: Allocator + Copy> Client<A> {
             self.alloc,
             &self.key,
             self.leaf,
+            self.user,
             &self.pinned,
             self.last.as_ref(),
             plan,

@@ -1,10 +1,10 @@
-//! The handle of user 0's i-table at the beginning.
+//! The handles of i-tables at the beginning.
 
 ghost use Rattle.std.specs.Prelude.{◌≡◌};
 ghost use Rattle.layout.specs.Hash.{hash};
-ghost use Rattle.client_verify.specs.Genesis.{table_text, directory_text, inode_text, chunk_text, handle_of};
+ghost use Rattle.client_verify.specs.Genesis.{table_text, directory_text, inode_text, chunk_text, handle_of, empty_root, first_handle};
 
-use layout::{Digest, Hasher};
+use layout::{Digest, Hasher, User};
 
 /// The digest of the table of principals, under the key of user 0.
 fn table_digest(key: &[u8]) -> Digest
@@ -50,7 +50,7 @@ fn chunk_digest(table: &Digest, directory: &Digest) -> Digest
 }
 
 /// The handle of user 0's i-table at the beginning, under this key. It takes no memory.
-pub fn handle_of(key: &[u8]) -> Digest
+fn handle_of(key: &[u8]) -> Digest
     ensures { result ≡ handle_of key.now }
 {
     let table = table_inode_digest(&table_digest(key));
@@ -60,4 +60,25 @@ pub fn handle_of(key: &[u8]) -> Digest
     root.update(b"STR1\x00\x01\x00");
     root.update(chunk.as_bytes());
     root.finish()
+}
+
+/// The digest of the root of a user's i-table that has nothing.
+fn empty_root_digest(user: User) -> Digest
+    ensures { result ≡ hash (empty_root user) }
+{
+    let mut root = Hasher::new();
+    root.update(b"STR1");
+    root.update(&[user.get(), 0]);
+    root.finish()
+}
+
+/// The handle of a user's i-table at the beginning, where user 0 has this key. It takes no memory.
+pub(crate) fn first_handle(user: User, key: &[u8]) -> Digest
+    ensures { result ≡ first_handle user key.now }
+{
+    if user == User::superuser() {
+        handle_of(key)
+    } else {
+        empty_root_digest(user)
+    }
 }
