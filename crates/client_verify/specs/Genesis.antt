@@ -1,6 +1,6 @@
 -- The texts of the beginning: user 0's i-table has the table of principals at 1 and an empty directory at 2. They are
 -- computed by each client, and never asked for.
-use Rattle.std.specs.Prelude.{ℕ, List, [], ◌∷◌, ◌++◌, codes, ◌==◌, if◌then◌else◌}
+use Rattle.std.specs.Prelude.{ℕ, List, ◌++◌, codes, ◌==◌, if◌then◌else◌}
 use Rattle.std.specs.Int.{w8, w16, w32}
 use Rattle.layout.specs.Format.{be}
 use Rattle.layout.specs.Hash.{hash}

@@ -1,5 +1,5 @@
 -- A client as a machine: its state, and what each call makes of it.
-use Rattle.std.specs.Prelude.{◌≡◌, ℕ, ◌+◌, List, [], ◌∷◌, ◌++◌, Option, Some, None, filter, nat_lt, replicate, Result, Ok, Err}
+use Rattle.std.specs.Prelude.{ℕ, ◌+◌, List, [], ◌∷◌, ◌++◌, Option, Some, None, filter, nat_lt, replicate}
 use Rattle.std.specs.Option.{option_map_or, option_and_then}
 use Rattle.std.specs.Result.{result_ok}
 use Rattle.layout.specs.Format.{whole}
@@ -13,7 +13,7 @@ use Rattle.update_cert.specs.declared.Cert.{Cert}
 use Rattle.update_cert.specs.Cert.{cert}
 use Rattle.pending_list.specs.declared.signed.Signed.{Signed}
 use Rattle.pending_list.specs.Signed.{signed}
-use Rattle.pending_list.specs.Reply.{Reply, reply}
+use Rattle.pending_list.specs.Reply.{reply}
 use Rattle.reply_rules.specs.Lists.{Lists, lists_of}
 use Rattle.reply_rules.specs.declared.rule.Rule.{Rule}
 use Rattle.reply_rules.specs.declared.rule.Rule.TheVariants as rule
@@ -24,7 +24,7 @@ use Rattle.wire.specs.declared.kinds.Status.TheVariants as status
 use Rattle.client_verify.specs.declared.phase.Phase.{Phase}
 use Rattle.client_verify.specs.declared.phase.Phase.TheVariants as phase
 use Rattle.client_verify.specs.Genesis.{first_handle}
-use Rattle.client_verify.specs.FirstBroken.{Known, first_broken}
+use Rattle.client_verify.specs.FirstBroken.{Known}
 
 pub record State : Type 0 where
   pub user : ℕ

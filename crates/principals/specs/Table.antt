@@ -1,6 +1,6 @@
 -- The table of principals: who is a user, since when, and by which key. Until users can be added it is that of the
 -- beginning, in which user 0 alone is listed.
-use Rattle.std.specs.Prelude.{ℕ, Bool, List, [], ◌∷◌, Option, Some, None, ◌==◌, ◌&&◌, nat_le, find}
+use Rattle.std.specs.Prelude.{ℕ, Bool, List, [], ◌∷◌, Option, ◌==◌, ◌&&◌, nat_le, find}
 use Rattle.std.specs.List.{list_any}
 use Rattle.std.specs.Option.{option_map}
 use Rattle.principals.specs.declared.table.Listing.{Listing}

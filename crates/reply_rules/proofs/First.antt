@@ -2,7 +2,6 @@
 use Rattle.std.proofs.Common.{◌≡◌, ℕ, Bool, true, false, ◌&&◌, List, [], ◌∷◌, ◌++◌, Option, Some, None, refl, sym, ap, subst, ◌∙◌, map}
 use Rattle.std.specs.Prelude.{IfSome, IfOk, Result, Ok, Err, ◌==◌}
 use Rattle.std.specs.List.{list_all, slice_get}
-use Rattle.std.specs.Option.{option_map}
 use Rattle.std.proofs.Math.Bool.{and-true}
 use Rattle.std.proofs.lemmas.Bool.{eqb-true, eq-eqb}
 use Rattle.version_order.specs.Structure.{Structure}
@@ -11,7 +10,6 @@ use Rattle.pending_list.specs.declared.signed.Signed.{Signed}
 use Rattle.pending_list.specs.Reply.{PendingItem, Reply}
 use Rattle.principals.specs.declared.table.Listing.{Listing}
 use Rattle.principals.specs.Table.{is_listed}
-use Rattle.reply_rules.specs.declared.rule.Rule.{Rule}
 use Rattle.reply_rules.specs.declared.rule.Rule.TheVariants as rule
 use Rattle.reply_rules.specs.Lists.{Lists, lists_of, alone, shown, pending, is_of_one}
 use Rattle.reply_rules.specs.Rules.{lists, is_known, unknown_user}

@@ -1,5 +1,5 @@
 -- What the rules come to where there is one structure at most, and nothing is pending but the own item.
-use Rattle.std.proofs.Common.{◌≡◌, ℕ, zero, suc, ◌+◌, add-one, inl, inr, ◌<◌, Bool, true, false, ◌&&◌, ◌||◌, not, cond, List, [], ◌∷◌, ◌++◌, Option, Some, None, refl, sym, ap, subst, ◌∙◌, map, filter, nat_lt, ◌==◌, arith}
+use Rattle.std.proofs.Common.{◌≡◌, ℕ, zero, suc, ◌+◌, add-one, inl, inr, ◌<◌, Bool, true, false, ◌&&◌, ◌||◌, not, cond, List, [], ◌∷◌, ◌++◌, Option, Some, None, refl, ap, ◌∙◌, map, filter, ◌==◌, arith}
 use Rattle.std.specs.List.{list_all, list_any}
 use Rattle.std.proofs.Math.Bool.{and-true, or-false}
 use Rattle.std.proofs.lemmas.Bool.{eq-eqb, cases_lt}
@@ -7,11 +7,11 @@ use Rattle.version_order.specs.declared.plan.Entry.{Entry}
 use Rattle.version_order.specs.Plan.{Plan}
 use Rattle.version_order.specs.Structure.{Structure}
 use Rattle.pending_list.specs.declared.signed.Signed.{Signed}
-use Rattle.pending_list.specs.Reply.{PendingItem, Reply}
+use Rattle.pending_list.specs.Reply.{PendingItem}
 use Rattle.principals.specs.declared.table.Listing.{Listing}
 use Rattle.principals.specs.Table.{is_listed}
-use Rattle.reply_rules.specs.Lists.{Lists, alone, shown, pending, items}
-use Rattle.reply_rules.specs.Rules.{every_below, all_in_order, vector, is_above, above, below, is_known, unknown_user, top_vector, follow, same_vector, next_vector, vectors_follow, top_known, top_waiting, all_show, above_show, shows, shows_earlier, rest_of, rest_known, rest_waiting, rest_others, within, own_only, own_all, entries, entries_of, lists_entry, other_entries, top_entries, own_entry_of_top}
+use Rattle.reply_rules.specs.Lists.{Lists, alone, pending, items}
+use Rattle.reply_rules.specs.Rules.{every_below, all_in_order, vector, is_above, above, below, is_known, top_vector, follow, same_vector, next_vector, vectors_follow, top_known, top_waiting, all_show, above_show, shows_earlier, rest_of, rest_known, rest_waiting, rest_others, own_only, own_all, entries, entries_of, lists_entry, other_entries, top_entries, own_entry_of_top}
 use Rattle.reply_rules.proofs.Alone.{both, is_super}
 
 -- who is known is user 0, where the table lists nobody else

@@ -1,8 +1,8 @@
 -- Laws of the lists of a reply.
-use Rattle.std.proofs.Common.{◌≡◌, ℕ, List, [], ◌∷◌, ◌++◌, Option, Some, None, refl, ap, ◌∙◌}
+use Rattle.std.proofs.Common.{◌≡◌, List, [], ◌∷◌, ◌++◌, Some, None, refl, ap, ◌∙◌}
 use Rattle.std.specs.Option.{option_map}
 use Rattle.pending_list.specs.Reply.{PendingItem, Reply}
-use Rattle.reply_rules.specs.Lists.{Lists, lists_of, split_last}
+use Rattle.reply_rules.specs.Lists.{lists_of, split_last}
 
 -- the split list of a list with something at its end
 pub split_last-append : {A : Type 0} (xs : List A) (x : A) → split_last (xs ++ x ∷ []) ≡ Some (xs, x)

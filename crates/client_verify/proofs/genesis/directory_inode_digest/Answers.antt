@@ -1,4 +1,4 @@
-use Rattle.std.proofs.Common.{◌≡◌, ◌∙◌, ap, List, ℕ, ◌++◌, codes}
+use Rattle.std.proofs.Common.{◌∙◌, ap, List, ℕ}
 use Rattle.layout.specs.Format.{be}
 use Rattle.layout.specs.Hash.{hash}
 use Rattle.client_verify.specs.Genesis.{inode_text}

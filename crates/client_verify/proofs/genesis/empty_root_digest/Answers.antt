@@ -1,4 +1,4 @@
-use Rattle.std.proofs.Common.{◌≡◌, ◌<◌, ◌%◌, ◌∙◌, ap, sym, List, ℕ, [], ◌∷◌, ◌++◌, codes, arith}
+use Rattle.std.proofs.Common.{◌≡◌, ◌<◌, ◌%◌, ◌∙◌, ap, sym, ℕ, [], ◌∷◌, ◌++◌, codes, arith}
 use Rattle.layout.specs.Format.{be}
 use Rattle.layout.specs.Hash.{hash}
 use Rattle.client_verify.specs.Genesis.{empty_root}

@@ -1,6 +1,4 @@
-use Rattle.std.proofs.Common.{◌≡◌, ◌∙◌, ap, List, ℕ, ◌++◌, codes}
 use Rattle.layout.specs.Format.{be}
-use Rattle.layout.specs.Hash.{hash}
 use Rattle.client_verify.specs.Genesis.{table_text}
 use Rattle.client_verify.proofs.genesis.table_digest.Goals as goal
 

@@ -1,4 +1,4 @@
-use Rattle.std.proofs.Common.{◌≡◌, sym, ◌∙◌, ap, true, subst, List}
+use Rattle.std.proofs.Common.{◌≡◌, sym, ◌∙◌, true, subst, List}
 use Rattle.std.specs.Prelude.{IfOk, IfSome}
 use Rattle.principals.specs.declared.table.Listing.{Listing}
 use Rattle.reply_rules.specs.Broken.{broken}

@@ -1,12 +1,10 @@
-use Rattle.std.proofs.Common.{◌≡◌, ◌++◌, ◌∷◌, [], List, ap, sym, subst, ◌∙◌, false, true, Some, Ok, Err, Option}
-use Rattle.std.specs.Prelude.{IfOk, IfSome}
+use Rattle.std.proofs.Common.{◌≡◌, ap, sym, ◌∙◌, false, true, Some, Option}
 use Rattle.std.specs.List.{slice_get}
 use Rattle.std.specs.Option.{option_copied}
 use Rattle.version_order.specs.Structure.{Structure}
 use Rattle.pending_list.specs.declared.signed.Signed.{Signed}
-use Rattle.pending_list.specs.Reply.{PendingItem}
 use Rattle.reply_rules.specs.declared.rule.Rule.TheVariants as rule
-use Rattle.reply_rules.specs.Lists.{Lists, lists_of, alone, is_of_one}
+use Rattle.reply_rules.specs.Lists.{Lists, alone, is_of_one}
 use Rattle.reply_rules.specs.ListsLaws.{lists_are}
 use Rattle.reply_rules.specs.Rules.{unknown_user}
 use Rattle.reply_rules.specs.Broken.{broken, least, behind_users}

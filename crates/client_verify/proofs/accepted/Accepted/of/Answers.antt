@@ -1,9 +1,8 @@
-use Rattle.std.proofs.Common.{◌≡◌, ◌++◌, ◌∷◌, [], List, ap, sym, subst, ◌∙◌, true, Some, None}
+use Rattle.std.proofs.Common.{◌≡◌, List, ap, sym, subst, ◌∙◌, true, Some}
 use Rattle.std.specs.Prelude.{IfSome}
 use Rattle.pending_list.specs.declared.signed.Signed.{Signed}
 use Rattle.version_order.specs.Structure.{Structure}
-use Rattle.pending_list.specs.Reply.{PendingItem}
-use Rattle.reply_rules.specs.Lists.{Lists, lists_of, is_of_one}
+use Rattle.reply_rules.specs.Lists.{is_of_one}
 use Rattle.reply_rules.specs.ListsLaws.{lists_are}
 use Rattle.client_verify.proofs.accepted.Accepted.of.Goals as goal
 
