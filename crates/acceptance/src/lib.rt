@@ -1,0 +1,7 @@
+//! Tests of the whole, over the public surface of the crates.
+#![tactic(auto)]
+
+#[cfg(test)]
+mod rule_parts;
+#[cfg(test)]
+mod scripts;
