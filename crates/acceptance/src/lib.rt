@@ -2,6 +2,12 @@
 #![tactic(auto)]
 
 #[cfg(test)]
+mod refusals;
+#[cfg(test)]
+mod replies;
+#[cfg(test)]
 mod rule_parts;
 #[cfg(test)]
 mod scripts;
+#[cfg(test)]
+mod texts;
