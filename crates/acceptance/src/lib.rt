@@ -2,6 +2,8 @@
 #![tactic(auto)]
 
 #[cfg(test)]
+mod first_path;
+#[cfg(test)]
 mod refusals;
 #[cfg(test)]
 mod replies;
