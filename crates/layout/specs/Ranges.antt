@@ -18,6 +18,10 @@ principal = uint_in w8 0 95
 abbrev pub version : Format ℕ
 version = uint_in w32 1 4294967295
 
+-- the number of a file or directory among those of its principal
+abbrev pub i_number : Format ℕ
+i_number = uint_in w16 1 4095
+
 -- how many bytes a text inside another has
 abbrev pub size : Format ℕ
 size = uint_in w16 0 65535

@@ -17,7 +17,7 @@ mod writer;
 pub use digests::{Digest, are_bytes};
 pub use error::{Memory, ReadError};
 pub use hashing::{Hasher, digest};
-pub use ranges::{Group, Principal, User, Version};
+pub use ranges::{Group, INumber, Principal, User, Version};
 pub use reader::Reader;
 pub use rows::{RowFormat, read_rows, write_rows};
 pub use text::{Text, read_nested, write_nested};

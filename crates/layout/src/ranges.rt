@@ -2,9 +2,9 @@
 
 ghost use Rattle.layout.specs.declared.error.ReadError.TheVariants as read_error;
 ghost use Rattle.std.specs.Prelude.{◌≢◌, IfErr, ◌≡◌, ◌<◌, ◌≤◌, ◌⊎◌, OnErr, OnOk, ◌+◌, ◌++◌, MatchOption};
-ghost use Rattle.std.specs.Int.{w8, w32};
+ghost use Rattle.std.specs.Int.{w8, w16, w32};
 ghost use Rattle.layout.specs.Format.{IsBytes, Reads, be};
-ghost use Rattle.layout.specs.Ranges.{user, group, principal, version};
+ghost use Rattle.layout.specs.Ranges.{user, group, principal, version, i_number};
 
 use crate::error::{Memory, ReadError};
 use crate::reader::Reader;
@@ -207,6 +207,46 @@ impl Version {
     }
 }
 
+/// The number of a file or directory among those of its principal: 1 to 4,095.
+#[derive(Clone, Copy, Debug, PartialEq, Eq, PartialOrd, Ord, Hash)]
+pub struct INumber(u16);
+
+impl Model for INumber {
+    ghost use Rattle.std.specs.Prelude.{ℕ, ◌<◌};
+
+    ghost Value = { ℕ };
+
+    ghost view = { λ i. i.0 };
+
+    ghost invariant = { λ i. (0 < i.0) × (i.0 < 4096) };
+
+    ghost inverse = { λ n. record { 0 = n } };
+}
+
+impl INumber {
+    /// The i-number of this number, if it is one.
+    pub fn new(number: u16) -> Option<INumber>
+        ensures { MatchOption result (number ≡ 0 ⊎ 4096 ≤ number) (λ i_number. i_number ≡ number) }
+    {
+        if (1..4096).contains(&number) {
+            Some(INumber(number))
+        } else {
+            None
+        }
+    }
+
+    /// Its number.
+    #[tactic(auto, using(crate::specs::Laws::in_range_fits))]
+    pub fn get(self) -> u16
+        ensures same { result ≡ self }
+        ensures positive { 0 < self }
+        ensures range { self < 4096 }
+        ensures fits { i_number.Fits self }
+    {
+        self.0
+    }
+}
+
 impl Reader<'_> {
     /// A user.
     pub fn user(&mut self) -> Result<User, ReadError>
@@ -251,6 +291,17 @@ impl Reader<'_> {
         let number = self.u32_in(1, u32::MAX)?;
         Ok(Version(number))
     }
+
+    /// An i-number.
+    pub fn i_number(&mut self) -> Result<INumber, ReadError>
+        ensures reads { Reads result self.new (i_number.read self.old) }
+        ensures bytes { IsBytes self.old }
+        ensures no_memory { IfErr result (λ e. e ≢ read_error.Memory) }
+        ensures err { OnErr result (self.new ≡ self.old) }
+    {
+        let number = self.u16_in(1, 4095)?;
+        Ok(INumber(number))
+    }
 }
 
 impl<A: Allocator> Writer<A> {
@@ -284,5 +335,13 @@ impl<A: Allocator> Writer<A> {
         ensures err { OnErr result (self.new ≡ self.old) }
     {
         self.u32(version.get())
+    }
+
+    /// An i-number, as two bytes.
+    pub fn i_number(&mut self, number: INumber) -> Result<(), Memory>
+        ensures ok { OnOk result (self.new ≡ self.old ++ be w16 number) }
+        ensures err { OnErr result (self.new ≡ self.old) }
+    {
+        self.u16(number.get())
     }
 }
