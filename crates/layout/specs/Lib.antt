@@ -1,3 +1,5 @@
+pub mod Ascending
+pub mod AscendingLaws
 pub mod Format
 pub mod Hash
 pub mod Hasher
