@@ -12,4 +12,8 @@ mod rule_parts;
 #[cfg(test)]
 mod scripts;
 #[cfg(test)]
+mod server;
+#[cfg(test)]
+mod spellings;
+#[cfg(test)]
 mod texts;

@@ -1,5 +1,5 @@
 -- A client as a machine: its state, and what each call makes of it.
-use Rattle.std.specs.Prelude.{ℕ, ◌+◌, List, [], ◌∷◌, ◌++◌, Option, Some, None, filter, nat_lt, replicate}
+use Rattle.std.specs.Prelude.{ℕ, ◌+◌, List, [], ◌∷◌, ◌++◌, Option, Some, None, filter, nat_lt}
 use Rattle.std.specs.Option.{option_map_or, option_and_then}
 use Rattle.std.specs.Result.{result_ok}
 use Rattle.layout.specs.Format.{whole}
@@ -8,12 +8,11 @@ use Rattle.lms_sign.specs.Signature.{signature_of}
 use Rattle.version_order.specs.declared.structure.GroupRecord.{GroupRecord}
 use Rattle.version_order.specs.Plan.{Plan}
 use Rattle.version_order.specs.Structure.{Structure, structure}
-use Rattle.version_order.specs.Structure as structure_spec
 use Rattle.update_cert.specs.declared.Cert.{Cert}
 use Rattle.update_cert.specs.Cert.{cert}
 use Rattle.pending_list.specs.declared.signed.Signed.{Signed}
 use Rattle.pending_list.specs.Signed.{signed}
-use Rattle.pending_list.specs.Reply.{reply}
+use Rattle.pending_list.specs.Reply.{digest_of_last, reply}
 use Rattle.reply_rules.specs.Lists.{Lists, lists_of}
 use Rattle.reply_rules.specs.declared.rule.Rule.{Rule}
 use Rattle.reply_rules.specs.declared.rule.Rule.TheVariants as rule
@@ -71,13 +70,9 @@ initial user seed id pinned = record {
 
 -- ---- declaring
 
--- the digest of a structure, zeros where there is none
-abbrev pub last_digest : Option (Signed Structure) → List ℕ
-last_digest last = option_map_or (λ z. structure_spec.digest_of z.value) last (replicate 32 0)
-
 -- the certificate that comes next
 abbrev pub next_cert : State → Cert
-next_cert s = record { user = s.user; number = s.number + 1; last = last_digest s.last }
+next_cert s = record { user = s.user; number = s.number + 1; last = digest_of_last s.last }
 
 -- a text with its signature by the next leaf
 abbrev pub sent : State → List ℕ → List ℕ

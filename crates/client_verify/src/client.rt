@@ -2,7 +2,7 @@
 
 ghost use Rattle.std.specs.Prelude.{◌≡◌, ◌≢◌, Some, IfOk, IfErr, IsErrOf, Ok, IfSome, OnOk, OnErr, IsSome, IsTrue, ◌↔◌, ◌++◌, true};
 ghost use Rattle.std.specs.Option.{option_copied};
-ghost use Rattle.client_verify.specs.State.{last_digest, structure_over};
+ghost use Rattle.client_verify.specs.State.{structure_over};
 
 use crate::accepted::Accepted;
 use crate::error::ClientError;
@@ -13,7 +13,7 @@ use crate::structure::{SignedOver, sign_over};
 use crate::verdict::judge;
 use layout::{Digest, Memory, ReadError, Text, User, Version, digest};
 use lms_sign::{LEAF_COUNT, PrivateKey, PublicKey};
-use pending_list::{Reply, Signature, Signed};
+use pending_list::{Reply, Signature, Signed, digest_of_last};
 use reply_rules::Rule;
 use std::alloc::Allocator;
 use std::marker::Model;
@@ -156,19 +156,6 @@ impl<A: Allocator + Copy> Client<A> {
     }
 }
 
-/// The digest of a structure, zeros where there is none.
-fn last_digest<A: Allocator + Copy>(
-    alloc: A,
-    last: Option<&Signed<Structure<A>>>,
-) -> Result<Digest, Memory>
-    ensures { IfOk result (λ digest. digest ≡ last_digest (option_copied last.entry)) }
-{
-    match last {
-        Some(last) => last.value.digest(alloc),
-        None => Ok(Digest::from_bytes([0; 32])),
-    }
-}
-
 impl<A: Allocator + Copy> Client<A> {
     ghost use Rattle.client_verify.specs.State.{declared, committed, signed_over, block_breaks};
     ghost use Rattle.client_verify.specs.Judged.{Judged};
@@ -189,7 +176,7 @@ impl<A: Allocator + Copy> Client<A> {
         let Some(number) = self.number.checked_add(1).and_then(Version::new) else {
             return Err(ClientError::NoNumber);
         };
-        let last = last_digest(self.alloc, self.last.as_ref())?;
+        let last = digest_of_last(self.alloc, self.last.as_ref())?;
         let text = Cert::new(self.user, number, last).text(self.alloc)?;
         let sealed = seal(self.alloc, &self.key, self.leaf, text)?;
         let Sealed {

@@ -14,12 +14,12 @@ use Rattle.update_cert.specs.declared.Cert.{Cert}
 use Rattle.update_cert.specs.Cert.{cert}
 use Rattle.pending_list.specs.declared.signed.Signed.{Signed}
 use Rattle.pending_list.specs.Signed.{signed}
-use Rattle.pending_list.specs.Reply.{reply}
+use Rattle.pending_list.specs.Reply.{digest_of_last, reply}
 use Rattle.wire.specs.declared.kinds.Status.TheVariants as status
 use Rattle.consistency_server.specs.Event.{Event, Placed, Committed, count_of, last_of, vector_after, item_of, items, pending, reply_of}
 use Rattle.consistency_server.specs.Answers.{Outcome, Refused, Repeated, Happens, same_cert, same_structure, kept, last_digest, is_next, at_limit, is_pending, placing, committing}
 use Rattle.consistency_server.specs.State.{Waiting, State, Waits, Keeps, cert_of}
-use Rattle.consistency_server.specs.Steps.{digest_or_zeros, next_item, next_reply, is_next_by, placing_beside, placing_by, after_placing, plans, committing_by, after_commit}
+use Rattle.consistency_server.specs.Steps.{next_item, next_reply, is_next_by, placing_beside, placing_by, after_placing, plans, committing_by, after_commit}
 use Rattle.consistency_server.proofs.Sole.{structures_sole, entries_none, count_of-placed, version_counted, pending_placed, commits, pending_committed}
 
 pub keeps_start : Keeps [] (record { vector = []; last = None; waiting = None })
@@ -145,7 +145,7 @@ is_next_kept : (es : List Event) (state : State) (c : Cert) → Keeps es state �
 is_next_kept es state c keeps none user =
     let empty : pending es ≡ [] = none_pending es state keeps none in
     let last : last_of c.user es ≡ state.last = ap (λ u. last_of u es) user ∙ sym keeps.last in
-    rw (empty, count_kept es state c.user keeps user, last, and-true (bytes_eq c.last (digest_or_zeros state.last))) refl
+    rw (empty, count_kept es state c.user keeps user, last, and-true (bytes_eq c.last (digest_of_last state.last))) refl
 
 placing_first : (es : List Event) (state : State) (c : Signed Cert) → Keeps es state → state.waiting ≡ None → c.value.user ≡ 0 → placing es c ≡ placing_beside None state c
 placing_first es state c keeps none user =

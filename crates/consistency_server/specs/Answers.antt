@@ -1,5 +1,5 @@
 -- What a call is answered, after the events before it: the first that applies.
-use Rattle.std.specs.Prelude.{ℕ, ◌+◌, List, [], ◌∷◌, Option, Some, None, Result, Ok, Err, Bool, false, ◌==◌, ◌&&◌, not, if◌then◌else◌, replicate}
+use Rattle.std.specs.Prelude.{ℕ, ◌+◌, List, [], ◌∷◌, Option, Some, None, Result, Ok, Err, Bool, false, ◌==◌, ◌&&◌, not, if◌then◌else◌}
 use Rattle.std.specs.List.{list_any}
 use Rattle.std.specs.Option.{option_map_or}
 use Rattle.std.specs.Str.{bytes_eq}
@@ -8,13 +8,12 @@ use Rattle.layout.specs.Format.{whole}
 use Rattle.lms_sign.specs.Signature.{valid}
 use Rattle.version_order.specs.Vector.{version_of}
 use Rattle.version_order.specs.Structure.{Structure, structure}
-use Rattle.version_order.specs.Structure as structure_spec
 use Rattle.version_order.specs.Plan.{plan}
 use Rattle.update_cert.specs.declared.Cert.{Cert}
 use Rattle.update_cert.specs.Cert.{cert}
 use Rattle.pending_list.specs.declared.signed.Signed.{Signed}
 use Rattle.pending_list.specs.Signed.{signed}
-use Rattle.pending_list.specs.Reply.{PendingItem, reply}
+use Rattle.pending_list.specs.Reply.{PendingItem, digest_of_last, reply}
 use Rattle.principals.specs.Table.{genesis, key_of}
 use Rattle.wire.specs.declared.kinds.Status.{Status}
 use Rattle.wire.specs.declared.kinds.Status.TheVariants as status
@@ -51,7 +50,7 @@ kept (Committed s ∷ es) c = kept es c
 
 -- the digest of a user's last committed structure, zeros where it has none
 abbrev pub last_digest : ℕ → List Event → List ℕ
-last_digest user es = option_map_or (λ s. structure_spec.digest_of s.value) (last_of user es) (replicate 32 0)
+last_digest user es = digest_of_last (last_of user es)
 
 -- it is the user's next operation, behind its last structure, and the user has no other pending
 abbrev pub is_next : List Event → Cert → Bool

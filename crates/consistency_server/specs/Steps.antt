@@ -1,25 +1,20 @@
 -- What calls lead to by what the server keeps, while user 0 alone is known: the outcomes of Answers, without the events.
-use Rattle.std.specs.Prelude.{ℕ, ◌+◌, List, [], ◌∷◌, Option, Some, None, Bool, false, ◌==◌, ◌&&◌, not, replicate, if◌then◌else◌}
+use Rattle.std.specs.Prelude.{ℕ, ◌+◌, List, [], ◌∷◌, Option, Some, None, Bool, false, ◌==◌, ◌&&◌, not, if◌then◌else◌}
 use Rattle.std.specs.Option.{option_map_or, option_to_list}
 use Rattle.std.specs.Str.{bytes_eq}
 use Rattle.version_order.specs.Vector.{raised, version_of}
 use Rattle.version_order.specs.Plan.{plan}
 use Rattle.version_order.specs.Structure.{Structure}
-use Rattle.version_order.specs.Structure as structure_spec
 use Rattle.update_cert.specs.declared.Cert.{Cert}
 use Rattle.update_cert.specs.Cert as cert_spec
 use Rattle.pending_list.specs.declared.signed.Signed.{Signed}
-use Rattle.pending_list.specs.Reply.{PendingItem, Reply, reply}
+use Rattle.pending_list.specs.Reply.{PendingItem, Reply, digest_of_last, reply}
 use Rattle.wire.specs.declared.kinds.Status.TheVariants as status
 use Rattle.consistency_server.specs.Event.{Placed, Committed}
 use Rattle.consistency_server.specs.Answers.{Outcome, Refused, Repeated, Happens, same_cert, same_structure}
 use Rattle.consistency_server.specs.State.{State, Waiting}
 
 -- ---- UPDATE
-
--- the digest of a structure, zeros where there is none
-abbrev pub digest_or_zeros : Option (Signed Structure) → List ℕ
-digest_or_zeros last = option_map_or (λ s. structure_spec.digest_of s.value) last (replicate 32 0)
 
 -- the item of a certificate that is placed
 abbrev pub next_item : State → Signed Cert → PendingItem
@@ -40,7 +35,7 @@ next_reply state c = record { structures = option_to_list state.last; pending = 
 
 -- the next number, behind the last structure
 abbrev pub is_next_by : State → Cert → Bool
-is_next_by state c = (c.number == version_of c.user state.vector + 1) && bytes_eq c.last (digest_or_zeros state.last)
+is_next_by state c = (c.number == version_of c.user state.vector + 1) && bytes_eq c.last (digest_of_last state.last)
 
 abbrev pub placing_beside : Option Waiting → State → Signed Cert → Outcome
 placing_beside (Some w) state c = if same_cert c w.item then Repeated w.reply else Refused status.WrongNumber

@@ -5,8 +5,6 @@ mod call;
 mod log;
 mod server;
 mod state;
-#[cfg(test)]
-mod tests;
 
 pub use call::{Answer, Call, CallKind};
 pub use log::{Log, LogFull, MemoryLog};

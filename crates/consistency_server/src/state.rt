@@ -10,13 +10,13 @@ ghost use Rattle.version_order.specs.Structure.{structure, digest_of};
 ghost use Rattle.lms_sign.specs.Signature.{valid};
 ghost use Rattle.update_cert.specs.Cert.{cert};
 ghost use Rattle.pending_list.specs.Signed.{signed};
-ghost use Rattle.pending_list.specs.Reply.{reply};
+ghost use Rattle.pending_list.specs.Reply.{digest_of_last, reply};
 ghost use Rattle.wire.specs.declared.kinds.Status.TheVariants as status;
 ghost use Rattle.consistency_server.specs.Reading.{FoundIs};
 ghost use Rattle.consistency_server.specs.Event.{Event, Placed};
 ghost use Rattle.consistency_server.specs.Answers.{Refused, Repeated, Happens, read_update, read_commit};
 ghost use Rattle.consistency_server.specs.State.{Keeps};
-ghost use Rattle.consistency_server.specs.Steps.{digest_or_zeros, is_next_by, next_item, next_reply, placing_beside, placing_by, committing_by};
+ghost use Rattle.consistency_server.specs.Steps.{is_next_by, next_item, next_reply, placing_beside, placing_by, committing_by};
 
 use layout::{Digest, Memory, ReadError, Text, digest};
 use lms_sign::{PublicKey, verify};
@@ -45,11 +45,11 @@ impl<A: Allocator> Model for Latest<A> {
 
     ghost Value = { Option (Signed Structure) };
 
-    ghost use Rattle.consistency_server.specs.Steps.{digest_or_zeros};
+    ghost use Rattle.pending_list.specs.Reply.{digest_of_last};
 
     ghost view = { λ l. slice_get l.structures.items 0 };
 
-    ghost invariant = { λ l. (l.structures.items ≡ option_to_list (slice_get l.structures.items 0)) × (l.digest ≡ digest_or_zeros (slice_get l.structures.items 0)) };
+    ghost invariant = { λ l. (l.structures.items ≡ option_to_list (slice_get l.structures.items 0)) × (l.digest ≡ digest_of_last (slice_get l.structures.items 0)) };
 }
 
 impl<A: Allocator> Latest<A> {
@@ -81,7 +81,7 @@ impl<A: Allocator> Latest<A> {
 
     /// Its digest, zeros where there is none.
     fn digest(&self) -> Digest
-        ensures { result ≡ digest_or_zeros self.now }
+        ensures { result ≡ digest_of_last self.now }
     {
         self.digest
     }

@@ -1,6 +1,6 @@
 -- Replies: `SRL1`, the latest signed structure of each user, and the pending operations in their order.
 use Rattle.std.proofs.Common.{◌≤◌, arith, refl}
-use Rattle.std.specs.Prelude.{ℕ, Bool, List, [], ◌∷◌, length, Option, Some, None, nat_lt, codes, filter, if◌then◌else◌}
+use Rattle.std.specs.Prelude.{ℕ, Bool, List, [], ◌∷◌, length, Option, Some, None, nat_lt, codes, replicate, if◌then◌else◌}
 use Rattle.std.specs.Int.{w8, w16}
 use Rattle.std.specs.List.{All}
 use Rattle.std.specs.Option.{option_map_or}
@@ -8,9 +8,10 @@ use Rattle.layout.specs.Format.{Format, Rows, uint_in, pair, behind, mapped, lis
 use Rattle.layout.specs.Laws.{Lawful, laws, lawful_mapped, wide8, wide16, listed_fits, rows_fit}
 use Rattle.layout.specs.Sizes.{AtMost, at_most_listed, at_most_behind, at_most_mapped, at_most_pair, at_most_nested, at_most_more, nested_fits}
 use Rattle.layout.specs.Ranges.{size}
+use Rattle.version_order.specs.declared.vector.Component.{Component}
 use Rattle.version_order.specs.Vector.{depth}
 use Rattle.version_order.specs.Plan.{Plan, plan, lawful_plan, at_most_plan}
-use Rattle.version_order.specs.Structure.{Structure, structure, lawful_structure, at_most_structure}
+use Rattle.version_order.specs.Structure.{Structure, structure, digest_of, lawful_structure, at_most_structure}
 use Rattle.update_cert.specs.declared.Cert.{Cert}
 use Rattle.update_cert.specs.Cert.{cert, lawful_cert, at_most_cert}
 use Rattle.pending_list.specs.declared.signed.Signed.{Signed}
@@ -86,6 +87,12 @@ reply_fits r few_structures few_pending structures pending = (
   listed_fits w8 64 pending_rows r.pending (omega arith) few_pending (rows_fit pending_item None r.pending pending),
 )
 
+-- ---- what a certificate names
+
+-- the digest of a user's last structure, 32 zeros where it has none
+abbrev pub digest_of_last : Option (Signed Structure) → List ℕ
+digest_of_last last = option_map_or (λ s. digest_of s.value) last (replicate 32 0)
+
 -- ---- the top
 
 abbrev pub depth_of : Signed Structure → ℕ
@@ -101,14 +108,18 @@ abbrev pub top : List (Signed Structure) → Option (Signed Structure)
 top [] = None
 top (s ∷ ss) = deeper s (top ss)
 
--- how many operations the top counts
+-- the plan of top, where there is a structure
+abbrev pub top_plan : List (Signed Structure) → Option Plan
+top_plan ss = option_map_or (λ s. Some s.value.plan) (top ss) None
+
+-- the vector of top, empty where there is no structure
+abbrev pub top_vector : List (Signed Structure) → List Component
+top_vector ss = option_map_or (λ p. p.vector) (top_plan ss) []
+
+-- how many operations top counts
 abbrev pub depth_of_top : List (Signed Structure) → ℕ
-depth_of_top ss = option_map_or depth_of (top ss) 0
+depth_of_top ss = depth (top_vector ss)
 
--- the operation counts more than the top
-abbrev pub is_above : List (Signed Structure) → PendingItem → Bool
-is_above ss i = nat_lt (depth_of_top ss) (depth i.plan.vector)
-
--- the pending operations that count more than the top
-abbrev pub above_top : Reply → List PendingItem
-above_top r = filter (is_above r.structures) r.pending
+-- the plan is above: it counts more than top
+abbrev pub is_above : List (Signed Structure) → Plan → Bool
+is_above ss p = nat_lt (depth_of_top ss) (depth p.vector)

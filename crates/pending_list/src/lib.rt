@@ -4,9 +4,7 @@
 mod order;
 mod reply;
 mod signed;
-#[cfg(test)]
-mod tests;
 
-pub use order::{depth_of_top, is_above, top};
+pub use order::{depth_of_top, digest_of_last, is_above, top};
 pub use reply::{PendingItem, Reply};
 pub use signed::{Signature, Signed};

@@ -1,11 +1,12 @@
-//! Where the line of committed operations ends, and which pending ones continue it.
+//! Where the line of committed operations ends, which pending ones continue it, and what a certificate names of it.
 
-ghost use Rattle.std.specs.Prelude.{◌≡◌};
+ghost use Rattle.std.specs.Prelude.{◌≡◌, IfOk};
 ghost use Rattle.std.specs.Option.{option_copied};
-ghost use Rattle.pending_list.specs.Reply.{deeper, top, depth_of_top, is_above};
+ghost use Rattle.pending_list.specs.Reply.{deeper, top, depth_of_top, is_above, digest_of_last};
 
 use crate::reply::{PendingItem, Reply};
 use crate::signed::Signed;
+use layout::{Digest, Memory};
 use std::alloc::Allocator;
 use version_order::{Structure, depth};
 
@@ -55,7 +56,20 @@ pub fn depth_of_top<A: Allocator>(reply: &Reply<A>) -> u64
 
 /// Whether a pending operation counts more than the top.
 pub fn is_above<A: Allocator>(reply: &Reply<A>, item: &PendingItem<A>) -> bool
-    ensures { result ≡ is_above reply.now.structures item.now }
+    ensures { result ≡ is_above reply.now.structures item.now.plan }
 {
     depth_of_top(reply) < depth(item.plan())
+}
+
+/// The digest by which a certificate names its user's last structure: 32 zeros where it has none.
+pub fn digest_of_last<A: Allocator + Copy>(
+    alloc: A,
+    last: Option<&Signed<Structure<A>>>,
+) -> Result<Digest, Memory>
+    ensures { IfOk result (λ digest. digest ≡ digest_of_last (option_copied last.entry)) }
+{
+    match last {
+        Some(last) => last.value.digest(alloc),
+        None => Ok(Digest::from_bytes([0; 32])),
+    }
 }

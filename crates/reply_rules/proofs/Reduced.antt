@@ -11,7 +11,7 @@ use Rattle.pending_list.specs.Reply.{PendingItem}
 use Rattle.principals.specs.declared.table.Listing.{Listing}
 use Rattle.principals.specs.Table.{is_listed}
 use Rattle.reply_rules.specs.Lists.{Lists, alone, pending, items}
-use Rattle.reply_rules.specs.Rules.{every_below, all_in_order, vector, is_above, above, below, is_known, top_vector, follow, same_vector, next_vector, vectors_follow, top_known, top_waiting, all_show, above_show, shows_earlier, rest_of, rest_known, rest_waiting, rest_others, own_only, own_all, entries, entries_of, lists_entry, other_entries, top_entries, own_entry_of_top}
+use Rattle.reply_rules.specs.Rules.{every_below, all_in_order, vector, is_above, above, waiting, is_known, top_vector, follow, same_vector, next_vector, vectors_follow, top_known, top_waiting, all_show, above_show, shows_earlier, rest_of, rest_known, rest_waiting, rest_others, own_only, own_all, entries, entries_of, lists_entry, other_entries, top_entries, own_entry_of_top}
 use Rattle.reply_rules.proofs.Alone.{both, is_super}
 
 -- who is known is user 0, where the table lists nobody else
@@ -58,7 +58,7 @@ waits true p u = refl
 waits false p u = or-false (p.user == u)
 
 -- the own item waits for no more than top where it isn't above
-pub waits_alone : (z : Option (Signed Structure)) (i : PendingItem) (u : ℕ) → list_any (λ p. p.user == u) (below (alone z i)) ≡ (not (is_above (alone z i) i.plan) && (i.plan.user == u))
+pub waits_alone : (z : Option (Signed Structure)) (i : PendingItem) (u : ℕ) → list_any (λ p. p.user == u) (waiting (alone z i)) ≡ (not (is_above (alone z i) i.plan) && (i.plan.user == u))
 waits_alone None i u = waits (is_above (alone None i) i.plan) i.plan u
 waits_alone (Some z) i u = waits (is_above (alone (Some z) i) i.plan) i.plan u
 
@@ -97,8 +97,8 @@ vector_unordered z i order = out_of_order (alone z i) order
 
 -- ---- entries
 
-pub none_below : (x : Lists) → x.others ≡ [] → is_above x x.own.plan ≡ true → below x ≡ []
-none_below x nobody h =
+pub none_waiting : (x : Lists) → x.others ≡ [] → is_above x x.own.plan ≡ true → waiting x ≡ []
+none_waiting x nobody h =
     ap (λ (ps : List Plan). filter (λ p. not (is_above x p)) ps) (alone_pending x nobody) ∙ ap (λ b. cond (not b) (x.own.plan ∷ []) []) h
 
 pub own_is_above : (x : Lists) → x.others ≡ [] → is_above x x.own.plan ≡ true → above x ≡ x.own.plan ∷ []
@@ -122,7 +122,7 @@ nothing_only false x (e ∷ es) = refl
 pub entries_alone : (x : Lists) → x.others ≡ [] → is_above x x.own.plan ≡ true → entries x ≡ (top_known x && is_nothing x.own.plan.entries)
 unfolding entries
 entries_alone x nobody h =
-    let low : below x ≡ [] = none_below x nobody h in
+    let low : waiting x ≡ [] = none_waiting x nobody h in
     let high : above x ≡ x.own.plan ∷ [] = own_is_above x nobody h in
     let waiting : top_waiting x ≡ true = ap (λ (ps : List Plan). list_all (lists_entry (top_entries x)) (entries_of ps)) low in
     let rest : rest_waiting x [] x.own.plan ≡ true = ap (λ (ps : List Plan). list_all (lists_entry (rest_of [] x.own.plan)) (entries_of ps)) low in

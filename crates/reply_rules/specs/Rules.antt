@@ -3,7 +3,7 @@
 -- An item is a structure or a pending operation, and has a plan. Top is the structure of greatest depth, of equal ones
 -- the least user's; without structures its vector and entries are empty and its depth is 0. Above is what has a greater
 -- depth than top.
-use Rattle.std.specs.Prelude.{ℕ, zero, suc, ◌+◌, List, [], ◌∷◌, ◌++◌, Option, Some, None, Bool, true, false, ◌&&◌, ◌||◌, not, map, filter, replicate, if◌then◌else◌, ◌==◌, nat_lt}
+use Rattle.std.specs.Prelude.{ℕ, zero, suc, ◌+◌, List, [], ◌∷◌, ◌++◌, Option, Some, None, Bool, true, false, ◌&&◌, ◌||◌, not, map, filter, if◌then◌else◌, ◌==◌, nat_lt}
 use Rattle.std.specs.List.{list_all, list_any}
 use Rattle.std.specs.Option.{option_map_or}
 use Rattle.std.specs.Str.{bytes_eq}
@@ -12,9 +12,9 @@ use Rattle.version_order.specs.declared.plan.Entry.{Entry}
 use Rattle.version_order.specs.Vector.{version_of, raised_all, is_below}
 use Rattle.version_order.specs.Vector as vector_spec
 use Rattle.version_order.specs.Plan.{Plan, entry_of}
-use Rattle.version_order.specs.Structure as structure_spec
 use Rattle.update_cert.specs.Cert as cert_spec
-use Rattle.pending_list.specs.Reply.{PendingItem, Reply, top}
+use Rattle.pending_list.specs.Reply.{PendingItem, Reply}
+use Rattle.pending_list.specs.Reply as lists_spec
 use Rattle.principals.specs.declared.table.Listing.{Listing}
 use Rattle.principals.specs.Table.{is_listed}
 use Rattle.reply_rules.specs.Lists.{Lists, items, shown, pending, structure_of, number_of}
@@ -23,10 +23,10 @@ use Rattle.reply_rules.specs.Lists.{Lists, items, shown, pending, structure_of, 
 
 -- the plan of top
 abbrev pub top_plan : Lists → Option Plan
-top_plan x = option_map_or (λ z. Some z.value.plan) (top x.structures) None
+top_plan x = lists_spec.top_plan x.structures
 
 abbrev pub top_vector : Lists → List Component
-top_vector x = option_map_or (λ p. p.vector) (top_plan x) []
+top_vector x = lists_spec.top_vector x.structures
 
 abbrev pub top_entries : Lists → List Entry
 top_entries x = option_map_or (λ p. p.entries) (top_plan x) []
@@ -36,15 +36,15 @@ depth p = vector_spec.depth p.vector
 
 -- the plan is of greater depth than top
 abbrev pub is_above : Lists → Plan → Bool
-is_above x p = nat_lt (vector_spec.depth (top_vector x)) (depth p)
+is_above x p = lists_spec.is_above x.structures p
 
 -- the plans above, in order
 abbrev pub above : Lists → List Plan
 above x = filter (is_above x) (pending x)
 
 -- the pending plans that aren't above, in order
-abbrev pub below : Lists → List Plan
-below x = filter (λ p. not (is_above x p)) (pending x)
+abbrev pub waiting : Lists → List Plan
+waiting x = filter (λ p. not (is_above x p)) (pending x)
 
 -- ---- lists: both lists are in their order, and no user is pending twice
 
@@ -103,11 +103,11 @@ abbrev pub pending_next : Lists → Bool
 pending_next x = list_all (λ p. p.number == number_of p.user x + 1) (pending x)
 
 -- how many operations of the user top has seen: that of its structure, and one that is pending and not above
-abbrev pub count_below : ℕ → Lists → ℕ
-count_below u x = number_of u x + (if list_any (λ p. p.user == u) (below x) then 1 else 0)
+abbrev pub count_seen : ℕ → Lists → ℕ
+count_seen u x = number_of u x + (if list_any (λ p. p.user == u) (waiting x) then 1 else 0)
 
 abbrev pub counts_at : Lists → ℕ → Bool
-counts_at x u = version_of u (top_vector x) == count_below u x
+counts_at x u = version_of u (top_vector x) == count_seen u x
 
 -- the test holds of each number below n
 unfoldable pub every_below : ℕ → (ℕ → Bool) → Bool
@@ -184,7 +184,7 @@ top_known x = list_all (λ e. lists_entry (entries_of (shown x)) e || lists_entr
 
 -- each pending plan that isn't above is an entry of top
 abbrev pub top_waiting : Lists → Bool
-top_waiting x = list_all (lists_entry (top_entries x)) (entries_of (below x))
+top_waiting x = list_all (lists_entry (top_entries x)) (entries_of (waiting x))
 
 -- the rest of a plan's entries: those that aren't of the plans above before it
 abbrev pub rest_of : List Plan → Plan → List Entry
@@ -204,7 +204,7 @@ rest_known x before p = list_all (λ e. lists_entry (top_entries x) e || lists_e
 
 -- the rest has each pending plan that isn't above
 abbrev pub rest_waiting : Lists → List Plan → Plan → Bool
-rest_waiting x before p = list_all (lists_entry (rest_of before p)) (entries_of (below x))
+rest_waiting x before p = list_all (lists_entry (rest_of before p)) (entries_of (waiting x))
 
 -- the rest has none of the plan's own user
 abbrev pub rest_others : List Plan → Plan → Bool
@@ -247,13 +247,9 @@ entries x = top_known x && (top_waiting x && (above_show x && (own_only x && own
 abbrev pub names_certificate : PendingItem → Bool
 names_certificate i = bytes_eq i.plan.certificate (cert_spec.digest_of i.cert)
 
--- 32 zeros, where there is no structure
-abbrev pub no_digest : List ℕ
-no_digest = replicate 32 0
-
 -- the digest of a user's structure, zeros where there is none
 abbrev pub last_digest : ℕ → Lists → List ℕ
-last_digest u x = option_map_or (λ z. structure_spec.digest_of z.value) (structure_of u x) no_digest
+last_digest u x = lists_spec.digest_of_last (structure_of u x)
 
 -- a certificate names its user's structure
 abbrev pub names_last : Lists → PendingItem → Bool

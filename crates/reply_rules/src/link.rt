@@ -7,7 +7,7 @@ ghost use Rattle.reply_rules.specs.Rules.{names_certificate, names_last, last_di
 
 use crate::lists::shown_user;
 use layout::{Digest, Memory};
-use pending_list::{PendingItem, Signed};
+use pending_list::{PendingItem, Signed, digest_of_last};
 use std::alloc::Allocator;
 use version_order::Structure;
 
@@ -26,10 +26,11 @@ fn last_digest<A: Allocator + Copy>(
 ) -> Result<Digest, Memory>
     ensures { IfOk result (λ last. last ≡ last_digest own.now.cert.user (alone (option_copied shown.entry) own.now)) }
 {
-    match shown {
-        Some(top) if shown_user(top) == own.cert().user.get() => top.value.digest(alloc),
-        _ => Ok(Digest::from_bytes([0; 32])),
-    }
+    let last = match shown {
+        Some(top) if shown_user(top) == own.cert().user.get() => shown,
+        _ => None,
+    };
+    digest_of_last(alloc, last)
 }
 
 /// Whether the rule on links holds.

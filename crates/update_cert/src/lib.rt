@@ -8,9 +8,6 @@ ghost use Rattle.update_cert.specs.Cert.{cert, digest_of};
 use layout::{Digest, Memory, ReadError, Reader, Text, User, Version, Writer, digest};
 use std::alloc::Allocator;
 
-#[cfg(test)]
-mod tests;
-
 /// What a user signs to have an operation placed. It carries no changes yet.
 #[derive(Clone, Copy, Debug, PartialEq, Eq)]
 pub struct Cert {

@@ -6,8 +6,6 @@ mod error;
 mod order;
 mod plan;
 mod structure;
-#[cfg(test)]
-mod tests;
 mod vector;
 
 pub use error::PlanError;
