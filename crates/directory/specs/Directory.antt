@@ -1,0 +1,67 @@
+-- Directories: names, and what each stands for.
+use Rattle.std.specs.Prelude.{◌≡◌, ◌≢◌, ℕ, List, Option, codes}
+use Rattle.std.specs.Int.{w16}
+use Rattle.std.specs.Option.{option_map}
+use Rattle.std.specs.Ordering.{nat_cmp}
+use Rattle.std.specs.Cmp.Lexicographic.{slice_cmp}
+use Rattle.std.specs.declared.cmp.Ordering.{Ordering}
+use Rattle.layout.specs.Format.{Format, Rows, uint_in, pair, guarded, behind, mapped, listed}
+use Rattle.layout.specs.Laws.{Lawful, laws}
+use Rattle.layout.specs.Ranges.{principal, i_number}
+use Rattle.layout.specs.Ascending.{above, row_at, with_row, without_row}
+use Rattle.layout.specs.declared.error.ReadError.TheVariants.{Order}
+use Rattle.directory.specs.declared.target.Target.{Target}
+use Rattle.directory.specs.Name.{name, lawful_name}
+
+-- a name, and what it stands for
+pub record Entry : Type 0 where
+  pub name : List ℕ
+  pub target : Target
+
+abbrev pub name_of : Entry → List ℕ
+name_of entry = entry.name
+
+-- names stand in the order of their bytes
+abbrev pub by_bytes : List ℕ → List ℕ → Ordering
+by_bytes = slice_cmp nat_cmp
+
+-- ---- the text
+
+-- a file or directory: whose it is, and its number among theirs
+abbrev pub target : Format Target
+target = mapped (λ p. record { principal = p.0; i_number = p.1 }) (λ t. (t.principal, t.i_number)) (pair principal i_number)
+
+-- a name above the one before, and its target
+abbrev pub entry : Rows Entry
+entry before = mapped (λ p. record { name = p.0; target = p.1 }) (λ e. (e.name, e.target)) (pair (guarded name (above by_bytes name_of before) Order) target)
+
+abbrev pub directory : Format (List Entry)
+directory = behind (codes "SDI1") (listed (uint_in w16 0 1024) entry)
+
+pub lawful_target : Lawful target
+lawful_target = search laws depth 9
+
+pub lawful_entry : (before : Option Entry) → Lawful (entry before)
+lawful_entry before = search (laws, lawful_name, lawful_target) depth 9
+
+pub lawful_directory : Lawful directory
+lawful_directory = search (laws, lawful_entry)
+
+-- ---- the map
+
+-- what a name stands for
+unfoldable pub target_of : List Entry → List ℕ → Option Target
+target_of entries name = option_map (λ e. e.target) (row_at by_bytes name_of entries name)
+
+-- the entries with this one among them
+unfoldable pub linked : List Entry → Entry → List Entry
+linked entries entry = with_row by_bytes name_of entries entry
+
+-- the entries but the one of this name
+unfoldable pub unlinked : List Entry → List ℕ → List Entry
+unlinked entries name = without_row by_bytes name_of entries name
+
+-- this name stands for this now, or for nothing, and each other name for what it stood for
+pub record ChangesOnly (old new : List Entry) (name : List ℕ) (target : Option Target) : Type 0 where
+  pub changed : target_of new name ≡ target
+  pub others : (other : List ℕ) → other ≢ name → target_of new other ≡ target_of old other

@@ -1,0 +1,14 @@
+//! A directory: names, and the file or directory that each stands for.
+#![tactic(auto)]
+
+mod directory;
+mod entry;
+mod error;
+mod name;
+mod target;
+
+pub use directory::Directory;
+pub use entry::Entry;
+pub use error::DirError;
+pub use name::Name;
+pub use target::Target;
