@@ -1,9 +1,9 @@
 //! Times of keys and signatures.
 
 use crate::counts;
+use crate::time::{Time, compress, row};
 use anyhow::Result;
 use lms_sign::{Leaf, PrivateKey, sign, verify};
-use sha2::{Digest as _, Sha256};
 use std::alloc::Allocator;
 use std::rt::Clock;
 use std::time::{Duration, Instant};
@@ -14,49 +14,8 @@ const ROUNDS: u32 = 10;
 /// How many texts are signed and verified in a round.
 const SIGNATURES: u32 = 256;
 
-/// How many blocks are compressed in a round.
-const BLOCKS: u32 = 1 << 20;
-
 /// The identifier of the key.
 const ID: [u8; 16] = [7; 16];
-
-/// Seconds, and the compressions that they were spent on.
-#[derive(Clone, Copy)]
-struct Time {
-    seconds: f64,
-    compressions: u32,
-}
-
-impl Time {
-    fn new(time: Duration, compressions: u32) -> Time {
-        Time {
-            seconds: time.as_secs_f64(),
-            compressions,
-        }
-    }
-
-    /// This time and another, one after the other.
-    fn and(self, other: Time) -> Time {
-        Time {
-            seconds: self.seconds + other.seconds,
-            compressions: self.compressions.saturating_add(other.compressions),
-        }
-    }
-
-    /// The shorter one.
-    fn least(self, other: Time) -> Time {
-        if other.seconds < self.seconds {
-            other
-        } else {
-            self
-        }
-    }
-
-    /// Seconds for one compression.
-    fn each(self) -> f64 {
-        self.seconds / f64::from(self.compressions)
-    }
-}
 
 /// What a round measures.
 #[derive(Clone, Copy)]
@@ -78,18 +37,6 @@ impl Round {
             valid: self.valid.min(other.valid),
         }
     }
-}
-
-/// Compresses the blocks of one long text, whose digest is the seed of the key.
-fn compress(clock: &impl Clock) -> Result<(Time, [u8; 32])> {
-    let text = [5; 4096];
-    let start = Instant::now(clock)?;
-    let mut hasher = Sha256::new();
-    for _piece in 0..BLOCKS / 64 {
-        hasher.update(&text);
-    }
-    let digest = hasher.finalize();
-    Ok((Time::new(start.elapsed(clock)?, BLOCKS), digest))
 }
 
 /// Signs a text with one leaf after another, and verifies each signature.
@@ -132,15 +79,6 @@ fn measure<R: Clock + Alloc>(rt: &R) -> Result<Round> {
         verify,
         valid,
     })
-}
-
-/// Prints how long one piece of work takes, and that beside the compressions that it needs.
-fn row(rt: &impl Print, name: &str, time: Time, count: u32, compression: Time) -> Result<()> {
-    let each = time.seconds / f64::from(count) * 1e6;
-    let needed = time.compressions / count.max(1);
-    let ratio = time.each() / compression.each();
-    println!(rt; "{name:7} {each:12.1} us, {needed:7} compressions, ratio {ratio:.3}")?;
-    Ok(())
 }
 
 /// Measures, and prints the least times of all rounds.

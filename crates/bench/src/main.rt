@@ -1,17 +1,29 @@
-//! How long it takes to make a key, to sign and to verify: `bench lms`. With no word it does nothing.
+//! How long things take, for people: `bench lms` keys, signatures and verifications, `bench itable` an i-table of 4,095
+//! digests, `bench directory` a directory of 1,024 entries. With no word it does nothing.
 #![tactic(auto)]
 
 mod counts;
+mod directories;
+mod i_tables;
 mod lms;
+mod time;
 
 use anyhow::Result;
 use std::env;
 
+/// Measures what a word names.
+fn report<R: Clock + Alloc + Print>(rt: &R, word: &str) -> Result<()> {
+    match word {
+        "lms" => lms::report(rt),
+        "itable" => i_tables::report(rt),
+        "directory" => directories::report(rt),
+        _ => Ok(()),
+    }
+}
+
 fn main(rt: HostRuntime) -> Result<()> {
     for word in env::args(&rt)? {
-        if word.as_str() == "lms" {
-            lms::report(&rt)?;
-        }
+        report(&rt, word.as_str())?;
     }
     Ok(())
 }

@@ -1,84 +1,76 @@
-//! The handles of i-tables at the beginning.
+//! The i-tables at the beginning.
 
-ghost use Rattle.std.specs.Prelude.{◌≡◌};
-ghost use Rattle.layout.specs.Hash.{hash};
-ghost use Rattle.client_verify.specs.Genesis.{table_text, directory_text, inode_text, chunk_text, handle_of, empty_root, first_handle};
+ghost use Rattle.std.specs.Prelude.{◌≡◌, ◌∷◌, [], IfOk, length};
+ghost use Rattle.itable.specs.declared.inode.Kind.TheVariants as kind;
+ghost use Rattle.client_verify.specs.Genesis.{table_text, digest_of, table_inode, root_inode, first_pairs, first_table, first_handle};
 
-use layout::{Digest, Hasher, User};
+use directory::Directory;
+use itable::{ITable, Inode};
+use layout::{Digest, INumber, Memory, Principal, Text, User, Writer, digest};
+use std::alloc::Allocator;
 
-/// The digest of the table of principals, under the key of user 0.
-fn table_digest(key: &[u8]) -> Digest
-    ensures { result ≡ hash (table_text key.now) }
+/// The text of the table of principals, under the key of user 0.
+#[tactic(auto, unfolding(crate::specs::Genesis::table_text, layout::specs::Format::be))]
+fn table_text<A: Allocator + Copy>(alloc: A, key: &[u8; 56]) -> Result<Vec<u8, A>, Memory>
+    ensures text { IfOk result (λ text. text.items ≡ table_text key.now) }
+    ensures size { IfOk result (λ text. length text.items ≡ 68) }
 {
-    let mut text = Hasher::new();
-    text.update(b"SPT1\x01\x00\x00\x00\x00\x00");
-    text.update(key);
-    text.update(&[0, 0]);
-    text.finish()
+    let mut writer = Writer::new(alloc);
+    writer.tag(b"SPT1\x01\x00\x00\x00\x00\x00")?;
+    writer.bytes(key)?;
+    writer.u16(0)?;
+    Ok(writer.finish())
 }
 
-/// The digest of the i-node of the table, whose block has this digest.
-fn table_inode_digest(block: &Digest) -> Digest
-    ensures { result ≡ hash (inode_text 1 68 block.now) }
+/// The digest of an i-node's text.
+fn digest_of<A: Allocator + Copy>(alloc: A, inode: &Inode<A>) -> Result<Digest, Memory>
+    ensures { IfOk result (λ digest. digest ≡ digest_of inode.now) }
 {
-    let mut text = Hasher::new();
-    text.update(b"SIN1\x01\x00\x00\x00\x44\x00\x01");
-    text.update(block.as_bytes());
-    text.finish()
+    let text = inode.text(alloc)?;
+    Ok(digest(&text))
 }
 
-/// The digest of the i-node of the empty directory.
-fn directory_inode_digest(block: &Digest) -> Digest
-    ensures { result ≡ hash (inode_text 2 6 block.now) }
+/// The i-node of the table.
+fn table_inode<A: Allocator + Copy>(alloc: A, key: &[u8; 56]) -> Result<Inode<A>, Memory>
+    ensures { IfOk result (λ inode. inode ≡ table_inode key.now) }
 {
-    let mut text = Hasher::new();
-    text.update(b"SIN1\x02\x00\x00\x00\x06\x00\x01");
-    text.update(block.as_bytes());
-    text.finish()
+    let text = table_text(alloc, key)?;
+    Inode::of_file(alloc, &text)
 }
 
-/// The digest of chunk 0, which has these two i-nodes.
-fn chunk_digest(table: &Digest, directory: &Digest) -> Digest
-    ensures { result ≡ hash (chunk_text table.now directory.now) }
+/// The i-node of the root directory.
+#[tactic(auto, unfolding(layout::specs::Format::be, layout::specs::Format::spell_rows))]
+fn root_inode<A: Allocator + Copy>(alloc: A) -> Result<Inode<A>, Memory>
+    ensures { IfOk result (λ inode. inode ≡ root_inode) }
 {
-    let mut text = Hasher::new();
-    text.update(b"STC1\x00\x02\x00\x01");
-    text.update(table.as_bytes());
-    text.update(&[0, 2]);
-    text.update(directory.as_bytes());
-    text.finish()
+    let text = Directory::empty(alloc).text(alloc)?;
+    Inode::of_directory(alloc, &text)
 }
 
-/// The handle of user 0's i-table at the beginning, under this key. It takes no memory.
-fn handle_of(key: &[u8]) -> Digest
-    ensures { result ≡ handle_of key.now }
+/// What user 0 has: the table and the root directory.
+fn superusers_table<A: Allocator + Copy>(alloc: A, key: &[u8; 56]) -> Result<ITable<A>, Memory>
+    ensures { IfOk result (λ table. table ≡ record { principal = 0; pairs = first_pairs key.now }) }
 {
-    let table = table_inode_digest(&table_digest(key));
-    let directory = directory_inode_digest(&layout::digest(b"SDI1\x00\x00"));
-    let chunk = chunk_digest(&table, &directory);
-    let mut root = Hasher::new();
-    root.update(b"STR1\x00\x01\x00");
-    root.update(chunk.as_bytes());
-    root.finish()
+    let table_inode = digest_of(alloc, &table_inode(alloc, key)?)?;
+    let root_inode = digest_of(alloc, &root_inode(alloc)?)?;
+    let mut table = ITable::empty(alloc, Principal::from(User::superuser()));
+    table.set(INumber::table(), table_inode)?;
+    table.set(INumber::root(), root_inode)?;
+    Ok(table)
 }
 
-/// The digest of the root of a user's i-table that has nothing.
-fn empty_root_digest(user: User) -> Digest
-    ensures { result ≡ hash (empty_root user) }
+/// The handle of a user's i-table at the beginning, where user 0 has this key.
+pub(crate) fn first_handle<A: Allocator + Copy>(
+    alloc: A,
+    user: User,
+    key: &[u8; 56],
+) -> Result<Digest, Memory>
+    ensures { IfOk result (λ handle. handle ≡ first_handle user key.now) }
 {
-    let mut root = Hasher::new();
-    root.update(b"STR1");
-    root.update(&[user.get(), 0]);
-    root.finish()
-}
-
-/// The handle of a user's i-table at the beginning, where user 0 has this key. It takes no memory.
-pub(crate) fn first_handle(user: User, key: &[u8]) -> Digest
-    ensures { result ≡ first_handle user key.now }
-{
-    if user == User::superuser() {
-        handle_of(key)
+    let mut table = if user == User::superuser() {
+        superusers_table(alloc, key)?
     } else {
-        empty_root_digest(user)
-    }
+        ITable::empty(alloc, Principal::from(user))
+    };
+    table.handle(alloc)
 }

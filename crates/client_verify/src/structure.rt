@@ -31,11 +31,10 @@ fn structure_over<A: Allocator + Copy>(
             let groups = last.value.groups().copy(alloc)?;
             Ok(Structure::new(plan, last.value.handle(), groups))
         }
-        None => Ok(Structure::new(
-            plan,
-            first_handle(user, pinned.as_bytes()),
-            GroupRecords::new(alloc),
-        )),
+        None => {
+            let handle = first_handle(alloc, user, pinned.as_bytes())?;
+            Ok(Structure::new(plan, handle, GroupRecords::new(alloc)))
+        }
     }
 }
 

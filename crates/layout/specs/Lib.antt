@@ -2,6 +2,7 @@ pub mod Ascending
 pub mod AscendingLaws
 pub mod Format
 pub mod Hash
+pub mod HashLaws
 pub mod Hasher
 pub mod Laws
 pub mod Ranges

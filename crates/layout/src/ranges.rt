@@ -235,6 +235,20 @@ impl INumber {
         }
     }
 
+    /// 1, where the table of principals stands among user 0's.
+    pub fn table() -> INumber
+        ensures { result ≡ 1 }
+    {
+        INumber(1)
+    }
+
+    /// 2, where the root directory stands among user 0's.
+    pub fn root() -> INumber
+        ensures { result ≡ 2 }
+    {
+        INumber(2)
+    }
+
     /// Its number.
     #[tactic(auto, using(crate::specs::Laws::in_range_fits))]
     pub fn get(self) -> u16

@@ -1,0 +1,9 @@
+use Rattle.std.proofs.Common.{List, replicate, None, subst, sym}
+use Rattle.itable.specs.declared.chunk.Pair.{Pair}
+use Rattle.itable.specs.Known.{IsKept}
+use Rattle.itable.proofs.KnownLaws.{keeps_nothing}
+use Rattle.itable.proofs.table.ITable.empty.Goals as goal
+
+pub invariant_of-result : goal.invariant_of-result
+invariant_of-result g c =
+    subst (λ (ps : List Pair). IsKept (record { principal = c.args.principal; pairs = ps }) (replicate 64 None)) (sym c.new.ensures.items) (keeps_nothing c.args.principal c.get-number.ensures.fits)

@@ -1,0 +1,42 @@
+-- Chunks of an i-table: `STC1`, the number of the chunk, and the pairs of the i-numbers in it, ascending.
+use Rattle.std.specs.Prelude.{ℕ, ◌/◌, ◌==◌, List, Option, codes}
+use Rattle.std.specs.Int.{w8}
+use Rattle.std.specs.Ordering.{nat_cmp}
+use Rattle.layout.specs.Format.{Format, Rows, uint_in, raw, pair, guarded, followed, behind, mapped, listed}
+use Rattle.layout.specs.Laws.{Lawful, laws}
+use Rattle.layout.specs.Ranges.{i_number}
+use Rattle.layout.specs.Ascending.{above}
+use Rattle.layout.specs.declared.error.ReadError.TheVariants.{Order, Range}
+use Rattle.itable.specs.declared.chunk.Pair.{Pair}
+
+-- a chunk without where it lies in memory
+pub record Chunk : Type 0 where
+  pub number : ℕ
+  pub pairs : List Pair
+
+-- which chunk an i-number is in
+abbrev pub chunk_number : ℕ → ℕ
+chunk_number i = i / 64
+
+-- the key by which pairs ascend
+abbrev pub i_number_of : Pair → ℕ
+i_number_of p = p.i_number
+
+-- a pair in a chunk: another chunk's i-number is out of range
+abbrev pub pair_row : ℕ → Rows Pair
+pair_row number before =
+    mapped (λ p. record { i_number = p.0; digest = p.1 }) (λ p. (p.i_number, p.digest))
+    (pair (guarded (guarded i_number (λ i. chunk_number i == number) Range) (above nat_cmp i_number_of before) Order) (raw 32))
+
+-- a chunk has at least one pair
+abbrev pub chunk : Format Chunk
+chunk =
+    behind (codes "STC1")
+    (mapped (λ p. record { number = p.0; pairs = p.1 }) (λ c. (c.number, c.pairs))
+    (followed (uint_in w8 0 63) (λ number. listed (uint_in w8 1 64) (pair_row number))))
+
+pub lawful_pair_row : (number : ℕ) (before : Option Pair) → Lawful (pair_row number before)
+lawful_pair_row number before = search laws depth 9
+
+pub lawful_chunk : Lawful chunk
+lawful_chunk = search (laws, lawful_pair_row) depth 9

@@ -1,0 +1,76 @@
+-- I-tables: a digest for each i-number of a principal that has one, and the chunks, the root and the handle by which
+-- the table is stored.
+use Rattle.std.specs.Prelude.{◌≡◌, ℕ, ◌==◌, Bool, List, Option, Some, None, filter, filter_map, length, if◌then◌else◌}
+use Rattle.std.specs.List.{All, range_with_len}
+use Rattle.std.specs.Option.{option_map}
+use Rattle.std.specs.Ordering.{nat_cmp}
+use Rattle.layout.specs.Format.{raw}
+use Rattle.layout.specs.Ranges.{principal as principals, i_number as i_numbers}
+use Rattle.layout.specs.Ascending.{Ascends, row_at, with_row, without_row}
+use Rattle.layout.specs.Hash.{hash}
+use Rattle.itable.specs.declared.chunk.Pair.{Pair}
+use Rattle.itable.specs.declared.root.ListedChunk.{ListedChunk}
+use Rattle.itable.specs.Chunk.{Chunk, chunk, chunk_number, i_number_of}
+use Rattle.itable.specs.Root.{Root, root}
+
+-- a table without where it lies in memory
+pub record ITable : Type 0 where
+  pub principal : ℕ
+  pub pairs : List Pair
+
+abbrev pub IsPair : Pair → Type 0
+IsPair p = i_numbers.Fits p.i_number × (raw 32).Fits p.digest
+
+-- the table of a principal, whose pairs ascend by i-number
+pub record IsTable (t : ITable) : Type 0 where
+  pub of_principal : principals.Fits t.principal
+  pub of_pairs : All IsPair t.pairs
+  pub ascending : Ascends nat_cmp i_number_of None t.pairs
+
+-- the digest that pairs have at an i-number, if they have one
+abbrev pub digest_in : List Pair → ℕ → Option (List ℕ)
+digest_in pairs i = option_map (λ p. p.digest) (row_at nat_cmp i_number_of pairs i)
+
+abbrev pub digest_at : ITable → ℕ → Option (List ℕ)
+digest_at t i = digest_in t.pairs i
+
+-- the table with this digest at an i-number, and with none there
+abbrev pub with_digest : ITable → ℕ → List ℕ → ITable
+with_digest t i d = record t { pairs = with_row nat_cmp i_number_of t.pairs (record { i_number = i; digest = d }) }
+
+abbrev pub without_digest : ITable → ℕ → ITable
+without_digest t i = record t { pairs = without_row nat_cmp i_number_of t.pairs i }
+
+abbrev pub is_in : ℕ → Pair → Bool
+is_in n p = chunk_number p.i_number == n
+
+-- the pairs of a chunk
+abbrev pub chunk_of : ℕ → ITable → Chunk
+chunk_of n t = record { number = n; pairs = filter (is_in n) t.pairs }
+
+-- no i-number of the chunk has a digest
+abbrev pub IsBare : ℕ → ITable → Type 0
+IsBare n t = (i : ℕ) → chunk_number i ≡ n → digest_at t i ≡ None
+
+-- the text of a chunk, if it has pairs
+unfoldable pub text_of_chunk : ITable → ℕ → Option (List ℕ)
+text_of_chunk t n = if length (chunk_of n t).pairs == 0 then None else Some (chunk.spell (chunk_of n t))
+
+-- a chunk as the root lists it, if it has pairs
+abbrev pub listing : ITable → ℕ → Option ListedChunk
+listing t n = option_map (λ text. record { number = n; digest = hash text }) (text_of_chunk t n)
+
+-- those of the chunks 0 to 63
+unfoldable pub listings : ITable → List ListedChunk
+listings t = filter_map (listing t) (range_with_len 0 64)
+
+abbrev pub root_of : ITable → Root
+root_of t = record { principal = t.principal; chunks = listings t }
+
+-- the handle of a table is the digest of its root's text
+abbrev pub handle_of : ITable → List ℕ
+handle_of t = hash (root.spell (root_of t))
+
+-- a table of the same principal with the same digests has the same handle
+abbrev pub IsKnownByDigests : ITable → Type 0
+IsKnownByDigests t = (u : ITable) → IsTable u → u.principal ≡ t.principal → ((i : ℕ) → digest_at u i ≡ digest_at t i) → handle_of u ≡ handle_of t

@@ -1,0 +1,85 @@
+//! Files in blocks.
+
+ghost use Rattle.std.specs.Prelude.{◌≡◌, ◌<◌, ◌≤◌, ◌↔◌, IfOk, OnOk, Ok, map, length};
+ghost use Rattle.std.specs.List.{concat};
+ghost use Rattle.std.specs.Vec.{vec_items};
+ghost use Rattle.layout.specs.Hash.{hash};
+ghost use Rattle.layout.specs.Format.{whole};
+ghost use Rattle.itable.specs.Inode.{inode};
+ghost use Rattle.itable.specs.File.{blocks_of, inode_of, AreBlocks, IsKnown};
+
+use crate::error::LayError;
+use crate::inode::{BLOCK_SIZE, FILE_SIZE, Inode};
+use layout::{Digest, Memory, Text, digest};
+use std::alloc::Allocator;
+
+/// A file as it is stored: the text of its i-node, and its blocks.
+#[derive(Drop)]
+pub struct Laid<A: Allocator> {
+    /// The text of the i-node.
+    pub inode: Vec<u8, A>,
+    /// The blocks, in order: 4,096 bytes each, and what is left over.
+    pub blocks: Vec<Vec<u8, A>, A>,
+}
+
+/// The digests of the blocks, in order.
+pub(crate) fn digests_of<A: Allocator>(alloc: A, bytes: &[u8]) -> Result<Vec<Digest, A>, Memory>
+    ensures { IfOk result (λ digests. digests.items ≡ map hash (blocks_of bytes.now)) }
+{
+    let mut digests = Vec::new(alloc);
+    for block in bytes.chunks(BLOCK_SIZE as usize) {
+        digests.push(digest(block))?;
+    }
+    Ok(digests)
+}
+
+/// The blocks, in order.
+fn copies_of<A: Allocator + Copy>(alloc: A, bytes: &[u8]) -> Result<Vec<Vec<u8, A>, A>, Memory>
+    ensures { IfOk result (λ copies. map vec_items copies.items ≡ blocks_of bytes.now) }
+{
+    let mut copies = Vec::new(alloc);
+    for block in bytes.chunks(BLOCK_SIZE as usize) {
+        copies.push(Vec::from_slice(alloc, block)?)?;
+    }
+    Ok(copies)
+}
+
+/// The laws of a file in blocks, for the contract of what lays it.
+fn laws_hold(file: &[u8])
+    ensures joined { concat (blocks_of file.now) ≡ file.now }
+    ensures whole_blocks { AreBlocks (blocks_of file.now) }
+    ensures reads { length file.now ≤ 4194304 → whole inode (inode.spell (inode_of file.now)) ≡ Ok (inode_of file.now) }
+    ensures known { length file.now ≤ 4194304 → IsKnown file.now }
+{}
+
+/// A file that is small enough, in blocks.
+fn lay_small<A: Allocator + Copy>(alloc: A, file: &[u8]) -> Result<Laid<A>, Memory>
+    requires { length file.now ≤ 4194304 }
+    ensures inode { IfOk result (λ laid. laid.inode.items ≡ inode.spell (inode_of file.now)) }
+    ensures blocks { IfOk result (λ laid. map vec_items laid.blocks.items ≡ blocks_of file.now) }
+{
+    let inode = Inode::of_file(alloc, file)?;
+    let inode = inode.text(alloc)?;
+    let blocks = copies_of(alloc, file)?;
+    Ok(Laid { inode, blocks })
+}
+
+/// Lays a file in blocks of 4,096 bytes. A file has at most 4,194,304 bytes, and so 1,024 blocks.
+pub fn lay_file<A: Allocator + Copy>(alloc: A, file: &[u8]) -> Result<Laid<A>, LayError>
+    ensures inode { IfOk result (λ laid. laid.inode.items ≡ inode.spell (inode_of file.now)) }
+    ensures blocks { IfOk result (λ laid. map vec_items laid.blocks.items ≡ blocks_of file.now) }
+    ensures too_large { (result ≡ Err LayError.TooLarge) ↔ (4194304 < length file.now) }
+    // The blocks joined are the file, and all are whole but the last.
+    ensures joined { concat (blocks_of file.now) ≡ file.now }
+    ensures whole_blocks { AreBlocks (blocks_of file.now) }
+    // The i-node's text is read as the i-node, and no other file has it.
+    ensures reads { OnOk result (whole inode (inode.spell (inode_of file.now)) ≡ Ok (inode_of file.now)) }
+    ensures known { OnOk result (IsKnown file.now) }
+{
+    laws_hold(file);
+    if file.len() > FILE_SIZE as usize {
+        return Err(LayError::TooLarge);
+    }
+    let laid = lay_small(alloc, file)?;
+    Ok(laid)
+}

@@ -1,0 +1,20 @@
+//! The lowest rooms of the file system: i-nodes, files laid in blocks, and i-tables, which give each i-number of a
+//! principal the digest of its i-node.
+#![tactic(auto)]
+
+mod chunk;
+mod error;
+mod file;
+mod inode;
+mod pairs;
+mod root;
+mod table;
+#[cfg(test)]
+mod tests;
+
+pub use chunk::{Chunk, ChunkNumber, Pair, read_chunk};
+pub use error::LayError;
+pub use file::{Laid, lay_file};
+pub use inode::{BLOCK_SIZE, DIRECTORY_SIZE, FILE_SIZE, Inode, Kind};
+pub use root::{ListedChunk, Root, read_root};
+pub use table::ITable;

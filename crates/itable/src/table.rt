@@ -1,0 +1,217 @@
+//! I-tables.
+
+ghost use Rattle.std.specs.Prelude.{◌≡◌, ◌<◌, ◌≤◌, ◌==◌, ◌↔◌, [], ℕ, Some, None, Ok, OnOk, OnErr, IfOk, IfSome, length, if◌then◌else◌};
+ghost use Rattle.std.specs.List.{slice_set};
+ghost use Rattle.std.specs.Option.{option_map};
+ghost use Rattle.std.specs.Vec.{vec_items};
+ghost use Rattle.layout.specs.Format.{whole};
+ghost use Rattle.itable.specs.Chunk.{chunk, chunk_number};
+ghost use Rattle.itable.specs.Root.{root, chunk_at};
+ghost use Rattle.itable.specs.ITable.{IsTable, digest_at, digest_in, with_digest, without_digest, chunk_of, IsBare, text_of_chunk};
+ghost use Rattle.itable.specs.ITable.{listing as listing_of, listings as listings_of, root_of, handle_of, IsKnownByDigests};
+
+use crate::chunk::{ChunkNumber, Pair, write_chunk};
+use crate::pairs::{pair_at, put, run_of, take_out};
+use crate::root::{ListedChunk, write_root};
+use layout::{Digest, INumber, Memory, Principal, Writer, digest};
+use std::alloc::Allocator;
+use std::marker::Model;
+
+/// Forgets the digest of the chunk that an i-number is in.
+fn forget(known: &mut [Option<Digest>; 64], i_number: INumber)
+    ensures { known.new ≡ slice_set known.old (chunk_number i_number) None }
+{
+    known[usize::from(ChunkNumber::of(i_number).get())] = None;
+}
+
+/// A digest for each i-number of a principal that has one. Of each chunk it keeps the digest of the text once that was
+/// computed, until a pair of the chunk changes, so that a handle costs the hashes of the chunks that changed.
+#[derive(Drop)]
+pub struct ITable<A: Allocator> {
+    principal: Principal,
+    pairs: Vec<Pair, A>,
+    known: [Option<Digest>; 64],
+}
+
+impl<A: Allocator> Model for ITable<A> {
+    ghost use Rattle.itable.specs.ITable.{ITable};
+    ghost use Rattle.itable.specs.Known.{IsKept};
+
+    ghost Value = { ITable };
+
+    ghost view = { λ t. record { principal = t.principal; pairs = t.pairs.items } };
+
+    ghost invariant = { λ t. IsKept (record { principal = t.principal; pairs = t.pairs.items }) t.known };
+}
+
+impl<A: Allocator> ITable<A> {
+    /// The table of a principal that has no files.
+    pub fn empty(alloc: A, principal: Principal) -> ITable<A>
+        ensures { result ≡ record { principal = principal; pairs = [] } }
+    {
+        let _number = principal.get();
+        ITable {
+            principal,
+            pairs: Vec::new(alloc),
+            known: [None; 64],
+        }
+    }
+
+    /// Whose table it is.
+    pub fn principal(&self) -> Principal
+        ensures same { result ≡ self.now.principal }
+        ensures is_table { IsTable self.now }
+    {
+        self.principal
+    }
+
+    /// The pairs, ascending by i-number: at most 4,095.
+    pub fn pairs(&self) -> &[Pair]
+        ensures { result.now ≡ self.now.pairs }
+    {
+        &self.pairs
+    }
+
+    /// The digest at an i-number, if it has one.
+    pub fn get(&self, i_number: INumber) -> Option<Digest>
+        ensures found { result ≡ digest_at self.now i_number }
+        // It is what the i-number's chunk says.
+        ensures in_chunk { (i : ℕ) → digest_at self.now i ≡ digest_in (chunk_of (chunk_number i) self.now).pairs i }
+    {
+        pair_at(&self.pairs, i_number).map(|pair| pair.digest)
+    }
+
+    /// Sets the digest at an i-number. After an error the table is as before.
+    pub fn set(&mut self, i_number: INumber, digest: Digest) -> Result<(), Memory>
+        ensures ok { OnOk result (self.new ≡ with_digest self.old i_number digest) }
+        ensures digests { OnOk result ((i : ℕ) → digest_at self.new i ≡ (if i_number == i then Some digest else digest_at self.old i)) }
+        ensures err { OnErr result (self.new ≡ self.old) }
+    {
+        let _number = i_number.get();
+        let _bytes = digest.as_bytes();
+        forget(&mut self.known, i_number);
+        put(&mut self.pairs, Pair { i_number, digest })
+    }
+
+    /// Takes the digest at an i-number away, and gives it, if there is one.
+    pub fn remove(&mut self, i_number: INumber) -> Option<Digest>
+        ensures found { result ≡ digest_at self.old i_number }
+        ensures left { self.new ≡ without_digest self.old i_number }
+        ensures digests { (i : ℕ) → digest_at self.new i ≡ (if i_number == i then None else digest_at self.old i) }
+    {
+        let _number = i_number.get();
+        forget(&mut self.known, i_number);
+        take_out(&mut self.pairs, i_number).map(|pair| pair.digest)
+    }
+
+    /// The laws of a chunk's text.
+    fn chunk_holds(&self, number: ChunkNumber)
+        ensures absent { (text_of_chunk self.now number ≡ None) ↔ IsBare number self.now }
+        ensures reads { IfSome (text_of_chunk self.now number) (λ text. whole chunk text ≡ Ok (chunk_of number self.now)) }
+        ensures few { length (chunk_of number self.now).pairs ≤ 64 }
+    {
+        let _number = number.get();
+        let _table = &self.principal;
+    }
+
+    /// The laws of the root's text and its digest.
+    fn root_holds(&self)
+        ensures reads { whole root (root.spell (root_of self.now)) ≡ Ok (root_of self.now) }
+        ensures lists { (n : ℕ) → n < 64 → chunk_at (root_of self.now) n ≡ listing_of self.now n }
+        ensures few { length (listings_of self.now) ≤ 64 }
+        ensures known { IsKnownByDigests self.now }
+    {
+        let _table = &self.principal;
+    }
+}
+
+/// The text of a chunk of these pairs.
+fn spelled<A: Allocator + Copy>(
+    alloc: A,
+    number: ChunkNumber,
+    pairs: &[Pair],
+) -> Result<Vec<u8, A>, Memory>
+    requires { length pairs.now ≤ 64 }
+    ensures { IfOk result (λ text. text.items ≡ chunk.spell (record { number = number; pairs = pairs.now })) }
+{
+    let mut writer = Writer::new(alloc);
+    write_chunk(&mut writer, number, pairs)?;
+    Ok(writer.finish())
+}
+
+impl<A: Allocator + Copy> ITable<A> {
+    /// The text of a chunk, if any of its i-numbers has a digest.
+    pub fn chunk_text(&self, alloc: A, number: ChunkNumber) -> Result<Option<Vec<u8, A>>, Memory>
+        ensures text { IfOk result (λ text. option_map vec_items text ≡ text_of_chunk self.now number) }
+        // There is none exactly where no i-number of the chunk has a digest.
+        ensures absent { (text_of_chunk self.now number ≡ None) ↔ IsBare number self.now }
+        // It is read as the chunk.
+        ensures reads { IfSome (text_of_chunk self.now number) (λ text. whole chunk text ≡ Ok (chunk_of number self.now)) }
+    {
+        self.chunk_holds(number);
+        let pairs = run_of(&self.pairs, number);
+        if pairs.is_empty() {
+            return Ok(None);
+        }
+        let text = spelled(alloc, number, pairs)?;
+        Ok(Some(text))
+    }
+
+    /// A chunk as the root lists it, if any of its i-numbers has a digest.
+    fn listing(&mut self, alloc: A, number: ChunkNumber) -> Result<Option<ListedChunk>, Memory>
+        ensures listed { IfOk result (λ chunk. chunk ≡ listing_of self.old number) }
+        ensures same { self.new ≡ self.old }
+    {
+        let place = usize::from(number.get());
+        if let Some(digest) = self.known[place] {
+            return Ok(Some(ListedChunk { number, digest }));
+        }
+        let Some(text) = self.chunk_text(alloc, number)? else {
+            return Ok(None);
+        };
+        let digest = digest(&text);
+        self.known[place] = Some(digest);
+        Ok(Some(ListedChunk { number, digest }))
+    }
+
+    /// The chunks as the root lists them.
+    fn listings(&mut self, alloc: A) -> Result<Vec<ListedChunk, A>, Memory>
+        ensures listed { IfOk result (λ chunks. chunks.items ≡ listings_of self.old) }
+        ensures same { self.new ≡ self.old }
+    {
+        let mut chunks = Vec::new(alloc);
+        for number in 0..64 {
+            if let Some(chunk) = self.listing(alloc, ChunkNumber::at(number))? {
+                chunks.push(chunk)?;
+            }
+        }
+        Ok(chunks)
+    }
+
+    /// The text of the root. It hashes the chunks that changed since they were hashed last.
+    pub fn root_text(&mut self, alloc: A) -> Result<Vec<u8, A>, Memory>
+        ensures text { IfOk result (λ text. text.items ≡ root.spell (root_of self.old)) }
+        // It is read as the root, which lists exactly the chunks that have a text.
+        ensures reads { whole root (root.spell (root_of self.old)) ≡ Ok (root_of self.old) }
+        ensures lists { (n : ℕ) → n < 64 → chunk_at (root_of self.old) n ≡ listing_of self.old n }
+        ensures same { self.new ≡ self.old }
+    {
+        self.root_holds();
+        let chunks = self.listings(alloc)?;
+        let mut writer = Writer::new(alloc);
+        write_root(&mut writer, self.principal, &chunks)?;
+        Ok(writer.finish())
+    }
+
+    /// The i-handle: the digest of the root's text.
+    pub fn handle(&mut self, alloc: A) -> Result<Digest, Memory>
+        ensures handle { IfOk result (λ handle. handle ≡ handle_of self.old) }
+        // It is that of any table of this principal with the same digests.
+        ensures known { IsKnownByDigests self.old }
+        ensures same { self.new ≡ self.old }
+    {
+        self.root_holds();
+        let text = self.root_text(alloc)?;
+        Ok(digest(&text))
+    }
+}
