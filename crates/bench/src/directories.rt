@@ -34,7 +34,7 @@ impl Round {
 
 /// 1,024 names of 4 letters, in no order.
 fn name_of(number: u32) -> [u8; 4] {
-    let place = number * 389 % 1024;
+    let place = number % 1024 * 389 % 1024;
     [
         b'a' + (place % 16) as u8,
         b'a' + (place / 16 % 16) as u8,
@@ -66,7 +66,7 @@ fn get_all(clock: &impl Clock, directory: &Directory<Global>) -> Result<(Time, u
     Ok((Time::new(start.elapsed(clock)?, 0), found))
 }
 
-fn measure<R: Clock + Alloc>(rt: &R) -> Result<(Round, u32)> {
+fn measure(rt: &HostRuntime) -> Result<(Round, u32)> {
     let alloc = rt.alloc();
     let mut directory = Directory::empty(alloc);
     let link = link_all(rt, &mut directory)?;
@@ -78,7 +78,7 @@ fn measure<R: Clock + Alloc>(rt: &R) -> Result<(Round, u32)> {
 }
 
 /// Measures, and prints the least times of all rounds.
-pub(crate) fn report<R: Clock + Alloc + Print>(rt: &R) -> Result<()> {
+pub(crate) fn report(rt: &HostRuntime) -> Result<()> {
     let (compression, _digest) = compress(rt)?;
     let (mut least, found) = measure(rt)?;
     for _round in 1..ROUNDS {

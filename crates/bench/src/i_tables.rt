@@ -41,7 +41,7 @@ fn fill<A: Allocator>(clock: &impl Clock, table: &mut ITable<A>) -> Result<Time>
     let start = Instant::now(clock)?;
     for number in 1..4096 {
         if let Some(i_number) = INumber::new(4096 - number) {
-            table.set(i_number, Digest::from_bytes([number as u8; 32]))?;
+            table.set(i_number, Digest::from_bytes([(number % 256) as u8; 32]))?;
         }
     }
     Ok(Time::new(start.elapsed(clock)?, 0))
@@ -65,7 +65,7 @@ fn handles<A: Allocator + Copy>(
     Ok((whole, again))
 }
 
-fn measure<R: Clock + Alloc>(rt: &R) -> Result<Round> {
+fn measure(rt: &HostRuntime) -> Result<Round> {
     let alloc = rt.alloc();
     let mut table = ITable::empty(alloc, Principal::from(User::superuser()));
     let fill = fill(rt, &mut table)?;
@@ -78,7 +78,7 @@ fn measure<R: Clock + Alloc>(rt: &R) -> Result<Round> {
 }
 
 /// Measures, and prints the least times of all rounds.
-pub(crate) fn report<R: Clock + Alloc + Print>(rt: &R) -> Result<()> {
+pub(crate) fn report(rt: &HostRuntime) -> Result<()> {
     let (compression, _digest) = compress(rt)?;
     let mut least = measure(rt)?;
     for _round in 1..ROUNDS {

@@ -12,7 +12,7 @@ use anyhow::Result;
 use std::env;
 
 /// Measures what a word names.
-fn report<R: Clock + Alloc + Print>(rt: &R, word: &str) -> Result<()> {
+fn report(rt: &HostRuntime, word: &str) -> Result<()> {
     match word {
         "lms" => lms::report(rt),
         "itable" => i_tables::report(rt),
