@@ -9,8 +9,6 @@ mod inode;
 mod pairs;
 mod root;
 mod table;
-#[cfg(test)]
-mod tests;
 
 pub use chunk::{Chunk, ChunkNumber, Pair, read_chunk};
 pub use error::LayError;

@@ -1,6 +1,6 @@
-//! Texts that the format's description spells out, and the faults of those that are none.
+//! I-nodes and i-tables: texts that the format's description spells out, and the faults of those that are none.
 
-use crate::{
+use itable::{
     Chunk, ChunkNumber, FILE_SIZE, ITable, Inode, Kind, LayError, Root, lay_file, read_chunk,
     read_root,
 };
