@@ -124,11 +124,31 @@ fn full(alloc: Global) -> Result<Directory<Global>, Fail> {
 }
 
 #[test]
-fn full_text(rt: HostRuntime) -> Result<(), Fail> {
+fn refusals(rt: HostRuntime) -> Result<(), Fail> {
+    let mut directory = Directory::read(rt.alloc(), b"SDI1\0\x01\x01f\0\0\x03")?;
+    assert!(rt; matches!(directory.link(b"f", file(4)?), Err(DirError::There)));
+    assert!(rt; matches!(directory.link(b"..", file(4)?), Err(DirError::BadName)));
+    assert!(rt; directory.get(b"f") == Some(file(3)?));
+    Ok(())
+}
+
+/// What a full directory answers to no name, to a name that is there, and to one more.
+#[test]
+fn refusals_of_a_full_one(rt: HostRuntime) -> Result<(), Fail> {
     let mut directory = full(rt.alloc())?;
+    assert!(rt; matches!(directory.link(b"/", file(3)?), Err(DirError::BadName)));
+    let mut there = [b'x'; 255];
+    there[..2].copy_from_slice(b"AA");
+    assert!(rt; matches!(directory.link(&there, file(3)?), Err(DirError::There)));
+    assert!(rt; matches!(directory.link(b"f", file(3)?), Err(DirError::Full)));
+    Ok(())
+}
+
+#[test]
+fn full_text(rt: HostRuntime) -> Result<(), Fail> {
+    let directory = full(rt.alloc())?;
     let text = directory.text(rt.alloc())?;
     assert_eq!(rt; text.len(), 265222);
-    assert!(rt; matches!(directory.link(b"f", file(3)?), Err(DirError::Full)));
     let again = Directory::read(rt.alloc(), &text)?;
     assert_eq!(rt; again.entries().len(), 1024);
     Ok(())

@@ -44,6 +44,11 @@ fn empty_file(rt: HostRuntime) -> Result<(), Fail> {
     Ok(())
 }
 
+/// The i-node of the empty directory, whose digest any other SHA-256 gives.
+const EMPTY_DIRECTORY: [u8; 43] = *b"SIN1\x02\0\0\0\x06\0\x01\
+    \xde\xc9\x8a\xc0\xd7\x29\xf4\x0c\xfa\x6c\x87\xf5\xa0\x9a\x5e\x68\
+    \xb1\x8d\x60\x27\xfb\x84\xaa\x51\xef\x95\x32\xb3\x90\xd0\xc2\x55";
+
 #[test]
 fn empty_directory(rt: HostRuntime) -> Result<(), Fail> {
     let alloc = rt.alloc();
@@ -52,9 +57,7 @@ fn empty_directory(rt: HostRuntime) -> Result<(), Fail> {
     assert_eq!(rt; inode.size(), 6);
     assert_eq!(rt; inode.blocks().len(), 1);
     let text = inode.text(alloc)?;
-    assert_eq!(rt; text.len(), 43);
-    assert!(rt; text.starts_with(b"SIN1\x02\0\0\0\x06\0\x01\xde\xc9\x8a\xc0\xd7\x29\xf4\x0c"));
-    assert!(rt; text.ends_with(b"\xaa\x51\xef\x95\x32\xb3\x90\xd0\xc2\x55"));
+    assert_eq!(rt; text.as_slice(), EMPTY_DIRECTORY.as_slice());
     Ok(())
 }
 
@@ -114,12 +117,13 @@ fn faults_of_i_nodes(rt: HostRuntime) -> Result<(), Fail> {
 #[test]
 fn faults_of_chunks(rt: HostRuntime) -> Result<(), Fail> {
     let alloc = rt.alloc();
-    let table: [(&[u8], usize, &str); 14] = [
+    let table: [(&[u8], usize, &str); 15] = [
         (b"STC1\x01\x01\0\x40", 40, "none"),
         (b"STR1\x40", 5, "tag"),
         (b"STC", 3, "short"),
         (b"STC1", 4, "short"),
         (b"STC1\x40\0", 6, "range"),
+        (b"STC1\x01", 5, "short"),
         (b"STC1\x01\0", 6, "range"),
         (b"STC1\x01\x41", 6, "range"),
         (b"STC1\0\x01\0\0", 8, "range"),
@@ -152,7 +156,7 @@ fn order_of_pairs(rt: HostRuntime) -> Result<(), Fail> {
 #[test]
 fn faults_of_roots(rt: HostRuntime) -> Result<(), Fail> {
     let alloc = rt.alloc();
-    let table: [(&[u8], usize, &str); 11] = [
+    let table: [(&[u8], usize, &str); 13] = [
         (b"STR1\x5f\x01\x3f", 39, "none"),
         (b"STC1\x60", 5, "tag"),
         (b"STR", 3, "short"),
@@ -160,10 +164,12 @@ fn faults_of_roots(rt: HostRuntime) -> Result<(), Fail> {
         (b"STR1\x60\x41", 6, "range"),
         (b"STR1\x05", 5, "short"),
         (b"STR1\x05\x41", 6, "range"),
+        (b"STR1\x05\x01", 6, "short"),
         (b"STR1\x05\x01\x40", 7, "range"),
         (b"STR1\x05\x01\0", 38, "short"),
         (b"STR1\x05\x01\0", 40, "trailing"),
         (b"STR1\x05\x02\0", 40, "order"),
+        (b"STR1\x05\x02\x01", 40, "order"),
     ];
     for (front, size, fault) in table {
         let text = padded(alloc, front, size)?;
@@ -208,6 +214,7 @@ fn changes(rt: HostRuntime) -> Result<(), Fail> {
     let one = i_number(1)?;
     let digest = Digest::from_bytes([7; 32]);
     let empty = table.handle(alloc)?;
+    table.set(one, Digest::from_bytes([8; 32]))?;
     table.set(one, digest)?;
     assert_eq!(rt; table.get(one), Some(digest));
     assert_eq!(rt; table.pairs().len(), 1);
@@ -230,6 +237,7 @@ fn full_chunks(rt: HostRuntime) -> Result<(), Fail> {
             .chunk_text(alloc, chunk_number(number)?)?
             .ok_or("no text")?;
         let chunk: Chunk<Global> = read_chunk(alloc, &text)?;
+        assert_eq!(rt; text.len(), 6 + 34 * pairs);
         assert_eq!(rt; chunk.number().get(), number);
         assert_eq!(rt; chunk.pairs().len(), pairs);
     }

@@ -2,7 +2,11 @@
 #![tactic(auto)]
 
 #[cfg(test)]
+mod directories;
+#[cfg(test)]
 mod first_path;
+#[cfg(test)]
+mod i_tables;
 #[cfg(test)]
 mod refusals;
 #[cfg(test)]

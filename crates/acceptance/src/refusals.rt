@@ -1,221 +1,220 @@
 //! Replies that break a rule, each of which leaves the client as it was.
 
-use crate::replies::{broken, declare, end, plan_of, reply_to, sign, superuser};
-use crate::texts::{key_of, pending, plan, reply, structure, unsigned};
+use crate::replies::{
+    breaks, client_of, declare, end, first_reply, plan_of, reply_to, sign, superuser,
+};
+use crate::texts::{
+    Host, certificate, joined, key_of, listed, named, pending, plan, reply, shown, signed,
+    structure,
+};
 use client_verify::{Client, Rule};
-use layout::{User, digest};
+use layout::digest;
 use std::alloc::Global;
-use std::process::Abort;
-use std::test::Fail;
 use wire::Status;
 
+/// The vectors of user 0's version 1 or 2, and of its version 1 with version 1 of the first group.
+const ONE: &[u8] = b"\x01\0\0\0\0\x01";
+
+const TWO: &[u8] = b"\x01\0\0\0\0\x02";
+
+const ONE_AND_GROUP: &[u8] = b"\x02\0\0\0\0\x01\x40\0\0\0\x01";
+
+/// A list without rows.
+const NONE: &[u8] = b"\0";
+
+/// Entries: one of a plan of user 1's that nobody made.
+const INVENTED: &[u8] = b"\x01\x01\0\0\0\x01invented invented invented inven";
+
 /// The text with the lowest bit of its last byte changed.
-fn changed(alloc: Global, text: &[u8]) -> Result<Vec<u8>, Fail> {
-    let mut changed = text.to_vec(alloc)?;
-    let byte = changed.last_mut().ok_or("no byte")?;
-    *byte ^= 1;
-    Ok(changed)
+fn changed(rt: &impl Host, text: &[u8]) -> Vec<u8> {
+    let mut changed = joined(rt, &[text]);
+    if let Some(byte) = changed.last_mut() {
+        *byte ^= 1;
+    }
+    changed
 }
 
 /// The reply with this one pending operation.
-fn reply_of(alloc: Global, update: &[u8], plan: &[u8]) -> Result<Vec<u8>, Fail> {
-    let item = pending(alloc, update, plan)?;
-    reply(alloc, None, 1, &item)
+fn reply_of(rt: &impl Host, update: &[u8], plan: &[u8]) -> Vec<u8> {
+    reply(rt, NONE, &listed(rt, &pending(rt, update, plan)))
 }
 
-/// The rule that the first reply breaks where the plan has this number, vector and entries.
-fn broken_with(
-    rt: &impl Abort,
-    alloc: Global,
-    client: &mut Client<Global>,
-    update: &[u8],
-    number: u32,
-    vector: &[u8],
-    entries: &[u8],
-) -> Result<Option<Rule>, Fail> {
-    let digest = digest(unsigned(update)?);
-    let plan = plan(alloc, 0, number, digest.as_bytes(), vector, entries)?;
-    let reply = reply_of(alloc, update, &plan)?;
-    broken(rt, client, &reply)
-}
-
-/// The true reply to the first certificate is accepted.
-fn accepts(
-    rt: &impl Abort,
-    alloc: Global,
-    client: &mut Client<Global>,
-    update: &[u8],
-) -> Result<(), Fail> {
-    let reply = reply_to(alloc, None, 1, update)?;
-    assert_eq!(rt; broken(rt, client, &reply)?, None);
-    Ok(())
-}
-
-/// Each proper prefix of the reply, and the reply with a byte more, are of no form.
-fn refuses_sizes(
-    rt: &impl Abort,
-    alloc: Global,
-    client: &mut Client<Global>,
-    update: &[u8],
-) -> Result<(), Fail> {
-    let mut reply = reply_to(alloc, None, 1, update)?;
-    assert_eq!(rt; reply.len(), 2608);
+/// Each proper prefix of the first reply, and the reply with a byte more, are of no form.
+fn refuses_sizes(rt: &impl Host, client: &mut Client<Global>, update: &[u8]) {
+    let reply = joined(rt, &[&first_reply(rt, update), &[0]]);
+    assert!(rt; reply.len() == 2609);
     for size in 0..2608 {
-        let answer = broken(rt, client, &reply[..size])?;
-        assert!(rt; answer == Some(Rule::Form), "{size} bytes");
+        breaks(rt, client, &reply[..size], Some(Rule::Form));
     }
-    reply.push(0)?;
-    assert_eq!(rt; broken(rt, client, &reply)?, Some(Rule::Form));
-    Ok(())
+    breaks(rt, client, &reply, Some(Rule::Form));
 }
 
-#[test]
-fn sizes(rt: HostRuntime) -> Result<(), Fail> {
-    let mut client = superuser(rt.alloc())?;
-    let update = declare(&rt, &mut client)?;
-    refuses_sizes(&rt, rt.alloc(), &mut client, &update)?;
-    accepts(&rt, rt.alloc(), &mut client, &update)
+/// A reply that shows a structure which the client never signed.
+fn reply_behind_forged(rt: &impl Host, update: &[u8]) -> Vec<u8> {
+    let structure = structure(rt, &plan_of(rt, 1, update), &[5; 32]);
+    let forged = joined(rt, &[&structure, &[0; 2508]]);
+    reply_to(rt, &listed(rt, &shown(rt, &forged)), 1, update)
 }
 
-/// Nothing is pending, or another certificate than the own one.
-fn refuses_pending(
-    rt: &impl Abort,
-    alloc: Global,
-    client: &mut Client<Global>,
-    update: &[u8],
-) -> Result<(), Fail> {
-    assert_eq!(rt; broken(rt, client, b"SRL1\0\0")?, Some(Rule::OwnPending));
-    let other = changed(alloc, update)?;
-    let reply = reply_to(alloc, None, 1, &other)?;
-    assert_eq!(rt; broken(rt, client, &reply)?, Some(Rule::OwnPending));
-    Ok(())
+/// Nothing is pending, or another certificate than the own one, or a structure is shown that isn't the client's.
+fn refuses_own_texts(rt: &impl Host, client: &mut Client<Global>, update: &[u8]) {
+    breaks(rt, client, b"SRL1\0\0", Some(Rule::OwnPending));
+    let other = first_reply(rt, &changed(rt, update));
+    breaks(rt, client, &other, Some(Rule::OwnPending));
+    let forged = reply_behind_forged(rt, update);
+    breaks(rt, client, &forged, Some(Rule::OwnLast));
 }
 
-/// A structure is shown that the client never signed.
-fn refuses_structure(
-    rt: &impl Abort,
-    alloc: Global,
-    client: &mut Client<Global>,
-    update: &[u8],
-) -> Result<(), Fail> {
-    let plan = plan_of(alloc, 1, update)?;
-    let mut forged = structure(alloc, &plan, &[5; 32])?;
-    forged.extend_from_slice(&[0; 2508])?;
-    let reply = reply_to(alloc, Some(&forged), 1, update)?;
-    assert_eq!(rt; broken(rt, client, &reply)?, Some(Rule::OwnLast));
-    Ok(())
+/// A plan of user 0's first certificate, and the first rule that the reply with it breaks.
+struct Case {
+    number: u32,
+    vector: &'static [u8],
+    entries: &'static [u8],
+    broken: Rule,
 }
 
-#[test]
-fn own_texts(rt: HostRuntime) -> Result<(), Fail> {
-    let mut client = superuser(rt.alloc())?;
-    let update = declare(&rt, &mut client)?;
-    refuses_pending(&rt, rt.alloc(), &mut client, &update)?;
-    refuses_structure(&rt, rt.alloc(), &mut client, &update)?;
-    accepts(&rt, rt.alloc(), &mut client, &update)
+static CASES: [Case; 5] = [
+    Case {
+        number: 2,
+        vector: TWO,
+        entries: NONE,
+        broken: Rule::Lists,
+    },
+    Case {
+        number: 1,
+        vector: TWO,
+        entries: NONE,
+        broken: Rule::Numbers,
+    },
+    Case {
+        number: 1,
+        vector: NONE,
+        entries: NONE,
+        broken: Rule::Numbers,
+    },
+    Case {
+        number: 1,
+        vector: ONE_AND_GROUP,
+        entries: NONE,
+        broken: Rule::Vector,
+    },
+    Case {
+        number: 1,
+        vector: ONE,
+        entries: INVENTED,
+        broken: Rule::Entries,
+    },
+];
+
+/// The first reply breaks the rule of the case.
+fn refuses_case(rt: &impl Host, client: &mut Client<Global>, update: &[u8], case: &Case) {
+    let linked = named(update);
+    let plan = plan(rt, 0, case.number, &linked, case.vector, case.entries);
+    breaks(rt, client, &reply_of(rt, update, &plan), Some(case.broken));
 }
 
-/// The plan names another certificate.
-fn refuses_link(
-    rt: &impl Abort,
-    alloc: Global,
-    client: &mut Client<Global>,
-    update: &[u8],
-) -> Result<(), Fail> {
-    let plan = plan(alloc, 0, 1, &[7; 32], b"\x01\0\0\0\0\x01", &[0])?;
-    let reply = reply_of(alloc, update, &plan)?;
-    assert_eq!(rt; broken(rt, client, &reply)?, Some(Rule::Link));
-    Ok(())
-}
-
-#[test]
-fn plans(rt: HostRuntime) -> Result<(), Fail> {
-    let alloc = rt.alloc();
-    let mut client = superuser(alloc)?;
-    let update = declare(&rt, &mut client)?;
-    let one = b"\x01\0\0\0\0\x01";
-    let two = b"\x01\0\0\0\0\x02";
-    let group = b"\x02\0\0\0\0\x01\x40\0\0\0\x01";
-    let entry = b"\x01\x01\0\0\0\x01invented invented invented inven";
-    let rows: [(u32, &[u8], &[u8], Rule); 5] = [
-        (2, two, &[0], Rule::Lists),
-        (1, two, &[0], Rule::Numbers),
-        (1, &[0], &[0], Rule::Numbers),
-        (1, group, &[0], Rule::Vector),
-        (1, one, entry, Rule::Entries),
-    ];
-    for (number, vector, entries, rule) in rows {
-        let answer = broken_with(&rt, alloc, &mut client, &update, number, vector, entries)?;
-        assert!(rt; answer == Some(rule), "{rule}");
+/// The plan differs in one part, or names another certificate.
+fn refuses_plans(rt: &impl Host, client: &mut Client<Global>, update: &[u8]) {
+    for case in &CASES {
+        refuses_case(rt, client, update, case);
     }
-    refuses_link(&rt, alloc, &mut client, &update)?;
-    accepts(&rt, alloc, &mut client, &update)
+    let plan = plan(rt, 0, 1, &[7; 32], ONE, NONE);
+    breaks(rt, client, &reply_of(rt, update, &plan), Some(Rule::Link));
 }
 
-/// The only reply that a client gets which can't be accepted, with a plan of its user's first operation.
-fn first_reply(alloc: Global, user: u8, update: &[u8]) -> Result<Vec<u8>, Fail> {
-    let linked = digest(unsigned(update)?);
+/// The first reply of this user, with a plan of its first operation, breaks the rule.
+fn refuses_first(rt: &impl Host, client: &mut Client<Global>, user: u8, rule: Rule) {
+    let update = declare(rt, client);
     let vector = [1, user, 0, 0, 0, 1];
-    let plan = plan(alloc, user, 1, linked.as_bytes(), &vector, &[0])?;
-    reply_of(alloc, update, &plan)
+    let plan = plan(rt, user, 1, &named(&update), &vector, NONE);
+    breaks(rt, client, &reply_of(rt, &update, &plan), Some(rule));
 }
 
-/// The rule that is broken for a client of this user, whose key isn't user 0's.
-fn broken_for(rt: &impl Abort, alloc: Global, user: u8, key: u8) -> Result<Option<Rule>, Fail> {
-    let pinned = key_of(alloc, 0)?.public();
-    let owner = User::new(user).ok_or("no user")?;
-    let mut client = Client::new(alloc, owner, key_of(alloc, key)?, pinned);
-    let update = declare(rt, &mut client)?;
-    let reply = first_reply(alloc, user, &update)?;
-    broken(rt, &mut client, &reply)
+/// A client of this user with this key refuses its first reply by the rule. It takes the first key for user 0's.
+fn refuses_client(rt: &impl Host, user: u8, key: u8, rule: Rule) {
+    let mut client = client_of(rt, user, key);
+    refuses_first(rt, &mut client, user, rule);
 }
 
 #[test]
-fn other_clients(rt: HostRuntime) -> Result<(), Fail> {
-    let listed = broken_for(&rt, rt.alloc(), 0, 5)?;
-    assert_eq!(rt; listed, Some(Rule::SuperSignature));
-    let unlisted = broken_for(&rt, rt.alloc(), 1, 1)?;
-    assert_eq!(rt; unlisted, Some(Rule::UnknownUser));
-    Ok(())
+fn other_clients(rt: HostRuntime) {
+    refuses_client(&rt, 0, 5, Rule::SuperSignature);
+    refuses_client(&rt, 1, 1, Rule::UnknownUser);
 }
 
-/// The rule that the second reply breaks which shows this structure, if any.
-fn broken_second(
-    rt: &impl Abort,
-    alloc: Global,
+/// User 1's first certificate, signed by user 1.
+fn update_of_user(rt: &impl Host) -> Vec<u8> {
+    let text = certificate(rt, 1, 1, &[0; 32]);
+    signed(rt, &key_of(rt, 1), 0, &text)
+}
+
+/// The plan of user 0's first certificate behind user 1's first plan.
+fn plan_behind_user(rt: &impl Host, update: &[u8], other: &[u8]) -> Vec<u8> {
+    let entries = joined(rt, &[b"\x01\x01\0\0\0\x01", digest(other).as_bytes()]);
+    let vector = b"\x02\0\0\0\0\x01\x01\0\0\0\x01";
+    plan(rt, 0, 1, &named(update), vector, &entries)
+}
+
+/// The list of user 1's first operation and user 0's first one.
+fn list_behind_user(rt: &impl Host, update: &[u8]) -> Vec<u8> {
+    let other = update_of_user(rt);
+    let other_plan = plan(rt, 1, 1, &named(&other), b"\x01\x01\0\0\0\x01", NONE);
+    let own_plan = plan_behind_user(rt, update, &other_plan);
+    let first = pending(rt, &other, &other_plan);
+    joined(rt, &[&[2], &first, &pending(rt, update, &own_plan)])
+}
+
+/// User 1's first operation is pending before the own one, as it would be if user 1 were listed.
+fn refuses_user(rt: &impl Host, client: &mut Client<Global>, update: &[u8]) {
+    let reply = reply(rt, NONE, &list_behind_user(rt, update));
+    breaks(rt, client, &reply, Some(Rule::UnknownUser));
+}
+
+/// The client accepts the true reply to its first certificate.
+fn accepts(rt: &impl Host, client: &mut Client<Global>, update: &[u8]) {
+    breaks(rt, client, &first_reply(rt, update), None);
+}
+
+/// Replies that break a rule leave the client so that it accepts the true one.
+fn takes_first(rt: &impl Host, client: &mut Client<Global>) {
+    let update = declare(rt, client);
+    refuses_sizes(rt, client, &update);
+    accepts(rt, client, &update);
+    refuses_own_texts(rt, client, &update);
+    accepts(rt, client, &update);
+    refuses_plans(rt, client, &update);
+    accepts(rt, client, &update);
+    refuses_user(rt, client, &update);
+    accepts(rt, client, &update);
+}
+
+/// The reply to the second certificate that shows this structure breaks the rule, or none.
+fn breaks_behind(
+    rt: &impl Host,
     client: &mut Client<Global>,
     update: &[u8],
-    last: Option<&[u8]>,
-) -> Result<Option<Rule>, Fail> {
-    let reply = reply_to(alloc, last, 2, update)?;
-    broken(rt, client, &reply)
+    last: &[u8],
+    rule: Option<Rule>,
+) {
+    let structures = listed(rt, &shown(rt, last));
+    breaks(rt, client, &reply_to(rt, &structures, 2, update), rule);
 }
 
-/// The structure of the first operation, which is over.
-fn after_first(
-    rt: &impl Abort,
-    alloc: Global,
-    client: &mut Client<Global>,
-) -> Result<Vec<u8>, Fail> {
-    let update = declare(rt, client)?;
-    accepts(rt, alloc, client, &update)?;
-    let last = sign(rt, client)?;
-    end(rt, client, Status::Ok);
-    Ok(last)
+/// The second reply shows no structure, another than the client's last one, and that one.
+fn takes_second(rt: &impl Host, client: &mut Client<Global>, last: &[u8]) {
+    let update = declare(rt, client);
+    let without = reply_to(rt, NONE, 2, &update);
+    breaks(rt, client, &without, Some(Rule::OwnLast));
+    let other = changed(rt, last);
+    breaks_behind(rt, client, &update, &other, Some(Rule::OwnLast));
+    breaks_behind(rt, client, &update, last, None);
 }
 
 #[test]
-fn own_last(rt: HostRuntime) -> Result<(), Fail> {
-    let alloc = rt.alloc();
-    let mut client = superuser(alloc)?;
-    let last = after_first(&rt, alloc, &mut client)?;
-    let update = declare(&rt, &mut client)?;
-    let answer = broken_second(&rt, alloc, &mut client, &update, None)?;
-    assert_eq!(rt; answer, Some(Rule::OwnLast));
-    let other = changed(alloc, &last)?;
-    let answer = broken_second(&rt, alloc, &mut client, &update, Some(&other))?;
-    assert_eq!(rt; answer, Some(Rule::OwnLast));
-    let answer = broken_second(&rt, alloc, &mut client, &update, Some(&last))?;
-    assert_eq!(rt; answer, None);
-    Ok(())
+fn own_client(rt: HostRuntime) {
+    let mut client = superuser(&rt);
+    takes_first(&rt, &mut client);
+    let last = sign(&rt, &mut client);
+    end(&rt, &mut client, Status::Ok);
+    takes_second(&rt, &mut client, &last);
 }

@@ -1,77 +1,88 @@
 //! A client, and what it answers to replies that are made by hand.
 
-use crate::texts::{key_of, pending, plan, reply, unsigned};
+use crate::texts::{Host, check, key_of, listed, named, pending, plan, reply};
 use client_verify::{Client, Phase, Rule, Step};
-use layout::{User, digest};
+use layout::User;
 use std::alloc::Global;
-use std::process::Abort;
-use std::test::Fail;
 use wire::Status;
 
+/// The client of a user by its key, which takes the first key for user 0's.
+pub(crate) fn client_of(rt: &impl Host, user: u8, key: u8) -> Client<Global> {
+    let pinned = key_of(rt, 0).public();
+    let user = User::new(user).expect(rt, "a user");
+    Client::new(rt.alloc(), user, key_of(rt, key), pinned)
+}
+
 /// The client of user 0, which knows its own key.
-pub(crate) fn superuser(alloc: Global) -> Result<Client<Global>, Fail> {
-    let key = key_of(alloc, 0)?;
-    let pinned = key.public();
-    Ok(Client::new(alloc, User::superuser(), key, pinned))
+pub(crate) fn superuser(rt: &impl Host) -> Client<Global> {
+    client_of(rt, 0, 0)
 }
 
 /// Declares the client's next operation.
-pub(crate) fn declare(rt: &impl Abort, client: &mut Client<Global>) -> Result<Vec<u8>, Fail> {
+pub(crate) fn declare(rt: &impl Host, client: &mut Client<Global>) -> Vec<u8> {
     assert!(rt; client.phase() == Phase::Idle);
-    Ok(client.begin()?)
+    client.begin().expect(rt, "a certificate")
 }
 
-/// The rule that the reply breaks, if it breaks one.
-pub(crate) fn broken(
-    rt: &impl Abort,
+/// Hands a reply to the client.
+fn step_on(rt: &impl Host, client: &mut Client<Global>, reply: &[u8]) -> Step<Global> {
+    assert!(rt; client.phase() == Phase::Declared);
+    client.on_reply(reply).expect(rt, "memory")
+}
+
+/// The reply breaks this rule first, or none.
+pub(crate) fn breaks(
+    rt: &impl Host,
     client: &mut Client<Global>,
     reply: &[u8],
-) -> Result<Option<Rule>, Fail> {
-    assert!(rt; client.phase() == Phase::Declared);
-    match client.on_reply(reply)? {
-        Step::Broken(rule) => Ok(Some(rule)),
+    rule: Option<Rule>,
+) {
+    let found = match step_on(rt, client, reply) {
+        Step::Broken(found) => Some(found),
         Step::Store(blocks) => {
-            assert!(rt; blocks.is_empty());
-            Ok(None)
+            check(rt, blocks.is_empty(), "no block to be stored");
+            None
         }
-        Step::Need(_) => Err("a block is asked for")?,
-    }
+        Step::Need(_) => panic!(rt; "a block is asked for"),
+    };
+    assert!(rt;
+        found == rule,
+        "{found:?} and not {rule:?}, {} bytes",
+        reply.len()
+    );
 }
 
 /// Signs the structure over the accepted reply.
-pub(crate) fn sign(rt: &impl Abort, client: &mut Client<Global>) -> Result<Vec<u8>, Fail> {
+pub(crate) fn sign(rt: &impl Host, client: &mut Client<Global>) -> Vec<u8> {
     assert!(rt; client.ready());
-    Ok(client.sign()?)
+    client.sign().expect(rt, "a structure")
 }
 
 /// Hands the server's answer to the signed structure to the client.
-pub(crate) fn end(rt: &impl Abort, client: &mut Client<Global>, status: Status) {
+pub(crate) fn end(rt: &impl Host, client: &mut Client<Global>, status: Status) {
     assert!(rt; client.phase() == Phase::Signed);
     client.on_committed(status);
 }
 
 /// The plan of user 0's operation of this number, where nobody else has any.
-pub(crate) fn plan_of(alloc: Global, number: u8, certificate: &[u8]) -> Result<Vec<u8>, Fail> {
-    let digest = digest(unsigned(certificate)?);
+pub(crate) fn plan_of(rt: &impl Host, number: u8, certificate: &[u8]) -> Vec<u8> {
     let vector = [1, 0, 0, 0, 0, number];
-    plan(
-        alloc,
-        0,
-        u32::from(number),
-        digest.as_bytes(),
-        &vector,
-        &[0],
-    )
+    let number = u32::from(number);
+    plan(rt, 0, number, &named(certificate), &vector, b"\0")
 }
 
-/// The reply to user 0's certificate of this number, which shows user 0's last structure, if there is one.
+/// The reply to user 0's certificate of this number, which shows these structures, behind their count.
 pub(crate) fn reply_to(
-    alloc: Global,
-    last: Option<&[u8]>,
+    rt: &impl Host,
+    structures: &[u8],
     number: u8,
     certificate: &[u8],
-) -> Result<Vec<u8>, Fail> {
-    let plan = plan_of(alloc, number, certificate)?;
-    let item = pending(alloc, certificate, &plan)?;
-    reply(alloc, last, 1, &item)
+) -> Vec<u8> {
+    let item = pending(rt, certificate, &plan_of(rt, number, certificate));
+    reply(rt, structures, &listed(rt, &item))
+}
+
+/// The reply to user 0's first certificate.
+pub(crate) fn first_reply(rt: &impl Host, certificate: &[u8]) -> Vec<u8> {
+    reply_to(rt, b"\0", 1, certificate)
 }

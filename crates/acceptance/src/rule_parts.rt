@@ -1,397 +1,494 @@
-//! The rules that speak of the lists of a reply alone: a reply that breaks none of them, and replies that differ from
-//! it in one part and break the rule of that part. All are spelled here byte by byte.
+//! The rules that speak of the lists of a reply alone: replies that break none of them, and replies that differ from
+//! those in one part and break the rule of that part.
 
-use layout::{Digest, Text, digest};
+use crate::texts::{Host, certificate, check, joined, pending, plan, reply, shown, structure};
+use layout::{Text, digest};
 use lms_sign::PublicKey;
 use pending_list::Reply;
 use principals::Table;
 use reply_rules::{Rule, broken, lists_hold};
 use std::alloc::Global;
-use std::test::Fail;
 
 /// A signature that nobody checks.
 const SIGNATURE: [u8; 2508] = [0; 2508];
 
+/// What an operation names by a digest.
+#[derive(Clone, Copy)]
+enum Named {
+    /// Nothing: zeros.
+    Nothing,
+    /// What nobody made.
+    Invented,
+    /// The operation's own certificate.
+    Certificate,
+    /// The structure of user 0 that the reply shows.
+    Structure,
+    /// That structure's plan.
+    ShownPlan,
+    /// The plan of user 1's first operation.
+    OtherPlan,
+}
+
+/// The digests of what an operation may name.
+#[derive(Clone, Copy)]
+struct Digests {
+    certificate: [u8; 32],
+    structure: [u8; 32],
+    shown_plan: [u8; 32],
+    other_plan: [u8; 32],
+}
+
+/// Those of an operation which names nothing but its own certificate.
+const NONE: Digests = Digests {
+    certificate: [0; 32],
+    structure: [0; 32],
+    shown_plan: [0; 32],
+    other_plan: [0; 32],
+};
+
+impl Digests {
+    /// That of what is named.
+    fn of(&self, named: Named) -> &[u8; 32] {
+        match named {
+            Named::Nothing => &[0; 32],
+            Named::Invented => &[1; 32],
+            Named::Certificate => &self.certificate,
+            Named::Structure => &self.structure,
+            Named::ShownPlan => &self.shown_plan,
+            Named::OtherPlan => &self.other_plan,
+        }
+    }
+}
+
+/// The digest of a text.
+fn digest_of(text: &[u8]) -> [u8; 32] {
+    *digest(text).as_bytes()
+}
+
 /// An operation: the parts of its certificate and of its plan.
 #[derive(Clone, Copy)]
 struct Operation {
-    /// The user and the number of the certificate.
+    /// The user and the number of the certificate, and the structure that it names.
     signer: u8,
     signed: u32,
-    last: Digest,
-    /// The user and the number of the plan.
+    last: Named,
+    /// The user and the number of the plan, and the certificate that it names.
     user: u8,
     number: u32,
-    /// The certificate's digest in the plan, where it is another than the certificate's.
-    certificate: Option<Digest>,
-    /// User 0's version in the vector.
-    version: u32,
-    /// Another principal in the vector, of version 1.
-    other: Option<u8>,
-    /// The user, number and digest of the one entry.
-    entry: Option<(u8, u32, Digest)>,
+    certificate: Named,
+    /// The vector, behind its count.
+    vector: &'static [u8],
+    /// The user and the plan of the one entry, whose number is 1.
+    entry: Option<(u8, Named)>,
 }
 
-/// A digest of 32 times this byte.
-fn repeated(byte: u8) -> Digest {
-    Digest::from_bytes([byte; 32])
+/// User 0's version alone: 1, 2 or 3.
+const ONE: &[u8] = b"\x01\0\0\0\0\x01";
+
+const TWO: &[u8] = b"\x01\0\0\0\0\x02";
+
+const THREE: &[u8] = b"\x01\0\0\0\0\x03";
+
+/// User 0's version 1 or 2, and user 1's version 1.
+const ONE_AND_USER: &[u8] = b"\x02\0\0\0\0\x01\x01\0\0\0\x01";
+
+const TWO_AND_USER: &[u8] = b"\x02\0\0\0\0\x02\x01\0\0\0\x01";
+
+/// User 0's version 1 or 2, and version 1 of the first group.
+const ONE_AND_GROUP: &[u8] = b"\x02\0\0\0\0\x01\x40\0\0\0\x01";
+
+const TWO_AND_GROUP: &[u8] = b"\x02\0\0\0\0\x02\x40\0\0\0\x01";
+
+/// User 0's first operation, whose structure most replies show.
+const SHOWN: Operation = Operation {
+    signer: 0,
+    signed: 1,
+    last: Named::Nothing,
+    user: 0,
+    number: 1,
+    certificate: Named::Certificate,
+    vector: ONE,
+    entry: None,
+};
+
+/// User 0's second operation, which is pending in most replies.
+const OWN: Operation = Operation {
+    signed: 2,
+    last: Named::Structure,
+    number: 2,
+    vector: TWO,
+    ..SHOWN
+};
+
+/// User 0's third operation, as one behind no structure.
+const THIRD: Operation = Operation {
+    signed: 3,
+    number: 3,
+    vector: THREE,
+    ..SHOWN
+};
+
+/// User 1's first operation, behind user 0's first one.
+const OTHER: Operation = Operation {
+    signer: 1,
+    user: 1,
+    vector: ONE_AND_USER,
+    ..SHOWN
+};
+
+/// User 0's second operation, behind user 1's first one.
+const OWN_BESIDE: Operation = Operation {
+    vector: TWO_AND_USER,
+    ..OWN
+};
+
+/// A reply, and the first rule that it breaks.
+struct Case {
+    name: &'static str,
+    structures: &'static [Operation],
+    pending: &'static [Operation],
+    broken: Option<Rule>,
 }
 
-/// A user's operation with user 0's version in its vector and no entries, behind no structure.
-fn plain(user: u8, number: u32, version: u32) -> Operation {
-    Operation {
-        signer: user,
-        signed: number,
-        last: repeated(0),
-        user,
-        number,
-        certificate: None,
-        version,
-        other: None,
-        entry: None,
+static CASES: [Case; 25] = [
+    Case {
+        name: "each part holds",
+        structures: &[SHOWN],
+        pending: &[OWN],
+        broken: None,
+    },
+    Case {
+        name: "each part holds without a structure",
+        structures: &[],
+        pending: &[SHOWN],
+        broken: None,
+    },
+    Case {
+        name: "structures of users 0 and 0",
+        structures: &[SHOWN, SHOWN],
+        pending: &[OWN],
+        broken: Some(Rule::Lists),
+    },
+    Case {
+        name: "structures of users 1 and 0",
+        structures: &[OTHER, SHOWN],
+        pending: &[OWN],
+        broken: Some(Rule::Lists),
+    },
+    Case {
+        name: "equal depths",
+        structures: &[SHOWN],
+        pending: &[OTHER, OWN],
+        broken: Some(Rule::Lists),
+    },
+    Case {
+        name: "falling depths",
+        structures: &[SHOWN],
+        pending: &[
+            Operation {
+                vector: TWO_AND_USER,
+                ..OTHER
+            },
+            OWN,
+        ],
+        broken: Some(Rule::Lists),
+    },
+    Case {
+        name: "a user twice",
+        structures: &[SHOWN],
+        pending: &[OWN, THIRD],
+        broken: Some(Rule::Lists),
+    },
+    Case {
+        name: "a plan of another user",
+        structures: &[SHOWN],
+        pending: &[Operation { user: 1, ..OWN }],
+        broken: Some(Rule::Lists),
+    },
+    Case {
+        name: "a plan of another number",
+        structures: &[SHOWN],
+        pending: &[Operation { number: 3, ..OWN }],
+        broken: Some(Rule::Lists),
+    },
+    Case {
+        name: "an unknown user's structure",
+        structures: &[SHOWN, OTHER],
+        pending: &[OWN_BESIDE],
+        broken: Some(Rule::UnknownUser),
+    },
+    Case {
+        name: "an unknown user's pending operation",
+        structures: &[SHOWN],
+        pending: &[
+            OTHER,
+            Operation {
+                entry: Some((1, Named::OtherPlan)),
+                ..OWN_BESIDE
+            },
+        ],
+        broken: Some(Rule::UnknownUser),
+    },
+    Case {
+        name: "a structure's number above its version",
+        structures: &[Operation {
+            signed: 2,
+            number: 2,
+            ..SHOWN
+        }],
+        pending: &[OWN],
+        broken: Some(Rule::Numbers),
+    },
+    // Its version is the own plan's, which isn't above, so top counts what it has to.
+    Case {
+        name: "a structure's number below its version",
+        structures: &[Operation {
+            vector: TWO,
+            ..SHOWN
+        }],
+        pending: &[OWN],
+        broken: Some(Rule::Numbers),
+    },
+    Case {
+        name: "top counts a user without a structure",
+        structures: &[Operation {
+            vector: ONE_AND_USER,
+            ..SHOWN
+        }],
+        pending: &[OWN_BESIDE],
+        broken: Some(Rule::Numbers),
+    },
+    Case {
+        name: "a pending number above its version",
+        structures: &[SHOWN],
+        pending: &[Operation {
+            signed: 3,
+            number: 3,
+            ..OWN
+        }],
+        broken: Some(Rule::Numbers),
+    },
+    Case {
+        name: "a pending number below its version",
+        structures: &[SHOWN],
+        pending: &[Operation {
+            vector: THREE,
+            ..OWN
+        }],
+        broken: Some(Rule::Numbers),
+    },
+    Case {
+        name: "not the next number",
+        structures: &[SHOWN],
+        pending: &[Operation {
+            last: Named::Structure,
+            ..THIRD
+        }],
+        broken: Some(Rule::Numbers),
+    },
+    Case {
+        name: "a vector that doesn't follow",
+        structures: &[SHOWN],
+        pending: &[Operation {
+            vector: TWO_AND_GROUP,
+            ..OWN
+        }],
+        broken: Some(Rule::Vector),
+    },
+    Case {
+        name: "a component that falls",
+        structures: &[Operation {
+            vector: ONE_AND_GROUP,
+            ..SHOWN
+        }],
+        pending: &[OWN],
+        broken: Some(Rule::Vector),
+    },
+    Case {
+        name: "nobody's entry in the own plan",
+        structures: &[SHOWN],
+        pending: &[Operation {
+            entry: Some((1, Named::Nothing)),
+            ..OWN
+        }],
+        broken: Some(Rule::Entries),
+    },
+    Case {
+        name: "top's own entry in the own plan",
+        structures: &[SHOWN],
+        pending: &[Operation {
+            entry: Some((0, Named::ShownPlan)),
+            ..OWN
+        }],
+        broken: Some(Rule::Entries),
+    },
+    Case {
+        name: "nobody's entry in top",
+        structures: &[Operation {
+            entry: Some((1, Named::Nothing)),
+            ..SHOWN
+        }],
+        pending: &[OWN],
+        broken: Some(Rule::Entries),
+    },
+    Case {
+        name: "a plan of another certificate",
+        structures: &[SHOWN],
+        pending: &[Operation {
+            certificate: Named::Invented,
+            ..OWN
+        }],
+        broken: Some(Rule::Link),
+    },
+    Case {
+        name: "no structure named where there is one",
+        structures: &[SHOWN],
+        pending: &[Operation {
+            last: Named::Nothing,
+            ..OWN
+        }],
+        broken: Some(Rule::Link),
+    },
+    Case {
+        name: "a structure named where there is none",
+        structures: &[],
+        pending: &[Operation {
+            last: Named::Invented,
+            ..SHOWN
+        }],
+        broken: Some(Rule::Link),
+    },
+];
+
+/// The certificate of an operation.
+fn certificate_of(rt: &impl Host, operation: &Operation, digests: &Digests) -> Vec<u8> {
+    let last = digests.of(operation.last);
+    certificate(rt, operation.signer, operation.signed, last)
+}
+
+/// The entries of an operation's plan, behind their count.
+fn entries_of(rt: &impl Host, operation: &Operation, digests: &Digests) -> Vec<u8> {
+    match operation.entry {
+        Some((user, plan)) => joined(rt, &[&[1, user, 0, 0, 0, 1], digests.of(plan)]),
+        None => joined(rt, &[&[0]]),
     }
 }
 
-/// One whose vector lists another principal with version 1.
-fn beside(user: u8, number: u32, version: u32, principal: u8) -> Operation {
-    Operation {
-        other: Some(principal),
-        ..plain(user, number, version)
-    }
-}
-
-fn certificate_text(alloc: Global, operation: &Operation) -> Result<Vec<u8>, Fail> {
-    let mut text = b"SUC1".to_vec(alloc)?;
-    text.push(operation.signer)?;
-    text.extend_from_slice(&operation.signed.to_be_bytes())?;
-    text.extend_from_slice(operation.last.as_bytes())?;
-    text.push(0)?;
-    Ok(text)
-}
-
-/// The digest that the plan has of its certificate.
-fn named_certificate(alloc: Global, operation: &Operation) -> Result<Digest, Fail> {
-    match operation.certificate {
-        Some(other) => Ok(other),
-        None => Ok(digest(&certificate_text(alloc, operation)?)),
-    }
-}
-
-fn put_vector(text: &mut Vec<u8>, operation: &Operation) -> Result<(), Fail> {
-    text.push(if operation.other.is_some() { 2 } else { 1 })?;
-    text.push(0)?;
-    text.extend_from_slice(&operation.version.to_be_bytes())?;
-    if let Some(principal) = operation.other {
-        text.extend_from_slice(&[principal, 0, 0, 0, 1])?;
-    }
-    Ok(())
-}
-
-fn put_entries(text: &mut Vec<u8>, operation: &Operation) -> Result<(), Fail> {
-    let Some((user, number, plan)) = operation.entry else {
-        text.push(0)?;
-        return Ok(());
+/// The plan of an operation.
+fn plan_of(rt: &impl Host, operation: &Operation, digests: &Digests) -> Vec<u8> {
+    let own = certificate_of(rt, operation, digests);
+    let certificate = digest_of(&own);
+    let digests = Digests {
+        certificate,
+        ..*digests
     };
-    text.extend_from_slice(&[1, user])?;
-    text.extend_from_slice(&number.to_be_bytes())?;
-    text.extend_from_slice(plan.as_bytes())?;
-    Ok(())
+    let entries = entries_of(rt, operation, &digests);
+    plan(
+        rt,
+        operation.user,
+        operation.number,
+        digests.of(operation.certificate),
+        operation.vector,
+        &entries,
+    )
 }
 
-fn plan_text(alloc: Global, operation: &Operation) -> Result<Vec<u8>, Fail> {
-    let certificate = named_certificate(alloc, operation)?;
-    let mut text = b"SVP1".to_vec(alloc)?;
-    text.push(operation.user)?;
-    text.extend_from_slice(&operation.number.to_be_bytes())?;
-    text.extend_from_slice(certificate.as_bytes())?;
-    put_vector(&mut text, operation)?;
-    put_entries(&mut text, operation)?;
-    Ok(text)
+/// The structure of an operation, which names nothing.
+fn structure_of(rt: &impl Host, operation: &Operation) -> Vec<u8> {
+    structure(rt, &plan_of(rt, operation, &NONE), &[0; 32])
 }
 
-/// A text behind its size.
-fn put_sized(text: &mut Vec<u8>, inner: &[u8]) -> Result<(), Fail> {
-    let size = u16::try_from(inner.len())?;
-    text.extend_from_slice(&size.to_be_bytes())?;
-    text.extend_from_slice(inner)?;
-    Ok(())
-}
-
-fn structure_text(alloc: Global, operation: &Operation) -> Result<Vec<u8>, Fail> {
-    let plan = plan_text(alloc, operation)?;
-    let mut text = b"SVS1".to_vec(alloc)?;
-    put_sized(&mut text, &plan)?;
-    text.extend_from_slice(&[0; 32])?;
-    text.push(0)?;
-    Ok(text)
-}
-
-/// The reply of the structures of these operations, and of the pending ones.
-fn reply_text(
-    alloc: Global,
-    structures: &[Operation],
-    pending: &[Operation],
-) -> Result<Vec<u8>, Fail> {
-    let mut text = b"SRL1".to_vec(alloc)?;
-    text.push(u8::try_from(structures.len())?)?;
-    for shown in structures {
-        put_sized(&mut text, &structure_text(alloc, shown)?)?;
-        text.extend_from_slice(&SIGNATURE)?;
+/// The operation whose structure of user 0 a case shows. Where it shows none, no operation of it names one.
+fn shown_of(case: &Case) -> &Operation {
+    let mut shown = &SHOWN;
+    for operation in case.structures {
+        if operation.user == 0 {
+            shown = operation;
+        }
     }
-    text.push(u8::try_from(pending.len())?)?;
-    for item in pending {
-        put_sized(&mut text, &certificate_text(alloc, item)?)?;
-        text.extend_from_slice(&SIGNATURE)?;
-        put_sized(&mut text, &plan_text(alloc, item)?)?;
+    shown
+}
+
+/// What the operations of a case may name.
+fn digests_of(rt: &impl Host, shown: &Operation) -> Digests {
+    let structure = digest_of(&structure_of(rt, shown));
+    let shown_plan = digest_of(&plan_of(rt, shown, &NONE));
+    let other_plan = digest_of(&plan_of(rt, &OTHER, &NONE));
+    Digests {
+        structure,
+        shown_plan,
+        other_plan,
+        ..NONE
     }
-    Ok(text)
+}
+
+/// A structure as a reply lists it.
+fn structure_row(rt: &impl Host, operation: &Operation) -> Vec<u8> {
+    let signed = joined(rt, &[&structure_of(rt, operation), &SIGNATURE]);
+    shown(rt, &signed)
+}
+
+/// The list of the structures of a case, behind its count.
+fn structures_of(rt: &impl Host, case: &Case) -> Vec<u8> {
+    let [.., count] = case.structures.len().to_be_bytes();
+    let mut list = joined(rt, &[&[count]]);
+    for operation in case.structures {
+        list = joined(rt, &[&list, &structure_row(rt, operation)]);
+    }
+    list
+}
+
+/// A pending operation as a reply lists it.
+fn pending_row(rt: &impl Host, operation: &Operation, digests: &Digests) -> Vec<u8> {
+    let text = certificate_of(rt, operation, digests);
+    let signed = joined(rt, &[&text, &SIGNATURE]);
+    pending(rt, &signed, &plan_of(rt, operation, digests))
+}
+
+/// The list of the pending operations of a case, behind its count.
+fn pending_of(rt: &impl Host, case: &Case, digests: &Digests) -> Vec<u8> {
+    let [.., count] = case.pending.len().to_be_bytes();
+    let mut list = joined(rt, &[&[count]]);
+    for operation in case.pending {
+        list = joined(rt, &[&list, &pending_row(rt, operation, digests)]);
+    }
+    list
+}
+
+/// The reply of a case.
+fn reply_of(rt: &impl Host, case: &Case) -> Reply<Global> {
+    let pending = pending_of(rt, case, &digests_of(rt, shown_of(case)));
+    let text = reply(rt, &structures_of(rt, case), &pending);
+    Reply::read(rt.alloc(), &text).expect(rt, "a reply")
 }
 
 /// The table of the beginning. Its key is a form without meaning, since no signature is checked.
-fn table() -> Result<Table, Fail> {
+fn table(rt: &impl Host) -> Table {
     let mut bytes = [0; 56];
     bytes[3] = 6;
     bytes[7] = 3;
-    let key = PublicKey::from_bytes(bytes).ok_or("no key")?;
-    Ok(Table::genesis(key))
+    Table::genesis(PublicKey::from_bytes(bytes).expect(rt, "a key"))
 }
 
 /// The first rule that the reply breaks.
-fn first_broken(
-    alloc: Global,
-    structures: &[Operation],
-    pending: &[Operation],
-) -> Result<Option<Rule>, Fail> {
-    let text = reply_text(alloc, structures, pending)?;
-    let reply: Reply<Global> = Reply::read(alloc, &text)?;
-    let table = table()?;
-    if !lists_hold(&reply) {
-        return Ok(Some(Rule::Lists));
+fn first_broken(rt: &impl Host, reply: &Reply<Global>) -> Option<Rule> {
+    if !lists_hold(reply) {
+        return Some(Rule::Lists);
     }
-    if reply.pending().is_empty() {
-        return Err(Fail::new("nothing is pending"));
+    assert!(rt; !reply.pending().is_empty());
+    broken(rt.alloc(), reply, &table(rt)).expect(rt, "memory")
+}
+
+#[test]
+fn each_case(rt: HostRuntime) {
+    for case in &CASES {
+        let found = first_broken(&rt, &reply_of(&rt, case));
+        check(&rt, found == case.broken, case.name);
     }
-    Ok(broken(alloc, &reply, &table)?)
-}
-
-/// The operation behind the other one's structure.
-fn behind(alloc: Global, shown: &Operation, own: Operation) -> Result<Operation, Fail> {
-    let last = digest(&structure_text(alloc, shown)?);
-    Ok(Operation { last, ..own })
-}
-
-/// The first rule that is broken where the one operation is behind the other one's structure.
-fn first_of_two(alloc: Global, shown: Operation, own: Operation) -> Result<Option<Rule>, Fail> {
-    let own = behind(alloc, &shown, own)?;
-    first_broken(alloc, &[shown], &[own])
-}
-
-/// User 0's first operation, whose structure the replies show.
-fn shown() -> Operation {
-    plain(0, 1, 1)
-}
-
-/// User 0's second operation, which is pending in the replies.
-fn own() -> Operation {
-    plain(0, 2, 2)
-}
-
-#[test]
-fn breaks_none(rt: HostRuntime) -> Result<(), Fail> {
-    let alloc = rt.alloc();
-    assert_eq!(rt; first_of_two(alloc, shown(), own())?, None);
-    assert_eq!(rt; first_broken(alloc, &[], &[shown()])?, None, "no structure");
-    Ok(())
-}
-
-/// The first rule that is broken where user 0's second operation is pending beside these structures.
-fn first_beside(alloc: Global, structures: &[Operation]) -> Result<Option<Rule>, Fail> {
-    let own = behind(alloc, &shown(), own())?;
-    first_broken(alloc, structures, &[own])
-}
-
-#[test]
-fn lists_of_structures(rt: HostRuntime) -> Result<(), Fail> {
-    let alloc = rt.alloc();
-    let twice = first_beside(alloc, &[shown(), shown()])?;
-    assert_eq!(rt; twice, Some(Rule::Lists), "users 0 and 0");
-    let falling = first_beside(alloc, &[beside(1, 1, 1, 1), shown()])?;
-    assert_eq!(rt; falling, Some(Rule::Lists), "users 1 and 0");
-    Ok(())
-}
-
-/// The first rule that is broken where another operation is pending before user 0's second one.
-fn first_after(alloc: Global, other: Operation) -> Result<Option<Rule>, Fail> {
-    let own = behind(alloc, &shown(), own())?;
-    first_broken(alloc, &[shown()], &[other, own])
-}
-
-/// The first rule that is broken where another operation is pending behind user 0's second one.
-fn first_before(alloc: Global, other: Operation) -> Result<Option<Rule>, Fail> {
-    let own = behind(alloc, &shown(), own())?;
-    first_broken(alloc, &[shown()], &[own, other])
-}
-
-#[test]
-fn lists_of_pending(rt: HostRuntime) -> Result<(), Fail> {
-    let alloc = rt.alloc();
-    let equal = first_after(alloc, beside(1, 1, 1, 1))?;
-    assert_eq!(rt; equal, Some(Rule::Lists), "equal depths");
-    let falling = first_after(alloc, beside(1, 1, 2, 1))?;
-    assert_eq!(rt; falling, Some(Rule::Lists), "falling depths");
-    let twice = first_before(alloc, plain(0, 3, 3))?;
-    assert_eq!(rt; twice, Some(Rule::Lists), "a user twice");
-    Ok(())
-}
-
-#[test]
-fn lists_of_plans(rt: HostRuntime) -> Result<(), Fail> {
-    let alloc = rt.alloc();
-    let user = Operation { user: 1, ..own() };
-    assert_eq!(rt;
-        first_of_two(alloc, shown(), user)?,
-        Some(Rule::Lists),
-        "another user"
-    );
-    let number = Operation { number: 3, ..own() };
-    assert_eq!(rt;
-        first_of_two(alloc, shown(), number)?,
-        Some(Rule::Lists),
-        "another number"
-    );
-    Ok(())
-}
-
-#[test]
-fn unknown_structure(rt: HostRuntime) -> Result<(), Fail> {
-    let alloc = rt.alloc();
-    let other = beside(1, 1, 1, 1);
-    let own = behind(alloc, &shown(), beside(0, 2, 2, 1))?;
-    let found = first_broken(alloc, &[shown(), other], &[own])?;
-    assert_eq!(rt; found, Some(Rule::UnknownUser));
-    Ok(())
-}
-
-#[test]
-fn unknown_pending(rt: HostRuntime) -> Result<(), Fail> {
-    let alloc = rt.alloc();
-    let other = beside(1, 1, 1, 1);
-    let entry = Some((1, 1, digest(&plan_text(alloc, &other)?)));
-    let next = beside(0, 2, 2, 1);
-    let own = behind(alloc, &shown(), Operation { entry, ..next })?;
-    let found = first_broken(alloc, &[shown()], &[other, own])?;
-    assert_eq!(rt; found, Some(Rule::UnknownUser));
-    Ok(())
-}
-
-#[test]
-fn numbers_of_structures(rt: HostRuntime) -> Result<(), Fail> {
-    let alloc = rt.alloc();
-    let second = plain(0, 2, 1);
-    let found = first_of_two(alloc, second, own())?;
-    assert_eq!(rt;
-        found,
-        Some(Rule::Numbers),
-        "a structure's number above its version"
-    );
-    // Its version is the own plan's, which isn't above, so top counts what it has to.
-    let ahead = plain(0, 1, 2);
-    let found = first_of_two(alloc, ahead, own())?;
-    assert_eq!(rt;
-        found,
-        Some(Rule::Numbers),
-        "a structure's number below its version"
-    );
-    let counted = beside(0, 1, 1, 1);
-    let found = first_of_two(alloc, counted, beside(0, 2, 2, 1))?;
-    assert_eq!(rt;
-        found,
-        Some(Rule::Numbers),
-        "top counts a user without a structure"
-    );
-    Ok(())
-}
-
-#[test]
-fn numbers_of_pending(rt: HostRuntime) -> Result<(), Fail> {
-    let alloc = rt.alloc();
-    let found = first_of_two(alloc, shown(), plain(0, 3, 2))?;
-    assert_eq!(rt; found, Some(Rule::Numbers), "a number above its version");
-    let found = first_of_two(alloc, shown(), plain(0, 2, 3))?;
-    assert_eq!(rt; found, Some(Rule::Numbers), "a number below its version");
-    let found = first_of_two(alloc, shown(), plain(0, 3, 3))?;
-    assert_eq!(rt; found, Some(Rule::Numbers), "not the next number");
-    Ok(())
-}
-
-#[test]
-fn vectors(rt: HostRuntime) -> Result<(), Fail> {
-    let alloc = rt.alloc();
-    let found = first_of_two(alloc, shown(), beside(0, 2, 2, 64))?;
-    assert_eq!(rt; found, Some(Rule::Vector), "it doesn't follow");
-    let found = first_of_two(alloc, beside(0, 1, 1, 64), own())?;
-    assert_eq!(rt; found, Some(Rule::Vector), "a component falls");
-    Ok(())
-}
-
-#[test]
-fn entries_of_plans(rt: HostRuntime) -> Result<(), Fail> {
-    let alloc = rt.alloc();
-    let nobody = Some((1, 1, repeated(0)));
-    let found = first_of_two(
-        alloc,
-        shown(),
-        Operation {
-            entry: nobody,
-            ..own()
-        },
-    )?;
-    assert_eq!(rt; found, Some(Rule::Entries), "nobody's in the own plan");
-    let top = Some((0, 1, digest(&plan_text(alloc, &shown())?)));
-    let found = first_of_two(
-        alloc,
-        shown(),
-        Operation {
-            entry: top,
-            ..own()
-        },
-    )?;
-    assert_eq!(rt; found, Some(Rule::Entries), "top's own in the own plan");
-    let found = first_of_two(
-        alloc,
-        Operation {
-            entry: nobody,
-            ..shown()
-        },
-        own(),
-    )?;
-    assert_eq!(rt; found, Some(Rule::Entries), "nobody's in top");
-    Ok(())
-}
-
-#[test]
-fn links(rt: HostRuntime) -> Result<(), Fail> {
-    let alloc = rt.alloc();
-    let certificate = Some(repeated(1));
-    let found = first_of_two(
-        alloc,
-        shown(),
-        Operation {
-            certificate,
-            ..own()
-        },
-    )?;
-    assert_eq!(rt; found, Some(Rule::Link), "another certificate");
-    let found = first_broken(alloc, &[shown()], &[own()])?;
-    assert_eq!(rt; found, Some(Rule::Link), "no structure where there is one");
-    let last = repeated(1);
-    let found = first_broken(alloc, &[], &[Operation { last, ..shown() }])?;
-    assert_eq!(rt; found, Some(Rule::Link), "a structure where there is none");
-    Ok(())
 }
 
 /// The rules in the order of their numbers, and their names.
-const RULES: [(Rule, &str); 15] = [
+static RULES: [(Rule, &str); 15] = [
     (Rule::Form, "Form"),
     (Rule::Lists, "Lists"),
     (Rule::OwnLast, "OwnLast"),
@@ -409,12 +506,16 @@ const RULES: [(Rule, &str); 15] = [
     (Rule::GroupRecord, "GroupRecord"),
 ];
 
+/// The rule has this number and this name.
+fn is_named(rt: &impl Host, rule: Rule, number: usize, name: &str) {
+    check(rt, usize::from(rule.number()) == number, name);
+    let printed = format!(in rt.alloc(); "{rule}").expect(rt, "memory");
+    check(rt, printed.as_str() == name, name);
+}
+
 #[test]
-fn numbers_and_names(rt: HostRuntime) -> Result<(), Fail> {
+fn numbers_and_names(rt: HostRuntime) {
     for (i, (rule, name)) in RULES.iter().enumerate() {
-        assert_eq!(rt; usize::from(rule.number()), i + 1, "{name}");
-        let printed = format!(in rt.alloc(); "{rule}")?;
-        assert_eq!(rt; printed.as_str(), *name);
+        is_named(&rt, *rule, i + 1, name);
     }
-    Ok(())
 }

@@ -1,117 +1,146 @@
-//! The server: user 0's first operation, calls that come again, and calls that are declined.
+//! The server: an operation made by hand, calls that come again, and calls that are declined.
 
-use crate::texts::{certificate, key_of, plan, signed, structure};
+use crate::replies::first_reply;
+use crate::texts::{Host, certificate, check, check_text, key_of, plan, signed, structure};
 use consistency_server::{Call, CallKind, Log, MemoryLog, Ordered};
 use layout::digest;
 use std::alloc::Global;
-use std::test::Fail;
 use wire::Status;
 
-/// The vector of user 0's first operation, behind its count.
-const FIRST_VECTOR: &[u8] = b"\x01\0\0\0\0\x01";
-
-/// The plan of user 0's first operation.
-fn first_plan(alloc: Global) -> Result<Vec<u8>, Fail> {
-    let certificate = certificate(alloc, 0, 1, &[0; 32])?;
-    plan(
-        alloc,
-        0,
-        1,
-        digest(&certificate).as_bytes(),
-        FIRST_VECTOR,
-        b"\0",
-    )
+/// A server and its log.
+#[derive(Drop)]
+pub(crate) struct Server {
+    ordered: Ordered<Global>,
+    log: MemoryLog<Global>,
 }
 
-/// What the server answers to a certificate without changes of this user and number, signed by user 0.
-fn status_of(
-    alloc: Global,
-    server: &mut Ordered<Global>,
-    log: &mut MemoryLog<Global>,
-    user: u8,
-    number: u32,
-) -> Result<Status, Fail> {
-    let text = certificate(alloc, user, number, &[0; 32])?;
-    let update = signed(alloc, &key_of(alloc, 0)?, 0, &text)?;
-    Ok(server.update(log, &update).status())
-}
-
-#[test]
-fn places(rt: HostRuntime) -> Result<(), Fail> {
-    let alloc = rt.alloc();
-    let key = key_of(alloc, 0)?;
-    let mut server = Ordered::genesis(alloc, key.public());
-    let mut log = MemoryLog::new(alloc)?;
-    let update = signed(alloc, &key, 0, &certificate(alloc, 0, 1, &[0; 32])?)?;
-    let placed = server.update(&mut log, &update);
-    assert!(rt; placed.status() == Status::Ok);
-    assert_eq!(rt; placed.payload().len(), 2608);
-    assert!(rt;
-        placed
-            .payload()
-            .starts_with(b"SRL1\0\x01\0\x2aSUC1\0\0\0\0\x01")
-    );
-    assert!(rt; placed.payload().ends_with(&first_plan(alloc)?));
-    let again = server.update(&mut log, &update);
-    assert!(rt; again.status() == Status::Ok);
-    assert!(rt; again.payload() == placed.payload());
-    assert_eq!(rt; log.events().len(), 1);
-    Ok(())
-}
-
-#[test]
-fn commits(rt: HostRuntime) -> Result<(), Fail> {
-    let alloc = rt.alloc();
-    let key = key_of(alloc, 0)?;
-    let mut server = Ordered::genesis(alloc, key.public());
-    let mut log = MemoryLog::new(alloc)?;
-    assert!(rt; status_of(alloc, &mut server, &mut log, 0, 1)? == Status::Ok);
-    let text = structure(alloc, &first_plan(alloc)?, &[5; 32])?;
-    let commit = signed(alloc, &key, 1, &text)?;
-    for _ in 0..2 {
-        let committed = server.commit(&mut log, &commit);
-        assert!(rt; committed.status() == Status::Ok);
-        assert!(rt; committed.into_payload().is_empty());
+impl Server {
+    /// How many events it made.
+    pub(crate) fn events(&self) -> usize {
+        self.log.events().len()
     }
-    assert_eq!(rt; log.events().len(), 2);
-    assert_eq!(rt; server.history().len(), 3);
-    assert!(rt; server.history()[2].kind() == CallKind::Commit);
-    assert!(rt; server.history()[2].text() == commit.as_slice());
-    Ok(())
+
+    /// How many calls it answered.
+    fn calls(&self) -> usize {
+        self.ordered.history().len()
+    }
+}
+
+/// A server at the beginning, for which user 0's key is this one.
+pub(crate) fn server_of(rt: &impl Host, key: u8) -> Server {
+    let ordered = Ordered::genesis(rt.alloc(), key_of(rt, key).public());
+    let log = MemoryLog::new(rt.alloc()).expect(rt, "memory");
+    Server { ordered, log }
+}
+
+/// The server answers this status and payload to the certificate.
+pub(crate) fn answers_update(
+    rt: &impl Host,
+    server: &mut Server,
+    text: &[u8],
+    status: Status,
+    payload: &[u8],
+) {
+    let answer = server.ordered.update(&mut server.log, text);
+    check(rt, answer.status() == status, "the status of an update");
+    check_text(rt, answer.payload(), payload);
+}
+
+/// The server answers this status to the structure, and no payload.
+pub(crate) fn answers_commit(rt: &impl Host, server: &mut Server, text: &[u8], status: Status) {
+    let answer = server.ordered.commit(&mut server.log, text);
+    check(rt, answer.status() == status, "the status of a commit");
+    check(rt, answer.into_payload().is_empty(), "no payload");
+}
+
+/// A certificate without changes of this user and number, behind no structure, signed by user 0.
+fn update_of(rt: &impl Host, user: u8, number: u32) -> Vec<u8> {
+    let text = certificate(rt, user, number, &[0; 32]);
+    signed(rt, &key_of(rt, 0), 0, &text)
+}
+
+/// The server declines the certificate of this user and number with this status.
+fn declines_update(rt: &impl Host, server: &mut Server, user: u8, number: u32, status: Status) {
+    answers_update(rt, server, &update_of(rt, user, number), status, &[]);
+}
+
+/// The structure of user 0's first operation, with an invented handle, signed by user 0.
+fn first_commit(rt: &impl Host) -> Vec<u8> {
+    let linked = digest(&certificate(rt, 0, 1, &[0; 32]));
+    let plan = plan(rt, 0, 1, linked.as_bytes(), b"\x01\0\0\0\0\x01", b"\0");
+    let text = structure(rt, &plan, &[5; 32]);
+    signed(rt, &key_of(rt, 0), 1, &text)
+}
+
+/// The server commits the structure, each time that it comes, and keeps one event more.
+fn commits(rt: &impl Host, server: &mut Server, commit: &[u8]) {
+    answers_commit(rt, server, commit, Status::Ok);
+    answers_commit(rt, server, commit, Status::Ok);
+    check(rt, server.events() == 2, "two events");
+    check(rt, server.calls() == 3, "three calls");
+}
+
+/// The last call that the server answered is the commit of this text.
+fn committed_last(rt: &impl Host, server: &Server, text: &[u8]) {
+    let call = server.ordered.history().last().expect(rt, "a call");
+    check(rt, call.kind() == CallKind::Commit, "a commit");
+    check_text(rt, call.text(), text);
+}
+
+/// The server places user 0's first certificate.
+fn places(rt: &impl Host, server: &mut Server) {
+    let update = update_of(rt, 0, 1);
+    answers_update(rt, server, &update, Status::Ok, &first_reply(rt, &update));
 }
 
 #[test]
-fn declines(rt: HostRuntime) -> Result<(), Fail> {
-    let alloc = rt.alloc();
-    let mut server = Ordered::genesis(alloc, key_of(alloc, 0)?.public());
-    let mut log = MemoryLog::new(alloc)?;
-    assert!(rt; server.update(&mut log, b"garbage").status() == Status::Form);
-    assert!(rt; status_of(alloc, &mut server, &mut log, 1, 1)? == Status::UnknownUser);
-    assert!(rt; status_of(alloc, &mut server, &mut log, 0, 3)? == Status::WrongNumber);
-    assert!(rt; server.commit(&mut log, b"garbage").status() == Status::Form);
-    assert!(rt; log.events().is_empty());
-    assert_eq!(rt; server.history().len(), 4);
-    Ok(())
+fn commits_first(rt: HostRuntime) {
+    let mut server = server_of(&rt, 0);
+    places(&rt, &mut server);
+    let commit = first_commit(&rt);
+    commits(&rt, &mut server, &commit);
+    committed_last(&rt, &server, &commit);
+}
+
+/// Texts of no form, another user, and a number too high: none makes an event.
+fn declines(rt: &impl Host, server: &mut Server) {
+    answers_update(rt, server, b"garbage", Status::Form, &[]);
+    declines_update(rt, server, 1, 1, Status::UnknownUser);
+    declines_update(rt, server, 0, 3, Status::WrongNumber);
+    answers_commit(rt, server, b"garbage", Status::Form);
+    check(rt, server.events() == 0, "no events");
+    check(rt, server.calls() == 4, "four calls");
 }
 
 #[test]
-fn declines_another_key(rt: HostRuntime) -> Result<(), Fail> {
-    let alloc = rt.alloc();
-    let mut server = Ordered::genesis(alloc, key_of(alloc, 1)?.public());
-    let mut log = MemoryLog::new(alloc)?;
-    assert!(rt; status_of(alloc, &mut server, &mut log, 0, 1)? == Status::BadSignature);
-    Ok(())
+fn declines_each(rt: HostRuntime) {
+    let mut server = server_of(&rt, 0);
+    declines(&rt, &mut server);
 }
 
-#[test]
-fn is_busy(rt: HostRuntime) -> Result<(), Fail> {
-    let alloc = rt.alloc();
-    let mut server = Ordered::genesis(alloc, key_of(alloc, 0)?.public());
-    let mut log = MemoryLog::new(alloc)?;
+/// A server whose log has no room for another event.
+fn full_server(rt: &impl Host) -> Server {
+    let mut server = server_of(rt, 0);
+    fill(rt, &mut server.log);
+    server
+}
+
+/// Fills an empty log.
+fn fill(rt: &impl Host, log: &mut MemoryLog<Global>) {
     for _ in 0..1024 {
-        log.try_push(Call::new(CallKind::Update, Vec::new(alloc)))?;
+        let call = Call::new(CallKind::Update, Vec::new(rt.alloc()));
+        log.try_push(call).expect(rt, "room");
     }
-    assert!(rt; status_of(alloc, &mut server, &mut log, 0, 1)? == Status::Busy);
-    assert!(rt; server.history().is_empty());
-    Ok(())
+}
+
+/// The server declines user 0's first certificate with this status, and has answered so many calls then.
+fn declines_first(rt: &impl Host, mut server: Server, status: Status, calls: usize) {
+    declines_update(rt, &mut server, 0, 1, status);
+    check(rt, server.calls() == calls, "the calls that were answered");
+}
+
+#[test]
+fn another_key_and_a_full_log(rt: HostRuntime) {
+    declines_first(&rt, server_of(&rt, 1), Status::BadSignature, 1);
+    declines_first(&rt, full_server(&rt), Status::Busy, 0);
 }

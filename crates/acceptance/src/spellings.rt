@@ -1,107 +1,126 @@
 //! Texts and frames that the formats' descriptions spell out.
 
+use crate::texts::{Host, certificate, check, check_text, joined, plan};
 use layout::{Digest, Text, User, Version};
 use pending_list::{Reply, Signature, Signed, depth_of_top, digest_of_last, top};
-use std::test::Fail;
+use std::alloc::Global;
 use update_cert::Cert;
-use version_order::{Entries, Plan, Vector, below, depth, next_plan};
+use version_order::{Entries, Plan, Structure, Vector, below, depth, next_plan};
 use wire::{RequestKind, Status, body_of, reply_frame, reply_of, request_frame, request_of};
 
-#[test]
-fn first_certificate(rt: HostRuntime) -> Result<(), Fail> {
-    let alloc = rt.alloc();
-    let cert = Cert::new(
-        User::superuser(),
-        Version::first(),
-        Digest::from_bytes([0; 32]),
-    );
-    let text = cert.text(alloc)?;
-    assert_eq!(rt; text.len(), 42);
-    assert!(rt; text.starts_with(b"SUC1\0\0\0\0\x01"));
-    assert!(rt; text.ends_with(&[0; 33]));
-    assert!(rt; Cert::read(alloc, &text)? == cert);
-    Ok(())
+/// User 0's first certificate.
+fn first_cert() -> Cert {
+    let last = Digest::from_bytes([0; 32]);
+    Cert::new(User::superuser(), Version::first(), last)
 }
 
-#[test]
-fn first_plan(rt: HostRuntime) -> Result<(), Fail> {
-    let alloc = rt.alloc();
-    let certificate = Digest::from_bytes([7; 32]);
-    let last = Vector::new(alloc);
-    let entries = Entries::new(alloc);
-    let plan = next_plan(
-        alloc,
-        &last,
-        entries,
-        User::superuser(),
-        Version::first(),
-        certificate,
-        &[],
-    )?;
-    assert_eq!(rt; depth(&plan), 1);
-    assert!(rt; below(&plan, &plan));
-    let text = plan.text(alloc)?;
-    assert_eq!(rt; text.len(), 48);
-    assert!(rt; text.starts_with(b"SVP1\0\0\0\0\x01\x07"));
-    assert!(rt; text.ends_with(b"\x07\x01\0\0\0\0\x01\0"));
-    let again = Plan::read(alloc, &text)?;
-    assert!(rt; again.vector().same(plan.vector()));
-    Ok(())
+/// It is spelled so, and read from there.
+fn spells_first_cert(rt: &impl Host, by_hand: &[u8]) {
+    let text = first_cert().text(rt.alloc()).expect(rt, "memory");
+    check_text(rt, &text, by_hand);
+    let again = Cert::read(rt.alloc(), by_hand).expect(rt, "a certificate");
+    check(rt, again == first_cert(), "the certificate");
 }
 
-#[test]
-fn signed_certificate(rt: HostRuntime) -> Result<(), Fail> {
-    let alloc = rt.alloc();
-    let value = Cert::new(
-        User::superuser(),
-        Version::first(),
-        Digest::from_bytes([0; 32]),
-    );
+/// Its signature by 7s is spelled so, and it is read from there.
+fn spells_signed(rt: &impl Host, by_hand: &[u8]) {
     let signature = Signature::from_bytes([7; 2508]);
-    let signed = Signed { value, signature };
-    let text = signed.text(alloc)?;
-    assert_eq!(rt; text.len(), 2550);
-    assert!(rt; text.starts_with(b"SUC1"));
-    assert!(rt; text[41..].starts_with(b"\0\x07\x07"));
-    let again: Signed<Cert> = Signed::read(alloc, &text)?;
-    assert!(rt; again.value == value);
-    Ok(())
+    let value = first_cert();
+    let text = Signed { value, signature }
+        .text(rt.alloc())
+        .expect(rt, "memory");
+    check_text(rt, &text, by_hand);
+    let again: Signed<Cert> = Signed::read(rt.alloc(), by_hand).expect(rt, "a signed one");
+    check(rt, again.value == value, "the signed certificate");
 }
 
 #[test]
-fn empty_reply(rt: HostRuntime) -> Result<(), Fail> {
-    let alloc = rt.alloc();
-    let reply = Reply::new(Vec::new(alloc), Vec::new(alloc));
-    assert!(rt; top(&reply).is_none());
-    assert_eq!(rt; depth_of_top(&reply), 0);
-    assert_eq!(rt; digest_of_last(alloc, None)?.as_bytes(), &[0; 32]);
-    let text = reply.text(alloc)?;
-    assert_eq!(rt; text.as_slice(), b"SRL1\0\0".as_slice());
-    let again = Reply::read(alloc, &text)?;
-    assert!(rt; again.pending().is_empty());
-    Ok(())
+fn first_certificate(rt: HostRuntime) {
+    let text = certificate(&rt, 0, 1, &[0; 32]);
+    check(&rt, text.len() == 42, "the size of a certificate");
+    spells_first_cert(&rt, &text);
+    let signed = joined(&rt, &[&text, &[7; 2508]]);
+    check(&rt, signed.len() == 2550, "its size with a signature");
+    spells_signed(&rt, &signed);
+}
+
+/// User 0's first plan, of a certificate with the digest of 32 times 7.
+fn first_next_plan(rt: &impl Host) -> Plan<Global> {
+    let last = Vector::new(rt.alloc());
+    let entries = Entries::new(rt.alloc());
+    let certificate = Digest::from_bytes([7; 32]);
+    let (user, number) = (User::superuser(), Version::first());
+    next_plan(rt.alloc(), &last, entries, user, number, certificate, &[]).expect(rt, "a plan")
+}
+
+/// The plan is spelled so, and read from there.
+fn spells_plan(rt: &impl Host, plan: &Plan<Global>, by_hand: &[u8]) {
+    let text = plan.text(rt.alloc()).expect(rt, "memory");
+    check_text(rt, &text, by_hand);
+    let again = Plan::read(rt.alloc(), by_hand).expect(rt, "a plan");
+    check(rt, again.vector().same(plan.vector()), "the plan's vector");
 }
 
 #[test]
-fn update_frame(rt: HostRuntime) -> Result<(), Fail> {
-    let alloc = rt.alloc();
-    let payload = vec![in alloc; 7u8; 2550]?;
-    let frame = request_frame(alloc, RequestKind::Update, &payload)?;
-    assert_eq!(rt; frame.len(), 2555);
-    assert!(rt; frame.starts_with(b"\0\0\x09\xf7\x01\x07"));
-    let body = body_of(&frame)?;
-    let (kind, found) = request_of(body).ok_or("no request")?;
-    assert_eq!(rt; kind, RequestKind::Update);
-    assert_eq!(rt; found, payload.as_slice());
-    Ok(())
+fn first_plan(rt: HostRuntime) {
+    let first = first_next_plan(&rt);
+    check(&rt, depth(&first) == 1, "the depth of the first plan");
+    check(&rt, below(&first, &first), "the first plan below itself");
+    let text = plan(&rt, 0, 1, &[7; 32], b"\x01\0\0\0\0\x01", b"\0");
+    check(&rt, text.len() == 48, "the size of the first plan");
+    spells_plan(&rt, &first, &text);
+}
+
+/// A reply without structures has no top, its depth is 0, and it is spelled so.
+fn is_empty(rt: &impl Host, reply: &Reply<Global>) {
+    check(rt, top(reply).is_none(), "no top");
+    check(rt, depth_of_top(reply) == 0, "the depth of no top");
+    let text = reply.text(rt.alloc()).expect(rt, "memory");
+    check_text(rt, &text, b"SRL1\0\0");
+}
+
+/// The digest of no structure.
+fn digest_of_none(rt: &impl Host) -> Digest {
+    let last: Option<&Signed<Structure<Global>>> = None;
+    digest_of_last(rt.alloc(), last).expect(rt, "memory")
 }
 
 #[test]
-fn busy_frame(rt: HostRuntime) -> Result<(), Fail> {
-    let frame = reply_frame(rt.alloc(), Status::Busy, &[])?;
-    assert_eq!(rt; frame.as_slice(), b"\0\0\0\x01\x06".as_slice());
-    let (status, _none) = reply_of(body_of(&frame)?).ok_or("no reply")?;
-    assert_eq!(rt; status, Status::Busy);
-    assert!(rt; reply_of(b"\x06\0").is_none());
-    Ok(())
+fn empty_reply(rt: HostRuntime) {
+    is_empty(&rt, &Reply::new(Vec::new(rt.alloc()), Vec::new(rt.alloc())));
+    let again = Reply::read(rt.alloc(), b"SRL1\0\0").expect(&rt, "a reply");
+    check(&rt, again.pending().is_empty(), "nothing pending");
+    check_text(&rt, digest_of_none(&rt).as_bytes(), &[0; 32]);
+}
+
+/// The frame is one of this payload in an UPDATE.
+fn is_update(rt: &impl Host, frame: &[u8], payload: &[u8]) {
+    let body = body_of(frame).expect(rt, "a body");
+    let (kind, found) = request_of(body).expect(rt, "a request");
+    check(rt, kind == RequestKind::Update, "an update");
+    check_text(rt, found, payload);
+}
+
+#[test]
+fn update_frame(rt: HostRuntime) {
+    let payload = [7; 2550];
+    let frame = request_frame(rt.alloc(), RequestKind::Update, &payload).expect(&rt, "memory");
+    check_text(&rt, &frame, &joined(&rt, &[b"\0\0\x09\xf7\x01", &payload]));
+    is_update(&rt, &frame, &payload);
+}
+
+/// The frame is one of a reply that is busy.
+fn is_busy(rt: &impl Host, frame: &[u8]) {
+    let body = body_of(frame).expect(rt, "a body");
+    let (status, payload) = reply_of(body).expect(rt, "a reply");
+    check(rt, status == Status::Busy, "busy");
+    check_text(rt, payload, &[]);
+}
+
+#[test]
+fn busy_frame(rt: HostRuntime) {
+    let frame = reply_frame(rt.alloc(), Status::Busy, &[]).expect(&rt, "memory");
+    check_text(&rt, &frame, b"\0\0\0\x01\x06");
+    is_busy(&rt, &frame);
+    check(&rt, reply_of(b"\x06\0").is_none(), "a payload behind busy");
 }

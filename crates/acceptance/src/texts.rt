@@ -1,123 +1,125 @@
-//! Texts, made by hand from the description of the formats.
+//! Texts, made by hand from the description of the formats, and what tests fail by.
 
 ghost use Rattle.std.specs.Prelude.{◌<◌};
 
+use layout::digest;
 use lms_sign::{Leaf, PrivateKey, sign};
 use std::alloc::Global;
-use std::test::Fail;
+use std::process::Abort;
 
 /// The size of a signature.
-pub(crate) const SIGNATURE: usize = 2508;
+const SIGNATURE_SIZE: usize = 2508;
+
+/// What a test runs in.
+pub(crate) trait Host: Alloc<A = Global> + Abort {}
+
+impl<R: Alloc<A = Global> + Abort> Host for R {}
+
+/// Fails the test, and says what doesn't hold, where it doesn't.
+pub(crate) fn check(rt: &impl Host, holds: bool, what: &str) {
+    assert!(rt; holds, "{what}");
+}
+
+/// Fails the test where two texts differ.
+pub(crate) fn check_text(rt: &impl Host, found: &[u8], wanted: &[u8]) {
+    assert!(rt; found == wanted, "{found:?} is not {wanted:?}");
+}
 
 /// The key whose seed and identifier have this byte everywhere.
-pub(crate) fn key_of(alloc: Global, byte: u8) -> Result<PrivateKey<Global>, Fail> {
-    Ok(PrivateKey::from_seed(alloc, [byte; 32], [byte; 16])?)
+pub(crate) fn key_of(rt: &impl Host, byte: u8) -> PrivateKey<Global> {
+    PrivateKey::from_seed(rt.alloc(), [byte; 32], [byte; 16]).expect(rt, "memory")
+}
+
+/// The pieces, one after another.
+pub(crate) fn joined(rt: &impl Host, pieces: &[&[u8]]) -> Vec<u8> {
+    let mut text = Vec::new(rt.alloc());
+    for piece in pieces {
+        text.extend_from_slice(piece).expect(rt, "memory");
+    }
+    text
+}
+
+/// The size of a text, as it stands before it in another one.
+fn size_of(text: &[u8]) -> [u8; 2] {
+    let [.., high, low] = text.len().to_be_bytes();
+    [high, low]
 }
 
 /// A certificate without changes.
-pub(crate) fn certificate(
-    alloc: Global,
-    user: u8,
-    number: u32,
-    last: &[u8; 32],
-) -> Result<Vec<u8>, Fail> {
-    let mut text = b"SUC1".to_vec(alloc)?;
-    text.push(user)?;
-    text.extend_from_slice(&number.to_be_bytes())?;
-    text.extend_from_slice(last)?;
-    text.push(0)?;
-    Ok(text)
+pub(crate) fn certificate(rt: &impl Host, user: u8, number: u32, last: &[u8; 32]) -> Vec<u8> {
+    joined(rt, &[b"SUC1", &[user], &number.to_be_bytes(), last, &[0]])
 }
 
 /// A plan with a vector and entries that are spelled already, each behind its count.
-pub(crate) fn plan(
-    alloc: Global,
+pub(crate) fn plan<'a>(
+    rt: &impl Host,
     user: u8,
     number: u32,
-    certificate: &[u8; 32],
-    vector: &[u8],
-    entries: &[u8],
-) -> Result<Vec<u8>, Fail> {
-    let mut text = b"SVP1".to_vec(alloc)?;
-    text.push(user)?;
-    text.extend_from_slice(&number.to_be_bytes())?;
-    text.extend_from_slice(certificate)?;
-    text.extend_from_slice(vector)?;
-    text.extend_from_slice(entries)?;
-    Ok(text)
-}
-
-/// Puts a length of two bytes behind the text.
-fn put_length(text: &mut Vec<u8>, length: usize) -> Result<(), Fail> {
-    let length = u16::try_from(length)?;
-    text.extend_from_slice(&length.to_be_bytes())?;
-    Ok(())
+    certificate: &'a [u8; 32],
+    vector: &'a [u8],
+    entries: &'a [u8],
+) -> Vec<u8> {
+    joined(
+        rt,
+        &[
+            b"SVP1",
+            &[user],
+            &number.to_be_bytes(),
+            certificate,
+            vector,
+            entries,
+        ],
+    )
 }
 
 /// A structure without group records.
-pub(crate) fn structure(alloc: Global, plan: &[u8], handle: &[u8; 32]) -> Result<Vec<u8>, Fail> {
-    let mut text = b"SVS1".to_vec(alloc)?;
-    put_length(&mut text, plan.len())?;
-    text.extend_from_slice(plan)?;
-    text.extend_from_slice(handle)?;
-    text.push(0)?;
-    Ok(text)
+pub(crate) fn structure(rt: &impl Host, plan: &[u8], handle: &[u8; 32]) -> Vec<u8> {
+    joined(rt, &[b"SVS1", &size_of(plan), plan, handle, &[0]])
 }
 
 /// A text, and behind it its signature by a leaf.
-pub(crate) fn signed(
-    alloc: Global,
-    key: &PrivateKey<Global>,
-    leaf: u32,
-    text: &[u8],
-) -> Result<Vec<u8>, Fail>
+pub(crate) fn signed(rt: &impl Host, key: &PrivateKey<Global>, leaf: u32, text: &[u8]) -> Vec<u8>
     requires { leaf < 1024 }
 {
     let (signature, spent) = sign(key, Leaf::issue(&key.public(), leaf), text);
     spent.end();
-    let mut signed = text.to_vec(alloc)?;
-    signed.extend_from_slice(&signature)?;
-    Ok(signed)
+    joined(rt, &[text, &signature])
 }
 
 /// What stands before the signature of a signed text.
-pub(crate) fn unsigned(signed: &[u8]) -> Result<&[u8], Fail> {
-    let size = signed.len().checked_sub(SIGNATURE).ok_or("no signature")?;
-    Ok(&signed[..size])
+fn unsigned(signed: &[u8]) -> &[u8] {
+    &signed[..signed.len().saturating_sub(SIGNATURE_SIZE)]
 }
 
-/// A signed structure as a reply lists it: behind the length of what was signed.
-pub(crate) fn shown(alloc: Global, structure: &[u8]) -> Result<Vec<u8>, Fail> {
-    let mut text = Vec::new(alloc);
-    put_length(&mut text, unsigned(structure)?.len())?;
-    text.extend_from_slice(structure)?;
-    Ok(text)
+/// The digest by which others name what was signed.
+pub(crate) fn named(signed: &[u8]) -> [u8; 32] {
+    *digest(unsigned(signed)).as_bytes()
 }
 
-/// A pending operation as a reply lists it.
-pub(crate) fn pending(alloc: Global, certificate: &[u8], plan: &[u8]) -> Result<Vec<u8>, Fail> {
-    let mut text = shown(alloc, certificate)?;
-    put_length(&mut text, plan.len())?;
-    text.extend_from_slice(plan)?;
-    Ok(text)
+/// A signed structure as a reply lists it: behind the size of what was signed.
+pub(crate) fn shown(rt: &impl Host, structure: &[u8]) -> Vec<u8> {
+    joined(rt, &[&size_of(unsigned(structure)), structure])
 }
 
-/// A reply with at most one structure, and these pending operations, one after another.
-pub(crate) fn reply(
-    alloc: Global,
-    structure: Option<&[u8]>,
-    count: u8,
-    pending: &[u8],
-) -> Result<Vec<u8>, Fail> {
-    let mut text = b"SRL1".to_vec(alloc)?;
-    match structure {
-        Some(structure) => {
-            text.push(1)?;
-            text.extend_from_slice(&shown(alloc, structure)?)?;
-        }
-        None => text.push(0)?,
-    }
-    text.push(count)?;
-    text.extend_from_slice(pending)?;
-    Ok(text)
+/// A pending operation as a reply lists it: its signed certificate and its plan.
+pub(crate) fn pending(rt: &impl Host, certificate: &[u8], plan: &[u8]) -> Vec<u8> {
+    joined(
+        rt,
+        &[
+            &size_of(unsigned(certificate)),
+            certificate,
+            &size_of(plan),
+            plan,
+        ],
+    )
+}
+
+/// A reply of structures and pending operations, each list behind its count.
+pub(crate) fn reply(rt: &impl Host, structures: &[u8], pending: &[u8]) -> Vec<u8> {
+    joined(rt, &[b"SRL1", structures, pending])
+}
+
+/// The list of this one row.
+pub(crate) fn listed(rt: &impl Host, row: &[u8]) -> Vec<u8> {
+    joined(rt, &[&[1], row])
 }

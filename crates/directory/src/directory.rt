@@ -1,6 +1,6 @@
 //! Directories.
 
-ghost use Rattle.std.specs.Prelude.{◌≡◌, ◌≢◌, ◌↔◌, ◌<◌, true, false, [], length, Option, IsSome, MatchResult, IfOk, IfErr, OnErr, OnOk};
+ghost use Rattle.std.specs.Prelude.{◌≡◌, ◌≢◌, ◌↔◌, ◌<◌, ◌≤◌, true, false, [], length, Option, IsSome, MatchResult, IfOk, IfErr, OnErr, OnOk};
 ghost use Rattle.layout.specs.Ascending.{Stands, IsFree};
 ghost use Rattle.layout.specs.Format.{Reads};
 ghost use Rattle.directory.specs.Name.{is_name};
@@ -89,8 +89,7 @@ fn room_for<'a, A: Allocator>(
 }
 
 impl<A: Allocator + Copy> Directory<A> {
-    /// Lets a name that stands for nothing stand for this: one binary search and one shift. Memory is answered only
-    /// where an allocation was refused.
+    /// Lets a name that stands for nothing stand for this: one binary search and one shift.
     pub fn link(&mut self, name: &[u8], target: Target) -> Result<(), DirError>
         ensures ok { OnOk result (self.new ≡ linked self.old (record { name = name.now; target = target })) }
         ensures change { OnOk result (ChangesOnly self.old self.new name.now (Some target)) }
@@ -143,9 +142,12 @@ impl<A: Allocator> Directory<A> {
     }
 
     /// The entries, in the order of the names' bytes.
+    #[tactic(auto, using(crate::specs::Directory::size_of))]
     pub fn entries(&self) -> &[Entry<A>]
         ensures same { result.now ≡ self.now }
         ensures fits { directory.Fits self.now }
+        // Its text has 6 to 265,222 bytes.
+        ensures size { (6 ≤ length (directory.spell self.now)) × (length (directory.spell self.now) ≤ 265222) }
     {
         self.entries.as_slice()
     }

@@ -12,7 +12,7 @@ use Rattle.std.proofs.lemmas.List.{nil_from_length}
 use Rattle.std.proofs.lemmas.List.Elements.{All-head, All-tail, filter_passes}
 use Rattle.layout.specs.Format.{FitRows, whole}
 use Rattle.layout.specs.Laws.{in_range_fits, whole_again}
-use Rattle.layout.specs.Sizes.{Ascends as KeysAscend, least_key, few_rows}
+use Rattle.layout.specs.Sizes.{KeysAscend, least_key, few_rows}
 use Rattle.layout.specs.Ascending.{above, Ascends, row_at}
 use Rattle.layout.specs.AscendingLaws.{ascends_earlier}
 use Rattle.itable.specs.declared.chunk.Pair.{Pair}

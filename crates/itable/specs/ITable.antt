@@ -18,6 +18,7 @@ pub record ITable : Type 0 where
   pub principal : ℕ
   pub pairs : List Pair
 
+-- an i-number, and bytes that are a digest
 abbrev pub IsPair : Pair → Type 0
 IsPair p = i_numbers.Fits p.i_number × (raw 32).Fits p.digest
 
@@ -31,16 +32,19 @@ pub record IsTable (t : ITable) : Type 0 where
 abbrev pub digest_in : List Pair → ℕ → Option (List ℕ)
 digest_in pairs i = option_map (λ p. p.digest) (row_at nat_cmp i_number_of pairs i)
 
+-- and that a table has
 abbrev pub digest_at : ITable → ℕ → Option (List ℕ)
 digest_at t i = digest_in t.pairs i
 
--- the table with this digest at an i-number, and with none there
+-- the table with this digest at an i-number
 abbrev pub with_digest : ITable → ℕ → List ℕ → ITable
 with_digest t i d = record t { pairs = with_row nat_cmp i_number_of t.pairs (record { i_number = i; digest = d }) }
 
+-- and with none there
 abbrev pub without_digest : ITable → ℕ → ITable
 without_digest t i = record t { pairs = without_row nat_cmp i_number_of t.pairs i }
 
+-- the pair's i-number is in this chunk
 abbrev pub is_in : ℕ → Pair → Bool
 is_in n p = chunk_number p.i_number == n
 
@@ -64,6 +68,7 @@ listing t n = option_map (λ text. record { number = n; digest = hash text }) (t
 unfoldable pub listings : ITable → List ListedChunk
 listings t = filter_map (listing t) (range_with_len 0 64)
 
+-- whose table it is, and the chunks that have pairs
 abbrev pub root_of : ITable → Root
 root_of t = record { principal = t.principal; chunks = listings t }
 

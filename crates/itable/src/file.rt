@@ -72,7 +72,7 @@ pub fn lay_file<A: Allocator + Copy>(alloc: A, file: &[u8]) -> Result<Laid<A>, L
     // The blocks joined are the file, and all are whole but the last.
     ensures joined { concat (blocks_of file.now) ≡ file.now }
     ensures whole_blocks { AreBlocks (blocks_of file.now) }
-    // The i-node's text is read as the i-node, and no other file has it.
+    // The i-node's text is read as the i-node, and no other file has it, unless two different blocks share a digest.
     ensures reads { OnOk result (whole inode (inode.spell (inode_of file.now)) ≡ Ok (inode_of file.now)) }
     ensures known { OnOk result (IsKnown file.now) }
 {

@@ -1,6 +1,6 @@
 //! Pairs that ascend by i-number, as a map.
 
-ghost use Rattle.std.specs.Prelude.{◌≡◌, ◌<◌, ◌≤◌, ◌-◌, take, drop, None, OnOk, OnErr, MatchResult, filter, length};
+ghost use Rattle.std.specs.Prelude.{◌≡◌, ◌<◌, ◌≤◌, ◌-◌, take, drop, None, IsSome, IsOk, OnOk, OnErr, MatchResult, filter, length};
 ghost use Rattle.std.specs.Ordering.{nat_cmp};
 ghost use Rattle.std.specs.List.{AllWithin};
 ghost use Rattle.layout.specs.Ascending.{Ascends, Stands, IsFree, row_at, with_row, without_row};
@@ -24,6 +24,7 @@ fn find(pairs: &[Pair], i_number: INumber) -> Result<usize, usize>
 pub(crate) fn put<A: Allocator>(pairs: &mut Vec<Pair, A>, pair: Pair) -> Result<(), Memory>
     requires { Ascends nat_cmp i_number_of None pairs.old.items }
     ensures ok { OnOk result (pairs.new.items ≡ with_row nat_cmp i_number_of pairs.old.items pair) }
+    ensures mapped { IsSome (row_at nat_cmp i_number_of pairs.old.items pair.i_number) → IsOk result }
     ensures err { OnErr result (pairs.new.items ≡ pairs.old.items) }
 {
     match find(pairs, pair.i_number) {

@@ -112,7 +112,7 @@ impl<A: Allocator> Root<A> {
         self.principal
     }
 
-    /// The chunks that have pairs, ascending by number: at most 64.
+    /// The chunks that it lists, ascending by number.
     pub fn chunks(&self) -> &[ListedChunk]
         ensures { result.now ≡ self.now.chunks }
     {

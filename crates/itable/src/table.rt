@@ -1,6 +1,6 @@
 //! I-tables.
 
-ghost use Rattle.std.specs.Prelude.{◌≡◌, ◌<◌, ◌≤◌, ◌==◌, ◌↔◌, [], ℕ, Some, None, Ok, OnOk, OnErr, IfOk, IfSome, length, if◌then◌else◌};
+ghost use Rattle.std.specs.Prelude.{◌≡◌, ◌<◌, ◌≤◌, ◌==◌, ◌↔◌, [], ℕ, Some, None, IsSome, IsOk, Ok, OnOk, OnErr, IfOk, IfSome, length, if◌then◌else◌};
 ghost use Rattle.std.specs.List.{slice_set};
 ghost use Rattle.std.specs.Option.{option_map};
 ghost use Rattle.std.specs.Vec.{vec_items};
@@ -45,7 +45,7 @@ impl<A: Allocator> Model for ITable<A> {
 }
 
 impl<A: Allocator> ITable<A> {
-    /// The table of a principal that has no files.
+    /// The table of a principal, without pairs.
     pub fn empty(alloc: A, principal: Principal) -> ITable<A>
         ensures { result ≡ record { principal = principal; pairs = [] } }
     {
@@ -65,7 +65,7 @@ impl<A: Allocator> ITable<A> {
         self.principal
     }
 
-    /// The pairs, ascending by i-number: at most 4,095.
+    /// The pairs, ascending by i-number.
     pub fn pairs(&self) -> &[Pair]
         ensures { result.now ≡ self.now.pairs }
     {
@@ -84,6 +84,8 @@ impl<A: Allocator> ITable<A> {
     /// Sets the digest at an i-number. After an error the table is as before.
     pub fn set(&mut self, i_number: INumber, digest: Digest) -> Result<(), Memory>
         ensures ok { OnOk result (self.new ≡ with_digest self.old i_number digest) }
+        // It takes memory only where the i-number has no digest.
+        ensures mapped { IsSome (digest_at self.old i_number) → IsOk result }
         ensures digests { OnOk result ((i : ℕ) → digest_at self.new i ≡ (if i_number == i then Some digest else digest_at self.old i)) }
         ensures err { OnErr result (self.new ≡ self.old) }
     {

@@ -25,6 +25,11 @@ at_most_uint_in w low high wide = record { holds = λ n fits. (at_most_uint w wi
 pub at_most_raw : (count : ℕ) → AtMost (raw count) count
 at_most_raw count = record { holds = λ x fits. omega (arith, fits.0) }
 
+pub at_most_string : (w : Width) (low high : ℕ) → IsWide w → AtMost (string (uint_in w low high)) (byte_len w + high)
+at_most_string w low high wide = record {
+  holds = λ x fits. omega (arith, length-append (be w (length x)) x, (at_most_uint w wide).holds (length x) fits.0.0, (in_range w low high (length x) fits.0).1);
+}
+
 pub at_most_pair : {A B : Type 0} (f : Format A) (g : Format B) (m n : ℕ) → AtMost f m → AtMost g n → AtMost (pair f g) (m + n)
 at_most_pair f g m n few rest = record { holds = λ p fits. omega (arith, length-append (f.spell p.0) (g.spell p.1), few.holds p.0 fits.0, rest.holds p.1 fits.1) }
 
@@ -56,22 +61,22 @@ least_key key low None = low
 least_key key low (Some before) = suc (key before)
 
 -- the keys of rows ascend from low, and stay below a limit
-pub record Ascends {A : Type 0} (row : Rows A) (key : A → ℕ) (low limit : ℕ) : Type 0 where
+pub record KeysAscend {A : Type 0} (row : Rows A) (key : A → ℕ) (low limit : ℕ) : Type 0 where
   pub holds : (b : Option A) (x : A) → (row b).Fits x → (least_key key low b ≤ key x) × (key x < limit)
 
 -- no more rows than keys
-pub few_rows : {A : Type 0} (row : Rows A) (key : A → ℕ) (low limit : ℕ) → Ascends row key low limit → (b : Option A) (xs : List A) → FitRows row b xs → least_key key low b ≤ limit → length xs + least_key key low b ≤ limit
+pub few_rows : {A : Type 0} (row : Rows A) (key : A → ℕ) (low limit : ℕ) → KeysAscend row key low limit → (b : Option A) (xs : List A) → FitRows row b xs → least_key key low b ≤ limit → length xs + least_key key low b ≤ limit
 unfolding FitRows
 few_rows row key low limit ascends b [] fits le = omega arith
 few_rows row key low limit ascends b (x ∷ xs) fits le =
     let here = ascends.holds b x fits.0 in
     omega (arith, here.0, here.1, few_rows row key low limit ascends (Some x) xs fits.1 (omega (arith, here.1)))
 
-pub length-ascending : {A : Type 0} (count : Format ℕ) (row : Rows A) (key : A → ℕ) (low limit : ℕ) → Ascends row key low limit → low ≤ limit → (xs : List A) → (listed count row).Fits xs → length xs + low ≤ limit
+pub length-ascending : {A : Type 0} (count : Format ℕ) (row : Rows A) (key : A → ℕ) (low limit : ℕ) → KeysAscend row key low limit → low ≤ limit → (xs : List A) → (listed count row).Fits xs → length xs + low ≤ limit
 length-ascending count row key low limit ascends le xs fits = few_rows row key low limit ascends None xs fits.1.1 le
 
 -- rows that ascend, so many at most, each of so many bytes at most
-pub at_most_ascending : {A : Type 0} (w : Width) (high : ℕ) (row : Rows A) (key : A → ℕ) (low many m : ℕ) → IsWide w → Ascends row key low (low + many) → ((b : Option A) → AtMost (row b) m) → AtMost (listed (uint_in w 0 high) row) (byte_len w + many * m)
+pub at_most_ascending : {A : Type 0} (w : Width) (high : ℕ) (row : Rows A) (key : A → ℕ) (low many m : ℕ) → IsWide w → KeysAscend row key low (low + many) → ((b : Option A) → AtMost (row b) m) → AtMost (listed (uint_in w 0 high) row) (byte_len w + many * m)
 at_most_ascending w high row key low many m wide ascends few = record {
   holds = λ xs fits.
       let count : length xs ≤ many = omega (arith, length-ascending (uint_in w 0 high) row key low (low + many) ascends (omega arith) xs fits) in

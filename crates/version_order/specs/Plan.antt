@@ -6,7 +6,7 @@ use Rattle.std.specs.Int.{w8, w32}
 use Rattle.std.proofs.lemmas.Bool.{ltb-true}
 use Rattle.layout.specs.Format.{Format, Rows, uint_in, raw, pair, behind, guarded, mapped, listed}
 use Rattle.layout.specs.Laws.{Lawful, laws, in_range, wide8, wide32}
-use Rattle.layout.specs.Sizes.{AtMost, Ascends, least_key, at_most_ascending, at_most_behind, at_most_mapped, at_most_pair, at_most_guarded, at_most_uint_in, at_most_raw}
+use Rattle.layout.specs.Sizes.{AtMost, KeysAscend, least_key, at_most_ascending, at_most_behind, at_most_mapped, at_most_pair, at_most_guarded, at_most_uint_in, at_most_raw}
 use Rattle.layout.specs.Ranges.{user, version}
 use Rattle.layout.specs.Hash.{hash}
 use Rattle.layout.specs.declared.error.ReadError.TheVariants.{Order}
@@ -57,7 +57,7 @@ above_least : (b : Option Entry) (u : ℕ) → is_above b u ≡ true → least_k
 above_least None u h = omega arith
 above_least (Some before) u h = ltb-true before.user u h
 
-entries_ascend : Ascends entry (λ e. e.user) 0 64
+entries_ascend : KeysAscend entry (λ e. e.user) 0 64
 entries_ascend = record { holds = λ b e fits. (above_least b e.user fits.0.1, omega (arith, (in_range w8 0 63 e.user fits.0.0).1)) }
 
 at_most_entry : (b : Option Entry) → AtMost (entry b) 37

@@ -6,7 +6,7 @@ use Rattle.std.specs.Int.{w8, w16, w32}
 use Rattle.std.proofs.lemmas.Bool.{ltb-true}
 use Rattle.layout.specs.Format.{Format, Rows, uint_in, raw, pair, behind, guarded, mapped, listed, nested}
 use Rattle.layout.specs.Laws.{Lawful, laws, in_range, wide8, wide16, wide32}
-use Rattle.layout.specs.Sizes.{AtMost, Ascends, least_key, at_most_ascending, at_most_behind, at_most_mapped, at_most_pair, at_most_guarded, at_most_uint_in, at_most_raw, at_most_nested, nested_fits}
+use Rattle.layout.specs.Sizes.{AtMost, KeysAscend, least_key, at_most_ascending, at_most_behind, at_most_mapped, at_most_pair, at_most_guarded, at_most_uint_in, at_most_raw, at_most_nested, nested_fits}
 use Rattle.layout.specs.Ranges.{group, version, size}
 use Rattle.layout.specs.Hash.{hash}
 use Rattle.layout.specs.declared.error.ReadError.TheVariants.{Order}
@@ -53,7 +53,7 @@ above_least : (b : Option GroupRecord) (g : ℕ) → is_above b g ≡ true → 6
 above_least None g h low = low
 above_least (Some before) g h low = ltb-true before.group g h
 
-records_ascend : Ascends group_record (λ r. r.group) 64 96
+records_ascend : KeysAscend group_record (λ r. r.group) 64 96
 records_ascend = record {
   holds = λ b r fits.
       let range = in_range w8 64 95 r.group fits.0.0 in

@@ -8,7 +8,7 @@ use Rattle.std.proofs.lemmas.List.Sums.{sum_by-cons}
 use Rattle.layout.specs.Format.{FitRows, uint_in}
 use Rattle.layout.specs.Laws.{wide8, wide32, in_range, in_range_fits, listed_fits}
 use Rattle.layout.specs.Ranges.{version}
-use Rattle.layout.specs.Sizes.{AtMost, Ascends, least_key, few_rows, length-ascending, at_most_ascending, at_most_mapped, at_most_pair, at_most_guarded, at_most_uint_in}
+use Rattle.layout.specs.Sizes.{AtMost, KeysAscend, least_key, few_rows, length-ascending, at_most_ascending, at_most_mapped, at_most_pair, at_most_guarded, at_most_uint_in}
 use Rattle.version_order.specs.declared.vector.Component.{Component}
 use Rattle.version_order.specs.Vector.{is_above, component, vector, version_of, raised, user_version, depth, place, version_at}
 
@@ -21,7 +21,7 @@ above_least : (b : Option Component) (p : ℕ) → is_above b p ≡ true → lea
 above_least None p h = omega arith
 above_least (Some before) p h = ltb-true before.principal p h
 
-pub components_ascend : Ascends component principal_of 0 96
+pub components_ascend : KeysAscend component principal_of 0 96
 components_ascend = record {
   holds = λ b c fits. (above_least b c.principal fits.0.1, omega (arith, (in_range w8 0 95 c.principal fits.0.0).1));
 }
