@@ -36,6 +36,7 @@ impl<A: Allocator> Entry<A> {
         ensures bytes { IsBytes text.now }
         ensures target { target_format.Fits target }
     {
+        // They fit where an entry has them.
         let _range = (target.principal.get(), target.i_number.get());
         are_bytes(text.as_bytes());
         let name = Name::new(alloc, text)?;

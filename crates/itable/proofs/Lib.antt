@@ -6,3 +6,4 @@ pub mod ChunkLaws
 pub mod RootLaws
 pub mod TableLaws
 pub mod KnownLaws
+pub mod HandleLaws

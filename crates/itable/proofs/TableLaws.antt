@@ -67,7 +67,7 @@ row_from_digest : (i : ℕ) (ps : List Pair) → row_at nat_cmp i_number_of ps i
 row_from_digest i [] = refl
 row_from_digest i (p ∷ ps) = row_step i p ps (row_from_digest i ps) (is_eq (nat_cmp p.i_number i)) refl
 
-same_pairs : (u t : ITable) → IsTable u → IsTable t → ((i : ℕ) → digest_at u i ≡ digest_at t i) → u.pairs ≡ t.pairs
+pub same_pairs : (u t : ITable) → IsTable u → IsTable t → ((i : ℕ) → digest_at u i ≡ digest_at t i) → u.pairs ≡ t.pairs
 same_pairs u t one is same =
     same_rows nat_cmp i_number_of nat_cmp_total None None u.pairs t.pairs one.ascending is.ascending
     (λ i. row_from_digest i u.pairs ∙ ap (pair_of i) (same i) ∙ sym (row_from_digest i t.pairs))

@@ -8,7 +8,7 @@ ghost use Rattle.layout.specs.Format.{whole};
 ghost use Rattle.itable.specs.Chunk.{chunk, chunk_number};
 ghost use Rattle.itable.specs.Root.{root, chunk_at};
 ghost use Rattle.itable.specs.ITable.{IsTable, digest_at, digest_in, with_digest, without_digest, chunk_of, IsBare, text_of_chunk};
-ghost use Rattle.itable.specs.ITable.{listing as listing_of, listings as listings_of, root_of, handle_of, IsKnownByDigests};
+ghost use Rattle.itable.specs.ITable.{listing as listing_of, listings as listings_of, root_of, handle_of, IsKnownByDigests, IsKnownByHandle};
 
 use crate::chunk::{ChunkNumber, Pair, write_chunk};
 use crate::pairs::{pair_at, put, run_of, take_out};
@@ -49,6 +49,7 @@ impl<A: Allocator> ITable<A> {
     pub fn empty(alloc: A, principal: Principal) -> ITable<A>
         ensures { result ≡ record { principal = principal; pairs = [] } }
     {
+        // It fits where a root has it.
         let _number = principal.get();
         ITable {
             principal,
@@ -89,6 +90,7 @@ impl<A: Allocator> ITable<A> {
         ensures digests { OnOk result ((i : ℕ) → digest_at self.new i ≡ (if i_number == i then Some digest else digest_at self.old i)) }
         ensures err { OnErr result (self.new ≡ self.old) }
     {
+        // They fit where a chunk has them.
         let _number = i_number.get();
         let _bytes = digest.as_bytes();
         forget(&mut self.known, i_number);
@@ -101,6 +103,7 @@ impl<A: Allocator> ITable<A> {
         ensures left { self.new ≡ without_digest self.old i_number }
         ensures digests { (i : ℕ) → digest_at self.new i ≡ (if i_number == i then None else digest_at self.old i) }
     {
+        // Its chunk is below 64.
         let _number = i_number.get();
         forget(&mut self.known, i_number);
         take_out(&mut self.pairs, i_number).map(|pair| pair.digest)
@@ -112,6 +115,7 @@ impl<A: Allocator> ITable<A> {
         ensures reads { IfSome (text_of_chunk self.now number) (λ text. whole chunk text ≡ Ok (chunk_of number self.now)) }
         ensures few { length (chunk_of number self.now).pairs ≤ 64 }
     {
+        // The chunk is below 64, and the table is as its type keeps it.
         let _number = number.get();
         let _table = &self.principal;
     }
@@ -122,7 +126,9 @@ impl<A: Allocator> ITable<A> {
         ensures lists { (n : ℕ) → n < 64 → chunk_at (root_of self.now) n ≡ listing_of self.now n }
         ensures few { length (listings_of self.now) ≤ 64 }
         ensures known { IsKnownByDigests self.now }
+        ensures knows { IsKnownByHandle self.now }
     {
+        // The table is as its type keeps it.
         let _table = &self.principal;
     }
 }
@@ -208,8 +214,9 @@ impl<A: Allocator + Copy> ITable<A> {
     /// The i-handle: the digest of the root's text.
     pub fn handle(&mut self, alloc: A) -> Result<Digest, Memory>
         ensures handle { IfOk result (λ handle. handle ≡ handle_of self.old) }
-        // It is that of any table of this principal with the same digests.
+        // It is that of any table of this principal with the same digests, and of no other, unless texts collide.
         ensures known { IsKnownByDigests self.old }
+        ensures knows { IsKnownByHandle self.old }
         ensures same { self.new ≡ self.old }
     {
         self.root_holds();

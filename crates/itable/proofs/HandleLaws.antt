@@ -1,0 +1,87 @@
+-- A table is known by its handle.
+use Rattle.std.proofs.Common.{◌≡◌, ℕ, ◌<◌, ◌≤◌, ◌/◌, false, List, [], ◌∷◌, Option, Some, None, Result, Ok, refl, sym, ap, ◌∙◌, inl, inr, arith}
+use Rattle.std.specs.Prelude.{IfSome}
+use Rattle.std.specs.List.{All}
+use Rattle.std.specs.Int.{w16}
+use Rattle.std.specs.Option.{option_map}
+use Rattle.std.specs.Ordering.{nat_cmp, is_eq}
+use Rattle.std.proofs.lemmas.Bool.{cases_lt}
+use Rattle.std.proofs.lemmas.Bool.Decides.{nat_tests}
+use Rattle.std.proofs.lemmas.List.Elements.{All-head, All-tail}
+use Rattle.layout.specs.Format.{whole}
+use Rattle.layout.specs.Laws.{in_range}
+use Rattle.layout.specs.Hash.{hash}
+use Rattle.layout.specs.Ascending.{row_at}
+use Rattle.layout.specs.declared.error.ReadError.{ReadError}
+use Rattle.itable.specs.declared.chunk.Pair.{Pair}
+use Rattle.itable.specs.declared.root.ListedChunk.{ListedChunk}
+use Rattle.itable.specs.Chunk.{Chunk, chunk, chunk_number, i_number_of}
+use Rattle.itable.specs.Root.{Root, root, number_of}
+use Rattle.itable.specs.ITable.{ITable, IsPair, IsTable, digest_at, chunk_of, text_of_chunk, listing, root_of, handle_of, KeepApart}
+use Rattle.itable.proofs.ChunkLaws.{chunk_reads, no_text, in_chunk}
+use Rattle.itable.proofs.RootLaws.{root_reads, lists}
+use Rattle.itable.proofs.TableLaws.{same_pairs}
+
+read_is : {A : Type 0} {x y : A} (r : Result A ReadError) → r ≡ Ok x → r ≡ Ok y → x ≡ y
+read_is r first second = cc
+
+some_is : {A : Type 0} {x y : A} → Some x ≡ Some y → x ≡ y
+some_is e = cc
+
+-- ---- the roots
+
+same_root : (t u : ITable) → IsTable t → IsTable u → root.spell (root_of u) ≡ root.spell (root_of t) → root_of u ≡ root_of t
+same_root t u is one same = read_is (whole root (root.spell (root_of u))) (root_reads u one) (ap (whole root) same ∙ root_reads t is)
+
+same_listing : (t u : ITable) → root_of u ≡ root_of t → (n : ℕ) → n < 64 → listing u n ≡ listing t n
+same_listing t u same n small = sym (lists u n small) ∙ ap (λ (r : Root). row_at nat_cmp number_of r.chunks n) same ∙ lists t n small
+
+-- ---- the chunks
+
+-- a chunk's listing, by its text
+abbrev listed_as : ℕ → Option (List ℕ) → Option ListedChunk
+listed_as n text = option_map (λ (x : List ℕ). record { number = n; digest = hash x }) text
+
+same_text : (n : ℕ) (x y : Option (List ℕ)) → ((a b : List ℕ) → x ≡ Some a → y ≡ Some b → hash a ≡ hash b → a ≡ b) → listed_as n x ≡ listed_as n y → x ≡ y
+same_text n None None apart same = refl
+same_text n None (Some b) apart same = absurd cc
+same_text n (Some a) None apart same = absurd cc
+same_text n (Some a) (Some b) apart same = ap Some (apart a b refl refl (ap (λ (c : ListedChunk). c.digest) (some_is same)))
+
+read_by : (x : Option (List ℕ)) (c d : Chunk) → IfSome x (λ text. whole chunk text ≡ Ok c) → IfSome x (λ text. whole chunk text ≡ Ok d) → (x ≡ None → ⊥) → c ≡ d
+read_by None c d first second some = absurd (some refl)
+read_by (Some text) c d first second some = read_is (whole chunk text) first second
+
+-- an i-number of a chunk has the same digest in both
+same_in : (t u : ITable) → IsTable t → IsTable u → (i : ℕ) → chunk_number i < 64 → (x : Option (List ℕ)) → text_of_chunk u (chunk_number i) ≡ x → text_of_chunk t (chunk_number i) ≡ x → digest_at u i ≡ digest_at t i
+same_in t u is one i small None first second =
+    (no_text u (chunk_number i)).0 first i refl ∙ sym ((no_text t (chunk_number i)).0 second i refl)
+same_in t u is one i small (Some text) first second =
+    let c : whole chunk text ≡ Ok (chunk_of (chunk_number i) u) = rw first at (chunk_reads u (chunk_number i) one small) in
+    let d : whole chunk text ≡ Ok (chunk_of (chunk_number i) t) = rw second at (chunk_reads t (chunk_number i) is small) in
+    let same : chunk_of (chunk_number i) u ≡ chunk_of (chunk_number i) t = read_is (whole chunk text) c d in
+    in_chunk u i ∙ ap (λ (k : Chunk). option_map (λ p. p.digest) (row_at nat_cmp i_number_of k.pairs i)) same ∙ sym (in_chunk t i)
+
+-- nothing stands beyond the last i-number
+none_beyond : (ps : List Pair) (i : ℕ) → All IsPair ps → 4096 ≤ i → row_at nat_cmp i_number_of ps i ≡ None
+none_beyond [] i all far = refl
+none_beyond (p ∷ ps) i all far =
+    let range = in_range w16 1 4095 p.i_number (All-head IsPair p ps all).0 in
+    let apart : (p.i_number ≡ i → ⊥) = λ e. omega (arith, range.1) in
+    let other : is_eq (nat_cmp p.i_number i) ≡ false = grind (arith, nat_tests, apart) in
+    rw other (none_beyond ps i (All-tail IsPair p ps all) far)
+
+same_digest : (t u : ITable) → IsTable t → IsTable u → ((n : ℕ) → n < 64 → text_of_chunk u n ≡ text_of_chunk t n) → (i : ℕ) → digest_at u i ≡ digest_at t i
+same_digest t u is one same i =
+    elim (cases_lt i 4096) [
+      | inl near ↦ let small : chunk_number i < 64 = omega arith in same_in t u is one i small (text_of_chunk t (chunk_number i)) (same (chunk_number i) small) refl
+      | inr far ↦ ap (option_map (λ p. p.digest)) (none_beyond u.pairs i one.of_pairs far ∙ sym (none_beyond t.pairs i is.of_pairs far))
+    ]
+
+pub known_by_handle : (t u : ITable) → IsTable t → IsTable u → KeepApart t u → handle_of u ≡ handle_of t → u ≡ t
+known_by_handle t u is one apart same =
+    let roots = same_root t u is one (apart.roots same) in
+    let texts : (n : ℕ) → n < 64 → text_of_chunk u n ≡ text_of_chunk t n = λ n small. same_text n (text_of_chunk u n) (text_of_chunk t n) (apart.chunks n) (same_listing t u roots n small) in
+    let pairs = same_pairs u t one is (same_digest t u is one texts) in
+    ap (λ (p : ℕ). record { principal = p; pairs = u.pairs }) (ap (λ (r : Root). r.principal) roots)
+    ∙ ap (λ (ps : List Pair). record { principal = t.principal; pairs = ps }) pairs
