@@ -1,4 +1,5 @@
 -- Directories: names, and what each stands for.
+-- The bytes stand in docs/FORMATS.md.
 use Rattle.std.proofs.Common.{arith}
 use Rattle.std.proofs.lemmas.List.{length-append}
 use Rattle.std.specs.Prelude.{◌≡◌, ◌≢◌, ◌≤◌, ◌++◌, ℕ, List, Option, None, codes, length}

@@ -1,4 +1,5 @@
 -- Names of a directory's entries: 1 to 255 bytes of UTF-8, without a slash or a zero byte, and neither `.` nor `..`.
+-- The bytes stand in docs/FORMATS.md.
 use Rattle.std.specs.Prelude.{ℕ, ◌==◌, Bool, not, ◌&&◌, ◌||◌, List, length, nat_le, codes}
 use Rattle.std.specs.Int.{w8}
 use Rattle.std.specs.List.{list_any}

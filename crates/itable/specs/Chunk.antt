@@ -1,4 +1,5 @@
 -- Chunks of an i-table: `STC1`, the number of the chunk, and the pairs of the i-numbers in it, ascending.
+-- The bytes stand in docs/FORMATS.md.
 use Rattle.std.specs.Prelude.{ℕ, ◌/◌, ◌==◌, List, Option, codes}
 use Rattle.std.specs.Int.{w8}
 use Rattle.std.specs.Ordering.{nat_cmp}

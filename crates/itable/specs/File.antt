@@ -1,4 +1,5 @@
 -- Files laid in blocks: the file in pieces of 4,096 bytes, and the i-node that has their digests.
+-- The bytes stand in docs/FORMATS.md.
 use Rattle.std.specs.Prelude.{◌≡◌, ℕ, zero, suc, ◌<◌, ◌≤◌, List, [], ◌∷◌, length, take, drop, map, Contains}
 use Rattle.layout.specs.Hash.{hash}
 use Rattle.itable.specs.declared.inode.Kind.{Kind}

@@ -1,5 +1,6 @@
 -- I-tables: a digest for each i-number of a principal that has one, and the chunks, the root and the handle by which
 -- the table is stored.
+-- The bytes stand in docs/FORMATS.md.
 use Rattle.std.specs.Prelude.{◌≡◌, ℕ, ◌==◌, Bool, List, Option, Some, None, filter, filter_map, length, if◌then◌else◌}
 use Rattle.std.specs.List.{All, range_with_len}
 use Rattle.std.specs.Option.{option_map}

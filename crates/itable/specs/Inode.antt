@@ -1,4 +1,5 @@
 -- I-nodes: `SIN1`, a kind, a size in bytes, and the digests of as many blocks as that size takes, behind their count.
+-- The bytes stand in docs/FORMATS.md.
 use Rattle.std.proofs.Common.{◌≡◌, inl, inr, refl, arith}
 use Rattle.std.specs.Prelude.{ℕ, ◌+◌, ◌/◌, List, codes, ◌==◌, if◌then◌else◌}
 use Rattle.std.specs.Int.{w8, w16, w32}

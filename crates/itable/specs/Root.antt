@@ -1,4 +1,5 @@
 -- Roots of i-tables: `STR1`, whose table it is, and the digest of each chunk that has pairs, ascending by number.
+-- The bytes stand in docs/FORMATS.md.
 use Rattle.std.specs.Prelude.{ℕ, List, Option, codes}
 use Rattle.std.specs.Int.{w8}
 use Rattle.std.specs.Ordering.{nat_cmp}

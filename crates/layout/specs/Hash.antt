@@ -1,4 +1,4 @@
--- SHA-256 (FIPS 180-4), which no proof above this crate unfolds.
+-- SHA-256 (FIPS 180-4 section 6.2), which no proof above this crate unfolds.
 use Rattle.std.specs.Prelude.{◌≡◌, ℕ, List, length, refl}
 use Rattle.sha2.specs.Sha256.{sha256, digest_bytes}
 

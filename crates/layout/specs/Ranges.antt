@@ -1,4 +1,5 @@
 -- The ranges of numbers that texts name.
+-- The bytes stand in docs/FORMATS.md.
 use Rattle.std.specs.Prelude.{ℕ}
 use Rattle.std.specs.Int.{w8, w16, w32}
 use Rattle.layout.specs.Format.{Format, uint_in}

@@ -1,4 +1,5 @@
 -- Replies: `SRL1`, the latest signed structure of each user, and the pending operations in their order.
+-- The bytes stand in docs/FORMATS.md.
 use Rattle.std.proofs.Common.{◌≤◌, arith, refl}
 use Rattle.std.specs.Prelude.{ℕ, Bool, List, [], ◌∷◌, length, Option, Some, None, nat_lt, codes, replicate, if◌then◌else◌}
 use Rattle.std.specs.Int.{w8, w16}

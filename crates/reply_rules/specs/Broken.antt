@@ -1,4 +1,5 @@
 -- The first broken rule of those that speak of the lists alone.
+-- The rules stand in docs/RULES.md.
 use Rattle.std.specs.Prelude.{List, [], ◌∷◌, Option, Some, None, Bool, if◌then◌else◌}
 use Rattle.principals.specs.declared.table.Listing.{Listing}
 use Rattle.reply_rules.specs.Lists.{Lists}

@@ -1,4 +1,5 @@
 -- The numbers of the rules.
+-- The rules stand in docs/RULES.md.
 use Rattle.std.specs.Prelude.{ℕ}
 use Rattle.reply_rules.specs.declared.rule.Rule.{Rule}
 use Rattle.reply_rules.specs.declared.rule.Rule.TheVariants.{Form, Lists, OwnLast, OwnPending, SuperSignature, Block, Content, UnknownUser, Signature, Certificate, Numbers, Vector, Entries, Link, GroupRecord}

@@ -3,6 +3,7 @@
 -- An item is a structure or a pending operation, and has a plan. Top is the structure of greatest depth, of equal ones
 -- the least user's; without structures its vector and entries are empty and its depth is 0. Above is what has a greater
 -- depth than top.
+-- The rules stand in docs/RULES.md.
 use Rattle.std.specs.Prelude.{ℕ, zero, suc, ◌+◌, List, [], ◌∷◌, ◌++◌, Option, Some, None, Bool, true, false, ◌&&◌, ◌||◌, not, map, filter, if◌then◌else◌, ◌==◌, nat_lt}
 use Rattle.std.specs.List.{list_all, list_any}
 use Rattle.std.specs.Option.{option_map_or}

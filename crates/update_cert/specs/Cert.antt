@@ -1,5 +1,6 @@
 -- Certificates of updates: `SUC1`, user, number, the digest of the user's last signed structure (zeros at number 1,
 -- which a rule above judges), and a count of changes, which is 0 for now.
+-- The bytes stand in docs/FORMATS.md.
 use Rattle.std.proofs.Common.{refl, arith}
 use Rattle.std.specs.Prelude.{ℕ, List, codes}
 use Rattle.std.specs.Int.{w8, w32}

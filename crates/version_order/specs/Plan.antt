@@ -1,5 +1,6 @@
 -- Plans: what the server expects of an operation. `SVP1`, user, number, the certificate's digest, the vector, and an
 -- entry for each operation that was pending when this one was placed, ascending by user.
+-- The bytes stand in docs/FORMATS.md.
 use Rattle.std.proofs.Common.{◌≡◌, ◌≤◌, arith}
 use Rattle.std.specs.Prelude.{ℕ, Bool, true, List, Option, Some, None, nat_lt, codes}
 use Rattle.std.specs.Int.{w8, w32}

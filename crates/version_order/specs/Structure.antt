@@ -1,5 +1,6 @@
 -- Version structures: `SVS1`, the plan of an operation, the handle of the user's own i-table after it, and a record
 -- for each group of which the user wrote a state, ascending by group.
+-- The bytes stand in docs/FORMATS.md.
 use Rattle.std.proofs.Common.{◌≡◌, ◌≤◌, arith}
 use Rattle.std.specs.Prelude.{ℕ, Bool, true, List, Option, Some, None, nat_lt, codes}
 use Rattle.std.specs.Int.{w8, w16, w32}

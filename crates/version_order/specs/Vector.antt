@@ -1,4 +1,5 @@
 -- Vectors: a version for each principal that has one, ascending by principal. One that isn't listed has version 0.
+-- The bytes stand in docs/FORMATS.md.
 use Rattle.std.specs.Prelude.{ℕ, suc, ◌==◌, Bool, true, List, [], ◌∷◌, Option, Some, None, ◌&&◌, option_and_then, nat_lt, nat_le, sum_by, if◌then◌else◌}
 use Rattle.std.specs.Int.{w8}
 use Rattle.std.specs.List.{list_all, slice_get}

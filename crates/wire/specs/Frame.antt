@@ -1,5 +1,6 @@
 -- Frames: the length of a body, 1 to 2,097,152, and the body. A request's body is its kind and a payload, a reply's is
 -- its status and a payload, which only status 0 has.
+-- The bytes stand in docs/FORMATS.md.
 use Rattle.std.specs.Prelude.{◌≡◌, ℕ, Bool, true, ◌||◌, List, [], ◌∷◌, length, Option, Some, None, option_map, option_and_then, ◌==◌, if◌then◌else◌, refl}
 use Rattle.std.specs.Int.{w32}
 use Rattle.layout.specs.Format.{Format, uint_in, string}
