@@ -1,6 +1,6 @@
 //! The server's one order of calls.
 
-ghost use Rattle.std.specs.Prelude.{◌≡◌, [], ◌∷◌, ◌++◌, OnOk, OnErr, IfOk, IsTrue, Err, reverse};
+ghost use Rattle.std.specs.Prelude.{◌≡◌, ◌≢◌, [], ◌∷◌, ◌++◌, OnOk, OnErr, IfOk, IsTrue, Err, reverse};
 ghost use Rattle.consistency_server.specs.Judged.{answer_by, state_behind, logged_by};
 
 use crate::call::{Answer, Call, CallKind};
@@ -87,6 +87,7 @@ fn settle<A: Allocator + Copy, G: Log<Call<A>>>(
     ensures history_err { OnErr result (history.new.items ≡ history.old.items) }
     ensures log_err { OnErr result (G.pushed log.new ≡ G.pushed log.old) }
     ensures busy { result ≡ Err Refusal.Busy → IsTrue (G.is_full log.old) }
+    ensures busy_event { result ≡ Err Refusal.Busy → logged_by judged (record { kind = kind; text = text.now }) ≢ [] }
 {
     let alloc = *history.allocator();
     let call = Call::new(kind, Vec::from_slice(alloc, text)?);
@@ -148,6 +149,8 @@ impl<A: Allocator + Copy> Ordered<A> {
         ensures log { IsServed result.status
             → G.pushed log.new ≡ G.pushed log.old ++ logged self.old (update_of text.now) }
         ensures busy { result.status ≡ status.Busy → IsTrue (G.is_full log.old) }
+        // It would have gone to the log.
+        ensures busy_event { result.status ≡ status.Busy → logged self.old (update_of text.now) ≢ [] }
         ensures bare { IsTurnedAway result.status → result.payload ≡ [] }
         ensures same { IsTurnedAway result.status → self.new ≡ self.old }
         ensures log_same { IsTurnedAway result.status → G.pushed log.new ≡ G.pushed log.old }
@@ -174,6 +177,7 @@ impl<A: Allocator + Copy> Ordered<A> {
         ensures same { OnErr result (self.new ≡ self.old) }
         ensures log_same { OnErr result (G.pushed log.new ≡ G.pushed log.old) }
         ensures busy { result ≡ Err Refusal.Busy → IsTrue (G.is_full log.old) }
+        ensures busy_event { result ≡ Err Refusal.Busy → logged self.old (update_of text.now) ≢ [] }
     {
         let alloc = *self.history.allocator();
         let judged = self.state.judge_update(alloc, &self.pinned, text)?;
@@ -196,6 +200,8 @@ impl<A: Allocator + Copy> Ordered<A> {
         ensures log { IsServed result.status
             → G.pushed log.new ≡ G.pushed log.old ++ logged self.old (commit_of text.now) }
         ensures busy { result.status ≡ status.Busy → IsTrue (G.is_full log.old) }
+        // It would have gone to the log.
+        ensures busy_event { result.status ≡ status.Busy → logged self.old (commit_of text.now) ≢ [] }
         ensures bare { IsTurnedAway result.status → result.payload ≡ [] }
         ensures same { IsTurnedAway result.status → self.new ≡ self.old }
         ensures log_same { IsTurnedAway result.status → G.pushed log.new ≡ G.pushed log.old }
@@ -222,6 +228,7 @@ impl<A: Allocator + Copy> Ordered<A> {
         ensures same { OnErr result (self.new ≡ self.old) }
         ensures log_same { OnErr result (G.pushed log.new ≡ G.pushed log.old) }
         ensures busy { result ≡ Err Refusal.Busy → IsTrue (G.is_full log.old) }
+        ensures busy_event { result ≡ Err Refusal.Busy → logged self.old (commit_of text.now) ≢ [] }
     {
         let alloc = *self.history.allocator();
         let judged = self.state.judge_commit(alloc, &self.pinned, text)?;

@@ -38,3 +38,7 @@ returns-clause-log g c =
 pub returns-clause-served : goal.returns-clause-served
 returns-clause-served g c =
     with_ok c.settle.result _ _ (λ a e. subst (λ b. IsServed b.status) (answer_judged c.self.inside.state c.in_ok-judged.judged _ (is g c) ∙ sym e) (serves c.self.inside.pinned (events c.self.inside.pinned (reverse c.self.inside.history.items)) (call_of g c))) c.settle.ensures.answer
+
+pub returns-clause-busy_event : goal.returns-clause-busy_event
+returns-clause-busy_event g c =
+    λ busy none. c.settle.ensures.busy_event busy (sym (logged_judged c.self.inside.state c.in_ok-judged.judged _ (call_of g c) (is g c)) ∙ ap (λ s. logged s (call_of g c)) c.self.view_is ∙ none)
