@@ -15,10 +15,10 @@ fn request_begins(rt: &impl Host, kind: RequestKind, text: &[u8], start: &[u8]) 
     check(rt, frame.starts_with(start), "the frame of a request");
 }
 
-/// The frame of a reply begins so.
-fn reply_begins(rt: &impl Host, status: Status, text: &[u8], start: &[u8]) {
+/// The frame of a reply with status 0 begins so.
+fn reply_begins(rt: &impl Host, text: &[u8], start: &[u8]) {
     assert!(rt; text.len() < 2097152);
-    let frame = reply_frame(rt.alloc(), status, text).expect(rt, "memory");
+    let frame = reply_frame(rt.alloc(), Status::Ok, text).expect(rt, "memory");
     check(rt, frame.starts_with(start), "the frame of a reply");
 }
 
@@ -48,8 +48,8 @@ fn is_structure(rt: &impl Host, commit: &[u8], update: &[u8]) {
 /// The frames of the first reply, and of the answer to a commit.
 fn are_framed(rt: &impl Host, reply: &[u8]) {
     let start = b"\0\0\x0a\x31\0SRL1\0\x01\0\x2aSUC1\0\0\0\0\x01";
-    reply_begins(rt, Status::Ok, reply, start);
-    reply_begins(rt, Status::Ok, &[], b"\0\0\0\x01\0");
+    reply_begins(rt, reply, start);
+    reply_begins(rt, &[], b"\0\0\0\x01\0");
 }
 
 /// The client signs its structure, and the server commits it.

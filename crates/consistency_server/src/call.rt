@@ -63,10 +63,16 @@ impl<A: Allocator> Model for Answer<A> {
     ghost Value = { Answer };
 
     ghost view = { λ a. record { status = a.status; payload = a.payload.items } };
+
+    ghost use Rattle.std.specs.Prelude.{◌≡◌, true};
+    ghost use Rattle.wire.specs.Frame.{may_carry};
+
+    ghost invariant = { λ a. may_carry a.status a.payload.items ≡ true };
 }
 
 impl<A: Allocator> Answer<A> {
-    ghost use Rattle.std.specs.Prelude.{[]};
+    ghost use Rattle.std.specs.Prelude.{[], true};
+    ghost use Rattle.wire.specs.Frame.{may_carry};
     ghost use Rattle.wire.specs.declared.kinds.Status.TheVariants as status;
 
     /// `Ok`, with what comes with it.
@@ -97,7 +103,9 @@ impl<A: Allocator> Answer<A> {
 
     /// What comes with `Ok`: the reply to an update, and nothing to a commit.
     pub fn payload(&self) -> &[u8]
-        ensures { result.now ≡ self.now.payload }
+        ensures same { result.now ≡ self.now.payload }
+        // Only `Ok` has a payload.
+        ensures carried { may_carry self.now.status self.now.payload ≡ true }
     {
         &self.payload
     }

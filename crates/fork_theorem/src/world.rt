@@ -4,7 +4,7 @@ ghost use Rattle.std.specs.Prelude.{◌≡◌, ◌<◌, IfOk, vec_len};
 
 use crate::command::Command;
 use client_verify::{Client, ClientError, Phase, Rule, Step};
-use consistency_server::{MemoryLog, Ordered};
+use consistency_server::{Answer, MemoryLog, Ordered};
 use layout::{Memory, User};
 use lms_sign::{PrivateKey, PublicKey};
 use std::alloc::Allocator;
@@ -71,25 +71,22 @@ impl<A: Allocator + Copy> Server<A> {
         match request {
             Some((RequestKind::Update, text)) => {
                 let answer = self.ordered.update(&mut self.log, text);
-                framed(alloc, answer.status(), answer.payload())
+                framed(alloc, &answer)
             }
             Some((RequestKind::Commit, text)) => {
                 let answer = self.ordered.commit(&mut self.log, text);
-                framed(alloc, answer.status(), answer.payload())
+                framed(alloc, &answer)
             }
-            _ => framed(alloc, Status::Form, &[]),
+            _ => reply_frame(alloc, Status::Form, &[]),
         }
     }
 }
 
-/// The frame of a reply; one that is too long says so.
-fn framed<A: Allocator + Copy>(
-    alloc: A,
-    status: Status,
-    payload: &[u8],
-) -> Result<Vec<u8, A>, Memory> {
+/// The frame of an answer; one that is too long says so.
+fn framed<A: Allocator + Copy>(alloc: A, answer: &Answer<A>) -> Result<Vec<u8, A>, Memory> {
+    let payload = answer.payload();
     if payload.len() < BODY_LIMIT as usize {
-        reply_frame(alloc, status, payload)
+        reply_frame(alloc, answer.status(), payload)
     } else {
         reply_frame(alloc, Status::TooLarge, &[])
     }

@@ -1,9 +1,9 @@
 //! Frames, each a body behind its length.
 
 ghost use Rattle.layout.specs.declared.error.ReadError.TheVariants as read_error;
-ghost use Rattle.std.specs.Prelude.{◌≢◌, IfErr, ◌≡◌, ◌<◌, List, ℕ, ◌∷◌, Ok, IfOk, length, option_map};
+ghost use Rattle.std.specs.Prelude.{◌≢◌, IfErr, ◌≡◌, ◌<◌, List, ℕ, ◌∷◌, Ok, IfOk, Some, true, length, option_map};
 ghost use Rattle.layout.specs.Format.{Gives, whole};
-ghost use Rattle.wire.specs.Frame.{frame, request, reply_body, request_of, reply_of};
+ghost use Rattle.wire.specs.Frame.{frame, request, reply_body, request_of, may_carry, reply_of};
 
 use crate::kinds::{RequestKind, Status};
 use layout::{Memory, ReadError, Reader, Writer};
@@ -24,26 +24,35 @@ fn framed<A: Allocator>(alloc: A, head: u8, payload: &[u8]) -> Result<Vec<u8, A>
 }
 
 /// The frame of a request.
+#[tactic(auto, using(crate::specs::Frame::request_again))]
 pub fn request_frame<A: Allocator>(
     alloc: A,
     kind: RequestKind,
     payload: &[u8],
 ) -> Result<Vec<u8, A>, Memory>
     requires { length payload.now < 2097152 }
-    ensures { IfOk result (λ bytes. bytes.items ≡ frame.spell (request kind payload.now)) }
+    ensures frame { IfOk result (λ bytes. bytes.items ≡ frame.spell (request kind payload.now)) }
+    // What is framed is read back.
+    ensures body { IfOk result (λ bytes. whole frame bytes.items ≡ Ok (request kind payload.now)) }
+    ensures again { request_of (request kind payload.now) ≡ Some (kind, payload.now) }
 {
     framed(alloc, kind.number(), payload)
 }
 
-/// The frame of a reply. It doesn't look whether the status may have a payload: `reply_of` refuses one behind a status
-/// other than 0.
+/// The frame of a reply.
+#[tactic(auto, using(crate::specs::Frame::reply_again))]
 pub fn reply_frame<A: Allocator>(
     alloc: A,
     status: Status,
     payload: &[u8],
 ) -> Result<Vec<u8, A>, Memory>
-    requires { length payload.now < 2097152 }
-    ensures { IfOk result (λ bytes. bytes.items ≡ frame.spell (reply_body status payload.now)) }
+    requires small { length payload.now < 2097152 }
+    // Only status 0 has a payload.
+    requires carried { may_carry status payload.now ≡ true }
+    ensures frame { IfOk result (λ bytes. bytes.items ≡ frame.spell (reply_body status payload.now)) }
+    // What is framed is read back.
+    ensures body { IfOk result (λ bytes. whole frame bytes.items ≡ Ok (reply_body status payload.now)) }
+    ensures again { reply_of (reply_body status payload.now) ≡ Some (status, payload.now) }
 {
     framed(alloc, status.number(), payload)
 }
