@@ -23,9 +23,9 @@ use Rattle.consistency_server.specs.Event.{Event, Placed, Committed}
 use Rattle.consistency_server.specs.Answers.{same_structure, Call, answer, happened, Outcome, Refused, Repeated, Happens, placing, committing, verified_update, verified_commit, read_update, read_commit}
 use Rattle.consistency_server.specs.History.{logged_of}
 use Rattle.consistency_server.specs.State.{Waiting, State, Keeps, cert_of}
-use Rattle.consistency_server.specs.Steps.{next_item, next_reply, placing_beside, placing_by, after_placing, plans, committing_by, after_commit}
+use Rattle.consistency_server.specs.Steps.{next_item, next_reply, placing_beside, placing_by, plans, committing_by}
 use Rattle.consistency_server.specs.Judged.{changed, IsPlacement, Admits, JudgedAs, state_behind, answer_by, logged_by}
-use Rattle.consistency_server.proofs.Steps.{keeps_placed, keeps_committed, placing_kept, committing_kept}
+use Rattle.consistency_server.proofs.Steps.{after_placing, after_commit, keeps_placed, keeps_committed, placing_kept, committing_kept}
 
 -- user 0 alone has a key
 pub known_user : (pinned : List ℕ) (user : ℕ) (key : List ℕ) → key_of user (genesis pinned) ≡ Some key → user ≡ 0

@@ -19,8 +19,19 @@ use Rattle.wire.specs.declared.kinds.Status.TheVariants as status
 use Rattle.consistency_server.specs.Event.{Event, Placed, Committed, count_of, last_of, vector_after, item_of, items, pending, reply_of}
 use Rattle.consistency_server.specs.Answers.{Outcome, Refused, Repeated, Happens, same_cert, same_structure, kept, last_digest, is_next, at_limit, is_pending, placing, committing}
 use Rattle.consistency_server.specs.State.{Waiting, State, Waits, Keeps, cert_of}
-use Rattle.consistency_server.specs.Steps.{next_item, next_reply, is_next_by, placing_beside, placing_by, after_placing, plans, committing_by, after_commit}
+use Rattle.consistency_server.specs.Steps.{next_item, next_reply, is_next_by, placing_beside, placing_by, plans, committing_by}
 use Rattle.consistency_server.proofs.Sole.{structures_sole, entries_none, count_of-placed, version_counted, pending_placed, commits, pending_committed}
+
+-- what is kept behind a certificate that is placed, and behind a structure that is committed
+abbrev pub after_placing : State → Signed Cert → State
+after_placing state c = record {
+  vector = raised c.value.user state.vector;
+  last = state.last;
+  waiting = Some (record { item = next_item state c; reply = reply.spell (next_reply state c) });
+}
+
+abbrev pub after_commit : State → Signed Structure → State
+after_commit state s = record { vector = state.vector; last = Some s; waiting = None }
 
 pub keeps_start : Keeps [] (record { vector = []; last = None; waiting = None })
 unfolding vector_after items

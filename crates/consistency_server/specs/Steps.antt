@@ -1,5 +1,5 @@
 -- What calls lead to by what the server keeps, while user 0 alone is known: the outcomes of Answers, without the events.
-use Rattle.std.specs.Prelude.{ℕ, ◌+◌, List, [], ◌∷◌, Option, Some, None, Bool, false, ◌==◌, ◌&&◌, not, if◌then◌else◌}
+use Rattle.std.specs.Prelude.{◌+◌, [], ◌∷◌, Option, Some, None, Bool, false, ◌==◌, ◌&&◌, not, if◌then◌else◌}
 use Rattle.std.specs.Option.{option_map_or, option_to_list}
 use Rattle.std.specs.Str.{bytes_eq}
 use Rattle.version_order.specs.Vector.{raised, version_of}
@@ -47,14 +47,6 @@ placing_beside None state c =
 abbrev pub placing_by : State → Signed Cert → Outcome
 placing_by state c = placing_beside state.waiting state c
 
--- what is kept behind it
-abbrev pub after_placing : State → Signed Cert → State
-after_placing state c = record {
-  vector = raised c.value.user state.vector;
-  last = state.last;
-  waiting = Some (record { item = next_item state c; reply = reply.spell (next_reply state c) });
-}
-
 -- ---- COMMIT
 
 -- the plan is that of the item
@@ -66,6 +58,3 @@ committing_by state s =
     if option_map_or (same_structure s) state.last false then Repeated []
     else if option_map_or (λ w. plans w s.value) state.waiting false then Happens (Committed s) []
     else Refused status.NotPending
-
-abbrev pub after_commit : State → Signed Structure → State
-after_commit state s = record { vector = state.vector; last = Some s; waiting = None }

@@ -111,14 +111,6 @@ impl<A: Allocator> Entries<A> {
         Entries { rows: entries }
     }
 
-    /// The list of the entries.
-    pub fn into_vec(self) -> Vec<Entry, A>
-        ensures { result.items ≡ self }
-    {
-        let Entries { rows } = self;
-        rows
-    }
-
     /// The entries, ascending by user.
     pub fn as_slice(&self) -> &[Entry]
         ensures same { result.now ≡ self.now }

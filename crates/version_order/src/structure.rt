@@ -120,14 +120,6 @@ impl<A: Allocator> GroupRecords<A> {
         GroupRecords { records }
     }
 
-    /// The list of the records.
-    pub fn into_vec(self) -> Vec<GroupRecord, A>
-        ensures { result.items ≡ self }
-    {
-        let GroupRecords { records } = self;
-        records
-    }
-
     /// The records, ascending by group.
     pub fn as_slice(&self) -> &[GroupRecord]
         ensures same { result.now ≡ self.now }
