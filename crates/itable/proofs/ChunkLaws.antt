@@ -87,7 +87,7 @@ found_in i (p ∷ ps) = found_step i p ps (found_in i ps) (is_eq (nat_cmp p.i_nu
 pub in_chunk : (t : ITable) (i : ℕ) → digest_at t i ≡ option_map (λ p. p.digest) (row_at nat_cmp i_number_of (chunk_of (chunk_number i) t).pairs i)
 in_chunk t i = ap (option_map (λ p. p.digest)) (found_in i t.pairs)
 
-found_first : (p : Pair) (ps : List Pair) → row_at nat_cmp i_number_of (p ∷ ps) p.i_number ≡ Some p
+pub found_first : (p : Pair) (ps : List Pair) → row_at nat_cmp i_number_of (p ∷ ps) p.i_number ≡ Some p
 found_first p ps = let same : is_eq (nat_cmp p.i_number p.i_number) ≡ true = grind (arith, nat_tests) in rw same refl
 
 no_pairs : (t : ITable) (n : ℕ) → ((i : ℕ) → chunk_number i ≡ n → digest_at t i ≡ None) → (ps : List Pair) → (chunk_of n t).pairs ≡ ps → length ps ≡ 0

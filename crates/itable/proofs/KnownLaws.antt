@@ -53,7 +53,7 @@ text_without t i n apart = text_by_pairs n t.principal (without_row nat_cmp i_nu
 
 -- ---- what is known
 
-abbrev Known : Type 0
+abbrev pub Known : Type 0
 Known = List (Option (List ℕ))
 
 abbrev known_at : Known → ℕ → Option (List ℕ)

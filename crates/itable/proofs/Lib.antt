@@ -7,3 +7,4 @@ pub mod RootLaws
 pub mod TableLaws
 pub mod KnownLaws
 pub mod HandleLaws
+pub mod LoadLaws

@@ -1,16 +1,17 @@
 //! I-tables.
 
-ghost use Rattle.std.specs.Prelude.{◌≡◌, ◌<◌, ◌≤◌, ◌==◌, ◌↔◌, [], ℕ, Some, None, IsSome, IsOk, Ok, OnOk, OnErr, IfOk, IfSome, length, if◌then◌else◌};
-ghost use Rattle.std.specs.List.{slice_set};
+ghost use Rattle.std.specs.Prelude.{◌≡◌, ◌<◌, ◌≤◌, ◌==◌, ◌↔◌, ◌++◌, ◌∷◌, [], ℕ, Some, None, IsSome, IsOk, Ok, OnOk, OnErr, IfOk, IfSome, length, if◌then◌else◌};
+ghost use Rattle.std.specs.List.{All, slice_set};
+ghost use Rattle.layout.specs.Hash.{hash};
 ghost use Rattle.std.specs.Option.{option_map};
 ghost use Rattle.std.specs.Vec.{vec_items};
 ghost use Rattle.layout.specs.Format.{whole};
-ghost use Rattle.itable.specs.Chunk.{chunk, chunk_number};
+ghost use Rattle.itable.specs.Chunk.{chunk, chunk as chunk_format, chunk_number};
 ghost use Rattle.itable.specs.Root.{root, chunk_at};
 ghost use Rattle.itable.specs.ITable.{IsTable, digest_at, digest_in, with_digest, without_digest, chunk_of, IsBare, text_of_chunk};
 ghost use Rattle.itable.specs.ITable.{listing as listing_of, listings as listings_of, root_of, handle_of, IsKnownByDigests, IsKnownByHandle};
 
-use crate::chunk::{ChunkNumber, Pair, write_chunk};
+use crate::chunk::{Chunk, ChunkNumber, Pair, write_chunk};
 use crate::pairs::{pair_at, put, run_of, take_out};
 use crate::root::{ListedChunk, write_root};
 use layout::{Digest, INumber, Memory, Principal, Writer, digest};
@@ -47,7 +48,9 @@ impl<A: Allocator> Model for ITable<A> {
 impl<A: Allocator> ITable<A> {
     /// The table of a principal, without pairs.
     pub fn empty(alloc: A, principal: Principal) -> ITable<A>
-        ensures { result ≡ record { principal = principal; pairs = [] } }
+        ensures same { result ≡ record { principal = principal; pairs = [] } }
+        // Its root lists no chunk.
+        ensures listed { listings_of result ≡ [] }
     {
         // It fits where a root has it.
         let _number = principal.get();
@@ -107,6 +110,22 @@ impl<A: Allocator> ITable<A> {
         let _number = i_number.get();
         forget(&mut self.known, i_number);
         take_out(&mut self.pairs, i_number).map(|pair| pair.digest)
+    }
+
+    /// Takes in a chunk that stands behind all that the table has, and whose text has this digest: so a table is read
+    /// chunk by chunk, and its handle needs no hash of those that stay. After an error the table is as before.
+    pub fn load(&mut self, chunk: &Chunk<A>, digest: Digest) -> Result<(), Memory>
+        requires behind { All (λ c. c.number < chunk.now.number) (listings_of self.old) }
+        requires digest { digest ≡ hash (chunk_format.spell chunk.now) }
+        ensures pairs { OnOk result (self.new ≡ record self.old { pairs = self.old.pairs ++ chunk.now.pairs }) }
+        // Its root lists the chunk behind those that it listed.
+        ensures listed { OnOk result (listings_of self.new ≡ listings_of self.old ++ record { number = chunk.now.number; digest = digest } ∷ []) }
+        ensures err { OnErr result (self.new ≡ self.old) }
+    {
+        let place = usize::from(chunk.number().get());
+        self.pairs.extend_from_slice(chunk.pairs())?;
+        self.known[place] = Some(digest);
+        Ok(())
     }
 
     /// The laws of a chunk's text.
