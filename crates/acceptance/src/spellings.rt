@@ -9,29 +9,43 @@ use version_order::{Entries, Plan, Structure, Vector, below, depth, next_plan};
 use wire::{RequestKind, Status, body_of, reply_frame, reply_of, request_frame, request_of};
 
 /// User 0's first certificate.
-fn first_cert() -> Cert {
+fn first_cert(rt: &impl Host) -> Cert<Global> {
     let last = Digest::from_bytes([0; 32]);
-    Cert::new(User::superuser(), Version::first(), last)
+    Cert::new(
+        User::superuser(),
+        Version::first(),
+        last,
+        Vec::new(rt.alloc()),
+    )
+}
+
+/// The certificate is user 0's first one.
+fn is_first_cert(rt: &impl Host, cert: &Cert<Global>) {
+    check(rt, cert.user() == User::superuser(), "user 0");
+    check(rt, cert.number() == Version::first(), "the first number");
+    check_text(rt, cert.last().as_bytes(), &[0; 32]);
+    check(rt, cert.changes().is_empty(), "no changes");
 }
 
 /// It is spelled so, and read from there.
 fn spells_first_cert(rt: &impl Host, by_hand: &[u8]) {
-    let text = first_cert().text(rt.alloc()).expect(rt, "memory");
+    let text = first_cert(rt).text(rt.alloc()).expect(rt, "memory");
     check_text(rt, &text, by_hand);
     let again = Cert::read(rt.alloc(), by_hand).expect(rt, "a certificate");
-    check(rt, again == first_cert(), "the certificate");
+    is_first_cert(rt, &again);
 }
 
 /// Its signature by 7s is spelled so, and it is read from there.
 fn spells_signed(rt: &impl Host, by_hand: &[u8]) {
     let signature = Signature::from_bytes([7; 2508]);
-    let value = first_cert();
+    let value = first_cert(rt);
     let text = Signed { value, signature }
         .text(rt.alloc())
         .expect(rt, "memory");
     check_text(rt, &text, by_hand);
-    let again: Signed<Cert> = Signed::read(rt.alloc(), by_hand).expect(rt, "a signed one");
-    check(rt, again.value == value, "the signed certificate");
+    let again: Signed<Cert<Global>> = Signed::read(rt.alloc(), by_hand).expect(rt, "a signed one");
+    is_first_cert(rt, &again.value);
+    check(rt, again.signature == signature, "the signature");
 }
 
 #[test]

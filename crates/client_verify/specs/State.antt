@@ -8,8 +8,7 @@ use Rattle.lms_sign.specs.Signature.{signature_of}
 use Rattle.version_order.specs.declared.structure.GroupRecord.{GroupRecord}
 use Rattle.version_order.specs.Plan.{Plan}
 use Rattle.version_order.specs.Structure.{Structure, structure}
-use Rattle.update_cert.specs.declared.Cert.{Cert}
-use Rattle.update_cert.specs.Cert.{cert}
+use Rattle.update_cert.specs.Cert.{Cert, cert}
 use Rattle.pending_list.specs.declared.signed.Signed.{Signed}
 use Rattle.pending_list.specs.Signed.{signed}
 use Rattle.pending_list.specs.Reply.{digest_of_last, reply}
@@ -72,7 +71,7 @@ initial user seed id pinned = record {
 
 -- the certificate that comes next
 abbrev pub next_cert : State → Cert
-next_cert s = record { user = s.user; number = s.number + 1; last = digest_of_last s.last }
+next_cert s = record { user = s.user; number = s.number + 1; last = digest_of_last s.last; changes = [] }
 
 -- a text with its signature by the next leaf
 abbrev pub sent : State → List ℕ → List ℕ

@@ -1,7 +1,8 @@
 //! The client.
 
-ghost use Rattle.std.specs.Prelude.{◌≡◌, ◌≢◌, Some, IfOk, IfErr, IsErrOf, Ok, IfSome, OnOk, OnErr, IsSome, IsTrue, ◌↔◌, ◌++◌, true};
+ghost use Rattle.std.specs.Prelude.{◌≡◌, ◌≢◌, [], Some, IfOk, IfErr, IsErrOf, Ok, IfSome, OnOk, OnErr, IsSome, IsTrue, ◌↔◌, ◌++◌, true};
 ghost use Rattle.std.specs.Option.{option_copied};
+ghost use Rattle.update_cert.specs.Cert.{cert};
 ghost use Rattle.client_verify.specs.State.{structure_over};
 
 use crate::accepted::Accepted;
@@ -156,6 +157,18 @@ impl<A: Allocator + Copy> Client<A> {
     }
 }
 
+/// The text of a certificate without changes.
+fn certificate<A: Allocator + Copy>(
+    alloc: A,
+    user: User,
+    number: Version,
+    last: Digest,
+) -> Result<Vec<u8, A>, Memory>
+    ensures { IfOk result (λ text. text.items ≡ cert.spell (record { user = user; number = number; last = last; changes = [] })) }
+{
+    Cert::new(user, number, last, Vec::new(alloc)).text(alloc)
+}
+
 impl<A: Allocator + Copy> Client<A> {
     ghost use Rattle.client_verify.specs.State.{declared, committed, signed_over, block_breaks};
     ghost use Rattle.client_verify.specs.Judged.{Judged};
@@ -177,7 +190,7 @@ impl<A: Allocator + Copy> Client<A> {
             return Err(ClientError::NoNumber);
         };
         let last = digest_of_last(self.alloc, self.last.as_ref())?;
-        let text = Cert::new(self.user, number, last).text(self.alloc)?;
+        let text = certificate(self.alloc, self.user, number, last)?;
         let sealed = seal(self.alloc, &self.key, self.leaf, text)?;
         let Sealed {
             kept,

@@ -16,7 +16,6 @@ use pending_list::{PendingItem, Reply, Signed};
 use principals::Table;
 use reply_rules::{Rule, broken, lists_hold};
 use std::alloc::Allocator;
-use update_cert::Cert;
 use version_order::Structure;
 
 /// The structure that a reply has of a user.
@@ -56,11 +55,7 @@ fn own_last<A: Allocator + Copy>(
 fn cert_sent<A: Allocator + Copy>(alloc: A, item: &PendingItem<A>) -> Result<Vec<u8, A>, Memory>
     ensures { IfOk result (λ text. text.items ≡ cert_sent item.now) }
 {
-    let sent = Signed {
-        value: *item.cert(),
-        signature: *item.signature(),
-    };
-    sent.text(alloc)
+    item.signed_cert().text(alloc)
 }
 
 /// Whether the rule on the own pending certificate holds.
@@ -104,7 +99,7 @@ fn cert_verifies<A: Allocator + Copy>(
 ) -> Result<bool, Memory>
     ensures { IfOk result (λ holds. holds ≡ cert_verifies key.now item.now) }
 {
-    if item.cert().user != User::superuser() {
+    if item.cert().user() != User::superuser() {
         return Ok(true);
     }
     let text = item.cert().text(alloc)?;

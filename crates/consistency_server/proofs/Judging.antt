@@ -1,6 +1,6 @@
 -- What judging a call found is what the call leads to, and what is kept behind it is what the events say.
-use Rattle.std.proofs.Common.{◌≡◌, ℕ, ◌+◌, ◌≤◌, true, false, cond, length, List, [], ◌∷◌, ◌++◌, Option, Some, None, Ok, refl, sym, ap, ◌∙◌, subst, inl, inr, arith}
-use Rattle.std.specs.Prelude.{IsSomeAnd, if◌then◌else◌}
+use Rattle.std.proofs.Common.{◌≡◌, ℕ, ◌+◌, ◌≤◌, ◌<◌, true, false, cond, length, List, [], ◌∷◌, ◌++◌, Option, Some, None, Ok, refl, sym, ap, ◌∙◌, subst, inl, inr, arith}
+use Rattle.std.specs.Prelude.{◌==◌, not, IsSomeAnd, if◌then◌else◌}
 use Rattle.std.specs.Option.{option_map_or, option_to_list}
 use Rattle.std.specs.Str.{bytes_eq}
 use Rattle.version_order.specs.declared.vector.Component.{Component}
@@ -8,8 +8,7 @@ use Rattle.std.proofs.lemmas.Bool.{ne_eqb, cases_eq}
 use Rattle.lms_sign.specs.Signature.{valid}
 use Rattle.version_order.specs.Vector.{raised, version_of}
 use Rattle.version_order.specs.Structure.{Structure, structure}
-use Rattle.update_cert.specs.declared.Cert.{Cert}
-use Rattle.update_cert.specs.Cert.{cert}
+use Rattle.update_cert.specs.Cert.{Cert, cert}
 use Rattle.pending_list.specs.declared.signed.Signed.{Signed}
 use Rattle.pending_list.specs.Signed.{signed}
 use Rattle.pending_list.specs.Reply.{reply}
@@ -23,7 +22,7 @@ use Rattle.consistency_server.specs.Event.{Event, Placed, Committed}
 use Rattle.consistency_server.specs.Answers.{same_structure, Call, answer, happened, Outcome, Refused, Repeated, Happens, placing, committing, verified_update, verified_commit, read_update, read_commit}
 use Rattle.consistency_server.specs.History.{logged_of}
 use Rattle.consistency_server.specs.State.{Waiting, State, Keeps, cert_of}
-use Rattle.consistency_server.specs.Steps.{next_item, next_reply, placing_beside, placing_by, plans, committing_by}
+use Rattle.consistency_server.specs.Steps.{next_item, next_reply, is_next_by, placing_beside, placing_by, plans, committing_by}
 use Rattle.consistency_server.specs.Judged.{changed, IsPlacement, Admits, JudgedAs, state_behind, answer_by, logged_by}
 use Rattle.consistency_server.proofs.Steps.{after_placing, after_commit, keeps_placed, keeps_committed, placing_kept, committing_kept}
 
@@ -125,6 +124,12 @@ committed_judged A state s last payload new pending same is empty = (
       ∙ ap (Happens (Committed s)) (sym empty),
   record { structure = is; pending = same },
 )
+
+-- the next certificate is placed
+pub placing_next : (state : State) (c : Signed Cert) → is_next_by state c.value ≡ true → version_of c.value.user state.vector < 4294967295 → placing_beside None state c ≡ Happens (Placed c) (reply.spell (next_reply state c))
+placing_next state c next below =
+    ap (λ b. cond (not b) (Refused status.WrongNumber) (cond (version_of c.value.user state.vector == 4294967295) (Refused status.TooLarge) (Happens (Placed c) (reply.spell (next_reply state c))))) next
+    ∙ ap (λ b. cond b (Refused status.TooLarge) (Happens (Placed c) (reply.spell (next_reply state c)))) (ne_eqb (version_of c.value.user state.vector) 4294967295 (λ e. omega arith))
 
 pub beside_is : (state : State) (c : Signed Cert) (w : Waiting) (text : List ℕ) → state.waiting ≡ Some w → text ≡ (signed cert).spell c → (if bytes_eq text ((signed cert).spell (cert_of w.item)) then Repeated w.reply else Refused status.WrongNumber) ≡ placing_by state c
 beside_is state c w text some spelled =

@@ -8,8 +8,7 @@ use Rattle.layout.specs.declared.error.ReadError.{ReadError}
 use Rattle.layout.specs.Format.{whole}
 use Rattle.lms_sign.specs.Signature.{valid}
 use Rattle.version_order.specs.Structure.{Structure, structure}
-use Rattle.update_cert.specs.declared.Cert.{Cert}
-use Rattle.update_cert.specs.Cert.{cert}
+use Rattle.update_cert.specs.Cert.{Cert, cert}
 use Rattle.pending_list.specs.declared.signed.Signed.{Signed}
 use Rattle.pending_list.specs.Signed.{signed}
 use Rattle.pending_list.specs.Reply.{reply}

@@ -10,7 +10,7 @@ use Rattle.std.proofs.lemmas.List.Sums.{sum_by-cons}
 use Rattle.version_order.specs.declared.vector.Component.{Component}
 use Rattle.version_order.specs.Vector.{raised, version_of}
 use Rattle.version_order.specs.Structure.{Structure}
-use Rattle.update_cert.specs.declared.Cert.{Cert}
+use Rattle.update_cert.specs.Cert.{Cert}
 use Rattle.pending_list.specs.declared.signed.Signed.{Signed}
 use Rattle.pending_list.specs.Reply.{PendingItem}
 use Rattle.consistency_server.specs.Event.{Event, Placed, Committed, placed, count_of, last_of, users_below, users, structures, vector_after, is_committed, entries_of, item_of, items, pending}

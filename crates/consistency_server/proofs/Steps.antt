@@ -10,8 +10,7 @@ use Rattle.std.proofs.lemmas.Slice.Eq.{bytes_eq-Decides}
 use Rattle.version_order.specs.Vector.{raised, version_of}
 use Rattle.version_order.specs.Plan.{plan}
 use Rattle.version_order.specs.Structure.{Structure}
-use Rattle.update_cert.specs.declared.Cert.{Cert}
-use Rattle.update_cert.specs.Cert.{cert}
+use Rattle.update_cert.specs.Cert.{Cert, cert}
 use Rattle.pending_list.specs.declared.signed.Signed.{Signed}
 use Rattle.pending_list.specs.Signed.{signed}
 use Rattle.pending_list.specs.Reply.{digest_of_last, reply}

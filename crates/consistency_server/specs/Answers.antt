@@ -9,8 +9,7 @@ use Rattle.lms_sign.specs.Signature.{valid}
 use Rattle.version_order.specs.Vector.{version_of}
 use Rattle.version_order.specs.Structure.{Structure, structure}
 use Rattle.version_order.specs.Plan.{plan}
-use Rattle.update_cert.specs.declared.Cert.{Cert}
-use Rattle.update_cert.specs.Cert.{cert}
+use Rattle.update_cert.specs.Cert.{Cert, cert}
 use Rattle.pending_list.specs.declared.signed.Signed.{Signed}
 use Rattle.pending_list.specs.Signed.{signed}
 use Rattle.pending_list.specs.Reply.{PendingItem, digest_of_last, reply}

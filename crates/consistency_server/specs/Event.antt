@@ -7,7 +7,7 @@ use Rattle.version_order.specs.declared.plan.Entry.{Entry}
 use Rattle.version_order.specs.Vector.{raised}
 use Rattle.version_order.specs.Plan.{entry_of}
 use Rattle.version_order.specs.Structure.{Structure}
-use Rattle.update_cert.specs.declared.Cert.{Cert}
+use Rattle.update_cert.specs.Cert.{Cert}
 use Rattle.update_cert.specs.Cert as cert_spec
 use Rattle.pending_list.specs.declared.signed.Signed.{Signed}
 use Rattle.pending_list.specs.Reply.{PendingItem, Reply}

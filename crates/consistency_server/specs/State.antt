@@ -3,7 +3,7 @@ use Rattle.std.specs.Prelude.{◌≡◌, ℕ, ◌≤◌, List, [], ◌∷◌, Op
 use Rattle.std.specs.Option.{option_map, option_to_list}
 use Rattle.version_order.specs.declared.vector.Component.{Component}
 use Rattle.version_order.specs.Structure.{Structure}
-use Rattle.update_cert.specs.declared.Cert.{Cert}
+use Rattle.update_cert.specs.Cert.{Cert}
 use Rattle.pending_list.specs.declared.signed.Signed.{Signed}
 use Rattle.pending_list.specs.Reply.{PendingItem}
 use Rattle.consistency_server.specs.Event.{Event, Placed, Committed, count_of, last_of, vector_after, pending}

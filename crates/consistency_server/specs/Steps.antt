@@ -5,7 +5,7 @@ use Rattle.std.specs.Str.{bytes_eq}
 use Rattle.version_order.specs.Vector.{raised, version_of}
 use Rattle.version_order.specs.Plan.{plan}
 use Rattle.version_order.specs.Structure.{Structure}
-use Rattle.update_cert.specs.declared.Cert.{Cert}
+use Rattle.update_cert.specs.Cert.{Cert}
 use Rattle.update_cert.specs.Cert as cert_spec
 use Rattle.pending_list.specs.declared.signed.Signed.{Signed}
 use Rattle.pending_list.specs.Reply.{PendingItem, Reply, digest_of_last, reply}

@@ -158,12 +158,12 @@ impl<A: Allocator> State<A> {
     }
 
     /// Whether the certificate has the next number, behind the last structure.
-    fn is_next(&self, cert: &Cert) -> bool
+    fn is_next(&self, cert: &Cert<A>) -> bool
         ensures same { result ≡ is_next_by self.now cert.now }
         ensures below { IsTrue result → version_of cert.now.user self.now.vector < 4294967295 }
     {
-        let placed = self.vector.version_of(cert.user.into());
-        cert.number.get() - 1 == placed && cert.last.as_bytes() == self.last.digest().as_bytes()
+        let placed = self.vector.version_of(cert.user().into());
+        cert.number().get() - 1 == placed && cert.last().as_bytes() == self.last.digest().as_bytes()
     }
 }
 
@@ -223,11 +223,7 @@ impl<A: Allocator + Copy> Waiting<A> {
     fn judge_beside(&self, alloc: A, text: &[u8]) -> Result<Judged<A>, Memory>
         ensures { (state : Kept) → IfOk result (λ judged. JudgedAs state judged (if bytes_eq text.now ((signed cert).spell (cert_of self.now.item)) then Repeated self.now.reply else Refused status.WrongNumber)) }
     {
-        let own = Signed {
-            value: *self.item.cert(),
-            signature: *self.item.signature(),
-        };
-        if spells(alloc, text, &own)? {
+        if spells(alloc, text, self.item.signed_cert())? {
             Ok(Judged::Repeated(Vec::from_slice(alloc, &self.reply)?))
         } else {
             Ok(Judged::Refused(Status::WrongNumber))
@@ -269,8 +265,8 @@ impl<A: Allocator + Copy> State<A> {
     ) -> Result<Judged<A>, Memory>
         ensures { (es : List Event) → Keeps es self.now → IfOk result (λ judged. JudgedAs self.now judged (read_update pinned.now es (whole (signed cert) text.now))) }
     {
-        match read_signed::<A, Cert>(alloc, text)? {
-            Some(found) => self.judge_found(alloc, pinned, text, &found),
+        match read_signed::<A, Cert<A>>(alloc, text)? {
+            Some(found) => self.judge_found(alloc, pinned, text, found),
             None => Ok(Judged::Refused(Status::Form)),
         }
     }
@@ -281,15 +277,15 @@ impl<A: Allocator + Copy> State<A> {
         alloc: A,
         pinned: &PublicKey,
         text: &[u8],
-        found: &Signed<Cert>,
+        found: Signed<Cert<A>>,
     ) -> Result<Judged<A>, Memory>
-        requires { text.now ≡ (signed cert).spell found.now }
-        ensures { (es : List Event) → Keeps es self.now → IfOk result (λ judged. JudgedAs self.now judged (read_update pinned.now es (Ok found.now))) }
+        requires { text.now ≡ (signed cert).spell found }
+        ensures { (es : List Event) → Keeps es self.now → IfOk result (λ judged. JudgedAs self.now judged (read_update pinned.now es (Ok found))) }
     {
-        let Some(key) = Table::genesis(*pinned).key_of(found.value.user) else {
+        let Some(key) = Table::genesis(*pinned).key_of(found.value.user()) else {
             return Ok(Judged::Refused(Status::UnknownUser));
         };
-        if !is_signed::<A, Cert>(&key, found, text) {
+        if !is_signed::<A, Cert<A>>(&key, &found, text) {
             return Ok(Judged::Refused(Status::BadSignature));
         }
         self.judge_certificate(alloc, text, found)
@@ -300,11 +296,11 @@ impl<A: Allocator + Copy> State<A> {
         &self,
         alloc: A,
         text: &[u8],
-        found: &Signed<Cert>,
+        found: Signed<Cert<A>>,
     ) -> Result<Judged<A>, Memory>
-        requires spelled { text.now ≡ (signed cert).spell found.now }
-        requires user { found.now.value.user ≡ 0 }
-        ensures { IfOk result (λ judged. JudgedAs self.now judged (placing_by self.now found.now)) }
+        requires spelled { text.now ≡ (signed cert).spell found }
+        requires user { found.value.user ≡ 0 }
+        ensures { IfOk result (λ judged. JudgedAs self.now judged (placing_by self.now found)) }
     {
         match &self.waiting {
             Some(waiting) => waiting.judge_beside(alloc, text),
@@ -313,22 +309,27 @@ impl<A: Allocator + Copy> State<A> {
     }
 
     /// What a certificate of user 0 leads to where no operation is pending.
-    fn judge_first(&self, alloc: A, text: &[u8], found: &Signed<Cert>) -> Result<Judged<A>, Memory>
+    fn judge_first(
+        &self,
+        alloc: A,
+        text: &[u8],
+        found: Signed<Cert<A>>,
+    ) -> Result<Judged<A>, Memory>
         requires free { self.now.waiting ≡ None }
-        requires spelled { text.now ≡ (signed cert).spell found.now }
-        requires user { found.now.value.user ≡ 0 }
-        ensures { IfOk result (λ judged. JudgedAs self.now judged (placing_beside None self.now found.now)) }
+        requires spelled { text.now ≡ (signed cert).spell found }
+        requires user { found.value.user ≡ 0 }
+        ensures { IfOk result (λ judged. JudgedAs self.now judged (placing_beside None self.now found)) }
     {
         if !self.is_next(&found.value) {
             return Ok(Judged::Refused(Status::WrongNumber));
         }
-        let certificate = digest(unsigned::<A, Cert>(found, text));
+        let certificate = digest(unsigned::<A, Cert<A>>(&found, text));
         let planned = next_plan(
             alloc,
             &self.vector,
             Entries::new(alloc),
-            found.value.user,
-            found.value.number,
+            found.value.user(),
+            found.value.number(),
             certificate,
             &[],
         );
@@ -342,16 +343,16 @@ impl<A: Allocator + Copy> State<A> {
     }
 
     /// The change that places an operation.
-    fn place(&self, alloc: A, found: &Signed<Cert>, plan: Plan<A>) -> Result<Judged<A>, Memory>
+    fn place(&self, alloc: A, found: Signed<Cert<A>>, plan: Plan<A>) -> Result<Judged<A>, Memory>
         requires free { self.now.waiting ≡ None }
-        requires user { found.now.value.user ≡ 0 }
-        requires number { found.now.value.number ≡ version_of found.now.value.user self.now.vector + 1 }
-        requires plan { plan ≡ (next_item self.now found.now).plan }
-        ensures { IfOk result (λ judged. JudgedAs self.now judged (Happens (Placed found.now) (reply.spell (next_reply self.now found.now)))) }
+        requires user { found.value.user ≡ 0 }
+        requires number { found.value.number ≡ version_of found.value.user self.now.vector + 1 }
+        requires plan { plan ≡ (next_item self.now found).plan }
+        ensures { IfOk result (λ judged. JudgedAs self.now judged (Happens (Placed found) (reply.spell (next_reply self.now found)))) }
     {
         let vector = plan.vector().copy(alloc)?;
         let mut pending = Vec::new(alloc);
-        pending.push(PendingItem::new(*found, plan))?;
+        pending.push(PendingItem::new(found, plan))?;
         let reply = Reply::text_of(alloc, self.last.as_slice(), &pending)?;
         let payload = Vec::from_slice(alloc, &reply)?;
         let item = pending.pop().unwrap();

@@ -1,7 +1,7 @@
 -- Entries in the order of their names, as a map.
 use Rattle.std.proofs.Common.{◌≡◌, ℕ, ◌<◌, ◌≤◌, true, false, cond, List, [], ◌∷◌, length, Option, Some, None, Result, refl, sym, ap, subst, ◌∙◌, arith}
 use Rattle.std.specs.Prelude.{◌≢◌, is_some, MatchResult, slice_index_or, insert, remove}
-use Rattle.std.specs.Int.{w8, w16}
+use Rattle.std.specs.Int.{w16}
 use Rattle.std.specs.List.{All}
 use Rattle.std.specs.List.Sorted.{IsBinarySearchResult, IsSearchInRange}
 use Rattle.std.specs.Option.{option_map}
@@ -11,13 +11,13 @@ use Rattle.std.specs.declared.cmp.Ordering.TheVariants.{Less, Equal, Greater}
 use Rattle.std.proofs.lemmas.Cmp.{nat_list_cmp_total, tied_itself}
 use Rattle.std.proofs.lemmas.List.Elements.{All-nil, All-head, All-tail}
 use Rattle.std.proofs.lemmas.Map.Lookups.{exact_bytes}
-use Rattle.layout.specs.Laws.{in_range, in_range_fits, listed_fits}
+use Rattle.layout.specs.Laws.{in_range, listed_fits}
 use Rattle.layout.specs.Format.{IsBytes}
 use Rattle.layout.specs.Ascending.{Ascends, Stands, IsFree, row_at}
 use Rattle.layout.specs.AscendingLaws.{Ordered, searched, ascends_from_fits, fits_from_ascends, ascends_with_row, ascends_without_row, all_with_row, all_without_row, length-with_row, length-without_row, row_at-with_row, row_at-without_row}
 use Rattle.directory.specs.declared.target.Target.{Target}
 use Rattle.directory.specs.Name.{is_name, name}
-use Rattle.directory.proofs.Names.{length_name}
+use Rattle.directory.proofs.Names.{fits_name}
 use Rattle.directory.specs.Directory.{Entry, name_of, by_bytes, target, entry, directory, target_of, linked, unlinked, ChangesOnly}
 
 -- ---- a directory's entries
@@ -41,9 +41,6 @@ is_directory entries room all up = listed_fits w16 1024 entry entries (omega ari
 pub fits_empty : (entries : List Entry) → entries ≡ [] → directory.Fits entries
 unfolding Ascends
 fits_empty entries e = subst directory.Fits (sym e) (is_directory [] (omega arith) (All-nil Each) tt)
-
-fits_name : (k : List ℕ) → IsBytes k → is_name k ≡ true → name.Fits k
-fits_name k bytes is = ((in_range_fits w8 0 255 (length k) (omega (arith, length_name k is)) (omega arith) (length_name k is), (refl, bytes)), is)
 
 pub fits_linked : (entries : List Entry) (e : Entry) → directory.Fits entries → length entries < 1024 → IsBytes e.name → is_name e.name ≡ true → target.Fits e.target → directory.Fits (linked entries e)
 unfolding linked

@@ -35,6 +35,10 @@ by_bytes = slice_cmp nat_cmp
 abbrev pub target : Format Target
 target = mapped (λ p. record { principal = p.0; i_number = p.1 }) (λ t. (t.principal, t.i_number)) (pair principal i_number)
 
+-- a name, and its target
+abbrev pub named : Format Entry
+named = mapped (λ p. record { name = p.0; target = p.1 }) (λ e. (e.name, e.target)) (pair name target)
+
 -- a name above the one before, and its target
 abbrev pub entry : Rows Entry
 entry before = mapped (λ p. record { name = p.0; target = p.1 }) (λ e. (e.name, e.target)) (pair (guarded name (above by_bytes name_of before) Order) target)
@@ -45,6 +49,9 @@ directory = behind (codes "SDI1") (listed (uint_in w16 0 1024) entry)
 pub lawful_target : Lawful target
 lawful_target = search laws depth 9
 
+pub lawful_named : Lawful named
+lawful_named = search (laws, lawful_name, lawful_target) depth 9
+
 pub lawful_entry : (before : Option Entry) → Lawful (entry before)
 lawful_entry before = search (laws, lawful_name, lawful_target) depth 9
 
@@ -53,11 +60,18 @@ lawful_directory = search (laws, lawful_entry)
 
 -- ---- sizes
 
+-- a name has at most 256 bytes with its length
+pub at_most_name : AtMost name 256
+at_most_name = at_most_guarded _ _ _ 256 (at_most_string w8 0 255 wide8)
+
 at_most_target : AtMost target 3
 at_most_target = at_most_mapped _ _ _ 3 (at_most_pair _ _ 1 2 (at_most_uint_in w8 0 95 wide8) (at_most_uint_in w16 1 4095 wide16))
 
+pub at_most_named : AtMost named 259
+at_most_named = at_most_mapped _ _ _ 259 (at_most_pair _ _ 256 3 at_most_name at_most_target)
+
 at_most_entry : (before : Option Entry) → AtMost (entry before) 259
-at_most_entry before = at_most_mapped _ _ _ 259 (at_most_pair _ _ 256 3 (at_most_guarded _ _ _ 256 (at_most_guarded _ _ _ 256 (at_most_string w8 0 255 wide8))) at_most_target)
+at_most_entry before = at_most_mapped _ _ _ 259 (at_most_pair _ _ 256 3 (at_most_guarded _ _ _ 256 at_most_name) at_most_target)
 
 at_most_directory : AtMost directory 265222
 at_most_directory = at_most_behind (codes "SDI1") _ 265218 (at_most_listed w16 0 1024 entry 259 wide16 at_most_entry)

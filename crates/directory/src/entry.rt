@@ -5,7 +5,7 @@ ghost use Rattle.std.specs.Option.{option_copied};
 ghost use Rattle.layout.specs.Format.{IsBytes, Reads};
 ghost use Rattle.layout.specs.Ascending.{above};
 ghost use Rattle.directory.specs.Name.{is_name};
-ghost use Rattle.directory.specs.Directory.{by_bytes, name_of, target as target_format};
+ghost use Rattle.directory.specs.Directory.{by_bytes, name_of, named, target as target_format};
 
 use crate::name::{Name, read_name};
 use crate::target::{Target, read_target, write_target};
@@ -21,16 +21,18 @@ pub struct Entry<A: Allocator> {
 }
 
 impl<A: Allocator> Model for Entry<A> {
-    ghost use Rattle.directory.specs.Directory.{Entry};
+    ghost use Rattle.directory.specs.Directory.{Entry, named};
 
     ghost Value = { Entry };
 
     ghost view = { λ e. record { name = e.name; target = e.target } };
+
+    ghost invariant = { λ e. named.Fits (record { name = e.name; target = e.target }) };
 }
 
 impl<A: Allocator> Entry<A> {
-    /// An entry of the name that a text is.
-    pub(crate) fn new(alloc: A, text: &str, target: Target) -> Result<Entry<A>, AllocError>
+    /// An entry of the name that a text is. `name_text` tells whether bytes are one.
+    pub fn new(alloc: A, text: &str, target: Target) -> Result<Entry<A>, AllocError>
         requires { is_name text.now ≡ true }
         ensures same { IfOk result (λ entry. entry ≡ record { name = text.now; target = target }) }
         ensures bytes { IsBytes text.now }
@@ -40,12 +42,14 @@ impl<A: Allocator> Entry<A> {
         let _range = (target.principal.get(), target.i_number.get());
         are_bytes(text.as_bytes());
         let name = Name::new(alloc, text)?;
+        let _bytes = name.as_bytes();
         Ok(Entry { name, target })
     }
 
     /// Its name.
     pub fn name(&self) -> &Name<A>
-        ensures { result.now ≡ self.now.name }
+        ensures same { result.now ≡ self.now.name }
+        ensures fits { named.Fits self.now }
     {
         &self.name
     }
@@ -55,6 +59,26 @@ impl<A: Allocator> Entry<A> {
         ensures { result ≡ self.now.target }
     {
         self.target
+    }
+}
+
+impl<A: Allocator + Copy> Entry<A> {
+    /// A name and its target, in what is left of a text.
+    pub fn read_from(alloc: A, reader: &mut Reader<'_>) -> Result<Entry<A>, ReadError>
+        ensures reads { Reads result reader.new (named.read reader.old) }
+        ensures bytes { IsBytes reader.old }
+    {
+        let name = read_name(reader)?;
+        let target = read_target(reader)?;
+        Ok(Entry::new(alloc, name, target)?)
+    }
+
+    /// Writes both at the end of a text.
+    pub fn write_to(&self, writer: &mut Writer<A>) -> Result<(), Memory>
+        ensures { OnOk result (writer.new ≡ named.onto writer.old self.now) }
+    {
+        self.name.write_to(writer)?;
+        write_target(writer, self.target)
     }
 }
 
@@ -93,7 +117,6 @@ impl<A: Allocator + Copy> RowFormat<A> for Entries {
     }
 
     fn write_row(&self, writer: &mut Writer<A>, entry: &Entry<A>) -> Result<(), Memory> {
-        entry.name.write_to(writer)?;
-        write_target(writer, entry.target)
+        entry.write_to(writer)
     }
 }

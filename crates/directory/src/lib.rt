@@ -10,5 +10,5 @@ mod target;
 pub use directory::Directory;
 pub use entry::Entry;
 pub use error::DirError;
-pub use name::Name;
+pub use name::{Name, name_text, read_name};
 pub use target::Target;

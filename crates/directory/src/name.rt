@@ -52,7 +52,7 @@ fn is_allowed(bytes: &[u8]) -> bool
 
 /// The bytes as a text, if they are a name.
 #[tactic(auto, using(crate::proofs::Names::name_tests))]
-pub(crate) fn name_text(bytes: &[u8]) -> Option<&str>
+pub fn name_text(bytes: &[u8]) -> Option<&str>
     ensures { MatchOption result (is_name bytes.now ≡ false) (λ text. (is_name bytes.now ≡ true) × (text.now ≡ bytes.now)) }
 {
     match std::str::from_utf8(bytes) {
@@ -62,7 +62,7 @@ pub(crate) fn name_text(bytes: &[u8]) -> Option<&str>
 }
 
 /// A name behind its length, in what is left of a text.
-pub(crate) fn read_name<'a>(reader: &mut Reader<'a>) -> Result<&'a str, ReadError>
+pub fn read_name<'a>(reader: &mut Reader<'a>) -> Result<&'a str, ReadError>
     ensures reads { ReadsAs (λ text. text.now) result reader.new (name.read reader.old) }
     ensures name { IfOk result (λ text. is_name text.now ≡ true) }
     ensures bytes { IsBytes reader.old }
@@ -73,8 +73,8 @@ pub(crate) fn read_name<'a>(reader: &mut Reader<'a>) -> Result<&'a str, ReadErro
 }
 
 impl<A: Allocator> Name<A> {
-    /// The name that a text is.
-    pub(crate) fn new(alloc: A, text: &str) -> Result<Name<A>, AllocError>
+    /// The name that a text is. `name_text` tells whether bytes are one.
+    pub fn new(alloc: A, text: &str) -> Result<Name<A>, AllocError>
         requires { is_name text.now ≡ true }
         ensures { IfOk result (λ name. name ≡ text.now) }
     {
@@ -83,10 +83,11 @@ impl<A: Allocator> Name<A> {
     }
 
     /// Its bytes.
+    #[tactic(auto, using(crate::proofs::Names::fits_name))]
     pub fn as_bytes(&self) -> &[u8]
         ensures same { result.now ≡ self.now }
         ensures name { is_name self.now ≡ true }
-        ensures bytes { IsBytes self.now }
+        ensures fits { name.Fits self.now }
     {
         let bytes = self.text.as_bytes();
         are_bytes(bytes);
@@ -103,7 +104,7 @@ impl<A: Allocator> Name<A> {
 
     /// Writes it behind its length.
     #[tactic(auto, using(crate::proofs::Names::length_name))]
-    pub(crate) fn write_to<B: Allocator>(&self, writer: &mut Writer<B>) -> Result<(), Memory>
+    pub fn write_to<B: Allocator>(&self, writer: &mut Writer<B>) -> Result<(), Memory>
         ensures { OnOk result (writer.new ≡ name.onto writer.old self.now) }
     {
         let bytes = self.as_bytes();

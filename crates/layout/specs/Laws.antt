@@ -358,6 +358,14 @@ lawful_variant {A} {B} to from f there back law = record {
   again = λ y rest fits. variant_again to from f back law y rest (from y) refl fits;
 }
 
+variant_is_at : {A B : Type 0} (to : A → B) (from : B → Option A) (f : Format A) → ((y : B) (x : A) → from y ≡ Some x → to x ≡ y) → (y : B) (o : Option A) → from y ≡ o → IsSomeAnd o f.Fits → (x : A) × (to x ≡ y)
+variant_is_at to from f back y None e fits = absurd fits
+variant_is_at to from f back y (Some x) e fits = (x, back y x e)
+
+-- what fits a variant is made by it
+pub variant_is : {A B : Type 0} (to : A → B) (from : B → Option A) (f : Format A) → ((y : B) (x : A) → from y ≡ Some x → to x ≡ y) → (y : B) → (variant to from f).Fits y → (x : A) × (to x ≡ y)
+variant_is to from f back y fits = variant_is_at to from f back y (from y) refl fits
+
 -- a number in a range
 pub in_range : (w : Width) (low high n : ℕ) → (uint_in w low high).Fits n → (low ≤ n) × (n ≤ high)
 in_range w low high n fits = both_le (nat_le low n) (nat_le n high) low high n (leb-true low n) (leb-true n high) fits.1

@@ -1,11 +1,12 @@
 -- How long a spelling may be.
 use Rattle.std.proofs.Common.{◌≡◌, ℕ, zero, suc, ◌+◌, ◌*◌, ◌^◌, ◌≤◌, ◌<◌, List, [], ◌∷◌, ◌++◌, length, Option, Some, None, arith, sym, ap, ◌∙◌, subst}
-use Rattle.std.specs.Prelude.{Bool}
+use Rattle.std.specs.Option.{option_map_or}
+use Rattle.std.specs.Prelude.{Bool, IsSomeAnd}
 use Rattle.std.specs.Int.{Width, byte_len, to_be_bytes}
 use Rattle.std.proofs.lemmas.List.{length-append}
 use Rattle.std.proofs.lemmas.Nat.{mul-le}
 use Rattle.layout.specs.declared.error.ReadError.{ReadError}
-use Rattle.layout.specs.Format.{Format, Rows, be, uint, uint_in, raw, guarded, followed, pair, behind, mapped, rows, spell_rows, FitRows, sized, listed, string, nested}
+use Rattle.layout.specs.Format.{Format, Rows, be, uint, uint_in, raw, guarded, followed, pair, behind, mapped, rows, spell_rows, FitRows, sized, listed, string, nested, nothing, variant}
 use Rattle.layout.specs.Laws.{IsWide, in_range, in_range_fits}
 
 -- no spelling of this format has more bytes
@@ -30,8 +31,21 @@ at_most_string w low high wide = record {
   holds = λ x fits. omega (arith, length-append (be w (length x)) x, (at_most_uint w wide).holds (length x) fits.0.0, (in_range w low high (length x) fits.0).1);
 }
 
+pub at_most_followed : {A B : Type 0} (f : Format A) (g : A → Format B) (m n : ℕ) → AtMost f m → ((x : A) → AtMost (g x) n) → AtMost (followed f g) (m + n)
+at_most_followed f g m n few rest = record { holds = λ p fits. omega (arith, length-append (f.spell p.0) ((g p.0).spell p.1), few.holds p.0 fits.0, (rest p.0).holds p.1 fits.1) }
+
 pub at_most_pair : {A B : Type 0} (f : Format A) (g : Format B) (m n : ℕ) → AtMost f m → AtMost g n → AtMost (pair f g) (m + n)
-at_most_pair f g m n few rest = record { holds = λ p fits. omega (arith, length-append (f.spell p.0) (g.spell p.1), few.holds p.0 fits.0, rest.holds p.1 fits.1) }
+at_most_pair f g m n few rest = at_most_followed f (λ _. g) m n few (λ _. rest)
+
+pub at_most_nothing : AtMost nothing 0
+at_most_nothing = record { holds = λ x fits. omega arith }
+
+most_of_variant : {A : Type 0} (f : Format A) (m : ℕ) → AtMost f m → (o : Option A) → IsSomeAnd o f.Fits → length (option_map_or f.spell o []) ≤ m
+most_of_variant f m few None fits = absurd fits
+most_of_variant f m few (Some x) fits = few.holds x fits
+
+pub at_most_variant : {A B : Type 0} (to : A → B) (from : B → Option A) (f : Format A) (m : ℕ) → AtMost f m → AtMost (variant to from f) m
+at_most_variant to from f m few = record { holds = λ y fits. most_of_variant f m few (from y) fits }
 
 pub at_most_behind : {A : Type 0} (tag : List ℕ) (f : Format A) (m : ℕ) → AtMost f m → AtMost (behind tag f) (length tag + m)
 at_most_behind tag f m few = record { holds = λ x fits. omega (arith, length-append tag (f.spell x), few.holds x fits) }
@@ -54,6 +68,9 @@ at_most_listed w low high row m wide few = record {
       let most : length xs * m ≤ high * m = mul-le (length xs) m high m count (omega arith) in
       omega (arith, length-append (be w (length xs)) (spell_rows row None xs), (at_most_uint w wide).holds (length xs) fits.0.0, all, most);
 }
+
+pub at_most_sized : {A : Type 0} (count : Format ℕ) (size : A → ℕ) (f : ℕ → Format A) (m n : ℕ) → AtMost count m → ((k : ℕ) → AtMost (f k) n) → AtMost (sized count size f) (m + n)
+at_most_sized count size f m n few rest = at_most_mapped _ _ _ (m + n) (at_most_followed count f m n few rest)
 
 -- what the key of the next row is at least
 abbrev pub least_key : {A : Type 0} → (A → ℕ) → ℕ → Option A → ℕ

@@ -13,8 +13,7 @@ use Rattle.version_order.specs.declared.vector.Component.{Component}
 use Rattle.version_order.specs.Vector.{depth}
 use Rattle.version_order.specs.Plan.{Plan, plan, lawful_plan, at_most_plan}
 use Rattle.version_order.specs.Structure.{Structure, structure, digest_of, lawful_structure, at_most_structure}
-use Rattle.update_cert.specs.declared.Cert.{Cert}
-use Rattle.update_cert.specs.Cert.{cert, lawful_cert, at_most_cert}
+use Rattle.update_cert.specs.Cert.{Cert, cert, lawful_cert, at_most_cert}
 use Rattle.pending_list.specs.declared.signed.Signed.{Signed}
 use Rattle.pending_list.specs.Signed.{signature, signed, lawful_signed, at_most_signed}
 
@@ -66,11 +65,11 @@ lawful_reply = search (laws, lawful_signed_structure, lawful_pending_item) depth
 -- a reply has at most 2,097,000 bytes
 pub at_most_reply : AtMost reply 2097000
 at_most_reply =
-    at_most_more reply 780614 2097000
-    (at_most_behind (codes "SRL1") _ 780610
-    (at_most_mapped _ _ _ 780610 (at_most_pair _ _ 432129 348481
+    at_most_more reply 1049926 2097000
+    (at_most_behind (codes "SRL1") _ 1049922
+    (at_most_mapped _ _ _ 1049922 (at_most_pair _ _ 432129 617793
     (at_most_listed w8 0 64 structure_rows 6752 wide8 (λ _. at_most_signed (nested size structure) 4244 (at_most_nested w16 0 65535 structure 4242 wide16 at_most_structure)))
-    (at_most_listed w8 0 64 pending_rows 5445 wide8 (λ _. at_most_mapped _ _ _ 5445 (at_most_pair _ _ 2552 2893 (at_most_signed (nested size cert) 44 (at_most_nested w16 0 65535 cert 42 wide16 at_most_cert)) (at_most_nested w16 0 65535 plan 2891 wide16 at_most_plan)))))))
+    (at_most_listed w8 0 64 pending_rows 9653 wide8 (λ _. at_most_mapped _ _ _ 9653 (at_most_pair _ _ 6760 2893 (at_most_signed (nested size cert) 4252 (at_most_nested w16 0 65535 cert 4250 wide16 at_most_cert)) (at_most_nested w16 0 65535 plan 2891 wide16 at_most_plan)))))))
     (omega arith)
 
 -- what fits alone fits a row
@@ -79,7 +78,7 @@ structure_row_fits s value sign = (nested_fits w16 65535 structure 4242 at_most_
 
 pub pending_row_fits : (i : PendingItem) → cert.Fits i.cert → signature.Fits i.signature → plan.Fits i.plan → pending_item.Fits i
 pending_row_fits i c sign p =
-    ((nested_fits w16 65535 cert 42 at_most_cert (omega arith) (omega arith) i.cert c, sign), nested_fits w16 65535 plan 2891 at_most_plan (omega arith) (omega arith) i.plan p)
+    ((nested_fits w16 65535 cert 4250 at_most_cert (omega arith) (omega arith) i.cert c, sign), nested_fits w16 65535 plan 2891 at_most_plan (omega arith) (omega arith) i.plan p)
 
 -- few enough rows, each of which fits, make a reply
 pub reply_fits : (r : Reply) → length r.structures ≤ 64 → length r.pending ≤ 64 → All signed_structure.Fits r.structures → All pending_item.Fits r.pending → reply.Fits r

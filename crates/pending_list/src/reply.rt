@@ -18,7 +18,7 @@ use version_order::{Plan, Structure};
 /// An operation that is pending: its signed certificate, and the plan that the server made for it.
 #[derive(Drop)]
 pub struct PendingItem<A: Allocator> {
-    cert: Signed<Cert>,
+    cert: Signed<Cert<A>>,
     plan: Plan<A>,
 }
 
@@ -36,23 +36,28 @@ impl<A: Allocator> PendingItem<A> {
     ghost use Rattle.pending_list.specs.Reply.{pending_item};
 
     /// The operation of this certificate and plan, whose own contracts say that they fit.
-    pub fn new(cert: Signed<Cert>, plan: Plan<A>) -> PendingItem<A>
+    pub fn new(cert: Signed<Cert<A>>, plan: Plan<A>) -> PendingItem<A>
         ensures { result ≡ record { cert = cert.value; signature = cert.signature; plan = plan } }
     {
-        let Signed { value, signature } = cert;
-        let value = Cert::new(value.user, value.number, value.last);
-        let _signature = signature.as_bytes();
-        let _user = plan.user();
-        let cert = Signed { value, signature };
+        let _certified = cert.value.user();
+        let _signature = cert.signature.as_bytes();
+        let _planned = plan.user();
         PendingItem { cert, plan }
     }
 
     /// The certificate.
-    pub fn cert(&self) -> &Cert
+    pub fn cert(&self) -> &Cert<A>
         ensures same { result.now ≡ self.now.cert }
         ensures fits { pending_item.Fits self.now }
     {
         &self.cert.value
+    }
+
+    /// The certificate, with its signature.
+    pub fn signed_cert(&self) -> &Signed<Cert<A>>
+        ensures { result.now ≡ record { value = self.now.cert; signature = self.now.signature } }
+    {
+        &self.cert
     }
 
     /// The user's signature of the certificate.

@@ -11,7 +11,7 @@ use Rattle.version_order.specs.declared.vector.Component.{Component}
 use Rattle.version_order.specs.declared.plan.Entry.{Entry}
 use Rattle.version_order.specs.Plan.{Plan, entry_of, digest_of}
 use Rattle.version_order.specs.Structure.{Structure}
-use Rattle.update_cert.specs.declared.Cert.{Cert}
+use Rattle.update_cert.specs.Cert.{Cert}
 use Rattle.pending_list.specs.declared.signed.Signed.{Signed}
 use Rattle.pending_list.specs.Reply.{PendingItem}
 use Rattle.principals.specs.declared.table.Listing.{Listing}
@@ -32,7 +32,7 @@ shown_as p = record { value = record { plan = p; handle = []; groups = [] }; sig
 
 -- a certificate without changes
 abbrev plain_cert : ℕ → ℕ → Cert
-plain_cert u n = record { user = u; number = n; last = [] }
+plain_cert u n = record { user = u; number = n; last = []; changes = [] }
 
 abbrev pending_as : Plan → PendingItem
 pending_as p = record { cert = plain_cert p.user p.number; signature = []; plan = p }

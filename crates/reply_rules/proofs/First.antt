@@ -31,6 +31,14 @@ pub unknown_user_by : (table : List Listing) (x : Lists)
 unfolding unknown_user
 unknown_user_by table x = ap (λ b. list_all (is_known table) (map (λ z. z.value.plan) x.structures) && b) (list_all-append (is_known table) x.others x.own)
 
+-- the same, of parts that are known under other names
+pub unknown_user_is : (table : List Listing) (x : Lists) (structures others own : Bool) → structures ≡ list_all (is_known table) (map (λ z. z.value.plan) x.structures) → others ≡ list_all (is_known table) (map (λ i. i.plan) x.others) → own ≡ is_known table x.own.plan → unknown_user table x ≡ (structures && (others && own))
+unknown_user_is table x structures others own first second third = rw (unknown_user_by table x, ← first, ← second, ← third) refl
+
+-- a structure's user is unknown
+pub unknown_structure : (table : List Listing) (x : Lists) (structures : Bool) → structures ≡ list_all (is_known table) (map (λ z. z.value.plan) x.structures) → structures ≡ false → unknown_user table x ≡ false
+unknown_structure table x structures first none = rw (unknown_user_by table x, ← first, none) refl
+
 pub with_lists : (r : Reply) (x : Lists) (P : Lists → Type 0) → lists_of r ≡ Some x → P x → IfSome (lists_of r) P
 with_lists r x P e here = subst (λ o. IfSome o P) (sym e) here
 

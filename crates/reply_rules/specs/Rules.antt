@@ -123,7 +123,7 @@ numbers x = structures_numbered x && (pending_numbered x && (pending_next x && t
 
 -- ---- vector
 
--- the groups that an operation raises: none, since certificates have no changes yet
+-- the groups that an operation raises: none, since nobody is a member of one yet
 abbrev pub raised_groups : PendingItem → List ℕ
 raised_groups i = []
 

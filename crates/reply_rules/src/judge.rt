@@ -53,7 +53,6 @@ fn pending_known<A: Allocator>(table: &Table, pending: &[PendingItem<A>]) -> boo
 }
 
 /// Whether the rule on unknown users holds.
-#[tactic(auto, using(crate::proofs::First::unknown_user_by), unfolding(crate::specs::Rules::unknown_user))]
 fn users_known<A: Allocator>(
     table: &Table,
     structures: &[Signed<Structure<A>>],

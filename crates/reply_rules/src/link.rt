@@ -27,7 +27,7 @@ fn last_digest<A: Allocator + Copy>(
     ensures { IfOk result (λ last. last ≡ last_digest own.now.cert.user (alone (option_copied shown.entry) own.now)) }
 {
     let last = match shown {
-        Some(top) if shown_user(top) == own.cert().user.get() => shown,
+        Some(top) if shown_user(top) == own.cert().user().get() => shown,
         _ => None,
     };
     digest_of_last(alloc, last)
@@ -44,5 +44,5 @@ pub(crate) fn link_holds<A: Allocator + Copy>(
 {
     let certificate = names_certificate(alloc, own)?;
     let last = last_digest(alloc, shown, own)?;
-    Ok(certificate && own.cert().last == last)
+    Ok(certificate && own.cert().last() == last)
 }

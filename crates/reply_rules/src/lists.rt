@@ -80,7 +80,7 @@ fn pending_once<A: Allocator>(pending: &[PendingItem<A>]) -> bool
 fn is_planned<A: Allocator>(item: &PendingItem<A>) -> bool
     ensures { result ≡ is_planned item.now }
 {
-    item.plan().user() == item.cert().user && item.plan().number() == item.cert().number
+    item.plan().user() == item.cert().user() && item.plan().number() == item.cert().number()
 }
 
 /// Whether each plan has its certificate's user and number.

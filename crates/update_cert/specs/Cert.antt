@@ -1,42 +1,46 @@
 -- Certificates of updates: `SUC1`, user, number, the digest of the user's last signed structure (zeros at number 1,
--- which a rule above judges), and a count of changes, which is 0 for now.
+-- which a rule above judges), and at most 16 changes.
 -- The bytes stand in docs/FORMATS.md.
-use Rattle.std.proofs.Common.{refl, arith}
 use Rattle.std.specs.Prelude.{ℕ, List, codes}
 use Rattle.std.specs.Int.{w8, w32}
-use Rattle.layout.specs.Format.{Format, uint_in, raw, pair, behind, mapped}
-use Rattle.layout.specs.Laws.{Lawful, laws, in_range, lawful_mapped, lawful_uint_in, wide8, wide32}
-use Rattle.layout.specs.Sizes.{AtMost, at_most_behind, at_most_mapped, at_most_pair, at_most_uint_in, at_most_raw}
+use Rattle.layout.specs.Format.{Format, Rows, uint_in, raw, pair, behind, mapped, listed}
+use Rattle.layout.specs.Laws.{Lawful, laws, wide8, wide32}
+use Rattle.layout.specs.Sizes.{AtMost, at_most_behind, at_most_listed, at_most_mapped, at_most_pair, at_most_uint_in, at_most_raw}
 use Rattle.layout.specs.Ranges.{user, version}
 use Rattle.layout.specs.Hash.{hash}
-use Rattle.update_cert.specs.declared.Cert.{Cert}
+use Rattle.update_cert.specs.Change.{Change, change, lawful_change, at_most_change}
 
--- a count of changes, of which there are none
-abbrev pub no_changes : Format (Unit {0})
-no_changes = mapped (λ _. tt) (λ _. 0) (uint_in w8 0 0)
+-- a certificate without where it lies in memory
+pub record Cert : Type 0 where
+  pub user : ℕ
+  -- the number of the operation among the user's own
+  pub number : ℕ
+  -- the digest of the structure that the user signed last
+  pub last : List ℕ
+  pub changes : List Change
+
+abbrev pub change_rows : Rows Change
+change_rows before = change
+
+abbrev pub changes : Format (List Change)
+changes = listed (uint_in w8 0 16) change_rows
 
 abbrev pub cert : Format Cert
 cert =
     behind (codes "SUC1")
-    (mapped (λ p. record { user = p.0; number = p.1.0; last = p.1.1.0 }) (λ c. (c.user, (c.number, (c.last, tt))))
-    (pair user (pair version (pair (raw 32) no_changes))))
-
-lawful_no_changes : Lawful no_changes
-lawful_no_changes =
-    lawful_mapped _ _ (uint_in w8 0 0) (λ y. refl) (λ n fits. omega (arith, (in_range w8 0 0 n fits).1)) (lawful_uint_in w8 0 0 wide8)
+    (mapped (λ p. record { user = p.0; number = p.1.0; last = p.1.1.0; changes = p.1.1.1 }) (λ c. (c.user, (c.number, (c.last, c.changes))))
+    (pair user (pair version (pair (raw 32) changes))))
 
 pub lawful_cert : Lawful cert
-lawful_cert = search (laws, lawful_no_changes) depth 12
+lawful_cert = search (laws, lawful_change) depth 12
 
-at_most_no_changes : AtMost no_changes 1
-at_most_no_changes = at_most_mapped (λ _. tt) (λ _. 0) (uint_in w8 0 0) 1 (at_most_uint_in w8 0 0 wide8)
-
--- a certificate has at most 42 bytes
-pub at_most_cert : AtMost cert 42
+-- a certificate has at most 4,250 bytes
+pub at_most_cert : AtMost cert 4250
 at_most_cert =
-    at_most_behind (codes "SUC1") _ 38
-    (at_most_mapped _ _ _ 38 (at_most_pair _ _ 1 37 (at_most_uint_in w8 0 63 wide8)
-    (at_most_pair _ _ 4 33 (at_most_uint_in w32 1 4294967295 wide32) (at_most_pair _ _ 32 1 (at_most_raw 32) at_most_no_changes))))
+    at_most_behind (codes "SUC1") _ 4246
+    (at_most_mapped _ _ _ 4246 (at_most_pair _ _ 1 4245 (at_most_uint_in w8 0 63 wide8)
+    (at_most_pair _ _ 4 4241 (at_most_uint_in w32 1 4294967295 wide32)
+    (at_most_pair _ _ 32 4209 (at_most_raw 32) (at_most_listed w8 0 16 change_rows 263 wide8 (λ _. at_most_change))))))
 
 -- the digest of a certificate is that of its text, without signature
 abbrev pub digest_of : Cert → List ℕ

@@ -1,1 +1,7 @@
+pub mod Change
 pub mod Cert
+pub mod World
+pub mod Blocks
+pub mod Spot
+pub mod Part
+pub mod Acts

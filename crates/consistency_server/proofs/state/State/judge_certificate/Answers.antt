@@ -9,4 +9,4 @@ pub returns-in-Some : goal.returns-in-Some
 returns-in-Some g c =
     let state = c.args.self.now in
     let some : state.waiting ≡ Some c.in-Some.waiting = ap (λ s. s.waiting) (sym c.self.view_is) ∙ c.in-Some.is in
-    with_ok c.judge_beside.result _ _ (λ j is. subst (JudgedAs state j) (beside_is state c.args.found.now c.in-Some.waiting c.args.text.now some c.requires.spelled) is) (c.judge_beside.ensures state)
+    with_ok c.judge_beside.result _ _ (λ j is. subst (JudgedAs state j) (beside_is state c.args.found c.in-Some.waiting c.args.text.now some c.requires.spelled) is) (c.judge_beside.ensures state)

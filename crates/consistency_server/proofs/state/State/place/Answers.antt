@@ -14,7 +14,7 @@ text_of-requires-clause-few_structures g c = rw c.as_slice.ensures (few_latest c
 pub returns : goal.returns
 returns g c =
     let state = c.args.self.now in
-    let found = c.args.found.now in
+    let found = c.args.found in
     let one : c.push.new.self.items ≡ c.new.result ∷ [] = c.in_ok-push.ensures.items ∙ ap (λ xs. xs ++ c.new.result ∷ []) c.new-pending.ensures.items in
     let new : c.new.result ≡ next_item state found = c.new.ensures ∙ ap (λ (p : Plan). record { cert = found.value; signature = found.signature; plan = p }) c.requires.plan in
     let off : c.new.result ∷ [] ≡ c.pop.new.self.items ++ c.unwrap-item.result ∷ [] = sym one ∙ c.pop.ensures.items ∙ ap (λ o. c.pop.new.self.items ++ option_to_list o) c.unwrap-item.ensures in

@@ -1,5 +1,5 @@
 -- What was written into an empty text is the spelling.
-use Rattle.std.proofs.Common.{◌≡◌, ap, ◌∙◌}
+use Rattle.std.proofs.Common.{ap, ◌∙◌}
 use Rattle.layout.specs.Laws.{is_text}
 use Rattle.pending_list.specs.Reply.{Reply, reply, lawful_reply}
 use Rattle.pending_list.proofs.reply.Reply.text_of.Goals as goal

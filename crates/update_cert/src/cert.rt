@@ -1,0 +1,131 @@
+//! Certificates.
+
+ghost use Rattle.std.specs.Prelude.{◌≡◌, ◌≤◌, IfOk, vec_len, length};
+ghost use Rattle.std.specs.List.{All};
+ghost use Rattle.layout.specs.Format.{Reads};
+ghost use Rattle.update_cert.specs.Change.{change};
+ghost use Rattle.update_cert.specs.Cert.{cert, digest_of};
+
+use crate::change::{Change, Changes};
+use layout::{
+    Digest, Memory, ReadError, Reader, Text, User, Version, Writer, digest, read_rows, write_rows,
+};
+use std::alloc::Allocator;
+use std::marker::Model;
+
+/// What a user signs to have an operation placed: at most 16 changes, behind the user's last structure.
+#[derive(Drop)]
+pub struct Cert<A: Allocator> {
+    user: User,
+    number: Version,
+    last: Digest,
+    changes: Vec<Change<A>, A>,
+}
+
+impl<A: Allocator> Model for Cert<A> {
+    ghost use Rattle.update_cert.specs.Cert.{Cert, cert};
+
+    ghost Value = { Cert };
+
+    ghost view = { λ c. record { user = c.user; number = c.number; last = c.last; changes = c.changes.items } };
+
+    ghost invariant = { λ c. cert.Fits (record { user = c.user; number = c.number; last = c.last; changes = c.changes.items }) };
+}
+
+impl<A: Allocator + Copy> Text<A> for Cert<A> {
+    ghost use Rattle.update_cert.specs.Cert.{cert, lawful_cert};
+
+    ghost format = { cert };
+
+    fn read_from(alloc: A, reader: &mut Reader<'_>) -> Result<Cert<A>, ReadError> {
+        reader.tag(b"SUC1")?;
+        let user = reader.user()?;
+        let number = reader.version()?;
+        let last = reader.digest()?;
+        let count = reader.u8_in(0, 16)?;
+        let changes = read_rows(alloc, reader, &Changes, usize::from(count))?;
+        Ok(Cert {
+            user,
+            number,
+            last,
+            changes,
+        })
+    }
+
+    fn write_to(&self, writer: &mut Writer<A>) -> Result<(), Memory> {
+        writer.tag(b"SUC1")?;
+        writer.user(self.user)?;
+        writer.version(self.number)?;
+        writer.digest(&self.last)?;
+        writer.u8(self.changes.len() as u8)?;
+        write_rows(writer, &Changes, &self.changes)
+    }
+
+    ghost lawful = { lawful_cert };
+}
+
+/// That each change fits its row, as its own contract says.
+fn changes_fit<A: Allocator>(changes: &[Change<A>])
+    ensures { All change.Fits changes.now }
+{
+    for change in changes {
+        let _principal = change.principal();
+    }
+}
+
+impl<A: Allocator> Cert<A> {
+    /// The certificate of these parts, whose own contracts say that they fit.
+    pub fn new(user: User, number: Version, last: Digest, changes: Vec<Change<A>, A>) -> Cert<A>
+        requires few { vec_len changes ≤ 16 }
+        ensures { result ≡ record { user = user; number = number; last = last; changes = changes.items } }
+    {
+        let _range = (user.get(), number.get());
+        let _last = last.as_bytes();
+        changes_fit(&changes);
+        Cert {
+            user,
+            number,
+            last,
+            changes,
+        }
+    }
+
+    /// Whose operation it is.
+    pub fn user(&self) -> User
+        ensures same { result ≡ self.now.user }
+        ensures fits { cert.Fits self.now }
+    {
+        self.user
+    }
+
+    /// The number of the operation among the user's own.
+    pub fn number(&self) -> Version
+        ensures { result ≡ self.now.number }
+    {
+        self.number
+    }
+
+    /// The digest of the structure that the user signed last: zeros at number 1.
+    pub fn last(&self) -> Digest
+        ensures { result ≡ self.now.last }
+    {
+        self.last
+    }
+
+    /// What the operation does, in turn: at most 16 changes.
+    pub fn changes(&self) -> &[Change<A>]
+        ensures { result.now ≡ self.now.changes }
+    {
+        &self.changes
+    }
+}
+
+impl<A: Allocator + Copy> Cert<A> {
+    /// The digest of its text, without signature.
+    pub fn digest(&self, alloc: A) -> Result<Digest, Memory>
+        ensures { IfOk result (λ digest. digest ≡ digest_of self.now) }
+    {
+        let text = self.text(alloc)?;
+        Ok(digest(&text))
+    }
+}

@@ -1,0 +1,179 @@
+//! Changes.
+
+ghost use Rattle.std.specs.Prelude.{◌≡◌, ◌≤◌, OnOk};
+ghost use Rattle.layout.specs.Format.{Reads, ReadsAs};
+ghost use Rattle.update_cert.specs.Change.{action as action_format, action_of, change, kind};
+
+use directory::{Entry, Name, read_name};
+use layout::{Digest, INumber, Memory, Principal, ReadError, Reader, RowFormat, Writer};
+use std::alloc::Allocator;
+use std::marker::Model;
+
+/// What is done at an i-number.
+#[derive(Drop)]
+pub enum Action<A: Allocator> {
+    /// What the i-node of this digest is of stands there from now on, where nothing stood.
+    Make(Digest),
+    /// What the i-node of this digest is of stands there from now on, in the place of a file.
+    Put(Digest),
+    /// Nothing stands there any more.
+    Remove,
+    /// The directory there has this entry, too.
+    Link(Entry<A>),
+    /// The directory there has no entry of this name any more.
+    Unlink(Name<A>),
+}
+
+/// What is done at an i-number of a principal.
+#[derive(Drop)]
+pub struct Change<A: Allocator> {
+    principal: Principal,
+    i_number: INumber,
+    action: Action<A>,
+}
+
+impl<A: Allocator> Model for Change<A> {
+    ghost use Rattle.update_cert.specs.Change.{Change, action_of, change};
+
+    ghost Value = { Change };
+
+    ghost view = { λ c. record { principal = c.principal; i_number = c.i_number; action = action_of c.action } };
+
+    ghost invariant = { λ c. change.Fits (record { principal = c.principal; i_number = c.i_number; action = action_of c.action }) };
+}
+
+/// What is done, of this kind, in what is left of a text.
+fn read_action<A: Allocator + Copy>(
+    alloc: A,
+    reader: &mut Reader<'_>,
+    kind: u8,
+) -> Result<Action<A>, ReadError>
+    requires low { 1 ≤ kind }
+    requires high { kind ≤ 5 }
+    ensures { ReadsAs action_of result reader.new ((action_format kind).read reader.old) }
+{
+    match kind {
+        1 => Ok(Action::Make(reader.digest()?)),
+        2 => Ok(Action::Put(reader.digest()?)),
+        3 => Ok(Action::Remove),
+        4 => Ok(Action::Link(Entry::read_from(alloc, reader)?)),
+        _ => Ok(Action::Unlink(Name::new(alloc, read_name(reader)?)?)),
+    }
+}
+
+impl<A: Allocator> Action<A> {
+    /// The number of its kind in a text.
+    fn kind(&self) -> u8
+        ensures { result ≡ kind (action_of self.now) }
+    {
+        match self {
+            Action::Make(_) => 1,
+            Action::Put(_) => 2,
+            Action::Remove => 3,
+            Action::Link(_) => 4,
+            Action::Unlink(_) => 5,
+        }
+    }
+
+    /// That it fits its text, as the contracts of its parts say.
+    fn fits(&self)
+        ensures { (action_format (kind (action_of self.now))).Fits (action_of self.now) }
+    {
+        match self {
+            Action::Make(inode) | Action::Put(inode) => {
+                let _bytes = inode.as_bytes();
+            }
+            Action::Remove => {}
+            Action::Link(entry) => {
+                let _name = entry.name();
+            }
+            Action::Unlink(name) => {
+                let _bytes = name.as_bytes();
+            }
+        }
+    }
+}
+
+impl<A: Allocator + Copy> Action<A> {
+    /// Writes it at the end of a text, without its kind.
+    fn write_to(&self, writer: &mut Writer<A>) -> Result<(), Memory>
+        ensures { OnOk result (writer.new ≡ (action_format (kind (action_of self.now))).onto writer.old (action_of self.now)) }
+    {
+        match self {
+            Action::Make(inode) => writer.digest(inode),
+            Action::Put(inode) => writer.digest(inode),
+            Action::Remove => Ok(()),
+            Action::Link(entry) => entry.write_to(writer),
+            Action::Unlink(name) => name.write_to(writer),
+        }
+    }
+}
+
+/// The rows of the changes.
+#[derive(Clone, Copy)]
+pub(crate) struct Changes;
+
+impl<A: Allocator + Copy> RowFormat<A> for Changes {
+    ghost use Rattle.update_cert.specs.Cert.{change_rows};
+
+    type Item = Change<A>;
+
+    ghost format = { λ _. change_rows };
+
+    fn read_row(
+        &self,
+        alloc: A,
+        reader: &mut Reader<'_>,
+        _before: Option<&Change<A>>,
+    ) -> Result<Change<A>, ReadError> {
+        let kind = reader.u8_in(1, 5)?;
+        let principal = reader.principal()?;
+        let i_number = reader.i_number()?;
+        let action = read_action(alloc, reader, kind)?;
+        Ok(Change::new(principal, i_number, action))
+    }
+
+    fn write_row(&self, writer: &mut Writer<A>, row: &Change<A>) -> Result<(), Memory> {
+        writer.u8(row.action.kind())?;
+        writer.principal(row.principal)?;
+        writer.i_number(row.i_number)?;
+        row.action.write_to(writer)
+    }
+}
+
+impl<A: Allocator> Change<A> {
+    /// The change of these parts, whose own contracts say that they fit.
+    pub fn new(principal: Principal, i_number: INumber, action: Action<A>) -> Change<A>
+        ensures { result ≡ record { principal = principal; i_number = i_number; action = action_of action } }
+    {
+        let _place = (principal.get(), i_number.get());
+        action.fits();
+        Change {
+            principal,
+            i_number,
+            action,
+        }
+    }
+
+    /// Whose i-number it is.
+    pub fn principal(&self) -> Principal
+        ensures same { result ≡ self.now.principal }
+        ensures fits { change.Fits self.now }
+    {
+        self.principal
+    }
+
+    /// Where something is done.
+    pub fn i_number(&self) -> INumber
+        ensures { result ≡ self.now.i_number }
+    {
+        self.i_number
+    }
+
+    /// What is done there.
+    pub fn action(&self) -> &Action<A>
+        ensures { action_of result.now ≡ self.now.action }
+    {
+        &self.action
+    }
+}
