@@ -1,0 +1,96 @@
+-- The laws of a principal's part.
+use Rattle.std.proofs.Common.{◌≡◌, ℕ, Bool, true, false, List, [], ◌∷◌, Option, Some, None, refl, subst, sym, ap, ◌∙◌, inl, inr, arith}
+use Rattle.std.specs.Prelude.{◌==◌, ◌||◌, length, if◌then◌else◌}
+use Rattle.std.proofs.lemmas.Bool.{eqb-true, eq-eqb, ne_eqb}
+use Rattle.std.specs.Option.{option_map, option_map_or}
+use Rattle.itable.specs.ITable.{ITable, digest_at}
+use Rattle.itable.specs.Inode.{Inode}
+use Rattle.itable.specs.declared.inode.Kind.TheVariants as kinds
+use Rattle.layout.specs.Ascending.{Ascends}
+use Rattle.directory.specs.Directory.{Entry}
+use Rattle.update_cert.specs.Change.{Change}
+use Rattle.update_cert.specs.World.{Content, File, Directory, is_file, is_removable}
+use Rattle.update_cert.specs.Blocks.{Blocks, inode_at, IsOf, Agrees, directory_over}
+use Rattle.update_cert.specs.Spot.{is_of_file}
+use Rattle.update_cert.specs.Part.{Open, Part, IsPart, part_of, opened_at, stands_at, NamesInode, inode_of_action}
+use Rattle.update_cert.specs.Acts.{Keeps, listed}
+
+is_part_of_table : (table : ITable) → IsPart (part_of table)
+unfolding Ascends
+is_part_of_table table = record { ascending = tt; mapped = λ i some. absurd cc }
+
+pub is_part_of : (table : ITable) (opened : List Open) → opened ≡ [] → IsPart (record { table = table; opened = opened })
+is_part_of table opened is = subst (λ (os : List Open). IsPart (record { table = table; opened = os })) (sym is) (is_part_of_table table)
+
+-- ---- digests of a table behind a change
+
+set_names : (c : Change) (old new : Part) (digest : List ℕ) → inode_of_action c.action ≡ Some digest → c.principal ≡ old.table.principal
+    → (i : ℕ) (d : List ℕ) (t : Bool) → (c.i_number == i) ≡ t → (if t then Some digest else digest_at old.table i) ≡ Some d → NamesInode old (c ∷ []) i d
+set_names c old new digest is of i d true here found = inr (c, (0, omega arith, refl), of, eqb-true c.i_number i here, is ∙ found)
+set_names c old new digest is of i d false here found = inl found
+
+pub keeps_set : (c : Change) (old new : Part) (digest : List ℕ) → inode_of_action c.action ≡ Some digest → c.principal ≡ old.table.principal → new.table.principal ≡ old.table.principal
+    → ((i : ℕ) → digest_at new.table i ≡ (if c.i_number == i then Some digest else digest_at old.table i)) → Keeps c old new
+keeps_set c old new digest is of same set = record {
+  principal = same;
+  digests = λ i d found. set_names c old new digest is of i d (c.i_number == i) refl (sym (set i) ∙ found);
+}
+
+taken_names : (c : Change) (old : Part) (i : ℕ) (d : List ℕ) (t : Bool) → (if t then None else digest_at old.table i) ≡ Some d → NamesInode old (c ∷ []) i d
+taken_names c old i d true found = absurd cc
+taken_names c old i d false found = inl found
+
+pub keeps_taken : (c : Change) (old new : Part) (k : ℕ) → new.table.principal ≡ old.table.principal → ((i : ℕ) → digest_at new.table i ≡ (if k == i then None else digest_at old.table i)) → Keeps c old new
+keeps_taken c old new k same taken = record { principal = same; digests = λ i d found. taken_names c old i d (k == i) (sym (taken i) ∙ found) }
+
+pub keeps_same : (c : Change) (old new : Part) → new.table ≡ old.table → Keeps c old new
+keeps_same c old new same = record {
+  principal = ap (λ (t : ITable). t.principal) same;
+  digests = λ i d found. inl (ap (λ (t : ITable). digest_at t i) (sym same) ∙ found);
+}
+
+-- ---- what an i-node tells
+
+file_of : (blocks : Blocks) (n : Inode) (content : Content) → IsOf blocks n content → is_file (Some content) ≡ is_of_file n.kind
+file_of blocks n (File bytes) is = sym (ap is_of_file is)
+file_of blocks n (Directory entries) is = sym (ap is_of_file is.0)
+
+removable_entries : (entries : List Entry) (size : ℕ) → (entries ≡ [] → size ≡ 6) → (size ≡ 6 → entries ≡ []) → (length entries == 0) ≡ (size == 6)
+removable_entries [] size to from = sym (eq-eqb size 6 (to refl))
+removable_entries (e ∷ es) size to from = ne_eqb (length (e ∷ es)) 0 (λ none. absurd (omega (arith, none))) ∙ sym (ne_eqb size 6 (λ is. let clash = from is in absurd cc))
+
+removable_of : (blocks : Blocks) (n : Inode) (content : Content) → IsOf blocks n content → is_removable (Some content) ≡ (is_of_file n.kind || (n.size == 6))
+removable_of blocks n (File bytes) is = sym (ap (λ k. is_of_file k || (n.size == 6)) is)
+removable_of blocks n (Directory entries) is = removable_entries entries n.size is.1.0 is.1.1 ∙ sym (ap (λ k. is_of_file k || (n.size == 6)) is.0)
+
+module _ (blocks : Blocks) (reads : List ℕ → Content) (agrees : Agrees blocks reads) where
+  file_read : (d : Option (List ℕ)) (found : Option Inode) → option_map (λ n. Some n) found ≡ option_map (inode_at blocks) d → option_map_or (λ n. is_of_file n.kind) found false ≡ is_file (option_map reads d)
+  file_read None None is = refl
+  file_read None (Some n) is = absurd cc
+  file_read (Some d) None is = absurd cc
+  file_read (Some d) (Some n) is = let at : inode_at blocks d ≡ Some n = cc in sym (file_of blocks n (reads d) (agrees d n at))
+
+  removable_read : (d : Option (List ℕ)) (found : Option Inode) → option_map (λ n. Some n) found ≡ option_map (inode_at blocks) d → option_map_or (λ n. is_of_file n.kind || (n.size == 6)) found false ≡ is_removable (option_map reads d)
+  removable_read None None is = refl
+  removable_read None (Some n) is = absurd cc
+  removable_read (Some d) None is = absurd cc
+  removable_read (Some d) (Some n) is = let at : inode_at blocks d ≡ Some n = cc in sym (removable_of blocks n (reads d) (agrees d n at))
+
+  closed : (part : Part) (i : ℕ) → opened_at part i ≡ None → stands_at reads part i ≡ option_map reads (digest_at part.table i)
+  closed part i none = rw none refl
+
+  -- a file stands where its i-node says so
+  pub file_told : (part : Part) (i : ℕ) (found : Option Inode) → opened_at part i ≡ None → option_map (λ n. Some n) found ≡ option_map (inode_at blocks) (digest_at part.table i) → option_map_or (λ n. is_of_file n.kind) found false ≡ is_file (stands_at reads part i)
+  file_told part i found none is = file_read (digest_at part.table i) found is ∙ sym (ap is_file (closed part i none))
+
+  -- a file, or a directory of 6 bytes
+  pub removable_told : (part : Part) (i : ℕ) (found : Option Inode) → opened_at part i ≡ None → option_map (λ n. Some n) found ≡ option_map (inode_at blocks) (digest_at part.table i) → option_map_or (λ n. is_of_file n.kind || (n.size == 6)) found false ≡ is_removable (stands_at reads part i)
+  removable_told part i found none is = removable_read (digest_at part.table i) found is ∙ sym (ap is_removable (closed part i none))
+
+  a_list : (n : Inode) (content : Content) (entries : List Entry) → IsOf blocks n content → n.kind ≡ kinds.Directory → directory_over blocks n ≡ Some entries → Some entries ≡ listed (Some content)
+  a_list n (File bytes) entries is of_directory found = let clash = sym is ∙ of_directory in absurd cc
+  a_list n (Directory others) entries is of_directory found = ap (λ (es : List Entry). Some es) (is.2 entries found)
+
+  -- a directory has the entries that its blocks spell
+  pub directory_listed : (d : List ℕ) (n : Inode) (digest : Option (List ℕ)) (entries : List Entry) → digest ≡ Some d → inode_at blocks d ≡ Some n → n.kind ≡ kinds.Directory → directory_over blocks n ≡ Some entries → Some entries ≡ listed (option_map reads digest)
+  directory_listed d n digest entries is at of_directory found = rw is (a_list n (reads d) entries (agrees d n at) of_directory found)

@@ -1,0 +1,137 @@
+-- What reading i-nodes and directories finds, and what it lacks.
+use Rattle.std.proofs.Common.{◌≡◌, ℕ, suc, ◌+◌, ◌*◌, ◌<◌, ◌≤◌, min, Bool, true, false, List, [], ◌∷◌, ◌++◌, length, take, Option, Some, None, refl, sym, ap, subst, ◌∙◌, arith, append_assoc}
+use Rattle.std.specs.Prelude.{not, ◌&&◌, ◌||◌, ◌==◌, is_some, nat_lt, slice_index_or, if◌then◌else◌}
+use Rattle.std.proofs.lemmas.Bool.Decides.{nat_tests}
+use Rattle.std.proofs.Math.Seq.{take-suc}
+use Rattle.std.proofs.lemmas.List.{append-nil, take_all}
+use Rattle.std.specs.Int.{w16, w32}
+use Rattle.std.specs.Option.{option_map, option_map_or, option_and_then}
+use Rattle.std.specs.Result.{result_ok}
+use Rattle.layout.specs.Format.{whole}
+use Rattle.layout.specs.Laws.{in_range}
+use Rattle.itable.specs.Inode.{Inode, inode, block_count, size}
+use Rattle.itable.specs.declared.inode.Kind.{Kind}
+use Rattle.itable.specs.declared.inode.Kind.TheVariants as kinds
+use Rattle.directory.specs.Directory.{directory}
+use Rattle.update_cert.specs.Blocks.{Blocks, inode_at, joined, of_size}
+use Rattle.update_cert.specs.Spot.{takes, takes_inode, takes_block, size_of_block, completes, is_of_file, lacks}
+use Rattle.update_cert.specs.declared.spot.Spot.TheVariants as spot
+
+-- ---- i-nodes
+
+no_inode : (p i : ℕ) (held : Option (List ℕ)) → option_map_or (takes_inode p i) (option_and_then (λ text. result_ok (whole inode text)) held) false ≡ false
+    → not (option_map_or (λ text. option_map_or (takes_inode p i) (result_ok (whole inode text)) false) held false) ≡ true
+no_inode p i None none = refl
+no_inode p i (Some text) none = ap not none
+
+pub lacks_inode : (blocks : Blocks) (p i : ℕ) (digest : List ℕ) → option_map_or (takes_inode p i) (inode_at blocks digest) false ≡ false → lacks blocks digest (spot.Inode p i) ≡ true
+unfolding takes
+lacks_inode blocks p i digest none = no_inode p i (blocks digest) none
+
+-- ---- the sizes of blocks
+
+pub count_is : (n : Inode) → inode.Fits n → length n.blocks ≡ block_count n.size
+count_is n fits = let range = in_range w16 (block_count n.size) (block_count n.size) (length n.blocks) fits.1.1.0 in omega (arith, range.0, range.1)
+
+few_bytes : (k : Kind) (bytes : ℕ) → (size k).Fits bytes → bytes ≤ 4194304
+few_bytes kinds.File bytes fits = (in_range w32 0 4194304 bytes fits).1
+few_bytes kinds.Directory bytes fits = let range = in_range w32 6 265222 bytes fits in omega (arith, range.1)
+
+pub few_blocks : (n : Inode) → inode.Fits n → length n.blocks ≤ 1024
+few_blocks n fits = omega (arith, count_is n fits, few_bytes n.kind n.size fits.1.0)
+
+some_bytes : (k : Kind) (bytes : ℕ) → k ≡ kinds.Directory → (size k).Fits bytes → 6 ≤ bytes
+some_bytes k bytes is fits = let inside : (size kinds.Directory).Fits bytes = subst (λ (j : Kind). (size j).Fits bytes) is fits in (in_range w32 6 265222 bytes inside).0
+
+-- a directory has a block
+pub some_block : (n : Inode) → inode.Fits n → n.kind ≡ kinds.Directory → 0 < length n.blocks
+some_block n fits is = omega (arith, count_is n fits, some_bytes n.kind n.size is fits.1.0)
+
+-- the bytes so far, and one block more
+pub next_size : (size place block old new : ℕ) → old ≡ min (4096 * place) size → block ≡ size_of_block size place → new ≡ old + block → new ≡ min (4096 * (place + 1)) size
+next_size size place block old new so_far is more = omega arith
+
+-- ---- blocks that are missing
+
+no_and : (a b c : Bool) → a && (b && (false && c)) ≡ false
+no_and true true c = refl
+no_and true false c = refl
+no_and false b c = refl
+
+other_size : (blocks : Blocks) (n : Inode) (k : ℕ) (bytes : List ℕ) → (length bytes == size_of_block n.size k) ≡ false → takes_block blocks k bytes n ≡ false
+other_size blocks n k bytes other = rw other (no_and (not (is_of_file n.kind)) (nat_lt k (block_count n.size)) (nat_lt (k + 1) (block_count n.size) || completes blocks n k bytes))
+
+taken_by : (blocks : Blocks) (digest : List ℕ) (n : Inode) (k : ℕ) (bytes : List ℕ) → inode_at blocks digest ≡ Some n → takes blocks (spot.Directory digest k) bytes ≡ takes_block blocks k bytes n
+unfolding takes
+taken_by blocks digest n k bytes at = ap (λ (found : Option Inode). option_map_or (takes_block blocks k bytes) found false) at
+
+lacks_where : (blocks : Blocks) (digest : List ℕ) (n : Inode) (k : ℕ) (held : Option (List ℕ)) → inode_at blocks digest ≡ Some n → option_map_or (λ bytes. takes_block blocks k bytes n) held false ≡ false
+    → not (option_map_or (takes blocks (spot.Directory digest k)) held false) ≡ true
+lacks_where blocks digest n k None at none = refl
+lacks_where blocks digest n k (Some bytes) at none = ap not (taken_by blocks digest n k bytes at ∙ none)
+
+no_size : (blocks : Blocks) (n : Inode) (k : ℕ) (held : Option (List ℕ)) → option_map_or (λ bytes. length bytes == size_of_block n.size k) held false ≡ false → option_map_or (λ bytes. takes_block blocks k bytes n) held false ≡ false
+no_size blocks n k None none = refl
+no_size blocks n k (Some bytes) none = other_size blocks n k bytes none
+
+-- no text of the block's size is held
+pub lacks_block : (blocks : Blocks) (digest : List ℕ) (n : Inode) (k : ℕ) (block : List ℕ) → inode_at blocks digest ≡ Some n → option_map_or (λ bytes. length bytes == size_of_block n.size k) (blocks block) false ≡ false → lacks blocks block (spot.Directory digest k) ≡ true
+lacks_block blocks digest n k block at none = lacks_where blocks digest n k (blocks block) at (no_size blocks n k (blocks block) none)
+
+-- ---- the last block
+
+abbrev pub with_last : Option (List ℕ) → Option (List ℕ) → Option (List ℕ)
+with_last before last = option_and_then (λ front. option_map (λ bytes. front ++ bytes) last) before
+
+one_last : (last : Option (List ℕ)) → option_and_then (λ text. option_map (λ rest. text ++ rest) (Some [])) last ≡ option_map (λ bytes. [] ++ bytes) last
+one_last None = refl
+one_last (Some bytes) = ap (λ (text : List ℕ). Some text) (append-nil bytes)
+
+over_last : (text : List ℕ) (before last : Option (List ℕ)) → option_map (λ rest. text ++ rest) (with_last before last) ≡ with_last (option_map (λ rest. text ++ rest) before) last
+over_last text None last = refl
+over_last text (Some front) None = refl
+over_last text (Some front) (Some bytes) = ap (λ (all : List ℕ). Some all) (sym (append_assoc text front bytes))
+
+first_and_last : (first : Option (List ℕ)) (before after last : Option (List ℕ)) → after ≡ with_last before last
+    → option_and_then (λ text. option_map (λ rest. text ++ rest) after) first ≡ with_last (option_and_then (λ text. option_map (λ rest. text ++ rest) before) first) last
+first_and_last None before after last is = refl
+first_and_last (Some text) before after last is = ap (option_map (λ rest. text ++ rest)) is ∙ over_last text before last
+
+joined_last : (blocks : Blocks) (ds : List (List ℕ)) (d : List ℕ) → joined blocks (ds ++ d ∷ []) ≡ with_last (joined blocks ds) (blocks d)
+unfolding joined
+joined_last blocks [] d = one_last (blocks d)
+joined_last blocks (x ∷ xs) d = first_and_last (blocks x) (joined blocks xs) (joined blocks (xs ++ d ∷ [])) (blocks d) (joined_last blocks xs d)
+
+not_of_size : (size : ℕ) (text : List ℕ) → result_ok (whole directory text) ≡ None → is_some (of_size size text) ≡ false
+not_of_size size text none = elim (length text == size) as (λ t. is_some (if t then result_ok (whole directory text) else None) ≡ false) [ true ↦ ap is_some none | false ↦ refl ]
+
+not_complete : (size : ℕ) (before : Option (List ℕ)) (bytes text : List ℕ) → with_last before (Some bytes) ≡ Some text → result_ok (whole directory text) ≡ None → option_map_or (λ front. is_some (of_size size (front ++ bytes))) before false ≡ false
+not_complete size None bytes text all none = refl
+not_complete size (Some front) bytes text all none =
+    let same : text ≡ front ++ bytes = cc in
+    subst (λ (t : List ℕ). is_some (of_size size t) ≡ false) same (not_of_size size text none)
+
+no_and_more : (a b c : Bool) → a && (b && (c && false)) ≡ false
+no_and_more true true true = refl
+no_and_more true true false = refl
+no_and_more true false c = refl
+no_and_more false b c = refl
+
+last_wrong : (blocks : Blocks) (n : Inode) (k : ℕ) (text : List ℕ) (last : Option (List ℕ)) → k + 1 ≡ block_count n.size → with_last (joined blocks (take k n.blocks)) last ≡ Some text → result_ok (whole directory text) ≡ None → option_map_or (λ bytes. takes_block blocks k bytes n) last false ≡ false
+last_wrong blocks n k text None is all none = refl
+last_wrong blocks n k text (Some bytes) is all none =
+    let past : nat_lt (k + 1) (block_count n.size) ≡ false = grind (arith, nat_tests) in
+    let wrong = not_complete n.size (joined blocks (take k n.blocks)) bytes text all none in
+    rw (past, wrong) (no_and_more (not (is_of_file n.kind)) (nat_lt k (block_count n.size)) (length bytes == size_of_block n.size k))
+
+front_and_last : (ds : List (List ℕ)) (k : ℕ) (d : List ℕ) → k + 1 ≡ length ds → d ≡ slice_index_or ds k d → ds ≡ take k ds ++ d ∷ []
+front_and_last ds k d is at =
+    let here : k < length ds = omega arith in
+    let past : length ds ≤ suc k = omega arith in
+    sym (take_all (suc k) ds past) ∙ take-suc ds k d here ∙ ap (λ (x : List ℕ). take k ds ++ x ∷ []) (sym at)
+
+-- the blocks are held, and spell no directory
+pub lacks_last : (blocks : Blocks) (digest : List ℕ) (n : Inode) (k : ℕ) (block text : List ℕ) → inode.Fits n → inode_at blocks digest ≡ Some n → k + 1 ≡ length n.blocks → block ≡ slice_index_or n.blocks k block → joined blocks n.blocks ≡ Some text → result_ok (whole directory text) ≡ None → lacks blocks block (spot.Directory digest k) ≡ true
+lacks_last blocks digest n k block text fits at is here all none =
+    let split = sym (joined_last blocks (take k n.blocks) block) ∙ sym (ap (joined blocks) (front_and_last n.blocks k block is here)) ∙ all in
+    lacks_where blocks digest n k (blocks block) at (last_wrong blocks n k text (blocks block) (is ∙ count_is n fits) split none)

@@ -1,0 +1,71 @@
+use Rattle.std.proofs.Common.{◌≡◌, ◌+◌, ℕ, List, length, take, refl, sym, ap, ◌∙◌, inl, subst, arith}
+use Rattle.std.proofs.lemmas.List.{length-take, take_all}
+use Rattle.std.specs.Vec.{vec_items}
+use Rattle.update_cert.specs.Change.{Change}
+use Rattle.update_cert.specs.World.{after, void, void_from}
+use Rattle.update_cert.specs.Part.{IsPartOf, LacksAskedFor}
+use Rattle.update_cert.specs.Acts.{is_void_of}
+use Rattle.update_cert.proofs.TreeLaws.{NamesOnly, names_kept, lacks_then, take_next, part_next, voids_next, pushed, not_pushed, handed_on}
+use Rattle.update_cert.proofs.applying.apply.Goals.{then-branch+in_ok-push, else-branch}
+use Rattle.update_cert.proofs.applying.apply.Goals as goal
+
+pub loop-place-init : goal.loop-place-init
+unfolding after void_from
+loop-place-init g c = record {
+  principal = refl;
+  names = λ i d found. inl found;
+  part = λ reads tree actor agrees is of one. is;
+  voids = λ reads tree actor agrees is of one. c.new-numbers.ensures.items;
+}
+
+pub returns-in_err-follow-clause-missing : goal.returns-in_err-follow-clause-missing
+returns-in_err-follow-clause-missing g c =
+    let inv = c.loop-place.invariant in
+    let lacks : LacksAskedFor (g.B.Blocks.held c.args.blocks.now) c.args.part c.args.cert.now.changes c.in_err-follow.field-0.0 =
+    lacks_then (g.B.Blocks.held c.args.blocks.now) c.args.part c.loop-place.part c.args.cert.now.changes c.loop-place.place c.in_err-follow.field-0.0 inv.principal inv.names c.in_err-follow.ensures.missing in
+    handed_on c.from_residual.result c.in_err-follow.field-0.0 (λ e. LacksAskedFor (g.B.Blocks.held c.args.blocks.now) c.args.part c.args.cert.now.changes e) c.from_residual.ensures.1 lacks
+
+pub loop-place-preserved : goal.loop-place-preserved
+loop-place-preserved g c =
+    let inv = c.loop-place.invariant in
+    let first = c.args.part in
+    let part = c.loop-place.part in
+    let new = c.follow.new.self in
+    let cs = c.args.cert.now.changes in
+    let k = c.loop-place.place in
+    let change = c.change-item.result in
+    let done = c.in_ok-follow.ensures in
+    let inside = rw c.changes-change-items.ensures at c.loop-place-test.true in
+    let at = rw c.changes-change-items.ensures at c.change-item.is in
+    let front = take_next cs k change inside at in
+    let long : length (take k cs) ≡ k = length-take k cs ∙ omega (arith, inside) in
+    record {
+      principal = done.keeps.principal ∙ inv.principal;
+      names = subst (λ (xs : List Change). NamesOnly first new xs) (sym front) (names_kept first part new (take k cs) change inv.principal inv.names done.keeps);
+      part = λ reads tree actor agrees is of one.
+          part_next reads actor (take k cs) (take (k + 1) cs) change new tree front
+          (done.part reads (after reads actor (take k cs) tree) actor agrees (inv.part reads tree actor agrees is of one) (of ∙ sym c.user-user.ensures.same) (ap actor.member inv.principal ∙ one));
+      voids = λ reads tree actor agrees is of one.
+          let told = done.void reads (after reads actor (take k cs) tree) actor agrees (inv.part reads tree actor agrees is of one) (of ∙ sym c.user-user.ensures.same) (ap actor.member inv.principal ∙ one) in
+          voids_next reads actor first.table.principal k (take k cs) (take (k + 1) cs) change tree c.loop-place.numbers.items c.if-branch.numbers.items c.in_ok-follow.field-0 front long
+          (told ∙ ap (λ (p : ℕ). is_void_of actor p change (after reads actor (take k cs) tree)) inv.principal)
+          (inv.voids reads tree actor agrees is of one)
+          (elim c.if-branch.branch [
+            | then-branch+in_ok-push w ↦ pushed c.loop-place.numbers.items c.if-branch.numbers.items (k + 1) c.in_ok-follow.field-0 w.if-branch.true (ap vec_items w.numbers-is ∙ w.in_ok-push.ensures.items)
+            | else-branch w ↦ not_pushed c.loop-place.numbers.items c.if-branch.numbers.items (k + 1) c.in_ok-follow.field-0 w.if-branch.false (ap vec_items w.numbers-is)
+          ]);
+    }
+
+pub returns-clause-part : goal.returns-clause-part
+returns-clause-part g c = λ reads tree actor agrees is of one.
+    let cs = c.args.cert.now.changes in
+    let past = rw c.changes-change-items.ensures at c.loop-place-test.false in
+    let all = take_all c.loop-place.place cs past in
+    subst (λ (xs : List Change). IsPartOf reads c.loop-place.part (after reads actor xs tree)) all (c.loop-place.invariant.part reads tree actor agrees is of one)
+
+pub returns-clause-voids : goal.returns-clause-voids
+returns-clause-voids g c = λ reads tree actor agrees is of one.
+    let cs = c.args.cert.now.changes in
+    let past = rw c.changes-change-items.ensures at c.loop-place-test.false in
+    let all = take_all c.loop-place.place cs past in
+    subst (λ (xs : List Change). c.loop-place.numbers.items ≡ void reads actor c.args.part.table.principal xs tree) all (c.loop-place.invariant.voids reads tree actor agrees is of one)

@@ -1,0 +1,16 @@
+use Rattle.std.proofs.Common.{◌≡◌, ℕ, List, take}
+use Rattle.update_cert.specs.World.{Content, Actor, Tree, after, void}
+use Rattle.update_cert.specs.Blocks.{Agrees}
+use Rattle.update_cert.specs.Part.{IsPartOf}
+use Rattle.update_cert.proofs.TreeLaws.{NamesOnly}
+use Rattle.update_cert.proofs.applying.apply.Given as goal
+
+abbrev pub invariant-loop-place : goal.invariant-loop-place
+invariant-loop-place g l = record {
+  principal : l.part.table.principal ≡ l.fn.part.table.principal;
+  names : NamesOnly l.fn.part l.part (take l.place l.cert.changes);
+  part : (reads : List ℕ → Content) (tree : Tree) (actor : Actor) → Agrees (g.B.Blocks.held l.blocks) reads → IsPartOf reads l.fn.part tree → actor.user ≡ l.cert.user → actor.member l.fn.part.table.principal ≡ l.is_member
+      → IsPartOf reads l.part (after reads actor (take l.place l.cert.changes) tree);
+  voids : (reads : List ℕ → Content) (tree : Tree) (actor : Actor) → Agrees (g.B.Blocks.held l.blocks) reads → IsPartOf reads l.fn.part tree → actor.user ≡ l.cert.user → actor.member l.fn.part.table.principal ≡ l.is_member
+      → l.numbers.items ≡ void reads actor l.fn.part.table.principal (take l.place l.cert.changes) tree;
+}

@@ -1,0 +1,15 @@
+use Rattle.std.proofs.Common.{◌≡◌, None, false, rules}
+use Rattle.std.specs.Prelude.{◌||◌, ◌==◌}
+use Rattle.std.specs.Option.{option_map_or}
+use Rattle.update_cert.specs.Part.{opened_at}
+use Rattle.update_cert.specs.Spot.{is_of_file}
+use Rattle.update_cert.proofs.PartLaws.{removable_told}
+use Rattle.update_cert.proofs.part.Part.is_removable.Goals as goal
+
+pub returns-clause-removable : goal.returns-clause-removable
+returns-clause-removable g c = λ reads agrees.
+    let part = c.args.self.now in
+    let i = c.args.i_number in
+    let is : c.is_some_and.result ≡ option_map_or (λ n. is_of_file n.kind || (n.size == 6)) c.in_ok-inode.inode false = search rules in
+    let none : opened_at part i ≡ None = search rules in
+    rw is (removable_told (g.B.Blocks.held c.args.blocks.now) reads agrees part i c.in_ok-inode.inode none c.in_ok-inode.ensures.found)

@@ -1,0 +1,27 @@
+use Rattle.std.proofs.Common.{◌≡◌, ◌+◌, ◌-◌, ◌<◌, length, refl, sym, ◌∙◌, arith}
+use Rattle.std.proofs.lemmas.Option.{slice_get_read}
+use Rattle.update_cert.proofs.ReadingLaws.{lacks_last, some_block, few_blocks}
+use Rattle.update_cert.proofs.reading.read_directory.Goals as goal
+
+pub overflow_sub-last : goal.overflow_sub-last
+overflow_sub-last g c = rw c.blocks-blocks.ensures (some_block c.args.inode.now c.kind-kind.ensures.fits c.requires.directory)
+
+pub bounds-blocks-last : goal.bounds-blocks-last
+bounds-blocks-last g c = rw c.blocks-blocks.ensures (omega (arith, some_block c.args.inode.now c.kind-kind.ensures.fits c.requires.directory))
+
+pub overflow_cast-result : goal.overflow_cast-result
+overflow_cast-result g c = rw c.blocks-blocks.ensures (omega (arith, few_blocks c.args.inode.now c.kind-kind.ensures.fits))
+
+pub returns-clause-missing : goal.returns-clause-missing
+returns-clause-missing g c =
+    let n = c.args.inode.now in
+    let fits = c.kind-kind.ensures.fits in
+    let k = length n.blocks - 1 in
+    let block = c.index-blocks-last.result in
+    let some = some_block n fits c.requires.directory in
+    let inside : k < length n.blocks = omega (arith, some) in
+    let last : k + 1 ≡ length n.blocks = omega (arith, some) in
+    let at = rw c.blocks-blocks.ensures at c.index-blocks-last.is in
+    let none = sym (c.in_ok-directory.ensures) ∙ c.in_default.is in
+    rw c.blocks-blocks.ensures
+    ((k, refl, slice_get_read n.blocks (length n.blocks) k block refl inside at), lacks_last (g.B.Blocks.held c.args.blocks.now) c.args.digest n k block c.in_ok-text.text.items fits c.requires.held last at c.in_ok-text.ensures.joined (rw c.deref.ensures.value at none))

@@ -1,0 +1,20 @@
+use Rattle.std.proofs.Common.{◌≡◌, false, refl, sym, ap, ◌∙◌}
+use Rattle.std.specs.Option.{option_map_or}
+use Rattle.itable.specs.Inode.{Inode}
+use Rattle.std.proofs.Common.{Option}
+use Rattle.update_cert.specs.Spot.{takes_inode}
+use Rattle.update_cert.proofs.ReadingLaws.{lacks_inode}
+use Rattle.update_cert.proofs.reading.read_inode.Goals.{in_default-via-in-Some+else-takes_inode, in_default-via-in_default}
+use Rattle.update_cert.proofs.reading.read_inode.Goals as goal
+
+pub returns-in_default-clause-missing : goal.returns-in_default-clause-missing
+returns-in_default-clause-missing g c =
+    let p = c.args.principal in
+    let i = c.args.i_number in
+    let taken = λ (found : Option Inode). option_map_or (takes_inode p i) found false in
+    let none : taken c.in_ok-inode.field-0 ≡ false =
+    elim c.in_default.branch [
+      | in_default-via-in-Some+else-takes_inode w ↦ ap taken w.in-Some.is ∙ sym w.takes_inode.ensures ∙ w.if-takes_inode.false
+      | in_default-via-in_default w ↦ ap taken w.in_default.is
+    ] in
+    ((refl, refl), lacks_inode (g.B.Blocks.held c.args.blocks.now) p i c.args.digest (ap taken (sym c.in_ok-inode.ensures) ∙ none))

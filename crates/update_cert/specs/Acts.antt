@@ -1,0 +1,42 @@
+-- What one change makes of a principal's part, and what it asks for.
+use Rattle.std.specs.Prelude.{◌≡◌, ℕ, ◌==◌, Bool, ◌&&◌, not, List, [], ◌∷◌, Option, Some, None, if◌then◌else◌, slice_get}
+use Rattle.itable.specs.Inode.{Inode}
+use Rattle.itable.specs.ITable.{digest_at}
+use Rattle.directory.specs.Directory.{Entry}
+use Rattle.update_cert.specs.Change.{Action, Change}
+use Rattle.update_cert.specs.World.{Content, Directory, Actor, Tree, fits, becomes, has_effect}
+use Rattle.update_cert.specs.Part.{Part, stands_at, NamesInode}
+use Rattle.update_cert.specs.declared.spot.Spot.{Spot}
+use Rattle.update_cert.specs.declared.spot.Spot.TheVariants as spot
+
+-- an action at an i-number of the part's principal
+abbrev pub change_at : Part → ℕ → Action → Change
+change_at part i action = record { principal = part.table.principal; i_number = i; action = action }
+
+-- The answer tells whether the change fits what stands at its i-number. Where it does, this is what the action makes of
+-- it; all else is as before.
+pub record Acts (reads : List ℕ → Content) (user : ℕ) (c : Change) (old new : Part) (fitted : Bool) : Type 0 where
+  pub is_fit : fitted ≡ fits user c (stands_at reads old c.i_number)
+  pub stands : (i : ℕ) → stands_at reads new i ≡ (if fitted && (c.i_number == i) then becomes reads c.action (stands_at reads old i) else stands_at reads old i)
+
+-- Whose part it is stays, and each digest of its table was there or is the change's.
+pub record Keeps (c : Change) (old new : Part) : Type 0 where
+  pub principal : new.table.principal ≡ old.table.principal
+  pub digests : (i : ℕ) (digest : List ℕ) → digest_at new.table i ≡ Some digest → NamesInode old (c ∷ []) i digest
+
+-- the change is one of this principal that has no effect on the tree
+abbrev pub is_void_of : Actor → ℕ → Change → Tree → Bool
+is_void_of actor p c tree = (c.principal == p) && not (has_effect actor c (tree c.principal c.i_number))
+
+-- the entries, if a directory stands there
+abbrev pub listed : Option Content → Option (List Entry)
+listed (Some (Directory entries)) = Some entries
+listed other = None
+
+-- the digest is that of the i-node at this i-number
+abbrev pub IsInode : ℕ → ℕ → List ℕ → List ℕ → Spot → Type 0
+IsInode p i inode digest s = (digest ≡ inode) × (s ≡ spot.Inode p i)
+
+-- the digest is that of a block of this i-node's
+abbrev pub IsBlock : List ℕ → Inode → List ℕ → Spot → Type 0
+IsBlock inode n digest s = (k : ℕ) × (s ≡ spot.Directory inode k) × (slice_get n.blocks k ≡ Some digest)

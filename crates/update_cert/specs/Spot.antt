@@ -1,0 +1,54 @@
+-- Spots: the places at which blocks are asked for, and the texts that they take.
+use Rattle.std.specs.Prelude.{ℕ, ◌+◌, ◌*◌, ◌-◌, ◌==◌, Bool, true, false, ◌&&◌, ◌||◌, not, List, ◌++◌, length, take, is_some, nat_lt, min}
+use Rattle.std.specs.List.{list_any}
+use Rattle.std.specs.Option.{option_map_or}
+use Rattle.std.specs.Result.{result_ok}
+use Rattle.layout.specs.Format.{whole}
+use Rattle.itable.specs.Inode.{Inode, inode, block_count}
+use Rattle.itable.specs.Root.{Root, root}
+use Rattle.itable.specs.Chunk.{Chunk, chunk}
+use Rattle.itable.specs.declared.inode.Kind.{Kind}
+use Rattle.itable.specs.declared.inode.Kind.TheVariants as kind
+use Rattle.update_cert.specs.declared.spot.Spot.{Spot}
+use Rattle.update_cert.specs.declared.spot.Spot.TheVariants as spot
+use Rattle.update_cert.specs.Blocks.{Blocks, inode_at, joined, of_size}
+
+abbrev pub is_of_file : Kind → Bool
+is_of_file kind.File = true
+is_of_file kind.Directory = false
+
+-- the root of the principal's i-table; user 0's lists chunk 0, which has the table of principals
+abbrev pub takes_root : ℕ → Root → Bool
+takes_root p r = (r.principal == p) && (not (p == 0) || list_any (λ c. c.number == 0) r.chunks)
+
+-- the chunk of this number; user 0's chunk 0 has i-number 1, the table of principals
+abbrev pub takes_chunk : ℕ → ℕ → Chunk → Bool
+takes_chunk p n c = (c.number == n) && (not ((p == 0) && (n == 0)) || list_any (λ x. x.i_number == 1) c.pairs)
+
+-- an i-node; at user 0's i-number 1 that of a file with at least one byte, since the table of principals stands there
+abbrev pub takes_inode : ℕ → ℕ → Inode → Bool
+takes_inode p i n = not ((p == 0) && (i == 1)) || (is_of_file n.kind && nat_lt 0 n.size)
+
+-- how many bytes a block has, of so many bytes in all: 4,096, and the last one what is left over
+abbrev pub size_of_block : ℕ → ℕ → ℕ
+size_of_block size k = min 4096 (size - 4096 * k)
+
+-- the last block of a directory is, behind the others, what makes the text of one
+abbrev pub completes : Blocks → Inode → ℕ → List ℕ → Bool
+completes blocks n k text = option_map_or (λ before. is_some (of_size n.size (before ++ text))) (joined blocks (take k n.blocks)) false
+
+abbrev pub takes_block : Blocks → ℕ → List ℕ → Inode → Bool
+takes_block blocks k text n =
+    not (is_of_file n.kind) && (nat_lt k (block_count n.size)
+    && ((length text == size_of_block n.size k) && (nat_lt (k + 1) (block_count n.size) || completes blocks n k text)))
+
+-- the text is what the spot asks for
+unfoldable pub takes : Blocks → Spot → List ℕ → Bool
+takes blocks (spot.Root p) text = option_map_or (takes_root p) (result_ok (whole root text)) false
+takes blocks (spot.Chunk p n) text = option_map_or (takes_chunk p n) (result_ok (whole chunk text)) false
+takes blocks (spot.Inode p i) text = option_map_or (takes_inode p i) (result_ok (whole inode text)) false
+takes blocks (spot.Directory d k) text = option_map_or (takes_block blocks k text) (inode_at blocks d) false
+
+-- no text of this digest is held that the spot takes
+abbrev pub lacks : Blocks → List ℕ → Spot → Bool
+lacks blocks digest s = not (option_map_or (takes blocks s) (blocks digest) false)

@@ -1,0 +1,82 @@
+//! The changes of a certificate, applied to a principal's part.
+
+ghost use Rattle.std.specs.Prelude.{◌≡◌, ℕ, List, IfOk, IfErr};
+ghost use Rattle.update_cert.specs.World.{Content, Actor, Tree, after, void};
+ghost use Rattle.update_cert.specs.Blocks.{Agrees};
+ghost use Rattle.update_cert.specs.Part.{IsPartOf, LacksAskedFor};
+
+use crate::blocks::Blocks;
+use crate::cert::Cert;
+use crate::error::ApplyError;
+use crate::part::Part;
+use std::alloc::Allocator;
+use std::marker::Model;
+
+/// The numbers, from 1 and ascending, of the changes of a certificate that have no effect.
+#[derive(Drop)]
+pub struct Voids<A: Allocator> {
+    numbers: Vec<u8, A>,
+}
+
+impl<A: Allocator> Model for Voids<A> {
+    ghost use Rattle.std.specs.Prelude.{ℕ, List};
+
+    ghost Value = { List ℕ };
+
+    ghost view = { λ v. v.numbers.items };
+}
+
+impl<A: Allocator> Voids<A> {
+    /// The numbers, ascending.
+    pub fn numbers(&self) -> &[u8]
+        ensures { result.now ≡ self.now }
+    {
+        &self.numbers
+    }
+}
+
+/// A part behind a certificate's changes.
+#[derive(Drop)]
+pub struct Applied<A: Allocator> {
+    /// The part behind the changes.
+    pub part: Part<A>,
+    /// Which changes of the part's principal had no effect.
+    pub voids: Voids<A>,
+}
+
+/// What stands behind a certificate's changes in a principal's part: those of other principals are passed over. A part
+/// that can't be changed for want of a block or of memory is gone, and its maker makes it anew.
+pub fn apply<A: Allocator + Copy, B: Blocks>(
+    alloc: A,
+    part: Part<A>,
+    blocks: &B,
+    is_member: bool,
+    cert: &Cert<A>,
+) -> Result<Applied<A>, ApplyError>
+    // For each tree of which this is the principal's part, whatever stands for digests that no block tells of.
+    ensures part { (reads : List ℕ → Content) (tree : Tree) (actor : Actor)
+        → Agrees (B.held blocks.now) reads → IsPartOf reads part tree
+        → actor.user ≡ cert.now.user → actor.member part.table.principal ≡ is_member
+        → IfOk result (λ applied. IsPartOf reads applied.part (after reads actor cert.now.changes tree)) }
+    ensures voids { (reads : List ℕ → Content) (tree : Tree) (actor : Actor)
+        → Agrees (B.held blocks.now) reads → IsPartOf reads part tree
+        → actor.user ≡ cert.now.user → actor.member part.table.principal ≡ is_member
+        → IfOk result (λ applied. applied.voids ≡ void reads actor part.table.principal cert.now.changes tree) }
+    // Whose part it is stays.
+    ensures principal { IfOk result (λ applied. applied.part.table.principal ≡ part.table.principal) }
+    // Missing names a digest that a spot asks for, and of which no text is held that the spot takes.
+    ensures missing { IfErr result (λ e. LacksAskedFor (B.held blocks.now) part cert.now.changes e) }
+{
+    let user = cert.user();
+    let mut part = part;
+    let mut numbers = Vec::new(alloc);
+    for (place, change) in cert.changes().iter().enumerate() {
+        if part.follow(alloc, blocks, user, is_member, change)? {
+            numbers.push(place as u8 + 1)?;
+        }
+    }
+    Ok(Applied {
+        part,
+        voids: Voids { numbers },
+    })
+}

@@ -1,0 +1,377 @@
+//! A principal's part of the tree.
+
+ghost use Rattle.std.specs.Prelude.{◌≡◌, ◌==◌, ◌||◌, ◌&&◌, ◌/◌, nat_lt, nat_le, if◌then◌else◌, None, ℕ, List, [], Some, false, IfOk, IfErr, OnOk, IsSome, IfSome, true};
+ghost use Rattle.std.specs.Option.{option_copied, option_map};
+ghost use Rattle.std.specs.Ordering.{nat_cmp};
+ghost use Rattle.layout.specs.Ascending.{Stands};
+ghost use Rattle.itable.specs.ITable.{digest_at};
+ghost use Rattle.update_cert.specs.Change.{Make, Put, Remove, Link, Unlink};
+ghost use Rattle.update_cert.specs.World.{Content, Actor, Tree, after_change, behind, has_effect, is_file, is_removable};
+ghost use Rattle.update_cert.specs.Blocks.{Agrees, inode_at as inode_of};
+ghost use Rattle.update_cert.specs.Part.{IsPart, IsPartOf, LacksAskedFor, number_of, opened_at as entries_at, part_of, stands_at};
+ghost use Rattle.update_cert.specs.Acts.{Acts, Keeps, change_at, is_void_of, listed};
+
+use crate::blocks::Blocks;
+use crate::change::{Action, Change};
+use crate::error::ApplyError;
+use crate::opened::{Open, find, take_out};
+use crate::reading::{read_directory, read_inode};
+use crate::spot::{is_root, is_table};
+use directory::{Directory, Entry};
+use itable::{ITable, Inode, Kind};
+use layout::{Digest, INumber, Memory, Principal, User};
+use std::alloc::Allocator;
+use std::marker::Model;
+
+/// Whether a user changes what is this principal's: the user's own, or that of a group with this member.
+fn is_permitted(user: User, is_member: bool, principal: Principal) -> bool
+    ensures { result ≡ ((principal == user) || (nat_le 64 principal && is_member)) }
+{
+    principal.get() == user.get() || (principal.get() >= 64 && is_member)
+}
+
+/// Whether a user makes an i-number of this principal: of a group, those of a range of 64.
+fn may_make(user: User, principal: Principal, i_number: INumber) -> bool
+    ensures { result ≡ (nat_lt principal 64 || (i_number / 64 == user)) }
+{
+    principal.get() < 64 || i_number.get() / 64 == u16::from(user.get())
+}
+
+/// A principal's part of the tree: its i-table, and the directories that were opened, whose texts aren't made while
+/// changes are applied.
+#[derive(Drop)]
+pub struct Part<A: Allocator> {
+    table: ITable<A>,
+    opened: Vec<Open<A>, A>,
+}
+
+impl<A: Allocator> Model for Part<A> {
+    ghost use Rattle.update_cert.specs.Part.{Part, IsPart};
+
+    ghost Value = { Part };
+
+    ghost view = { λ p. record { table = p.table; opened = p.opened.items } };
+
+    ghost invariant = { λ p. IsPart (record { table = p.table; opened = p.opened.items }) };
+}
+
+impl<A: Allocator> Part<A> {
+    /// The part of an i-table, of which no directory is opened.
+    pub fn of(alloc: A, table: ITable<A>) -> Part<A>
+        ensures { result ≡ part_of table }
+    {
+        Part {
+            table,
+            opened: Vec::new(alloc),
+        }
+    }
+
+    /// Whose part it is.
+    pub fn principal(&self) -> Principal
+        ensures { result ≡ self.now.table.principal }
+    {
+        self.table.principal()
+    }
+
+    /// The directory at an i-number, if it was opened.
+    fn opened_at(&self, i_number: INumber) -> Option<&Directory<A>>
+        ensures { option_copied result ≡ entries_at self.now i_number }
+    {
+        match find(&self.opened, i_number) {
+            Ok(place) => Some(self.opened[place].directory()),
+            Err(_) => None,
+        }
+    }
+
+    /// Sets the digest at an i-number where no directory is opened.
+    fn set(&mut self, i_number: INumber, digest: Digest) -> Result<(), Memory>
+        requires { entries_at self.old i_number ≡ None }
+        ensures opened { OnOk result (self.new.opened ≡ self.old.opened) }
+        ensures principal { OnOk result (self.new.table.principal ≡ self.old.table.principal) }
+        ensures digests { OnOk result ((i : ℕ) → digest_at self.new.table i ≡ (if i_number == i then Some digest else digest_at self.old.table i)) }
+    {
+        self.table.set(i_number, digest)
+    }
+
+    /// Lets nothing stand at an i-number.
+    fn take(&mut self, i_number: INumber)
+        ensures opened { (i : ℕ) → entries_at self.new i ≡ (if i_number == i then None else entries_at self.old i) }
+        ensures principal { self.new.table.principal ≡ self.old.table.principal }
+        ensures digests { (i : ℕ) → digest_at self.new.table i ≡ (if i_number == i then None else digest_at self.old.table i) }
+    {
+        take_out(&mut self.opened, i_number);
+        let _digest = self.table.remove(i_number);
+    }
+
+    /// What the i-node of this digest is of stands at an i-number from now on, if nothing stood there.
+    fn make(&mut self, user: User, i_number: INumber, digest: Digest) -> Result<bool, Memory>
+        ensures acts { (reads : List ℕ → Content) → IfOk result (λ fitted. Acts reads user (change_at self.old i_number (Make digest)) self.old self.new fitted) }
+        ensures keeps { OnOk result (Keeps (change_at self.old i_number (Make digest)) self.old self.new) }
+    {
+        if self.table.get(i_number).is_some() || !may_make(user, self.principal(), i_number) {
+            return Ok(false);
+        }
+        self.set(i_number, digest)?;
+        Ok(true)
+    }
+}
+
+impl<A: Allocator + Copy> Part<A> {
+    /// The i-node at an i-number, if the table has one.
+    fn inode<B: Blocks>(
+        &self,
+        alloc: A,
+        blocks: &B,
+        i_number: INumber,
+    ) -> Result<Option<Inode<A>>, ApplyError>
+        ensures found { IfOk result (λ found. option_map (λ n. Some n) found ≡ option_map (inode_of (B.held blocks.now)) (digest_at self.now.table i_number)) }
+        ensures missing { IfErr result (λ e. LacksAskedFor (B.held blocks.now) self.now [] e) }
+    {
+        let Some(digest) = self.table.get(i_number) else {
+            return Ok(None);
+        };
+        let inode = read_inode(alloc, blocks, self.principal(), i_number, digest)?;
+        Ok(Some(inode))
+    }
+
+    /// Whether a file stands at an i-number.
+    fn is_file<B: Blocks>(
+        &self,
+        alloc: A,
+        blocks: &B,
+        i_number: INumber,
+    ) -> Result<bool, ApplyError>
+        ensures file { (reads : List ℕ → Content) → Agrees (B.held blocks.now) reads → IfOk result (λ is. is ≡ is_file (stands_at reads self.now i_number)) }
+        // It isn't opened then.
+        ensures closed { IfOk result (λ is. is ≡ true → entries_at self.now i_number ≡ None) }
+        ensures missing { IfErr result (λ e. LacksAskedFor (B.held blocks.now) self.now [] e) }
+    {
+        if self.opened_at(i_number).is_some() {
+            return Ok(false);
+        }
+        let inode = self.inode(alloc, blocks, i_number)?;
+        Ok(inode.is_some_and(|inode| inode.kind() == Kind::File))
+    }
+
+    /// Whether a file or an empty directory stands at an i-number. The size of its i-node tells whether a directory that
+    /// isn't opened is empty.
+    fn is_removable<B: Blocks>(
+        &self,
+        alloc: A,
+        blocks: &B,
+        i_number: INumber,
+    ) -> Result<bool, ApplyError>
+        ensures removable { (reads : List ℕ → Content) → Agrees (B.held blocks.now) reads → IfOk result (λ is. is ≡ is_removable (stands_at reads self.now i_number)) }
+        ensures missing { IfErr result (λ e. LacksAskedFor (B.held blocks.now) self.now [] e) }
+    {
+        if let Some(directory) = self.opened_at(i_number) {
+            return Ok(directory.entries().is_empty());
+        }
+        let inode = self.inode(alloc, blocks, i_number)?;
+        Ok(inode.is_some_and(|inode| inode.kind() == Kind::File || inode.size() == 6))
+    }
+
+    /// The directory at an i-number where none is opened, if one stands there.
+    fn directory<B: Blocks>(
+        &self,
+        alloc: A,
+        blocks: &B,
+        i_number: INumber,
+    ) -> Result<Option<Directory<A>>, ApplyError>
+        ensures found { (reads : List ℕ → Content) → Agrees (B.held blocks.now) reads → IfOk result (λ found. found ≡ listed (option_map reads (digest_at self.now.table i_number))) }
+        ensures mapped { IfOk result (λ found. IsSome found → IsSome (digest_at self.now.table i_number)) }
+        ensures missing { IfErr result (λ e. LacksAskedFor (B.held blocks.now) self.now [] e) }
+    {
+        let Some(digest) = self.table.get(i_number) else {
+            return Ok(None);
+        };
+        let inode = read_inode(alloc, blocks, self.principal(), i_number, digest)?;
+        match inode.kind() {
+            Kind::File => Ok(None),
+            Kind::Directory => {
+                let directory = read_directory(alloc, blocks, digest, &inode)?;
+                Ok(Some(directory))
+            }
+        }
+    }
+
+    /// What the i-node of this digest is of stands at an i-number from now on, if a file stood there.
+    fn put<B: Blocks>(
+        &mut self,
+        alloc: A,
+        blocks: &B,
+        i_number: INumber,
+        digest: Digest,
+    ) -> Result<bool, ApplyError>
+        ensures acts { (reads : List ℕ → Content) (user : ℕ) → Agrees (B.held blocks.now) reads → IfOk result (λ fitted. Acts reads user (change_at self.old i_number (Put digest)) self.old self.new fitted) }
+        ensures keeps { OnOk result (Keeps (change_at self.old i_number (Put digest)) self.old self.new) }
+        ensures missing { IfErr result (λ e. LacksAskedFor (B.held blocks.now) self.old [] e) }
+    {
+        if is_table(self.principal(), i_number) {
+            return Ok(false);
+        }
+        if !self.is_file(alloc, blocks, i_number)? {
+            return Ok(false);
+        }
+        self.set(i_number, digest)?;
+        Ok(true)
+    }
+
+    /// Nothing stands at an i-number any more, if a file or an empty directory stood there.
+    fn remove<B: Blocks>(
+        &mut self,
+        alloc: A,
+        blocks: &B,
+        i_number: INumber,
+    ) -> Result<bool, ApplyError>
+        ensures acts { (reads : List ℕ → Content) (user : ℕ) → Agrees (B.held blocks.now) reads → IfOk result (λ fitted. Acts reads user (change_at self.old i_number Remove) self.old self.new fitted) }
+        ensures keeps { OnOk result (Keeps (change_at self.old i_number Remove) self.old self.new) }
+        ensures missing { IfErr result (λ e. LacksAskedFor (B.held blocks.now) self.old [] e) }
+    {
+        let principal = self.principal();
+        if is_table(principal, i_number) || is_root(principal, i_number) {
+            return Ok(false);
+        }
+        if !self.is_removable(alloc, blocks, i_number)? {
+            return Ok(false);
+        }
+        self.take(i_number);
+        Ok(true)
+    }
+
+    /// Where the opened directory of an i-number stands, which is opened if it isn't yet, if a directory stands there.
+    fn open<B: Blocks>(
+        &mut self,
+        alloc: A,
+        blocks: &B,
+        i_number: INumber,
+    ) -> Result<Option<usize>, ApplyError>
+        ensures place { (reads : List ℕ → Content) → Agrees (B.held blocks.now) reads → IfOk result (λ place. place ≡ None → listed (stands_at reads self.old i_number) ≡ None) }
+        ensures there { IfOk result (λ place. IfSome place (Stands nat_cmp number_of self.new.opened i_number)) }
+        // What stands stays.
+        ensures same { (reads : List ℕ → Content) → Agrees (B.held blocks.now) reads → OnOk result ((i : ℕ) → stands_at reads self.new i ≡ stands_at reads self.old i) }
+        ensures table { OnOk result (self.new.table ≡ self.old.table) }
+        ensures missing { IfErr result (λ e. LacksAskedFor (B.held blocks.now) self.old [] e) }
+    {
+        let place = match find(&self.opened, i_number) {
+            Ok(place) => return Ok(Some(place)),
+            Err(place) => place,
+        };
+        let Some(directory) = self.directory(alloc, blocks, i_number)? else {
+            return Ok(None);
+        };
+        self.opened.insert(place, Open::new(i_number, directory))?;
+        Ok(Some(place))
+    }
+
+    /// The directory at an i-number has this entry, too, if one stands there, the name is free and there is room.
+    fn link<B: Blocks>(
+        &mut self,
+        alloc: A,
+        blocks: &B,
+        i_number: INumber,
+        entry: &Entry<A>,
+    ) -> Result<bool, ApplyError>
+        ensures acts { (reads : List ℕ → Content) (user : ℕ) → Agrees (B.held blocks.now) reads → IfOk result (λ fitted. Acts reads user (change_at self.old i_number (Link entry.now)) self.old self.new fitted) }
+        ensures keeps { OnOk result (Keeps (change_at self.old i_number (Link entry.now)) self.old self.new) }
+        ensures missing { IfErr result (λ e. LacksAskedFor (B.held blocks.now) self.old [] e) }
+    {
+        let Some(place) = self.open(alloc, blocks, i_number)? else {
+            return Ok(false);
+        };
+        let fitted = self.opened[place].link(entry)?;
+        Ok(fitted)
+    }
+
+    /// The directory at an i-number has no entry of this name any more, if one stands there and had it.
+    fn unlink<B: Blocks>(
+        &mut self,
+        alloc: A,
+        blocks: &B,
+        i_number: INumber,
+        name: &[u8],
+    ) -> Result<bool, ApplyError>
+        ensures acts { (reads : List ℕ → Content) (user : ℕ) → Agrees (B.held blocks.now) reads → IfOk result (λ fitted. Acts reads user (change_at self.old i_number (Unlink name.now)) self.old self.new fitted) }
+        ensures keeps { OnOk result (Keeps (change_at self.old i_number (Unlink name.now)) self.old self.new) }
+        ensures missing { IfErr result (λ e. LacksAskedFor (B.held blocks.now) self.old [] e) }
+    {
+        let Some(place) = self.open(alloc, blocks, i_number)? else {
+            return Ok(false);
+        };
+        Ok(self.opened[place].unlink(name))
+    }
+
+    /// Does what a change of the part's principal does, if it fits what stands at its i-number.
+    fn act<B: Blocks>(
+        &mut self,
+        alloc: A,
+        blocks: &B,
+        user: User,
+        change: &Change<A>,
+    ) -> Result<bool, ApplyError>
+        requires { change.now.principal ≡ self.old.table.principal }
+        ensures acts { (reads : List ℕ → Content) → Agrees (B.held blocks.now) reads → IfOk result (λ fitted. Acts reads user change.now self.old self.new fitted) }
+        ensures keeps { OnOk result (Keeps change.now self.old self.new) }
+        ensures missing { IfErr result (λ e. LacksAskedFor (B.held blocks.now) self.old [] e) }
+    {
+        let i_number = change.i_number();
+        match change.action() {
+            Action::Make(inode) => Ok(self.make(user, i_number, *inode)?),
+            Action::Put(inode) => self.put(alloc, blocks, i_number, *inode),
+            Action::Remove => self.remove(alloc, blocks, i_number),
+            Action::Link(entry) => self.link(alloc, blocks, i_number, entry),
+            Action::Unlink(name) => self.unlink(alloc, blocks, i_number, name.as_bytes()),
+        }
+    }
+
+    /// Applies a change of the part's principal, where it is permitted and fits what stands at its i-number, and answers
+    /// whether it had effect.
+    pub(crate) fn change<B: Blocks>(
+        &mut self,
+        alloc: A,
+        blocks: &B,
+        user: User,
+        is_member: bool,
+        change: &Change<A>,
+    ) -> Result<bool, ApplyError>
+        requires { change.now.principal ≡ self.old.table.principal }
+        ensures effect { (reads : List ℕ → Content) (actor : Actor)
+            → Agrees (B.held blocks.now) reads → actor.user ≡ user → actor.member self.old.table.principal ≡ is_member
+            → IfOk result (λ effect. effect ≡ has_effect actor change.now (stands_at reads self.old change.now.i_number)) }
+        ensures stands { (reads : List ℕ → Content) (actor : Actor)
+            → Agrees (B.held blocks.now) reads → actor.user ≡ user → actor.member self.old.table.principal ≡ is_member
+            → OnOk result ((i : ℕ) → stands_at reads self.new i ≡ (if change.now.i_number == i then behind reads actor change.now (stands_at reads self.old i) else stands_at reads self.old i)) }
+        ensures keeps { OnOk result (Keeps change.now self.old self.new) }
+        ensures missing { IfErr result (λ e. LacksAskedFor (B.held blocks.now) self.old [] e) }
+    {
+        if !is_permitted(user, is_member, self.principal()) {
+            return Ok(false);
+        }
+        self.act(alloc, blocks, user, change)
+    }
+
+    /// Applies a change, if it is of the part's principal, and answers whether it is one of theirs that has no effect.
+    pub(crate) fn follow<B: Blocks>(
+        &mut self,
+        alloc: A,
+        blocks: &B,
+        user: User,
+        is_member: bool,
+        change: &Change<A>,
+    ) -> Result<bool, ApplyError>
+        ensures part { (reads : List ℕ → Content) (tree : Tree) (actor : Actor)
+            → Agrees (B.held blocks.now) reads → IsPartOf reads self.old tree → actor.user ≡ user → actor.member self.old.table.principal ≡ is_member
+            → OnOk result (IsPartOf reads self.new (after_change reads actor change.now tree)) }
+        ensures void { (reads : List ℕ → Content) (tree : Tree) (actor : Actor)
+            → Agrees (B.held blocks.now) reads → IsPartOf reads self.old tree → actor.user ≡ user → actor.member self.old.table.principal ≡ is_member
+            → IfOk result (λ is_void. is_void ≡ is_void_of actor self.old.table.principal change.now tree) }
+        ensures keeps { OnOk result (Keeps change.now self.old self.new) }
+        ensures missing { IfErr result (λ e. LacksAskedFor (B.held blocks.now) self.old [] e) }
+    {
+        if change.principal().get() != self.principal().get() {
+            return Ok(false);
+        }
+        let effect = self.change(alloc, blocks, user, is_member, change)?;
+        Ok(!effect)
+    }
+}

@@ -1,0 +1,84 @@
+//! I-nodes and directories, read from the blocks that are held.
+
+ghost use Rattle.std.specs.Prelude.{◌≡◌, Some, IfOk, IfErr, length};
+ghost use Rattle.update_cert.specs.Blocks.{directory_over, inode_at as inode_of, joined};
+ghost use Rattle.update_cert.specs.Part.{Lacks};
+ghost use Rattle.update_cert.specs.Acts.{IsInode, IsBlock};
+ghost use Rattle.itable.specs.declared.inode.Kind.TheVariants as kinds;
+
+use crate::blocks::{Blocks, inode_at, spelled};
+use crate::error::ApplyError;
+use crate::spot::{Spot, size_of_block, takes_inode};
+use directory::Directory;
+use itable::Inode;
+use layout::{Digest, INumber, Principal};
+use std::alloc::Allocator;
+
+/// The i-node of this digest, at an i-number of a principal.
+pub(crate) fn read_inode<A: Allocator + Copy, B: Blocks>(
+    alloc: A,
+    blocks: &B,
+    principal: Principal,
+    i_number: INumber,
+    digest: Digest,
+) -> Result<Inode<A>, ApplyError>
+    ensures found { IfOk result (λ inode. inode_of (B.held blocks.now) digest ≡ Some inode) }
+    ensures missing { IfErr result (λ e. Lacks (B.held blocks.now) (IsInode principal i_number digest) e) }
+{
+    match inode_at(alloc, blocks, digest)? {
+        Some(inode) if takes_inode(principal, i_number, &inode) => Ok(inode),
+        _ => Err(ApplyError::Missing(digest, Spot::Inode(principal, i_number))),
+    }
+}
+
+/// The text of the directory that an i-node is of: each block has its size.
+fn text_of<A: Allocator + Copy, B: Blocks>(
+    alloc: A,
+    blocks: &B,
+    digest: Digest,
+    inode: &Inode<A>,
+) -> Result<Vec<u8, A>, ApplyError>
+    requires held { inode_of (B.held blocks.now) digest ≡ Some inode.now }
+    requires directory { inode.now.kind ≡ kinds.Directory }
+    ensures joined { IfOk result (λ text. joined (B.held blocks.now) inode.now.blocks ≡ Some text.items) }
+    ensures size { IfOk result (λ text. length text.items ≡ inode.now.size) }
+    ensures missing { IfErr result (λ e. Lacks (B.held blocks.now) (IsBlock digest inode.now) e) }
+{
+    // It has a block for each 4,096 bytes.
+    let _kind = inode.kind();
+    let mut text = Vec::new(alloc);
+    for (place, block) in inode.blocks().iter().enumerate() {
+        let place = place as u16;
+        let size = size_of_block(inode.size(), place) as usize;
+        match blocks.get(*block) {
+            Some(bytes) if bytes.len() == size => text.extend_from_slice(bytes)?,
+            _ => {
+                return Err(ApplyError::Missing(*block, Spot::Directory(digest, place)));
+            }
+        }
+    }
+    Ok(text)
+}
+
+/// The directory that the i-node of this digest is of.
+pub(crate) fn read_directory<A: Allocator + Copy, B: Blocks>(
+    alloc: A,
+    blocks: &B,
+    digest: Digest,
+    inode: &Inode<A>,
+) -> Result<Directory<A>, ApplyError>
+    requires held { inode_of (B.held blocks.now) digest ≡ Some inode.now }
+    requires directory { inode.now.kind ≡ kinds.Directory }
+    ensures found { IfOk result (λ entries. directory_over (B.held blocks.now) inode.now ≡ Some entries) }
+    ensures missing { IfErr result (λ e. Lacks (B.held blocks.now) (IsBlock digest inode.now) e) }
+{
+    let text = text_of(alloc, blocks, digest, inode)?;
+    if let Some(directory) = spelled(alloc, &text)? {
+        return Ok(directory);
+    }
+    // It has 6 bytes or more, and so a last block.
+    let _kind = inode.kind();
+    let blocks = inode.blocks();
+    let last = blocks.len() - 1;
+    Err(ApplyError::Missing(blocks[last], Spot::Directory(digest, last as u16)))
+}
