@@ -1,0 +1,95 @@
+//! Which pending operations stand above the structures of a reply.
+
+use crate::texts::{
+    Host, certificate, check, joined, listed, pending, plan, reply, shown, structure,
+};
+use layout::Text;
+use pending_list::{Reply, is_above};
+use std::alloc::Global;
+
+/// Vectors of depth 1 and 2, and of depth 1 with version 5 of the first group.
+const ONE: &[u8] = b"\x01\0\0\0\0\x01";
+
+const TWO: &[u8] = b"\x02\0\0\0\0\x01\x01\0\0\0\x01";
+
+const ONE_AND_GROUP: &[u8] = b"\x02\0\0\0\0\x01\x40\0\0\0\x05";
+
+/// A signature that nobody checks.
+const SIGNATURE: [u8; 2508] = [0; 2508];
+
+/// The vector of the one structure, if there is one, that of the pending operation, and whether this one is above.
+struct Case {
+    shown: Option<&'static [u8]>,
+    pending: &'static [u8],
+    is_above: bool,
+}
+
+static CASES: [Case; 6] = [
+    Case {
+        shown: None,
+        pending: ONE,
+        is_above: true,
+    },
+    Case {
+        shown: None,
+        pending: b"\0",
+        is_above: false,
+    },
+    Case {
+        shown: Some(ONE),
+        pending: TWO,
+        is_above: true,
+    },
+    Case {
+        shown: Some(TWO),
+        pending: TWO,
+        is_above: false,
+    },
+    Case {
+        shown: Some(TWO),
+        pending: ONE,
+        is_above: false,
+    },
+    // Groups don't count.
+    Case {
+        shown: Some(ONE),
+        pending: ONE_AND_GROUP,
+        is_above: false,
+    },
+];
+
+/// The plan of user 0's first operation with this vector, of no certificate.
+fn plan_with(rt: &impl Host, vector: &[u8]) -> Vec<u8> {
+    plan(rt, 0, 1, &[7; 32], vector, b"\0")
+}
+
+/// The list of the structures of a case.
+fn structures_of(rt: &impl Host, case: &Case) -> Vec<u8> {
+    let Some(vector) = case.shown else {
+        return joined(rt, &[&[0]]);
+    };
+    let text = structure(rt, &plan_with(rt, vector), &[5; 32]);
+    listed(rt, &shown(rt, &joined(rt, &[&text, &SIGNATURE])))
+}
+
+/// The list of the pending operation of a case.
+fn pending_of(rt: &impl Host, case: &Case) -> Vec<u8> {
+    let text = certificate(rt, 0, 1, &[0; 32]);
+    let update = joined(rt, &[&text, &SIGNATURE]);
+    listed(rt, &pending(rt, &update, &plan_with(rt, case.pending)))
+}
+
+/// The pending operation of the reply is above as the case says.
+fn stands(rt: &impl Host, reply: &Reply<Global>, case: &Case) {
+    let item = reply.pending().first().expect(rt, "an operation");
+    check(rt, is_above(reply, item) == case.is_above, "above");
+}
+
+#[test]
+fn above_top(rt: HostRuntime) {
+    for case in &CASES {
+        let text = reply(&rt, &structures_of(&rt, case), &pending_of(&rt, case));
+        let read = Reply::read(rt.alloc(), &text).expect(&rt, "a reply");
+        stands(&rt, &read, case);
+    }
+}
