@@ -22,14 +22,19 @@ fn table_of_two_chunks(alloc: Global) -> Result<ITable<Global>, Fail> {
 }
 
 /// Keeps the text of a chunk.
-fn keep_chunk(held: &mut Held<Global>, table: &ITable<Global>, number: u8) -> Result<Digest, Fail> {
-    let text = table.chunk_text(Global, chunk_number(number)?)?;
+fn keep_chunk(
+    alloc: Global,
+    held: &mut Held<Global>,
+    table: &ITable<Global>,
+    number: u8,
+) -> Result<Digest, Fail> {
+    let text = table.chunk_text(alloc, chunk_number(number)?)?;
     Ok(held.keep(text.ok_or("no text")?)?)
 }
 
 /// What is missing to read user 0's table of this handle.
-fn missing(held: &Held<Global>, handle: Digest) -> Option<(Digest, Spot)> {
-    match read_table(Global, held, Principal::from(User::superuser()), handle) {
+fn missing(alloc: Global, held: &Held<Global>, handle: Digest) -> Option<(Digest, Spot)> {
+    match read_table(alloc, held, Principal::from(User::superuser()), handle) {
         Err(ApplyError::Missing(digest, spot)) => Some((digest, spot)),
         _ => None,
     }
@@ -37,38 +42,44 @@ fn missing(held: &Held<Global>, handle: Digest) -> Option<(Digest, Spot)> {
 
 #[test]
 fn table_is_read_again(rt: HostRuntime) -> Result<(), Fail> {
+    let alloc = rt.alloc();
     let principal = Principal::from(User::superuser());
-    let mut table = table_of_two_chunks(Global)?;
-    let mut held = Held::empty(Global);
-    let _first = keep_chunk(&mut held, &table, 0)?;
-    let _other = keep_chunk(&mut held, &table, 3)?;
-    let handle = held.keep(table.root_text(Global)?)?;
-    let again = read_table(Global, &held, principal, handle)?;
+    let mut table = table_of_two_chunks(alloc)?;
+    let mut held = Held::empty(alloc);
+    let _first = keep_chunk(alloc, &mut held, &table, 0)?;
+    let _other = keep_chunk(alloc, &mut held, &table, 3)?;
+    let handle = held.keep(table.root_text(alloc)?)?;
+    let again = read_table(alloc, &held, principal, handle)?;
     assert!(rt; again.pairs() == table.pairs());
-    assert_eq!(rt; table.handle(Global)?, handle);
+    assert_eq!(rt; table.handle(alloc)?, handle);
     Ok(())
 }
 
 #[test]
 fn root_is_missing(rt: HostRuntime) -> Result<(), Fail> {
+    let alloc = rt.alloc();
     let principal = Principal::from(User::superuser());
-    let mut table = table_of_two_chunks(Global)?;
-    let held = Held::empty(Global);
-    let handle = table.handle(Global)?;
-    assert_eq!(rt; missing(&held, handle), Some((handle, Spot::Root(principal))));
+    let mut table = table_of_two_chunks(alloc)?;
+    let held = Held::empty(alloc);
+    let handle = table.handle(alloc)?;
+    assert_eq!(rt;
+        missing(alloc, &held, handle),
+        Some((handle, Spot::Root(principal)))
+    );
     Ok(())
 }
 
 #[test]
 fn chunk_is_missing(rt: HostRuntime) -> Result<(), Fail> {
+    let alloc = rt.alloc();
     let principal = Principal::from(User::superuser());
-    let mut table = table_of_two_chunks(Global)?;
-    let mut held = Held::empty(Global);
-    let _first = keep_chunk(&mut held, &table, 0)?;
-    let handle = held.keep(table.root_text(Global)?)?;
-    let mut whole = Held::empty(Global);
-    let other = keep_chunk(&mut whole, &table, 3)?;
+    let mut table = table_of_two_chunks(alloc)?;
+    let mut held = Held::empty(alloc);
+    let _first = keep_chunk(alloc, &mut held, &table, 0)?;
+    let handle = held.keep(table.root_text(alloc)?)?;
+    let mut whole = Held::empty(alloc);
+    let other = keep_chunk(alloc, &mut whole, &table, 3)?;
     let spot = Spot::Chunk(principal, chunk_number(3)?);
-    assert_eq!(rt; missing(&held, handle), Some((other, spot)));
+    assert_eq!(rt; missing(alloc, &held, handle), Some((other, spot)));
     Ok(())
 }
