@@ -5,7 +5,6 @@ use itable::{ChunkNumber, ITable};
 use layout::{Digest, INumber, Principal, User};
 use std::alloc::Global;
 use std::test::Fail;
-use update_cert::{ApplyError, Spot};
 
 fn chunk_number(number: u8) -> Result<ChunkNumber, Fail> {
     Ok(ChunkNumber::new(number).ok_or("no chunk")?)
@@ -32,14 +31,6 @@ fn keep_chunk(
     Ok(held.keep(text.ok_or("no text")?)?)
 }
 
-/// What is missing to read user 0's table of this handle.
-fn missing(alloc: Global, held: &Held<Global>, handle: Digest) -> Option<(Digest, Spot)> {
-    match read_table(alloc, held, Principal::from(User::superuser()), handle) {
-        Err(ApplyError::Missing(digest, spot)) => Some((digest, spot)),
-        _ => None,
-    }
-}
-
 #[test]
 fn table_is_read_again(rt: HostRuntime) -> Result<(), Fail> {
     let alloc = rt.alloc();
@@ -52,34 +43,5 @@ fn table_is_read_again(rt: HostRuntime) -> Result<(), Fail> {
     let again = read_table(alloc, &held, principal, handle)?;
     assert!(rt; again.pairs() == table.pairs());
     assert_eq!(rt; table.handle(alloc)?, handle);
-    Ok(())
-}
-
-#[test]
-fn root_is_missing(rt: HostRuntime) -> Result<(), Fail> {
-    let alloc = rt.alloc();
-    let principal = Principal::from(User::superuser());
-    let mut table = table_of_two_chunks(alloc)?;
-    let held = Held::empty(alloc);
-    let handle = table.handle(alloc)?;
-    assert_eq!(rt;
-        missing(alloc, &held, handle),
-        Some((handle, Spot::Root(principal)))
-    );
-    Ok(())
-}
-
-#[test]
-fn chunk_is_missing(rt: HostRuntime) -> Result<(), Fail> {
-    let alloc = rt.alloc();
-    let principal = Principal::from(User::superuser());
-    let mut table = table_of_two_chunks(alloc)?;
-    let mut held = Held::empty(alloc);
-    let _first = keep_chunk(alloc, &mut held, &table, 0)?;
-    let handle = held.keep(table.root_text(alloc)?)?;
-    let mut whole = Held::empty(alloc);
-    let other = keep_chunk(alloc, &mut whole, &table, 3)?;
-    let spot = Spot::Chunk(principal, chunk_number(3)?);
-    assert_eq!(rt; missing(alloc, &held, handle), Some((other, spot)));
     Ok(())
 }
