@@ -8,3 +8,4 @@ pub mod TableLaws
 pub mod KnownLaws
 pub mod HandleLaws
 pub mod LoadLaws
+pub mod NewTexts

@@ -1,10 +1,11 @@
 -- I-tables: a digest for each i-number of a principal that has one, and the chunks, the root and the handle by which
 -- the table is stored.
 -- The bytes stand in docs/FORMATS.md.
-use Rattle.std.specs.Prelude.{◌≡◌, ℕ, ◌==◌, Bool, List, Option, Some, None, filter, filter_map, length, if◌then◌else◌}
-use Rattle.std.specs.List.{All, range_with_len}
+use Rattle.std.specs.Prelude.{◌≡◌, ℕ, ◌==◌, Bool, ◌&&◌, not, List, [], ◌∷◌, ◌++◌, Option, Some, None, filter, filter_map, length, if◌then◌else◌}
+use Rattle.std.specs.List.{All, list_any, range_with_len}
 use Rattle.std.specs.Option.{option_map}
 use Rattle.std.specs.Ordering.{nat_cmp}
+use Rattle.std.specs.Str.{bytes_eq}
 use Rattle.layout.specs.Format.{raw}
 use Rattle.layout.specs.Ranges.{principal as principals, i_number as i_numbers}
 use Rattle.layout.specs.Ascending.{Ascends, row_at, with_row, without_row}
@@ -76,6 +77,16 @@ root_of t = record { principal = t.principal; chunks = listings t }
 -- the handle of a table is the digest of its root's text
 abbrev pub handle_of : ITable → List ℕ
 handle_of t = hash (root.spell (root_of t))
+
+-- a root that lists these chunks lists this one, with this digest
+abbrev pub is_listed : List ListedChunk → ListedChunk → Bool
+is_listed before c = list_any (λ b. (b.number == c.number) && bytes_eq b.digest c.digest) before
+
+-- the texts by which a table is stored and another one isn't, whose root lists these chunks: of each chunk that isn't
+-- listed there, and of the root
+unfoldable pub new_texts : List ListedChunk → ITable → List (List ℕ)
+new_texts before t =
+    filter_map (λ c. text_of_chunk t c.number) (filter (λ c. not (is_listed before c)) (listings t)) ++ root.spell (root_of t) ∷ []
 
 -- a table of the same principal with the same digests has the same handle
 abbrev pub IsKnownByDigests : ITable → Type 0

@@ -1,6 +1,6 @@
 //! I-tables.
 
-ghost use Rattle.std.specs.Prelude.{◌≡◌, ◌<◌, ◌≤◌, ◌==◌, ◌↔◌, ◌++◌, ◌∷◌, [], ℕ, Some, None, IsSome, IsOk, Ok, OnOk, OnErr, IfOk, IfSome, length, if◌then◌else◌};
+ghost use Rattle.std.specs.Prelude.{◌≡◌, ◌<◌, ◌≤◌, ◌==◌, ◌↔◌, ◌++◌, ◌∷◌, [], ℕ, Some, None, IsSome, IsOk, Ok, OnOk, OnErr, IfOk, IfSome, length, map, if◌then◌else◌};
 ghost use Rattle.std.specs.List.{All, slice_set};
 ghost use Rattle.layout.specs.Hash.{hash};
 ghost use Rattle.std.specs.Option.{option_map};
@@ -9,7 +9,7 @@ ghost use Rattle.layout.specs.Format.{whole};
 ghost use Rattle.itable.specs.Chunk.{chunk, chunk as chunk_format, chunk_number};
 ghost use Rattle.itable.specs.Root.{root, chunk_at};
 ghost use Rattle.itable.specs.ITable.{IsTable, digest_at, digest_in, with_digest, without_digest, chunk_of, IsBare, text_of_chunk};
-ghost use Rattle.itable.specs.ITable.{listing as listing_of, listings as listings_of, root_of, handle_of, IsKnownByDigests, IsKnownByHandle};
+ghost use Rattle.itable.specs.ITable.{listing as listing_of, listings as listings_of, root_of, handle_of, IsKnownByDigests, IsKnownByHandle, is_listed, new_texts};
 
 use crate::chunk::{Chunk, ChunkNumber, Pair, write_chunk};
 use crate::pairs::{pair_at, put, run_of, take_out};
@@ -166,6 +166,13 @@ fn spelled<A: Allocator + Copy>(
     Ok(writer.finish())
 }
 
+/// Whether a root that lists these chunks lists this one, with this digest.
+fn lists(before: &[ListedChunk], chunk: &ListedChunk) -> bool
+    ensures { result ≡ is_listed before.now chunk.now }
+{
+    before.iter().any(|listed| listed.number == chunk.number && listed.digest == chunk.digest)
+}
+
 impl<A: Allocator + Copy> ITable<A> {
     /// The text of a chunk, if any of its i-numbers has a digest.
     pub fn chunk_text(&self, alloc: A, number: ChunkNumber) -> Result<Option<Vec<u8, A>>, Memory>
@@ -201,8 +208,8 @@ impl<A: Allocator + Copy> ITable<A> {
         Ok(Some(ListedChunk { number, digest }))
     }
 
-    /// The chunks as the root lists them.
-    fn listings(&mut self, alloc: A) -> Result<Vec<ListedChunk, A>, Memory>
+    /// The chunks as the root lists them. It hashes the chunks that changed since they were hashed last.
+    pub fn listings(&mut self, alloc: A) -> Result<Vec<ListedChunk, A>, Memory>
         ensures listed { IfOk result (λ chunks. chunks.items ≡ listings_of self.old) }
         ensures same { self.new ≡ self.old }
     {
@@ -241,5 +248,43 @@ impl<A: Allocator + Copy> ITable<A> {
         self.root_holds();
         let text = self.root_text(alloc)?;
         Ok(digest(&text))
+    }
+
+    /// The text of a chunk, if it isn't one of these.
+    fn new_text(
+        &self,
+        alloc: A,
+        before: &[ListedChunk],
+        chunk: &ListedChunk,
+    ) -> Result<Option<Vec<u8, A>>, Memory>
+        ensures { IfOk result (λ text. option_map vec_items text ≡ (if is_listed before.now chunk.now then None else text_of_chunk self.now chunk.now.number)) }
+    {
+        if lists(before, chunk) {
+            return Ok(None);
+        }
+        self.chunk_text(alloc, chunk.number)
+    }
+
+    /// The texts by which this table is stored and another one isn't, whose root lists these chunks: those of the chunks
+    /// that aren't listed there, ascending, and that of the root. It hashes the chunks that changed since they were hashed
+    /// last.
+    pub fn new_texts(
+        &mut self,
+        alloc: A,
+        before: &[ListedChunk],
+    ) -> Result<Vec<Vec<u8, A>, A>, Memory>
+        ensures texts { IfOk result (λ texts. map vec_items texts.items ≡ new_texts before.now self.old) }
+        ensures same { self.new ≡ self.old }
+    {
+        let chunks = self.listings(alloc)?;
+        let mut texts = Vec::new(alloc);
+        for chunk in &chunks {
+            if let Some(text) = self.new_text(alloc, before, chunk)? {
+                texts.push(text)?;
+            }
+        }
+        let root = self.root_text(alloc)?;
+        texts.push(root)?;
+        Ok(texts)
     }
 }

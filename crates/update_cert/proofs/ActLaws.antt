@@ -1,84 +1,105 @@
 -- What stands in a part behind an action.
-use Rattle.std.proofs.Common.{◌≡◌, ℕ, ◌<◌, Bool, true, false, List, [], ◌∷◌, length, Option, Some, None, Ok, refl, subst, sym, ap, ◌∙◌, arith}
-use Rattle.std.specs.Prelude.{◌==◌, ◌&&◌, ◌||◌, nat_le, is_some, if◌then◌else◌, slice_index_or, insert}
+use Rattle.std.proofs.Common.{◌≡◌, ℕ, Bool, true, false, List, [], ◌∷◌, Option, Some, None, refl, sym, ap, ◌∙◌, arith}
+use Rattle.std.specs.Prelude.{◌==◌, ◌&&◌, ◌||◌, not, nat_le, is_some, if◌then◌else◌, slice_index_or}
 use Rattle.std.specs.List.{slice_set}
 use Rattle.std.specs.Option.{option_map, option_map_or}
 use Rattle.std.specs.Ordering.{nat_cmp, is_eq}
-use Rattle.std.proofs.lemmas.Bool.{eqb-true}
-use Rattle.std.proofs.lemmas.Cmp.{nat_cmp_total, tied_itself}
-use Rattle.std.proofs.lemmas.List.Edits.{get_or-insert_at, length-insert}
-use Rattle.layout.specs.Ascending.{Ascends, Stands, IsFree, row_at, with_row}
-use Rattle.layout.specs.AscendingLaws.{searched, ascends_with_row}
-use Rattle.directory.specs.Directory.{Entry}
+use Rattle.std.proofs.lemmas.Bool.{eqb-true, eq-eqb}
+use Rattle.std.proofs.lemmas.Bool.Decides.{nat_tests}
+use Rattle.layout.specs.Ascending.{Stands, row_at, with_row}
+use Rattle.directory.specs.Directory.{Entry, linked, unlinked}
 use Rattle.itable.specs.ITable.{digest_at}
-use Rattle.update_cert.specs.Change.{Action, Change}
-use Rattle.update_cert.specs.World.{Content, File, Directory, Actor, permitted, has_effect, fits, becomes, behind}
-use Rattle.update_cert.specs.Part.{Open, Part, IsPart, number_of, opened_at, stands_at}
-use Rattle.update_cert.specs.Acts.{Acts, change_at, listed}
+use Rattle.update_cert.specs.Change.{Action, Make, Put, Remove, Link, Unlink, Change}
+use Rattle.update_cert.specs.World.{Content, File, Directory, Actor, Tree, permitted, has_effect, fits, has_room, has_name, entries_of, becomes, behind, after_change}
+use Rattle.update_cert.specs.Part.{Open, Part, Slot, Laid, Changed, IsPart, IsPartOf, number_of, opened_at, slot_at, stands_at}
+use Rattle.update_cert.specs.Slots.{content_in, slot_becomes, slot_behind}
+use Rattle.update_cert.specs.Acts.{Acts, change_at, is_void_of, listed}
 use Rattle.update_cert.proofs.OpenedLaws.{entries_in, entries_with, is_part_with, key_test}
+use Rattle.update_cert.proofs.PartLaws.{closed}
 
--- what stands where these entries are open, or else this digest is
-abbrev seen : (List ℕ → Content) → Option (List Entry) → Option (List ℕ) → Option Content
-seen reads entries digest = option_map_or (λ es. Some (Directory es)) entries (option_map reads digest)
+-- the slot where these entries are open, or else this digest is
+abbrev pub slot_in : Option (List Entry) → Option (List ℕ) → Option Slot
+slot_in entries digest = option_map_or (λ es. Some (Changed es)) entries (option_map (λ d. Laid d) digest)
 
-seen_with : (reads : List ℕ → Content) (t : Bool) (es : List Entry) (old : Option (List Entry)) (digest : Option (List ℕ)) → seen reads (if t then Some es else old) digest ≡ (if t then Some (Directory es) else seen reads old digest)
-seen_with reads true es old digest = refl
-seen_with reads false es old digest = refl
+pub slot_in_with : (t : Bool) (es : List Entry) (old : Option (List Entry)) (digest : Option (List ℕ)) → slot_in (if t then Some es else old) digest ≡ (if t then Some (Changed es) else slot_in old digest)
+slot_in_with true es old digest = refl
+slot_in_with false es old digest = refl
 
--- what stands where a directory is opened, or changes
-pub stands_with : (reads : List ℕ → Content) (old : Part) (opened : List Open) (o : Open) (i : ℕ) → opened ≡ with_row nat_cmp number_of old.opened o
-    → stands_at reads (record { table = old.table; opened = opened }) i ≡ (if o.i_number == i then Some (Directory o.entries) else stands_at reads old i)
-stands_with reads old opened o i with =
+-- the slots where a directory is opened, or changes
+pub slot_with : (old : Part) (opened : List Open) (o : Open) (i : ℕ) → opened ≡ with_row nat_cmp number_of old.opened o
+    → slot_at (record { table = old.table; opened = opened }) i ≡ (if o.i_number == i then Some (Changed o.entries) else slot_at old i)
+slot_with old opened o i with =
     let entries = ap (λ (os : List Open). entries_in os i) with ∙ entries_with old.opened o i in
-    ap (λ (es : Option (List Entry)). seen reads es (digest_at old.table i)) entries ∙ seen_with reads (o.i_number == i) o.entries (entries_in old.opened i) (digest_at old.table i)
+    ap (λ (es : Option (List Entry)). slot_in es (digest_at old.table i)) entries ∙ slot_in_with (o.i_number == i) o.entries (entries_in old.opened i) (digest_at old.table i)
+
+-- the entries of what stands at a place
+pub entries_there : (opened : List Open) (k place : ℕ) (d : Open) → Stands nat_cmp number_of opened k place → entries_in opened k ≡ Some (slice_index_or opened place d).entries
+entries_there opened k place d stands = ap (option_map (λ o. o.entries)) (stands.found d)
+
+-- ---- an entry is put in or taken out
 
 a_directory : (content : Option Content) (es : List Entry) → Some es ≡ listed content → content ≡ Some (Directory es)
 a_directory None es is = absurd cc
 a_directory (Some (File bytes)) es is = absurd cc
 a_directory (Some (Directory others)) es is = let same : others ≡ es = cc in ap (λ (x : List Entry). Some (Directory x)) same
 
-same_step : (reads : List ℕ → Content) (old : Part) (o : Open) (i : ℕ) (t : Bool) → (o.i_number == i) ≡ t → stands_at reads old o.i_number ≡ Some (Directory o.entries) → (if t then Some (Directory o.entries) else stands_at reads old i) ≡ stands_at reads old i
-same_step reads old o i true here is = sym is ∙ ap (stands_at reads old) (eqb-true o.i_number i here)
-same_step reads old o i false here is = refl
+-- what stands where no directory is opened
+pub stands_closed : (reads : List ℕ → Content) (part : Part) (i : ℕ) (es : List Entry) → opened_at part i ≡ None → Some es ≡ listed (option_map reads (digest_at part.table i)) → stands_at reads part i ≡ Some (Directory es)
+stands_closed reads part i es none found = closed reads part i none ∙ a_directory (option_map reads (digest_at part.table i)) es found
 
--- opening a directory leaves what stands
-pub opening_same : (reads : List ℕ → Content) (old : Part) (opened : List Open) (o : Open) (i : ℕ) → opened ≡ with_row nat_cmp number_of old.opened o → opened_at old o.i_number ≡ None → Some o.entries ≡ listed (option_map reads (digest_at old.table o.i_number))
-    → stands_at reads (record { table = old.table; opened = opened }) i ≡ stands_at reads old i
-opening_same reads old opened o i with none found =
-    let here : stands_at reads old o.i_number ≡ Some (Directory o.entries) = ap (λ (es : Option (List Entry)). seen reads es (digest_at old.table o.i_number)) none ∙ a_directory (option_map reads (digest_at old.table o.i_number)) o.entries found in
-    stands_with reads old opened o i with ∙ same_step reads old o i (o.i_number == i) refl here
+-- the action makes these entries of the others
+abbrev pub Makes : (List ℕ → Content) → Action → List Entry → List Entry → Type 0
+Makes reads action es made = (s : Option Slot) → content_in reads s ≡ Some (Directory es) → slot_becomes reads action s ≡ Some (Changed made)
 
--- what was put where it was free stands there
-pub stands_inserted : (old new : List Open) (o : Open) (k place : ℕ) → Ascends nat_cmp number_of None old → o.i_number ≡ k → IsFree nat_cmp number_of old k place → new ≡ insert old place o → Stands nat_cmp number_of new k place
-stands_inserted old new o k place up is free new_is =
-    let with = new_is ∙ free.inserts o is in
-    let ascends = subst (Ascends nat_cmp number_of None) (sym with) (ascends_with_row nat_cmp number_of nat_cmp_total None old o refl up) in
-    let inside : place < length new = rw new_is (omega (arith, length-insert old place o free.inside, free.inside)) in
-    searched nat_cmp number_of nat_cmp_total new ascends k (Ok place) inside (λ d. rw new_is (rw (get_or-insert_at old place o d free.inside) (ap (λ (n : ℕ). nat_cmp n k) is ∙ tied_itself nat_cmp_total k)))
+pub makes_linked : (reads : List ℕ → Content) (es : List Entry) (entry : Entry) → Makes reads (Link entry) es (linked es entry)
+makes_linked reads es entry s here = ap (λ (content : Option Content). Some (Changed (linked (entries_of content) entry))) here
 
--- the entries of what stands at a place
-pub entries_there : (opened : List Open) (k place : ℕ) (d : Open) → Stands nat_cmp number_of opened k place → entries_in opened k ≡ Some (slice_index_or opened place d).entries
-entries_there opened k place d stands = ap (option_map (λ o. o.entries)) (stands.found d)
+pub makes_unlinked : (reads : List ℕ → Content) (es : List Entry) (name : List ℕ) → Makes reads (Unlink name) es (unlinked es name)
+makes_unlinked reads es name s here = ap (λ (content : Option Content). Some (Changed (unlinked (entries_of content) name))) here
 
-edit_step : (reads : List ℕ → Content) (c : Change) (content : Option Content) (made es es2 : List Entry) (fitted t : Bool) → (t ≡ true → content ≡ Some (Directory es)) → becomes reads c.action (Some (Directory es)) ≡ Some (Directory made) → es2 ≡ (if fitted then made else es)
-    → (if t then Some (Directory es2) else content) ≡ (if fitted && t then becomes reads c.action content else content)
-edit_step reads c content made es es2 true true at makes is = ap (λ (x : List Entry). Some (Directory x)) is ∙ sym makes ∙ sym (ap (becomes reads c.action) (at refl))
-edit_step reads c content made es es2 true false at makes is = refl
-edit_step reads c content made es es2 false true at makes is = ap (λ (x : List Entry). Some (Directory x)) is ∙ sym (at refl)
-edit_step reads c content made es es2 false false at makes is = refl
+edit_step : (reads : List ℕ → Content) (c : Change) (s : Option Slot) (made es es2 : List Entry) (fitted t : Bool) → (t ≡ true → s ≡ Some (Changed es)) → Makes reads c.action es made → es2 ≡ (if fitted then made else es)
+    → (if t then Some (Changed es2) else s) ≡ (if fitted && t then slot_becomes reads c.action s else s)
+edit_step reads c s made es es2 true true at makes is = ap (λ (x : List Entry). Some (Changed x)) is ∙ sym (makes s (ap (content_in reads) (at refl)))
+edit_step reads c s made es es2 true false at makes is = refl
+edit_step reads c s made es es2 false true at makes is = ap (λ (x : List Entry). Some (Changed x)) is ∙ sym (at refl)
+edit_step reads c s made es es2 false false at makes is = refl
 
--- an entry was put in or taken out of an opened directory
-pub edit_acts : (reads : List ℕ → Content) (user : ℕ) (c : Change) (old mid new : Part) (made es es2 : List Entry) (fitted : Bool) → ((i : ℕ) → stands_at reads mid i ≡ stands_at reads old i) → opened_at mid c.i_number ≡ Some es
-    → fitted ≡ fits user c (Some (Directory es)) → ((i : ℕ) → stands_at reads new i ≡ (if c.i_number == i then Some (Directory es2) else stands_at reads mid i)) → becomes reads c.action (Some (Directory es)) ≡ Some (Directory made) → es2 ≡ (if fitted then made else es)
-    → Acts reads user c old new fitted
-edit_acts reads user c old mid new made es es2 fitted same there fit news makes is =
-    let here : stands_at reads old c.i_number ≡ Some (Directory es) = sym (same c.i_number) ∙ ap (λ (x : Option (List Entry)). seen reads x (digest_at mid.table c.i_number)) there in
+-- in a directory that is opened
+pub edit_acts : (reads : List ℕ → Content) (user : ℕ) (c : Change) (old new : Part) (made es es2 : List Entry) (fitted : Bool) → opened_at old c.i_number ≡ Some es → fitted ≡ fits user c (Some (Directory es))
+    → ((i : ℕ) → slot_at new i ≡ (if c.i_number == i then Some (Changed es2) else slot_at old i)) → Makes reads c.action es made → es2 ≡ (if fitted then made else es) → Acts reads user c old new fitted
+edit_acts reads user c old new made es es2 fitted there fit news makes is =
+    let here : slot_at old c.i_number ≡ Some (Changed es) = ap (λ (x : Option (List Entry)). slot_in x (digest_at old.table c.i_number)) there in
     record {
-      is_fit = fit ∙ ap (fits user c) (sym here);
-      stands = λ i.
-          news i ∙ ap (λ (x : Option Content). if c.i_number == i then Some (Directory es2) else x) (same i)
-          ∙ edit_step reads c (stands_at reads old i) made es es2 fitted (c.i_number == i) (λ t. sym (ap (stands_at reads old) (eqb-true c.i_number i t)) ∙ here) makes is;
+      is_fit = fit ∙ ap (λ (s : Option Slot). fits user c (content_in reads s)) (sym here);
+      slots = λ i. news i ∙ edit_step reads c (slot_at old i) made es es2 fitted (c.i_number == i) (λ t. sym (ap (slot_at old) (eqb-true c.i_number i t)) ∙ here) makes is;
     }
+
+open_step : (reads : List ℕ → Content) (c : Change) (s : Option Slot) (made es es2 : List Entry) (t : Bool) → (t ≡ true → content_in reads s ≡ Some (Directory es)) → Makes reads c.action es made → es2 ≡ made
+    → (if t then Some (Changed es2) else s) ≡ (if true && t then slot_becomes reads c.action s else s)
+open_step reads c s made es es2 true at makes is = ap (λ (x : List Entry). Some (Changed x)) is ∙ sym (makes s (at refl))
+open_step reads c s made es es2 false at makes is = refl
+
+-- in one that wasn't: it is opened
+pub open_acts : (reads : List ℕ → Content) (user : ℕ) (c : Change) (old new : Part) (made es es2 : List Entry) → stands_at reads old c.i_number ≡ Some (Directory es) → true ≡ fits user c (Some (Directory es))
+    → ((i : ℕ) → slot_at new i ≡ (if c.i_number == i then Some (Changed es2) else slot_at old i)) → Makes reads c.action es made → es2 ≡ made → Acts reads user c old new true
+open_acts reads user c old new made es es2 here fit news makes is = record {
+  is_fit = fit ∙ ap (fits user c) (sym here);
+  slots = λ i. news i ∙ open_step reads c (slot_at old i) made es es2 (c.i_number == i) (λ t. sym (ap (stands_at reads old) (eqb-true c.i_number i t)) ∙ here) makes is;
+}
+
+-- where it doesn't fit, all stays
+pub void_acts : (reads : List ℕ → Content) (user : ℕ) (c : Change) (part : Part) → fits user c (stands_at reads part c.i_number) ≡ false → Acts reads user c part part false
+void_acts reads user c part fit = record { is_fit = sym fit; slots = λ i. refl }
+
+pub no_room : (name : List ℕ) (content : Option Content) → None ≡ listed content → has_room name content ≡ false
+no_room name None none = refl
+no_room name (Some (File bytes)) none = refl
+no_room name (Some (Directory es)) none = absurd cc
+
+pub no_name : (name : List ℕ) (content : Option Content) → None ≡ listed content → has_name name content ≡ false
+no_name name None none = refl
+no_name name (Some (File bytes)) none = refl
+no_name name (Some (Directory es)) none = absurd cc
 
 -- ---- an opened directory that changes
 
@@ -103,10 +124,10 @@ module _ (part : Part) (k place : ℕ) (d o : Open) (at : Stands nat_cmp number_
   pub is_part_edited : IsPart part → IsPart (record { table = part.table; opened = slice_set part.opened place o })
   is_part_edited is = is_part_with part (slice_set part.opened place o) o is (ap (λ (i : ℕ). is_some (digest_at part.table i)) key_stays ∙ is.mapped k (ap is_some opened_there)) set_with
 
-  pub stands_edited : (reads : List ℕ → Content) (i : ℕ) → stands_at reads (record { table = part.table; opened = slice_set part.opened place o }) i ≡ (if k == i then Some (Directory o.entries) else stands_at reads part i)
-  stands_edited reads i =
-      stands_with reads part (slice_set part.opened place o) o i set_with
-      ∙ ap (λ (n : ℕ). if n == i then Some (Directory o.entries) else stands_at reads part i) key_stays
+  pub slot_edited : (i : ℕ) → slot_at (record { table = part.table; opened = slice_set part.opened place o }) i ≡ (if k == i then Some (Changed o.entries) else slot_at part i)
+  slot_edited i =
+      slot_with part (slice_set part.opened place o) o i set_with
+      ∙ ap (λ (n : ℕ). if n == i then Some (Changed o.entries) else slot_at part i) key_stays
 
 -- ---- a change of the part's principal
 
@@ -120,17 +141,17 @@ pub no_effect : (actor : Actor) (c : Change) (content : Option Content) → perm
 unfolding has_effect
 no_effect actor c content not = rw not refl
 
-unchanged : (reads : List ℕ → Content) (actor : Actor) (c : Change) (content : Option Content) → has_effect actor c content ≡ false → behind reads actor c content ≡ content
-unfolding behind
-unchanged reads actor c content none = rw none refl
+unchanged : (reads : List ℕ → Content) (actor : Actor) (c : Change) (s : Option Slot) → has_effect actor c (content_in reads s) ≡ false → slot_behind reads actor c s ≡ s
+unfolding slot_behind
+unchanged reads actor c s none = rw none refl
 
-either : (t : Bool) (x y : Option Content) → x ≡ y → y ≡ (if t then x else y)
+either : (t : Bool) (x y : Option Slot) → x ≡ y → y ≡ (if t then x else y)
 either true x y is = sym is
 either false x y is = refl
 
--- a change that isn't permitted leaves what stands
-pub stands_still : (reads : List ℕ → Content) (actor : Actor) (c : Change) (part : Part) (i : ℕ) → permitted actor c ≡ false → stands_at reads part i ≡ (if c.i_number == i then behind reads actor c (stands_at reads part i) else stands_at reads part i)
-stands_still reads actor c part i not = either (c.i_number == i) (behind reads actor c (stands_at reads part i)) (stands_at reads part i) (unchanged reads actor c (stands_at reads part i) (no_effect actor c (stands_at reads part i) not))
+-- a change that isn't permitted leaves the slots
+pub slots_still : (reads : List ℕ → Content) (actor : Actor) (c : Change) (part : Part) (i : ℕ) → permitted actor c ≡ false → slot_at part i ≡ (if c.i_number == i then slot_behind reads actor c (slot_at part i) else slot_at part i)
+slots_still reads actor c part i not = either (c.i_number == i) (slot_behind reads actor c (slot_at part i)) (slot_at part i) (unchanged reads actor c (slot_at part i) (no_effect actor c (stands_at reads part i) not))
 
 effect_fits : (actor : Actor) (c : Change) (content : Option Content) (user : ℕ) → permitted actor c ≡ true → actor.user ≡ user → has_effect actor c content ≡ fits user c content
 unfolding has_effect
@@ -139,14 +160,53 @@ effect_fits actor c content user may is = rw (may, is) refl
 pub has_acted : (reads : List ℕ → Content) (user : ℕ) (actor : Actor) (c : Change) (old new : Part) (fitted : Bool) → permitted actor c ≡ true → actor.user ≡ user → Acts reads user c old new fitted → fitted ≡ has_effect actor c (stands_at reads old c.i_number)
 has_acted reads user actor c old new fitted may is acts = acts.is_fit ∙ sym (effect_fits actor c (stands_at reads old c.i_number) user may is)
 
-behind_step : (reads : List ℕ → Content) (actor : Actor) (c : Change) (content : Option Content) (fitted t : Bool) → (t ≡ true → fitted ≡ has_effect actor c content) → (if fitted && t then becomes reads c.action content else content) ≡ (if t then behind reads actor c content else content)
-unfolding behind
-behind_step reads actor c content true true is = rw (sym (is refl)) refl
-behind_step reads actor c content false true is = rw (sym (is refl)) refl
-behind_step reads actor c content true false is = refl
-behind_step reads actor c content false false is = refl
+behind_step : (reads : List ℕ → Content) (actor : Actor) (c : Change) (s : Option Slot) (fitted t : Bool) → (t ≡ true → fitted ≡ has_effect actor c (content_in reads s)) → (if fitted && t then slot_becomes reads c.action s else s) ≡ (if t then slot_behind reads actor c s else s)
+unfolding slot_behind
+behind_step reads actor c s true true is = rw (sym (is refl)) refl
+behind_step reads actor c s false true is = rw (sym (is refl)) refl
+behind_step reads actor c s true false is = refl
+behind_step reads actor c s false false is = refl
 
-pub stands_acted : (reads : List ℕ → Content) (user : ℕ) (actor : Actor) (c : Change) (old new : Part) (fitted : Bool) (i : ℕ) → permitted actor c ≡ true → actor.user ≡ user → Acts reads user c old new fitted
-    → stands_at reads new i ≡ (if c.i_number == i then behind reads actor c (stands_at reads old i) else stands_at reads old i)
-stands_acted reads user actor c old new fitted i may is acts =
-    acts.stands i ∙ behind_step reads actor c (stands_at reads old i) fitted (c.i_number == i) (λ t. has_acted reads user actor c old new fitted may is acts ∙ ap (λ (k : ℕ). has_effect actor c (stands_at reads old k)) (eqb-true c.i_number i t))
+pub slots_acted : (reads : List ℕ → Content) (user : ℕ) (actor : Actor) (c : Change) (old new : Part) (fitted : Bool) (i : ℕ) → permitted actor c ≡ true → actor.user ≡ user → Acts reads user c old new fitted
+    → slot_at new i ≡ (if c.i_number == i then slot_behind reads actor c (slot_at old i) else slot_at old i)
+slots_acted reads user actor c old new fitted i may is acts =
+    acts.slots i ∙ behind_step reads actor c (slot_at old i) fitted (c.i_number == i) (λ t. has_acted reads user actor c old new fitted may is acts ∙ ap (λ (k : ℕ). has_effect actor c (stands_at reads old k)) (eqb-true c.i_number i t))
+
+-- ---- what stands, from the slots
+
+content_becomes : (reads : List ℕ → Content) (a : Action) (s : Option Slot) → content_in reads (slot_becomes reads a s) ≡ becomes reads a (content_in reads s)
+content_becomes reads (Make inode) s = refl
+content_becomes reads (Put inode) s = refl
+content_becomes reads Remove s = refl
+content_becomes reads (Link entry) s = refl
+content_becomes reads (Unlink name) s = refl
+
+content_behind : (reads : List ℕ → Content) (actor : Actor) (c : Change) (s : Option Slot) → content_in reads (slot_behind reads actor c s) ≡ behind reads actor c (content_in reads s)
+unfolding slot_behind behind
+content_behind reads actor c s = elim (has_effect actor c (content_in reads s)) as (λ t. content_in reads (if t then slot_becomes reads c.action s else s) ≡ (if t then becomes reads c.action (content_in reads s) else content_in reads s)) [
+  | true ↦ content_becomes reads c.action s
+  | false ↦ refl
+]
+
+followed_step : (reads : List ℕ → Content) (actor : Actor) (c : Change) (s : Option Slot) (content : Option Content) (t : Bool) → content ≡ content_in reads s → (if t then behind reads actor c content else content) ≡ content_in reads (if t then slot_behind reads actor c s else s)
+followed_step reads actor c s content true is = ap (behind reads actor c) is ∙ sym (content_behind reads actor c s)
+followed_step reads actor c s content false is = is
+
+own_test : (p q i k : ℕ) → p ≡ q → ((p == q) && (i == k)) ≡ (k == i)
+own_test p q i k same = grind (arith, nat_tests)
+
+-- the part of the tree behind a change of its principal
+pub part_followed : (reads : List ℕ → Content) (actor : Actor) (c : Change) (old new : Part) (tree : Tree) → c.principal ≡ old.table.principal → new.table.principal ≡ old.table.principal
+    → ((i : ℕ) → slot_at new i ≡ (if c.i_number == i then slot_behind reads actor c (slot_at old i) else slot_at old i)) → IsPartOf reads old tree → IsPartOf reads new (after_change reads actor c tree)
+part_followed reads actor c old new tree of same slots is i =
+    let p = new.table.principal in
+    let stood : tree p i ≡ stands_at reads old i = ap (λ (q : ℕ). tree q i) same ∙ is i in
+    ap (λ (t : Bool). if t then behind reads actor c (tree p i) else tree p i) (own_test p c.principal i c.i_number (same ∙ sym of))
+    ∙ followed_step reads actor c (slot_at old i) (tree p i) (c.i_number == i) stood
+    ∙ sym (ap (content_in reads) (slots i))
+
+-- it is void where it has no effect on the tree
+pub void_followed : (reads : List ℕ → Content) (actor : Actor) (c : Change) (part : Part) (tree : Tree) (effect : Bool) → c.principal ≡ part.table.principal → IsPartOf reads part tree → effect ≡ has_effect actor c (stands_at reads part c.i_number) → not effect ≡ is_void_of actor part.table.principal c tree
+void_followed reads actor c part tree effect of is told =
+    let here : stands_at reads part c.i_number ≡ tree c.principal c.i_number = sym (is c.i_number) ∙ ap (λ (q : ℕ). tree q c.i_number) (sym of) in
+    ap not (told ∙ ap (has_effect actor c) here) ∙ sym (ap (λ (t : Bool). t && not (has_effect actor c (tree c.principal c.i_number))) (eq-eqb c.principal part.table.principal of))

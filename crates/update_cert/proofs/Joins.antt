@@ -41,7 +41,8 @@ joined_lacks blocks old d ds i all inside at none whole =
     let one = ap (joined blocks) (at_place ds i d inside at) ∙ joined_none blocks d (drop (i + 1) ds) none in
     sym (ap (onto old) one) ∙ whole
 
-joined_end : (blocks : Blocks) → joined blocks [] ≡ Some []
+-- none of them
+pub joined_end : (blocks : Blocks) → joined blocks [] ≡ Some []
 unfolding joined
 joined_end blocks = refl
 

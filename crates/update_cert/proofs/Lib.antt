@@ -4,3 +4,6 @@ pub mod ReadingLaws
 pub mod OpenedLaws
 pub mod ActLaws
 pub mod TreeLaws
+pub mod Pieces
+pub mod SettleLaws
+pub mod SomeReading

@@ -12,7 +12,7 @@ use Rattle.update_cert.specs.Change.{Change}
 use Rattle.update_cert.specs.World.{Content, File, Directory, is_file, is_removable}
 use Rattle.update_cert.specs.Blocks.{Blocks, inode_at, IsOf, Agrees, directory_over}
 use Rattle.update_cert.specs.Spot.{is_of_file}
-use Rattle.update_cert.specs.Part.{Open, Part, IsPart, part_of, opened_at, stands_at, NamesInode, inode_of_action}
+use Rattle.update_cert.specs.Part.{Open, Part, Laid, IsPart, part_of, opened_at, content_of, stands_at, NamesInode, inode_of_action}
 use Rattle.update_cert.specs.Acts.{Keeps, listed}
 
 is_part_of_table : (table : ITable) → IsPart (part_of table)
@@ -52,7 +52,7 @@ keeps_same c old new same = record {
 -- ---- what an i-node tells
 
 file_of : (blocks : Blocks) (n : Inode) (content : Content) → IsOf blocks n content → is_file (Some content) ≡ is_of_file n.kind
-file_of blocks n (File bytes) is = sym (ap is_of_file is)
+file_of blocks n (File bytes) is = sym (ap is_of_file is.0)
 file_of blocks n (Directory entries) is = sym (ap is_of_file is.0)
 
 removable_entries : (entries : List Entry) (size : ℕ) → (entries ≡ [] → size ≡ 6) → (size ≡ 6 → entries ≡ []) → (length entries == 0) ≡ (size == 6)
@@ -60,8 +60,16 @@ removable_entries [] size to from = sym (eq-eqb size 6 (to refl))
 removable_entries (e ∷ es) size to from = ne_eqb (length (e ∷ es)) 0 (λ none. absurd (omega (arith, none))) ∙ sym (ne_eqb size 6 (λ is. let clash = from is in absurd cc))
 
 removable_of : (blocks : Blocks) (n : Inode) (content : Content) → IsOf blocks n content → is_removable (Some content) ≡ (is_of_file n.kind || (n.size == 6))
-removable_of blocks n (File bytes) is = sym (ap (λ k. is_of_file k || (n.size == 6)) is)
+removable_of blocks n (File bytes) is = sym (ap (λ k. is_of_file k || (n.size == 6)) is.0)
 removable_of blocks n (Directory entries) is = removable_entries entries n.size is.1.0 is.1.1 ∙ sym (ap (λ k. is_of_file k || (n.size == 6)) is.0)
+
+laid_content : (reads : List ℕ → Content) (digest : Option (List ℕ)) → option_map (content_of reads) (option_map (λ d. Laid d) digest) ≡ option_map reads digest
+laid_content reads None = refl
+laid_content reads (Some d) = refl
+
+-- what stands where no directory is opened
+pub closed : (reads : List ℕ → Content) (part : Part) (i : ℕ) → opened_at part i ≡ None → stands_at reads part i ≡ option_map reads (digest_at part.table i)
+closed reads part i none = rw none (laid_content reads (digest_at part.table i))
 
 module _ (blocks : Blocks) (reads : List ℕ → Content) (agrees : Agrees blocks reads) where
   file_read : (d : Option (List ℕ)) (found : Option Inode) → option_map (λ n. Some n) found ≡ option_map (inode_at blocks) d → option_map_or (λ n. is_of_file n.kind) found false ≡ is_file (option_map reads d)
@@ -76,19 +84,16 @@ module _ (blocks : Blocks) (reads : List ℕ → Content) (agrees : Agrees block
   removable_read (Some d) None is = absurd cc
   removable_read (Some d) (Some n) is = let at : inode_at blocks d ≡ Some n = cc in sym (removable_of blocks n (reads d) (agrees d n at))
 
-  closed : (part : Part) (i : ℕ) → opened_at part i ≡ None → stands_at reads part i ≡ option_map reads (digest_at part.table i)
-  closed part i none = rw none refl
-
   -- a file stands where its i-node says so
   pub file_told : (part : Part) (i : ℕ) (found : Option Inode) → opened_at part i ≡ None → option_map (λ n. Some n) found ≡ option_map (inode_at blocks) (digest_at part.table i) → option_map_or (λ n. is_of_file n.kind) found false ≡ is_file (stands_at reads part i)
-  file_told part i found none is = file_read (digest_at part.table i) found is ∙ sym (ap is_file (closed part i none))
+  file_told part i found none is = file_read (digest_at part.table i) found is ∙ sym (ap is_file (closed reads part i none))
 
   -- a file, or a directory of 6 bytes
   pub removable_told : (part : Part) (i : ℕ) (found : Option Inode) → opened_at part i ≡ None → option_map (λ n. Some n) found ≡ option_map (inode_at blocks) (digest_at part.table i) → option_map_or (λ n. is_of_file n.kind || (n.size == 6)) found false ≡ is_removable (stands_at reads part i)
-  removable_told part i found none is = removable_read (digest_at part.table i) found is ∙ sym (ap is_removable (closed part i none))
+  removable_told part i found none is = removable_read (digest_at part.table i) found is ∙ sym (ap is_removable (closed reads part i none))
 
   a_list : (n : Inode) (content : Content) (entries : List Entry) → IsOf blocks n content → n.kind ≡ kinds.Directory → directory_over blocks n ≡ Some entries → Some entries ≡ listed (Some content)
-  a_list n (File bytes) entries is of_directory found = let clash = sym is ∙ of_directory in absurd cc
+  a_list n (File bytes) entries is of_directory found = let clash = sym is.0 ∙ of_directory in absurd cc
   a_list n (Directory others) entries is of_directory found = ap (λ (es : List Entry). Some es) (is.2 entries found)
 
   -- a directory has the entries that its blocks spell

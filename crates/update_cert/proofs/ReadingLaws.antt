@@ -1,9 +1,10 @@
 -- What reading i-nodes and directories finds, and what it lacks.
-use Rattle.std.proofs.Common.{◌≡◌, ℕ, suc, ◌+◌, ◌*◌, ◌<◌, ◌≤◌, min, Bool, true, false, List, [], ◌∷◌, ◌++◌, length, take, Option, Some, None, refl, sym, ap, subst, ◌∙◌, arith, append_assoc}
-use Rattle.std.specs.Prelude.{not, ◌&&◌, ◌||◌, ◌==◌, is_some, nat_lt, slice_index_or, if◌then◌else◌}
+use Rattle.std.proofs.Common.{◌≡◌, ℕ, suc, ◌+◌, ◌*◌, ◌<◌, ◌≤◌, min, Bool, true, false, List, [], ◌∷◌, ◌++◌, length, take, Option, Some, None, refl, sym, ap, subst, ◌∙◌, arith, append_assoc, add-one}
+use Rattle.std.specs.Prelude.{not, ◌&&◌, ◌||◌, ◌==◌, is_some, IsSome, nat_lt, slice_index_or, if◌then◌else◌}
 use Rattle.std.proofs.lemmas.Bool.Decides.{nat_tests}
 use Rattle.std.proofs.Math.Seq.{take-suc}
 use Rattle.std.proofs.lemmas.List.{append-nil, take_all}
+use Rattle.std.proofs.lemmas.Option.{slice_get_read}
 use Rattle.std.specs.Int.{w16, w32}
 use Rattle.std.specs.Option.{option_map, option_map_or, option_and_then}
 use Rattle.std.specs.Result.{result_ok}
@@ -14,6 +15,7 @@ use Rattle.itable.specs.declared.inode.Kind.{Kind}
 use Rattle.itable.specs.declared.inode.Kind.TheVariants as kinds
 use Rattle.directory.specs.Directory.{directory}
 use Rattle.update_cert.specs.Blocks.{Blocks, inode_at, joined, of_size}
+use Rattle.update_cert.specs.Part.{IsBlockOf}
 use Rattle.update_cert.specs.Spot.{takes, takes_inode, takes_block, size_of_block, completes, is_of_file, lacks}
 use Rattle.update_cert.specs.declared.spot.Spot.TheVariants as spot
 
@@ -102,6 +104,23 @@ unfolding joined
 joined_last blocks [] d = one_last (blocks d)
 joined_last blocks (x ∷ xs) d = first_and_last (blocks x) (joined blocks xs) (joined blocks (xs ++ d ∷ [])) (blocks d) (joined_last blocks xs d)
 
+-- the first blocks, and one more
+pub joined_more : (blocks : Blocks) (ds : List (List ℕ)) (k : ℕ) (d old bytes new : List ℕ) → k < length ds → d ≡ slice_index_or ds k d → blocks d ≡ Some bytes → new ≡ old ++ bytes → joined blocks (take k ds) ≡ Some old → joined blocks (take (k + 1) ds) ≡ Some new
+joined_more blocks ds k d old bytes new inside at held is before =
+    let front : take (k + 1) ds ≡ take k ds ++ d ∷ [] = rw add-one (take-suc ds k d inside ∙ ap (λ (x : List ℕ). take k ds ++ x ∷ []) (sym at)) in
+    ap (joined blocks) front ∙ joined_last blocks (take k ds) d ∙ rw (before, held) (ap (λ (text : List ℕ). Some text) (sym is))
+
+pub joined_all : (blocks : Blocks) (ds : List (List ℕ)) (k : ℕ) (text : List ℕ) → length ds ≤ k → joined blocks (take k ds) ≡ Some text → joined blocks ds ≡ Some text
+joined_all blocks ds k text past all = ap (joined blocks) (sym (take_all k ds past)) ∙ all
+
+front_held : (before last : Option (List ℕ)) (text : List ℕ) → with_last before last ≡ Some text → IsSome before
+front_held None last text all = absurd cc
+front_held (Some front) last text all = refl
+
+-- a block of an i-node that is held, behind others that are held
+pub is_block : (blocks : Blocks) (digest : List ℕ) (n : Inode) (kind : Kind) (k : ℕ) (block : List ℕ) → inode_at blocks digest ≡ Some n → n.kind ≡ kind → k < length n.blocks → block ≡ slice_index_or n.blocks k block → IsSome (joined blocks (take k n.blocks)) → IsBlockOf blocks kind digest k block
+is_block blocks digest n kind k block at of_kind inside here front = rw at (of_kind, slice_get_read n.blocks (length n.blocks) k block refl inside here, front)
+
 not_of_size : (size : ℕ) (text : List ℕ) → result_ok (whole directory text) ≡ None → is_some (of_size size text) ≡ false
 not_of_size size text none = elim (length text == size) as (λ t. is_some (if t then result_ok (whole directory text) else None) ≡ false) [ true ↦ ap is_some none | false ↦ refl ]
 
@@ -129,6 +148,11 @@ front_and_last ds k d is at =
     let here : k < length ds = omega arith in
     let past : length ds ≤ suc k = omega arith in
     sym (take_all (suc k) ds past) ∙ take-suc ds k d here ∙ ap (λ (x : List ℕ). take k ds ++ x ∷ []) (sym at)
+
+-- where all are held, those before the last one are
+pub front_joined : (blocks : Blocks) (ds : List (List ℕ)) (k : ℕ) (d text : List ℕ) → k + 1 ≡ length ds → d ≡ slice_index_or ds k d → joined blocks ds ≡ Some text → IsSome (joined blocks (take k ds))
+front_joined blocks ds k d text is here all =
+    front_held (joined blocks (take k ds)) (blocks d) text (sym (joined_last blocks (take k ds) d) ∙ sym (ap (joined blocks) (front_and_last ds k d is here)) ∙ all)
 
 -- the blocks are held, and spell no directory
 pub lacks_last : (blocks : Blocks) (digest : List ℕ) (n : Inode) (k : ℕ) (block text : List ℕ) → inode.Fits n → inode_at blocks digest ≡ Some n → k + 1 ≡ length n.blocks → block ≡ slice_index_or n.blocks k block → joined blocks n.blocks ≡ Some text → result_ok (whole directory text) ≡ None → lacks blocks block (spot.Directory digest k) ≡ true

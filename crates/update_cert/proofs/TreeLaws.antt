@@ -1,14 +1,16 @@
 -- The tree and a principal's part of it, behind changes in turn.
-use Rattle.std.proofs.Common.{◌≡◌, ℕ, suc, ◌+◌, ◌<◌, Bool, true, false, List, [], ◌∷◌, ◌++◌, length, take, Some, Result, Ok, Err, refl, subst, sym, ap, ◌∙◌, inl, inr, arith, add-one}
-use Rattle.std.specs.Prelude.{if◌then◌else◌, Contains, IfErr, IsErrAnd, slice_index_or}
+use Rattle.std.proofs.Common.{◌≡◌, ◌≢◌, ℕ, suc, ◌+◌, ◌<◌, Bool, true, false, List, [], ◌∷◌, ◌++◌, length, take, Option, Some, Result, Ok, Err, refl, subst, sym, ap, ◌∙◌, inl, inr, arith, add-one}
+use Rattle.std.specs.Prelude.{◌==◌, ◌&&◌, if◌then◌else◌, Contains, IfErr, IsErrAnd, slice_index_or}
+use Rattle.std.proofs.lemmas.Bool.{eq-eqb, ne_eqb}
 use Rattle.std.proofs.lemmas.List.Elements.{Contains-append_left, Contains-append_right}
 use Rattle.std.proofs.lemmas.List.{append-nil, take-append-drop}
 use Rattle.std.proofs.Math.Seq.{take-suc}
 use Rattle.itable.specs.ITable.{digest_at}
 use Rattle.update_cert.specs.Change.{Change}
-use Rattle.update_cert.specs.World.{Content, Actor, Tree, after_change, after, void_from, void}
+use Rattle.update_cert.specs.World.{Content, Actor, Tree, after_change, after, void_from, is_of, void_of}
 use Rattle.update_cert.specs.Blocks.{Blocks}
-use Rattle.update_cert.specs.Part.{Part, IsPartOf, NamesInode, IsAskedFor, LacksAskedFor}
+use Rattle.update_cert.specs.Slots.{slot_behind, slot_after}
+use Rattle.update_cert.specs.Part.{Part, Slot, IsPartOf, NamesInode, IsAskedFor, LacksAskedFor}
 use Rattle.update_cert.specs.Acts.{Keeps, is_void_of}
 use Rattle.update_cert.specs.declared.error.ApplyError.{ApplyError}
 use Rattle.update_cert.specs.declared.error.ApplyError.TheVariants as error
@@ -37,13 +39,34 @@ no_more : (n : ℕ) → n ≡ n + 0
 no_more n = omega arith
 
 pub void_last : (n : ℕ) (reads : List ℕ → Content) (actor : Actor) (p : ℕ) (cs : List Change) (c : Change) (tree : Tree)
-    → void_from n reads actor p (cs ++ c ∷ []) tree ≡ void_from n reads actor p cs tree ++ if_void (is_void_of actor p c (after reads actor cs tree)) (n + length cs)
+    → void_from n reads actor (is_of p) (cs ++ c ∷ []) tree ≡ void_from n reads actor (is_of p) cs tree ++ if_void (is_void_of actor p c (after reads actor cs tree)) (n + length cs)
 unfolding after void_from
 void_last n reads actor p [] c tree = ap (λ (k : ℕ). if_void (is_void_of actor p c tree) k) (no_more n)
 void_last n reads actor p (x ∷ xs) c tree =
     let tree2 = after_change reads actor x tree in
-    void_step (is_void_of actor p x tree) n (void_from (n + 1) reads actor p (xs ++ c ∷ []) tree2) (void_from (n + 1) reads actor p xs tree2) (if_void (is_void_of actor p c (after reads actor xs tree2)) (n + suc (length xs)))
-    (void_last (n + 1) reads actor p xs c tree2 ∙ ap (λ (k : ℕ). void_from (n + 1) reads actor p xs tree2 ++ if_void (is_void_of actor p c (after reads actor xs tree2)) k) (more n (length xs)))
+    void_step (is_void_of actor p x tree) n (void_from (n + 1) reads actor (is_of p) (xs ++ c ∷ []) tree2) (void_from (n + 1) reads actor (is_of p) xs tree2) (if_void (is_void_of actor p c (after reads actor xs tree2)) (n + suc (length xs)))
+    (void_last (n + 1) reads actor p xs c tree2 ∙ ap (λ (k : ℕ). void_from (n + 1) reads actor (is_of p) xs tree2 ++ if_void (is_void_of actor p c (after reads actor xs tree2)) k) (more n (length xs)))
+
+-- ---- slots
+
+slot_last : (reads : List ℕ → Content) (actor : Actor) (p i : ℕ) (cs : List Change) (c : Change) (s : Option Slot) → slot_after reads actor p i (cs ++ c ∷ []) s ≡ slot_after reads actor p i (c ∷ []) (slot_after reads actor p i cs s)
+unfolding slot_after
+slot_last reads actor p i [] c s = refl
+slot_last reads actor p i (x ∷ xs) c s = elim ((x.principal == p) && (x.i_number == i)) as (λ t.
+    (if t then slot_after reads actor p i (xs ++ c ∷ []) (slot_behind reads actor x s) else slot_after reads actor p i (xs ++ c ∷ []) s)
+    ≡ slot_after reads actor p i (c ∷ []) (if t then slot_after reads actor p i xs (slot_behind reads actor x s) else slot_after reads actor p i xs s)) [
+      | true ↦ slot_last reads actor p i xs c (slot_behind reads actor x s)
+      | false ↦ slot_last reads actor p i xs c s
+    ]
+
+-- one change of the principal's, or of another's
+pub slot_own : (reads : List ℕ → Content) (actor : Actor) (p i : ℕ) (c : Change) (s new : Option Slot) → c.principal ≡ p → new ≡ (if c.i_number == i then slot_behind reads actor c s else s) → new ≡ slot_after reads actor p i (c ∷ []) s
+unfolding slot_after
+slot_own reads actor p i c s new of is = is ∙ sym (ap (λ (t : Bool). if t && (c.i_number == i) then slot_behind reads actor c s else s) (eq-eqb c.principal p of))
+
+pub slot_foreign : (reads : List ℕ → Content) (actor : Actor) (p i : ℕ) (c : Change) (s : Option Slot) → c.principal ≢ p → s ≡ slot_after reads actor p i (c ∷ []) s
+unfolding slot_after
+slot_foreign reads actor p i c s other = sym (ap (λ (t : Bool). if t && (c.i_number == i) then slot_behind reads actor c s else s) (ne_eqb c.principal p other))
 
 -- ---- what is asked for
 
@@ -72,6 +95,7 @@ names_kept first part new cs c same names keeps = λ i d found. names_last first
 asked : (blocks : Blocks) (first part : Part) (cs : List Change) (k : ℕ) (digest : List ℕ) (s : Spot) → part.table.principal ≡ first.table.principal → NamesOnly first part (take k cs) → IsAskedFor blocks part [] digest s → IsAskedFor blocks first cs digest s
 asked blocks first part cs k digest (spot.Root p) same names is = absurd is
 asked blocks first part cs k digest (spot.Chunk p n) same names is = absurd is
+asked blocks first part cs k digest (spot.File inode n) same names is = absurd is
 asked blocks first part cs k digest (spot.Inode p i) same names (of, named) =
     let all = names_more first (take k cs) _ i digest (names_now first part (take k cs) i digest names named) in
     (of ∙ same, subst (λ (xs : List Change). NamesInode first xs i digest) (take-append-drop k cs) all)
@@ -92,15 +116,22 @@ pub part_next : (reads : List ℕ → Content) (actor : Actor) (cs next : List C
 part_next reads actor cs next c part tree is here =
     subst (λ (t : Tree). IsPartOf reads part t) (sym (ap (λ (xs : List Change). after reads actor xs tree) is ∙ after_last reads actor cs c tree)) here
 
-pub voids_next : (reads : List ℕ → Content) (actor : Actor) (p k : ℕ) (cs next : List Change) (c : Change) (tree : Tree) (old new : List ℕ) (t : Bool) → next ≡ cs ++ c ∷ [] → length cs ≡ k → t ≡ is_void_of actor p c (after reads actor cs tree) → old ≡ void reads actor p cs tree → new ≡ old ++ if_void t (k + 1) → new ≡ void reads actor p next tree
+pub slot_next : (reads : List ℕ → Content) (actor : Actor) (p i : ℕ) (cs next : List Change) (c : Change) (first old new : Option Slot) → next ≡ cs ++ c ∷ [] → old ≡ slot_after reads actor p i cs first → new ≡ slot_after reads actor p i (c ∷ []) old → new ≡ slot_after reads actor p i next first
+slot_next reads actor p i cs next c first old new is before more =
+    more
+    ∙ ap (slot_after reads actor p i (c ∷ [])) before
+    ∙ sym (slot_last reads actor p i cs c first)
+    ∙ sym (ap (λ (xs : List Change). slot_after reads actor p i xs first) is)
+
+pub voids_next : (reads : List ℕ → Content) (actor : Actor) (p k : ℕ) (cs next : List Change) (c : Change) (tree : Tree) (old new : List ℕ) (t : Bool) → next ≡ cs ++ c ∷ [] → length cs ≡ k → t ≡ is_void_of actor p c (after reads actor cs tree) → old ≡ void_of reads actor p cs tree → new ≡ old ++ if_void t (k + 1) → new ≡ void_of reads actor p next tree
 voids_next reads actor p k cs next c tree old new t is long told before more =
     let number : k + 1 ≡ 1 + length cs = omega (arith, long) in
     more
     ∙ ap (λ (ns : List ℕ). ns ++ if_void t (k + 1)) before
-    ∙ ap (λ (b : Bool). void reads actor p cs tree ++ if_void b (k + 1)) told
-    ∙ ap (λ (n : ℕ). void reads actor p cs tree ++ if_void (is_void_of actor p c (after reads actor cs tree)) n) number
+    ∙ ap (λ (b : Bool). void_of reads actor p cs tree ++ if_void b (k + 1)) told
+    ∙ ap (λ (n : ℕ). void_of reads actor p cs tree ++ if_void (is_void_of actor p c (after reads actor cs tree)) n) number
     ∙ sym (void_last 1 reads actor p cs c tree)
-    ∙ sym (ap (λ (xs : List Change). void reads actor p xs tree) is)
+    ∙ sym (ap (λ (xs : List Change). void_of reads actor p xs tree) is)
 
 pub pushed : (old new : List ℕ) (n : ℕ) (t : Bool) → t ≡ true → new ≡ old ++ n ∷ [] → new ≡ old ++ if_void t n
 pushed old new n t is more = more ∙ ap (λ (b : Bool). old ++ if_void b n) (sym is)

@@ -1,11 +1,13 @@
 -- What one change makes of a principal's part, and what it asks for.
-use Rattle.std.specs.Prelude.{◌≡◌, ℕ, ◌==◌, Bool, ◌&&◌, not, List, [], ◌∷◌, Option, Some, None, if◌then◌else◌, slice_get}
-use Rattle.itable.specs.Inode.{Inode}
+use Rattle.std.specs.Prelude.{◌≡◌, ℕ, ◌==◌, Bool, ◌&&◌, not, List, [], ◌∷◌, Option, Some, None, if◌then◌else◌}
 use Rattle.itable.specs.ITable.{digest_at}
+use Rattle.itable.specs.declared.inode.Kind.TheVariants as kind
 use Rattle.directory.specs.Directory.{Entry}
 use Rattle.update_cert.specs.Change.{Action, Change}
-use Rattle.update_cert.specs.World.{Content, Directory, Actor, Tree, fits, becomes, has_effect}
-use Rattle.update_cert.specs.Part.{Part, stands_at, NamesInode}
+use Rattle.update_cert.specs.World.{Content, Directory, Actor, Tree, fits, has_effect}
+use Rattle.update_cert.specs.Blocks.{Blocks}
+use Rattle.update_cert.specs.Part.{Part, slot_at, stands_at, NamesInode, IsBlockOf}
+use Rattle.update_cert.specs.Slots.{slot_becomes}
 use Rattle.update_cert.specs.declared.spot.Spot.{Spot}
 use Rattle.update_cert.specs.declared.spot.Spot.TheVariants as spot
 
@@ -13,11 +15,11 @@ use Rattle.update_cert.specs.declared.spot.Spot.TheVariants as spot
 abbrev pub change_at : Part → ℕ → Action → Change
 change_at part i action = record { principal = part.table.principal; i_number = i; action = action }
 
--- The answer tells whether the change fits what stands at its i-number. Where it does, this is what the action makes of
--- it; all else is as before.
+-- The answer tells whether the change fits what stands at its i-number. Where it does, the slot there is what the action
+-- makes of it; all else is as before.
 pub record Acts (reads : List ℕ → Content) (user : ℕ) (c : Change) (old new : Part) (fitted : Bool) : Type 0 where
   pub is_fit : fitted ≡ fits user c (stands_at reads old c.i_number)
-  pub stands : (i : ℕ) → stands_at reads new i ≡ (if fitted && (c.i_number == i) then becomes reads c.action (stands_at reads old i) else stands_at reads old i)
+  pub slots : (i : ℕ) → slot_at new i ≡ (if fitted && (c.i_number == i) then slot_becomes reads c.action (slot_at old i) else slot_at old i)
 
 -- Whose part it is stays, and each digest of its table was there or is the change's.
 pub record Keeps (c : Change) (old new : Part) : Type 0 where
@@ -37,6 +39,6 @@ listed other = None
 abbrev pub IsInode : ℕ → ℕ → List ℕ → List ℕ → Spot → Type 0
 IsInode p i inode digest s = (digest ≡ inode) × (s ≡ spot.Inode p i)
 
--- the digest is that of a block of this i-node's
-abbrev pub IsBlock : List ℕ → Inode → List ℕ → Spot → Type 0
-IsBlock inode n digest s = (k : ℕ) × (s ≡ spot.Directory inode k) × (slice_get n.blocks k ≡ Some digest)
+-- the digest is that of a block of this i-node of a directory
+abbrev pub IsBlock : Blocks → List ℕ → List ℕ → Spot → Type 0
+IsBlock blocks inode digest s = (k : ℕ) × (s ≡ spot.Directory inode k) × IsBlockOf blocks kind.Directory inode k digest

@@ -29,10 +29,19 @@ of_size size text = if length text == size then result_ok (whole directory text)
 abbrev pub directory_over : Blocks → Inode → Option (List Entry)
 directory_over blocks n = option_and_then (of_size n.size) (joined blocks n.blocks)
 
--- What a content is of an i-node: a directory has the size 6 exactly where it is empty, and is the one that the blocks
--- spell where they are held.
+-- the bytes, if they are as many as this
+abbrev pub if_of_size : ℕ → List ℕ → Option (List ℕ)
+if_of_size size bytes = if length bytes == size then Some bytes else None
+
+-- the bytes that the blocks of an i-node make, if they are held and make as many as the i-node says
+abbrev pub file_over : Blocks → Inode → Option (List ℕ)
+file_over blocks n = option_and_then (if_of_size n.size) (joined blocks n.blocks)
+
+-- What a content is of an i-node: a file has as many bytes as it says, and those of the blocks where they are held; a
+-- directory has the size 6 exactly where it is empty, and is the one that the blocks spell where they are held.
 abbrev pub IsOf : Blocks → Inode → Content → Type 0
-IsOf blocks n (File bytes) = n.kind ≡ kind.File
+IsOf blocks n (File bytes) =
+    (n.kind ≡ kind.File) × (length bytes ≡ n.size) × ((found : List ℕ) → file_over blocks n ≡ Some found → found ≡ bytes)
 IsOf blocks n (Directory entries) =
     (n.kind ≡ kind.Directory) × ((entries ≡ []) ↔ (n.size ≡ 6)) × ((found : List Entry) → directory_over blocks n ≡ Some found → found ≡ entries)
 

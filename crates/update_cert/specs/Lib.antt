@@ -4,4 +4,5 @@ pub mod World
 pub mod Blocks
 pub mod Spot
 pub mod Part
+pub mod Slots
 pub mod Acts

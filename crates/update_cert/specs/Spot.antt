@@ -33,6 +33,10 @@ takes_inode p i n = not ((p == 0) && (i == 1)) || (is_of_file n.kind && nat_lt 0
 abbrev pub size_of_block : ℕ → ℕ → ℕ
 size_of_block size k = min 4096 (size - 4096 * k)
 
+-- a block of a file has its size
+abbrev pub takes_file_block : ℕ → List ℕ → Inode → Bool
+takes_file_block k text n = is_of_file n.kind && (nat_lt k (block_count n.size) && (length text == size_of_block n.size k))
+
 -- the last block of a directory is, behind the others, what makes the text of one
 abbrev pub completes : Blocks → Inode → ℕ → List ℕ → Bool
 completes blocks n k text = option_map_or (λ before. is_some (of_size n.size (before ++ text))) (joined blocks (take k n.blocks)) false
@@ -47,6 +51,7 @@ unfoldable pub takes : Blocks → Spot → List ℕ → Bool
 takes blocks (spot.Root p) text = option_map_or (takes_root p) (result_ok (whole root text)) false
 takes blocks (spot.Chunk p n) text = option_map_or (takes_chunk p n) (result_ok (whole chunk text)) false
 takes blocks (spot.Inode p i) text = option_map_or (takes_inode p i) (result_ok (whole inode text)) false
+takes blocks (spot.File d k) text = option_map_or (takes_file_block k text) (inode_at blocks d) false
 takes blocks (spot.Directory d k) text = option_map_or (takes_block blocks k text) (inode_at blocks d) false
 
 -- no text of this digest is held that the spot takes

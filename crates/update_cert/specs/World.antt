@@ -19,6 +19,10 @@ pub record Actor : Type 0 where
   pub user : ℕ
   pub member : ℕ → Bool
 
+-- a user who is a member of no group
+abbrev pub alone : ℕ → Actor
+alone user = record { user = user; member = λ _. false }
+
 -- ---- permitted: a user changes what is the user's own, or a group's of which the user is a member
 
 abbrev pub permitted : Actor → Change → Bool
@@ -100,14 +104,21 @@ unfoldable pub after : (List ℕ → Content) → Actor → List Change → Tree
 after reads actor [] tree = tree
 after reads actor (c ∷ cs) tree = after reads actor cs (after_change reads actor c tree)
 
--- the numbers, counted from this one, of the changes of a principal that have no effect
-unfoldable pub void_from : ℕ → (List ℕ → Content) → Actor → ℕ → List Change → Tree → List ℕ
-void_from n reads actor p [] tree = []
-void_from n reads actor p (c ∷ cs) tree =
-    if (c.principal == p) && not (has_effect actor c (tree c.principal c.i_number))
-    then n ∷ void_from (n + 1) reads actor p cs (after_change reads actor c tree)
-    else void_from (n + 1) reads actor p cs (after_change reads actor c tree)
+-- the numbers, counted from this one, of the changes among these that have no effect
+unfoldable pub void_from : ℕ → (List ℕ → Content) → Actor → (Change → Bool) → List Change → Tree → List ℕ
+void_from n reads actor among [] tree = []
+void_from n reads actor among (c ∷ cs) tree =
+    if among c && not (has_effect actor c (tree c.principal c.i_number))
+    then n ∷ void_from (n + 1) reads actor among cs (after_change reads actor c tree)
+    else void_from (n + 1) reads actor among cs (after_change reads actor c tree)
 
--- the numbers, from 1
-abbrev pub void : (List ℕ → Content) → Actor → ℕ → List Change → Tree → List ℕ
-void reads actor p cs tree = void_from 1 reads actor p cs tree
+-- the numbers, from 1, of the changes that have no effect
+abbrev pub void : (List ℕ → Content) → Actor → List Change → Tree → List ℕ
+void reads actor cs tree = void_from 1 reads actor (λ _. true) cs tree
+
+abbrev pub is_of : ℕ → Change → Bool
+is_of p c = c.principal == p
+
+-- and of those of one principal's
+abbrev pub void_of : (List ℕ → Content) → Actor → ℕ → List Change → Tree → List ℕ
+void_of reads actor p cs tree = void_from 1 reads actor (is_of p) cs tree

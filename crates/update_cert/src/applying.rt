@@ -1,9 +1,10 @@
 //! The changes of a certificate, applied to a principal's part.
 
 ghost use Rattle.std.specs.Prelude.{◌≡◌, ℕ, List, IfOk, IfErr};
-ghost use Rattle.update_cert.specs.World.{Content, Actor, Tree, after, void};
+ghost use Rattle.update_cert.specs.World.{Content, Actor, Tree, after, void_of};
 ghost use Rattle.update_cert.specs.Blocks.{Agrees};
-ghost use Rattle.update_cert.specs.Part.{IsPartOf, LacksAskedFor};
+ghost use Rattle.update_cert.specs.Part.{IsPartOf, LacksAskedFor, slot_at};
+ghost use Rattle.update_cert.specs.Slots.{slot_after};
 
 use crate::blocks::Blocks;
 use crate::cert::Cert;
@@ -61,7 +62,12 @@ pub fn apply<A: Allocator + Copy, B: Blocks>(
     ensures voids { (reads : List ℕ → Content) (tree : Tree) (actor : Actor)
         → Agrees (B.held blocks.now) reads → IsPartOf reads part tree
         → actor.user ≡ cert.now.user → actor.member part.table.principal ≡ is_member
-        → IfOk result (λ applied. applied.voids ≡ void reads actor part.table.principal cert.now.changes tree) }
+        → IfOk result (λ applied. applied.voids ≡ void_of reads actor part.table.principal cert.now.changes tree) }
+    // By which digest, or by which entries, each thing stands there.
+    ensures slots { (reads : List ℕ → Content) (actor : Actor)
+        → Agrees (B.held blocks.now) reads
+        → actor.user ≡ cert.now.user → actor.member part.table.principal ≡ is_member
+        → IfOk result (λ applied. (i : ℕ) → slot_at applied.part i ≡ slot_after reads actor part.table.principal i cert.now.changes (slot_at part i)) }
     // Whose part it is stays.
     ensures principal { IfOk result (λ applied. applied.part.table.principal ≡ part.table.principal) }
     // Missing names a digest that a spot asks for, and of which no text is held that the spot takes.

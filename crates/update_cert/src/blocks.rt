@@ -1,12 +1,13 @@
 //! Blocks that a client holds.
 
-ghost use Rattle.std.specs.Prelude.{◌≡◌, IfOk, IfSome};
+ghost use Rattle.std.specs.Prelude.{◌≡◌, ℕ, List, IfOk, IfSome};
 ghost use Rattle.std.specs.Option.{option_copied, option_map};
 ghost use Rattle.std.specs.Result.{result_ok};
 ghost use Rattle.std.specs.Vec.{vec_items};
 ghost use Rattle.layout.specs.Format.{whole};
 ghost use Rattle.layout.specs.Hash.{hash};
-ghost use Rattle.update_cert.specs.Blocks.{inode_at as inode_of, joined};
+ghost use Rattle.update_cert.specs.World.{Content};
+ghost use Rattle.update_cert.specs.Blocks.{Agrees, Blocks as Held, inode_at as inode_of, joined};
 
 use itable::Inode;
 use layout::{Digest, Memory, ReadError, Text};
@@ -25,6 +26,12 @@ pub trait Blocks {
         // It has the digest.
         ensures hashed { IfSome (held self.now digest) (λ text. hash text ≡ digest) };
 }
+
+/// Whatever blocks are held, digests can stand for something that agrees with them: what is said of each such reading is
+/// said of at least one.
+pub fn some_reading_agrees()
+    ensures { (blocks : Held) → (reads : List ℕ → Content) × Agrees blocks reads }
+{}
 
 /// The value that the bytes spell, if they spell one.
 pub(crate) fn spelled<A: Allocator + Copy, T: Text<A>>(

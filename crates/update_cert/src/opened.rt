@@ -39,7 +39,7 @@ impl<A: Allocator> Open<A> {
     }
 
     /// Its i-number.
-    fn i_number(&self) -> INumber
+    pub(crate) fn i_number(&self) -> INumber
         ensures { result ≡ self.now.i_number }
     {
         self.i_number

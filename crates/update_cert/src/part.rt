@@ -1,19 +1,22 @@
 //! A principal's part of the tree.
 
-ghost use Rattle.std.specs.Prelude.{◌≡◌, ◌==◌, ◌||◌, ◌&&◌, ◌/◌, nat_lt, nat_le, if◌then◌else◌, None, ℕ, List, [], Some, false, IfOk, IfErr, OnOk, IsSome, IfSome, true};
+ghost use Rattle.std.specs.Prelude.{◌≡◌, ◌==◌, ◌||◌, ◌&&◌, ◌/◌, nat_lt, nat_le, if◌then◌else◌, None, ℕ, List, [], Some, false, IfOk, IfErr, OnOk, IsSome, true, map, ◌∷◌};
 ghost use Rattle.std.specs.Option.{option_copied, option_map};
+ghost use Rattle.std.specs.Vec.{vec_items};
 ghost use Rattle.std.specs.Ordering.{nat_cmp};
-ghost use Rattle.layout.specs.Ascending.{Stands};
+ghost use Rattle.layout.specs.Ascending.{IsFree};
 ghost use Rattle.itable.specs.ITable.{digest_at};
 ghost use Rattle.update_cert.specs.Change.{Make, Put, Remove, Link, Unlink};
-ghost use Rattle.update_cert.specs.World.{Content, Actor, Tree, after_change, behind, has_effect, is_file, is_removable};
+ghost use Rattle.update_cert.specs.World.{Content, Actor, Tree, after_change, has_effect, is_file, is_removable};
 ghost use Rattle.update_cert.specs.Blocks.{Agrees, inode_at as inode_of};
-ghost use Rattle.update_cert.specs.Part.{IsPart, IsPartOf, LacksAskedFor, number_of, opened_at as entries_at, part_of, stands_at};
+ghost use Rattle.update_cert.specs.Part.{Changed, IsPart, IsPartOf, LacksAskedFor, number_of, opened_at as entries_at, part_of, slot_at, stands_at};
 ghost use Rattle.update_cert.specs.Acts.{Acts, Keeps, change_at, is_void_of, listed};
+ghost use Rattle.update_cert.specs.Slots.{opened_texts, settled_digest, slot_after, slot_behind};
 
 use crate::blocks::Blocks;
 use crate::change::{Action, Change};
 use crate::error::ApplyError;
+use crate::laying::lay_directory;
 use crate::opened::{Open, find, take_out};
 use crate::reading::{read_directory, read_inode};
 use crate::spot::{is_root, is_table};
@@ -37,8 +40,8 @@ fn may_make(user: User, principal: Principal, i_number: INumber) -> bool
     principal.get() < 64 || i_number.get() / 64 == u16::from(user.get())
 }
 
-/// A principal's part of the tree: its i-table, and the directories that were opened, whose texts aren't made while
-/// changes are applied.
+/// A principal's part of the tree: its i-table, and the directories that changed, which are opened: their texts aren't
+/// made while changes are applied.
 #[derive(Drop)]
 pub struct Part<A: Allocator> {
     table: ITable<A>,
@@ -239,32 +242,19 @@ impl<A: Allocator + Copy> Part<A> {
         Ok(true)
     }
 
-    /// Where the opened directory of an i-number stands, which is opened if it isn't yet, if a directory stands there.
-    fn open<B: Blocks>(
-        &mut self,
-        alloc: A,
-        blocks: &B,
-        i_number: INumber,
-    ) -> Result<Option<usize>, ApplyError>
-        ensures place { (reads : List ℕ → Content) → Agrees (B.held blocks.now) reads → IfOk result (λ place. place ≡ None → listed (stands_at reads self.old i_number) ≡ None) }
-        ensures there { IfOk result (λ place. IfSome place (Stands nat_cmp number_of self.new.opened i_number)) }
-        // What stands stays.
-        ensures same { (reads : List ℕ → Content) → Agrees (B.held blocks.now) reads → OnOk result ((i : ℕ) → stands_at reads self.new i ≡ stands_at reads self.old i) }
+    /// Opens a directory, at the place of its i-number.
+    fn open(&mut self, place: usize, directory: Open<A>) -> Result<(), Memory>
+        requires free { IsFree nat_cmp number_of self.old.opened directory.i_number place }
+        requires mapped { IsSome (digest_at self.old.table directory.i_number) }
+        ensures slots { OnOk result ((i : ℕ) → slot_at self.new i ≡ (if directory.i_number == i then Some (Changed directory.entries) else slot_at self.old i)) }
         ensures table { OnOk result (self.new.table ≡ self.old.table) }
-        ensures missing { IfErr result (λ e. LacksAskedFor (B.held blocks.now) self.old [] e) }
     {
-        let place = match find(&self.opened, i_number) {
-            Ok(place) => return Ok(Some(place)),
-            Err(place) => place,
-        };
-        let Some(directory) = self.directory(alloc, blocks, i_number)? else {
-            return Ok(None);
-        };
-        self.opened.insert(place, Open::new(i_number, directory))?;
-        Ok(Some(place))
+        self.opened.insert(place, directory)?;
+        Ok(())
     }
 
-    /// The directory at an i-number has this entry, too, if one stands there, the name is free and there is room.
+    /// The directory at an i-number has this entry, too, if one stands there, the name is free and there is room. It is
+    /// opened only then.
     fn link<B: Blocks>(
         &mut self,
         alloc: A,
@@ -276,14 +266,26 @@ impl<A: Allocator + Copy> Part<A> {
         ensures keeps { OnOk result (Keeps (change_at self.old i_number (Link entry.now)) self.old self.new) }
         ensures missing { IfErr result (λ e. LacksAskedFor (B.held blocks.now) self.old [] e) }
     {
-        let Some(place) = self.open(alloc, blocks, i_number)? else {
+        let place = match find(&self.opened, i_number) {
+            Ok(place) => {
+                let fitted = self.opened[place].link(entry)?;
+                return Ok(fitted);
+            }
+            Err(place) => place,
+        };
+        let Some(directory) = self.directory(alloc, blocks, i_number)? else {
             return Ok(false);
         };
-        let fitted = self.opened[place].link(entry)?;
-        Ok(fitted)
+        let mut open = Open::new(i_number, directory);
+        if !open.link(entry)? {
+            return Ok(false);
+        }
+        self.open(place, open)?;
+        Ok(true)
     }
 
-    /// The directory at an i-number has no entry of this name any more, if one stands there and had it.
+    /// The directory at an i-number has no entry of this name any more, if one stands there and had it. It is opened only
+    /// then.
     fn unlink<B: Blocks>(
         &mut self,
         alloc: A,
@@ -295,10 +297,19 @@ impl<A: Allocator + Copy> Part<A> {
         ensures keeps { OnOk result (Keeps (change_at self.old i_number (Unlink name.now)) self.old self.new) }
         ensures missing { IfErr result (λ e. LacksAskedFor (B.held blocks.now) self.old [] e) }
     {
-        let Some(place) = self.open(alloc, blocks, i_number)? else {
+        let place = match find(&self.opened, i_number) {
+            Ok(place) => return Ok(self.opened[place].unlink(name)),
+            Err(place) => place,
+        };
+        let Some(directory) = self.directory(alloc, blocks, i_number)? else {
             return Ok(false);
         };
-        Ok(self.opened[place].unlink(name))
+        let mut open = Open::new(i_number, directory);
+        if !open.unlink(name) {
+            return Ok(false);
+        }
+        self.open(place, open)?;
+        Ok(true)
     }
 
     /// Does what a change of the part's principal does, if it fits what stands at its i-number.
@@ -338,9 +349,9 @@ impl<A: Allocator + Copy> Part<A> {
         ensures effect { (reads : List ℕ → Content) (actor : Actor)
             → Agrees (B.held blocks.now) reads → actor.user ≡ user → actor.member self.old.table.principal ≡ is_member
             → IfOk result (λ effect. effect ≡ has_effect actor change.now (stands_at reads self.old change.now.i_number)) }
-        ensures stands { (reads : List ℕ → Content) (actor : Actor)
+        ensures slots { (reads : List ℕ → Content) (actor : Actor)
             → Agrees (B.held blocks.now) reads → actor.user ≡ user → actor.member self.old.table.principal ≡ is_member
-            → OnOk result ((i : ℕ) → stands_at reads self.new i ≡ (if change.now.i_number == i then behind reads actor change.now (stands_at reads self.old i) else stands_at reads self.old i)) }
+            → OnOk result ((i : ℕ) → slot_at self.new i ≡ (if change.now.i_number == i then slot_behind reads actor change.now (slot_at self.old i) else slot_at self.old i)) }
         ensures keeps { OnOk result (Keeps change.now self.old self.new) }
         ensures missing { IfErr result (λ e. LacksAskedFor (B.held blocks.now) self.old [] e) }
     {
@@ -362,6 +373,9 @@ impl<A: Allocator + Copy> Part<A> {
         ensures part { (reads : List ℕ → Content) (tree : Tree) (actor : Actor)
             → Agrees (B.held blocks.now) reads → IsPartOf reads self.old tree → actor.user ≡ user → actor.member self.old.table.principal ≡ is_member
             → OnOk result (IsPartOf reads self.new (after_change reads actor change.now tree)) }
+        ensures slots { (reads : List ℕ → Content) (actor : Actor)
+            → Agrees (B.held blocks.now) reads → actor.user ≡ user → actor.member self.old.table.principal ≡ is_member
+            → OnOk result ((i : ℕ) → slot_at self.new i ≡ slot_after reads actor self.old.table.principal i (change.now ∷ []) (slot_at self.old i)) }
         ensures void { (reads : List ℕ → Content) (tree : Tree) (actor : Actor)
             → Agrees (B.held blocks.now) reads → IsPartOf reads self.old tree → actor.user ≡ user → actor.member self.old.table.principal ≡ is_member
             → IfOk result (λ is_void. is_void ≡ is_void_of actor self.old.table.principal change.now tree) }
@@ -373,5 +387,34 @@ impl<A: Allocator + Copy> Part<A> {
         }
         let effect = self.change(alloc, blocks, user, is_member, change)?;
         Ok(!effect)
+    }
+}
+
+/// A part as it is stored: its i-table, and the texts of the directories that changed.
+#[derive(Drop)]
+pub struct Settled<A: Allocator> {
+    /// The i-table, with a digest for each directory that changed.
+    pub table: ITable<A>,
+    /// Of each directory that changed the blocks, in order, and the i-node; ascending by i-number.
+    pub texts: Vec<Vec<u8, A>, A>,
+}
+
+impl<A: Allocator + Copy> Part<A> {
+    /// Makes the texts of the directories that changed, and sets their digests.
+    pub fn settle(self, alloc: A) -> Result<Settled<A>, Memory>
+        ensures principal { IfOk result (λ settled. settled.table.principal ≡ self.table.principal) }
+        ensures digests { IfOk result (λ settled. (i : ℕ) → digest_at settled.table i ≡ option_map settled_digest (slot_at self i)) }
+        ensures texts { IfOk result (λ settled. map vec_items settled.texts.items ≡ opened_texts self.opened) }
+        // They ascend by i-number, and each has a digest.
+        ensures is_part { IsPart self }
+    {
+        let mut table = self.table;
+        let opened = self.opened;
+        let mut texts = Vec::new(alloc);
+        for open in &opened {
+            let inode = lay_directory(alloc, open.directory(), &mut texts)?;
+            table.set(open.i_number(), inode)?;
+        }
+        Ok(Settled { table, texts })
     }
 }

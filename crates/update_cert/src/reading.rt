@@ -42,7 +42,7 @@ fn text_of<A: Allocator + Copy, B: Blocks>(
     requires directory { inode.now.kind ≡ kinds.Directory }
     ensures joined { IfOk result (λ text. joined (B.held blocks.now) inode.now.blocks ≡ Some text.items) }
     ensures size { IfOk result (λ text. length text.items ≡ inode.now.size) }
-    ensures missing { IfErr result (λ e. Lacks (B.held blocks.now) (IsBlock digest inode.now) e) }
+    ensures missing { IfErr result (λ e. Lacks (B.held blocks.now) (IsBlock (B.held blocks.now) digest) e) }
 {
     // It has a block for each 4,096 bytes.
     let _kind = inode.kind();
@@ -70,7 +70,7 @@ pub(crate) fn read_directory<A: Allocator + Copy, B: Blocks>(
     requires held { inode_of (B.held blocks.now) digest ≡ Some inode.now }
     requires directory { inode.now.kind ≡ kinds.Directory }
     ensures found { IfOk result (λ entries. directory_over (B.held blocks.now) inode.now ≡ Some entries) }
-    ensures missing { IfErr result (λ e. Lacks (B.held blocks.now) (IsBlock digest inode.now) e) }
+    ensures missing { IfErr result (λ e. Lacks (B.held blocks.now) (IsBlock (B.held blocks.now) digest) e) }
 {
     let text = text_of(alloc, blocks, digest, inode)?;
     if let Some(directory) = spelled(alloc, &text)? {

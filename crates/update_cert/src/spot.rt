@@ -2,7 +2,7 @@
 
 ghost use Rattle.std.specs.Prelude.{◌≡◌, ◌==◌, ◌&&◌, ◌<◌, IfOk, length};
 ghost use Rattle.std.specs.List.{list_any};
-ghost use Rattle.update_cert.specs.Spot.{completes as completes_directory, is_of_file, size_of_block, takes, takes_block as block_is_taken, takes_chunk as chunk_is_taken, takes_inode as inode_is_taken, takes_root as root_is_taken};
+ghost use Rattle.update_cert.specs.Spot.{completes as completes_directory, is_of_file, size_of_block, takes, takes_block as block_is_taken, takes_file_block as file_block_is_taken, takes_chunk as chunk_is_taken, takes_inode as inode_is_taken, takes_root as root_is_taken};
 
 use crate::blocks::{Blocks, inode_at, join, spelled};
 use directory::Directory;
@@ -19,6 +19,8 @@ pub enum Spot {
     Chunk(Principal, ChunkNumber),
     /// The i-node at an i-number of a principal.
     Inode(Principal, INumber),
+    /// The block of this place, from 0, of the file that the i-node of this digest is of.
+    File(Digest, u16),
     /// The block of this place, from 0, of the directory that the i-node of this digest is of.
     Directory(Digest, u16),
 }
@@ -49,11 +51,20 @@ pub(crate) fn takes_inode<A: Allocator>(
 }
 
 /// How many bytes the block of this place has, of so many bytes in all.
-pub(crate) fn size_of_block(size: u32, place: u16) -> u32
+pub fn size_of_block(size: u32, place: u16) -> u32
     ensures { result ≡ size_of_block size place }
 {
     size.saturating_sub(BLOCK_SIZE * u32::from(place))
         .min(BLOCK_SIZE)
+}
+
+/// Whether the text has the size of the block of this place of the i-node's file.
+fn takes_file_block<A: Allocator>(inode: &Inode<A>, place: u16, text: &[u8]) -> bool
+    ensures { result ≡ file_block_is_taken place text.now inode.now }
+{
+    inode.kind() == Kind::File
+        && usize::from(place) < inode.blocks().len()
+        && text.len() == size_of_block(inode.size(), place) as usize
 }
 
 /// Whether the text makes, behind the blocks before this place, the text of a directory of the i-node's size.
@@ -138,8 +149,9 @@ fn takes_chunk<A: Allocator>(principal: Principal, number: ChunkNumber, chunk: &
 }
 
 impl Spot {
-    /// Whether the text is what it asks for: a root or a chunk of the i-table; an i-node, of a file with bytes where the table of principals stands; or as
-    /// many bytes as the block has, and with those before it the text of a directory where it is the last one.
+    /// Whether the text is what it asks for: a root or a chunk of the i-table; an i-node, of a file with bytes where the
+    /// table of principals stands; or as many bytes as the block has, and with those before it the text of a directory
+    /// where it is a directory's last one.
     #[tactic(auto, unfolding(crate::specs::Spot::takes))]
     pub fn takes<A: Allocator + Copy, B: Blocks>(
         &self,
@@ -161,6 +173,10 @@ impl Spot {
             Spot::Inode(principal, i_number) => {
                 let inode = spelled::<A, Inode<A>>(alloc, text)?;
                 Ok(inode.is_some_and(|inode| takes_inode(*principal, *i_number, &inode)))
+            }
+            Spot::File(digest, place) => {
+                let inode = inode_at(alloc, blocks, *digest)?;
+                Ok(inode.is_some_and(|inode| takes_file_block(&inode, *place, text)))
             }
             Spot::Directory(digest, place) => match inode_at(alloc, blocks, *digest)? {
                 Some(inode) => takes_block(alloc, blocks, &inode, *place, text),

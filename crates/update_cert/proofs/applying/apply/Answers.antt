@@ -1,21 +1,23 @@
-use Rattle.std.proofs.Common.{◌≡◌, ◌+◌, ℕ, List, length, take, refl, sym, ap, ◌∙◌, inl, subst, arith}
+use Rattle.std.proofs.Common.{◌≡◌, ◌+◌, ℕ, List, [], ◌∷◌, length, take, refl, sym, ap, ◌∙◌, inl, subst, arith}
 use Rattle.std.proofs.lemmas.List.{length-take, take_all}
 use Rattle.std.specs.Vec.{vec_items}
 use Rattle.update_cert.specs.Change.{Change}
-use Rattle.update_cert.specs.World.{after, void, void_from}
-use Rattle.update_cert.specs.Part.{IsPartOf, LacksAskedFor}
+use Rattle.update_cert.specs.World.{after, void_of, void_from}
+use Rattle.update_cert.specs.Part.{IsPartOf, LacksAskedFor, slot_at}
+use Rattle.update_cert.specs.Slots.{slot_after}
 use Rattle.update_cert.specs.Acts.{is_void_of}
-use Rattle.update_cert.proofs.TreeLaws.{NamesOnly, names_kept, lacks_then, take_next, part_next, voids_next, pushed, not_pushed, handed_on}
+use Rattle.update_cert.proofs.TreeLaws.{NamesOnly, names_kept, lacks_then, take_next, part_next, slot_next, voids_next, pushed, not_pushed, handed_on}
 use Rattle.update_cert.proofs.applying.apply.Goals.{then-branch+in_ok-push, else-branch}
 use Rattle.update_cert.proofs.applying.apply.Goals as goal
 
 pub loop-place-init : goal.loop-place-init
-unfolding after void_from
+unfolding after void_from slot_after
 loop-place-init g c = record {
   principal = refl;
   names = λ i d found. inl found;
   part = λ reads tree actor agrees is of one. is;
   voids = λ reads tree actor agrees is of one. c.new-numbers.ensures.items;
+  slots = λ reads actor agrees of one i. refl;
 }
 
 pub returns-in_err-follow-clause-missing : goal.returns-in_err-follow-clause-missing
@@ -54,6 +56,11 @@ loop-place-preserved g c =
             | then-branch+in_ok-push w ↦ pushed c.loop-place.numbers.items c.if-branch.numbers.items (k + 1) c.in_ok-follow.field-0 w.if-branch.true (ap vec_items w.numbers-is ∙ w.in_ok-push.ensures.items)
             | else-branch w ↦ not_pushed c.loop-place.numbers.items c.if-branch.numbers.items (k + 1) c.in_ok-follow.field-0 w.if-branch.false (ap vec_items w.numbers-is)
           ]);
+      slots = λ reads actor agrees of one i.
+          let p = first.table.principal in
+          let old = slot_at part i in
+          let more = done.slots reads actor agrees (of ∙ sym c.user-user.ensures.same) (ap actor.member inv.principal ∙ one) i ∙ ap (λ (q : ℕ). slot_after reads actor q i (change ∷ []) old) inv.principal in
+          slot_next reads actor p i (take k cs) (take (k + 1) cs) change (slot_at first i) old (slot_at new i) front (inv.slots reads actor agrees of one i) more;
     }
 
 pub returns-clause-part : goal.returns-clause-part
@@ -68,4 +75,11 @@ returns-clause-voids g c = λ reads tree actor agrees is of one.
     let cs = c.args.cert.now.changes in
     let past = rw c.changes-change-items.ensures at c.loop-place-test.false in
     let all = take_all c.loop-place.place cs past in
-    subst (λ (xs : List Change). c.loop-place.numbers.items ≡ void reads actor c.args.part.table.principal xs tree) all (c.loop-place.invariant.voids reads tree actor agrees is of one)
+    subst (λ (xs : List Change). c.loop-place.numbers.items ≡ void_of reads actor c.args.part.table.principal xs tree) all (c.loop-place.invariant.voids reads tree actor agrees is of one)
+
+pub returns-clause-slots : goal.returns-clause-slots
+returns-clause-slots g c = λ reads actor agrees of one i.
+    let cs = c.args.cert.now.changes in
+    let past = rw c.changes-change-items.ensures at c.loop-place-test.false in
+    let all = take_all c.loop-place.place cs past in
+    subst (λ (xs : List Change). slot_at c.loop-place.part i ≡ slot_after reads actor c.args.part.table.principal i xs (slot_at c.args.part i)) all (c.loop-place.invariant.slots reads actor agrees of one i)

@@ -1,7 +1,8 @@
 use Rattle.std.proofs.Common.{◌≡◌, ℕ, List, take}
-use Rattle.update_cert.specs.World.{Content, Actor, Tree, after, void}
+use Rattle.update_cert.specs.World.{Content, Actor, Tree, after, void_of}
 use Rattle.update_cert.specs.Blocks.{Agrees}
-use Rattle.update_cert.specs.Part.{IsPartOf}
+use Rattle.update_cert.specs.Part.{IsPartOf, slot_at}
+use Rattle.update_cert.specs.Slots.{slot_after}
 use Rattle.update_cert.proofs.TreeLaws.{NamesOnly}
 use Rattle.update_cert.proofs.applying.apply.Given as goal
 
@@ -12,5 +13,7 @@ invariant-loop-place g l = record {
   part : (reads : List ℕ → Content) (tree : Tree) (actor : Actor) → Agrees (g.B.Blocks.held l.blocks) reads → IsPartOf reads l.fn.part tree → actor.user ≡ l.cert.user → actor.member l.fn.part.table.principal ≡ l.is_member
       → IsPartOf reads l.part (after reads actor (take l.place l.cert.changes) tree);
   voids : (reads : List ℕ → Content) (tree : Tree) (actor : Actor) → Agrees (g.B.Blocks.held l.blocks) reads → IsPartOf reads l.fn.part tree → actor.user ≡ l.cert.user → actor.member l.fn.part.table.principal ≡ l.is_member
-      → l.numbers.items ≡ void reads actor l.fn.part.table.principal (take l.place l.cert.changes) tree;
+      → l.numbers.items ≡ void_of reads actor l.fn.part.table.principal (take l.place l.cert.changes) tree;
+  slots : (reads : List ℕ → Content) (actor : Actor) → Agrees (g.B.Blocks.held l.blocks) reads → actor.user ≡ l.cert.user → actor.member l.fn.part.table.principal ≡ l.is_member
+      → (i : ℕ) → slot_at l.part i ≡ slot_after reads actor l.fn.part.table.principal i (take l.place l.cert.changes) (slot_at l.fn.part i);
 }

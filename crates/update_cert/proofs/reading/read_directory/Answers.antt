@@ -1,6 +1,6 @@
 use Rattle.std.proofs.Common.{◌≡◌, ◌+◌, ◌-◌, ◌<◌, length, refl, sym, ◌∙◌, arith}
-use Rattle.std.proofs.lemmas.Option.{slice_get_read}
-use Rattle.update_cert.proofs.ReadingLaws.{lacks_last, some_block, few_blocks}
+use Rattle.itable.specs.declared.inode.Kind.TheVariants as kinds
+use Rattle.update_cert.proofs.ReadingLaws.{is_block, front_joined, lacks_last, some_block, few_blocks}
 use Rattle.update_cert.proofs.reading.read_directory.Goals as goal
 
 pub overflow_sub-last : goal.overflow_sub-last
@@ -15,6 +15,7 @@ overflow_cast-result g c = rw c.blocks-blocks.ensures (omega (arith, few_blocks 
 pub returns-clause-missing : goal.returns-clause-missing
 returns-clause-missing g c =
     let n = c.args.inode.now in
+    let held = g.B.Blocks.held c.args.blocks.now in
     let fits = c.kind-kind.ensures.fits in
     let k = length n.blocks - 1 in
     let block = c.index-blocks-last.result in
@@ -24,4 +25,4 @@ returns-clause-missing g c =
     let at = rw c.blocks-blocks.ensures at c.index-blocks-last.is in
     let none = sym (c.in_ok-directory.ensures) ∙ c.in_default.is in
     rw c.blocks-blocks.ensures
-    ((k, refl, slice_get_read n.blocks (length n.blocks) k block refl inside at), lacks_last (g.B.Blocks.held c.args.blocks.now) c.args.digest n k block c.in_ok-text.text.items fits c.requires.held last at c.in_ok-text.ensures.joined (rw c.deref.ensures.value at none))
+    ((k, refl, is_block held c.args.digest n kinds.Directory k block c.requires.held c.requires.directory inside at (front_joined held n.blocks k block c.in_ok-text.text.items last at c.in_ok-text.ensures.joined)), lacks_last held c.args.digest n k block c.in_ok-text.text.items fits c.requires.held last at c.in_ok-text.ensures.joined (rw c.deref.ensures.value at none))

@@ -1,29 +1,69 @@
-use Rattle.std.proofs.Common.{◌≡◌, refl, rules}
-use Rattle.std.specs.Prelude.{slice_index_or}
-use Rattle.directory.specs.Directory.{unlinked}
+use Rattle.std.proofs.Common.{◌≡◌, List, Some, None, sym, ap, ◌∙◌, rules}
+use Rattle.std.specs.Prelude.{slice_index_or, if◌then◌else◌}
+use Rattle.std.specs.Option.{option_map}
+use Rattle.directory.specs.Directory.{Entry, unlinked}
 use Rattle.update_cert.specs.Change.{Unlink}
-use Rattle.update_cert.specs.Acts.{change_at}
-use Rattle.update_cert.specs.Part.{Part}
-use Rattle.update_cert.proofs.ActLaws.{is_part_edited, stands_edited, opened_there, edit_acts}
+use Rattle.update_cert.specs.World.{Directory, has_name}
+use Rattle.update_cert.specs.Acts.{change_at, listed}
+use Rattle.update_cert.specs.Part.{Part, opened_at, stands_at}
+use Rattle.update_cert.proofs.PartLaws.{closed}
+use Rattle.update_cert.proofs.ActLaws.{is_part_edited, slot_edited, opened_there, edit_acts, open_acts, void_acts, stands_closed, makes_unlinked, no_name}
 use Rattle.update_cert.proofs.part.Part.unlink.Goals as goal
 
 pub invariant_of-self : goal.invariant_of-self
 invariant_of-self g c =
-    let mid : Part = record { table = c.self.inside.table; opened = c.self.inside.opened.items } in
-    let at = rw (← c.self.view_is) at (rw c.in-Some.is at c.in_ok-place.ensures.there) in
-    let here : c.index_mut.result.now ≡ slice_index_or c.self.inside.opened.items c.in-Some.place c.index_mut.result.now = search rules in
-    is_part_edited mid c.args.i_number c.in-Some.place c.index_mut.result.now c.unlink.new.self at here c.unlink.ensures.i_number c.self.invariant
+    let old : Part = record { table = c.self.inside.table; opened = c.self.inside.opened.items } in
+    let at = rw c.deref.ensures.value at c.in-Ok.ensures in
+    let here : c.index_mut.result.now ≡ slice_index_or c.self.inside.opened.items c.in-Ok.place c.index_mut.result.now = search rules in
+    is_part_edited old c.args.i_number c.in-Ok.place c.index_mut.result.now c.unlink.new.self at here c.unlink.ensures.i_number c.self.invariant
 
-pub returns-clause-acts : goal.returns-clause-acts
-returns-clause-acts g c = λ reads user agrees.
-    let old = c.args.self.now in
+pub returns-in-Ok-clause-acts : goal.returns-in-Ok-clause-acts
+returns-in-Ok-clause-acts g c = λ reads user agrees.
+    let old : Part = record { table = c.self.inside.table; opened = c.self.inside.opened.items } in
     let i = c.args.i_number in
-    let mid : Part = record { table = c.self.inside.table; opened = c.self.inside.opened.items } in
     let d = c.index_mut.result.now in
     let o = c.unlink.new.self in
-    let at = rw (← c.self.view_is) at (rw c.in-Some.is at c.in_ok-place.ensures.there) in
-    let same = rw (← c.self.view_is) at (c.in_ok-place.ensures.same reads agrees) in
-    let here : d ≡ slice_index_or c.self.inside.opened.items c.in-Some.place d = search rules in
-    let there = opened_there mid i c.in-Some.place d o at here c.unlink.ensures.i_number in
-    let stands = stands_edited mid i c.in-Some.place d o at here c.unlink.ensures.i_number reads in
-    edit_acts reads user (change_at old i (Unlink c.args.name.now)) old mid _ (unlinked d.entries c.args.name.now) d.entries o.entries c.unlink.result same there c.unlink.ensures.had stands refl c.unlink.ensures.entries
+    let at = rw c.deref.ensures.value at c.in-Ok.ensures in
+    let here : d ≡ slice_index_or c.self.inside.opened.items c.in-Ok.place d = search rules in
+    let there = opened_there old i c.in-Ok.place d o at here c.unlink.ensures.i_number in
+    let slots = slot_edited old i c.in-Ok.place d o at here c.unlink.ensures.i_number in
+    rw (← c.self.view_is) (edit_acts reads user (change_at old i (Unlink c.args.name.now)) old _ (unlinked d.entries c.args.name.now) d.entries o.entries c.unlink.result there c.unlink.ensures.had slots (makes_unlinked reads d.entries c.args.name.now) c.unlink.ensures.entries)
+
+-- no directory stands there
+pub returns-in_default-clause-acts : goal.returns-in_default-clause-acts
+returns-in_default-clause-acts g c = λ reads user agrees.
+    let part = c.args.self.now in
+    let i = c.args.i_number in
+    let free = rw c.deref.ensures.value at c.in-Err.ensures in
+    let none : opened_at part i ≡ None = rw (← c.self.view_is) (ap (option_map (λ x. x.entries)) free.found) in
+    let nothing = sym c.in_default.is ∙ c.in_ok-directory.ensures.found reads agrees ∙ ap listed (sym (closed reads part i none)) in
+    void_acts reads user (change_at part i (Unlink c.args.name.now)) part (no_name c.args.name.now (stands_at reads part i) nothing)
+
+-- what was read doesn't take it
+pub returns-then-not-unlink-clause-acts : goal.returns-then-not-unlink-clause-acts
+returns-then-not-unlink-clause-acts g c = λ reads user agrees.
+    let part = c.args.self.now in
+    let i = c.args.i_number in
+    let es = c.in-Some.directory in
+    let free = rw c.deref.ensures.value at c.in-Err.ensures in
+    let none : opened_at part i ≡ None = rw (← c.self.view_is) (ap (option_map (λ x. x.entries)) free.found) in
+    let here = stands_closed reads part i es none (sym c.in-Some.is ∙ c.in_ok-directory.ensures.found reads agrees) in
+    let entries = ap (λ o. o.entries) c.new-open.ensures in
+    void_acts reads user (change_at part i (Unlink c.args.name.now)) part
+    (ap (has_name c.args.name.now) here ∙ ap (λ (xs : List Entry). has_name c.args.name.now (Some (Directory xs))) (sym entries) ∙ sym c.unlink-2.ensures.had ∙ c.if-not-unlink.true)
+
+-- or it does
+pub returns-clause-acts : goal.returns-clause-acts
+returns-clause-acts g c = λ reads user agrees.
+    let part = c.args.self.now in
+    let i = c.args.i_number in
+    let es = c.in-Some.directory in
+    let o = c.unlink-2.new.self in
+    let free = rw c.deref.ensures.value at c.in-Err.ensures in
+    let none : opened_at part i ≡ None = rw (← c.self.view_is) (ap (option_map (λ x. x.entries)) free.found) in
+    let here = stands_closed reads part i es none (sym c.in-Some.is ∙ c.in_ok-directory.ensures.found reads agrees) in
+    let entries = ap (λ x. x.entries) c.new-open.ensures in
+    let key = c.unlink-2.ensures.i_number ∙ ap (λ x. x.i_number) c.new-open.ensures in
+    let fit = sym c.if-not-unlink.false ∙ c.unlink-2.ensures.had ∙ ap (λ (xs : List Entry). has_name c.args.name.now (Some (Directory xs))) entries in
+    let made : o.entries ≡ unlinked es c.args.name.now = c.unlink-2.ensures.entries ∙ ap (λ t. if t then unlinked c.new-open.result.entries c.args.name.now else c.new-open.result.entries) c.if-not-unlink.false ∙ ap (λ (xs : List Entry). unlinked xs c.args.name.now) entries in
+    open_acts reads user (change_at part i (Unlink c.args.name.now)) part _ (unlinked es c.args.name.now) es o.entries here fit (rw key at c.in_ok-open.ensures.slots) (makes_unlinked reads es c.args.name.now) made
