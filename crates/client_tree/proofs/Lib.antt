@@ -1,2 +1,5 @@
+pub mod ContentLaws
 pub mod HeldLaws
+pub mod LostLaws
 pub mod TableLaws
+pub mod TreeLaws

@@ -1,5 +1,5 @@
 -- The blocks that a client holds, by digest.
-use Rattle.std.specs.Prelude.{◌≡◌, ℕ, List, None, is_some, if◌then◌else◌}
+use Rattle.std.specs.Prelude.{◌≡◌, ℕ, List, [], ◌∷◌, None, is_some, if◌then◌else◌}
 use Rattle.std.specs.List.{All}
 use Rattle.std.specs.Option.{option_map}
 use Rattle.std.specs.Ordering.{nat_cmp}
@@ -28,6 +28,11 @@ held blocks digest = option_map (λ b. b.text) (row_at by_bytes digest_of blocks
 -- the blocks with this text among them; one of its digest that is held already stays
 unfoldable pub keeping : List Block → List ℕ → List Block
 keeping blocks text = if is_some (held blocks (hash text)) then blocks else with_row by_bytes digest_of blocks (record { digest = hash text; text = text })
+
+-- and with all these, in turn
+unfoldable pub keeping_all : List Block → List (List ℕ) → List Block
+keeping_all blocks [] = blocks
+keeping_all blocks (text ∷ texts) = keeping_all (keeping blocks text) texts
 
 -- each stands under the digest of its text, and none twice
 pub record AreHeld (blocks : List Block) : Type 0 where

@@ -1,9 +1,10 @@
 //! The blocks that a client holds.
 
-ghost use Rattle.std.specs.Prelude.{◌≡◌, None, [], IfOk, OnOk, OnErr, MatchResult};
+ghost use Rattle.std.specs.Prelude.{◌≡◌, ◌+◌, ◌<◌, ◌≤◌, None, [], IsOk, IfOk, OnOk, OnErr, MatchResult, map, vec_len, vec_capacity};
+ghost use Rattle.std.specs.Vec.{vec_items};
 ghost use Rattle.layout.specs.Ascending.{Ascends, Stands, IsFree};
 ghost use Rattle.layout.specs.Hash.{hash};
-ghost use Rattle.client_tree.specs.Held.{by_bytes, digest_of, keeping};
+ghost use Rattle.client_tree.specs.Held.{AreHeld, by_bytes, digest_of, keeping, keeping_all};
 
 use layout::{Digest, Memory, digest};
 use std::alloc::Allocator;
@@ -65,6 +66,31 @@ fn find<A: Allocator>(blocks: &[Block<A>], digest: Digest) -> Result<usize, usiz
     blocks.binary_search_by(|block| block.digest().as_bytes().as_slice().cmp(digest))
 }
 
+/// Puts a text among blocks, under its digest that was computed, where it isn't held already.
+fn put<A: Allocator>(
+    blocks: &mut Vec<Block<A>, A>,
+    digest: Digest,
+    text: Vec<u8, A>,
+) -> Result<(), Memory>
+    requires held { AreHeld blocks.old.items }
+    requires hashed { digest ≡ hash text.items }
+    ensures kept { OnOk result (blocks.new.items ≡ keeping blocks.old.items text.items) }
+    ensures held { AreHeld blocks.new.items }
+    ensures err { OnErr result (blocks.new.items ≡ blocks.old.items) }
+    // Where there is room for one more it takes no memory.
+    ensures succeeds { vec_len blocks.old < vec_capacity blocks.old → IsOk result }
+    ensures grows { vec_len blocks.new ≤ vec_len blocks.old + 1 }
+    ensures room { vec_capacity blocks.old ≤ vec_capacity blocks.new }
+{
+    match find(blocks, digest) {
+        Ok(_) => Ok(()),
+        Err(place) => {
+            blocks.insert(place, Block { digest, text })?;
+            Ok(())
+        }
+    }
+}
+
 impl<A: Allocator> Blocks for Held<A> {
     ghost use Rattle.client_tree.specs.Held.{held};
 
@@ -95,12 +121,73 @@ impl<A: Allocator> Held<A> {
         ensures err { OnErr result (self.new ≡ self.old) }
     {
         let digest = digest(&text);
-        match find(&self.blocks, digest) {
-            Ok(_) => Ok(digest),
-            Err(place) => {
-                self.blocks.insert(place, Block { digest, text })?;
-                Ok(digest)
-            }
+        self.keep_as(digest, text)?;
+        Ok(digest)
+    }
+
+    /// Keeps a text whose digest was computed. After an error the blocks are as before.
+    pub fn keep_as(&mut self, digest: Digest, text: Vec<u8, A>) -> Result<(), Memory>
+        requires { digest ≡ hash text.items }
+        ensures kept { OnOk result (self.new ≡ keeping self.old text.items) }
+        ensures err { OnErr result (self.new ≡ self.old) }
+    {
+        put(&mut self.blocks, digest, text)
+    }
+
+    /// Keeps all these texts. After an error the blocks are as before.
+    pub fn keep_all(&mut self, texts: Vec<Vec<u8, A>, A>) -> Result<(), Memory>
+        ensures kept { OnOk result (self.new ≡ keeping_all self.old (map vec_items texts.items)) }
+        ensures err { OnErr result (self.new ≡ self.old) }
+    {
+        self.blocks.reserve(texts.len())?;
+        for text in texts {
+            // There is room for each, so that none fails.
+            put(&mut self.blocks, digest(&text), text)?;
+        }
+        Ok(())
+    }
+}
+
+/// The blocks that a client holds, and one more that isn't kept yet.
+#[derive(Drop)]
+pub struct With<'a, A: Allocator> {
+    held: &'a Held<A>,
+    digest: Digest,
+    text: &'a [u8],
+}
+
+impl<'a, A: Allocator> Model for With<'a, A> {
+    ghost use Rattle.std.specs.Prelude.{◌≡◌, List};
+    ghost use Rattle.layout.specs.Hash.{hash};
+    ghost use Rattle.client_tree.specs.Held.{Block, keeping};
+
+    ghost Value = { List Block };
+
+    ghost view = { λ w. keeping w.held.now w.text.now };
+
+    ghost invariant = { λ w. w.digest ≡ hash w.text.now };
+}
+
+impl<'a, A: Allocator> With<'a, A> {
+    /// The blocks that are held, and this one, whose digest was computed.
+    pub fn new(held: &'a Held<A>, digest: Digest, text: &'a [u8]) -> With<'a, A>
+        requires { digest ≡ hash text.now }
+        ensures { result ≡ keeping held.now text.now }
+    {
+        With { held, digest, text }
+    }
+}
+
+impl<'a, A: Allocator> Blocks for With<'a, A> {
+    ghost use Rattle.client_tree.specs.Held.{held};
+
+    ghost held = { held };
+
+    fn get(&self, digest: Digest) -> Option<&[u8]> {
+        match self.held.get(digest) {
+            Some(text) => Some(text),
+            None if digest == self.digest => Some(self.text),
+            None => None,
         }
     }
 }

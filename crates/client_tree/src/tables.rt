@@ -4,7 +4,7 @@ ghost use Rattle.std.specs.Prelude.{◌≡◌, ◌⊎◌, Some, IfOk, IfErr, tru
 ghost use Rattle.layout.specs.Hash.{hash};
 ghost use Rattle.itable.specs.Chunk.{chunk as chunk_format};
 ghost use Rattle.itable.specs.Root.{root as root_format};
-ghost use Rattle.itable.specs.ITable.{handle_of};
+ghost use Rattle.itable.specs.ITable.{IsTable, handle_of};
 ghost use Rattle.update_cert.specs.Spot.{takes, lacks};
 ghost use Rattle.update_cert.specs.declared.error.ApplyError.TheVariants as error;
 ghost use Rattle.update_cert.specs.declared.spot.Spot.TheVariants as spots;
@@ -16,7 +16,7 @@ use std::alloc::Allocator;
 use update_cert::{ApplyError, Blocks, Spot};
 
 /// The text of a digest that the spot takes.
-fn text_at<'a, A: Allocator + Copy, B: Blocks>(
+pub(crate) fn text_at<'a, A: Allocator + Copy, B: Blocks>(
     alloc: A,
     blocks: &'a B,
     digest: Digest,
@@ -83,6 +83,7 @@ pub fn read_table<A: Allocator + Copy, B: Blocks>(
 ) -> Result<ITable<A>, ApplyError>
     ensures principal { IfOk result (λ table. table.principal ≡ principal) }
     ensures handle { IfOk result (λ table. handle_of table ≡ handle) }
+    ensures is_table { IfOk result IsTable }
     // Missing names the handle or the digest of a chunk that its root lists, and no text of it is held that is one.
     ensures missing { IfErr result (LacksOfTable (B.held blocks.now) principal handle) }
 {
@@ -92,5 +93,7 @@ pub fn read_table<A: Allocator + Copy, B: Blocks>(
         let chunk = chunk_of(alloc, blocks, principal, *listed)?;
         table.load(&chunk, listed.digest)?;
     }
+    // It is as its type keeps it.
+    let _principal = table.principal();
     Ok(table)
 }

@@ -1,0 +1,96 @@
+-- The tree behind an operation of a user who acts alone.
+use Rattle.std.proofs.Common.{◌≡◌, ℕ, Bool, true, false, List, [], ◌∷◌, ◌++◌, Option, Some, None, refl, sym, ap, ◌∙◌, inl, inr}
+use Rattle.std.specs.Prelude.{◌==◌, ◌&&◌, nat_le, if◌then◌else◌}
+use Rattle.std.proofs.lemmas.Bool.{cases_eq, eq-eqb, eqb-true, ne_eqb}
+use Rattle.std.proofs.lemmas.List.{append-nil}
+use Rattle.std.specs.Option.{option_map}
+use Rattle.std.specs.Str.{bytes_eq}
+use Rattle.itable.specs.ITable.{ITable, digest_at, handle_of, listings, new_texts}
+use Rattle.itable.specs.declared.root.ListedChunk.{ListedChunk}
+use Rattle.directory.specs.Directory.{Entry}
+use Rattle.update_cert.specs.Change.{Change}
+use Rattle.update_cert.specs.World.{Content, Directory, Tree, after, after_change, alone, becomes, behind, fits, has_effect, void, void_of}
+use Rattle.update_cert.specs.Part.{Changed, IsPartOf, Laid, Part, Slot, content_of, part_of, slot_at, stands_at}
+use Rattle.update_cert.specs.Slots.{settled_digest}
+use Rattle.client_tree.specs.Lost.{lost_from}
+use Rattle.client_tree.specs.Tree.{ReadsChanged, table_texts, tree_of}
+use Rattle.client_tree.proofs.LostLaws.{lost_is_void}
+
+-- ---- the texts
+
+pub same_table : (before : List (List ℕ)) (listed : List ListedChunk) (t : ITable) (handle made : List ℕ) → made ≡ handle_of t → bytes_eq made handle ≡ true → before ≡ before ++ (if bytes_eq (handle_of t) handle then [] else new_texts listed t)
+same_table before listed t handle made is same = rw (sym (ap (λ (h : List ℕ). bytes_eq h handle) is) ∙ same) (sym (append-nil before))
+
+pub other_table : (before all : List (List ℕ)) (listed : List ListedChunk) (t : ITable) (handle made : List ℕ) → made ≡ handle_of t → bytes_eq made handle ≡ false → all ≡ before ++ new_texts listed t → all ≡ before ++ (if bytes_eq (handle_of t) handle then [] else new_texts listed t)
+other_table before all listed t handle made is other grown = rw (sym (ap (λ (h : List ℕ). bytes_eq h handle) is) ∙ other) grown
+
+pub texts_are : (opened settled : List (List ℕ)) (listed : List ListedChunk) (before t made : ITable) (handle : List ℕ) → settled ≡ opened → listed ≡ listings before → made ≡ t → handle_of before ≡ handle
+    → settled ++ (if bytes_eq (handle_of t) handle then [] else new_texts listed t) ≡ opened ++ table_texts before made
+texts_are opened settled listed before t made handle of_parts lists is named = rw (of_parts, lists, is, named) refl
+
+-- ---- the changes that are lost
+
+pub lost_is : (reads : List ℕ → Content) (user p q : ℕ) (cs given : List Change) (voids : List ℕ) (tree : Tree) → p ≡ user → q ≡ user → given ≡ cs → voids ≡ void_of reads (alone user) q cs tree → lost_from 1 p voids given ≡ void reads (alone user) cs tree
+lost_is reads user p q cs given voids tree own same all is = rw (own, all, is, same) (lost_is_void reads user cs tree)
+
+-- ---- the tree before
+
+laid : (reads : List ℕ → Content) (digest : Option (List ℕ)) → option_map reads digest ≡ option_map (content_of reads) (option_map (λ d. Laid d) digest)
+laid reads None = refl
+laid reads (Some d) = refl
+
+pub is_part_of : (reads : List ℕ → Content) (t : ITable) → IsPartOf reads (part_of t) (tree_of reads t)
+is_part_of reads t i = rw (eq-eqb t.principal t.principal refl) (laid reads (digest_at t i))
+
+-- ---- what stands there
+
+pub stands : (reads : List ℕ → Content) (t : ITable) (p i : ℕ) (digest : List ℕ) → (p == t.principal) ≡ true → digest_at t i ≡ Some digest → Some (reads digest) ≡ tree_of reads t p i
+stands reads t p i digest own at = rw own (ap (option_map reads) (sym at))
+
+-- ---- the tree behind the changes
+
+-- who acts alone has no effect on what is another's
+other_stays : (reads : List ℕ → Content) (user : ℕ) (c : Change) (content : Option Content) → (c.principal == user) ≡ false → behind reads (alone user) c content ≡ content
+unfolding behind has_effect
+other_stays reads user c content other = rw other (elim (nat_le 64 c.principal) as (λ t. (if (t && false) && fits user c content then becomes reads c.action content else content) ≡ content) [ true ↦ refl | false ↦ refl ])
+
+change_stays : (reads : List ℕ → Content) (user p i : ℕ) (c : Change) (tree : Tree) → (p == user) ≡ false → after_change reads (alone user) c tree p i ≡ tree p i
+change_stays reads user p i c tree other =
+    elim (cases_eq p c.principal) [
+      | inl same ↦ rw (eq-eqb p c.principal same) (elim (i == c.i_number) as (λ t. (if t then behind reads (alone user) c (tree p i) else tree p i) ≡ tree p i) [ true ↦ other_stays reads user c (tree p i) (ap (λ (q : ℕ). q == user) (sym same) ∙ other) | false ↦ refl ])
+      | inr apart ↦ rw (ne_eqb p c.principal apart) refl
+    ]
+
+after_stays : (reads : List ℕ → Content) (user p i : ℕ) (cs : List Change) (tree : Tree) → (p == user) ≡ false → after reads (alone user) cs tree p i ≡ tree p i
+unfolding after
+after_stays reads user p i [] tree other = refl
+after_stays reads user p i (c ∷ cs) tree other = after_stays reads user p i cs (after_change reads (alone user) c tree) other ∙ change_stays reads user p i c tree other
+
+slot_read : (reads : List ℕ → Content) (s : Option Slot) → ((entries : List Entry) → s ≡ Some (Changed entries) → reads (settled_digest (Changed entries)) ≡ Directory entries) → option_map reads (option_map settled_digest s) ≡ option_map (content_of reads) s
+slot_read reads None changed = refl
+slot_read reads (Some (Laid d)) changed = refl
+slot_read reads (Some (Changed entries)) changed = ap (λ (x : Content). Some x) (changed entries refl)
+
+own_after : (reads : List ℕ → Content) (part : Part) (t : ITable) (i : ℕ) → ReadsChanged reads part → digest_at t i ≡ option_map settled_digest (slot_at part i) → option_map reads (digest_at t i) ≡ stands_at reads part i
+own_after reads part t i changed is = ap (option_map reads) is ∙ slot_read reads (slot_at part i) (changed i)
+
+world_step : (reads : List ℕ → Content) (user p i : ℕ) (cs : List Change) (before t : ITable) (part : Part) (mine : Bool) → (p == user) ≡ mine → before.principal ≡ user → t.principal ≡ user → part.table.principal ≡ user
+    → ReadsChanged reads part → ((j : ℕ) → digest_at t j ≡ option_map settled_digest (slot_at part j)) → IsPartOf reads part (after reads (alone user) cs (tree_of reads before))
+    → tree_of reads t p i ≡ after reads (alone user) cs (tree_of reads before) p i
+world_step reads user p i cs before t part true test own of_t of_part changed is stands =
+    let same : p ≡ user = eqb-true p user test in
+    let at : after reads (alone user) cs (tree_of reads before) p i ≡ stands_at reads part i = ap (λ (q : ℕ). after reads (alone user) cs (tree_of reads before) q i) (same ∙ sym of_part) ∙ stands i in
+    let mine : (p == t.principal) ≡ true = ap (λ (q : ℕ). p == q) of_t ∙ test in
+    let told : tree_of reads t p i ≡ stands_at reads part i = rw mine (own_after reads part t i changed (is i)) in
+    told ∙ sym at
+world_step reads user p i cs before t part false test own of_t of_part changed is stands =
+    let none : (p == t.principal) ≡ false = ap (λ (q : ℕ). p == q) of_t ∙ test in
+    let none_before : (p == before.principal) ≡ false = ap (λ (q : ℕ). p == q) own ∙ test in
+    let now : tree_of reads t p i ≡ None = rw none refl in
+    let earlier : tree_of reads before p i ≡ None = rw none_before refl in
+    now ∙ sym earlier ∙ sym (after_stays reads user p i cs (tree_of reads before) test)
+
+pub world_is : (reads : List ℕ → Content) (user p i : ℕ) (cs : List Change) (before t : ITable) (part : Part) → before.principal ≡ user → t.principal ≡ user → part.table.principal ≡ user
+    → ReadsChanged reads part → ((j : ℕ) → digest_at t j ≡ option_map settled_digest (slot_at part j)) → IsPartOf reads part (after reads (alone user) cs (tree_of reads before))
+    → tree_of reads t p i ≡ after reads (alone user) cs (tree_of reads before) p i
+world_is reads user p i cs before t part = world_step reads user p i cs before t part (p == user) refl
