@@ -1,6 +1,6 @@
 -- From the rules' tests to the first broken rule.
 use Rattle.std.proofs.Common.{◌≡◌, ℕ, ◌<◌, arith, ◌-◌, true, false, List, [], ◌∷◌, Option, Some, None, refl, length}
-use Rattle.std.specs.Prelude.{IsSome, IfSome, IfOk, Result, Ok, Err}
+use Rattle.std.specs.Prelude.{IsSome, IsSomeAnd, IfSome, IfOk, Result, Ok, Err}
 use Rattle.std.specs.List.{slice_get}
 use Rattle.std.specs.Option.{option_map, option_map_or}
 use Rattle.pending_list.specs.Reply.{PendingItem, Reply}
@@ -51,3 +51,8 @@ broken_first pinned (Some x) answer h told = told
 pub each_ok : {X E : Type 0} (r : Result X E) (P Q : X → Type 0) → ((x : X) → P x → Q x) → IfOk r P → IfOk r Q
 each_ok (Ok x) P Q h told = h x told
 each_ok (Err e) P Q h told = tt
+
+-- what holds of it if there is some, holds where there is some
+pub some_and : {A : Type 0} (o : Option A) (P : A → Type 0) → IsSome o → IfSome o P → IsSomeAnd o P
+some_and None P is told = absurd cc
+some_and (Some a) P is told = told

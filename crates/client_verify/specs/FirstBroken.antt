@@ -79,8 +79,8 @@ abbrev pub of_read : Known → Result Reply ReadError → Option Rule
 of_read k (Err e) = Some rule.Form
 of_read k (Ok r) = of_reply k r
 
--- The first broken rule of the bytes of a reply, or none, of the rules that can be broken first while user 0 alone is
--- listed and operations have no changes: then no block is asked for, no item of another user is known, and a client's
--- structures have no group records, so that the rules on blocks, on others' signatures and on group records are left out.
+-- The first broken rule of the bytes of a reply, or none, while user 0 alone is listed. The rules on blocks are judged
+-- where a block is handed in (block_breaks). An item of another user breaks UnknownUser, and no structure of user 0 has
+-- group records, so that the rules on others' signatures and on group records can't be the first.
 unfoldable pub first_broken : Known → List ℕ → Option Rule
 first_broken k text = of_read k (whole reply text)

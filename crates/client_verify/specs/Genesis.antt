@@ -9,8 +9,9 @@ use Rattle.itable.specs.declared.chunk.Pair.{Pair}
 use Rattle.itable.specs.declared.inode.Kind.TheVariants as kind
 use Rattle.itable.specs.Inode.{Inode, inode}
 use Rattle.itable.specs.File.{inode_of, inode_over}
-use Rattle.itable.specs.ITable.{ITable, handle_of}
+use Rattle.itable.specs.ITable.{ITable, handle_of, new_texts}
 use Rattle.directory.specs.Directory.{directory}
+use Rattle.client_tree.specs.Held.{Block, keeping_all}
 
 -- the table: one user, user 0 since 0 with this key, and no memberships
 unfoldable pub table_text : List ℕ → List ℕ
@@ -38,3 +39,13 @@ first_table user key = record { principal = user; pairs = if user == 0 then firs
 -- its handle
 abbrev pub first_handle : ℕ → List ℕ → List ℕ
 first_handle user key = handle_of (first_table user key)
+
+-- the texts of the beginning: the table of principals with its i-node, the empty directory with its, and those by which
+-- the user's i-table is stored
+abbrev pub first_texts : ℕ → List ℕ → List (List ℕ)
+first_texts user key =
+    table_text key ∷ inode.spell (table_inode key) ∷ directory.spell [] ∷ inode.spell root_inode ∷ new_texts [] (first_table user key)
+
+-- and the blocks that each client of this user holds from the beginning
+unfoldable pub first_blocks : ℕ → List ℕ → List Block
+first_blocks user key = keeping_all [] (first_texts user key)

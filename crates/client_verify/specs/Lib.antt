@@ -2,3 +2,6 @@ pub mod Genesis
 pub mod FirstBroken
 pub mod State
 pub mod Judged
+pub mod Looked
+pub mod Laid
+pub mod Grown

@@ -8,7 +8,13 @@ use Rattle.lms_sign.specs.Signature.{signature_of}
 use Rattle.version_order.specs.declared.structure.GroupRecord.{GroupRecord}
 use Rattle.version_order.specs.Plan.{Plan}
 use Rattle.version_order.specs.Structure.{Structure, structure}
+use Rattle.itable.specs.ITable.{handle_of}
+use Rattle.update_cert.specs.Change.{Change}
 use Rattle.update_cert.specs.Cert.{Cert, cert}
+use Rattle.update_cert.specs.Blocks.{Blocks}
+use Rattle.update_cert.specs.Spot.{takes}
+use Rattle.client_tree.specs.Held.{Block, keeping, keeping_all}
+use Rattle.client_tree.specs.Tree.{OwnTree}
 use Rattle.pending_list.specs.declared.signed.Signed.{Signed}
 use Rattle.pending_list.specs.Signed.{signed}
 use Rattle.pending_list.specs.Reply.{digest_of_last, reply}
@@ -21,8 +27,26 @@ use Rattle.wire.specs.declared.kinds.Status.{Status}
 use Rattle.wire.specs.declared.kinds.Status.TheVariants as status
 use Rattle.client_verify.specs.declared.phase.Phase.{Phase}
 use Rattle.client_verify.specs.declared.phase.Phase.TheVariants as phase
-use Rattle.client_verify.specs.Genesis.{first_handle}
+use Rattle.client_verify.specs.declared.asked.Asked.{Asked}
+use Rattle.client_verify.specs.declared.view.Looking.{Looking}
+use Rattle.client_verify.specs.Genesis.{first_blocks, first_handle}
 use Rattle.client_verify.specs.FirstBroken.{Known}
+
+-- a reply that breaks none of the rules on lists, of which a block is asked for
+pub record Checked : Type 0 where
+  pub lists : Lists
+  pub asked : Asked
+
+-- a reply that breaks no rule, and the tree behind the own operation
+pub record Ready : Type 0 where
+  pub lists : Lists
+  pub tree : OwnTree
+
+-- an accepted view: the structures that it was signed over, with the own new one in its user's place, and the tree
+pub record View : Type 0 where
+  pub structures : List (Signed Structure)
+  pub tree : OwnTree
+  pub looking : Option Looking
 
 pub record State : Type 0 where
   pub user : ℕ
@@ -40,12 +64,14 @@ pub record State : Type 0 where
   pub phase : Phase
   -- the signed text of this phase: a certificate or a structure, as it is sent
   pub text : List ℕ
-  -- the digest of a block that was asked for
-  pub asked : Option (List ℕ)
-  -- the lists of a reply that breaks no rule, and isn't signed yet
-  pub accepted : Option Lists
-  -- the accepted view: the structures that it was signed over, with the own new one in its user's place
-  pub view : Option (List (Signed Structure))
+  -- the blocks that are held: those of the beginning, those that were laid out, and those that were checked
+  pub blocks : List Block
+  -- the reply under check
+  pub checked : Option Checked
+  -- the accepted reply, which isn't signed yet
+  pub accepted : Option Ready
+  -- the view that was accepted last
+  pub view : Option View
 
 abbrev pub known : State → Known
 known s = record { user = s.user; pinned = s.pinned; last = s.last; declared = s.text }
@@ -62,29 +88,31 @@ initial user seed id pinned = record {
   last = None;
   phase = phase.Idle;
   text = [];
-  asked = None;
+  blocks = first_blocks user pinned;
+  checked = None;
   accepted = None;
   view = None;
 }
 
 -- ---- declaring
 
--- the certificate that comes next
-abbrev pub next_cert : State → Cert
-next_cert s = record { user = s.user; number = s.number + 1; last = digest_of_last s.last; changes = [] }
+-- the certificate of these changes that comes next
+abbrev pub next_cert : State → List Change → Cert
+next_cert s changes = record { user = s.user; number = s.number + 1; last = digest_of_last s.last; changes = changes }
 
 -- a text with its signature by the next leaf
 abbrev pub sent : State → List ℕ → List ℕ
 sent s text = text ++ signature_of s.seed s.id s.leaf text
 
--- the state after the next certificate is declared
-abbrev pub declared : State → State
-declared s = record s {
+-- the state after these changes are declared, for which these blocks were laid out
+abbrev pub declared : State → List Change → List (List ℕ) → State
+declared s changes laid = record s {
   leaf = s.leaf + 1;
   number = s.number + 1;
   phase = phase.Declared;
-  text = sent s (cert.spell (next_cert s));
-  asked = None;
+  text = sent s (cert.spell (next_cert s changes));
+  blocks = keeping_all s.blocks laid;
+  checked = None;
   accepted = None;
 }
 
@@ -94,55 +122,62 @@ declared s = record s {
 abbrev pub lists_in : List ℕ → Option Lists
 lists_in text = option_and_then lists_of (result_ok (whole reply text))
 
--- the state after a reply that breaks no rule
-abbrev pub accepting : State → List ℕ → State
-accepting s text = record s { asked = None; accepted = lists_in text }
+-- which rule a block breaks that was handed in for this one
+abbrev pub block_breaks : Blocks → Asked → Option (List ℕ) → Option Rule
+block_breaks blocks a None = Some rule.Block
+block_breaks blocks a (Some block) =
+    if bytes_eq (hash block) a.digest then (if takes blocks a.spot block then None else Some rule.Content) else Some rule.Block
 
--- which rule a block breaks that isn't there, has another digest than the one asked for, or isn't what its place asks
--- for: no place asks for a block yet
-abbrev pub block_breaks : List ℕ → Option (List ℕ) → Rule
-block_breaks digest None = rule.Block
-block_breaks digest (Some block) = if bytes_eq (hash block) digest then rule.Content else rule.Block
+-- the state with one block more
+abbrev pub holding : State → List ℕ → State
+holding s block = record s { blocks = keeping s.blocks block }
 
 -- ---- signing
 
--- the handle of the own i-table, which no operation without changes changes
-abbrev pub handle : ℕ → List ℕ → Option (Signed Structure) → List ℕ
-handle user pinned last = option_map_or (λ z. z.value.handle) last (first_handle user pinned)
+-- the handle of a user's i-table that was signed last, at the beginning that of the beginning
+abbrev pub handle_behind : ℕ → List ℕ → Option (Signed Structure) → List ℕ
+handle_behind user pinned last = option_map_or (λ z. z.value.handle) last (first_handle user pinned)
+
+abbrev pub last_handle : State → List ℕ
+last_handle s = handle_behind s.user s.pinned s.last
 
 -- the records of groups, which are carried on
 abbrev pub groups : Option (Signed Structure) → List GroupRecord
 groups last = option_map_or (λ z. z.value.groups) last []
 
--- the structure over a plan, behind the one that was signed last
-abbrev pub structure_over : ℕ → List ℕ → Option (Signed Structure) → Plan → Structure
-structure_over user pinned last plan = record { plan = plan; handle = handle user pinned last; groups = groups last }
+-- the structure over a plan, with this handle, behind the one that was signed last
+abbrev pub structure_over : List ℕ → Option (Signed Structure) → Plan → Structure
+structure_over handle last plan = record { plan = plan; handle = handle; groups = groups last }
 
-abbrev pub next_structure : State → Lists → Structure
-next_structure s x = structure_over s.user s.pinned s.last x.own.plan
+abbrev pub next_structure : State → Ready → Structure
+next_structure s r = structure_over (handle_of r.tree.table) s.last r.lists.own.plan
 
 -- a structure with its signature by this leaf
 abbrev pub signed_by : List ℕ → List ℕ → ℕ → Structure → Signed Structure
 signed_by seed id leaf z = record { value = z; signature = signature_of seed id leaf (structure.spell z) }
 
-abbrev pub signed_structure : State → Lists → Signed Structure
-signed_structure s x = signed_by s.seed s.id s.leaf (next_structure s x)
+abbrev pub signed_structure : State → Ready → Signed Structure
+signed_structure s r = signed_by s.seed s.id s.leaf (next_structure s r)
 
 -- the structures of lesser users, this one, and those of greater users
 abbrev pub with_own : Signed Structure → List (Signed Structure) → List (Signed Structure)
 with_own z zs =
     filter (λ y. nat_lt y.value.plan.user z.value.plan.user) zs ++ z ∷ filter (λ y. nat_lt z.value.plan.user y.value.plan.user) zs
 
--- the state after the structure over accepted lists is signed
-abbrev pub signed_over : State → Lists → State
-signed_over s x = record s {
+-- the view of an accepted reply
+abbrev pub view_of : State → Ready → View
+view_of s r = record { structures = with_own (signed_structure s r) r.lists.structures; tree = r.tree; looking = None }
+
+-- the state after the structure over an accepted reply is signed
+abbrev pub signed_over : State → Ready → State
+signed_over s r = record s {
   leaf = s.leaf + 1;
-  last = Some (signed_structure s x);
+  last = Some (signed_structure s r);
   phase = phase.Signed;
-  text = (signed structure).spell (signed_structure s x);
-  asked = None;
+  text = (signed structure).spell (signed_structure s r);
+  checked = None;
   accepted = None;
-  view = Some (with_own (signed_structure s x) x.structures);
+  view = Some (view_of s r);
 }
 
 -- ---- committing

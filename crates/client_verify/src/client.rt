@@ -1,25 +1,35 @@
 //! The client.
 
-ghost use Rattle.std.specs.Prelude.{◌≡◌, ◌≢◌, [], Some, IfOk, IfErr, IsErrOf, Ok, IfSome, OnOk, OnErr, IsSome, IsTrue, ◌↔◌, ◌++◌, true};
+ghost use Rattle.std.specs.Prelude.{◌≡◌, ◌≢◌, ◌+◌, ◌<◌, ◌≤◌, Some, IfOk, IfErr, IsErrOf, IfSome, OnOk, OnErr, IsSome, IsSomeAnd, IsTrue, ◌↔◌, true, length, map};
 ghost use Rattle.std.specs.Option.{option_copied};
+ghost use Rattle.std.specs.Vec.{vec_items};
+ghost use Rattle.principals.specs.Table.{genesis};
 ghost use Rattle.update_cert.specs.Cert.{cert};
-ghost use Rattle.client_verify.specs.State.{structure_over};
+ghost use Rattle.client_verify.specs.Grown.{IsTold};
+ghost use Rattle.client_verify.specs.Laid.{are_laid};
 
-use crate::accepted::Accepted;
+use crate::asked::Asked;
+use crate::checking::check;
 use crate::error::ClientError;
+use crate::genesis::first_blocks;
+use crate::growing::{Grown, Sight, grow, grow_with, see, see_with};
+use crate::look::Look;
 use crate::phase::Phase;
 use crate::signing::{Sealed, seal};
+use crate::sole_lists::SoleLists;
 use crate::step::Step;
 use crate::structure::{SignedOver, sign_over};
 use crate::verdict::judge;
-use layout::{Digest, Memory, ReadError, Text, User, Version, digest};
+use crate::view::{Checked, Looking, Ready, View};
+use client_tree::{Held, Outcome, Seen};
+use layout::{Digest, INumber, Memory, Principal, Text, User, Version};
 use lms_sign::{LEAF_COUNT, PrivateKey, PublicKey};
-use pending_list::{Reply, Signature, Signed, digest_of_last};
-use reply_rules::Rule;
+use pending_list::{Signed, digest_of_last};
+use principals::Table;
 use std::alloc::Allocator;
 use std::marker::Model;
-use update_cert::Cert;
-use version_order::{GroupRecords, Plan, Structure};
+use update_cert::{Cert, Change};
+use version_order::Structure;
 use wire::Status;
 
 /// A client of one user, in memory.
@@ -34,14 +44,14 @@ pub struct Client<A: Allocator> {
     last: Option<Signed<Structure<A>>>,
     phase: Phase,
     text: Vec<u8, A>,
-    asked: Option<Digest>,
-    accepted: Option<Accepted<A>>,
-    view: Option<Vec<Signed<Structure<A>>, A>>,
+    blocks: Held<A>,
+    checked: Option<Checked<A>>,
+    accepted: Option<Ready<A>>,
+    view: Option<View<A>>,
 }
 
 impl<A: Allocator> Model for Client<A> {
     ghost use Rattle.std.specs.Prelude.{◌≤◌};
-    ghost use Rattle.std.specs.Option.{option_map};
     ghost use Rattle.client_verify.specs.State.{State};
 
     ghost Value = { State };
@@ -56,9 +66,10 @@ impl<A: Allocator> Model for Client<A> {
       last = c.last;
       phase = c.phase;
       text = c.text.items;
-      asked = c.asked;
+      blocks = c.blocks;
+      checked = c.checked;
       accepted = c.accepted;
-      view = option_map (λ v. v.items) c.view;
+      view = c.view;
     } };
 
     ghost invariant = { λ c. c.leaf ≤ 1024 };
@@ -68,10 +79,16 @@ impl<A: Allocator + Copy> Client<A> {
     ghost use Rattle.client_verify.specs.State.{initial};
 
     /// A client of this user before its first operation. User 0's public key is known to every client.
-    pub fn new(alloc: A, user: User, key: PrivateKey<A>, pinned: PublicKey) -> Client<A>
-        ensures { result ≡ initial user key.seed key.id pinned }
+    pub fn new(
+        alloc: A,
+        user: User,
+        key: PrivateKey<A>,
+        pinned: PublicKey,
+    ) -> Result<Client<A>, Memory>
+        ensures { IfOk result (λ client. client ≡ initial user key.seed key.id pinned) }
     {
-        Client {
+        let blocks = first_blocks(alloc, user, pinned.as_bytes())?;
+        Ok(Client {
             alloc,
             user,
             key,
@@ -81,10 +98,11 @@ impl<A: Allocator + Copy> Client<A> {
             last: None,
             phase: Phase::Idle,
             text: Vec::new(alloc),
-            asked: None,
+            blocks,
+            checked: None,
             accepted: None,
             view: None,
-        }
+        })
     }
 
     /// Whose client it is.
@@ -108,11 +126,11 @@ impl<A: Allocator + Copy> Client<A> {
         self.phase
     }
 
-    /// Whether a block was asked for, and not handed in yet.
+    /// Whether a reply is under check, of which a block is asked for.
     pub fn wants(&self) -> bool
-        ensures { IsTrue result ↔ IsSome self.now.asked }
+        ensures { IsTrue result ↔ IsSome self.now.checked }
     {
-        self.asked.is_some()
+        self.checked.is_some()
     }
 
     /// Whether a reply was accepted whose structure isn't signed yet.
@@ -127,6 +145,15 @@ impl<A: Allocator + Copy> Client<A> {
         ensures { IsTrue result ↔ IsSome self.now.view }
     {
         self.view.is_some()
+    }
+
+    /// Whether a look is under way, for which a block is asked for.
+    pub fn looking(&self) -> bool
+        ensures { IsTrue result ↔ IsSomeAnd self.now.view (λ v. IsSome v.looking) }
+    {
+        self.view
+            .as_ref()
+            .is_some_and(|view| view.looking.is_some())
     }
 
     /// The signed certificate, to be sent again.
@@ -148,50 +175,115 @@ impl<A: Allocator + Copy> Client<A> {
     /// The structures of the accepted view, with the own one in its user's place.
     pub fn structures(&self) -> &[Signed<Structure<A>>]
         requires { IsSome self.now.view }
-        ensures { self.now.view ≡ Some result.now }
+        ensures { IsSomeAnd self.now.view (λ v. v.structures ≡ result.now) }
     {
         match &self.view {
-            Some(view) => view,
+            Some(view) => &view.structures,
             None => &[],
         }
     }
+
+    /// The numbers, from 1 and ascending, of the changes of the own operation that had no effect in the accepted view.
+    pub fn lost(&self) -> &[u8]
+        requires { IsSome self.now.view }
+        ensures { IsSomeAnd self.now.view (λ v. v.tree.lost ≡ result.now) }
+    {
+        match &self.view {
+            Some(view) => view.tree.lost(),
+            None => &[],
+        }
+    }
+
+    /// The table of principals of the accepted view. It is that of the beginning, since no operation changes it yet.
+    pub fn table(&self) -> Table
+        requires { IsSome self.now.view }
+        ensures { result ≡ genesis self.now.pinned }
+    {
+        Table::genesis(self.pinned)
+    }
 }
 
-/// The text of a certificate without changes.
+/// The text of a certificate.
 fn certificate<A: Allocator + Copy>(
     alloc: A,
     user: User,
     number: Version,
     last: Digest,
+    changes: Vec<Change<A>, A>,
 ) -> Result<Vec<u8, A>, Memory>
-    ensures { IfOk result (λ text. text.items ≡ cert.spell (record { user = user; number = number; last = last; changes = [] })) }
+    requires { length changes.items ≤ 16 }
+    ensures { IfOk result (λ text. text.items ≡ cert.spell (record { user = user; number = number; last = last; changes = changes.items })) }
 {
-    Cert::new(user, number, last, Vec::new(alloc)).text(alloc)
+    Cert::new(user, number, last, changes).text(alloc)
+}
+
+/// What is seen, as it is told.
+fn told<A: Allocator>(seen: Seen<A>) -> Look<A>
+    ensures { IsTold seen result }
+{
+    match seen {
+        Seen::File(bytes) => Look::File(bytes),
+        Seen::Directory(directory) => Look::Directory(directory),
+        Seen::Nothing => Look::Nothing,
+    }
 }
 
 impl<A: Allocator + Copy> Client<A> {
-    ghost use Rattle.client_verify.specs.State.{declared, committed, signed_over, block_breaks};
-    ghost use Rattle.client_verify.specs.Judged.{Judged};
+    ghost use Rattle.client_verify.specs.State.{declared, committed, next_cert, sent, signed_over};
+    ghost use Rattle.client_tree.specs.Held.{held};
+    ghost use Rattle.client_verify.specs.State.{last_handle};
+    ghost use Rattle.client_verify.specs.Judged.{Goes, Judged, Handed};
+    ghost use Rattle.client_verify.specs.Grown.{IsGrown, IsSight};
+    ghost use Rattle.client_verify.specs.Looked.{Looked, Given};
 
-    /// Declares the next operation, which has no changes, and gives its signed certificate. It uses a leaf, unless it
-    /// answers an error.
-    pub fn begin(&mut self) -> Result<Vec<u8, A>, ClientError>
-        requires { self.old.phase ≡ Phase.Idle }
-        ensures declared { OnOk result (self.new ≡ declared self.old) }
+    /// The number of the next operation, where a leaf is left.
+    fn next_number(&self) -> Result<Version, ClientError>
+        ensures number { IfOk result (λ number. number ≡ self.now.number + 1) }
+        ensures leaf { OnOk result (self.now.leaf < 1024) }
+        ensures no_leaf { IsErrOf result ClientError.NoLeaf ↔ (self.now.leaf ≡ 1024) }
+        ensures no_number { IsErrOf result ClientError.NoNumber ↔ ((self.now.number ≡ 4294967295) × (self.now.leaf ≢ 1024)) }
+    {
+        if self.leaf >= LEAF_COUNT {
+            return Err(ClientError::NoLeaf);
+        }
+        match self.number.checked_add(1).and_then(Version::new) {
+            Some(number) => Ok(number),
+            None => Err(ClientError::NoNumber),
+        }
+    }
+
+    /// The certificate of these changes, signed by the next leaf.
+    fn certify(&self, number: Version, changes: Vec<Change<A>, A>) -> Result<Sealed<A>, Memory>
+        requires number { number ≡ self.now.number + 1 }
+        requires leaf { self.now.leaf < 1024 }
+        requires few { length changes.items ≤ 16 }
+        ensures kept { IfOk result (λ s. s.kept.items ≡ sent self.now (cert.spell (next_cert self.now changes.items))) }
+        ensures sent { IfOk result (λ s. s.sent.items ≡ sent self.now (cert.spell (next_cert self.now changes.items))) }
+    {
+        let last = digest_of_last(self.alloc, self.last.as_ref())?;
+        let text = certificate(self.alloc, self.user, number, last, changes)?;
+        seal(self.alloc, &self.key, self.leaf, text)
+    }
+
+    /// Declares the next operation, and gives its signed certificate. What was laid out for it is held. It uses a leaf,
+    /// unless it answers an error.
+    pub fn begin(
+        &mut self,
+        changes: Vec<Change<A>, A>,
+        laid: Vec<Vec<u8, A>, A>,
+    ) -> Result<Vec<u8, A>, ClientError>
+        requires idle { self.old.phase ≡ Phase.Idle }
+        requires few { length changes.items ≤ 16 }
+        requires laid { are_laid (map vec_items laid.items) changes.items ≡ true }
+        ensures declared { OnOk result (self.new ≡ declared self.old changes.items (map vec_items laid.items)) }
         ensures text { IfOk result (λ text. text.items ≡ self.new.text) }
         ensures no_leaf { IsErrOf result ClientError.NoLeaf ↔ (self.old.leaf ≡ 1024) }
         ensures no_number { IsErrOf result ClientError.NoNumber ↔ ((self.old.number ≡ 4294967295) × (self.old.leaf ≢ 1024)) }
         ensures err { OnErr result (self.new ≡ self.old) }
     {
-        if self.leaf >= LEAF_COUNT {
-            return Err(ClientError::NoLeaf);
-        }
-        let Some(number) = self.number.checked_add(1).and_then(Version::new) else {
-            return Err(ClientError::NoNumber);
-        };
-        let last = digest_of_last(self.alloc, self.last.as_ref())?;
-        let text = certificate(self.alloc, self.user, number, last)?;
-        let sealed = seal(self.alloc, &self.key, self.leaf, text)?;
+        let number = self.next_number()?;
+        let sealed = self.certify(number, changes)?;
+        self.blocks.keep_all(laid)?;
         let Sealed {
             kept,
             sent,
@@ -201,13 +293,34 @@ impl<A: Allocator + Copy> Client<A> {
         self.number = number.get();
         self.phase = Phase::Declared;
         self.text = kept;
-        self.asked = None;
+        self.checked = None;
         self.accepted = None;
         Ok(sent)
     }
 
-    /// Takes the server's reply to the declared certificate. A reply that was accepted before is dropped where this one
-    /// is accepted too. Only want of memory is an error.
+    /// Goes on with a reply whose lists break no rule: a block is asked for, or the reply is accepted.
+    fn go(&mut self, lists: SoleLists<A>, grown: Grown<A>) -> Step<A>
+        requires { IsGrown (held self.old.blocks) (last_handle self.old) lists.own.cert grown }
+        ensures { Goes self.old lists result self.new }
+    {
+        match grown {
+            Grown::Lacks(asked) => {
+                let digest = asked.digest;
+                self.checked = Some(Checked { lists, asked });
+                self.accepted = None;
+                Step::Need(digest)
+            }
+            Grown::Stands(outcome) => {
+                let Outcome { tree, texts } = outcome;
+                self.checked = None;
+                self.accepted = Some(Ready { lists, tree });
+                Step::Store(texts)
+            }
+        }
+    }
+
+    /// Takes the server's reply to the declared certificate. A reply that was under check or accepted before is dropped
+    /// where this one breaks none of the rules on lists. Only want of memory is an error.
     pub fn on_reply(&mut self, text: &[u8]) -> Result<Step<A>, ClientError>
         requires { self.old.phase ≡ Phase.Declared }
         ensures judged { IfOk result (λ step. Judged self.old text.now step self.new) }
@@ -222,37 +335,65 @@ impl<A: Allocator + Copy> Client<A> {
             &self.text,
             text,
         )?;
-        match judged {
-            Ok(reply) => {
-                self.asked = None;
-                self.accepted = Accepted::of(reply);
-                Ok(Step::Store(Vec::new(self.alloc)))
-            }
-            Err(rule) => Ok(Step::Broken(rule)),
-        }
+        let reply = match judged {
+            Ok(reply) => reply,
+            Err(rule) => return Ok(Step::Broken(rule)),
+        };
+        // Its last pending certificate is the own one.
+        let Some(lists) = SoleLists::of(reply) else {
+            unreachable!()
+        };
+        let grown = grow(
+            self.alloc,
+            self.user,
+            &self.pinned,
+            self.last.as_ref(),
+            lists.own().cert(),
+            &self.blocks,
+        )?;
+        Ok(self.go(lists, grown))
     }
 
-    /// Takes the block that was asked for, or its absence. No reply asks for a block yet, so no client comes to call it;
-    /// what it says of a block is no more than that the block isn't there, has another digest, or has no place.
+    /// Takes the block that the reply under check asks for, or its absence. Only want of memory is an error.
     pub fn on_block(&mut self, block: Option<&[u8]>) -> Result<Step<A>, ClientError>
-        requires { IsSome self.old.asked }
-        ensures broken { IfSome self.old.asked (λ digest. result ≡ Ok (Step.Broken (block_breaks digest (option_copied block.entry)))) }
-        ensures same { self.new ≡ self.old }
+        requires { IsSome self.old.checked }
+        ensures handed { IfSome self.old.checked (λ k. IfOk result (λ step. Handed self.old k (option_copied block.entry) step self.new)) }
+        ensures only_memory { IfErr result (λ e. e ≡ ClientError.Memory) }
+        ensures err { OnErr result (self.new ≡ self.old) }
     {
-        match (self.asked, block) {
-            (Some(asked), Some(block)) if digest(block) == asked => {
-                Ok(Step::Broken(Rule::Content))
-            }
-            _ => Ok(Step::Broken(Rule::Block)),
-        }
+        let Some(checked) = &self.checked else {
+            unreachable!()
+        };
+        let asked = checked.asked;
+        let digest = asked.digest;
+        let text = match check(self.alloc, &self.blocks, asked, block)? {
+            Ok(text) => text,
+            Err(rule) => return Ok(Step::Broken(rule)),
+        };
+        let grown = grow_with(
+            self.alloc,
+            self.user,
+            &self.pinned,
+            self.last.as_ref(),
+            checked.lists.own().cert(),
+            &self.blocks,
+            digest,
+            text,
+        )?;
+        let text = Vec::from_slice(self.alloc, text)?;
+        self.blocks.keep_as(digest, text)?;
+        let Some(checked) = self.checked.take() else {
+            unreachable!()
+        };
+        Ok(self.go(checked.lists, grown))
     }
 
-    #[tactic(auto, using(crate::proofs::Sole::with_own_sole))]
     /// Signs the structure over the accepted reply, and gives it as it is sent. From here on the view is accepted. It
     /// uses a leaf, unless it answers an error.
+    #[tactic(auto, using(crate::proofs::Sole::with_own_sole))]
     pub fn sign(&mut self) -> Result<Vec<u8, A>, ClientError>
         requires { IsSome self.old.accepted }
-        ensures signed { OnOk result (IfSome self.old.accepted (λ x. self.new ≡ signed_over self.old x)) }
+        ensures signed { OnOk result (IfSome self.old.accepted (λ r. self.new ≡ signed_over self.old r)) }
         ensures text { IfOk result (λ text. text.items ≡ self.new.text) }
         ensures no_leaf { IsErrOf result ClientError.NoLeaf ↔ (self.old.leaf ≡ 1024) }
         ensures only { IfErr result (λ e. e ≢ ClientError.NoNumber) }
@@ -261,19 +402,20 @@ impl<A: Allocator + Copy> Client<A> {
         if self.leaf >= LEAF_COUNT {
             return Err(ClientError::NoLeaf);
         }
-        let plan = match &self.accepted {
-            Some(accepted) => accepted.own().plan(),
+        let over = match &self.accepted {
+            Some(ready) => sign_over(
+                self.alloc,
+                &self.key,
+                self.leaf,
+                ready.tree.handle(),
+                self.last.as_ref(),
+                ready.lists.own().plan(),
+            )?,
             None => unreachable!(),
         };
-        let over = sign_over(
-            self.alloc,
-            &self.key,
-            self.leaf,
-            self.user,
-            &self.pinned,
-            self.last.as_ref(),
-            plan,
-        )?;
+        let Some(ready) = self.accepted.take() else {
+            unreachable!()
+        };
         let SignedOver {
             structure,
             view,
@@ -284,10 +426,87 @@ impl<A: Allocator + Copy> Client<A> {
         self.last = Some(structure);
         self.phase = Phase::Signed;
         self.text = kept;
-        self.asked = None;
-        self.accepted = None;
-        self.view = Some(view);
+        self.checked = None;
+        self.view = Some(View {
+            structures: view,
+            tree: ready.tree,
+            looking: None,
+        });
         Ok(sent)
+    }
+
+    /// What stands at an i-number of a principal in the accepted view, or the block that is wanted to tell it. A look that
+    /// was under way is over. Only want of memory is an error.
+    pub fn look(&mut self, principal: Principal, i_number: INumber) -> Result<Look<A>, ClientError>
+        requires { IsSome self.old.view }
+        ensures looked { IfSome self.old.view (λ v. IfOk result (λ look. Looked self.old v principal i_number look self.new)) }
+        ensures only_memory { IfErr result (λ e. e ≡ ClientError.Memory) }
+        ensures err { OnErr result (self.new ≡ self.old) }
+    {
+        let sight = match &self.view {
+            Some(view) => see(self.alloc, &view.tree, principal, i_number, &self.blocks)?,
+            None => unreachable!(),
+        };
+        Ok(self.show(principal, i_number, sight))
+    }
+
+    /// Goes on with a look: a block is asked for, or it is over.
+    fn show(&mut self, principal: Principal, i_number: INumber, sight: Sight<A>) -> Look<A>
+        requires view { IsSome self.old.view }
+        requires sight { IfSome self.old.view (λ v. IsSight (held self.old.blocks) v.tree.table principal i_number sight) }
+        ensures { IfSome self.old.view (λ v. Looked self.old v principal i_number result self.new) }
+    {
+        let Some(view) = &mut self.view else {
+            unreachable!()
+        };
+        match sight {
+            Sight::Lacks(asked) => {
+                let digest = asked.digest;
+                view.looking = Some(Looking {
+                    principal,
+                    i_number,
+                    asked,
+                });
+                Look::Need(digest)
+            }
+            Sight::Sees(seen) => {
+                view.looking = None;
+                told(seen)
+            }
+        }
+    }
+
+    /// Takes the block that the look asks for, or its absence. Only want of memory is an error.
+    pub fn give(&mut self, block: Option<&[u8]>) -> Result<Look<A>, ClientError>
+        requires { IsSomeAnd self.old.view (λ v. IsSome v.looking) }
+        ensures given { IfSome self.old.view (λ v. IfSome v.looking (λ l. IfOk result (λ look. Given self.old v l (option_copied block.entry) look self.new))) }
+        ensures only_memory { IfErr result (λ e. e ≡ ClientError.Memory) }
+        ensures err { OnErr result (self.new ≡ self.old) }
+    {
+        let Some(view) = &self.view else {
+            unreachable!()
+        };
+        let Some(looking) = view.looking else {
+            unreachable!()
+        };
+        let asked = looking.asked;
+        let digest = asked.digest;
+        let text = match check(self.alloc, &self.blocks, asked, block)? {
+            Ok(text) => text,
+            Err(rule) => return Ok(Look::Broken(rule)),
+        };
+        let sight = see_with(
+            self.alloc,
+            &view.tree,
+            looking.principal,
+            looking.i_number,
+            &self.blocks,
+            digest,
+            text,
+        )?;
+        let copy = Vec::from_slice(self.alloc, text)?;
+        self.blocks.keep_as(digest, copy)?;
+        Ok(self.show(looking.principal, looking.i_number, sight))
     }
 
     /// Takes the server's answer to the structure: with status 0 the operation is over, and any other changes nothing.

@@ -1,18 +1,27 @@
-//! The client: it declares operations, accepts the replies that break no rule, and signs what it accepted.
+//! The client: it declares operations, accepts the replies that break no rule, signs what it accepted, and tells what
+//! stands in the accepted view.
 #![tactic(auto)]
 
-mod accepted;
+mod asked;
+mod checking;
 mod client;
 mod error;
 mod genesis;
+mod growing;
+mod laid;
+mod look;
 mod phase;
 mod signing;
+mod sole_lists;
 mod step;
 mod structure;
 mod verdict;
+mod view;
 
 pub use client::Client;
 pub use error::ClientError;
+pub use laid::are_laid;
+pub use look::Look;
 pub use phase::Phase;
 pub use reply_rules::Rule;
 pub use step::Step;

@@ -9,6 +9,7 @@ use pending_list::Signature;
 use std::alloc::Allocator;
 
 /// A text with its signature, to be kept and to be handed out.
+#[derive(Drop)]
 pub(crate) struct Sealed<A: Allocator> {
     pub(crate) kept: Vec<u8, A>,
     pub(crate) sent: Vec<u8, A>,

@@ -7,35 +7,28 @@ ghost use Rattle.version_order.specs.Structure.{structure};
 ghost use Rattle.pending_list.specs.Signed.{signed};
 ghost use Rattle.client_verify.specs.State.{structure_over, signed_by};
 
-use crate::genesis::first_handle;
 use crate::signing::{Sealed, seal};
-use layout::{Memory, Text, User};
-use lms_sign::{PrivateKey, PublicKey};
+use layout::{Digest, Memory, Text};
+use lms_sign::PrivateKey;
 use pending_list::Signed;
 use std::alloc::Allocator;
 use version_order::{GroupRecords, Plan, Structure};
 
-/// The structure over a plan, behind the one that was signed last.
+/// The structure over a plan, with this handle, behind the one that was signed last.
 fn structure_over<A: Allocator + Copy>(
     alloc: A,
-    user: User,
-    pinned: &PublicKey,
+    handle: Digest,
     last: Option<&Signed<Structure<A>>>,
     plan: &Plan<A>,
 ) -> Result<Structure<A>, Memory>
-    ensures { IfOk result (λ s. s ≡ structure_over user pinned.now (option_copied last.entry) plan.now) }
+    ensures { IfOk result (λ s. s ≡ structure_over handle (option_copied last.entry) plan.now) }
 {
     let plan = plan.copy(alloc)?;
-    match last {
-        Some(last) => {
-            let groups = last.value.groups().copy(alloc)?;
-            Ok(Structure::new(plan, last.value.handle(), groups))
-        }
-        None => {
-            let handle = first_handle(alloc, user, pinned.as_bytes())?;
-            Ok(Structure::new(plan, handle, GroupRecords::new(alloc)))
-        }
-    }
+    let groups = match last {
+        Some(last) => last.value.groups().copy(alloc)?,
+        None => GroupRecords::new(alloc),
+    };
+    Ok(Structure::new(plan, handle, groups))
 }
 
 /// A structure that was just signed: to be kept, to be shown in the view, and as it is sent, twice.
@@ -65,18 +58,17 @@ pub(crate) fn sign_over<A: Allocator + Copy>(
     alloc: A,
     key: &PrivateKey<A>,
     leaf: u32,
-    user: User,
-    pinned: &PublicKey,
+    handle: Digest,
     last: Option<&Signed<Structure<A>>>,
     plan: &Plan<A>,
 ) -> Result<SignedOver<A>, Memory>
     requires { leaf < 1024 }
-    ensures structure { IfOk result (λ over. over.structure ≡ signed_by key.now.seed key.now.id leaf (structure_over user pinned.now (option_copied last.entry) plan.now)) }
+    ensures structure { IfOk result (λ over. over.structure ≡ signed_by key.now.seed key.now.id leaf (structure_over handle (option_copied last.entry) plan.now)) }
     ensures view { IfOk result (λ over. over.view.items ≡ over.structure ∷ []) }
     ensures kept { IfOk result (λ over. over.kept.items ≡ (signed structure).spell over.structure) }
     ensures sent { IfOk result (λ over. over.sent.items ≡ (signed structure).spell over.structure) }
 {
-    let value = structure_over(alloc, user, pinned, last, plan)?;
+    let value = structure_over(alloc, handle, last, plan)?;
     let shown = value.copy(alloc)?;
     let room = Vec::with_capacity(alloc, 1)?;
     let text = value.text(alloc)?;

@@ -1,6 +1,6 @@
 //! The first broken rule of a reply.
 
-ghost use Rattle.std.specs.Prelude.{IfSome, IfErr, OnOk, Ok, ◌≡◌, ℕ, List, IfOk, Option, Some, None, IsSome, true, map};
+ghost use Rattle.std.specs.Prelude.{IsSomeAnd, IfErr, OnOk, Ok, ◌≡◌, ℕ, List, IfOk, Option, Some, None, IsSome, true, map};
 ghost use Rattle.std.specs.List.{list_all};
 ghost use Rattle.std.specs.Option.{option_copied, option_map};
 ghost use Rattle.reply_rules.specs.Lists.{lists_of, is_of_one};
@@ -162,7 +162,7 @@ pub(crate) fn first_broken<A: Allocator + Copy>(
     reply: &Reply<A>,
 ) -> Result<Option<Rule>, Memory>
     ensures first { IfOk result (λ rule. rule ≡ of_reply (record { user = user; pinned = pinned.now; last = option_copied last.entry; declared = declared.now }) reply.now) }
-    ensures sole { IfOk result (λ rule. rule ≡ None → IfSome (lists_of reply.now) (λ x. is_of_one x ≡ true)) }
+    ensures sole { IfOk result (λ rule. rule ≡ None → IsSomeAnd (lists_of reply.now) (λ x. is_of_one x ≡ true)) }
 {
     if !lists_hold(reply) {
         return Ok(Some(Rule::Lists));
@@ -192,7 +192,7 @@ pub(crate) fn judge<A: Allocator + Copy>(
     ensures broken { IfOk result (λ judged. IfErr judged (λ rule. first_broken (record { user = user; pinned = pinned.now; last = option_copied last.entry; declared = declared.now }) text.now ≡ Some rule)) }
     ensures accepted { IfOk result (λ judged. OnOk judged (first_broken (record { user = user; pinned = pinned.now; last = option_copied last.entry; declared = declared.now }) text.now ≡ None)) }
     ensures read { IfOk result (λ judged. IfOk judged (λ r. whole reply text.now ≡ Ok r)) }
-    ensures sole { IfOk result (λ judged. IfOk judged (λ r. IfSome (lists_of r) (λ x. is_of_one x ≡ true))) }
+    ensures sole { IfOk result (λ judged. IfOk judged (λ r. IsSomeAnd (lists_of r) (λ x. is_of_one x ≡ true))) }
 {
     let reply = match Reply::read(alloc, text) {
         Ok(reply) => reply,

@@ -3,9 +3,9 @@ use Rattle.std.specs.Prelude.{IfOk, IfSome}
 use Rattle.principals.specs.declared.table.Listing.{Listing}
 use Rattle.reply_rules.specs.Broken.{broken}
 use Rattle.std.specs.Option.{option_copied}
-use Rattle.reply_rules.specs.Lists.{lists_of}
+use Rattle.reply_rules.specs.Lists.{lists_of, is_of_one}
 use Rattle.client_verify.specs.FirstBroken.{Known, own_last, own_pending, super_signature}
-use Rattle.client_verify.proofs.Judging.{something_pending, pending_length, rules_left, broken_first, each_ok}
+use Rattle.client_verify.proofs.Judging.{something_pending, pending_length, rules_left, broken_first, each_ok, some_and}
 use Rattle.client_verify.proofs.verdict.first_broken.Goals as goal
 
 pub broken-requires-clause-pending : goal.broken-requires-clause-pending
@@ -22,3 +22,8 @@ returns-clause-first g c =
     let left = rules_left known c.args.reply.now (sym c.lists_hold.ensures ∙ c.if-not-lists_hold.false) last waits signed in
     each_ok c.broken.result _ _ (λ answer told. broken_first c.args.pinned.now (lists_of c.args.reply.now) answer (something_pending c.args.reply.now c.args.declared.now waits) told ∙ sym left)
     (subst (λ (table : List Listing). IfOk c.broken.result (λ answer. IfSome (lists_of c.args.reply.now) (λ x. answer ≡ broken table x))) c.genesis.ensures c.broken.ensures.first)
+
+pub returns-clause-sole : goal.returns-clause-sole
+returns-clause-sole g c =
+    let waits : own_pending c.args.declared.now c.args.reply.now ≡ true = cc (c.in_ok-own_pending.ensures) in
+    each_ok c.broken.result _ _ (λ answer sole none. some_and (lists_of c.args.reply.now) (λ x. is_of_one x ≡ true) (something_pending c.args.reply.now c.args.declared.now waits) (sole none)) c.broken.ensures.sole

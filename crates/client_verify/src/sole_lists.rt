@@ -1,4 +1,4 @@
-//! The lists of a reply that breaks no rule.
+//! The lists of a reply that breaks none of the rules on lists.
 
 ghost use Rattle.std.specs.Prelude.{◌≡◌, IfSome, true};
 
@@ -7,15 +7,15 @@ use std::alloc::Allocator;
 use std::marker::Model;
 use version_order::Structure;
 
-/// The lists of a reply that breaks no rule: the structures, and the pending operations with the own one apart.
+/// The lists of a reply that breaks none of the rules on lists: the structures, and the pending operations with the own one apart.
 #[derive(Drop)]
-pub(crate) struct Accepted<A: Allocator> {
+pub(crate) struct SoleLists<A: Allocator> {
     structures: Vec<Signed<Structure<A>>, A>,
     others: Vec<PendingItem<A>, A>,
     own: PendingItem<A>,
 }
 
-impl<A: Allocator> Model for Accepted<A> {
+impl<A: Allocator> Model for SoleLists<A> {
     ghost use Rattle.reply_rules.specs.Lists.{Lists};
     ghost use Rattle.std.specs.Prelude.{◌≡◌, true};
     ghost use Rattle.reply_rules.specs.Lists.{is_of_one};
@@ -27,17 +27,17 @@ impl<A: Allocator> Model for Accepted<A> {
     ghost invariant = { λ a. is_of_one (record { structures = a.structures.items; others = a.others.items; own = a.own }) ≡ true };
 }
 
-impl<A: Allocator> Accepted<A> {
+impl<A: Allocator> SoleLists<A> {
     ghost use Rattle.reply_rules.specs.Lists.{lists_of, is_of_one};
 
     /// The lists of a reply that shows nobody else's structure. None where nothing is pending.
-    pub(crate) fn of(reply: Reply<A>) -> Option<Accepted<A>>
+    pub(crate) fn of(reply: Reply<A>) -> Option<SoleLists<A>>
         requires { IfSome (lists_of reply) (λ x. is_of_one x ≡ true) }
         ensures { result ≡ lists_of reply }
     {
         let (structures, mut pending) = reply.into_parts();
         match pending.pop() {
-            Some(own) => Some(Accepted {
+            Some(own) => Some(SoleLists {
                 structures,
                 others: pending,
                 own,

@@ -4,7 +4,7 @@ use Rattle.pending_list.specs.declared.signed.Signed.{Signed}
 use Rattle.version_order.specs.Structure.{Structure}
 use Rattle.reply_rules.specs.Lists.{is_of_one}
 use Rattle.reply_rules.specs.ListsLaws.{lists_are}
-use Rattle.client_verify.proofs.accepted.Accepted.of.Goals as goal
+use Rattle.client_verify.proofs.sole_lists.SoleLists.of.Goals as goal
 
 pub invariant_of-result : goal.invariant_of-result
 invariant_of-result g c =

@@ -1,0 +1,18 @@
+use Rattle.std.proofs.Common.{◌≡◌, Some, None, sym, ap, ◌∙◌, rules}
+use Rattle.std.specs.Option.{option_copied}
+use Rattle.client_tree.specs.Held.{held, keeping}
+use Rattle.client_verify.specs.State.{View, block_breaks}
+use Rattle.client_verify.proofs.Steps.{given_from, if_some}
+use Rattle.client_verify.proofs.client.Client.give.Goals as goal
+
+pub returns-clause-given : goal.returns-clause-given
+returns-clause-given g c =
+    let old = c.args.self.now in
+    let v = c.in-Some.view in
+    let l = c.in-Some-looking.looking in
+    let none : block_breaks (held old.blocks) l.asked (option_copied c.args.block) ≡ None = search rules in
+    let is : option_copied c.args.block ≡ Some c.in-Ok.text.now = search rules in
+    let kept : c.keep_as.new.self ≡ keeping old.blocks c.in-Ok.text.now = search rules in
+    let there : old.view ≡ Some v = search rules in
+    let under_way : v.looking ≡ Some l = search rules in
+    if_some old.view v _ there (if_some v.looking l _ under_way (given_from _ old v l c.keep_as.new.self (option_copied c.args.block) c.in-Ok.text.now c.show.result c.show.new.self c.self.view_is kept there none is c.show.ensures))
