@@ -1,45 +1,80 @@
 //! What a line of a script says.
 
-ghost use Rattle.std.specs.Prelude.{◌≡◌};
-
-use layout::User;
+use crate::task::{Task, tasks_of};
+use crate::words::{Unread, i_number_of, principal_of, user_of};
+use layout::{INumber, Principal, User};
+use std::alloc::Allocator;
 
 /// A command of a script. The server is `a`.
-#[derive(Clone, Copy, Debug, PartialEq, Eq)]
-pub(crate) enum Command {
-    /// `begin U`: the user declares an operation without changes.
-    Begin(User),
-    /// `update U a`: the certificate is sent, the reply handed in and, where it is accepted, the structure signed.
+#[derive(Drop)]
+pub(crate) enum Command<A: Allocator> {
+    /// `begin U` or `begin U CHANGES`: the contents are laid out and stored, and the user declares an operation.
+    Begin(User, Vec<Task<A>, A>),
+    /// `update U a`: the certificate is sent, the reply handed in with its blocks and, where it is accepted, the
+    /// structure signed.
     Update(User),
     /// `commit U a`: the structure is sent.
     Commit(User),
+    /// `show U P I`: what stands there in the user's view.
+    Show(User, Principal, INumber),
 }
 
-/// A number in ASCII digits, of which any may be leading zeros, with no sign.
-fn number_of(word: &str) -> Option<u8> {
-    if word.is_empty() || !word.bytes().all(|byte| byte.is_ascii_digit()) {
-        return None;
+fn user(word: &str) -> Result<User, Unread> {
+    match user_of(word) {
+        Some(user) => Ok(user),
+        None => Err(Unread::NoCommand),
     }
-    word.parse().ok()
 }
 
-fn user_of(word: &str) -> Option<User> {
-    User::new(number_of(word)?)
-}
-
-/// The command of a line, whose words are parted by one blank. None where it is no command.
-pub(crate) fn command_of(line: &str) -> Option<Command> {
-    let mut words = line.split(' ');
-    let name = words.next()?;
-    let user = user_of(words.next()?)?;
-    let server = words.next();
-    if words.next().is_some() {
-        return None;
+/// `U` or `U CHANGES`.
+fn begin_of<A: Allocator + Copy>(alloc: A, rest: &str) -> Result<Command<A>, Unread> {
+    match rest.split_once(' ') {
+        None => Ok(Command::Begin(user(rest)?, Vec::new(alloc))),
+        Some((word, changes)) => {
+            let user = user(word)?;
+            Ok(Command::Begin(user, tasks_of(alloc, changes)?))
+        }
     }
-    match (name, server) {
-        ("begin", None) => Some(Command::Begin(user)),
-        ("update", Some("a")) => Some(Command::Update(user)),
-        ("commit", Some("a")) => Some(Command::Commit(user)),
-        _ => None,
+}
+
+/// `U a`: the user.
+fn at_server(rest: &str) -> Result<User, Unread> {
+    match rest.split_once(' ') {
+        Some((word, "a")) => user(word),
+        _ => Err(Unread::NoCommand),
+    }
+}
+
+/// `U P I`.
+fn show_of<A: Allocator>(rest: &str) -> Result<Command<A>, Unread> {
+    let Some((word, place)) = rest.split_once(' ') else {
+        return Err(Unread::NoCommand);
+    };
+    let Some((principal, i_number)) = place.split_once(' ') else {
+        return Err(Unread::NoCommand);
+    };
+    match (
+        user_of(word),
+        principal_of(principal),
+        i_number_of(i_number),
+    ) {
+        (Some(user), Some(principal), Some(i_number)) => {
+            Ok(Command::Show(user, principal, i_number))
+        }
+        _ => Err(Unread::NoCommand),
+    }
+}
+
+/// The command of a line, whose words are parted by one blank.
+pub(crate) fn command_of<A: Allocator + Copy>(alloc: A, line: &str) -> Result<Command<A>, Unread> {
+    let Some((name, rest)) = line.split_once(' ') else {
+        return Err(Unread::NoCommand);
+    };
+    match name {
+        "begin" => begin_of(alloc, rest),
+        "update" => Ok(Command::Update(at_server(rest)?)),
+        "commit" => Ok(Command::Commit(at_server(rest)?)),
+        "show" => show_of(rest),
+        _ => Err(Unread::NoCommand),
     }
 }

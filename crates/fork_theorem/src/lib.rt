@@ -2,7 +2,13 @@
 #![tactic(auto)]
 
 mod command;
+mod laying;
+mod operation;
+mod outcome;
 mod script;
+mod server;
+mod task;
+mod words;
 mod world;
 
 pub use script::{PlayError, play};

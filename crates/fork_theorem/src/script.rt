@@ -1,7 +1,9 @@
 //! Running a script.
 
 use crate::command::command_of;
-use crate::world::{Outcome, World};
+use crate::outcome::Outcome;
+use crate::words::Unread;
+use crate::world::World;
 use layout::Memory;
 use std::alloc::{AllocError, Allocator};
 use std::io::{self, BufRead, Write};
@@ -40,19 +42,20 @@ fn without_end(line: &[u8]) -> &[u8] {
 
 /// What a line comes to; nothing where it is empty or a comment.
 fn outcome_of<A: Allocator + Copy>(
+    alloc: A,
     world: &mut World<A>,
     line: &[u8],
-) -> Result<Option<Outcome>, Memory> {
+) -> Result<Option<Outcome<A>>, Memory> {
     if line.is_empty() || line.starts_with(b"#".as_slice()) {
         return Ok(None);
     }
-    let command = match std::str::from_utf8(line) {
-        Ok(text) => command_of(text),
-        Err(_) => None,
+    let Ok(text) = std::str::from_utf8(line) else {
+        return Ok(Some(Outcome::Error));
     };
-    match command {
-        Some(command) => Ok(Some(world.run(command)?)),
-        None => Ok(Some(Outcome::Error)),
+    match command_of(alloc, text) {
+        Ok(command) => Ok(Some(world.run(command)?)),
+        Err(Unread::NoCommand) => Ok(Some(Outcome::Error)),
+        Err(Unread::Memory) => Err(Memory),
     }
 }
 
@@ -73,8 +76,8 @@ pub fn play<A: Allocator + Copy, R: BufRead, W: Write>(
         if size == 0 {
             break;
         }
-        if let Some(outcome) = outcome_of(&mut world, without_end(&line))? {
-            writeln!(writer, "{outcome}").map_err(|_| PlayError::Write)?;
+        if let Some(outcome) = outcome_of(alloc, &mut world, without_end(&line))? {
+            outcome.write_line(writer).map_err(|_| PlayError::Write)?;
         }
     }
     Ok(())

@@ -1,0 +1,91 @@
+//! Laying out what a script's operation names: its changes, and the texts to be stored before it is declared.
+
+use crate::task::{Deed, Task};
+use client_tree::Held;
+use directory::Directory;
+use itable::{Inode, Laid, LayError, lay_file};
+use layout::{Digest, Memory, Text, digest};
+use std::alloc::Allocator;
+use update_cert::{Action, Change};
+
+/// The changes of an operation, and the texts that were laid out for it.
+#[derive(Drop)]
+pub(crate) struct Work<A: Allocator> {
+    pub(crate) changes: Vec<Change<A>, A>,
+    pub(crate) laid: Vec<Vec<u8, A>, A>,
+}
+
+/// Stores a copy of each of these texts.
+pub(crate) fn store<A: Allocator + Copy>(
+    alloc: A,
+    blocks: &mut Held<A>,
+    texts: &[Vec<u8, A>],
+) -> Result<(), Memory> {
+    for text in texts {
+        let _digest = blocks.keep(Vec::from_slice(alloc, text)?)?;
+    }
+    Ok(())
+}
+
+/// Lays a file out, and gives the digest of its i-node. A word of a script is no larger than a file.
+fn lay<A: Allocator + Copy>(
+    alloc: A,
+    laid: &mut Vec<Vec<u8, A>, A>,
+    file: &[u8],
+) -> Result<Digest, Memory> {
+    let Laid { inode, blocks } = match lay_file(alloc, file) {
+        Ok(file) => file,
+        Err(LayError::TooLarge) | Err(LayError::Memory) => return Err(Memory),
+    };
+    let digest = digest(&inode);
+    laid.push(inode)?;
+    for block in blocks {
+        laid.push(block)?;
+    }
+    Ok(digest)
+}
+
+/// The digest of the i-node of the empty directory.
+fn empty_directory<A: Allocator + Copy>(alloc: A) -> Result<Digest, Memory> {
+    let directory = Directory::empty(alloc);
+    let _entries = directory.entries();
+    let text = directory.text(alloc)?;
+    let inode = Inode::of_directory(alloc, &text)?;
+    let text = inode.text(alloc)?;
+    Ok(digest(&text))
+}
+
+/// What a deed of a script is as a change's action.
+fn action_of<A: Allocator + Copy>(
+    alloc: A,
+    laid: &mut Vec<Vec<u8, A>, A>,
+    deed: Deed<A>,
+) -> Result<Action<A>, Memory> {
+    match deed {
+        Deed::Make(bytes) => Ok(Action::Make(lay(alloc, laid, &bytes)?)),
+        Deed::MakeDirectory => Ok(Action::Make(empty_directory(alloc)?)),
+        Deed::Put(bytes) => Ok(Action::Put(lay(alloc, laid, &bytes)?)),
+        Deed::Remove => Ok(Action::Remove),
+        Deed::Link(entry) => Ok(Action::Link(entry)),
+        Deed::Unlink(name) => Ok(Action::Unlink(name)),
+    }
+}
+
+/// The changes that a script's tasks are, in order, with what has to be laid out for them.
+pub(crate) fn work_of<A: Allocator + Copy>(
+    alloc: A,
+    tasks: Vec<Task<A>, A>,
+) -> Result<Work<A>, Memory> {
+    let mut changes = Vec::new(alloc);
+    let mut laid = Vec::new(alloc);
+    for task in tasks {
+        let Task {
+            principal,
+            i_number,
+            deed,
+        } = task;
+        let action = action_of(alloc, &mut laid, deed)?;
+        changes.push(Change::new(principal, i_number, action))?;
+    }
+    Ok(Work { changes, laid })
+}

@@ -1,0 +1,201 @@
+//! The steps of a client's operation in a script, and its looks.
+
+ghost use Rattle.std.specs.Prelude.{◌≡◌, IsSome};
+
+use crate::laying::{Work, store, work_of};
+use crate::outcome::Outcome;
+use crate::server::{Server, exchange};
+use crate::task::Task;
+use client_tree::Held;
+use client_verify::{Client, ClientError, Look, Phase, Step, are_laid};
+use layout::{INumber, Memory, Principal, User};
+use std::alloc::Allocator;
+use update_cert::Blocks;
+use wire::{RequestKind, Status};
+
+/// What a client's error comes to.
+fn stopped<A: Allocator>(user: User, error: ClientError) -> Result<Outcome<A>, Memory> {
+    match error {
+        ClientError::Memory => Err(Memory),
+        ClientError::NoLeaf => Ok(Outcome::NoLeaf(user)),
+        ClientError::NoNumber => Ok(Outcome::NoNumber(user)),
+    }
+}
+
+/// Stores what was laid out, and declares the operation.
+fn declare<A: Allocator + Copy>(
+    alloc: A,
+    blocks: &mut Held<A>,
+    client: &mut Client<A>,
+    work: Work<A>,
+) -> Result<Outcome<A>, Memory>
+    requires { client.old.phase ≡ Phase.Idle }
+{
+    let user = client.user();
+    let Work { changes, laid } = work;
+    if changes.len() > 16 || !are_laid(alloc, &laid, &changes)? {
+        return Ok(Outcome::Error);
+    }
+    store(alloc, blocks, &laid)?;
+    match client.begin(changes, laid) {
+        Ok(_) => Ok(Outcome::Begun(user, client.number())),
+        Err(error) => stopped(user, error),
+    }
+}
+
+/// Lays out and stores what the tasks name, and declares the operation.
+pub(crate) fn begin<A: Allocator + Copy>(
+    alloc: A,
+    blocks: &mut Held<A>,
+    client: &mut Client<A>,
+    tasks: Vec<Task<A>, A>,
+) -> Result<Outcome<A>, Memory> {
+    match client.phase() {
+        Phase::Idle => {
+            let work = work_of(alloc, tasks)?;
+            declare(alloc, blocks, client, work)
+        }
+        _ => Ok(Outcome::Busy(client.user())),
+    }
+}
+
+/// Hands a reply in, and each block that it asks for: what the client comes to in the end. A client asks for no block
+/// twice, unless texts collide, so that the bound is never met.
+fn judged<A: Allocator + Copy>(
+    blocks: &Held<A>,
+    client: &mut Client<A>,
+    reply: &[u8],
+) -> Result<Step<A>, ClientError>
+    requires { client.old.phase ≡ Phase.Declared }
+{
+    let mut step = client.on_reply(reply)?;
+    for _ in 0..u32::MAX {
+        let digest = match &step {
+            Step::Need(digest) => *digest,
+            _ => break,
+        };
+        if !client.wants() {
+            break;
+        }
+        step = client.on_block(blocks.get(digest))?;
+    }
+    Ok(step)
+}
+
+/// Signs what was accepted.
+fn signed<A: Allocator + Copy>(alloc: A, client: &mut Client<A>) -> Result<Outcome<A>, Memory> {
+    let user = client.user();
+    if !client.ready() {
+        return Ok(Outcome::Error);
+    }
+    if let Err(error) = client.sign() {
+        return stopped(user, error);
+    }
+    if !client.has_view() {
+        return Ok(Outcome::Error);
+    }
+    let lost = Vec::from_slice(alloc, client.lost())?;
+    Ok(Outcome::Accepted(user, client.number(), lost))
+}
+
+/// Hands the reply in with its blocks and, where it is accepted, stores the new texts and signs.
+fn accept<A: Allocator + Copy>(
+    alloc: A,
+    blocks: &mut Held<A>,
+    client: &mut Client<A>,
+    reply: &[u8],
+) -> Result<Outcome<A>, Memory>
+    requires { client.old.phase ≡ Phase.Declared }
+{
+    let user = client.user();
+    match judged(blocks, client, reply) {
+        Ok(Step::Broken(rule)) => Ok(Outcome::Broken(user, rule)),
+        Ok(Step::Need(_)) => Ok(Outcome::Error),
+        Ok(Step::Store(texts)) => {
+            store(alloc, blocks, &texts)?;
+            signed(alloc, client)
+        }
+        Err(error) => stopped(user, error),
+    }
+}
+
+/// Sends the declared certificate, and takes the reply.
+pub(crate) fn update<A: Allocator + Copy>(
+    alloc: A,
+    server: &mut Server<A>,
+    blocks: &mut Held<A>,
+    client: &mut Client<A>,
+) -> Result<Outcome<A>, Memory> {
+    let user = client.user();
+    if client.phase() != Phase::Declared {
+        return Ok(Outcome::Busy(user));
+    }
+    let (status, reply) = exchange(alloc, server, RequestKind::Update, client.declared())?;
+    if status != Status::Ok {
+        return Ok(Outcome::Declined(user, status));
+    }
+    accept(alloc, blocks, client, &reply)
+}
+
+/// Sends the signed structure, and takes the status.
+pub(crate) fn commit<A: Allocator + Copy>(
+    alloc: A,
+    server: &mut Server<A>,
+    client: &mut Client<A>,
+) -> Result<Outcome<A>, Memory> {
+    let user = client.user();
+    if client.phase() != Phase::Signed {
+        return Ok(Outcome::Busy(user));
+    }
+    let (status, _payload) = exchange(alloc, server, RequestKind::Commit, client.signed())?;
+    client.on_committed(status);
+    if status == Status::Ok {
+        Ok(Outcome::Committed(user))
+    } else {
+        Ok(Outcome::Declined(user, status))
+    }
+}
+
+/// Looks at an i-number, and hands in each block that the look asks for.
+fn looked<A: Allocator + Copy>(
+    blocks: &Held<A>,
+    client: &mut Client<A>,
+    principal: Principal,
+    i_number: INumber,
+) -> Result<Look<A>, ClientError>
+    requires { IsSome client.old.view }
+{
+    let mut look = client.look(principal, i_number)?;
+    for _ in 0..u32::MAX {
+        let digest = match &look {
+            Look::Need(digest) => *digest,
+            _ => break,
+        };
+        if !client.looking() {
+            break;
+        }
+        look = client.give(blocks.get(digest))?;
+    }
+    Ok(look)
+}
+
+/// What stands at an i-number in the client's view.
+pub(crate) fn show<A: Allocator + Copy>(
+    blocks: &Held<A>,
+    client: &mut Client<A>,
+    principal: Principal,
+    i_number: INumber,
+) -> Result<Outcome<A>, Memory> {
+    let user = client.user();
+    if !client.has_view() {
+        return Ok(Outcome::Nothing(user));
+    }
+    match looked(blocks, client, principal, i_number) {
+        Ok(Look::File(bytes)) => Ok(Outcome::File(user, bytes)),
+        Ok(Look::Directory(directory)) => Ok(Outcome::Directory(user, directory)),
+        Ok(Look::Nothing) => Ok(Outcome::Nothing(user)),
+        Ok(Look::Broken(rule)) => Ok(Outcome::Broken(user, rule)),
+        Ok(Look::Need(_)) => Ok(Outcome::Error),
+        Err(error) => stopped(user, error),
+    }
+}

@@ -1,0 +1,129 @@
+//! What a script has a user do.
+
+ghost use Rattle.std.specs.Prelude.{◌≡◌, ◌≤◌, IfOk, length};
+
+use crate::words::{Unread, bytes_of, i_number_of, principal_of};
+use directory::{Entry, Name, Target, name_text};
+use layout::{INumber, Principal};
+use std::alloc::Allocator;
+use std::str::Split;
+
+/// What is done at an i-number.
+#[derive(Drop)]
+pub(crate) enum Deed<A: Allocator> {
+    /// `make P I file TEXT`.
+    Make(Vec<u8, A>),
+    /// `make P I dir`.
+    MakeDirectory,
+    /// `put P I TEXT`.
+    Put(Vec<u8, A>),
+    /// `remove P I`.
+    Remove,
+    /// `link P D NAME TP TI`.
+    Link(Entry<A>),
+    /// `unlink P D NAME`.
+    Unlink(Name<A>),
+}
+
+/// What is done at an i-number of a principal.
+#[derive(Drop)]
+pub(crate) struct Task<A: Allocator> {
+    pub(crate) principal: Principal,
+    pub(crate) i_number: INumber,
+    pub(crate) deed: Deed<A>,
+}
+
+/// The next word.
+fn next<'a>(words: &mut Split<'a, char>) -> Result<&'a str, Unread> {
+    match words.next() {
+        Some(word) => Ok(word),
+        None => Err(Unread::NoCommand),
+    }
+}
+
+/// The file or directory that the next two words name.
+fn target(words: &mut Split<'_, char>) -> Result<Target, Unread> {
+    let principal = principal_of(next(words)?);
+    let i_number = i_number_of(next(words)?);
+    match (principal, i_number) {
+        (Some(principal), Some(i_number)) => Ok(Target {
+            principal,
+            i_number,
+        }),
+        _ => Err(Unread::NoCommand),
+    }
+}
+
+/// What is made: a file or the empty directory.
+fn made<A: Allocator>(alloc: A, words: &mut Split<'_, char>) -> Result<Deed<A>, Unread> {
+    match next(words)? {
+        "file" => Ok(Deed::Make(bytes_of(alloc, next(words)?)?)),
+        "dir" => Ok(Deed::MakeDirectory),
+        _ => Err(Unread::NoCommand),
+    }
+}
+
+/// An entry: its name, and what it stands for.
+fn entry<A: Allocator>(alloc: A, words: &mut Split<'_, char>) -> Result<Entry<A>, Unread> {
+    let Some(name) = name_text(next(words)?.as_bytes()) else {
+        return Err(Unread::NoCommand);
+    };
+    let target = target(words)?;
+    let entry = Entry::new(alloc, name, target)?;
+    Ok(entry)
+}
+
+/// The name of an entry.
+fn name<A: Allocator>(alloc: A, words: &mut Split<'_, char>) -> Result<Name<A>, Unread> {
+    let Some(text) = name_text(next(words)?.as_bytes()) else {
+        return Err(Unread::NoCommand);
+    };
+    let name = Name::new(alloc, text)?;
+    Ok(name)
+}
+
+/// What a change of a script says.
+fn task_of<A: Allocator>(alloc: A, text: &str) -> Result<Task<A>, Unread> {
+    let mut words = text.split(' ');
+    let verb = next(&mut words)?;
+    let Target {
+        principal,
+        i_number,
+    } = target(&mut words)?;
+    let deed = match verb {
+        "make" => made(alloc, &mut words)?,
+        "put" => Deed::Put(bytes_of(alloc, next(&mut words)?)?),
+        "remove" => Deed::Remove,
+        "link" => Deed::Link(entry(alloc, &mut words)?),
+        "unlink" => Deed::Unlink(name(alloc, &mut words)?),
+        _ => return Err(Unread::NoCommand),
+    };
+    match words.next() {
+        Some(_) => Err(Unread::NoCommand),
+        None => Ok(Task {
+            principal,
+            i_number,
+            deed,
+        }),
+    }
+}
+
+/// What a list of changes says, which are parted by `; `: at most 16.
+pub(crate) fn tasks_of<A: Allocator + Copy>(
+    alloc: A,
+    text: &str,
+) -> Result<Vec<Task<A>, A>, Unread> {
+    let mut tasks = Vec::new(alloc);
+    for (place, part) in text.split(';').enumerate() {
+        let words = if place == 0 {
+            Some(part)
+        } else {
+            part.strip_prefix(' ')
+        };
+        match words {
+            Some(words) if place < 16 => tasks.push(task_of(alloc, words)?)?,
+            _ => return Err(Unread::NoCommand),
+        }
+    }
+    Ok(tasks)
+}
