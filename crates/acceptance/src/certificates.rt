@@ -66,11 +66,11 @@ static CASES: [Case; 5] = [
     },
 ];
 
-fn principal(rt: &impl Host, number: u8) -> Principal {
+pub(crate) fn principal(rt: &impl Host, number: u8) -> Principal {
     Principal::new(number).expect(rt, "a principal")
 }
 
-fn i_number(rt: &impl Host, number: u16) -> INumber {
+pub(crate) fn i_number(rt: &impl Host, number: u16) -> INumber {
     INumber::new(number).expect(rt, "an i-number")
 }
 
@@ -81,12 +81,12 @@ fn digest_of(rt: &impl Host, bytes: &[u8]) -> Digest {
     Digest::from_bytes(digest)
 }
 
-fn name(rt: &impl Host, bytes: &[u8]) -> Name<Global> {
+pub(crate) fn name(rt: &impl Host, bytes: &[u8]) -> Name<Global> {
     let text = name_text(bytes).expect(rt, "a name");
     Name::new(rt.alloc(), text).expect(rt, "memory")
 }
 
-fn entry(rt: &impl Host, bytes: &[u8], target: (u8, u16)) -> Entry<Global> {
+pub(crate) fn entry(rt: &impl Host, bytes: &[u8], target: (u8, u16)) -> Entry<Global> {
     let text = name_text(bytes).expect(rt, "a name");
     let target = Target {
         principal: principal(rt, target.0),
@@ -168,7 +168,7 @@ fn by_hand_of(rt: &impl Host, cases: &[Case]) -> Vec<u8> {
 }
 
 /// User 0's first certificate with these changes.
-fn cert_of(rt: &impl Host, changes: Vec<Change<Global>>) -> Cert<Global> {
+pub(crate) fn cert_of(rt: &impl Host, changes: Vec<Change<Global>>) -> Cert<Global> {
     assert!(rt; changes.len() <= 16);
     let last = Digest::from_bytes([0; 32]);
     Cert::new(User::superuser(), Version::first(), last, changes)

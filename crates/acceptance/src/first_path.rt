@@ -33,7 +33,8 @@ fn is_certificate(rt: &impl Host, update: &[u8]) {
 
 /// The handle that user 0's i-table has at the beginning under the key of these tests, by another program's LMS and
 /// SHA-256.
-const FIRST_HANDLE: [u8; 32] = *b"\xee\x04\x6d\x62\x38\xe1\xec\xdd\x86\x97\x6d\x7b\x7d\x03\x12\xb7\
+pub(crate) const FIRST_HANDLE: [u8; 32] =
+    *b"\xee\x04\x6d\x62\x38\xe1\xec\xdd\x86\x97\x6d\x7b\x7d\x03\x12\xb7\
     \x54\x90\xec\x7e\x7b\xe5\x05\xd0\xaa\x33\xe0\x47\xd8\x9c\x15\x55";
 
 /// The signed structure begins with the plan made by hand, behind its size, and the handle, and has no records.

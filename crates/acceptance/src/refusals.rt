@@ -26,7 +26,7 @@ const NONE: &[u8] = b"\0";
 const INVENTED: &[u8] = b"\x01\x01\0\0\0\x01invented invented invented inven";
 
 /// The text with the lowest bit of its last byte changed.
-fn changed(rt: &impl Host, text: &[u8]) -> Vec<u8> {
+pub(crate) fn changed(rt: &impl Host, text: &[u8]) -> Vec<u8> {
     let mut changed = joined(rt, &[text]);
     if let Some(byte) = changed.last_mut() {
         *byte ^= 1;

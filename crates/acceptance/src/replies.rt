@@ -1,16 +1,17 @@
 //! A client, and what it answers to replies that are made by hand.
 
 use crate::texts::{Host, check, key_of, listed, named, pending, plan, reply};
-use client_verify::{Client, Phase, Rule, Step};
+use client_verify::{Client, Phase, Rule, Step, are_laid};
 use layout::User;
 use std::alloc::Global;
+use update_cert::Change;
 use wire::Status;
 
 /// The client of a user by its key, which takes the first key for user 0's.
 pub(crate) fn client_of(rt: &impl Host, user: u8, key: u8) -> Client<Global> {
     let pinned = key_of(rt, 0).public();
     let user = User::new(user).expect(rt, "a user");
-    Client::new(rt.alloc(), user, key_of(rt, key), pinned)
+    Client::new(rt.alloc(), user, key_of(rt, key), pinned).expect(rt, "memory")
 }
 
 /// The client of user 0, which knows its own key.
@@ -18,14 +19,28 @@ pub(crate) fn superuser(rt: &impl Host) -> Client<Global> {
     client_of(rt, 0, 0)
 }
 
-/// Declares the client's next operation.
-pub(crate) fn declare(rt: &impl Host, client: &mut Client<Global>) -> Vec<u8> {
+/// Declares the client's next operation, of these changes, for which these texts were laid out.
+pub(crate) fn declare_changes(
+    rt: &impl Host,
+    client: &mut Client<Global>,
+    changes: Vec<Change<Global>>,
+    laid: Vec<Vec<u8>>,
+) -> Vec<u8> {
     assert!(rt; client.phase() == Phase::Idle);
-    client.begin().expect(rt, "a certificate")
+    assert!(rt; changes.len() <= 16);
+    let are_laid = are_laid(rt.alloc(), &laid, &changes).expect(rt, "memory");
+    assert!(rt; are_laid);
+    client.begin(changes, laid).expect(rt, "a certificate")
+}
+
+/// Declares the client's next operation, without changes.
+pub(crate) fn declare(rt: &impl Host, client: &mut Client<Global>) -> Vec<u8> {
+    let (changes, laid) = (Vec::new(rt.alloc()), Vec::new(rt.alloc()));
+    declare_changes(rt, client, changes, laid)
 }
 
 /// Hands a reply to the client.
-fn step_on(rt: &impl Host, client: &mut Client<Global>, reply: &[u8]) -> Step<Global> {
+pub(crate) fn step_on(rt: &impl Host, client: &mut Client<Global>, reply: &[u8]) -> Step<Global> {
     assert!(rt; client.phase() == Phase::Declared);
     client.on_reply(reply).expect(rt, "memory")
 }

@@ -2,7 +2,7 @@
 
 use crate::replies::{breaks, declare, end, plan_of, reply_to, sign, superuser};
 use crate::server::{Server, answers_commit, answers_update, server_of};
-use crate::texts::{Host, certificate, check, check_text, joined, listed, named, shown};
+use crate::texts::{Host, certificate, check, check_text, joined, key_of, listed, named, shown};
 use client_verify::{Client, Phase};
 use layout::Text;
 use std::alloc::Global;
@@ -100,6 +100,13 @@ fn shows(rt: &impl Host, client: &Client<Global>, structure: &[u8]) {
     check_text(rt, &own.text(rt.alloc()).expect(rt, "memory"), structure);
 }
 
+/// The table of principals has user 0's key.
+fn has_key(rt: &impl Host, client: &Client<Global>) {
+    assert!(rt; client.has_view());
+    let key = client.table().key_of(client.user()).expect(rt, "a key");
+    check_text(rt, key.as_bytes(), key_of(rt, 0).public().as_bytes());
+}
+
 #[test]
 fn second_operation(rt: HostRuntime) {
     let mut client = superuser(&rt);
@@ -109,6 +116,7 @@ fn second_operation(rt: HostRuntime) {
     check(&rt, client.number() == 2, "two operations");
     check(&rt, server.events() == 4, "four events");
     shows(&rt, &client, &second);
+    has_key(&rt, &client);
 }
 
 #[test]

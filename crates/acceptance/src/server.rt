@@ -41,9 +41,20 @@ pub(crate) fn answers_update(
     status: Status,
     payload: &[u8],
 ) {
+    let found = answers_update_so(rt, server, text, status);
+    check_text(rt, &found, payload);
+}
+
+/// The server answers this status to the certificate: the payload.
+pub(crate) fn answers_update_so(
+    rt: &impl Host,
+    server: &mut Server,
+    text: &[u8],
+    status: Status,
+) -> Vec<u8> {
     let answer = server.ordered.update(&mut server.log, text);
     check(rt, answer.status() == status, "the status of an update");
-    check_text(rt, answer.payload(), payload);
+    answer.into_payload()
 }
 
 /// The server answers this status to the structure, and no payload.

@@ -1,0 +1,154 @@
+//! A client of user 0, its server, and a store of blocks, from which the client gets what it asks for.
+
+use crate::certificates::{i_number, principal};
+use crate::changes::Planned;
+use crate::replies::{declare_changes, end, sign, step_on, superuser};
+use crate::server::{Server, answers_commit, answers_update_so, server_of};
+use crate::texts::{Host, check, check_text};
+use client_tree::Held;
+use client_verify::{Client, Look, Step};
+use layout::{Digest, digest};
+use std::alloc::Global;
+use update_cert::Blocks;
+use wire::Status;
+
+/// How many blocks are handed in at most for one operation or one look.
+pub(crate) const BOUND: usize = 2000;
+
+/// A client of user 0, its server, and a store of blocks.
+#[derive(Drop)]
+pub(crate) struct World {
+    pub(crate) client: Client<Global>,
+    server: Server,
+    store: Held<Global>,
+    /// The blocks that were asked for since this was looked at.
+    asked: Vec<Digest>,
+}
+
+/// The beginning, where nothing is stored.
+pub(crate) fn new_world(rt: &impl Host) -> World {
+    World {
+        client: superuser(rt),
+        server: server_of(rt, 0),
+        store: Held::empty(rt.alloc()),
+        asked: Vec::new(rt.alloc()),
+    }
+}
+
+impl World {
+    /// The stored block of a digest.
+    pub(crate) fn stored(&self, digest: Digest) -> Option<&[u8]> {
+        self.store.get(digest)
+    }
+}
+
+/// Stores copies of these texts.
+fn store(rt: &impl Host, world: &mut World, texts: &[Vec<u8>]) {
+    for text in texts {
+        let text = Vec::from_slice(rt.alloc(), text).expect(rt, "memory");
+        let _digest = world.store.keep(text).expect(rt, "memory");
+    }
+}
+
+/// Lays out, stores and declares an operation, has it placed, and hands its reply to the client.
+pub(crate) fn begin(rt: &impl Host, world: &mut World, planned: Planned) -> Step<Global> {
+    let Planned { changes, laid } = planned;
+    store(rt, world, &laid);
+    let update = declare_changes(rt, &mut world.client, changes, laid);
+    let reply = answers_update_so(rt, &mut world.server, &update, Status::Ok);
+    step_on(rt, &mut world.client, &reply)
+}
+
+/// Hands in the block that the reply asks for.
+pub(crate) fn hand(rt: &impl Host, world: &mut World, digest: Digest) -> Step<Global> {
+    world.asked.push(digest).expect(rt, "memory");
+    assert!(rt; world.client.wants());
+    let block = world.store.get(digest);
+    world.client.on_block(block).expect(rt, "memory")
+}
+
+/// Hands in each block that the reply asks for, up to the texts that are handed out.
+fn hand_each(rt: &impl Host, world: &mut World, first: Step<Global>) -> Vec<Vec<u8>> {
+    let mut step = first;
+    for _ in 0..BOUND {
+        match step {
+            Step::Need(digest) => step = hand(rt, world, digest),
+            Step::Store(texts) => return texts,
+            Step::Broken(rule) => panic!(rt; "{rule:?}"),
+        }
+    }
+    panic!(rt; "too many blocks")
+}
+
+/// Stores what was handed out, signs, and commits.
+pub(crate) fn finish(rt: &impl Host, world: &mut World, texts: &[Vec<u8>]) {
+    store(rt, world, texts);
+    let commit = sign(rt, &mut world.client);
+    answers_commit(rt, &mut world.server, &commit, Status::Ok);
+    end(rt, &mut world.client, Status::Ok);
+}
+
+/// An operation from its declaration to its commit: the texts that are handed out.
+pub(crate) fn operate(rt: &impl Host, world: &mut World, planned: Planned) -> Vec<Vec<u8>> {
+    let step = begin(rt, world, planned);
+    let texts = hand_each(rt, world, step);
+    finish(rt, world, &texts);
+    texts
+}
+
+/// The changes of these numbers are lost.
+pub(crate) fn has_lost(rt: &impl Host, world: &World, lost: &[u8]) {
+    assert!(rt; world.client.has_view());
+    check_text(rt, world.client.lost(), lost);
+}
+
+/// Begins a look at an i-number of user 0's.
+pub(crate) fn look_at(rt: &impl Host, world: &mut World, number: u16) -> Look<Global> {
+    assert!(rt; world.client.has_view());
+    let look = world.client.look(principal(rt, 0), i_number(rt, number));
+    look.expect(rt, "memory")
+}
+
+/// Gives the block that the look asks for.
+pub(crate) fn give(rt: &impl Host, world: &mut World, digest: Digest) -> Look<Global> {
+    world.asked.push(digest).expect(rt, "memory");
+    assert!(rt; world.client.looking());
+    let block = world.store.get(digest);
+    world.client.give(block).expect(rt, "memory")
+}
+
+/// What stands at an i-number of user 0's.
+pub(crate) fn see(rt: &impl Host, world: &mut World, number: u16) -> Look<Global> {
+    let mut look = look_at(rt, world, number);
+    for _ in 0..BOUND {
+        match look {
+            Look::Need(digest) => look = give(rt, world, digest),
+            seen => return seen,
+        }
+    }
+    panic!(rt; "too many blocks")
+}
+
+/// A file of these bytes stands at an i-number of user 0's.
+pub(crate) fn sees_file(rt: &impl Host, world: &mut World, number: u16, bytes: &[u8]) {
+    let seen = see(rt, world, number);
+    let Look::File(file) = seen else {
+        panic!(rt; "no file");
+    };
+    check(rt, file.as_slice() == bytes, "the bytes of a file");
+}
+
+/// The blocks that were asked for since the last such question are these texts.
+pub(crate) fn asked_for(rt: &impl Host, world: &mut World, texts: &[&[u8]]) {
+    for (asked, text) in world.asked.iter().zip(texts) {
+        check(rt, *asked == digest(text), "a block that was asked for");
+    }
+    asked_for_so_many(rt, world, texts.len());
+}
+
+/// So many blocks were asked for since the last such question.
+pub(crate) fn asked_for_so_many(rt: &impl Host, world: &mut World, count: usize) {
+    let asked = world.asked.len();
+    check(rt, asked == count, "how many blocks were asked for");
+    world.asked.clear();
+}
