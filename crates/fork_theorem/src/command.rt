@@ -19,6 +19,17 @@ pub(crate) enum Command<A: Allocator> {
     Show(User, Principal, INumber),
 }
 
+impl<A: Allocator> Command<A> {
+    /// Whose client it is for.
+    pub(crate) fn user(&self) -> User {
+        match self {
+            Command::Begin(user, _) => *user,
+            Command::Update(user) | Command::Commit(user) => *user,
+            Command::Show(user, _, _) => *user,
+        }
+    }
+}
+
 fn user(word: &str) -> Result<User, Unread> {
     match user_of(word) {
         Some(user) => Ok(user),

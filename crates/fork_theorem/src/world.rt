@@ -60,25 +60,13 @@ impl<A: Allocator + Copy> World<A> {
 
     /// Carries out a command.
     pub(crate) fn run(&mut self, command: Command<A>) -> Result<Outcome<A>, Memory> {
+        let place = self.place_of(command.user())?;
+        let client = &mut self.clients[place];
         match command {
-            Command::Begin(user, tasks) => {
-                let place = self.place_of(user)?;
-                let client = &mut self.clients[place];
-                begin(self.alloc, &mut self.blocks, client, tasks)
-            }
-            Command::Update(user) => {
-                let place = self.place_of(user)?;
-                let client = &mut self.clients[place];
-                update(self.alloc, &mut self.server, &mut self.blocks, client)
-            }
-            Command::Commit(user) => {
-                let place = self.place_of(user)?;
-                let client = &mut self.clients[place];
-                commit(self.alloc, &mut self.server, client)
-            }
-            Command::Show(user, principal, i_number) => {
-                let place = self.place_of(user)?;
-                let client = &mut self.clients[place];
+            Command::Begin(_, tasks) => begin(self.alloc, &mut self.blocks, client, tasks),
+            Command::Update(_) => { update(self.alloc, &mut self.server, &mut self.blocks, client) }
+            Command::Commit(_) => commit(self.alloc, &mut self.server, client),
+            Command::Show(_, principal, i_number) => {
                 show(&self.blocks, client, principal, i_number)
             }
         }
