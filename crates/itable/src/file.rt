@@ -33,15 +33,15 @@ pub(crate) fn digests_of<A: Allocator>(alloc: A, bytes: &[u8]) -> Result<Vec<Dig
     Ok(digests)
 }
 
-/// The blocks, in order.
-fn copies_of<A: Allocator + Copy>(alloc: A, bytes: &[u8]) -> Result<Vec<Vec<u8, A>, A>, Memory>
-    ensures { IfOk result (λ copies. map vec_items copies.items ≡ blocks_of bytes.now) }
+/// The blocks of a text, in order: 4,096 bytes each, and what is left over.
+pub fn blocks_of<A: Allocator + Copy>(alloc: A, bytes: &[u8]) -> Result<Vec<Vec<u8, A>, A>, Memory>
+    ensures { IfOk result (λ blocks. map vec_items blocks.items ≡ blocks_of bytes.now) }
 {
-    let mut copies = Vec::new(alloc);
+    let mut blocks = Vec::new(alloc);
     for block in bytes.chunks(BLOCK_SIZE as usize) {
-        copies.push(Vec::from_slice(alloc, block)?)?;
+        blocks.push(Vec::from_slice(alloc, block)?)?;
     }
-    Ok(copies)
+    Ok(blocks)
 }
 
 /// The laws of a file in blocks, for the contract of what lays it.
@@ -60,7 +60,7 @@ fn lay_small<A: Allocator + Copy>(alloc: A, file: &[u8]) -> Result<Laid<A>, Memo
 {
     let inode = Inode::of_file(alloc, file)?;
     let inode = inode.text(alloc)?;
-    let blocks = copies_of(alloc, file)?;
+    let blocks = blocks_of(alloc, file)?;
     Ok(Laid { inode, blocks })
 }
 

@@ -12,7 +12,7 @@ mod table;
 
 pub use chunk::{Chunk, ChunkNumber, Pair, read_chunk};
 pub use error::LayError;
-pub use file::{Laid, lay_file};
+pub use file::{Laid, blocks_of, lay_file};
 pub use inode::{BLOCK_SIZE, DIRECTORY_SIZE, FILE_SIZE, Inode, Kind};
 pub use root::{ListedChunk, Root, read_root};
 pub use table::ITable;
