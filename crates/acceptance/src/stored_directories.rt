@@ -19,6 +19,9 @@ pub(crate) static SECOND: [(u16, Deed); 4] = [
     (2, Deed::Unlink(b"g")),
 ];
 
+/// The directory is changed, and is as before behind them.
+static BACK: [(u16, Deed); 2] = [(2, Deed::Unlink(b"f")), (2, Deed::Link(b"f", 3))];
+
 /// The directory behind the first operation, its i-node, chunk 0 and the root of user 0's i-table.
 pub(crate) static STORED: [&[u8]; 4] = [
     b"SDI1\0\x01\x01f\0\0\x03",
@@ -135,11 +138,22 @@ fn third(rt: &impl Host, world: &mut World) {
     has_lost(rt, world, &[]);
 }
 
+/// An operation whose changes undo each other: nothing has to be stored.
+fn fourth(rt: &impl Host, world: &mut World) {
+    let texts = operate(rt, world, of_deeds(rt, &BACK));
+    asked_for(rt, world, &[]);
+    are_texts(rt, &texts, &[]);
+    has_handle(rt, world, &HANDLES[1]);
+    has_lost(rt, world, &[]);
+    sees_directory(rt, world);
+}
+
 #[test]
-fn three_operations(rt: HostRuntime) {
+fn four_operations(rt: HostRuntime) {
     let mut world = new_world(&rt);
     first(&rt, &mut world);
     looks(&rt, &mut world);
     second(&rt, &mut world);
     third(&rt, &mut world);
+    fourth(&rt, &mut world);
 }

@@ -1,4 +1,3 @@
-pub mod ContentLaws
 pub mod HeldLaws
 pub mod LostLaws
 pub mod TableLaws

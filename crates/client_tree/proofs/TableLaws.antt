@@ -1,18 +1,21 @@
 -- The chunks that a root lists, one after the other.
-use Rattle.std.proofs.Common.{◌≡◌, ℕ, zero, suc, ◌<◌, true, false, List, [], ◌∷◌, length, take, get_or, Option, Some, None, Ok, refl, sym, ap, subst, ◌∙◌, ◌⊎◌, inl, inr, arith}
-use Rattle.std.specs.Prelude.{IsSomeAnd}
+use Rattle.std.proofs.Common.{◌≡◌, ℕ, zero, suc, ◌+◌, ◌<◌, Bool, true, false, List, [], ◌∷◌, ◌++◌, length, take, get_or, Option, Some, None, Ok, refl, sym, ap, subst, ◌∙◌, ◌⊎◌, inl, inr, arith, add-one, append_assoc}
+use Rattle.std.specs.Prelude.{IsSomeAnd, not, slice_index_or, if◌then◌else◌}
+use Rattle.std.proofs.Math.Seq.{take-suc}
+use Rattle.std.proofs.lemmas.List.{append-nil}
 use Rattle.std.specs.List.{All}
-use Rattle.std.specs.Option.{option_map}
+use Rattle.std.specs.Option.{option_and_then, option_map}
 use Rattle.std.specs.Ordering.{nat_cmp, is_lt, is_eq}
 use Rattle.std.proofs.lemmas.Bool.{and_parts, eqb-true}
 use Rattle.std.proofs.lemmas.Bool.Decides.{nat_tests}
 use Rattle.std.proofs.lemmas.Cmp.{nat_cmp_total}
-use Rattle.std.proofs.lemmas.List.Elements.{All-cons, All-nil}
+use Rattle.std.proofs.lemmas.List.Elements.{All-append, All-cons, All-head, All-nil, All-tail}
 use Rattle.layout.specs.Format.{whole, uint_in, raw}
 use Rattle.layout.specs.Hash.{hash}
 use Rattle.layout.specs.Ascending.{Ascends, row_at}
 use Rattle.layout.specs.AscendingLaws.{Ordered, ascends_from_fits}
 use Rattle.std.specs.Int.{w8}
+use Rattle.itable.specs.declared.chunk.Pair.{Pair}
 use Rattle.itable.specs.declared.root.ListedChunk.{ListedChunk}
 use Rattle.itable.specs.Chunk.{Chunk, chunk}
 use Rattle.itable.specs.Root.{Root, root, chunk_row, number_of, chunk_at}
@@ -23,7 +26,7 @@ use Rattle.update_cert.specs.declared.error.ApplyError.{ApplyError}
 use Rattle.update_cert.specs.declared.error.ApplyError.TheVariants as error
 use Rattle.update_cert.specs.declared.spot.Spot.{Spot}
 use Rattle.update_cert.specs.declared.spot.Spot.TheVariants as spot
-use Rattle.client_tree.specs.Tables.{root_at, LacksOfTable}
+use Rattle.client_tree.specs.Tables.{chunk_held, pairs_over, root_at, table_at, IsOfTable, LacksOfTable}
 
 -- ---- what a spot takes
 
@@ -34,6 +37,74 @@ taken_root blocks p text r taken read = eqb-true _ _ (and_parts _ _ (rw read at 
 pub taken_chunk : (blocks : Blocks) (p n : ℕ) (text : List ℕ) (c : Chunk) → takes blocks (spot.Chunk p n) text ≡ true → whole chunk text ≡ Ok c → c.number ≡ n
 unfolding takes
 taken_chunk blocks p n text c taken read = eqb-true _ _ (and_parts _ _ (rw read at taken)).0
+
+-- what a spot takes is held
+pub not_lacking : (blocks : Blocks) (digest text : List ℕ) (s : Spot) → blocks digest ≡ Some text → takes blocks s text ≡ true → lacks blocks digest s ≡ false
+not_lacking blocks digest text s held taken = rw held (ap not taken)
+
+-- ---- the pairs of the chunks
+
+one_more : (held : Option Chunk) (rest longer : Option (List Pair)) (old more : List Pair) → ((r : List Pair) → rest ≡ Some r → longer ≡ Some (r ++ more)) → option_and_then (λ x. option_map (λ r. x.pairs ++ r) rest) held ≡ Some old
+    → option_and_then (λ x. option_map (λ r. x.pairs ++ r) longer) held ≡ Some (old ++ more)
+one_more None rest longer old more next is = absurd cc
+one_more (Some x) None longer old more next is = absurd cc
+one_more (Some x) (Some r) longer old more next is =
+    let all : x.pairs ++ r ≡ old = cc in
+    ap (option_map (λ y. x.pairs ++ y)) (next r refl) ∙ ap (λ (y : List Pair). Some y) (sym (append_assoc x.pairs r more) ∙ ap (λ (y : List Pair). y ++ more) all)
+
+pairs_last : (blocks : Blocks) (cs : List ListedChunk) (c : ListedChunk) (x : Chunk) (old : List Pair) → chunk_held blocks c.digest ≡ Some x → pairs_over blocks cs ≡ Some old → pairs_over blocks (cs ++ c ∷ []) ≡ Some (old ++ x.pairs)
+unfolding pairs_over
+pairs_last blocks [] c x old held is =
+    let none : old ≡ [] = cc in
+    rw (held, none) (ap (λ (y : List Pair). Some y) (append-nil x.pairs))
+pairs_last blocks (d ∷ ds) c x old held is = one_more (chunk_held blocks d.digest) (pairs_over blocks ds) (pairs_over blocks (ds ++ c ∷ [])) old x.pairs (λ r so_far. pairs_last blocks ds c x r held so_far) is
+
+pub no_pairs : (blocks : Blocks) → pairs_over blocks [] ≡ Some []
+unfolding pairs_over
+no_pairs blocks = refl
+
+pub take_next : (cs : List ListedChunk) (k : ℕ) (c : ListedChunk) → k < length cs → c ≡ slice_index_or cs k c → take (k + 1) cs ≡ take k cs ++ c ∷ []
+take_next cs k c inside at = rw add-one (take-suc cs k c inside ∙ ap (λ (x : ListedChunk). take k cs ++ x ∷ []) (sym at))
+
+-- the first chunks, and one more
+pub pairs_next : (blocks : Blocks) (cs : List ListedChunk) (k : ℕ) (c : ListedChunk) (x : Chunk) (old : List Pair) → k < length cs → c ≡ slice_index_or cs k c → chunk_held blocks c.digest ≡ Some x → pairs_over blocks (take k cs) ≡ Some old → pairs_over blocks (take (k + 1) cs) ≡ Some (old ++ x.pairs)
+pairs_next blocks cs k c x old inside at held is = ap (pairs_over blocks) (take_next cs k c inside at) ∙ pairs_last blocks (take k cs) c x old held is
+
+pub spelled : (blocks : Blocks) (handle : List ℕ) (r : Root) (t : ITable) → root_at blocks handle ≡ Some r → t.principal ≡ r.principal → pairs_over blocks r.chunks ≡ Some t.pairs → table_at blocks handle ≡ Some t
+spelled blocks handle r t held of pairs = rw (held, pairs) (ap (λ (p : ℕ). Some (record { principal = p; pairs = t.pairs })) (sym of))
+
+-- ---- each chunk is taken
+
+abbrev pub IsTaken : Blocks → ℕ → ListedChunk → Type 0
+IsTaken blocks p c = lacks blocks c.digest (spot.Chunk p c.number) ≡ false
+
+pub taken_next : (blocks : Blocks) (p : ℕ) (cs : List ListedChunk) (k : ℕ) (c : ListedChunk) → k < length cs → c ≡ slice_index_or cs k c → IsTaken blocks p c → All (IsTaken blocks p) (take k cs) → All (IsTaken blocks p) (take (k + 1) cs)
+taken_next blocks p cs k c inside at is all = subst (All (IsTaken blocks p)) (sym (take_next cs k c inside at)) (All-append (IsTaken blocks p) (take k cs) (c ∷ []) all (All-cons (IsTaken blocks p) c [] is (All-nil (IsTaken blocks p))))
+
+taken_step : (blocks : Blocks) (p n : ℕ) (c : ListedChunk) (rest : Option ListedChunk) (digest : List ℕ) (t : Bool) → is_eq (nat_cmp c.number n) ≡ t → IsTaken blocks p c → (option_map (λ x. x.digest) rest ≡ Some digest → lacks blocks digest (spot.Chunk p n) ≡ false)
+    → option_map (λ x. x.digest) (if t then Some c else rest) ≡ Some digest → lacks blocks digest (spot.Chunk p n) ≡ false
+taken_step blocks p n c rest digest true here is later found =
+    let same : c.digest ≡ digest = cc in
+    let key : c.number ≡ n = grind (arith, nat_tests) in
+    subst (λ (m : ℕ). lacks blocks digest (spot.Chunk p m) ≡ false) key (subst (λ (d : List ℕ). lacks blocks d (spot.Chunk p c.number) ≡ false) same is)
+taken_step blocks p n c rest digest false here is later found = later found
+
+taken_at : (blocks : Blocks) (p n : ℕ) (cs : List ListedChunk) (digest : List ℕ) → All (IsTaken blocks p) cs → option_map (λ x. x.digest) (row_at nat_cmp number_of cs n) ≡ Some digest → lacks blocks digest (spot.Chunk p n) ≡ false
+taken_at blocks p n [] digest all found = absurd cc
+taken_at blocks p n (c ∷ cs) digest all found =
+    taken_step blocks p n c (row_at nat_cmp number_of cs n) digest (is_eq (nat_cmp c.number n)) refl (All-head (IsTaken blocks p) c cs all)
+    (taken_at blocks p n cs digest (All-tail (IsTaken blocks p) c cs all)) found
+
+-- nothing of the table is missing
+pub nothing_lacks : (blocks : Blocks) (p : ℕ) (handle : List ℕ) (r : Root) → root_at blocks handle ≡ Some r → lacks blocks handle (spot.Root p) ≡ false → All (IsTaken blocks p) r.chunks
+    → (digest : List ℕ) (s : Spot) → IsOfTable blocks p handle digest s → lacks blocks digest s ≡ false
+nothing_lacks blocks p handle r held found chunks digest (spot.Root q) (of, is) = rw (of, is) found
+nothing_lacks blocks p handle r held found chunks digest (spot.Chunk q n) (of, behind, listed) =
+    let found : option_map (λ x. x.digest) (chunk_at r n) ≡ Some digest = subst (λ (o : Option Root). IsSomeAnd o (λ x. option_map (λ c. c.digest) (chunk_at x n) ≡ Some digest)) held listed in
+    subst (λ (m : ℕ). lacks blocks digest (spot.Chunk m n) ≡ false) (sym of) (taken_at blocks p n r.chunks digest chunks found)
+nothing_lacks blocks p handle r held found chunks digest (spot.Inode q i) is = absurd is
+nothing_lacks blocks p handle r held found chunks digest (spot.File inode k) is = absurd is
+nothing_lacks blocks p handle r held found chunks digest (spot.Directory inode k) is = absurd is
 
 -- ---- the order of the chunks
 
@@ -99,8 +170,8 @@ pub lacks_root : (blocks : Blocks) (p : ℕ) (handle : List ℕ) (e : ApplyError
 lacks_root blocks p handle e (inl memory) = subst (LacksOfTable blocks p handle) (sym memory) tt
 lacks_root blocks p handle e (inr missing) = subst (LacksOfTable blocks p handle) (sym missing.0) ((refl, refl), missing.1)
 
-pub lacks_chunk : (blocks : Blocks) (p : ℕ) (handle : List ℕ) (r : Root) (c : ListedChunk) (e : ApplyError) → root_at blocks handle ≡ Some r → chunk_at r c.number ≡ Some c → Lacks blocks c.digest (spot.Chunk p c.number) e → LacksOfTable blocks p handle e
-lacks_chunk blocks p handle r c e held at (inl memory) = subst (LacksOfTable blocks p handle) (sym memory) tt
-lacks_chunk blocks p handle r c e held at (inr missing) =
+pub lacks_chunk : (blocks : Blocks) (p : ℕ) (handle : List ℕ) (r : Root) (c : ListedChunk) (e : ApplyError) → root_at blocks handle ≡ Some r → lacks blocks handle (spot.Root p) ≡ false → chunk_at r c.number ≡ Some c → Lacks blocks c.digest (spot.Chunk p c.number) e → LacksOfTable blocks p handle e
+lacks_chunk blocks p handle r c e held found at (inl memory) = subst (LacksOfTable blocks p handle) (sym memory) tt
+lacks_chunk blocks p handle r c e held found at (inr missing) =
     let listed : option_map (λ x. x.digest) (chunk_at r c.number) ≡ Some c.digest = ap (option_map (λ (x : ListedChunk). x.digest)) at in
-    subst (LacksOfTable blocks p handle) (sym missing.0) ((refl, subst (λ (o : Option Root). IsSomeAnd o (λ x. option_map (λ y. y.digest) (chunk_at x c.number) ≡ Some c.digest)) (sym held) listed), missing.1)
+    subst (LacksOfTable blocks p handle) (sym missing.0) ((refl, found, subst (λ (o : Option Root). IsSomeAnd o (λ x. option_map (λ y. y.digest) (chunk_at x c.number) ≡ Some c.digest)) (sym held) listed), missing.1)

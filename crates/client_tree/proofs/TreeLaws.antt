@@ -1,5 +1,5 @@
 -- The tree behind an operation of a user who acts alone.
-use Rattle.std.proofs.Common.{◌≡◌, ℕ, Bool, true, false, List, [], ◌∷◌, ◌++◌, Option, Some, None, refl, sym, ap, ◌∙◌, inl, inr}
+use Rattle.std.proofs.Common.{◌≡◌, ℕ, Bool, true, false, List, [], ◌∷◌, ◌++◌, Option, Some, None, refl, subst, sym, ap, ◌∙◌, inl, inr}
 use Rattle.std.specs.Prelude.{◌==◌, ◌&&◌, nat_le, if◌then◌else◌}
 use Rattle.std.proofs.lemmas.Bool.{cases_eq, eq-eqb, eqb-true, ne_eqb}
 use Rattle.std.proofs.lemmas.List.{append-nil}
@@ -12,8 +12,14 @@ use Rattle.update_cert.specs.Change.{Change}
 use Rattle.update_cert.specs.World.{Content, Directory, Tree, after, after_change, alone, becomes, behind, fits, has_effect, void, void_of}
 use Rattle.update_cert.specs.Part.{Changed, IsPartOf, Laid, Part, Slot, content_of, part_of, slot_at, stands_at}
 use Rattle.update_cert.specs.Slots.{settled_digest}
+use Rattle.update_cert.specs.Cert.{Cert}
+use Rattle.update_cert.specs.Blocks.{Blocks}
+use Rattle.update_cert.specs.Asked.{IsAskedFor, IsMet, LacksAskedFor}
+use Rattle.update_cert.specs.declared.error.ApplyError.{ApplyError}
+use Rattle.update_cert.specs.declared.error.ApplyError.TheVariants as error
 use Rattle.client_tree.specs.Lost.{lost_from}
-use Rattle.client_tree.specs.Tree.{ReadsChanged, table_texts, tree_of}
+use Rattle.client_tree.specs.Tables.{IsRead}
+use Rattle.client_tree.specs.Tree.{LacksReached, ReadsChanged, table_texts, tree_of}
 use Rattle.client_tree.proofs.LostLaws.{lost_is_void}
 
 -- ---- the texts
@@ -94,3 +100,13 @@ pub world_is : (reads : List ℕ → Content) (user p i : ℕ) (cs : List Change
     → ReadsChanged reads part → ((j : ℕ) → digest_at t j ≡ option_map settled_digest (slot_at part j)) → IsPartOf reads part (after reads (alone user) cs (tree_of reads before))
     → tree_of reads t p i ≡ after reads (alone user) cs (tree_of reads before) p i
 world_is reads user p i cs before t part = world_step reads user p i cs before t part (p == user) refl
+
+-- ---- what is asked for
+
+-- what the changes ask for of the part that the table read is, is reached
+pub reached : (blocks : Blocks) (handle : List ℕ) (c : Cert) (t : ITable) (part : Part) (e : ApplyError) → IsRead blocks c.user handle t → part ≡ part_of t → LacksAskedFor blocks (alone c.user) c.changes part e → LacksReached blocks handle c e
+reached blocks handle c t part (error.Missing digest s) read is lacks =
+    let of_table : IsAskedFor blocks (part_of t).table.principal (IsMet blocks (alone c.user) c.changes (part_of t)) digest s = subst (λ (q : Part). IsAskedFor blocks q.table.principal (IsMet blocks (alone c.user) c.changes q) digest s) is lacks.0 in
+    let of_user : IsAskedFor blocks c.user (IsMet blocks (alone c.user) c.changes (part_of t)) digest s = subst (λ (p : ℕ). IsAskedFor blocks p (IsMet blocks (alone c.user) c.changes (part_of t)) digest s) read.principal of_table in
+    (inr (t, read, of_user), lacks.1)
+reached blocks handle c t part error.Memory read is lacks = tt

@@ -3,17 +3,17 @@ use Rattle.std.specs.Prelude.{◌≡◌, ◌⊎◌, ℕ, ◌==◌, List, ◌++�
 use Rattle.std.specs.Option.{option_map}
 use Rattle.std.specs.Str.{bytes_eq}
 use Rattle.itable.specs.ITable.{ITable, IsTable, digest_at, handle_of, listings, new_texts}
-use Rattle.itable.specs.declared.inode.Kind.TheVariants as kind
+use Rattle.itable.specs.declared.inode.Kind.{Kind}
 use Rattle.directory.specs.Directory.{Entry}
 use Rattle.update_cert.specs.Cert.{Cert}
 use Rattle.update_cert.specs.World.{Content, Directory, Tree, after, alone, void}
 use Rattle.update_cert.specs.Blocks.{Blocks, Agrees}
-use Rattle.update_cert.specs.Part.{Part, Changed, IsPart, IsPartOf, part_of, slot_at, IsAskedFor, IsBlockOf, Lacks}
-use Rattle.update_cert.specs.Slots.{slot_after, settled_digest, opened_texts}
+use Rattle.update_cert.specs.Part.{Part, Changed, IsPart, IsPartOf, part_of, slot_at}
+use Rattle.update_cert.specs.Slots.{slot_after, settled_digest, changed_texts, IsReadBack}
+use Rattle.update_cert.specs.Asked.{Lacks, IsInode, IsBlock, IsAskedFor, IsMet}
 use Rattle.update_cert.specs.declared.error.ApplyError.{ApplyError}
 use Rattle.update_cert.specs.declared.spot.Spot.{Spot}
-use Rattle.update_cert.specs.declared.spot.Spot.TheVariants as spot
-use Rattle.client_tree.specs.Tables.{IsOfTable}
+use Rattle.client_tree.specs.Tables.{IsOfTable, IsRead}
 
 -- the i-table of the user behind the operation, and the numbers of the changes that had no effect
 pub record OwnTree : Type 0 where
@@ -35,25 +35,26 @@ table_texts before t = if bytes_eq (handle_of t) (handle_of before) then [] else
 -- What the operation of a certificate makes of its user's part, whose i-table before it has this handle, whatever stands
 -- for the digests of which no block tells.
 pub record IsOutcome (blocks : Blocks) (handle : List ℕ) (c : Cert) (tree : OwnTree) (texts : List (List ℕ)) : Type 0 where
-  -- the i-table before the operation
+  -- the i-table before the operation, as the blocks spell it
   pub before : ITable
-  pub named : handle_of before ≡ handle
-  pub own : before.principal ≡ c.user
+  pub read : IsRead blocks c.user handle before
   -- the part behind its changes, in turn, and what stands in it: that of the tree before behind these changes
   pub part : Part
   pub is_part : IsPart part
   pub slots : (reads : List ℕ → Content) → Agrees blocks reads → (i : ℕ) → slot_at part i ≡ slot_after reads (alone c.user) c.user i c.changes (slot_at (part_of before) i)
   pub stands : (reads : List ℕ → Content) → Agrees blocks reads → IsPartOf reads part (after reads (alone c.user) c.changes (tree_of reads before))
   -- the i-table has the digests of what stands there then
-  pub are_tables : IsTable before × IsTable tree.table
+  pub is_table : IsTable tree.table
   pub principal : tree.table.principal ≡ c.user
   pub digests : (i : ℕ) → digest_at tree.table i ≡ option_map settled_digest (slot_at part i)
-  -- and is that of the tree behind these changes, where the digests of directories that changed stand for them
+  -- and is that of the tree behind these changes, where the digests of directories that changed stand for them,
   pub world : (reads : List ℕ → Content) → Agrees blocks reads → ReadsChanged reads part → (p i : ℕ) → tree_of reads tree.table p i ≡ after reads (alone c.user) c.changes (tree_of reads before) p i
+  -- as they do for who holds their texts
+  pub read_back : (i : ℕ) (entries : List Entry) → slot_at part i ≡ Some (Changed entries) → IsReadBack entries
   -- the changes without effect are those of the definition, for the tree before
   pub lost : (reads : List ℕ → Content) → Agrees blocks reads → tree.lost ≡ void reads (alone c.user) c.changes (tree_of reads before)
   -- the new texts are those of the directories that changed, of the chunks that changed, and of the root
-  pub stored : texts ≡ opened_texts part.opened ++ table_texts before tree.table
+  pub stored : texts ≡ changed_texts part.table part.opened ++ table_texts before tree.table
 
 -- ---- what is asked for
 
@@ -61,17 +62,14 @@ pub record IsOutcome (blocks : Blocks) (handle : List ℕ) (c : Cert) (tree : Ow
 abbrev pub IsReached : Blocks → List ℕ → Cert → List ℕ → Spot → Type 0
 IsReached blocks handle c digest s =
     IsOfTable blocks c.user handle digest s
-    ⊎ ((t : ITable) × (handle_of t ≡ handle) × (t.principal ≡ c.user) × IsAskedFor blocks (part_of t) c.changes digest s)
+    ⊎ ((t : ITable) × IsRead blocks c.user handle t × IsAskedFor blocks c.user (IsMet blocks (alone c.user) c.changes (part_of t)) digest s)
 
 abbrev pub LacksReached : Blocks → List ℕ → Cert → ApplyError → Type 0
 LacksReached blocks handle c e = Lacks blocks (IsReached blocks handle c) e
 
 -- the i-node at an i-number of a table, or a block of what it is of
 abbrev pub IsLooked : Blocks → ITable → ℕ → List ℕ → Spot → Type 0
-IsLooked blocks t i digest (spot.Inode p j) = (p ≡ t.principal) × (j ≡ i) × (digest_at t i ≡ Some digest)
-IsLooked blocks t i digest (spot.File inode k) = (digest_at t i ≡ Some inode) × IsBlockOf blocks kind.File inode k digest
-IsLooked blocks t i digest (spot.Directory inode k) = (digest_at t i ≡ Some inode) × IsBlockOf blocks kind.Directory inode k digest
-IsLooked blocks t i digest other = ⊥
+IsLooked blocks t i digest s = (inode : List ℕ) × (digest_at t i ≡ Some inode) × (IsInode t.principal i inode digest s ⊎ ((kind : Kind) × IsBlock blocks kind inode digest s))
 
 abbrev pub LacksLooked : Blocks → ITable → ℕ → ApplyError → Type 0
 LacksLooked blocks t i e = Lacks blocks (IsLooked blocks t i) e

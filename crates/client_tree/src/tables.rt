@@ -1,14 +1,13 @@
 //! The i-table that a handle names.
 
-ghost use Rattle.std.specs.Prelude.{◌≡◌, ◌⊎◌, Some, IfOk, IfErr, true};
+ghost use Rattle.std.specs.Prelude.{◌≡◌, ◌⊎◌, Some, IfOk, IfErr, OnOk, true, false};
 ghost use Rattle.layout.specs.Hash.{hash};
 ghost use Rattle.itable.specs.Chunk.{chunk as chunk_format};
 ghost use Rattle.itable.specs.Root.{root as root_format};
-ghost use Rattle.itable.specs.ITable.{IsTable, handle_of};
 ghost use Rattle.update_cert.specs.Spot.{takes, lacks};
 ghost use Rattle.update_cert.specs.declared.error.ApplyError.TheVariants as error;
 ghost use Rattle.update_cert.specs.declared.spot.Spot.TheVariants as spots;
-ghost use Rattle.client_tree.specs.Tables.{root_at, LacksOfTable};
+ghost use Rattle.client_tree.specs.Tables.{chunk_held, root_at, IsRead, LacksOfTable};
 
 use itable::{Chunk, ITable, ListedChunk, Root};
 use layout::{Digest, Principal, Text};
@@ -44,6 +43,7 @@ fn root_of<A: Allocator + Copy, B: Blocks>(
     ensures fits { IfOk result root_format.Fits }
     ensures principal { IfOk result (λ root. root.principal ≡ principal) }
     ensures hashed { IfOk result (λ root. hash (root_format.spell root) ≡ handle) }
+    ensures taken { OnOk result (lacks (B.held blocks.now) handle (spots.Root principal) ≡ false) }
     ensures missing { IfErr result (LacksOfTable (B.held blocks.now) principal handle) }
 {
     let text = text_at(alloc, blocks, handle, Spot::Root(principal))?;
@@ -61,8 +61,10 @@ fn chunk_of<A: Allocator + Copy, B: Blocks>(
     principal: Principal,
     listed: ListedChunk,
 ) -> Result<Chunk<A>, ApplyError>
+    ensures found { IfOk result (λ chunk. chunk_held (B.held blocks.now) listed.digest ≡ Some chunk) }
     ensures number { IfOk result (λ chunk. chunk.number ≡ listed.number) }
     ensures hashed { IfOk result (λ chunk. hash (chunk_format.spell chunk) ≡ listed.digest) }
+    ensures taken { OnOk result (lacks (B.held blocks.now) listed.digest (spots.Chunk principal listed.number) ≡ false) }
     ensures missing { IfErr result (λ e. e ≡ error.Memory ⊎ ((e ≡ error.Missing listed.digest (spots.Chunk principal listed.number)) × (lacks (B.held blocks.now) listed.digest (spots.Chunk principal listed.number) ≡ true))) }
 {
     let spot = Spot::Chunk(principal, listed.number);
@@ -81,9 +83,7 @@ pub fn read_table<A: Allocator + Copy, B: Blocks>(
     principal: Principal,
     handle: Digest,
 ) -> Result<ITable<A>, ApplyError>
-    ensures principal { IfOk result (λ table. table.principal ≡ principal) }
-    ensures handle { IfOk result (λ table. handle_of table ≡ handle) }
-    ensures is_table { IfOk result IsTable }
+    ensures read { IfOk result (IsRead (B.held blocks.now) principal handle) }
     // Missing names the handle or the digest of a chunk that its root lists, and no text of it is held that is one.
     ensures missing { IfErr result (LacksOfTable (B.held blocks.now) principal handle) }
 {

@@ -9,7 +9,7 @@ ghost use Rattle.update_cert.specs.Blocks.{Agrees};
 ghost use Rattle.client_tree.specs.Tree.{IsOutcome, LacksReached, LacksLooked, tree_of};
 ghost use Rattle.client_tree.specs.Seen.{content_seen};
 
-use crate::contents::{Seen, read_content, read_inode};
+use crate::contents::{Seen, read_content};
 use crate::lost::lost_among;
 use crate::tables::read_table;
 use itable::{ITable, ListedChunk};
@@ -135,7 +135,6 @@ impl<A: Allocator + Copy> Tree<A> {
         let Some(digest) = self.table.get(i_number) else {
             return Ok(Seen::Nothing);
         };
-        let inode = read_inode(alloc, blocks, principal, i_number, digest)?;
-        read_content(alloc, blocks, digest, &inode)
+        read_content(alloc, blocks, principal, i_number, digest)
     }
 }

@@ -3,3 +3,4 @@ pub mod Sole
 pub mod Steps
 pub mod Firsts
 pub mod LaidLaws
+pub mod GenesisLaws

@@ -76,6 +76,13 @@ impl<A: Allocator> Model for Client<A> {
 }
 
 impl<A: Allocator + Copy> Client<A> {
+    ghost use Rattle.std.specs.Prelude.{ℕ, List};
+    ghost use Rattle.itable.specs.File.{NoneCollide};
+    ghost use Rattle.update_cert.specs.World.{Content, genesis as first_tree};
+    ghost use Rattle.update_cert.specs.Blocks.{Agrees};
+    ghost use Rattle.client_tree.specs.Held.{held};
+    ghost use Rattle.client_tree.specs.Tree.{tree_of};
+    ghost use Rattle.client_verify.specs.Genesis.{first_table, first_texts, table_text};
     ghost use Rattle.client_verify.specs.State.{initial};
 
     /// A client of this user before its first operation. User 0's public key is known to every client.
@@ -85,7 +92,11 @@ impl<A: Allocator + Copy> Client<A> {
         key: PrivateKey<A>,
         pinned: PublicKey,
     ) -> Result<Client<A>, Memory>
-        ensures { IfOk result (λ client. client ≡ initial user key.seed key.id pinned) }
+        ensures state { IfOk result (λ client. client ≡ initial user key.seed key.id pinned) }
+        // What it has is the user's part of the tree of the beginning, unless two texts of the beginning have one digest.
+        ensures genesis { IfOk result (λ client. NoneCollide (first_texts user pinned) (first_texts user pinned)
+            → (reads : List ℕ → Content) → Agrees (held client.blocks) reads
+            → (i : ℕ) → tree_of reads (first_table user pinned) user i ≡ first_tree (table_text pinned) user i) }
     {
         let blocks = first_blocks(alloc, user, pinned.as_bytes())?;
         Ok(Client {
@@ -229,9 +240,8 @@ fn told<A: Allocator>(seen: Seen<A>) -> Look<A>
 }
 
 impl<A: Allocator + Copy> Client<A> {
-    ghost use Rattle.client_verify.specs.State.{declared, committed, next_cert, sent, signed_over};
     ghost use Rattle.client_tree.specs.Held.{held};
-    ghost use Rattle.client_verify.specs.State.{last_handle};
+    ghost use Rattle.client_verify.specs.State.{declared, committed, next_cert, sent, signed_over, last_handle};
     ghost use Rattle.client_verify.specs.Judged.{Goes, Judged, Handed};
     ghost use Rattle.client_verify.specs.Grown.{IsGrown, IsSight};
     ghost use Rattle.client_verify.specs.Looked.{Looked, Given};

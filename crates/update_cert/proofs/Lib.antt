@@ -3,7 +3,8 @@ pub mod PartLaws
 pub mod ReadingLaws
 pub mod OpenedLaws
 pub mod ActLaws
+pub mod AskedLaws
 pub mod TreeLaws
-pub mod Pieces
 pub mod SettleLaws
 pub mod SomeReading
+pub mod Contents

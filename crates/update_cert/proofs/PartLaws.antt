@@ -1,19 +1,18 @@
 -- The laws of a principal's part.
-use Rattle.std.proofs.Common.{◌≡◌, ℕ, Bool, true, false, List, [], ◌∷◌, Option, Some, None, refl, subst, sym, ap, ◌∙◌, inl, inr, arith}
-use Rattle.std.specs.Prelude.{◌==◌, ◌||◌, length, if◌then◌else◌}
-use Rattle.std.proofs.lemmas.Bool.{eqb-true, eq-eqb, ne_eqb}
+use Rattle.std.proofs.Common.{◌≡◌, ℕ, false, List, [], ◌∷◌, Option, Some, None, refl, subst, sym, ap, ◌∙◌, arith}
+use Rattle.std.specs.Prelude.{◌==◌, ◌||◌, length}
+use Rattle.std.proofs.lemmas.Bool.{eq-eqb, ne_eqb}
 use Rattle.std.specs.Option.{option_map, option_map_or}
 use Rattle.itable.specs.ITable.{ITable, digest_at}
 use Rattle.itable.specs.Inode.{Inode}
 use Rattle.itable.specs.declared.inode.Kind.TheVariants as kinds
 use Rattle.layout.specs.Ascending.{Ascends}
 use Rattle.directory.specs.Directory.{Entry}
-use Rattle.update_cert.specs.Change.{Change}
 use Rattle.update_cert.specs.World.{Content, File, Directory, is_file, is_removable}
 use Rattle.update_cert.specs.Blocks.{Blocks, inode_at, IsOf, Agrees, directory_over}
 use Rattle.update_cert.specs.Spot.{is_of_file}
-use Rattle.update_cert.specs.Part.{Open, Part, Laid, IsPart, part_of, opened_at, content_of, stands_at, NamesInode, inode_of_action}
-use Rattle.update_cert.specs.Acts.{Keeps, listed}
+use Rattle.update_cert.specs.Part.{Open, Part, Laid, IsPart, part_of, opened_at, content_of, stands_at}
+use Rattle.update_cert.specs.Acts.{listed}
 
 is_part_of_table : (table : ITable) → IsPart (part_of table)
 unfolding Ascends
@@ -21,33 +20,6 @@ is_part_of_table table = record { ascending = tt; mapped = λ i some. absurd cc 
 
 pub is_part_of : (table : ITable) (opened : List Open) → opened ≡ [] → IsPart (record { table = table; opened = opened })
 is_part_of table opened is = subst (λ (os : List Open). IsPart (record { table = table; opened = os })) (sym is) (is_part_of_table table)
-
--- ---- digests of a table behind a change
-
-set_names : (c : Change) (old new : Part) (digest : List ℕ) → inode_of_action c.action ≡ Some digest → c.principal ≡ old.table.principal
-    → (i : ℕ) (d : List ℕ) (t : Bool) → (c.i_number == i) ≡ t → (if t then Some digest else digest_at old.table i) ≡ Some d → NamesInode old (c ∷ []) i d
-set_names c old new digest is of i d true here found = inr (c, (0, omega arith, refl), of, eqb-true c.i_number i here, is ∙ found)
-set_names c old new digest is of i d false here found = inl found
-
-pub keeps_set : (c : Change) (old new : Part) (digest : List ℕ) → inode_of_action c.action ≡ Some digest → c.principal ≡ old.table.principal → new.table.principal ≡ old.table.principal
-    → ((i : ℕ) → digest_at new.table i ≡ (if c.i_number == i then Some digest else digest_at old.table i)) → Keeps c old new
-keeps_set c old new digest is of same set = record {
-  principal = same;
-  digests = λ i d found. set_names c old new digest is of i d (c.i_number == i) refl (sym (set i) ∙ found);
-}
-
-taken_names : (c : Change) (old : Part) (i : ℕ) (d : List ℕ) (t : Bool) → (if t then None else digest_at old.table i) ≡ Some d → NamesInode old (c ∷ []) i d
-taken_names c old i d true found = absurd cc
-taken_names c old i d false found = inl found
-
-pub keeps_taken : (c : Change) (old new : Part) (k : ℕ) → new.table.principal ≡ old.table.principal → ((i : ℕ) → digest_at new.table i ≡ (if k == i then None else digest_at old.table i)) → Keeps c old new
-keeps_taken c old new k same taken = record { principal = same; digests = λ i d found. taken_names c old i d (k == i) (sym (taken i) ∙ found) }
-
-pub keeps_same : (c : Change) (old new : Part) → new.table ≡ old.table → Keeps c old new
-keeps_same c old new same = record {
-  principal = ap (λ (t : ITable). t.principal) same;
-  digests = λ i d found. inl (ap (λ (t : ITable). digest_at t i) (sym same) ∙ found);
-}
 
 -- ---- what an i-node tells
 

@@ -1,8 +1,9 @@
 -- What reading i-nodes and directories finds, and what it lacks.
-use Rattle.std.proofs.Common.{◌≡◌, ℕ, suc, ◌+◌, ◌*◌, ◌<◌, ◌≤◌, min, Bool, true, false, List, [], ◌∷◌, ◌++◌, length, take, Option, Some, None, refl, sym, ap, subst, ◌∙◌, arith, append_assoc, add-one}
-use Rattle.std.specs.Prelude.{not, ◌&&◌, ◌||◌, ◌==◌, is_some, IsSome, nat_lt, slice_index_or, if◌then◌else◌}
+use Rattle.std.proofs.Common.{◌≡◌, ℕ, suc, ◌+◌, ◌*◌, ◌<◌, ◌≤◌, min, Bool, true, false, List, [], ◌∷◌, ◌++◌, length, take, Option, Some, None, Result, Ok, Err, Vec, refl, sym, ap, subst, ◌∙◌, arith, append_assoc, add-one}
+use Rattle.std.specs.Prelude.{not, ◌&&◌, ◌||◌, ◌==◌, is_some, IsSome, IfOk, nat_lt, slice_index_or, if◌then◌else◌}
 use Rattle.std.proofs.lemmas.Bool.Decides.{nat_tests}
 use Rattle.std.proofs.Math.Seq.{take-suc}
+use Rattle.std.proofs.lemmas.Bool.{eq-eqb}
 use Rattle.std.proofs.lemmas.List.{append-nil, take_all}
 use Rattle.std.proofs.lemmas.Option.{slice_get_read}
 use Rattle.std.specs.Int.{w16, w32}
@@ -14,9 +15,10 @@ use Rattle.itable.specs.Inode.{Inode, inode, block_count, size}
 use Rattle.itable.specs.declared.inode.Kind.{Kind}
 use Rattle.itable.specs.declared.inode.Kind.TheVariants as kinds
 use Rattle.directory.specs.Directory.{directory}
-use Rattle.update_cert.specs.Blocks.{Blocks, inode_at, joined, of_size}
-use Rattle.update_cert.specs.Part.{IsBlockOf}
-use Rattle.update_cert.specs.Spot.{takes, takes_inode, takes_block, size_of_block, completes, is_of_file, lacks}
+use Rattle.update_cert.specs.Blocks.{Blocks, inode_at, joined, file_over, if_of_size, of_size}
+use Rattle.update_cert.specs.Asked.{IsBlockOf}
+use Rattle.update_cert.specs.Spot.{takes, takes_inode, takes_block, takes_file_block, size_of_block, spot_of, completes, is_of_file, lacks}
+use Rattle.update_cert.specs.declared.error.ApplyError.{ApplyError}
 use Rattle.update_cert.specs.declared.spot.Spot.TheVariants as spot
 
 -- ---- i-nodes
@@ -60,25 +62,44 @@ no_and true true c = refl
 no_and true false c = refl
 no_and false b c = refl
 
-other_size : (blocks : Blocks) (n : Inode) (k : ℕ) (bytes : List ℕ) → (length bytes == size_of_block n.size k) ≡ false → takes_block blocks k bytes n ≡ false
-other_size blocks n k bytes other = rw other (no_and (not (is_of_file n.kind)) (nat_lt k (block_count n.size)) (nat_lt (k + 1) (block_count n.size) || completes blocks n k bytes))
+no_and_last : (a b : Bool) → a && (b && false) ≡ false
+no_and_last true true = refl
+no_and_last true false = refl
+no_and_last false b = refl
 
-taken_by : (blocks : Blocks) (digest : List ℕ) (n : Inode) (k : ℕ) (bytes : List ℕ) → inode_at blocks digest ≡ Some n → takes blocks (spot.Directory digest k) bytes ≡ takes_block blocks k bytes n
+-- what the spot of a block takes
+abbrev block_taken : Blocks → Inode → ℕ → Kind → List ℕ → Bool
+block_taken blocks n k kinds.File bytes = takes_file_block k bytes n
+block_taken blocks n k kinds.Directory bytes = takes_block blocks k bytes n
+
+other_size : (blocks : Blocks) (n : Inode) (k : ℕ) (kind : Kind) (bytes : List ℕ) → (length bytes == size_of_block n.size k) ≡ false → block_taken blocks n k kind bytes ≡ false
+other_size blocks n k kinds.File bytes other = rw other (no_and_last (is_of_file n.kind) (nat_lt k (block_count n.size)))
+other_size blocks n k kinds.Directory bytes other = rw other (no_and (not (is_of_file n.kind)) (nat_lt k (block_count n.size)) (nat_lt (k + 1) (block_count n.size) || completes blocks n k bytes))
+
+taken_by : (blocks : Blocks) (digest : List ℕ) (n : Inode) (k : ℕ) (kind : Kind) (bytes : List ℕ) → inode_at blocks digest ≡ Some n → takes blocks (spot_of kind digest k) bytes ≡ block_taken blocks n k kind bytes
 unfolding takes
-taken_by blocks digest n k bytes at = ap (λ (found : Option Inode). option_map_or (takes_block blocks k bytes) found false) at
+taken_by blocks digest n k kinds.File bytes at = ap (λ (found : Option Inode). option_map_or (takes_file_block k bytes) found false) at
+taken_by blocks digest n k kinds.Directory bytes at = ap (λ (found : Option Inode). option_map_or (takes_block blocks k bytes) found false) at
 
-lacks_where : (blocks : Blocks) (digest : List ℕ) (n : Inode) (k : ℕ) (held : Option (List ℕ)) → inode_at blocks digest ≡ Some n → option_map_or (λ bytes. takes_block blocks k bytes n) held false ≡ false
-    → not (option_map_or (takes blocks (spot.Directory digest k)) held false) ≡ true
-lacks_where blocks digest n k None at none = refl
-lacks_where blocks digest n k (Some bytes) at none = ap not (taken_by blocks digest n k bytes at ∙ none)
+lacks_where : (blocks : Blocks) (digest : List ℕ) (n : Inode) (k : ℕ) (kind : Kind) (held : Option (List ℕ)) → inode_at blocks digest ≡ Some n → option_map_or (block_taken blocks n k kind) held false ≡ false
+    → not (option_map_or (takes blocks (spot_of kind digest k)) held false) ≡ true
+lacks_where blocks digest n k kind None at none = refl
+lacks_where blocks digest n k kind (Some bytes) at none = ap not (taken_by blocks digest n k kind bytes at ∙ none)
 
-no_size : (blocks : Blocks) (n : Inode) (k : ℕ) (held : Option (List ℕ)) → option_map_or (λ bytes. length bytes == size_of_block n.size k) held false ≡ false → option_map_or (λ bytes. takes_block blocks k bytes n) held false ≡ false
-no_size blocks n k None none = refl
-no_size blocks n k (Some bytes) none = other_size blocks n k bytes none
+no_size : (blocks : Blocks) (n : Inode) (k : ℕ) (kind : Kind) (held : Option (List ℕ)) → option_map_or (λ bytes. length bytes == size_of_block n.size k) held false ≡ false → option_map_or (block_taken blocks n k kind) held false ≡ false
+no_size blocks n k kind None none = refl
+no_size blocks n k kind (Some bytes) none = other_size blocks n k kind bytes none
 
 -- no text of the block's size is held
-pub lacks_block : (blocks : Blocks) (digest : List ℕ) (n : Inode) (k : ℕ) (block : List ℕ) → inode_at blocks digest ≡ Some n → option_map_or (λ bytes. length bytes == size_of_block n.size k) (blocks block) false ≡ false → lacks blocks block (spot.Directory digest k) ≡ true
-lacks_block blocks digest n k block at none = lacks_where blocks digest n k (blocks block) at (no_size blocks n k (blocks block) none)
+pub lacks_block : (blocks : Blocks) (digest : List ℕ) (n : Inode) (k : ℕ) (kind : Kind) (block : List ℕ) → inode_at blocks digest ≡ Some n → option_map_or (λ bytes. length bytes == size_of_block n.size k) (blocks block) false ≡ false → lacks blocks block (spot_of kind digest k) ≡ true
+lacks_block blocks digest n k kind block at none = lacks_where blocks digest n k kind (blocks block) at (no_size blocks n k kind (blocks block) none)
+
+-- ---- all of them
+
+-- the bytes of a file
+pub file_read : {A : Type 0} (blocks : Blocks) (n : Inode) (r : Result (Vec ℕ A) ApplyError) → IfOk r (λ text. joined blocks n.blocks ≡ Some text.items) → IfOk r (λ text. length text.items ≡ n.size) → IfOk r (λ text. file_over blocks n ≡ Some text.items)
+file_read blocks n (Ok text) all size = ap (option_and_then (if_of_size n.size)) all ∙ rw (eq-eqb (length text.items) n.size size) refl
+file_read blocks n (Err e) all size = tt
 
 -- ---- the last block
 
@@ -158,4 +179,4 @@ front_joined blocks ds k d text is here all =
 pub lacks_last : (blocks : Blocks) (digest : List ℕ) (n : Inode) (k : ℕ) (block text : List ℕ) → inode.Fits n → inode_at blocks digest ≡ Some n → k + 1 ≡ length n.blocks → block ≡ slice_index_or n.blocks k block → joined blocks n.blocks ≡ Some text → result_ok (whole directory text) ≡ None → lacks blocks block (spot.Directory digest k) ≡ true
 lacks_last blocks digest n k block text fits at is here all none =
     let split = sym (joined_last blocks (take k n.blocks) block) ∙ sym (ap (joined blocks) (front_and_last n.blocks k block is here)) ∙ all in
-    lacks_where blocks digest n k (blocks block) at (last_wrong blocks n k text (blocks block) (is ∙ count_is n fits) split none)
+    lacks_where blocks digest n k kinds.Directory (blocks block) at (last_wrong blocks n k text (blocks block) (is ∙ count_is n fits) split none)

@@ -1,21 +1,14 @@
 -- The tree and a principal's part of it, behind changes in turn.
-use Rattle.std.proofs.Common.{◌≡◌, ◌≢◌, ℕ, suc, ◌+◌, ◌<◌, Bool, true, false, List, [], ◌∷◌, ◌++◌, length, take, Option, Some, Result, Ok, Err, refl, subst, sym, ap, ◌∙◌, inl, inr, arith, add-one}
-use Rattle.std.specs.Prelude.{◌==◌, ◌&&◌, if◌then◌else◌, Contains, IfErr, IsErrAnd, slice_index_or}
+use Rattle.std.proofs.Common.{◌≡◌, ◌≢◌, ℕ, suc, ◌+◌, ◌<◌, Bool, true, false, List, [], ◌∷◌, ◌++◌, length, take, Option, refl, subst, sym, ap, ◌∙◌, arith, add-one}
+use Rattle.std.specs.Prelude.{◌==◌, ◌&&◌, if◌then◌else◌, slice_index_or}
 use Rattle.std.proofs.lemmas.Bool.{eq-eqb, ne_eqb}
-use Rattle.std.proofs.lemmas.List.Elements.{Contains-append_left, Contains-append_right}
-use Rattle.std.proofs.lemmas.List.{append-nil, take-append-drop}
+use Rattle.std.proofs.lemmas.List.{append-nil}
 use Rattle.std.proofs.Math.Seq.{take-suc}
-use Rattle.itable.specs.ITable.{digest_at}
 use Rattle.update_cert.specs.Change.{Change}
 use Rattle.update_cert.specs.World.{Content, Actor, Tree, after_change, after, void_from, is_of, void_of}
-use Rattle.update_cert.specs.Blocks.{Blocks}
 use Rattle.update_cert.specs.Slots.{slot_behind, slot_after}
-use Rattle.update_cert.specs.Part.{Part, Slot, IsPartOf, NamesInode, IsAskedFor, LacksAskedFor}
-use Rattle.update_cert.specs.Acts.{Keeps, is_void_of}
-use Rattle.update_cert.specs.declared.error.ApplyError.{ApplyError}
-use Rattle.update_cert.specs.declared.error.ApplyError.TheVariants as error
-use Rattle.update_cert.specs.declared.spot.Spot.{Spot}
-use Rattle.update_cert.specs.declared.spot.Spot.TheVariants as spot
+use Rattle.update_cert.specs.Part.{Part, Slot, IsPartOf}
+use Rattle.update_cert.specs.Acts.{is_void_of}
 
 -- ---- changes in turn
 
@@ -68,45 +61,6 @@ pub slot_foreign : (reads : List ℕ → Content) (actor : Actor) (p i : ℕ) (c
 unfolding slot_after
 slot_foreign reads actor p i c s other = sym (ap (λ (t : Bool). if t && (c.i_number == i) then slot_behind reads actor c s else s) (ne_eqb c.principal p other))
 
--- ---- what is asked for
-
--- the part names what the changes before put there
-abbrev pub NamesOnly : Part → Part → List Change → Type 0
-NamesOnly first part cs = (i : ℕ) (d : List ℕ) → digest_at part.table i ≡ Some d → NamesInode first cs i d
-
-no_member : (c : Change) → Contains [] c → ⊥
-no_member c (k, lt, at) = omega (arith, lt)
-
-names_now : (first part : Part) (cs : List Change) (i : ℕ) (d : List ℕ) → NamesOnly first part cs → NamesInode part [] i d → NamesInode first cs i d
-names_now first part cs i d names (inl found) = names i d found
-names_now first part cs i d names (inr (c, in_it, of, here, is)) = absurd (no_member c in_it)
-
-names_more : (first : Part) (cs more : List Change) (i : ℕ) (d : List ℕ) → NamesInode first cs i d → NamesInode first (cs ++ more) i d
-names_more first cs more i d (inl found) = inl found
-names_more first cs more i d (inr (c, in_it, of, here, is)) = inr (c, Contains-append_left cs more c in_it, of, here, is)
-
-names_last : (first part : Part) (cs : List Change) (c : Change) (i : ℕ) (d : List ℕ) → part.table.principal ≡ first.table.principal → NamesOnly first part cs → NamesInode part (c ∷ []) i d → NamesInode first (cs ++ c ∷ []) i d
-names_last first part cs c i d same names (inl found) = names_more first cs (c ∷ []) i d (names i d found)
-names_last first part cs c i d same names (inr (x, in_it, of, here, is)) = inr (x, Contains-append_right cs (c ∷ []) x in_it, of ∙ same, here, is)
-
-pub names_kept : (first part new : Part) (cs : List Change) (c : Change) → part.table.principal ≡ first.table.principal → NamesOnly first part cs → Keeps c part new → NamesOnly first new (cs ++ c ∷ [])
-names_kept first part new cs c same names keeps = λ i d found. names_last first part cs c i d same names (keeps.digests i d found)
-
-asked : (blocks : Blocks) (first part : Part) (cs : List Change) (k : ℕ) (digest : List ℕ) (s : Spot) → part.table.principal ≡ first.table.principal → NamesOnly first part (take k cs) → IsAskedFor blocks part [] digest s → IsAskedFor blocks first cs digest s
-asked blocks first part cs k digest (spot.Root p) same names is = absurd is
-asked blocks first part cs k digest (spot.Chunk p n) same names is = absurd is
-asked blocks first part cs k digest (spot.File inode n) same names is = absurd is
-asked blocks first part cs k digest (spot.Inode p i) same names (of, named) =
-    let all = names_more first (take k cs) _ i digest (names_now first part (take k cs) i digest names named) in
-    (of ∙ same, subst (λ (xs : List Change). NamesInode first xs i digest) (take-append-drop k cs) all)
-asked blocks first part cs k digest (spot.Directory inode n) same names (i, named, block) =
-    let all = names_more first (take k cs) _ i inode (names_now first part (take k cs) i inode names named) in
-    (i, subst (λ (xs : List Change). NamesInode first xs i inode) (take-append-drop k cs) all, block)
-
-pub lacks_then : (blocks : Blocks) (first part : Part) (cs : List Change) (k : ℕ) (e : ApplyError) → part.table.principal ≡ first.table.principal → NamesOnly first part (take k cs) → LacksAskedFor blocks part [] e → LacksAskedFor blocks first cs e
-lacks_then blocks first part cs k (error.Missing digest s) same names (is, lacks) = (asked blocks first part cs k digest s same names is, lacks)
-lacks_then blocks first part cs k error.Memory same names is = tt
-
 -- ---- one change more
 
 pub take_next : (cs : List Change) (k : ℕ) (c : Change) → k < length cs → c ≡ slice_index_or cs k c → take (k + 1) cs ≡ take k cs ++ c ∷ []
@@ -138,8 +92,3 @@ pushed old new n t is more = more ∙ ap (λ (b : Bool). old ++ if_void b n) (sy
 
 pub not_pushed : (old new : List ℕ) (n : ℕ) (t : Bool) → t ≡ false → new ≡ old → new ≡ old ++ if_void t n
 not_pushed old new n t is same = same ∙ sym (append-nil old) ∙ ap (λ (b : Bool). old ++ if_void b n) (sym is)
-
--- an error that is handed on
-pub handed_on : {X : Type 0} (r : Result X ApplyError) (v : ApplyError) (P : ApplyError → Type 0) → IsErrAnd r (λ e. e ≡ v) → P v → IfErr r P
-handed_on (Ok x) v P is holds = tt
-handed_on (Err e) v P is holds = subst P (sym is) holds

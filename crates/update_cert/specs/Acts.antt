@@ -1,15 +1,13 @@
 -- What one change makes of a principal's part, and what it asks for.
-use Rattle.std.specs.Prelude.{◌≡◌, ℕ, ◌==◌, Bool, ◌&&◌, not, List, [], ◌∷◌, Option, Some, None, if◌then◌else◌}
-use Rattle.itable.specs.ITable.{digest_at}
-use Rattle.itable.specs.declared.inode.Kind.TheVariants as kind
+use Rattle.std.specs.Prelude.{◌≡◌, ℕ, ◌==◌, Bool, ◌&&◌, not, List, Option, Some, None, if◌then◌else◌}
 use Rattle.directory.specs.Directory.{Entry}
 use Rattle.update_cert.specs.Change.{Action, Change}
 use Rattle.update_cert.specs.World.{Content, Directory, Actor, Tree, fits, has_effect}
 use Rattle.update_cert.specs.Blocks.{Blocks}
-use Rattle.update_cert.specs.Part.{Part, slot_at, stands_at, NamesInode, IsBlockOf}
+use Rattle.update_cert.specs.Part.{Part, Laid, slot_at, stands_at}
+use Rattle.update_cert.specs.Asked.{Lacks, IsAskedFor}
 use Rattle.update_cert.specs.Slots.{slot_becomes}
-use Rattle.update_cert.specs.declared.spot.Spot.{Spot}
-use Rattle.update_cert.specs.declared.spot.Spot.TheVariants as spot
+use Rattle.update_cert.specs.declared.error.ApplyError.{ApplyError}
 
 -- an action at an i-number of the part's principal
 abbrev pub change_at : Part → ℕ → Action → Change
@@ -21,11 +19,6 @@ pub record Acts (reads : List ℕ → Content) (user : ℕ) (c : Change) (old ne
   pub is_fit : fitted ≡ fits user c (stands_at reads old c.i_number)
   pub slots : (i : ℕ) → slot_at new i ≡ (if fitted && (c.i_number == i) then slot_becomes reads c.action (slot_at old i) else slot_at old i)
 
--- Whose part it is stays, and each digest of its table was there or is the change's.
-pub record Keeps (c : Change) (old new : Part) : Type 0 where
-  pub principal : new.table.principal ≡ old.table.principal
-  pub digests : (i : ℕ) (digest : List ℕ) → digest_at new.table i ≡ Some digest → NamesInode old (c ∷ []) i digest
-
 -- the change is one of this principal that has no effect on the tree
 abbrev pub is_void_of : Actor → ℕ → Change → Tree → Bool
 is_void_of actor p c tree = (c.principal == p) && not (has_effect actor c (tree c.principal c.i_number))
@@ -35,10 +28,10 @@ abbrev pub listed : Option Content → Option (List Entry)
 listed (Some (Directory entries)) = Some entries
 listed other = None
 
--- the digest is that of the i-node at this i-number
-abbrev pub IsInode : ℕ → ℕ → List ℕ → List ℕ → Spot → Type 0
-IsInode p i inode digest s = (digest ≡ inode) × (s ≡ spot.Inode p i)
+-- the part has this i-node at this i-number
+abbrev pub LiesAt : Part → ℕ → ℕ → List ℕ → Type 0
+LiesAt part i j inode = (j ≡ i) × (slot_at part i ≡ Some (Laid inode))
 
--- the digest is that of a block of this i-node of a directory
-abbrev pub IsBlock : Blocks → List ℕ → List ℕ → Spot → Type 0
-IsBlock blocks inode digest s = (k : ℕ) × (s ≡ spot.Directory inode k) × IsBlockOf blocks kind.Directory inode k digest
+-- what is missing is that i-node, or a block of the directory that it is of
+abbrev pub LacksAt : Blocks → Part → ℕ → ApplyError → Type 0
+LacksAt blocks part i e = Lacks blocks (IsAskedFor blocks part.table.principal (LiesAt part i)) e

@@ -3,6 +3,7 @@ use Rattle.std.specs.Prelude.{◌≡◌, ◌↔◌, ℕ, ◌==◌, List, [], ◌
 use Rattle.std.specs.Option.{option_and_then, option_map}
 use Rattle.std.specs.Result.{result_ok}
 use Rattle.layout.specs.Format.{whole}
+use Rattle.layout.specs.Hash.{hash}
 use Rattle.itable.specs.Inode.{Inode, inode}
 use Rattle.itable.specs.declared.inode.Kind.TheVariants as kind
 use Rattle.directory.specs.Directory.{Entry, directory}
@@ -11,6 +12,10 @@ use Rattle.update_cert.specs.World.{Content, File, Directory}
 -- the text of a digest, if it is held
 abbrev pub Blocks : Type 0
 Blocks = List ℕ → Option (List ℕ)
+
+-- a text is held under its digest
+abbrev pub IsHeld : Blocks → List ℕ → Type 0
+IsHeld blocks text = blocks (hash text) ≡ Some text
 
 -- the i-node of a digest, if its text is held and is one
 abbrev pub inode_at : Blocks → List ℕ → Option Inode

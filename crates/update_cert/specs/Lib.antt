@@ -5,4 +5,5 @@ pub mod Blocks
 pub mod Spot
 pub mod Part
 pub mod Slots
+pub mod Asked
 pub mod Acts

@@ -1,14 +1,17 @@
 -- What changes make of a part's slots, and the digests and texts that the slots then have.
-use Rattle.std.specs.Prelude.{ℕ, ◌==◌, ◌&&◌, List, [], ◌∷◌, ◌++◌, Option, Some, None, if◌then◌else◌}
-use Rattle.std.specs.List.{flat_map}
-use Rattle.std.specs.Option.{option_map}
+use Rattle.std.specs.Prelude.{◌≡◌, ℕ, ◌==◌, Bool, false, ◌&&◌, List, [], ◌∷◌, ◌++◌, Option, Some, None, if◌then◌else◌}
+use Rattle.std.specs.List.{All, flat_map}
+use Rattle.std.specs.Option.{option_map, option_map_or}
+use Rattle.std.specs.Str.{bytes_eq}
 use Rattle.layout.specs.Hash.{hash}
 use Rattle.itable.specs.Inode.{Inode, inode}
 use Rattle.itable.specs.File.{blocks_of, inode_over}
+use Rattle.itable.specs.ITable.{ITable, digest_at}
 use Rattle.itable.specs.declared.inode.Kind.TheVariants as kind
 use Rattle.directory.specs.Directory.{Entry, directory, linked, unlinked}
 use Rattle.update_cert.specs.Change.{Action, Make, Put, Remove, Link, Unlink, Change}
-use Rattle.update_cert.specs.World.{Content, Actor, entries_of, has_effect}
+use Rattle.update_cert.specs.World.{Content, Directory, Actor, entries_of, has_effect}
+use Rattle.update_cert.specs.Blocks.{Blocks, Agrees, IsHeld}
 use Rattle.update_cert.specs.Part.{Open, Slot, Laid, Changed, content_of}
 
 -- what a slot holds, if it holds anything
@@ -47,6 +50,15 @@ settled_digest (Changed entries) = hash (inode.spell (directory_inode entries))
 abbrev pub directory_texts : List Entry → List (List ℕ)
 directory_texts entries = blocks_of (directory.spell entries) ++ inode.spell (directory_inode entries) ∷ []
 
--- of all that changed, ascending by i-number
-unfoldable pub opened_texts : List Open → List (List ℕ)
-opened_texts opened = flat_map (λ o. directory_texts o.entries) opened
+-- whoever holds the texts of this directory reads it from them: its digest stands for it
+abbrev pub IsReadBack : List Entry → Type 0
+IsReadBack entries =
+    (blocks : Blocks) (reads : List ℕ → Content) → Agrees blocks reads → All (IsHeld blocks) (directory_texts entries) → reads (settled_digest (Changed entries)) ≡ Directory entries
+
+-- the directory is as the table has it
+abbrev pub is_stored : ITable → Open → Bool
+is_stored t o = option_map_or (λ digest. bytes_eq digest (settled_digest (Changed o.entries))) (digest_at t o.i_number) false
+
+-- of those that aren't, ascending by i-number
+unfoldable pub changed_texts : ITable → List Open → List (List ℕ)
+changed_texts t opened = flat_map (λ o. if is_stored t o then [] else directory_texts o.entries) opened

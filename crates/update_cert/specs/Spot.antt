@@ -46,6 +46,11 @@ takes_block blocks k text n =
     not (is_of_file n.kind) && (nat_lt k (block_count n.size)
     && ((length text == size_of_block n.size k) && (nat_lt (k + 1) (block_count n.size) || completes blocks n k text)))
 
+-- the spot of a block of what an i-node of this kind is of
+abbrev pub spot_of : Kind → List ℕ → ℕ → Spot
+spot_of kind.File inode k = spot.File inode k
+spot_of kind.Directory inode k = spot.Directory inode k
+
 -- the text is what the spot asks for
 unfoldable pub takes : Blocks → Spot → List ℕ → Bool
 takes blocks (spot.Root p) text = option_map_or (takes_root p) (result_ok (whole root text)) false

@@ -14,6 +14,11 @@ pub data Content : Type 0 where
 abbrev pub Tree : Type 0
 Tree = ℕ → ℕ → Option Content
 
+-- the tree of the beginning: user 0 has the table of principals, which is this text, and an empty root directory; nobody
+-- has anything else
+abbrev pub genesis : List ℕ → Tree
+genesis table p i = if not (p == 0) then None else if i == 1 then Some (File table) else if i == 2 then Some (Directory []) else None
+
 -- whose operation it is, and the groups of which this user is a member in the world before it
 pub record Actor : Type 0 where
   pub user : ℕ

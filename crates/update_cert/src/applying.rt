@@ -3,7 +3,8 @@
 ghost use Rattle.std.specs.Prelude.{◌≡◌, ℕ, List, IfOk, IfErr};
 ghost use Rattle.update_cert.specs.World.{Content, Actor, Tree, after, void_of};
 ghost use Rattle.update_cert.specs.Blocks.{Agrees};
-ghost use Rattle.update_cert.specs.Part.{IsPartOf, LacksAskedFor, slot_at};
+ghost use Rattle.update_cert.specs.Part.{IsPartOf, slot_at};
+ghost use Rattle.update_cert.specs.Asked.{LacksAskedFor};
 ghost use Rattle.update_cert.specs.Slots.{slot_after};
 
 use crate::blocks::Blocks;
@@ -70,8 +71,10 @@ pub fn apply<A: Allocator + Copy, B: Blocks>(
         → IfOk result (λ applied. (i : ℕ) → slot_at applied.part i ≡ slot_after reads actor part.table.principal i cert.now.changes (slot_at part i)) }
     // Whose part it is stays.
     ensures principal { IfOk result (λ applied. applied.part.table.principal ≡ part.table.principal) }
-    // Missing names a digest that a spot asks for, and of which no text is held that the spot takes.
-    ensures missing { IfErr result (λ e. LacksAskedFor (B.held blocks.now) part cert.now.changes e) }
+    // Missing names an i-node that a change meets at its turn, or a block of the directory that it is of, and no text of it
+    // is held that its spot takes.
+    ensures missing { (actor : Actor) → actor.user ≡ cert.now.user → actor.member part.table.principal ≡ is_member
+        → IfErr result (LacksAskedFor (B.held blocks.now) actor cert.now.changes part) }
 {
     let user = cert.user();
     let mut part = part;

@@ -18,4 +18,5 @@ pub use cert::Cert;
 pub use change::{Action, Change};
 pub use error::ApplyError;
 pub use part::{Part, Settled};
+pub use reading::{read_directory, read_file, read_inode};
 pub use spot::{Spot, size_of_block};

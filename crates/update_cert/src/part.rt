@@ -5,13 +5,14 @@ ghost use Rattle.std.specs.Option.{option_copied, option_map};
 ghost use Rattle.std.specs.Vec.{vec_items};
 ghost use Rattle.std.specs.Ordering.{nat_cmp};
 ghost use Rattle.layout.specs.Ascending.{IsFree};
+ghost use Rattle.directory.specs.Directory.{Entry as ListedEntry};
 ghost use Rattle.itable.specs.ITable.{digest_at};
 ghost use Rattle.update_cert.specs.Change.{Make, Put, Remove, Link, Unlink};
 ghost use Rattle.update_cert.specs.World.{Content, Actor, Tree, after_change, has_effect, is_file, is_removable};
 ghost use Rattle.update_cert.specs.Blocks.{Agrees, inode_at as inode_of};
-ghost use Rattle.update_cert.specs.Part.{Changed, IsPart, IsPartOf, LacksAskedFor, number_of, opened_at as entries_at, part_of, slot_at, stands_at};
-ghost use Rattle.update_cert.specs.Acts.{Acts, Keeps, change_at, is_void_of, listed};
-ghost use Rattle.update_cert.specs.Slots.{opened_texts, settled_digest, slot_after, slot_behind};
+ghost use Rattle.update_cert.specs.Part.{Changed, IsPart, IsPartOf, number_of, opened_at as entries_at, part_of, slot_at, stands_at};
+ghost use Rattle.update_cert.specs.Acts.{Acts, LacksAt, change_at, is_void_of, listed};
+ghost use Rattle.update_cert.specs.Slots.{IsReadBack, changed_texts, settled_digest, slot_after, slot_behind};
 
 use crate::blocks::Blocks;
 use crate::change::{Action, Change};
@@ -21,8 +22,8 @@ use crate::opened::{Open, find, take_out};
 use crate::reading::{read_directory, read_inode};
 use crate::spot::{is_root, is_table};
 use directory::{Directory, Entry};
-use itable::{ITable, Inode, Kind};
-use layout::{Digest, INumber, Memory, Principal, User};
+use itable::{ITable, Inode, Kind, Laid};
+use layout::{Digest, INumber, Memory, Principal, User, digest};
 use std::alloc::Allocator;
 use std::marker::Model;
 
@@ -109,7 +110,7 @@ impl<A: Allocator> Part<A> {
     /// What the i-node of this digest is of stands at an i-number from now on, if nothing stood there.
     fn make(&mut self, user: User, i_number: INumber, digest: Digest) -> Result<bool, Memory>
         ensures acts { (reads : List ℕ → Content) → IfOk result (λ fitted. Acts reads user (change_at self.old i_number (Make digest)) self.old self.new fitted) }
-        ensures keeps { OnOk result (Keeps (change_at self.old i_number (Make digest)) self.old self.new) }
+        ensures principal { OnOk result (self.new.table.principal ≡ self.old.table.principal) }
     {
         if self.table.get(i_number).is_some() || !may_make(user, self.principal(), i_number) {
             return Ok(false);
@@ -120,15 +121,16 @@ impl<A: Allocator> Part<A> {
 }
 
 impl<A: Allocator + Copy> Part<A> {
-    /// The i-node at an i-number, if the table has one.
+    /// The i-node at an i-number where no directory is opened, if the table has one.
     fn inode<B: Blocks>(
         &self,
         alloc: A,
         blocks: &B,
         i_number: INumber,
     ) -> Result<Option<Inode<A>>, ApplyError>
+        requires { entries_at self.now i_number ≡ None }
         ensures found { IfOk result (λ found. option_map (λ n. Some n) found ≡ option_map (inode_of (B.held blocks.now)) (digest_at self.now.table i_number)) }
-        ensures missing { IfErr result (λ e. LacksAskedFor (B.held blocks.now) self.now [] e) }
+        ensures missing { IfErr result (LacksAt (B.held blocks.now) self.now i_number) }
     {
         let Some(digest) = self.table.get(i_number) else {
             return Ok(None);
@@ -147,7 +149,7 @@ impl<A: Allocator + Copy> Part<A> {
         ensures file { (reads : List ℕ → Content) → Agrees (B.held blocks.now) reads → IfOk result (λ is. is ≡ is_file (stands_at reads self.now i_number)) }
         // It isn't opened then.
         ensures closed { IfOk result (λ is. is ≡ true → entries_at self.now i_number ≡ None) }
-        ensures missing { IfErr result (λ e. LacksAskedFor (B.held blocks.now) self.now [] e) }
+        ensures missing { IfErr result (LacksAt (B.held blocks.now) self.now i_number) }
     {
         if self.opened_at(i_number).is_some() {
             return Ok(false);
@@ -165,7 +167,7 @@ impl<A: Allocator + Copy> Part<A> {
         i_number: INumber,
     ) -> Result<bool, ApplyError>
         ensures removable { (reads : List ℕ → Content) → Agrees (B.held blocks.now) reads → IfOk result (λ is. is ≡ is_removable (stands_at reads self.now i_number)) }
-        ensures missing { IfErr result (λ e. LacksAskedFor (B.held blocks.now) self.now [] e) }
+        ensures missing { IfErr result (LacksAt (B.held blocks.now) self.now i_number) }
     {
         if let Some(directory) = self.opened_at(i_number) {
             return Ok(directory.entries().is_empty());
@@ -181,9 +183,10 @@ impl<A: Allocator + Copy> Part<A> {
         blocks: &B,
         i_number: INumber,
     ) -> Result<Option<Directory<A>>, ApplyError>
+        requires { entries_at self.now i_number ≡ None }
         ensures found { (reads : List ℕ → Content) → Agrees (B.held blocks.now) reads → IfOk result (λ found. found ≡ listed (option_map reads (digest_at self.now.table i_number))) }
         ensures mapped { IfOk result (λ found. IsSome found → IsSome (digest_at self.now.table i_number)) }
-        ensures missing { IfErr result (λ e. LacksAskedFor (B.held blocks.now) self.now [] e) }
+        ensures missing { IfErr result (LacksAt (B.held blocks.now) self.now i_number) }
     {
         let Some(digest) = self.table.get(i_number) else {
             return Ok(None);
@@ -207,8 +210,8 @@ impl<A: Allocator + Copy> Part<A> {
         digest: Digest,
     ) -> Result<bool, ApplyError>
         ensures acts { (reads : List ℕ → Content) (user : ℕ) → Agrees (B.held blocks.now) reads → IfOk result (λ fitted. Acts reads user (change_at self.old i_number (Put digest)) self.old self.new fitted) }
-        ensures keeps { OnOk result (Keeps (change_at self.old i_number (Put digest)) self.old self.new) }
-        ensures missing { IfErr result (λ e. LacksAskedFor (B.held blocks.now) self.old [] e) }
+        ensures principal { OnOk result (self.new.table.principal ≡ self.old.table.principal) }
+        ensures missing { IfErr result (LacksAt (B.held blocks.now) self.old i_number) }
     {
         if is_table(self.principal(), i_number) {
             return Ok(false);
@@ -228,8 +231,8 @@ impl<A: Allocator + Copy> Part<A> {
         i_number: INumber,
     ) -> Result<bool, ApplyError>
         ensures acts { (reads : List ℕ → Content) (user : ℕ) → Agrees (B.held blocks.now) reads → IfOk result (λ fitted. Acts reads user (change_at self.old i_number Remove) self.old self.new fitted) }
-        ensures keeps { OnOk result (Keeps (change_at self.old i_number Remove) self.old self.new) }
-        ensures missing { IfErr result (λ e. LacksAskedFor (B.held blocks.now) self.old [] e) }
+        ensures principal { OnOk result (self.new.table.principal ≡ self.old.table.principal) }
+        ensures missing { IfErr result (LacksAt (B.held blocks.now) self.old i_number) }
     {
         let principal = self.principal();
         if is_table(principal, i_number) || is_root(principal, i_number) {
@@ -263,8 +266,8 @@ impl<A: Allocator + Copy> Part<A> {
         entry: &Entry<A>,
     ) -> Result<bool, ApplyError>
         ensures acts { (reads : List ℕ → Content) (user : ℕ) → Agrees (B.held blocks.now) reads → IfOk result (λ fitted. Acts reads user (change_at self.old i_number (Link entry.now)) self.old self.new fitted) }
-        ensures keeps { OnOk result (Keeps (change_at self.old i_number (Link entry.now)) self.old self.new) }
-        ensures missing { IfErr result (λ e. LacksAskedFor (B.held blocks.now) self.old [] e) }
+        ensures principal { OnOk result (self.new.table.principal ≡ self.old.table.principal) }
+        ensures missing { IfErr result (LacksAt (B.held blocks.now) self.old i_number) }
     {
         let place = match find(&self.opened, i_number) {
             Ok(place) => {
@@ -294,8 +297,8 @@ impl<A: Allocator + Copy> Part<A> {
         name: &[u8],
     ) -> Result<bool, ApplyError>
         ensures acts { (reads : List ℕ → Content) (user : ℕ) → Agrees (B.held blocks.now) reads → IfOk result (λ fitted. Acts reads user (change_at self.old i_number (Unlink name.now)) self.old self.new fitted) }
-        ensures keeps { OnOk result (Keeps (change_at self.old i_number (Unlink name.now)) self.old self.new) }
-        ensures missing { IfErr result (λ e. LacksAskedFor (B.held blocks.now) self.old [] e) }
+        ensures principal { OnOk result (self.new.table.principal ≡ self.old.table.principal) }
+        ensures missing { IfErr result (LacksAt (B.held blocks.now) self.old i_number) }
     {
         let place = match find(&self.opened, i_number) {
             Ok(place) => return Ok(self.opened[place].unlink(name)),
@@ -322,8 +325,8 @@ impl<A: Allocator + Copy> Part<A> {
     ) -> Result<bool, ApplyError>
         requires { change.now.principal ≡ self.old.table.principal }
         ensures acts { (reads : List ℕ → Content) → Agrees (B.held blocks.now) reads → IfOk result (λ fitted. Acts reads user change.now self.old self.new fitted) }
-        ensures keeps { OnOk result (Keeps change.now self.old self.new) }
-        ensures missing { IfErr result (λ e. LacksAskedFor (B.held blocks.now) self.old [] e) }
+        ensures principal { OnOk result (self.new.table.principal ≡ self.old.table.principal) }
+        ensures missing { IfErr result (LacksAt (B.held blocks.now) self.old change.now.i_number) }
     {
         let i_number = change.i_number();
         match change.action() {
@@ -352,8 +355,8 @@ impl<A: Allocator + Copy> Part<A> {
         ensures slots { (reads : List ℕ → Content) (actor : Actor)
             → Agrees (B.held blocks.now) reads → actor.user ≡ user → actor.member self.old.table.principal ≡ is_member
             → OnOk result ((i : ℕ) → slot_at self.new i ≡ (if change.now.i_number == i then slot_behind reads actor change.now (slot_at self.old i) else slot_at self.old i)) }
-        ensures keeps { OnOk result (Keeps change.now self.old self.new) }
-        ensures missing { IfErr result (λ e. LacksAskedFor (B.held blocks.now) self.old [] e) }
+        ensures principal { OnOk result (self.new.table.principal ≡ self.old.table.principal) }
+        ensures missing { IfErr result (LacksAt (B.held blocks.now) self.old change.now.i_number) }
     {
         if !is_permitted(user, is_member, self.principal()) {
             return Ok(false);
@@ -379,8 +382,8 @@ impl<A: Allocator + Copy> Part<A> {
         ensures void { (reads : List ℕ → Content) (tree : Tree) (actor : Actor)
             → Agrees (B.held blocks.now) reads → IsPartOf reads self.old tree → actor.user ≡ user → actor.member self.old.table.principal ≡ is_member
             → IfOk result (λ is_void. is_void ≡ is_void_of actor self.old.table.principal change.now tree) }
-        ensures keeps { OnOk result (Keeps change.now self.old self.new) }
-        ensures missing { IfErr result (λ e. LacksAskedFor (B.held blocks.now) self.old [] e) }
+        ensures principal { OnOk result (self.new.table.principal ≡ self.old.table.principal) }
+        ensures missing { IfErr result (λ e. (change.now.principal ≡ self.old.table.principal) × LacksAt (B.held blocks.now) self.old change.now.i_number e) }
     {
         if change.principal().get() != self.principal().get() {
             return Ok(false);
@@ -395,16 +398,19 @@ impl<A: Allocator + Copy> Part<A> {
 pub struct Settled<A: Allocator> {
     /// The i-table, with a digest for each directory that changed.
     pub table: ITable<A>,
-    /// Of each directory that changed the blocks, in order, and the i-node; ascending by i-number.
+    /// Of each directory that isn't as the table had it the blocks, in order, and the i-node; ascending by i-number.
     pub texts: Vec<Vec<u8, A>, A>,
 }
 
 impl<A: Allocator + Copy> Part<A> {
-    /// Makes the texts of the directories that changed, and sets their digests.
+    /// Makes the texts of the directories that changed, and sets their digests. Those of a directory that was changed back
+    /// are left out.
     pub fn settle(self, alloc: A) -> Result<Settled<A>, Memory>
         ensures principal { IfOk result (λ settled. settled.table.principal ≡ self.table.principal) }
         ensures digests { IfOk result (λ settled. (i : ℕ) → digest_at settled.table i ≡ option_map settled_digest (slot_at self i)) }
-        ensures texts { IfOk result (λ settled. map vec_items settled.texts.items ≡ opened_texts self.opened) }
+        ensures texts { IfOk result (λ settled. map vec_items settled.texts.items ≡ changed_texts self.table self.opened) }
+        // Whoever holds the texts of a directory that changed reads it from them.
+        ensures read_back { OnOk result ((i : ℕ) (entries : List ListedEntry) → slot_at self i ≡ Some (Changed entries) → IsReadBack entries) }
         // They ascend by i-number, and each has a digest.
         ensures is_part { IsPart self }
     {
@@ -412,8 +418,17 @@ impl<A: Allocator + Copy> Part<A> {
         let opened = self.opened;
         let mut texts = Vec::new(alloc);
         for open in &opened {
-            let inode = lay_directory(alloc, open.directory(), &mut texts)?;
-            table.set(open.i_number(), inode)?;
+            let Laid { inode, mut blocks } = lay_directory(alloc, open.directory())?;
+            let digest = digest(&inode);
+            match table.get(open.i_number()) {
+                // It was changed and changed back.
+                Some(stored) if stored == digest => {}
+                _ => {
+                    table.set(open.i_number(), digest)?;
+                    texts.append(&mut blocks)?;
+                    texts.push(inode)?;
+                }
+            }
         }
         Ok(Settled { table, texts })
     }

@@ -1,9 +1,8 @@
-//! I-nodes and directories, read from the blocks that are held.
+//! I-nodes, files and directories, read from the blocks that are held.
 
 ghost use Rattle.std.specs.Prelude.{◌≡◌, Some, IfOk, IfErr, length};
-ghost use Rattle.update_cert.specs.Blocks.{directory_over, inode_at as inode_of, joined};
-ghost use Rattle.update_cert.specs.Part.{Lacks};
-ghost use Rattle.update_cert.specs.Acts.{IsInode, IsBlock};
+ghost use Rattle.update_cert.specs.Blocks.{directory_over, file_over, inode_at as inode_of, joined};
+ghost use Rattle.update_cert.specs.Asked.{Lacks, IsInode, IsBlock};
 ghost use Rattle.itable.specs.declared.inode.Kind.TheVariants as kinds;
 
 use crate::blocks::{Blocks, inode_at, spelled};
@@ -15,7 +14,7 @@ use layout::{Digest, INumber, Principal};
 use std::alloc::Allocator;
 
 /// The i-node of this digest, at an i-number of a principal.
-pub(crate) fn read_inode<A: Allocator + Copy, B: Blocks>(
+pub fn read_inode<A: Allocator + Copy, B: Blocks>(
     alloc: A,
     blocks: &B,
     principal: Principal,
@@ -23,7 +22,8 @@ pub(crate) fn read_inode<A: Allocator + Copy, B: Blocks>(
     digest: Digest,
 ) -> Result<Inode<A>, ApplyError>
     ensures found { IfOk result (λ inode. inode_of (B.held blocks.now) digest ≡ Some inode) }
-    ensures missing { IfErr result (λ e. Lacks (B.held blocks.now) (IsInode principal i_number digest) e) }
+    // Missing names it, where no text of it is held that its spot takes.
+    ensures missing { IfErr result (Lacks (B.held blocks.now) (IsInode principal i_number digest)) }
 {
     match inode_at(alloc, blocks, digest)? {
         Some(inode) if takes_inode(principal, i_number, &inode) => Ok(inode),
@@ -31,21 +31,20 @@ pub(crate) fn read_inode<A: Allocator + Copy, B: Blocks>(
     }
 }
 
-/// The text of the directory that an i-node is of: each block has its size.
+/// The blocks of what an i-node is of, behind one another: each has its size.
 fn text_of<A: Allocator + Copy, B: Blocks>(
     alloc: A,
     blocks: &B,
     digest: Digest,
     inode: &Inode<A>,
 ) -> Result<Vec<u8, A>, ApplyError>
-    requires held { inode_of (B.held blocks.now) digest ≡ Some inode.now }
-    requires directory { inode.now.kind ≡ kinds.Directory }
+    requires { inode_of (B.held blocks.now) digest ≡ Some inode.now }
     ensures joined { IfOk result (λ text. joined (B.held blocks.now) inode.now.blocks ≡ Some text.items) }
     ensures size { IfOk result (λ text. length text.items ≡ inode.now.size) }
-    ensures missing { IfErr result (λ e. Lacks (B.held blocks.now) (IsBlock (B.held blocks.now) digest) e) }
+    ensures missing { IfErr result (Lacks (B.held blocks.now) (IsBlock (B.held blocks.now) inode.now.kind digest)) }
 {
     // It has a block for each 4,096 bytes.
-    let _kind = inode.kind();
+    let kind = inode.kind();
     let mut text = Vec::new(alloc);
     for (place, block) in inode.blocks().iter().enumerate() {
         let place = place as u16;
@@ -53,15 +52,32 @@ fn text_of<A: Allocator + Copy, B: Blocks>(
         match blocks.get(*block) {
             Some(bytes) if bytes.len() == size => text.extend_from_slice(bytes)?,
             _ => {
-                return Err(ApplyError::Missing(*block, Spot::Directory(digest, place)));
+                let spot = Spot::of_block(kind, digest, place);
+                return Err(ApplyError::Missing(*block, spot));
             }
         }
     }
     Ok(text)
 }
 
+/// The bytes of the file that the i-node of this digest is of.
+pub fn read_file<A: Allocator + Copy, B: Blocks>(
+    alloc: A,
+    blocks: &B,
+    digest: Digest,
+    inode: &Inode<A>,
+) -> Result<Vec<u8, A>, ApplyError>
+    requires held { inode_of (B.held blocks.now) digest ≡ Some inode.now }
+    requires file { inode.now.kind ≡ kinds.File }
+    ensures found { IfOk result (λ bytes. file_over (B.held blocks.now) inode.now ≡ Some bytes.items) }
+    // Missing names a block of it of which no text is held that its spot takes.
+    ensures missing { IfErr result (Lacks (B.held blocks.now) (IsBlock (B.held blocks.now) kinds.File digest)) }
+{
+    text_of(alloc, blocks, digest, inode)
+}
+
 /// The directory that the i-node of this digest is of.
-pub(crate) fn read_directory<A: Allocator + Copy, B: Blocks>(
+pub fn read_directory<A: Allocator + Copy, B: Blocks>(
     alloc: A,
     blocks: &B,
     digest: Digest,
@@ -70,7 +86,8 @@ pub(crate) fn read_directory<A: Allocator + Copy, B: Blocks>(
     requires held { inode_of (B.held blocks.now) digest ≡ Some inode.now }
     requires directory { inode.now.kind ≡ kinds.Directory }
     ensures found { IfOk result (λ entries. directory_over (B.held blocks.now) inode.now ≡ Some entries) }
-    ensures missing { IfErr result (λ e. Lacks (B.held blocks.now) (IsBlock (B.held blocks.now) digest) e) }
+    // Missing names a block of it of which no text is held that its spot takes.
+    ensures missing { IfErr result (Lacks (B.held blocks.now) (IsBlock (B.held blocks.now) kinds.Directory digest)) }
 {
     let text = text_of(alloc, blocks, digest, inode)?;
     if let Some(directory) = spelled(alloc, &text)? {

@@ -2,7 +2,7 @@
 
 ghost use Rattle.std.specs.Prelude.{◌≡◌, ◌==◌, ◌&&◌, ◌<◌, IfOk, length};
 ghost use Rattle.std.specs.List.{list_any};
-ghost use Rattle.update_cert.specs.Spot.{completes as completes_directory, is_of_file, size_of_block, takes, takes_block as block_is_taken, takes_file_block as file_block_is_taken, takes_chunk as chunk_is_taken, takes_inode as inode_is_taken, takes_root as root_is_taken};
+ghost use Rattle.update_cert.specs.Spot.{completes as completes_directory, is_of_file, size_of_block, spot_of, takes, takes_block as block_is_taken, takes_file_block as file_block_is_taken, takes_chunk as chunk_is_taken, takes_inode as inode_is_taken, takes_root as root_is_taken};
 
 use crate::blocks::{Blocks, inode_at, join, spelled};
 use directory::Directory;
@@ -149,6 +149,16 @@ fn takes_chunk<A: Allocator>(principal: Principal, number: ChunkNumber, chunk: &
 }
 
 impl Spot {
+    /// The place of a block of what an i-node of this kind is of.
+    pub(crate) fn of_block(kind: Kind, inode: Digest, place: u16) -> Spot
+        ensures { result ≡ spot_of kind inode place }
+    {
+        match kind {
+            Kind::File => Spot::File(inode, place),
+            Kind::Directory => Spot::Directory(inode, place),
+        }
+    }
+
     /// Whether the text is what it asks for: a root or a chunk of the i-table; an i-node, of a file with bytes where the
     /// table of principals stands; or as many bytes as the block has, and with those before it the text of a directory
     /// where it is a directory's last one.

@@ -1,10 +1,13 @@
-use Rattle.std.proofs.Common.{◌≡◌, ◌<◌, ◌∙◌, List, Some, length, take, get_or, sym, ap, subst}
+use Rattle.std.proofs.Common.{◌≡◌, ◌<◌, ◌∙◌, List, [], ◌∷◌, ◌++◌, Some, length, take, get_or, sym, ap, subst}
+use Rattle.std.proofs.lemmas.List.{take_all}
+use Rattle.std.proofs.lemmas.List.Elements.{All-nil}
 use Rattle.std.proofs.lemmas.Result.{err_from_is_err_and}
 use Rattle.itable.specs.Root.{chunk_at}
 use Rattle.std.specs.List.{All}
 use Rattle.itable.specs.declared.root.ListedChunk.{ListedChunk}
-use Rattle.itable.specs.ITable.{listings}
-use Rattle.client_tree.proofs.TableLaws.{below, found, lacks_chunk}
+use Rattle.itable.specs.ITable.{ITable, listings}
+use Rattle.client_tree.specs.Tables.{pairs_over}
+use Rattle.client_tree.proofs.TableLaws.{IsTaken, below, found, handle_is, lacks_chunk, no_pairs, nothing_lacks, pairs_next, spelled, take_next, taken_next}
 use Rattle.client_tree.proofs.tables.read_table.Goals as goal
 
 pub returns-in_err-chunk-clause-missing : goal.returns-in_err-chunk-clause-missing
@@ -17,7 +20,51 @@ returns-in_err-chunk-clause-missing g c =
     let is : item ≡ get_or r.chunks k item = subst (λ (cs : List ListedChunk). item ≡ get_or cs k item) items c.listed-item.is in
     let at : chunk_at r item.number ≡ Some item = subst (λ (y : ListedChunk). chunk_at r y.number ≡ Some y) (sym is) (found r c.in_ok-root.ensures.fits k item inside) in
     let p = err_from_is_err_and c.from_residual-in_err-chunk.result c.from_residual-in_err-chunk.ensures.1 in
-    rw (p.1, p.2) (lacks_chunk (g.B.Blocks.held c.args.blocks.now) c.args.principal c.args.handle r item c.in_err-chunk.field-0.0 c.in_ok-root.ensures.found at c.in_err-chunk.ensures.missing)
+    rw (p.1, p.2) (lacks_chunk (g.B.Blocks.held c.args.blocks.now) c.args.principal c.args.handle r item c.in_err-chunk.field-0.0 c.in_ok-root.ensures.found c.in_ok-root.ensures.taken at c.in_err-chunk.ensures.missing)
+
+pub loop-listed-init : goal.loop-listed-init
+loop-listed-init g c = record {
+  principal = ap (λ (t : ITable). t.principal) c.empty-table.ensures.same;
+  listed = c.empty-table.ensures.listed;
+  pairs = no_pairs (g.B.Blocks.held c.args.blocks.now) ∙ ap (λ (t : ITable). Some t.pairs) (sym c.empty-table.ensures.same);
+  taken = All-nil (IsTaken (g.B.Blocks.held c.args.blocks.now) c.args.principal);
+}
+
+pub loop-listed-preserved : goal.loop-listed-preserved
+loop-listed-preserved g c =
+    let held = g.B.Blocks.held c.args.blocks.now in
+    let inv = c.loop-listed.invariant in
+    let items = c.chunks-listed-items.result.now in
+    let k = c.loop-listed.listed-index in
+    let item = c.listed-item.result in
+    let chunk = c.in_ok-chunk.ensures in
+    let is : record { number = c.in_ok-chunk.chunk.number; digest = item.digest } ≡ item = ap (λ n. record { number = n; digest = item.digest }) chunk.number in
+    record {
+      principal = ap (λ (t : ITable). t.principal) c.in_ok-load.ensures.pairs ∙ inv.principal;
+      listed = c.in_ok-load.ensures.listed ∙ ap (λ (cs : List ListedChunk). cs ++ record { number = c.in_ok-chunk.chunk.number; digest = item.digest } ∷ []) inv.listed ∙ ap (λ (x : ListedChunk). take k items ++ x ∷ []) is ∙ sym (take_next items k item c.loop-listed-test.true c.listed-item.is);
+      pairs = pairs_next held items k item c.in_ok-chunk.chunk c.loop-listed.table.pairs c.loop-listed-test.true c.listed-item.is chunk.found inv.pairs ∙ ap (λ (t : ITable). Some t.pairs) (sym c.in_ok-load.ensures.pairs);
+      taken = taken_next held c.args.principal items k item c.loop-listed-test.true c.listed-item.is chunk.taken inv.taken;
+    }
+
+pub returns-clause-read : goal.returns-clause-read
+returns-clause-read g c =
+    let held = g.B.Blocks.held c.args.blocks.now in
+    let inv = c.loop-listed.invariant in
+    let r = c.in_ok-root.root in
+    let root = c.in_ok-root.ensures in
+    let t = c.loop-listed.table in
+    let items : c.chunks-listed-items.result.now ≡ r.chunks = c.chunks-listed-items.ensures in
+    let all : take c.loop-listed.listed-index c.chunks-listed-items.result.now ≡ r.chunks = take_all c.loop-listed.listed-index c.chunks-listed-items.result.now c.loop-listed-test.false ∙ items in
+    let pairs : pairs_over held r.chunks ≡ Some t.pairs = ap (pairs_over held) (sym all) ∙ inv.pairs in
+    let taken : All (IsTaken held c.args.principal) r.chunks = subst (All (IsTaken held c.args.principal)) all inv.taken in
+    let of : t.principal ≡ r.principal = inv.principal ∙ sym root.principal in
+    record {
+      spelled = spelled held c.args.handle r t root.found of pairs;
+      is_table = c.principal-principal.ensures.is_table;
+      principal = inv.principal;
+      named = handle_is t r c.args.handle of (inv.listed ∙ all) root.hashed;
+      taken = nothing_lacks held c.args.principal c.args.handle r root.found root.taken taken;
+    }
 
 pub load-requires-clause-behind : goal.load-requires-clause-behind
 load-requires-clause-behind g c =

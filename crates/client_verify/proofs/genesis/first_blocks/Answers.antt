@@ -2,7 +2,7 @@ use Rattle.std.proofs.Common.{[], ap, ◌∙◌}
 use Rattle.itable.specs.Inode.{inode}
 use Rattle.itable.specs.ITable.{new_texts}
 use Rattle.directory.specs.Directory.{directory}
-use Rattle.client_tree.specs.Held.{keeping, keeping_all}
+use Rattle.client_tree.specs.Held.{keeping_all}
 use Rattle.client_verify.specs.Genesis.{first_blocks, first_table, root_inode, table_inode, table_text}
 use Rattle.client_verify.proofs.Firsts.{kept_behind, all_kept_behind}
 use Rattle.client_verify.proofs.genesis.first_blocks.Goals as goal

@@ -22,8 +22,8 @@ loop-block-preserved g c =
       so_far = one_on done _ block (blocks_of after) all more (subst (λ (bs : List (List ℕ)). done ++ bs ≡ all) next c.loop-block.invariant.so_far);
     }
 
-pub returns : goal.returns
-returns g c =
+pub returns-clause-blocks : goal.returns-clause-blocks
+returns-clause-blocks g c =
     let none = no_block (chunks_rest c.loop-block.block-iterator) c.in-None.ensures.steps.1.0 in
     let all = blocks_of c.args.bytes.now in
     let done = map vec_items c.loop-block.blocks.items in

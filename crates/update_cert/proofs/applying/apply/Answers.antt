@@ -1,12 +1,14 @@
-use Rattle.std.proofs.Common.{◌≡◌, ◌+◌, ℕ, List, [], ◌∷◌, length, take, refl, sym, ap, ◌∙◌, inl, subst, arith}
+use Rattle.std.proofs.Common.{◌≡◌, ◌+◌, ℕ, List, [], ◌∷◌, length, take, refl, sym, ap, ◌∙◌, subst, arith}
 use Rattle.std.proofs.lemmas.List.{length-take, take_all}
 use Rattle.std.specs.Vec.{vec_items}
 use Rattle.update_cert.specs.Change.{Change}
 use Rattle.update_cert.specs.World.{after, void_of, void_from}
-use Rattle.update_cert.specs.Part.{IsPartOf, LacksAskedFor, slot_at}
+use Rattle.update_cert.specs.Part.{IsPartOf, slot_at}
 use Rattle.update_cert.specs.Slots.{slot_after}
+use Rattle.update_cert.specs.Asked.{LacksAskedFor}
 use Rattle.update_cert.specs.Acts.{is_void_of}
-use Rattle.update_cert.proofs.TreeLaws.{NamesOnly, names_kept, lacks_then, take_next, part_next, slot_next, voids_next, pushed, not_pushed, handed_on}
+use Rattle.update_cert.proofs.AskedLaws.{lacks_met, handed_on}
+use Rattle.update_cert.proofs.TreeLaws.{take_next, part_next, slot_next, voids_next, pushed, not_pushed}
 use Rattle.update_cert.proofs.applying.apply.Goals.{then-branch+in_ok-push, else-branch}
 use Rattle.update_cert.proofs.applying.apply.Goals as goal
 
@@ -14,18 +16,22 @@ pub loop-place-init : goal.loop-place-init
 unfolding after void_from slot_after
 loop-place-init g c = record {
   principal = refl;
-  names = λ i d found. inl found;
   part = λ reads tree actor agrees is of one. is;
   voids = λ reads tree actor agrees is of one. c.new-numbers.ensures.items;
   slots = λ reads actor agrees of one i. refl;
 }
 
 pub returns-in_err-follow-clause-missing : goal.returns-in_err-follow-clause-missing
-returns-in_err-follow-clause-missing g c =
+returns-in_err-follow-clause-missing g c = λ actor of one.
+    let blocks = g.B.Blocks.held c.args.blocks.now in
     let inv = c.loop-place.invariant in
-    let lacks : LacksAskedFor (g.B.Blocks.held c.args.blocks.now) c.args.part c.args.cert.now.changes c.in_err-follow.field-0.0 =
-    lacks_then (g.B.Blocks.held c.args.blocks.now) c.args.part c.loop-place.part c.args.cert.now.changes c.loop-place.place c.in_err-follow.field-0.0 inv.principal inv.names c.in_err-follow.ensures.missing in
-    handed_on c.from_residual.result c.in_err-follow.field-0.0 (λ e. LacksAskedFor (g.B.Blocks.held c.args.blocks.now) c.args.part c.args.cert.now.changes e) c.from_residual.ensures.1 lacks
+    let cs = c.args.cert.now.changes in
+    let e = c.in_err-follow.field-0.0 in
+    let missing = c.in_err-follow.ensures.missing in
+    let inside = rw c.changes-change-items.ensures at c.loop-place-test.true in
+    let at = rw c.changes-change-items.ensures at c.change-item.is in
+    let lacks : LacksAskedFor blocks actor cs c.args.part e = lacks_met blocks actor c.args.part c.loop-place.part cs c.loop-place.place c.change-item.result e inv.principal missing.0 inside at (λ reads agrees. inv.slots reads actor agrees of one) missing.1 in
+    handed_on c.from_residual.result e (LacksAskedFor blocks actor cs c.args.part) c.from_residual.ensures.1 lacks
 
 pub loop-place-preserved : goal.loop-place-preserved
 loop-place-preserved g c =
@@ -42,8 +48,7 @@ loop-place-preserved g c =
     let front = take_next cs k change inside at in
     let long : length (take k cs) ≡ k = length-take k cs ∙ omega (arith, inside) in
     record {
-      principal = done.keeps.principal ∙ inv.principal;
-      names = subst (λ (xs : List Change). NamesOnly first new xs) (sym front) (names_kept first part new (take k cs) change inv.principal inv.names done.keeps);
+      principal = done.principal ∙ inv.principal;
       part = λ reads tree actor agrees is of one.
           part_next reads actor (take k cs) (take (k + 1) cs) change new tree front
           (done.part reads (after reads actor (take k cs) tree) actor agrees (inv.part reads tree actor agrees is of one) (of ∙ sym c.user-user.ensures.same) (ap actor.member inv.principal ∙ one));

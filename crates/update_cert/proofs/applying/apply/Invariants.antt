@@ -3,13 +3,11 @@ use Rattle.update_cert.specs.World.{Content, Actor, Tree, after, void_of}
 use Rattle.update_cert.specs.Blocks.{Agrees}
 use Rattle.update_cert.specs.Part.{IsPartOf, slot_at}
 use Rattle.update_cert.specs.Slots.{slot_after}
-use Rattle.update_cert.proofs.TreeLaws.{NamesOnly}
 use Rattle.update_cert.proofs.applying.apply.Given as goal
 
 abbrev pub invariant-loop-place : goal.invariant-loop-place
 invariant-loop-place g l = record {
   principal : l.part.table.principal ≡ l.fn.part.table.principal;
-  names : NamesOnly l.fn.part l.part (take l.place l.cert.changes);
   part : (reads : List ℕ → Content) (tree : Tree) (actor : Actor) → Agrees (g.B.Blocks.held l.blocks) reads → IsPartOf reads l.fn.part tree → actor.user ≡ l.cert.user → actor.member l.fn.part.table.principal ≡ l.is_member
       → IsPartOf reads l.part (after reads actor (take l.place l.cert.changes) tree);
   voids : (reads : List ℕ → Content) (tree : Tree) (actor : Actor) → Agrees (g.B.Blocks.held l.blocks) reads → IsPartOf reads l.fn.part tree → actor.user ≡ l.cert.user → actor.member l.fn.part.table.principal ≡ l.is_member

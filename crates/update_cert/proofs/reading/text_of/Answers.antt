@@ -5,7 +5,6 @@ use Rattle.std.proofs.lemmas.List.{length-append}
 use Rattle.std.specs.Option.{option_copied, option_map_or}
 use Rattle.update_cert.specs.Spot.{size_of_block}
 use Rattle.update_cert.proofs.Joins.{joined_end}
-use Rattle.itable.specs.declared.inode.Kind.TheVariants as kinds
 use Rattle.update_cert.proofs.ReadingLaws.{is_block, joined_all, joined_more, lacks_block, next_size}
 use Rattle.update_cert.proofs.reading.text_of.Goals.{in_default-via-in-Some+else-bytes-size, in_default-via-in_default}
 use Rattle.update_cert.proofs.reading.text_of.Goals as goal
@@ -31,7 +30,7 @@ returns-in_default-clause-missing g c =
     ] in
     let inside = rw c.blocks-block-items.ensures at c.loop-place-test.true in
     let at = rw c.blocks-block-items.ensures at c.block-item.is in
-    ((k, refl, is_block held c.args.digest n kinds.Directory k block c.requires.held c.requires.directory inside at (ap is_some c.loop-place.invariant.joined)), lacks_block held c.args.digest n k block c.requires.held none)
+    rw (c.of_block-spot.ensures, c.kind-kind.ensures.same) ((k, refl, is_block held c.args.digest n n.kind k block c.requires refl inside at (ap is_some c.loop-place.invariant.joined)), lacks_block held c.args.digest n k n.kind block c.requires none)
 
 pub loop-place-preserved : goal.loop-place-preserved
 loop-place-preserved g c =

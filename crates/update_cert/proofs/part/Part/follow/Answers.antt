@@ -16,7 +16,7 @@ returns-clause-part g c = λ reads tree actor agrees stood of is.
     let part = c.args.self.now in
     let change = c.args.change.now in
     let own : change.principal ≡ part.table.principal = search rules in
-    part_followed reads actor change part c.change.new.self tree own c.in_ok-effect.ensures.keeps.principal (c.in_ok-effect.ensures.slots reads actor agrees of is) stood
+    part_followed reads actor change part c.change.new.self tree own c.in_ok-effect.ensures.principal (c.in_ok-effect.ensures.slots reads actor agrees of is) stood
 
 pub returns-clause-slots : goal.returns-clause-slots
 returns-clause-slots g c = λ reads actor agrees of is i.
