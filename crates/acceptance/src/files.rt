@@ -114,5 +114,5 @@ fn each_size(rt: HostRuntime) {
     makes_each(&rt, &mut world);
     stands_each(&rt, &mut world);
     let none = see(&rt, &mut world, 5);
-    check(&rt, matches!(none, Look::Nothing), "nothing at 0:5");
+    check(&rt, matches!(none, Look::None), "nothing at 0:5");
 }

@@ -140,7 +140,7 @@ fn hostile_to_an_operation(rt: HostRuntime) {
 fn hostile_to_a_look(rt: HostRuntime) {
     let mut world = world_behind_first(&rt);
     let seen = see(&rt, &mut world, 2);
-    let Look::Directory(directory) = seen else {
+    let Look::Dir(directory) = seen else {
         panic!(&rt; "no directory");
     };
     is_directory_of_f(&rt, &directory);

@@ -46,7 +46,7 @@ fn removes(rt: &impl Host, world: &mut World, texts: &[Vec<u8>]) {
 /// Nothing stands at an i-number of user 0's.
 fn is_nothing(rt: &impl Host, world: &mut World, number: u16) {
     let seen = see(rt, world, number);
-    check(rt, matches!(seen, Look::Nothing), "nothing");
+    check(rt, matches!(seen, Look::None), "nothing");
 }
 
 #[test]

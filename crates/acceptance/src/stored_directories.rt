@@ -94,7 +94,7 @@ pub(crate) fn is_directory_of_f(rt: &impl Host, directory: &Directory<Global>) {
 /// That directory stands at 0:2.
 fn sees_directory(rt: &impl Host, world: &mut World) {
     let seen = see(rt, world, 2);
-    let Look::Directory(directory) = seen else {
+    let Look::Dir(directory) = seen else {
         panic!(rt; "no directory");
     };
     is_directory_of_f(rt, &directory);

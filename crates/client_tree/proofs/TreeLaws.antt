@@ -10,8 +10,8 @@ use Rattle.itable.specs.declared.root.ListedChunk.{ListedChunk}
 use Rattle.directory.specs.Directory.{Entry}
 use Rattle.update_cert.specs.Change.{Change}
 use Rattle.update_cert.specs.World.{Content, Directory, Tree, after, after_change, alone, becomes, behind, fits, has_effect, void, void_of}
-use Rattle.update_cert.specs.Part.{Changed, IsPartOf, Laid, Part, Slot, content_of, part_of, slot_at, stands_at}
-use Rattle.update_cert.specs.Slots.{settled_digest}
+use Rattle.update_cert.specs.Part.{Changed, IsPartOf, Laid, Part, Slot, content_of, part_of, slot_at, slot_of, stands_at}
+use Rattle.update_cert.specs.Slots.{directory_digest, settled_digest}
 use Rattle.update_cert.specs.Cert.{Cert}
 use Rattle.update_cert.specs.Blocks.{Blocks}
 use Rattle.update_cert.specs.Asked.{IsAskedFor, IsMet, LacksAskedFor}
@@ -41,7 +41,7 @@ lost_is reads user p q cs given voids tree own same all is = rw (own, all, is, s
 
 -- ---- the tree before
 
-laid : (reads : List ℕ → Content) (digest : Option (List ℕ)) → option_map reads digest ≡ option_map (content_of reads) (option_map (λ d. Laid d) digest)
+laid : (reads : List ℕ → Content) (digest : Option (List ℕ)) → option_map reads digest ≡ option_map (content_of reads) (option_map (slot_of None) digest)
 laid reads None = refl
 laid reads (Some d) = refl
 
@@ -72,10 +72,10 @@ unfolding after
 after_stays reads user p i [] tree other = refl
 after_stays reads user p i (c ∷ cs) tree other = after_stays reads user p i cs (after_change reads (alone user) c tree) other ∙ change_stays reads user p i c tree other
 
-slot_read : (reads : List ℕ → Content) (s : Option Slot) → ((entries : List Entry) → s ≡ Some (Changed entries) → reads (settled_digest (Changed entries)) ≡ Directory entries) → option_map reads (option_map settled_digest s) ≡ option_map (content_of reads) s
+slot_read : (reads : List ℕ → Content) (s : Option Slot) → ((digest : List ℕ) (entries : List Entry) → s ≡ Some (Changed digest entries) → reads (directory_digest entries) ≡ Directory entries) → option_map reads (option_map settled_digest s) ≡ option_map (content_of reads) s
 slot_read reads None changed = refl
 slot_read reads (Some (Laid d)) changed = refl
-slot_read reads (Some (Changed entries)) changed = ap (λ (x : Content). Some x) (changed entries refl)
+slot_read reads (Some (Changed d entries)) changed = ap (λ (x : Content). Some x) (changed d entries refl)
 
 own_after : (reads : List ℕ → Content) (part : Part) (t : ITable) (i : ℕ) → ReadsChanged reads part → digest_at t i ≡ option_map settled_digest (slot_at part i) → option_map reads (digest_at t i) ≡ stands_at reads part i
 own_after reads part t i changed is = ap (option_map reads) is ∙ slot_read reads (slot_at part i) (changed i)

@@ -1,5 +1,5 @@
 -- The tree of an accepted view while one user acts alone: the user's own i-table, read before the operation and behind it.
-use Rattle.std.specs.Prelude.{◌≡◌, ◌⊎◌, ℕ, ◌==◌, List, ◌++◌, [], Some, None, if◌then◌else◌}
+use Rattle.std.specs.Prelude.{◌≡◌, ◌⊎◌, ℕ, ◌==◌, false, List, ◌++◌, [], Some, None, if◌then◌else◌}
 use Rattle.std.specs.Option.{option_map}
 use Rattle.std.specs.Str.{bytes_eq}
 use Rattle.itable.specs.ITable.{ITable, IsTable, digest_at, handle_of, listings, new_texts}
@@ -8,8 +8,9 @@ use Rattle.directory.specs.Directory.{Entry}
 use Rattle.update_cert.specs.Cert.{Cert}
 use Rattle.update_cert.specs.World.{Content, Directory, Tree, after, alone, void}
 use Rattle.update_cert.specs.Blocks.{Blocks, Agrees}
+use Rattle.update_cert.specs.Spot.{lacks}
 use Rattle.update_cert.specs.Part.{Part, Changed, IsPart, IsPartOf, part_of, slot_at}
-use Rattle.update_cert.specs.Slots.{slot_after, settled_digest, changed_texts, IsReadBack}
+use Rattle.update_cert.specs.Slots.{slot_after, settled_digest, directory_digest, changed_texts, IsReadBack}
 use Rattle.update_cert.specs.Asked.{Lacks, IsInode, IsBlock, IsAskedFor, IsMet}
 use Rattle.update_cert.specs.declared.error.ApplyError.{ApplyError}
 use Rattle.update_cert.specs.declared.spot.Spot.{Spot}
@@ -26,7 +27,7 @@ tree_of reads t p i = if p == t.principal then option_map reads (digest_at t i) 
 
 -- the digest that a directory has which changed stands for the directory
 abbrev pub ReadsChanged : (List ℕ → Content) → Part → Type 0
-ReadsChanged reads part = (i : ℕ) (entries : List Entry) → slot_at part i ≡ Some (Changed entries) → reads (settled_digest (Changed entries)) ≡ Directory entries
+ReadsChanged reads part = (i : ℕ) (digest : List ℕ) (entries : List Entry) → slot_at part i ≡ Some (Changed digest entries) → reads (directory_digest entries) ≡ Directory entries
 
 -- the texts by which a table is stored and an earlier one isn't: none where both have one handle
 abbrev pub table_texts : ITable → ITable → List (List ℕ)
@@ -50,7 +51,7 @@ pub record IsOutcome (blocks : Blocks) (handle : List ℕ) (c : Cert) (tree : Ow
   -- and is that of the tree behind these changes, where the digests of directories that changed stand for them,
   pub world : (reads : List ℕ → Content) → Agrees blocks reads → ReadsChanged reads part → (p i : ℕ) → tree_of reads tree.table p i ≡ after reads (alone c.user) c.changes (tree_of reads before) p i
   -- as they do for who holds their texts
-  pub read_back : (i : ℕ) (entries : List Entry) → slot_at part i ≡ Some (Changed entries) → IsReadBack entries
+  pub read_back : (i : ℕ) (digest : List ℕ) (entries : List Entry) → slot_at part i ≡ Some (Changed digest entries) → IsReadBack entries
   -- the changes without effect are those of the definition, for the tree before
   pub lost : (reads : List ℕ → Content) → Agrees blocks reads → tree.lost ≡ void reads (alone c.user) c.changes (tree_of reads before)
   -- the new texts are those of the directories that changed, of the chunks that changed, and of the root
@@ -67,9 +68,14 @@ IsReached blocks handle c digest s =
 abbrev pub LacksReached : Blocks → List ℕ → Cert → ApplyError → Type 0
 LacksReached blocks handle c e = Lacks blocks (IsReached blocks handle c) e
 
--- the i-node at an i-number of a table, or a block of what it is of
-abbrev pub IsLooked : Blocks → ITable → ℕ → List ℕ → Spot → Type 0
-IsLooked blocks t i digest s = (inode : List ℕ) × (digest_at t i ≡ Some inode) × (IsInode t.principal i inode digest s ⊎ ((kind : Kind) × IsBlock blocks kind inode digest s))
+-- the i-node at an i-number of the table's principal, or a block of what it is of
+abbrev pub IsLooked : Blocks → ITable → ℕ → ℕ → List ℕ → Spot → Type 0
+IsLooked blocks t p i digest s =
+    (p ≡ t.principal) × ((inode : List ℕ) × (digest_at t i ≡ Some inode) × (IsInode p i inode digest s ⊎ ((kind : Kind) × IsBlock blocks kind inode digest s)))
 
-abbrev pub LacksLooked : Blocks → ITable → ℕ → ApplyError → Type 0
-LacksLooked blocks t i e = Lacks blocks (IsLooked blocks t i) e
+-- nothing of it is missing
+abbrev pub HasLooked : Blocks → ITable → ℕ → ℕ → Type 0
+HasLooked blocks t p i = (digest : List ℕ) (s : Spot) → IsLooked blocks t p i digest s → lacks blocks digest s ≡ false
+
+abbrev pub LacksLooked : Blocks → ITable → ℕ → ℕ → ApplyError → Type 0
+LacksLooked blocks t p i e = Lacks blocks (IsLooked blocks t p i) e

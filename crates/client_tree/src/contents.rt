@@ -1,10 +1,10 @@
 //! What stands at an i-number, read from the blocks that are held.
 
-ghost use Rattle.std.specs.Prelude.{◌≡◌, ℕ, List, Some, IfOk, IfErr};
+ghost use Rattle.std.specs.Prelude.{◌≡◌, ℕ, List, Some, IfOk, IfErr, OnOk};
 ghost use Rattle.itable.specs.ITable.{ITable, digest_at};
 ghost use Rattle.update_cert.specs.World.{Content};
 ghost use Rattle.update_cert.specs.Blocks.{Agrees};
-ghost use Rattle.client_tree.specs.Tree.{LacksLooked};
+ghost use Rattle.client_tree.specs.Tree.{HasLooked, LacksLooked};
 ghost use Rattle.client_tree.specs.Seen.{content_seen};
 
 use directory::Directory;
@@ -34,7 +34,8 @@ pub(crate) fn read_content<A: Allocator + Copy, B: Blocks>(
 ) -> Result<Seen<A>, ApplyError>
     ensures seen { (reads : List ℕ → Content) → Agrees (B.held blocks.now) reads → IfOk result (λ s. content_seen s ≡ Some (reads digest)) }
     // Whichever table has the digest there.
-    ensures missing { (t : ITable) → t.principal ≡ principal → digest_at t i_number ≡ Some digest → IfErr result (LacksLooked (B.held blocks.now) t i_number) }
+    ensures taken { (t : ITable) → digest_at t i_number ≡ Some digest → OnOk result (HasLooked (B.held blocks.now) t principal i_number) }
+    ensures missing { (t : ITable) → t.principal ≡ principal → digest_at t i_number ≡ Some digest → IfErr result (LacksLooked (B.held blocks.now) t principal i_number) }
 {
     let inode = read_inode(alloc, blocks, principal, i_number, digest)?;
     match inode.kind() {

@@ -76,7 +76,8 @@ fn chunk_of<A: Allocator + Copy, B: Blocks>(
     }
 }
 
-/// The i-table of a principal that has this handle, read from its root and all its chunks.
+/// The i-table of a principal that has this handle, read from its root and all its chunks. The errors are Missing of the
+/// root or of a chunk, and Memory.
 pub fn read_table<A: Allocator + Copy, B: Blocks>(
     alloc: A,
     blocks: &B,

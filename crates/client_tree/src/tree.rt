@@ -1,12 +1,12 @@
 //! The tree of an accepted view, while one user acts alone.
 
-ghost use Rattle.std.specs.Prelude.{◌≡◌, ◌++◌, ℕ, List, [], IfOk, IfErr, map, if◌then◌else◌};
+ghost use Rattle.std.specs.Prelude.{◌≡◌, ◌++◌, ℕ, List, [], IfOk, IfErr, OnOk, map, if◌then◌else◌};
 ghost use Rattle.std.specs.Str.{bytes_eq};
 ghost use Rattle.std.specs.Vec.{vec_items};
 ghost use Rattle.itable.specs.ITable.{IsTable, handle_of, new_texts};
 ghost use Rattle.update_cert.specs.World.{Content};
 ghost use Rattle.update_cert.specs.Blocks.{Agrees};
-ghost use Rattle.client_tree.specs.Tree.{IsOutcome, LacksReached, LacksLooked, tree_of};
+ghost use Rattle.client_tree.specs.Tree.{HasLooked, IsOutcome, LacksReached, LacksLooked, tree_of};
 ghost use Rattle.client_tree.specs.Seen.{content_seen};
 
 use crate::contents::{Seen, read_content};
@@ -41,6 +41,7 @@ impl<A: Allocator> Model for Tree<A> {
 /// A tree behind an operation, and the texts by which it is stored.
 #[derive(Drop)]
 pub struct Outcome<A: Allocator> {
+    /// The tree.
     pub tree: Tree<A>,
     /// The directories that changed, each its blocks and its i-node; the chunks of the i-table that changed; and its root.
     pub texts: Vec<Vec<u8, A>, A>,
@@ -95,7 +96,8 @@ impl<A: Allocator> Tree<A> {
 }
 
 impl<A: Allocator + Copy> Tree<A> {
-    /// The tree behind the operation of this certificate, whose user's i-table before it has this handle.
+    /// The tree behind the operation of this certificate, whose user's i-table before it has this handle. The errors are
+    /// Missing of a block, and Memory.
     pub fn of<B: Blocks>(
         alloc: A,
         handle: Digest,
@@ -117,7 +119,7 @@ impl<A: Allocator + Copy> Tree<A> {
         Ok(outcome)
     }
 
-    /// What stands at an i-number of a principal.
+    /// What stands at an i-number of a principal. The errors are Missing of a block, and Memory.
     pub fn look<B: Blocks>(
         &self,
         alloc: A,
@@ -127,7 +129,9 @@ impl<A: Allocator + Copy> Tree<A> {
     ) -> Result<Seen<A>, ApplyError>
         // Whatever stands for the digests of which no block tells.
         ensures seen { (reads : List ℕ → Content) → Agrees (B.held blocks.now) reads → IfOk result (λ s. content_seen s ≡ tree_of reads self.now.table principal i_number) }
-        ensures missing { IfErr result (LacksLooked (B.held blocks.now) self.now.table i_number) }
+        // Each block of it is what its place takes.
+        ensures taken { OnOk result (HasLooked (B.held blocks.now) self.now.table principal i_number) }
+        ensures missing { IfErr result (LacksLooked (B.held blocks.now) self.now.table principal i_number) }
     {
         if principal != self.table.principal() {
             return Ok(Seen::Nothing);

@@ -12,6 +12,8 @@ use Rattle.client_verify.specs.FirstBroken.{first_broken}
 use Rattle.client_verify.specs.State.{State, Checked, View, known, lists_in, block_breaks, holding}
 use Rattle.client_verify.specs.Judged.{Goes, Judged, Handed}
 use Rattle.client_verify.specs.Looked.{Looked, Given}
+use Rattle.client_verify.specs.Grown.{IsSight}
+use Rattle.client_verify.specs.declared.growing.Sight.{Sight}
 
 some_one : {A : Type 0} (o : Option A) (a : A) (P : A → Type 0) → o ≡ Some a → P a → IsSomeAnd o P
 some_one {A} o a P is holds = subst (λ (x : Option A). IsSomeAnd x P) (sym is) holds
@@ -45,8 +47,8 @@ handed_goes old k block text (step.Broken rule) new none is goes = absurd goes
 pub given_looked : {A : Type 0} (old : State) (v : View) (l : Looking) (block : Option (List ℕ)) (text : List ℕ) (s : Look A) (new : State) → block_breaks (held old.blocks) l.asked block ≡ None → block ≡ Some text → Looked (holding old text) v l.principal l.i_number s new → Given old v l block s new
 given_looked old v l block text (look.Need d) new none is looked = (none, some_one block text _ is looked)
 given_looked old v l block text (look.File bytes) new none is looked = (none, some_one block text _ is looked)
-given_looked old v l block text (look.Directory entries) new none is looked = (none, some_one block text _ is looked)
-given_looked old v l block text look.Nothing new none is looked = (none, some_one block text _ is looked)
+given_looked old v l block text (look.Dir entries) new none is looked = (none, some_one block text _ is looked)
+given_looked old v l block text look.None new none is looked = (none, some_one block text _ is looked)
 given_looked old v l block text (look.Broken rule) new none is looked = absurd looked
 
 -- what was told of a look with one block more that was kept, is told of the look that was under way
@@ -56,3 +58,8 @@ given_from {A} inner old v l blocks block text s new is kept there none given lo
     let of_old : IfSome old.view (λ w. Looked {A = A} (record old { blocks = blocks }) w l.principal l.i_number s new) = subst (λ (x : State). IfSome x.view (λ w. Looked {A = A} (record x { blocks = blocks }) w l.principal l.i_number s new)) is looked in
     let of_view : Looked {A = A} (record old { blocks = blocks }) v l.principal l.i_number s new = subst (λ (o : Option View). IfSome o (λ w. Looked {A = A} (record old { blocks = blocks }) w l.principal l.i_number s new)) there of_old in
     given_looked old v l block text s new none given (subst (λ (b : List Block). Looked {A = A} (record old { blocks = b }) v l.principal l.i_number s new) kept of_view)
+
+-- what is seen by blocks in a view is seen by the same blocks in the same view
+pub seen_there : {A : Type 0} (before blocks : List Block) (inside v : View) (p i : ℕ) (s : Sight A) → before ≡ blocks → inside ≡ v → IsSight (held before) inside.tree.table p i s → IsSight (held blocks) v.tree.table p i s
+seen_there {A} before blocks inside v p i s same is seen =
+    subst (λ (bs : List Block). IsSight {A = A} (held bs) v.tree.table p i s) same (subst (λ (w : View). IsSight {A = A} (held before) w.tree.table p i s) is seen)

@@ -6,7 +6,7 @@ use Rattle.update_cert.specs.Cert.{Cert}
 use Rattle.update_cert.specs.World.{Content, File, Directory}
 use Rattle.update_cert.specs.Blocks.{Blocks, Agrees}
 use Rattle.update_cert.specs.Spot.{lacks}
-use Rattle.client_tree.specs.Tree.{IsOutcome, IsReached, IsLooked, tree_of}
+use Rattle.client_tree.specs.Tree.{HasLooked, IsOutcome, IsReached, IsLooked, tree_of}
 use Rattle.client_tree.specs.Seen.{content_seen}
 use Rattle.client_tree.specs.declared.contents.Seen.{Seen}
 use Rattle.client_verify.specs.declared.look.Look.{Look}
@@ -21,12 +21,12 @@ IsGrown blocks handle c (grown.Lacks a) = IsReached blocks handle c a.digest a.s
 IsGrown blocks handle c (grown.Stands o) = IsOutcome blocks handle c o.tree (map vec_items o.texts.items)
 
 abbrev pub IsSight : {A : Type 0} → Blocks → ITable → ℕ → ℕ → Sight A → Type 0
-IsSight blocks t p i (sight.Lacks a) = IsLooked blocks t i a.digest a.spot × (lacks blocks a.digest a.spot ≡ true)
-IsSight blocks t p i (sight.Sees seen) = (reads : List ℕ → Content) → Agrees blocks reads → content_seen seen ≡ tree_of reads t p i
+IsSight blocks t p i (sight.Lacks a) = IsLooked blocks t p i a.digest a.spot × (lacks blocks a.digest a.spot ≡ true)
+IsSight blocks t p i (sight.Sees seen) = HasLooked blocks t p i × ((reads : List ℕ → Content) → Agrees blocks reads → content_seen seen ≡ tree_of reads t p i)
 
 -- what is seen is told as it is
 abbrev pub IsTold : {A : Type 0} → Seen A → Look A → Type 0
 IsTold s (look.File bytes) = content_seen s ≡ Some (File bytes.items)
-IsTold s (look.Directory entries) = content_seen s ≡ Some (Directory entries)
-IsTold s look.Nothing = content_seen s ≡ None
+IsTold s (look.Dir entries) = content_seen s ≡ Some (Directory entries)
+IsTold s look.None = content_seen s ≡ None
 IsTold s other = ⊥

@@ -85,7 +85,8 @@ impl<A: Allocator + Copy> Client<A> {
     ghost use Rattle.client_verify.specs.Genesis.{first_table, first_texts, table_text};
     ghost use Rattle.client_verify.specs.State.{initial};
 
-    /// A client of this user before its first operation. User 0's public key is known to every client.
+    /// A client of this user before its first operation. User 0's public key is known to every client. Memory is wanted for
+    /// the blocks of the beginning.
     pub fn new(
         alloc: A,
         user: User,
@@ -234,8 +235,8 @@ fn told<A: Allocator>(seen: Seen<A>) -> Look<A>
 {
     match seen {
         Seen::File(bytes) => Look::File(bytes),
-        Seen::Directory(directory) => Look::Directory(directory),
-        Seen::Nothing => Look::Nothing,
+        Seen::Directory(directory) => Look::Dir(directory),
+        Seen::Nothing => Look::None,
     }
 }
 
@@ -276,7 +277,7 @@ impl<A: Allocator + Copy> Client<A> {
     }
 
     /// Declares the next operation, and gives its signed certificate. What was laid out for it is held. It uses a leaf,
-    /// unless it answers an error.
+    /// unless it answers an error: NoLeaf, NoNumber, or Memory.
     pub fn begin(
         &mut self,
         changes: Vec<Change<A>, A>,
@@ -399,7 +400,7 @@ impl<A: Allocator + Copy> Client<A> {
     }
 
     /// Signs the structure over the accepted reply, and gives it as it is sent. From here on the view is accepted. It
-    /// uses a leaf, unless it answers an error.
+    /// uses a leaf, unless it answers an error: NoLeaf, or Memory.
     #[tactic(auto, using(crate::proofs::Sole::with_own_sole))]
     pub fn sign(&mut self) -> Result<Vec<u8, A>, ClientError>
         requires { IsSome self.old.accepted }

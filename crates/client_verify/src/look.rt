@@ -13,9 +13,9 @@ pub enum Look<A: Allocator> {
     /// A file of these bytes.
     File(Vec<u8, A>),
     /// This directory.
-    Directory(Directory<A>),
+    Dir(Directory<A>),
     /// Nothing stands there.
-    Nothing,
+    None,
     /// The block that was handed in breaks this rule.
     Broken(Rule),
 }

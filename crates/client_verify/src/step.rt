@@ -11,6 +11,6 @@ pub enum Step<A: Allocator> {
     Need(Digest),
     /// That these new blocks be stored: the reply breaks no rule.
     Store(Vec<Vec<u8, A>, A>),
-    /// Nothing: this rule is the first that the reply breaks.
+    /// Nothing: this rule is the first that the reply, or the block that was handed in, breaks.
     Broken(Rule),
 }

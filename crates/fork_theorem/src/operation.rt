@@ -192,8 +192,8 @@ pub(crate) fn show<A: Allocator + Copy>(
     }
     match looked(blocks, client, principal, i_number) {
         Ok(Look::File(bytes)) => Ok(Outcome::File(user, bytes)),
-        Ok(Look::Directory(directory)) => Ok(Outcome::Directory(user, directory)),
-        Ok(Look::Nothing) => Ok(Outcome::Nothing(user)),
+        Ok(Look::Dir(directory)) => Ok(Outcome::Directory(user, directory)),
+        Ok(Look::None) => Ok(Outcome::Nothing(user)),
         Ok(Look::Broken(rule)) => Ok(Outcome::Broken(user, rule)),
         Ok(Look::Need(_)) => Ok(Outcome::Error),
         Err(error) => stopped(user, error),

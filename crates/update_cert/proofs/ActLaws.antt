@@ -1,8 +1,8 @@
 -- What stands in a part behind an action.
-use Rattle.std.proofs.Common.{◌≡◌, ℕ, Bool, true, false, List, [], ◌∷◌, Option, Some, None, refl, sym, ap, ◌∙◌, arith}
-use Rattle.std.specs.Prelude.{◌==◌, ◌&&◌, ◌||◌, not, nat_le, is_some, if◌then◌else◌, slice_index_or}
+use Rattle.std.proofs.Common.{◌≡◌, ℕ, Bool, true, false, List, [], ◌∷◌, Option, Some, None, refl, subst, sym, ap, ◌∙◌, arith}
+use Rattle.std.specs.Prelude.{◌==◌, ◌&&◌, ◌||◌, not, nat_le, is_some, IsSome, if◌then◌else◌, slice_index_or}
 use Rattle.std.specs.List.{slice_set}
-use Rattle.std.specs.Option.{option_map, option_map_or}
+use Rattle.std.specs.Option.{option_map}
 use Rattle.std.specs.Ordering.{nat_cmp, is_eq}
 use Rattle.std.proofs.lemmas.Bool.{eqb-true, eq-eqb}
 use Rattle.std.proofs.lemmas.Bool.Decides.{nat_tests}
@@ -11,26 +11,35 @@ use Rattle.directory.specs.Directory.{Entry, linked, unlinked}
 use Rattle.itable.specs.ITable.{digest_at}
 use Rattle.update_cert.specs.Change.{Action, Make, Put, Remove, Link, Unlink, Change}
 use Rattle.update_cert.specs.World.{Content, File, Directory, Actor, Tree, permitted, has_effect, fits, has_room, has_name, entries_of, becomes, behind, after_change}
-use Rattle.update_cert.specs.Part.{Open, Part, Slot, Laid, Changed, IsPart, IsPartOf, number_of, opened_at, slot_at, stands_at}
-use Rattle.update_cert.specs.Slots.{content_in, slot_becomes, slot_behind}
+use Rattle.update_cert.specs.Part.{Open, Part, Slot, Changed, IsPart, IsPartOf, number_of, opened_at, slot_at, slot_of, stands_at}
+use Rattle.update_cert.specs.Slots.{content_in, laid_under, slot_becomes, slot_behind}
 use Rattle.update_cert.specs.Acts.{Acts, change_at, is_void_of, listed}
 use Rattle.update_cert.proofs.OpenedLaws.{entries_in, entries_with, is_part_with, key_test}
 use Rattle.update_cert.proofs.PartLaws.{closed}
 
--- the slot where these entries are open, or else this digest is
+-- the slot where these entries are open, and this digest is
 abbrev pub slot_in : Option (List Entry) → Option (List ℕ) → Option Slot
-slot_in entries digest = option_map_or (λ es. Some (Changed es)) entries (option_map (λ d. Laid d) digest)
+slot_in entries digest = option_map (slot_of entries) digest
 
-pub slot_in_with : (t : Bool) (es : List Entry) (old : Option (List Entry)) (digest : Option (List ℕ)) → slot_in (if t then Some es else old) digest ≡ (if t then Some (Changed es) else slot_in old digest)
-slot_in_with true es old digest = refl
-slot_in_with false es old digest = refl
+slot_in_with : (t : Bool) (es : List Entry) (old : Option (List Entry)) (digest : Option (List ℕ)) → (t ≡ true → IsSome digest) → slot_in (if t then Some es else old) digest ≡ (if t then Some (Changed (laid_under (slot_in old digest)) es) else slot_in old digest)
+slot_in_with true es old None has = let none = has refl in absurd cc
+slot_in_with true es None (Some d) has = refl
+slot_in_with true es (Some others) (Some d) has = refl
+slot_in_with false es old digest has = refl
+
+-- the slot of a directory that is open
+slot_opened : (es : List Entry) (entries : Option (List Entry)) (digest : Option (List ℕ)) → entries ≡ Some es → IsSome digest → slot_in entries digest ≡ Some (Changed (laid_under (slot_in entries digest)) es)
+slot_opened es entries None is has = absurd cc
+slot_opened es None (Some d) is has = absurd cc
+slot_opened es (Some others) (Some d) is has = let same : others ≡ es = cc in ap (λ (x : List Entry). Some (Changed d x)) same
 
 -- the slots where a directory is opened, or changes
-pub slot_with : (old : Part) (opened : List Open) (o : Open) (i : ℕ) → opened ≡ with_row nat_cmp number_of old.opened o
-    → slot_at (record { table = old.table; opened = opened }) i ≡ (if o.i_number == i then Some (Changed o.entries) else slot_at old i)
-slot_with old opened o i with =
+pub slot_with : (old : Part) (opened : List Open) (o : Open) (i : ℕ) → IsSome (digest_at old.table o.i_number) → opened ≡ with_row nat_cmp number_of old.opened o
+    → slot_at (record { table = old.table; opened = opened }) i ≡ (if o.i_number == i then Some (Changed (laid_under (slot_at old i)) o.entries) else slot_at old i)
+slot_with old opened o i here with =
     let entries = ap (λ (os : List Open). entries_in os i) with ∙ entries_with old.opened o i in
-    ap (λ (es : Option (List Entry)). slot_in es (digest_at old.table i)) entries ∙ slot_in_with (o.i_number == i) o.entries (entries_in old.opened i) (digest_at old.table i)
+    ap (λ (es : Option (List Entry)). slot_in es (digest_at old.table i)) entries
+    ∙ slot_in_with (o.i_number == i) o.entries (entries_in old.opened i) (digest_at old.table i) (λ t. subst (λ (k : ℕ). IsSome (digest_at old.table k)) (eqb-true o.i_number i t) here)
 
 -- the entries of what stands at a place
 pub entries_there : (opened : List Open) (k place : ℕ) (d : Open) → Stands nat_cmp number_of opened k place → entries_in opened k ≡ Some (slice_index_or opened place d).entries
@@ -49,39 +58,39 @@ stands_closed reads part i es none found = closed reads part i none ∙ a_direct
 
 -- the action makes these entries of the others
 abbrev pub Makes : (List ℕ → Content) → Action → List Entry → List Entry → Type 0
-Makes reads action es made = (s : Option Slot) → content_in reads s ≡ Some (Directory es) → slot_becomes reads action s ≡ Some (Changed made)
+Makes reads action es made = (s : Option Slot) → content_in reads s ≡ Some (Directory es) → slot_becomes reads action s ≡ Some (Changed (laid_under s) made)
 
 pub makes_linked : (reads : List ℕ → Content) (es : List Entry) (entry : Entry) → Makes reads (Link entry) es (linked es entry)
-makes_linked reads es entry s here = ap (λ (content : Option Content). Some (Changed (linked (entries_of content) entry))) here
+makes_linked reads es entry s here = ap (λ (content : Option Content). Some (Changed (laid_under s) (linked (entries_of content) entry))) here
 
 pub makes_unlinked : (reads : List ℕ → Content) (es : List Entry) (name : List ℕ) → Makes reads (Unlink name) es (unlinked es name)
-makes_unlinked reads es name s here = ap (λ (content : Option Content). Some (Changed (unlinked (entries_of content) name))) here
+makes_unlinked reads es name s here = ap (λ (content : Option Content). Some (Changed (laid_under s) (unlinked (entries_of content) name))) here
 
-edit_step : (reads : List ℕ → Content) (c : Change) (s : Option Slot) (made es es2 : List Entry) (fitted t : Bool) → (t ≡ true → s ≡ Some (Changed es)) → Makes reads c.action es made → es2 ≡ (if fitted then made else es)
-    → (if t then Some (Changed es2) else s) ≡ (if fitted && t then slot_becomes reads c.action s else s)
-edit_step reads c s made es es2 true true at makes is = ap (λ (x : List Entry). Some (Changed x)) is ∙ sym (makes s (ap (content_in reads) (at refl)))
+edit_step : (reads : List ℕ → Content) (c : Change) (s : Option Slot) (made es es2 : List Entry) (fitted t : Bool) → (t ≡ true → s ≡ Some (Changed (laid_under s) es)) → Makes reads c.action es made → es2 ≡ (if fitted then made else es)
+    → (if t then Some (Changed (laid_under s) es2) else s) ≡ (if fitted && t then slot_becomes reads c.action s else s)
+edit_step reads c s made es es2 true true at makes is = ap (λ (x : List Entry). Some (Changed (laid_under s) x)) is ∙ sym (makes s (ap (content_in reads) (at refl)))
 edit_step reads c s made es es2 true false at makes is = refl
-edit_step reads c s made es es2 false true at makes is = ap (λ (x : List Entry). Some (Changed x)) is ∙ sym (at refl)
+edit_step reads c s made es es2 false true at makes is = ap (λ (x : List Entry). Some (Changed (laid_under s) x)) is ∙ sym (at refl)
 edit_step reads c s made es es2 false false at makes is = refl
 
 -- in a directory that is opened
-pub edit_acts : (reads : List ℕ → Content) (user : ℕ) (c : Change) (old new : Part) (made es es2 : List Entry) (fitted : Bool) → opened_at old c.i_number ≡ Some es → fitted ≡ fits user c (Some (Directory es))
-    → ((i : ℕ) → slot_at new i ≡ (if c.i_number == i then Some (Changed es2) else slot_at old i)) → Makes reads c.action es made → es2 ≡ (if fitted then made else es) → Acts reads user c old new fitted
-edit_acts reads user c old new made es es2 fitted there fit news makes is =
-    let here : slot_at old c.i_number ≡ Some (Changed es) = ap (λ (x : Option (List Entry)). slot_in x (digest_at old.table c.i_number)) there in
+pub edit_acts : (reads : List ℕ → Content) (user : ℕ) (c : Change) (old new : Part) (made es es2 : List Entry) (fitted : Bool) → IsPart old → opened_at old c.i_number ≡ Some es → fitted ≡ fits user c (Some (Directory es))
+    → ((i : ℕ) → slot_at new i ≡ (if c.i_number == i then Some (Changed (laid_under (slot_at old i)) es2) else slot_at old i)) → Makes reads c.action es made → es2 ≡ (if fitted then made else es) → Acts reads user c old new fitted
+edit_acts reads user c old new made es es2 fitted part there fit news makes is =
+    let here : slot_at old c.i_number ≡ Some (Changed (laid_under (slot_at old c.i_number)) es) = slot_opened es (opened_at old c.i_number) (digest_at old.table c.i_number) there (part.mapped c.i_number (ap is_some there)) in
     record {
       is_fit = fit ∙ ap (λ (s : Option Slot). fits user c (content_in reads s)) (sym here);
-      slots = λ i. news i ∙ edit_step reads c (slot_at old i) made es es2 fitted (c.i_number == i) (λ t. sym (ap (slot_at old) (eqb-true c.i_number i t)) ∙ here) makes is;
+      slots = λ i. news i ∙ edit_step reads c (slot_at old i) made es es2 fitted (c.i_number == i) (λ t. subst (λ (k : ℕ). slot_at old k ≡ Some (Changed (laid_under (slot_at old k)) es)) (eqb-true c.i_number i t) here) makes is;
     }
 
 open_step : (reads : List ℕ → Content) (c : Change) (s : Option Slot) (made es es2 : List Entry) (t : Bool) → (t ≡ true → content_in reads s ≡ Some (Directory es)) → Makes reads c.action es made → es2 ≡ made
-    → (if t then Some (Changed es2) else s) ≡ (if true && t then slot_becomes reads c.action s else s)
-open_step reads c s made es es2 true at makes is = ap (λ (x : List Entry). Some (Changed x)) is ∙ sym (makes s (at refl))
+    → (if t then Some (Changed (laid_under s) es2) else s) ≡ (if true && t then slot_becomes reads c.action s else s)
+open_step reads c s made es es2 true at makes is = ap (λ (x : List Entry). Some (Changed (laid_under s) x)) is ∙ sym (makes s (at refl))
 open_step reads c s made es es2 false at makes is = refl
 
 -- in one that wasn't: it is opened
 pub open_acts : (reads : List ℕ → Content) (user : ℕ) (c : Change) (old new : Part) (made es es2 : List Entry) → stands_at reads old c.i_number ≡ Some (Directory es) → true ≡ fits user c (Some (Directory es))
-    → ((i : ℕ) → slot_at new i ≡ (if c.i_number == i then Some (Changed es2) else slot_at old i)) → Makes reads c.action es made → es2 ≡ made → Acts reads user c old new true
+    → ((i : ℕ) → slot_at new i ≡ (if c.i_number == i then Some (Changed (laid_under (slot_at old i)) es2) else slot_at old i)) → Makes reads c.action es made → es2 ≡ made → Acts reads user c old new true
 open_acts reads user c old new made es es2 here fit news makes is = record {
   is_fit = fit ∙ ap (fits user c) (sym here);
   slots = λ i. news i ∙ open_step reads c (slot_at old i) made es es2 (c.i_number == i) (λ t. sym (ap (stands_at reads old) (eqb-true c.i_number i t)) ∙ here) makes is;
@@ -121,13 +130,16 @@ module _ (part : Part) (k place : ℕ) (d o : Open) (at : Stands nat_cmp number_
   pub opened_there : opened_at part k ≡ Some d.entries
   opened_there = entries_there part.opened k place d at ∙ sym (ap (λ (x : Open). Some x.entries) there)
 
-  pub is_part_edited : IsPart part → IsPart (record { table = part.table; opened = slice_set part.opened place o })
-  is_part_edited is = is_part_with part (slice_set part.opened place o) o is (ap (λ (i : ℕ). is_some (digest_at part.table i)) key_stays ∙ is.mapped k (ap is_some opened_there)) set_with
+  mapped_there : IsPart part → IsSome (digest_at part.table o.i_number)
+  mapped_there is = ap (λ (i : ℕ). is_some (digest_at part.table i)) key_stays ∙ is.mapped k (ap is_some opened_there)
 
-  pub slot_edited : (i : ℕ) → slot_at (record { table = part.table; opened = slice_set part.opened place o }) i ≡ (if k == i then Some (Changed o.entries) else slot_at part i)
-  slot_edited i =
-      slot_with part (slice_set part.opened place o) o i set_with
-      ∙ ap (λ (n : ℕ). if n == i then Some (Changed o.entries) else slot_at part i) key_stays
+  pub is_part_edited : IsPart part → IsPart (record { table = part.table; opened = slice_set part.opened place o })
+  is_part_edited is = is_part_with part (slice_set part.opened place o) o is (mapped_there is) set_with
+
+  pub slot_edited : IsPart part → (i : ℕ) → slot_at (record { table = part.table; opened = slice_set part.opened place o }) i ≡ (if k == i then Some (Changed (laid_under (slot_at part i)) o.entries) else slot_at part i)
+  slot_edited is i =
+      slot_with part (slice_set part.opened place o) o i (mapped_there is) set_with
+      ∙ ap (λ (n : ℕ). if n == i then Some (Changed (laid_under (slot_at part i)) o.entries) else slot_at part i) key_stays
 
 -- ---- a change of the part's principal
 

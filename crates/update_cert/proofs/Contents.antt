@@ -1,5 +1,5 @@
 -- What i-nodes are of, where their blocks are held; and that a directory is read back from its texts.
-use Rattle.std.proofs.Common.{◌≡◌, ℕ, List, [], ◌∷◌, ◌++◌, length, map, Option, Some, refl, sym, ap, ◌∙◌}
+use Rattle.std.proofs.Common.{◌≡◌, ℕ, List, [], ◌∷◌, ◌++◌, length, map, Some, refl, sym, ap, ◌∙◌}
 use Rattle.std.specs.List.{All, concat}
 use Rattle.std.specs.Option.{option_and_then, option_map}
 use Rattle.std.specs.Result.{result_ok}
@@ -14,7 +14,7 @@ use Rattle.itable.specs.declared.inode.Kind.TheVariants as kinds
 use Rattle.directory.specs.Directory.{Entry, directory, lawful_directory}
 use Rattle.update_cert.specs.World.{Content, File, Directory}
 use Rattle.update_cert.specs.Blocks.{Blocks, Agrees, IsHeld, IsOf, inode_at, joined, of_size, directory_over, file_over}
-use Rattle.update_cert.specs.Slots.{IsReadBack, directory_inode, directory_texts}
+use Rattle.update_cert.specs.Slots.{IsReadBack, directory_inode}
 
 all_front : {X : Type 0} (P : X → Type 0) (xs ys : List X) → All P (xs ++ ys) → All P xs
 all_front {X} P [] ys all = All-nil P

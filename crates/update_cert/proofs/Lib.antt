@@ -8,3 +8,4 @@ pub mod TreeLaws
 pub mod SettleLaws
 pub mod SomeReading
 pub mod Contents
+pub mod TakenLaws

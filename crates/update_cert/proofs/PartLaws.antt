@@ -1,6 +1,6 @@
 -- The laws of a principal's part.
 use Rattle.std.proofs.Common.{◌≡◌, ℕ, false, List, [], ◌∷◌, Option, Some, None, refl, subst, sym, ap, ◌∙◌, arith}
-use Rattle.std.specs.Prelude.{◌==◌, ◌||◌, length}
+use Rattle.std.specs.Prelude.{◌==◌, ◌||◌, IsSome, length}
 use Rattle.std.proofs.lemmas.Bool.{eq-eqb, ne_eqb}
 use Rattle.std.specs.Option.{option_map, option_map_or}
 use Rattle.itable.specs.ITable.{ITable, digest_at}
@@ -11,7 +11,7 @@ use Rattle.directory.specs.Directory.{Entry}
 use Rattle.update_cert.specs.World.{Content, File, Directory, is_file, is_removable}
 use Rattle.update_cert.specs.Blocks.{Blocks, inode_at, IsOf, Agrees, directory_over}
 use Rattle.update_cert.specs.Spot.{is_of_file}
-use Rattle.update_cert.specs.Part.{Open, Part, Laid, IsPart, part_of, opened_at, content_of, stands_at}
+use Rattle.update_cert.specs.Part.{Open, Part, IsPart, part_of, opened_at, content_of, slot_of, stands_at}
 use Rattle.update_cert.specs.Acts.{listed}
 
 is_part_of_table : (table : ITable) → IsPart (part_of table)
@@ -35,13 +35,21 @@ removable_of : (blocks : Blocks) (n : Inode) (content : Content) → IsOf blocks
 removable_of blocks n (File bytes) is = sym (ap (λ k. is_of_file k || (n.size == 6)) is.0)
 removable_of blocks n (Directory entries) is = removable_entries entries n.size is.1.0 is.1.1 ∙ sym (ap (λ k. is_of_file k || (n.size == 6)) is.0)
 
-laid_content : (reads : List ℕ → Content) (digest : Option (List ℕ)) → option_map (content_of reads) (option_map (λ d. Laid d) digest) ≡ option_map reads digest
+laid_content : (reads : List ℕ → Content) (digest : Option (List ℕ)) → option_map (content_of reads) (option_map (slot_of None) digest) ≡ option_map reads digest
 laid_content reads None = refl
 laid_content reads (Some d) = refl
 
 -- what stands where no directory is opened
 pub closed : (reads : List ℕ → Content) (part : Part) (i : ℕ) → opened_at part i ≡ None → stands_at reads part i ≡ option_map reads (digest_at part.table i)
 closed reads part i none = rw none (laid_content reads (digest_at part.table i))
+
+changed_content : (reads : List ℕ → Content) (es : List Entry) (digest : Option (List ℕ)) → IsSome digest → option_map (content_of reads) (option_map (slot_of (Some es)) digest) ≡ Some (Directory es)
+changed_content reads es None has = absurd cc
+changed_content reads es (Some d) has = refl
+
+-- and where one is
+pub opened : (reads : List ℕ → Content) (part : Part) (i : ℕ) (es : List Entry) → opened_at part i ≡ Some es → IsSome (digest_at part.table i) → stands_at reads part i ≡ Some (Directory es)
+opened reads part i es there has = rw there (changed_content reads es (digest_at part.table i) has)
 
 module _ (blocks : Blocks) (reads : List ℕ → Content) (agrees : Agrees blocks reads) where
   file_read : (d : Option (List ℕ)) (found : Option Inode) → option_map (λ n. Some n) found ≡ option_map (inode_at blocks) d → option_map_or (λ n. is_of_file n.kind) found false ≡ is_file (option_map reads d)

@@ -32,6 +32,16 @@ pub lacks_inode : (blocks : Blocks) (p i : ℕ) (digest : List ℕ) → option_m
 unfolding takes
 lacks_inode blocks p i digest none = no_inode p i (blocks digest) none
 
+one_inode : (p i : ℕ) (n : Inode) (held : Option (List ℕ)) → option_and_then (λ text. result_ok (whole inode text)) held ≡ Some n → takes_inode p i n ≡ true
+    → not (option_map_or (λ text. option_map_or (takes_inode p i) (result_ok (whole inode text)) false) held false) ≡ false
+one_inode p i n None at taken = absurd cc
+one_inode p i n (Some text) at taken = ap (λ (found : Option Inode). not (option_map_or (takes_inode p i) found false)) at ∙ ap not taken
+
+-- an i-node that its place takes is there
+pub inode_taken : (blocks : Blocks) (p i : ℕ) (digest : List ℕ) (n : Inode) → inode_at blocks digest ≡ Some n → takes_inode p i n ≡ true → lacks blocks digest (spot.Inode p i) ≡ false
+unfolding takes
+inode_taken blocks p i digest n at taken = one_inode p i n (blocks digest) at taken
+
 -- ---- the sizes of blocks
 
 pub count_is : (n : Inode) → inode.Fits n → length n.blocks ≡ block_count n.size
@@ -68,7 +78,7 @@ no_and_last true false = refl
 no_and_last false b = refl
 
 -- what the spot of a block takes
-abbrev block_taken : Blocks → Inode → ℕ → Kind → List ℕ → Bool
+abbrev pub block_taken : Blocks → Inode → ℕ → Kind → List ℕ → Bool
 block_taken blocks n k kinds.File bytes = takes_file_block k bytes n
 block_taken blocks n k kinds.Directory bytes = takes_block blocks k bytes n
 
@@ -76,7 +86,7 @@ other_size : (blocks : Blocks) (n : Inode) (k : ℕ) (kind : Kind) (bytes : List
 other_size blocks n k kinds.File bytes other = rw other (no_and_last (is_of_file n.kind) (nat_lt k (block_count n.size)))
 other_size blocks n k kinds.Directory bytes other = rw other (no_and (not (is_of_file n.kind)) (nat_lt k (block_count n.size)) (nat_lt (k + 1) (block_count n.size) || completes blocks n k bytes))
 
-taken_by : (blocks : Blocks) (digest : List ℕ) (n : Inode) (k : ℕ) (kind : Kind) (bytes : List ℕ) → inode_at blocks digest ≡ Some n → takes blocks (spot_of kind digest k) bytes ≡ block_taken blocks n k kind bytes
+pub taken_by : (blocks : Blocks) (digest : List ℕ) (n : Inode) (k : ℕ) (kind : Kind) (bytes : List ℕ) → inode_at blocks digest ≡ Some n → takes blocks (spot_of kind digest k) bytes ≡ block_taken blocks n k kind bytes
 unfolding takes
 taken_by blocks digest n k kinds.File bytes at = ap (λ (found : Option Inode). option_map_or (takes_file_block k bytes) found false) at
 taken_by blocks digest n k kinds.Directory bytes at = ap (λ (found : Option Inode). option_map_or (takes_block blocks k bytes) found false) at
@@ -120,7 +130,7 @@ first_and_last : (first : Option (List ℕ)) (before after last : Option (List �
 first_and_last None before after last is = refl
 first_and_last (Some text) before after last is = ap (option_map (λ rest. text ++ rest)) is ∙ over_last text before last
 
-joined_last : (blocks : Blocks) (ds : List (List ℕ)) (d : List ℕ) → joined blocks (ds ++ d ∷ []) ≡ with_last (joined blocks ds) (blocks d)
+pub joined_last : (blocks : Blocks) (ds : List (List ℕ)) (d : List ℕ) → joined blocks (ds ++ d ∷ []) ≡ with_last (joined blocks ds) (blocks d)
 unfolding joined
 joined_last blocks [] d = one_last (blocks d)
 joined_last blocks (x ∷ xs) d = first_and_last (blocks x) (joined blocks xs) (joined blocks (xs ++ d ∷ [])) (blocks d) (joined_last blocks xs d)
@@ -164,7 +174,7 @@ last_wrong blocks n k text (Some bytes) is all none =
     let wrong = not_complete n.size (joined blocks (take k n.blocks)) bytes text all none in
     rw (past, wrong) (no_and_more (not (is_of_file n.kind)) (nat_lt k (block_count n.size)) (length bytes == size_of_block n.size k))
 
-front_and_last : (ds : List (List ℕ)) (k : ℕ) (d : List ℕ) → k + 1 ≡ length ds → d ≡ slice_index_or ds k d → ds ≡ take k ds ++ d ∷ []
+pub front_and_last : (ds : List (List ℕ)) (k : ℕ) (d : List ℕ) → k + 1 ≡ length ds → d ≡ slice_index_or ds k d → ds ≡ take k ds ++ d ∷ []
 front_and_last ds k d is at =
     let here : k < length ds = omega arith in
     let past : length ds ≤ suc k = omega arith in

@@ -1,13 +1,13 @@
 -- What is settled of the directories that changed.
 use Rattle.std.proofs.Common.{◌≡◌, ℕ, suc, ◌+◌, ◌<◌, Bool, true, false, List, [], ◌∷◌, ◌++◌, take, drop, length, map, Option, Some, None, Vec, refl, subst, sym, ap, ◌∙◌, arith, add-one, drop-cons}
-use Rattle.std.specs.Prelude.{◌==◌, if◌then◌else◌, slice_index_or}
+use Rattle.std.specs.Prelude.{◌==◌, if◌then◌else◌, IsSome, is_some, slice_index_or}
 use Rattle.std.specs.List.{All}
 use Rattle.std.specs.Option.{option_map, option_map_or}
 use Rattle.std.specs.Ordering.{nat_cmp, is_lt, is_eq}
 use Rattle.std.specs.Str.{bytes_eq}
 use Rattle.std.specs.Vec.{vec_items}
 use Rattle.std.proofs.Math.Seq.{take-suc}
-use Rattle.std.proofs.lemmas.Bool.{eqb-true}
+use Rattle.std.proofs.lemmas.Bool.{eq-eqb, eqb-true}
 use Rattle.std.proofs.lemmas.Bool.Decides.{nat_tests}
 use Rattle.std.proofs.lemmas.List.Elements.{All-append, All-cons, All-head, All-nil, All-tail}
 use Rattle.std.proofs.lemmas.List.{append_assoc, flat_map_more, map-append, take-append-drop}
@@ -16,15 +16,18 @@ use Rattle.itable.specs.ITable.{ITable, digest_at}
 use Rattle.itable.specs.Inode.{inode}
 use Rattle.itable.specs.File.{blocks_of}
 use Rattle.directory.specs.Directory.{Entry, directory}
-use Rattle.update_cert.specs.Part.{Open, Part, Slot, Laid, Changed, number_of, slot_at}
-use Rattle.update_cert.specs.Slots.{IsReadBack, changed_texts, directory_inode, directory_texts, is_stored, settled_digest}
-use Rattle.update_cert.proofs.OpenedLaws.{entries_in}
+use Rattle.update_cert.specs.Part.{Open, Part, Slot, Changed, IsPart, number_of, slot_at, slot_of}
+use Rattle.update_cert.specs.Slots.{IsReadBack, changed_texts, directory_digest, directory_inode, directory_texts, is_stored, laid_under, settled_digest}
+use Rattle.update_cert.proofs.OpenedLaws.{entries_in, key_test}
 use Rattle.update_cert.proofs.ActLaws.{slot_in, slot_with}
 
 -- ---- the first directories, and one more
 
 less_less : (a b c : ℕ) → is_lt (nat_cmp a b) ≡ true → is_lt (nat_cmp b c) ≡ true → is_lt (nat_cmp a c) ≡ true
 less_less a b c low high = grind (arith, nat_tests)
+
+apart : (a b : ℕ) → is_lt (nat_cmp a b) ≡ true → is_eq (nat_cmp a b) ≡ false
+apart a b low = grind (arith, nat_tests)
 
 below : (x : Open) (xs ys : List Open) (o : Open) → Ascends nat_cmp number_of (Some x) (xs ++ o ∷ ys) → is_lt (nat_cmp x.i_number o.i_number) ≡ true
 unfolding Ascends
@@ -45,23 +48,36 @@ split_at all k o inside at = sym (take-append-drop k all) ∙ ap (λ (rest : Lis
 taken_with : (all : List Open) (k : ℕ) (o : Open) → Ascends nat_cmp number_of None all → k < length all → o ≡ slice_index_or all k o → take (k + 1) all ≡ with_row nat_cmp number_of (take k all) o
 taken_with all k o up inside at = take_next all k o inside at ∙ with_last None (take k all) (drop (suc k) all) o (subst (Ascends nat_cmp number_of None) (split_at all k o inside at) up)
 
+-- the directory at a place is open at its i-number
+found_here : (before : Option Open) (xs ys : List Open) (o : Open) → Ascends nat_cmp number_of before (xs ++ o ∷ ys) → entries_in (xs ++ o ∷ ys) o.i_number ≡ Some o.entries
+unfolding Ascends
+found_here before [] ys o up = rw (key_test o.i_number o.i_number ∙ eq-eqb o.i_number o.i_number refl) refl
+found_here before (x ∷ xs) ys o up = rw (apart x.i_number o.i_number (below x xs ys o up.1)) (found_here (Some x) xs ys o up.1)
+
+-- so the table has a digest there
+mapped_at : (first : ITable) (all : List Open) (k : ℕ) (o : Open) → IsPart (record { table = first; opened = all }) → k < length all → o ≡ slice_index_or all k o → IsSome (digest_at first o.i_number)
+mapped_at first all k o whole inside at =
+    let split = split_at all k o inside at in
+    let here = ap (λ (os : List Open). entries_in os o.i_number) split ∙ found_here None (take k all) (drop (suc k) all) o (subst (Ascends nat_cmp number_of None) split whole.ascending) in
+    whole.mapped o.i_number (ap is_some here)
+
 -- ---- the digests
 
-settled_step : (t : Bool) (o : Open) (d : List ℕ) (old : Option (List ℕ)) (s : Option Slot) → d ≡ settled_digest (Changed o.entries) → old ≡ option_map settled_digest s → (if t then Some d else old) ≡ option_map settled_digest (if t then Some (Changed o.entries) else s)
+settled_step : (t : Bool) (o : Open) (d : List ℕ) (old : Option (List ℕ)) (s : Option Slot) → d ≡ directory_digest o.entries → old ≡ option_map settled_digest s → (if t then Some d else old) ≡ option_map settled_digest (if t then Some (Changed (laid_under s) o.entries) else s)
 settled_step true o d old s is before = ap (λ (x : List ℕ). Some x) is
 settled_step false o d old s is before = before
 
 -- the table has the digests of the first directories that changed, and of one more
-pub settled_next : (first old new : ITable) (all : List Open) (k : ℕ) (o : Open) (d : List ℕ) → Ascends nat_cmp number_of None all → k < length all → o ≡ slice_index_or all k o → d ≡ settled_digest (Changed o.entries)
+pub settled_next : (first old new : ITable) (all : List Open) (k : ℕ) (o : Open) (d : List ℕ) → IsPart (record { table = first; opened = all }) → k < length all → o ≡ slice_index_or all k o → d ≡ directory_digest o.entries
     → ((i : ℕ) → digest_at new i ≡ (if o.i_number == i then Some d else digest_at old i)) → ((i : ℕ) → digest_at old i ≡ option_map settled_digest (slot_at (record { table = first; opened = take k all }) i))
     → (i : ℕ) → digest_at new i ≡ option_map settled_digest (slot_at (record { table = first; opened = take (k + 1) all }) i)
-settled_next first old new all k o d up inside at is set before i =
+settled_next first old new all k o d whole inside at is set before i =
     let part : Part = record { table = first; opened = take k all } in
     set i
     ∙ settled_step (o.i_number == i) o d (digest_at old i) (slot_at part i) is (before i)
-    ∙ sym (ap (option_map settled_digest) (slot_with part (take (k + 1) all) o i (taken_with all k o up inside at)))
+    ∙ sym (ap (option_map settled_digest) (slot_with part (take (k + 1) all) o i (mapped_at first all k o whole inside at) (taken_with all k o whole.ascending inside at)))
 
-none_yet : (digest : Option (List ℕ)) → digest ≡ option_map settled_digest (option_map (λ d. Laid d) digest)
+none_yet : (digest : Option (List ℕ)) → digest ≡ option_map settled_digest (option_map (slot_of None) digest)
 none_yet None = refl
 none_yet (Some d) = refl
 
@@ -70,9 +86,6 @@ pub settled_first : (table : ITable) (i : ℕ) → digest_at table i ≡ option_
 settled_first table i = none_yet (digest_at table i)
 
 -- ---- a directory that was changed back
-
-apart : (a b : ℕ) → is_lt (nat_cmp a b) ≡ true → is_eq (nat_cmp a b) ≡ false
-apart a b low = grind (arith, nat_tests)
 
 -- none of the first directories has the next one's i-number
 none_here : (before : Option Open) (xs ys : List Open) (o : Open) → Ascends nat_cmp number_of before (xs ++ o ∷ ys) → entries_in xs o.i_number ≡ None
@@ -90,11 +103,11 @@ digest_still first old all k o up inside at before =
     ∙ sym (none_yet (digest_at first o.i_number))
 
 -- so the table tells whether it was changed back
-pub stored_now : (first old : ITable) (all : List Open) (k : ℕ) (o : Open) (d : List ℕ) → Ascends nat_cmp number_of None all → k < length all → o ≡ slice_index_or all k o → d ≡ settled_digest (Changed o.entries)
+pub stored_now : (first old : ITable) (all : List Open) (k : ℕ) (o : Open) (d : List ℕ) → Ascends nat_cmp number_of None all → k < length all → o ≡ slice_index_or all k o → d ≡ directory_digest o.entries
     → ((i : ℕ) → digest_at old i ≡ option_map settled_digest (slot_at (record { table = first; opened = take k all }) i)) → is_stored first o ≡ option_map_or (λ stored. bytes_eq stored d) (digest_at old o.i_number) false
 stored_now first old all k o d up inside at is before =
     sym (ap (λ (x : List ℕ). option_map_or (λ stored. bytes_eq stored x) (digest_at old o.i_number) false) is
-    ∙ ap (λ (x : Option (List ℕ)). option_map_or (λ stored. bytes_eq stored (settled_digest (Changed o.entries))) x false) (digest_still first old all k o up inside at before))
+    ∙ ap (λ (x : Option (List ℕ)). option_map_or (λ stored. bytes_eq stored (directory_digest o.entries)) x false) (digest_still first old all k o up inside at before))
 
 same_step : (t : Bool) (x : Option (List ℕ)) (d : List ℕ) → (t ≡ true → x ≡ Some d) → x ≡ (if t then Some d else x)
 same_step true x d here = here refl
@@ -151,10 +164,11 @@ read_in [] i entries all found = absurd cc
 read_in (x ∷ xs) i entries all found =
     read_step x (row_at nat_cmp number_of xs i) entries (is_eq (nat_cmp x.i_number i)) (All-head (λ o. IsReadBack o.entries) x xs all) (read_in xs i entries (All-tail (λ o. IsReadBack o.entries) x xs all)) found
 
-changed_at : (es : Option (List Entry)) (digest : Option (List ℕ)) (entries : List Entry) → slot_in es digest ≡ Some (Changed entries) → es ≡ Some entries
-changed_at None None entries is = absurd cc
-changed_at None (Some d) entries is = absurd cc
-changed_at (Some es) digest entries is = let same : es ≡ entries = cc in ap (λ (x : List Entry). Some x) same
+changed_at : (es : Option (List Entry)) (digest : Option (List ℕ)) (laid : List ℕ) (entries : List Entry) → slot_in es digest ≡ Some (Changed laid entries) → es ≡ Some entries
+changed_at None None laid entries is = absurd cc
+changed_at None (Some d) laid entries is = absurd cc
+changed_at (Some es) None laid entries is = absurd cc
+changed_at (Some es) (Some d) laid entries is = let same : es ≡ entries = cc in ap (λ (x : List Entry). Some x) same
 
-pub read_at : (part : Part) (i : ℕ) (entries : List Entry) → AreReadBack part.opened → slot_at part i ≡ Some (Changed entries) → IsReadBack entries
-read_at part i entries all at = read_in part.opened i entries all (changed_at (entries_in part.opened i) (digest_at part.table i) entries at)
+pub read_at : (part : Part) (i : ℕ) (laid : List ℕ) (entries : List Entry) → AreReadBack part.opened → slot_at part i ≡ Some (Changed laid entries) → IsReadBack entries
+read_at part i laid entries all at = read_in part.opened i entries all (changed_at (entries_in part.opened i) (digest_at part.table i) laid entries at)

@@ -1,9 +1,12 @@
 -- What one change makes of a principal's part, and what it asks for.
-use Rattle.std.specs.Prelude.{◌≡◌, ℕ, ◌==◌, Bool, ◌&&◌, not, List, Option, Some, None, if◌then◌else◌}
+use Rattle.std.specs.Prelude.{◌≡◌, ℕ, ◌==◌, Bool, true, false, length, ◌&&◌, not, List, Option, Some, None, if◌then◌else◌}
+use Rattle.std.specs.Option.{option_map_or}
+use Rattle.itable.specs.Inode.{Inode}
 use Rattle.directory.specs.Directory.{Entry}
 use Rattle.update_cert.specs.Change.{Action, Change}
 use Rattle.update_cert.specs.World.{Content, Directory, Actor, Tree, fits, has_effect}
 use Rattle.update_cert.specs.Blocks.{Blocks}
+use Rattle.update_cert.specs.Spot.{size_of_block}
 use Rattle.update_cert.specs.Part.{Part, Laid, slot_at, stands_at}
 use Rattle.update_cert.specs.Asked.{Lacks, IsAskedFor}
 use Rattle.update_cert.specs.Slots.{slot_becomes}
@@ -35,3 +38,7 @@ LiesAt part i j inode = (j ≡ i) × (slot_at part i ≡ Some (Laid inode))
 -- what is missing is that i-node, or a block of the directory that it is of
 abbrev pub LacksAt : Blocks → Part → ℕ → ApplyError → Type 0
 LacksAt blocks part i e = Lacks blocks (IsAskedFor blocks part.table.principal (LiesAt part i)) e
+
+-- a text of the size of the i-node's block at this place is held under this digest
+abbrev pub IsSized : Blocks → Inode → ℕ → List ℕ → Type 0
+IsSized blocks n k digest = option_map_or (λ bytes. length bytes == size_of_block n.size k) (blocks digest) false ≡ true

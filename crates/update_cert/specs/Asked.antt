@@ -1,5 +1,5 @@
 -- What is asked for: the i-node that a change meets at its i-number, and the blocks of the directory that it is of.
-use Rattle.std.specs.Prelude.{◌≡◌, ◌⊎◌, ℕ, true, List, Some, IsSome, IsSomeAnd, slice_get, take}
+use Rattle.std.specs.Prelude.{◌≡◌, ◌⊎◌, ℕ, true, false, List, Some, IsSome, IsSomeAnd, slice_get, take}
 use Rattle.itable.specs.declared.inode.Kind.{Kind}
 use Rattle.itable.specs.declared.inode.Kind.TheVariants as kind
 use Rattle.update_cert.specs.Change.{Change}
@@ -29,6 +29,10 @@ IsBlockOf blocks kind inode k digest = IsSomeAnd (inode_at blocks inode) (λ n. 
 -- and its spot is that block's
 abbrev pub IsBlock : Blocks → Kind → List ℕ → List ℕ → Spot → Type 0
 IsBlock blocks kind inode digest s = (k : ℕ) × (s ≡ spot_of kind inode k) × IsBlockOf blocks kind inode k digest
+
+-- no block of this i-node is missing
+abbrev pub HasBlocks : Blocks → Kind → List ℕ → Type 0
+HasBlocks blocks kind inode = (digest : List ℕ) (s : Spot) → IsBlock blocks kind inode digest s → lacks blocks digest s ≡ false
 
 -- the digest is that of an i-node that is named at an i-number of this principal, or of a block of the directory that
 -- it is of

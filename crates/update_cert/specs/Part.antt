@@ -1,6 +1,6 @@
 -- A principal's part of the tree, as a client has it: the i-table, and the directories that changed.
 use Rattle.std.specs.Prelude.{◌≡◌, ℕ, List, [], Option, Some, None, IsSome}
-use Rattle.std.specs.Option.{option_map, option_map_or}
+use Rattle.std.specs.Option.{option_map}
 use Rattle.std.specs.Ordering.{nat_cmp}
 use Rattle.layout.specs.Ascending.{Ascends, row_at}
 use Rattle.itable.specs.ITable.{ITable, digest_at}
@@ -23,18 +23,24 @@ number_of o = o.i_number
 abbrev pub opened_at : Part → ℕ → Option (List Entry)
 opened_at part i = option_map (λ o. o.entries) (row_at nat_cmp number_of part.opened i)
 
--- what a part has at an i-number: what the i-node of a digest is of, or a directory that changed, by its entries
+-- what a part has at an i-number: what the i-node of a digest is of, or a directory that changed, by the digest under
+-- which it was laid and its entries now
 pub data Slot : Type 0 where
   Laid : List ℕ → Slot
-  Changed : List Entry → Slot
+  Changed : List ℕ → List Entry → Slot
+
+-- the slot of a digest, where these entries are open or none are
+abbrev pub slot_of : Option (List Entry) → List ℕ → Slot
+slot_of None digest = Laid digest
+slot_of (Some entries) digest = Changed digest entries
 
 abbrev pub slot_at : Part → ℕ → Option Slot
-slot_at part i = option_map_or (λ entries. Some (Changed entries)) (opened_at part i) (option_map (λ digest. Laid digest) (digest_at part.table i))
+slot_at part i = option_map (slot_of (opened_at part i)) (digest_at part.table i)
 
 -- what it is, where reads tells what the i-node of a digest is of
 abbrev pub content_of : (List ℕ → Content) → Slot → Content
 content_of reads (Laid digest) = reads digest
-content_of reads (Changed entries) = Directory entries
+content_of reads (Changed digest entries) = Directory entries
 
 -- what stands at an i-number
 abbrev pub stands_at : (List ℕ → Content) → Part → ℕ → Option Content

@@ -18,13 +18,19 @@ use Rattle.update_cert.specs.Part.{Open, Slot, Laid, Changed, content_of}
 abbrev pub content_in : (List ℕ → Content) → Option Slot → Option Content
 content_in reads s = option_map (content_of reads) s
 
+-- the digest under which what a slot holds was laid
+abbrev pub laid_under : Option Slot → List ℕ
+laid_under (Some (Laid digest)) = digest
+laid_under (Some (Changed digest entries)) = digest
+laid_under None = []
+
 -- what the slot of an action that has effect becomes
 abbrev pub slot_becomes : (List ℕ → Content) → Action → Option Slot → Option Slot
 slot_becomes reads (Make inode) s = Some (Laid inode)
 slot_becomes reads (Put inode) s = Some (Laid inode)
 slot_becomes reads Remove s = None
-slot_becomes reads (Link entry) s = Some (Changed (linked (entries_of (content_in reads s)) entry))
-slot_becomes reads (Unlink name) s = Some (Changed (unlinked (entries_of (content_in reads s)) name))
+slot_becomes reads (Link entry) s = Some (Changed (laid_under s) (linked (entries_of (content_in reads s)) entry))
+slot_becomes reads (Unlink name) s = Some (Changed (laid_under s) (unlinked (entries_of (content_in reads s)) name))
 
 -- the slot of a change, behind it
 unfoldable pub slot_behind : (List ℕ → Content) → Actor → Change → Option Slot → Option Slot
@@ -42,9 +48,13 @@ slot_after reads actor p i (c ∷ cs) s =
 abbrev pub directory_inode : List Entry → Inode
 directory_inode entries = inode_over kind.Directory (directory.spell entries)
 
+-- and its digest
+abbrev pub directory_digest : List Entry → List ℕ
+directory_digest entries = hash (inode.spell (directory_inode entries))
+
 abbrev pub settled_digest : Slot → List ℕ
 settled_digest (Laid digest) = digest
-settled_digest (Changed entries) = hash (inode.spell (directory_inode entries))
+settled_digest (Changed digest entries) = directory_digest entries
 
 -- the texts of a directory: its blocks in order, and its i-node
 abbrev pub directory_texts : List Entry → List (List ℕ)
@@ -53,11 +63,11 @@ directory_texts entries = blocks_of (directory.spell entries) ++ inode.spell (di
 -- whoever holds the texts of this directory reads it from them: its digest stands for it
 abbrev pub IsReadBack : List Entry → Type 0
 IsReadBack entries =
-    (blocks : Blocks) (reads : List ℕ → Content) → Agrees blocks reads → All (IsHeld blocks) (directory_texts entries) → reads (settled_digest (Changed entries)) ≡ Directory entries
+    (blocks : Blocks) (reads : List ℕ → Content) → Agrees blocks reads → All (IsHeld blocks) (directory_texts entries) → reads (directory_digest entries) ≡ Directory entries
 
--- the directory is as the table has it
+-- the directory has the digest under which it was laid: it was changed back
 abbrev pub is_stored : ITable → Open → Bool
-is_stored t o = option_map_or (λ digest. bytes_eq digest (settled_digest (Changed o.entries))) (digest_at t o.i_number) false
+is_stored t o = option_map_or (λ digest. bytes_eq digest (directory_digest o.entries)) (digest_at t o.i_number) false
 
 -- of those that aren't, ascending by i-number
 unfoldable pub changed_texts : ITable → List Open → List (List ℕ)

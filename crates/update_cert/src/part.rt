@@ -12,7 +12,7 @@ ghost use Rattle.update_cert.specs.World.{Content, Actor, Tree, after_change, ha
 ghost use Rattle.update_cert.specs.Blocks.{Agrees, inode_at as inode_of};
 ghost use Rattle.update_cert.specs.Part.{Changed, IsPart, IsPartOf, number_of, opened_at as entries_at, part_of, slot_at, stands_at};
 ghost use Rattle.update_cert.specs.Acts.{Acts, LacksAt, change_at, is_void_of, listed};
-ghost use Rattle.update_cert.specs.Slots.{IsReadBack, changed_texts, settled_digest, slot_after, slot_behind};
+ghost use Rattle.update_cert.specs.Slots.{IsReadBack, changed_texts, laid_under, settled_digest, slot_after, slot_behind};
 
 use crate::blocks::Blocks;
 use crate::change::{Action, Change};
@@ -79,7 +79,8 @@ impl<A: Allocator> Part<A> {
 
     /// The directory at an i-number, if it was opened.
     fn opened_at(&self, i_number: INumber) -> Option<&Directory<A>>
-        ensures { option_copied result ≡ entries_at self.now i_number }
+        ensures entries { option_copied result ≡ entries_at self.now i_number }
+        ensures mapped { IsSome (entries_at self.now i_number) → IsSome (digest_at self.now.table i_number) }
     {
         match find(&self.opened, i_number) {
             Ok(place) => Some(self.opened[place].directory()),
@@ -249,7 +250,7 @@ impl<A: Allocator + Copy> Part<A> {
     fn open(&mut self, place: usize, directory: Open<A>) -> Result<(), Memory>
         requires free { IsFree nat_cmp number_of self.old.opened directory.i_number place }
         requires mapped { IsSome (digest_at self.old.table directory.i_number) }
-        ensures slots { OnOk result ((i : ℕ) → slot_at self.new i ≡ (if directory.i_number == i then Some (Changed directory.entries) else slot_at self.old i)) }
+        ensures slots { OnOk result ((i : ℕ) → slot_at self.new i ≡ (if directory.i_number == i then Some (Changed (laid_under (slot_at self.old i)) directory.entries) else slot_at self.old i)) }
         ensures table { OnOk result (self.new.table ≡ self.old.table) }
     {
         self.opened.insert(place, directory)?;
@@ -404,13 +405,13 @@ pub struct Settled<A: Allocator> {
 
 impl<A: Allocator + Copy> Part<A> {
     /// Makes the texts of the directories that changed, and sets their digests. Those of a directory that was changed back
-    /// are left out.
+    /// are left out. Where memory is wanting the part is gone.
     pub fn settle(self, alloc: A) -> Result<Settled<A>, Memory>
         ensures principal { IfOk result (λ settled. settled.table.principal ≡ self.table.principal) }
         ensures digests { IfOk result (λ settled. (i : ℕ) → digest_at settled.table i ≡ option_map settled_digest (slot_at self i)) }
         ensures texts { IfOk result (λ settled. map vec_items settled.texts.items ≡ changed_texts self.table self.opened) }
         // Whoever holds the texts of a directory that changed reads it from them.
-        ensures read_back { OnOk result ((i : ℕ) (entries : List ListedEntry) → slot_at self i ≡ Some (Changed entries) → IsReadBack entries) }
+        ensures read_back { OnOk result ((i : ℕ) (digest : List ℕ) (entries : List ListedEntry) → slot_at self i ≡ Some (Changed digest entries) → IsReadBack entries) }
         // They ascend by i-number, and each has a digest.
         ensures is_part { IsPart self }
     {

@@ -1,9 +1,13 @@
 //! I-nodes, files and directories, read from the blocks that are held.
 
-ghost use Rattle.std.specs.Prelude.{◌≡◌, Some, IfOk, IfErr, length};
+ghost use Rattle.std.specs.Prelude.{◌≡◌, ℕ, List, Some, IfOk, IfErr, OnOk, false, length, slice_get};
 ghost use Rattle.update_cert.specs.Blocks.{directory_over, file_over, inode_at as inode_of, joined};
-ghost use Rattle.update_cert.specs.Asked.{Lacks, IsInode, IsBlock};
+ghost use Rattle.update_cert.specs.Asked.{HasBlocks, Lacks, IsInode, IsBlock};
+ghost use Rattle.update_cert.specs.Acts.{IsSized};
+ghost use Rattle.update_cert.specs.Spot.{lacks};
+ghost use Rattle.itable.specs.Inode.{inode as inode_format};
 ghost use Rattle.itable.specs.declared.inode.Kind.TheVariants as kinds;
+ghost use Rattle.update_cert.specs.declared.spot.Spot.TheVariants as spots;
 
 use crate::blocks::{Blocks, inode_at, spelled};
 use crate::error::ApplyError;
@@ -13,7 +17,8 @@ use itable::Inode;
 use layout::{Digest, INumber, Principal};
 use std::alloc::Allocator;
 
-/// The i-node of this digest, at an i-number of a principal.
+/// The i-node of this digest, at an i-number of a principal. The errors are Missing of its text, where none is held that
+/// its place takes, and Memory.
 pub fn read_inode<A: Allocator + Copy, B: Blocks>(
     alloc: A,
     blocks: &B,
@@ -22,6 +27,8 @@ pub fn read_inode<A: Allocator + Copy, B: Blocks>(
     digest: Digest,
 ) -> Result<Inode<A>, ApplyError>
     ensures found { IfOk result (λ inode. inode_of (B.held blocks.now) digest ≡ Some inode) }
+    // It is what its place takes.
+    ensures taken { OnOk result (lacks (B.held blocks.now) digest (spots.Inode principal i_number) ≡ false) }
     // Missing names it, where no text of it is held that its spot takes.
     ensures missing { IfErr result (Lacks (B.held blocks.now) (IsInode principal i_number digest)) }
 {
@@ -39,8 +46,10 @@ fn text_of<A: Allocator + Copy, B: Blocks>(
     inode: &Inode<A>,
 ) -> Result<Vec<u8, A>, ApplyError>
     requires { inode_of (B.held blocks.now) digest ≡ Some inode.now }
+    ensures fits { inode_format.Fits inode.now }
     ensures joined { IfOk result (λ text. joined (B.held blocks.now) inode.now.blocks ≡ Some text.items) }
     ensures size { IfOk result (λ text. length text.items ≡ inode.now.size) }
+    ensures sized { OnOk result ((k : ℕ) (block : List ℕ) → slice_get inode.now.blocks k ≡ Some block → IsSized (B.held blocks.now) inode.now k block) }
     ensures missing { IfErr result (Lacks (B.held blocks.now) (IsBlock (B.held blocks.now) inode.now.kind digest)) }
 {
     // It has a block for each 4,096 bytes.
@@ -60,7 +69,7 @@ fn text_of<A: Allocator + Copy, B: Blocks>(
     Ok(text)
 }
 
-/// The bytes of the file that the i-node of this digest is of.
+/// The bytes of the file that the i-node of this digest is of. The errors are Missing of a block, and Memory.
 pub fn read_file<A: Allocator + Copy, B: Blocks>(
     alloc: A,
     blocks: &B,
@@ -70,13 +79,15 @@ pub fn read_file<A: Allocator + Copy, B: Blocks>(
     requires held { inode_of (B.held blocks.now) digest ≡ Some inode.now }
     requires file { inode.now.kind ≡ kinds.File }
     ensures found { IfOk result (λ bytes. file_over (B.held blocks.now) inode.now ≡ Some bytes.items) }
+    // Each block is what its place takes.
+    ensures taken { OnOk result (HasBlocks (B.held blocks.now) kinds.File digest) }
     // Missing names a block of it of which no text is held that its spot takes.
     ensures missing { IfErr result (Lacks (B.held blocks.now) (IsBlock (B.held blocks.now) kinds.File digest)) }
 {
     text_of(alloc, blocks, digest, inode)
 }
 
-/// The directory that the i-node of this digest is of.
+/// The directory that the i-node of this digest is of. The errors are Missing of a block, and Memory.
 pub fn read_directory<A: Allocator + Copy, B: Blocks>(
     alloc: A,
     blocks: &B,
@@ -86,6 +97,8 @@ pub fn read_directory<A: Allocator + Copy, B: Blocks>(
     requires held { inode_of (B.held blocks.now) digest ≡ Some inode.now }
     requires directory { inode.now.kind ≡ kinds.Directory }
     ensures found { IfOk result (λ entries. directory_over (B.held blocks.now) inode.now ≡ Some entries) }
+    // Each block is what its place takes.
+    ensures taken { OnOk result (HasBlocks (B.held blocks.now) kinds.Directory digest) }
     // Missing names a block of it of which no text is held that its spot takes.
     ensures missing { IfErr result (Lacks (B.held blocks.now) (IsBlock (B.held blocks.now) kinds.Directory digest)) }
 {

@@ -161,7 +161,7 @@ impl Spot {
 
     /// Whether the text is what it asks for: a root or a chunk of the i-table; an i-node, of a file with bytes where the
     /// table of principals stands; or as many bytes as the block has, and with those before it the text of a directory
-    /// where it is a directory's last one.
+    /// where it is a directory's last one. Only want of memory is an error.
     #[tactic(auto, unfolding(crate::specs::Spot::takes))]
     pub fn takes<A: Allocator + Copy, B: Blocks>(
         &self,

@@ -1,6 +1,6 @@
-use Rattle.std.proofs.Common.{◌≡◌, subst, ◌∙◌, ap, sym}
+use Rattle.std.proofs.Common.{◌≡◌, subst, ◌∙◌, ap}
 use Rattle.std.specs.List.{concat}
-use Rattle.itable.specs.Inode.{Inode, inode}
+use Rattle.itable.specs.Inode.{inode}
 use Rattle.itable.specs.File.{blocks_of, inode_over}
 use Rattle.itable.specs.declared.inode.Kind.TheVariants as kinds
 use Rattle.directory.specs.Directory.{directory}

@@ -1,9 +1,9 @@
-use Rattle.std.proofs.Common.{◌≡◌, false, refl, sym, ap, ◌∙◌}
+use Rattle.std.proofs.Common.{◌≡◌, Option, Some, true, false, refl, sym, ap, ◌∙◌, rules}
 use Rattle.std.specs.Option.{option_map_or}
 use Rattle.itable.specs.Inode.{Inode}
-use Rattle.std.proofs.Common.{Option}
+use Rattle.update_cert.specs.Blocks.{inode_at}
 use Rattle.update_cert.specs.Spot.{takes_inode}
-use Rattle.update_cert.proofs.ReadingLaws.{lacks_inode}
+use Rattle.update_cert.proofs.ReadingLaws.{inode_taken, lacks_inode}
 use Rattle.update_cert.proofs.reading.read_inode.Goals.{in_default-via-in-Some+else-takes_inode, in_default-via-in_default}
 use Rattle.update_cert.proofs.reading.read_inode.Goals as goal
 
@@ -18,3 +18,10 @@ returns-in_default-clause-missing g c =
       | in_default-via-in_default w ↦ ap taken w.in_default.is
     ] in
     ((refl, refl), lacks_inode (g.B.Blocks.held c.args.blocks.now) p i c.args.digest (ap taken (sym c.in_ok-inode.ensures) ∙ none))
+
+pub returns-in-Some-clause-taken : goal.returns-in-Some-clause-taken
+returns-in-Some-clause-taken g c =
+    let held = g.B.Blocks.held c.args.blocks.now in
+    let at : inode_at held c.args.digest ≡ Some c.in-Some.inode = sym c.in_ok-inode.ensures ∙ c.in-Some.is in
+    let taken : takes_inode c.args.principal c.args.i_number c.in-Some.inode ≡ true = search rules in
+    inode_taken held c.args.principal c.args.i_number c.args.digest c.in-Some.inode at taken

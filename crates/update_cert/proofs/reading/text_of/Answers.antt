@@ -6,6 +6,7 @@ use Rattle.std.specs.Option.{option_copied, option_map_or}
 use Rattle.update_cert.specs.Spot.{size_of_block}
 use Rattle.update_cert.proofs.Joins.{joined_end}
 use Rattle.update_cert.proofs.ReadingLaws.{is_block, joined_all, joined_more, lacks_block, next_size}
+use Rattle.update_cert.proofs.TakenLaws.{all_sized, sized_next}
 use Rattle.update_cert.proofs.reading.text_of.Goals.{in_default-via-in-Some+else-bytes-size, in_default-via-in_default}
 use Rattle.update_cert.proofs.reading.text_of.Goals as goal
 
@@ -13,6 +14,7 @@ pub loop-place-init : goal.loop-place-init
 loop-place-init g c = record {
   joined = joined_end (g.B.Blocks.held c.args.blocks.now) ∙ ap (λ (text : List ℕ). Some text) (sym c.new-text.ensures.items);
   size = ap length c.new-text.ensures.items ∙ omega arith;
+  sized = λ k block lt here. absurd (omega (arith, lt));
 }
 
 pub returns-in_default-clause-missing : goal.returns-in_default-clause-missing
@@ -45,6 +47,7 @@ loop-place-preserved g c =
     let size = c.size_of_block-size.ensures ∙ ap (λ (bytes : ℕ). size_of_block bytes k) c.size.ensures in
     record {
       joined = joined_more texts n.blocks k c.block-item.result old bytes c.extend_from_slice.new.self.items inside at held c.in_ok-extend_from_slice-in-Some.ensures.items c.loop-place.invariant.joined;
+      sized = sized_next texts n k c.block-item.result bytes inside at held (c.if-bytes-size.true ∙ size) c.loop-place.invariant.sized;
       size = next_size n.size k (length bytes) (length old) (length c.extend_from_slice.new.self.items) c.loop-place.invariant.size (c.if-bytes-size.true ∙ size) (ap length c.in_ok-extend_from_slice-in-Some.ensures.items ∙ length-append old bytes);
     }
 
@@ -52,3 +55,8 @@ pub returns-clause-joined : goal.returns-clause-joined
 returns-clause-joined g c =
     let past = rw c.blocks-block-items.ensures at c.loop-place-test.false in
     joined_all (g.B.Blocks.held c.args.blocks.now) c.args.inode.now.blocks c.loop-place.place c.loop-place.text.items past c.loop-place.invariant.joined
+
+pub returns-clause-sized : goal.returns-clause-sized
+returns-clause-sized g c =
+    let past = rw c.blocks-block-items.ensures at c.loop-place-test.false in
+    all_sized (g.B.Blocks.held c.args.blocks.now) c.args.inode.now c.loop-place.place past c.loop-place.invariant.sized

@@ -33,8 +33,8 @@ returns-in-Ok-clause-acts g c = λ reads user agrees.
     let at = rw c.deref.ensures.value at c.in-Ok.ensures in
     let here : d ≡ slice_index_or c.self.inside.opened.items c.in-Ok.place d = search rules in
     let there = opened_there old i c.in-Ok.place d o at here c.link.ensures.i_number in
-    let slots = slot_edited old i c.in-Ok.place d o at here c.link.ensures.i_number in
-    rw (← c.self.view_is) (edit_acts reads user (change_at old i (Link c.args.entry.now)) old _ (linked d.entries c.args.entry.now) d.entries o.entries c.in_ok-fitted-in-Ok.fitted there c.in_ok-fitted-in-Ok.ensures.room slots (makes_linked reads d.entries c.args.entry.now) c.in_ok-fitted-in-Ok.ensures.entries)
+    let slots = slot_edited old i c.in-Ok.place d o at here c.link.ensures.i_number c.self.invariant in
+    rw (← c.self.view_is) (edit_acts reads user (change_at old i (Link c.args.entry.now)) old _ (linked d.entries c.args.entry.now) d.entries o.entries c.in_ok-fitted-in-Ok.fitted c.self.invariant there c.in_ok-fitted-in-Ok.ensures.room slots (makes_linked reads d.entries c.args.entry.now) c.in_ok-fitted-in-Ok.ensures.entries)
 
 -- no directory stands there
 pub returns-in_default-clause-acts : goal.returns-in_default-clause-acts

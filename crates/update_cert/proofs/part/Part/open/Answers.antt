@@ -15,4 +15,5 @@ pub returns-clause-slots : goal.returns-clause-slots
 returns-clause-slots g c = λ i.
     let old : Part = record { table = c.self.inside.table; opened = c.self.inside.opened.items } in
     let free = rw (← c.self.view_is) at c.requires.free in
-    rw (← c.self.view_is) (slot_with old c.insert.new.self.items c.args.directory i (c.in_ok-insert.ensures.items ∙ free.inserts c.args.directory refl))
+    let mapped = rw (← c.self.view_is) at c.requires.mapped in
+    rw (← c.self.view_is) (slot_with old c.insert.new.self.items c.args.directory i mapped (c.in_ok-insert.ensures.items ∙ free.inserts c.args.directory refl))

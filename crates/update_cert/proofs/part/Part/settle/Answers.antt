@@ -12,8 +12,8 @@ use Rattle.itable.specs.File.{blocks_of}
 use Rattle.itable.specs.Inode.{inode}
 use Rattle.itable.specs.ITable.{digest_at}
 use Rattle.directory.specs.Directory.{Entry, directory}
-use Rattle.update_cert.specs.Part.{Part, Changed}
-use Rattle.update_cert.specs.Slots.{IsReadBack, directory_inode, is_stored, settled_digest}
+use Rattle.update_cert.specs.Part.{Part, IsPart}
+use Rattle.update_cert.specs.Slots.{IsReadBack, directory_digest, directory_inode, is_stored}
 use Rattle.update_cert.proofs.SettleLaws.{read_at, read_next, settled_first, settled_next, stored_now, set_still, texts_first, texts_next, texts_laid}
 use Rattle.update_cert.proofs.part.Part.settle.Goals.{in-Some, in_default+in_ok-set-in_default+in_ok-append-in_default+in_ok-push-in_default, in_default-via-in-Some+else-eq, in_default-via-in_default}
 use Rattle.update_cert.proofs.part.Part.settle.Goals as goal
@@ -37,12 +37,12 @@ loop-open-preserved g c =
     let k = c.loop-open.open-index in
     let o = c.open-item.result in
     let d = c.digest-digest.result in
-    let up = rw opened at c.self.invariant.ascending in
+    let whole : IsPart c.args.self = subst IsPart c.self.view_is c.self.invariant in
     let inside = rw opened at (rw c.deref-open-items.ensures.value at c.loop-open-test.true) in
     let at = rw opened at (rw c.deref-open-items.ensures.value at c.open-item.is) in
     let entries : c.directory.result.now ≡ o.entries = search rules in
-    let is : d ≡ settled_digest (Changed o.entries) = c.digest-digest.ensures.hash ∙ ap hash (c.deref.ensures.value ∙ c.in_ok-inode.ensures.inode) ∙ ap (λ (es : List Entry). settled_digest (Changed es)) entries in
-    let now = stored_now first c.loop-open.table all k o d up inside at is inv.digests in
+    let is : d ≡ directory_digest o.entries = c.digest-digest.ensures.hash ∙ ap hash (c.deref.ensures.value ∙ c.in_ok-inode.ensures.inode) ∙ ap directory_digest entries in
+    let now = stored_now first c.loop-open.table all k o d whole.ascending inside at is inv.digests in
     let old = c.loop-open.table in
     let before = map vec_items c.loop-open.texts.items in
     let after = map vec_items c.match-get.texts.items in
@@ -56,7 +56,7 @@ loop-open-preserved g c =
           let has = found ∙ w.in-Some.is ∙ ap (λ (x : List ℕ). Some x) ((bytes_eq-Decides w.in-Some.stored d).0 same) in
           record {
             principal = ap (λ t. t.principal) w.table-is ∙ inv.principal;
-            digests = settled_next first old c.match-get.table all k o d up inside at is (λ i. ap (λ t. digest_at t i) w.table-is ∙ set_still old o.i_number d has i) inv.digests;
+            digests = settled_next first old c.match-get.table all k o d whole inside at is (λ i. ap (λ t. digest_at t i) w.table-is ∙ set_still old o.i_number d has i) inv.digests;
             texts = texts_next first all k o before after true inside at (told _ w.in-Some.is ∙ same) (ap (λ t. map vec_items t.items) w.texts-is ∙ sym (append-nil before)) inv.texts;
             read_back = read_back;
           }
@@ -72,7 +72,7 @@ loop-open-preserved g c =
           let text : c.in_ok-inode.inode.items ≡ inode.spell (directory_inode o.entries) = ap (λ t. t.items) (sym c.in_ok-inode.inode-is) ∙ c.in_ok-inode.ensures.inode ∙ ap (λ (es : List Entry). inode.spell (directory_inode es)) entries in
           record {
             principal = ap (λ t. t.principal) (w.table-is ∙ w.in_ok-set-in_default.ensures.ok) ∙ inv.principal;
-            digests = settled_next first old c.match-get.table all k o d up inside at is
+            digests = settled_next first old c.match-get.table all k o d whole inside at is
                 (λ i. ap (λ t. digest_at t i) w.table-is ∙ w.in_ok-set-in_default.ensures.digests i ∙ ap (λ (n : ℕ). if n == i then Some d else digest_at old i) w.i_number-in_default.ensures) inv.digests;
             texts = texts_next first all k o before after false inside at differs (texts_laid c.loop-open.texts.items c.in_ok-inode.blocks.items c.match-get.texts.items c.in_ok-inode.inode o.entries blocks text items) inv.texts;
             read_back = read_back;
@@ -80,8 +80,8 @@ loop-open-preserved g c =
     ]
 
 pub returns-clause-read_back : goal.returns-clause-read_back
-returns-clause-read_back g c = λ i entries at.
+returns-clause-read_back g c = λ i laid entries at.
     let opened = ap (λ (p : Part). p.opened) c.self.view_is in
     let past = rw opened at (rw c.deref-open-items.ensures.value at c.loop-open-test.false) in
     let all = take_all c.loop-open.open-index c.args.self.opened past in
-    read_at c.args.self i entries (subst (All (λ o. IsReadBack o.entries)) all c.loop-open.invariant.read_back) at
+    read_at c.args.self i laid entries (subst (All (λ o. IsReadBack o.entries)) all c.loop-open.invariant.read_back) at

@@ -26,8 +26,8 @@ returns-in-Ok-clause-acts g c = λ reads user agrees.
     let at = rw c.deref.ensures.value at c.in-Ok.ensures in
     let here : d ≡ slice_index_or c.self.inside.opened.items c.in-Ok.place d = search rules in
     let there = opened_there old i c.in-Ok.place d o at here c.unlink.ensures.i_number in
-    let slots = slot_edited old i c.in-Ok.place d o at here c.unlink.ensures.i_number in
-    rw (← c.self.view_is) (edit_acts reads user (change_at old i (Unlink c.args.name.now)) old _ (unlinked d.entries c.args.name.now) d.entries o.entries c.unlink.result there c.unlink.ensures.had slots (makes_unlinked reads d.entries c.args.name.now) c.unlink.ensures.entries)
+    let slots = slot_edited old i c.in-Ok.place d o at here c.unlink.ensures.i_number c.self.invariant in
+    rw (← c.self.view_is) (edit_acts reads user (change_at old i (Unlink c.args.name.now)) old _ (unlinked d.entries c.args.name.now) d.entries o.entries c.unlink.result c.self.invariant there c.unlink.ensures.had slots (makes_unlinked reads d.entries c.args.name.now) c.unlink.ensures.entries)
 
 -- no directory stands there
 pub returns-in_default-clause-acts : goal.returns-in_default-clause-acts

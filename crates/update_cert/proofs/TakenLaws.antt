@@ -1,0 +1,112 @@
+-- The blocks that were read are what their places take.
+use Rattle.std.proofs.Common.{◌≡◌, ℕ, ◌+◌, ◌<◌, ◌≤◌, Bool, true, false, List, [], ◌∷◌, ◌++◌, length, take, Option, Some, None, Result, Ok, Err, refl, sym, ap, subst, ◌∙◌, inl, inr, arith}
+use Rattle.std.specs.Prelude.{not, ◌&&◌, ◌||◌, ◌==◌, is_some, IsSome, IsSomeAnd, OnOk, nat_lt, slice_get, slice_index_or, if◌then◌else◌}
+use Rattle.std.proofs.lemmas.Bool.{cases_lt, eq-eqb}
+use Rattle.std.proofs.lemmas.Bool.Decides.{nat_tests}
+use Rattle.std.proofs.lemmas.Option.{get_or_from_slice_get, slice_get_read, slice_get_within}
+use Rattle.std.specs.Option.{option_map_or}
+use Rattle.std.specs.Result.{result_ok}
+use Rattle.layout.specs.Format.{whole}
+use Rattle.itable.specs.Inode.{Inode, inode, block_count}
+use Rattle.itable.specs.declared.inode.Kind.{Kind}
+use Rattle.itable.specs.declared.inode.Kind.TheVariants as kinds
+use Rattle.directory.specs.Directory.{Entry, directory}
+use Rattle.update_cert.specs.Blocks.{Blocks, inode_at, joined, of_size}
+use Rattle.update_cert.specs.Asked.{HasBlocks, IsBlock}
+use Rattle.update_cert.specs.Acts.{IsSized}
+use Rattle.update_cert.specs.Spot.{takes, is_of_file, completes, size_of_block, spot_of, lacks}
+use Rattle.update_cert.specs.declared.error.ApplyError.{ApplyError}
+use Rattle.update_cert.specs.declared.spot.Spot.{Spot}
+use Rattle.update_cert.proofs.ReadingLaws.{block_taken, count_is, front_and_last, joined_last, taken_by, with_last}
+
+-- ---- the first blocks, and one more
+
+abbrev pub AreSized : Blocks → Inode → ℕ → Type 0
+AreSized blocks n place = (k : ℕ) (block : List ℕ) → k < place → slice_get n.blocks k ≡ Some block → IsSized blocks n k block
+
+one_sized : (blocks : Blocks) (n : Inode) (k : ℕ) (block bytes : List ℕ) → blocks block ≡ Some bytes → length bytes ≡ size_of_block n.size k → IsSized blocks n k block
+one_sized blocks n k block bytes held size = rw held (eq-eqb (length bytes) (size_of_block n.size k) size)
+
+pub sized_next : (blocks : Blocks) (n : Inode) (place : ℕ) (d bytes : List ℕ) → place < length n.blocks → d ≡ slice_index_or n.blocks place d → blocks d ≡ Some bytes → length bytes ≡ size_of_block n.size place → AreSized blocks n place → AreSized blocks n (place + 1)
+sized_next blocks n place d bytes inside at held size before k block lt here =
+    elim (cases_lt k place) [
+      | inl earlier ↦ before k block earlier here
+      | inr late ↦ (
+          let same : k ≡ place = omega arith in
+          let there : slice_get n.blocks place ≡ Some d = slice_get_read n.blocks (length n.blocks) place d refl inside at in
+          let is : d ≡ block = let both : Some d ≡ Some block = sym there ∙ sym (ap (slice_get n.blocks) same) ∙ here in cc in
+          subst (λ (j : ℕ). IsSized blocks n j block) (sym same) (subst (IsSized blocks n place) is (one_sized blocks n place d bytes held size)))
+    ]
+
+pub all_sized : (blocks : Blocks) (n : Inode) (place : ℕ) → length n.blocks ≤ place → AreSized blocks n place → (k : ℕ) (block : List ℕ) → slice_get n.blocks k ≡ Some block → IsSized blocks n k block
+all_sized blocks n place past sized k block here = sized k block (let inside = slice_get_within n.blocks k block here in omega (arith, inside)) here
+
+-- ---- what their places take
+
+-- what is held under a digest is taken, if anything is and what is would be
+is_taken : (blocks : Blocks) (s : Spot) (held : Option (List ℕ)) → IsSome held → ((bytes : List ℕ) → held ≡ Some bytes → takes blocks s bytes ≡ true) → not (option_map_or (takes blocks s) held false) ≡ false
+is_taken blocks s None some taken = absurd cc
+is_taken blocks s (Some bytes) some taken = ap not (taken bytes refl)
+
+some_sized : (held : Option (List ℕ)) (size : ℕ) → option_map_or (λ bytes. length bytes == size) held false ≡ true → IsSome held
+some_sized None size is = absurd cc
+some_sized (Some bytes) size is = refl
+
+abbrev IsBlockTaken : Blocks → Inode → ℕ → Kind → List ℕ → Type 0
+IsBlockTaken blocks n k kind block = (bytes : List ℕ) → blocks block ≡ Some bytes → block_taken blocks n k kind bytes ≡ true
+
+-- where each block is taken, none is missing
+has_blocks : (blocks : Blocks) (digest : List ℕ) (n : Inode) (kind : Kind) → inode_at blocks digest ≡ Some n → ((k : ℕ) (block : List ℕ) → slice_get n.blocks k ≡ Some block → IsSized blocks n k block)
+    → ((k : ℕ) (block : List ℕ) → slice_get n.blocks k ≡ Some block → IsBlockTaken blocks n k kind block) → HasBlocks blocks kind digest
+has_blocks blocks digest n kind at sized taken block s (k, is, of) =
+    let told = subst (λ (o : Option Inode). IsSomeAnd o (λ m. (m.kind ≡ kind) × (slice_get m.blocks k ≡ Some block) × IsSome (joined blocks (take k m.blocks)))) at of in
+    let here : slice_get n.blocks k ≡ Some block = told.1 in
+    subst (λ (x : Spot). lacks blocks block x ≡ false) (sym is)
+    (is_taken blocks (spot_of kind digest k) (blocks block) (some_sized (blocks block) (size_of_block n.size k) (sized k block here)) (λ bytes held. taken_by blocks digest n k kind bytes at ∙ taken k block here bytes held))
+
+size_told : (blocks : Blocks) (n : Inode) (k : ℕ) (block bytes : List ℕ) → IsSized blocks n k block → blocks block ≡ Some bytes → (length bytes == size_of_block n.size k) ≡ true
+size_told blocks n k block bytes sized held = sym (ap (λ (o : Option (List ℕ)). option_map_or (λ text. length text == size_of_block n.size k) o false) held) ∙ sized
+
+counted : (n : Inode) (k : ℕ) (block : List ℕ) → inode.Fits n → slice_get n.blocks k ≡ Some block → nat_lt k (block_count n.size) ≡ true
+counted n k block fits here =
+    let inside = slice_get_within n.blocks k block here in
+    let count = count_is n fits in
+    let lt : k < block_count n.size = omega (arith, inside, count) in
+    grind (arith, nat_tests)
+
+file_taken : (blocks : Blocks) (digest : List ℕ) (n : Inode) → inode.Fits n → inode_at blocks digest ≡ Some n → n.kind ≡ kinds.File → ((k : ℕ) (block : List ℕ) → slice_get n.blocks k ≡ Some block → IsSized blocks n k block) → HasBlocks blocks kinds.File digest
+file_taken blocks digest n fits at of_file sized =
+    has_blocks blocks digest n kinds.File at sized (λ k block here bytes held. rw (of_file, counted n k block fits here, size_told blocks n k block bytes (sized k block here) held) refl)
+
+-- of what was read, if it was
+pub file_read_taken : {X : Type 0} (blocks : Blocks) (digest : List ℕ) (n : Inode) (r : Result X ApplyError) → inode.Fits n → inode_at blocks digest ≡ Some n → n.kind ≡ kinds.File → OnOk r ((k : ℕ) (block : List ℕ) → slice_get n.blocks k ≡ Some block → IsSized blocks n k block) → OnOk r (HasBlocks blocks kinds.File digest)
+file_read_taken blocks digest n (Ok x) fits at of_file sized = file_taken blocks digest n fits at of_file sized
+file_read_taken blocks digest n (Err e) fits at of_file sized = tt
+
+completed : (before : Option (List ℕ)) (bytes text : List ℕ) (size : ℕ) (es : List Entry) → with_last before (Some bytes) ≡ Some text → length text ≡ size → result_ok (whole directory text) ≡ Some es → option_map_or (λ front. is_some (of_size size (front ++ bytes))) before false ≡ true
+completed None bytes text size es all long read = absurd cc
+completed (Some front) bytes text size es all long read =
+    let same : text ≡ front ++ bytes = cc in
+    subst (λ (t : List ℕ). is_some (of_size size t) ≡ true) same (rw (eq-eqb (length text) size long) (ap is_some read))
+
+-- the last block, or one before it
+completes_it : (blocks : Blocks) (n : Inode) (k : ℕ) (block bytes text : List ℕ) (es : List Entry) → inode.Fits n → slice_get n.blocks k ≡ Some block → blocks block ≡ Some bytes → joined blocks n.blocks ≡ Some text → length text ≡ n.size → result_ok (whole directory text) ≡ Some es
+    → (nat_lt (k + 1) (block_count n.size) || completes blocks n k bytes) ≡ true
+completes_it blocks n k block bytes text es fits here held all long read =
+    elim (cases_lt (k + 1) (block_count n.size)) [
+      | inl earlier ↦ (let more : nat_lt (k + 1) (block_count n.size) ≡ true = grind (arith, nat_tests) in rw more refl)
+      | inr late ↦ (
+          let inside = slice_get_within n.blocks k block here in
+          let count = count_is n fits in
+          let last : k + 1 ≡ length n.blocks = omega (arith, inside, count) in
+          let front = sym (joined_last blocks (take k n.blocks) block) ∙ sym (ap (joined blocks) (front_and_last n.blocks k block last (sym (get_or_from_slice_get n.blocks k block block here)))) ∙ all in
+          let split : with_last (joined blocks (take k n.blocks)) (Some bytes) ≡ Some text = ap (with_last (joined blocks (take k n.blocks))) (sym held) ∙ front in
+          let no_more : nat_lt (k + 1) (block_count n.size) ≡ false = grind (arith, nat_tests) in
+          rw no_more (completed (joined blocks (take k n.blocks)) bytes text n.size es split long read))
+    ]
+
+pub directory_taken : (blocks : Blocks) (digest text : List ℕ) (n : Inode) (es : List Entry) → inode.Fits n → inode_at blocks digest ≡ Some n → n.kind ≡ kinds.Directory → ((k : ℕ) (block : List ℕ) → slice_get n.blocks k ≡ Some block → IsSized blocks n k block)
+    → joined blocks n.blocks ≡ Some text → length text ≡ n.size → result_ok (whole directory text) ≡ Some es → HasBlocks blocks kinds.Directory digest
+directory_taken blocks digest text n es fits at of_directory sized all long read =
+    has_blocks blocks digest n kinds.Directory at sized
+    (λ k block here bytes held. rw (of_directory, counted n k block fits here, size_told blocks n k block bytes (sized k block here) held, completes_it blocks n k block bytes text es fits here held all long read) refl)
