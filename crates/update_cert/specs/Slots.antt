@@ -52,6 +52,7 @@ directory_inode entries = inode_over kind.Directory (directory.spell entries)
 abbrev pub directory_digest : List Entry → List ℕ
 directory_digest entries = hash (inode.spell (directory_inode entries))
 
+-- the digest that an i-table has of a slot
 abbrev pub settled_digest : Slot → List ℕ
 settled_digest (Laid digest) = digest
 settled_digest (Changed digest entries) = directory_digest entries
