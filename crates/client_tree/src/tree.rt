@@ -1,9 +1,9 @@
 //! The tree of an accepted view, while one user acts alone.
 
-ghost use Rattle.std.specs.Prelude.{◌≡◌, ◌++◌, ℕ, List, [], IfOk, IfErr, OnOk, map, if◌then◌else◌};
+ghost use Rattle.std.specs.Prelude.{◌≡◌, ◌++◌, ℕ, List, [], None, IfOk, IfErr, IsOk, OnOk, map, if◌then◌else◌};
 ghost use Rattle.std.specs.Str.{bytes_eq};
 ghost use Rattle.std.specs.Vec.{vec_items};
-ghost use Rattle.itable.specs.ITable.{IsTable, handle_of, new_texts};
+ghost use Rattle.itable.specs.ITable.{IsTable, digest_at, handle_of, new_texts};
 ghost use Rattle.update_cert.specs.World.{Content};
 ghost use Rattle.update_cert.specs.Blocks.{Agrees};
 ghost use Rattle.client_tree.specs.Tree.{HasLooked, IsOutcome, LacksReached, LacksLooked, tree_of};
@@ -132,6 +132,8 @@ impl<A: Allocator + Copy> Tree<A> {
         // Each block of it is what its place takes.
         ensures taken { OnOk result (HasLooked (B.held blocks.now) self.now.table principal i_number) }
         ensures missing { IfErr result (LacksLooked (B.held blocks.now) self.now.table principal i_number) }
+        // Where nothing stands it takes no memory.
+        ensures nothing { (principal ≡ self.now.table.principal → digest_at self.now.table i_number ≡ None) → IsOk result }
     {
         if principal != self.table.principal() {
             return Ok(Seen::Nothing);

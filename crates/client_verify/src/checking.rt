@@ -1,6 +1,6 @@
 //! Whether a block that was handed in is the one that was asked for.
 
-ghost use Rattle.std.specs.Prelude.{◌≡◌, IfOk, MatchResult, Some, None};
+ghost use Rattle.std.specs.Prelude.{◌≡◌, IfOk, IsOk, MatchResult, Some, None};
 ghost use Rattle.std.specs.Option.{option_copied};
 ghost use Rattle.layout.specs.Hash.{hash};
 ghost use Rattle.client_verify.specs.State.{block_breaks};
@@ -21,6 +21,8 @@ pub(crate) fn check<'a, A: Allocator + Copy, B: Blocks>(
     ensures kept { IfOk result (λ checked. IfOk checked (λ text. option_copied block.entry ≡ Some text.now)) }
     ensures hashed { IfOk result (λ checked. IfOk checked (λ text. asked.digest ≡ hash text.now)) }
     ensures breaks { IfOk result (λ checked. MatchResult checked (λ text. block_breaks (B.held blocks.now) asked (option_copied block.entry) ≡ None) (λ rule. block_breaks (B.held blocks.now) asked (option_copied block.entry) ≡ Some rule)) }
+    // A block that is absent or has another digest is told without memory.
+    ensures told { block_breaks (B.held blocks.now) asked (option_copied block.entry) ≡ Some Rule.Block → IsOk result }
 {
     match block {
         Some(text) if digest(text) == asked.digest => {

@@ -1,6 +1,6 @@
 //! The client.
 
-ghost use Rattle.std.specs.Prelude.{◌≡◌, ◌≢◌, ◌+◌, ◌<◌, ◌≤◌, Some, IfOk, IfErr, IsErrOf, IfSome, OnOk, OnErr, IsSome, IsSomeAnd, IsTrue, ◌↔◌, true, length, map};
+ghost use Rattle.std.specs.Prelude.{◌≡◌, ◌≢◌, ◌+◌, ◌<◌, ◌≤◌, Some, IfOk, IfErr, IsErrOf, IfSome, IsOk, OnOk, OnErr, IsSome, IsSomeAnd, IsTrue, ◌↔◌, true, length, map};
 ghost use Rattle.std.specs.Option.{option_copied};
 ghost use Rattle.std.specs.Vec.{vec_items};
 ghost use Rattle.principals.specs.Table.{genesis};
@@ -26,6 +26,7 @@ use layout::{Digest, INumber, Memory, Principal, Text, User, Version};
 use lms_sign::{LEAF_COUNT, PrivateKey, PublicKey};
 use pending_list::{Signed, digest_of_last};
 use principals::Table;
+use reply_rules::Rule;
 use std::alloc::Allocator;
 use std::marker::Model;
 use update_cert::{Cert, Change};
@@ -242,7 +243,7 @@ fn told<A: Allocator>(seen: Seen<A>) -> Look<A>
 
 impl<A: Allocator + Copy> Client<A> {
     ghost use Rattle.client_tree.specs.Held.{held};
-    ghost use Rattle.client_verify.specs.State.{declared, committed, next_cert, sent, signed_over, last_handle};
+    ghost use Rattle.client_verify.specs.State.{block_breaks, declared, committed, next_cert, sent, signed_over, last_handle};
     ghost use Rattle.client_verify.specs.Judged.{Goes, Judged, Handed};
     ghost use Rattle.client_verify.specs.Grown.{IsGrown, IsSight};
     ghost use Rattle.client_verify.specs.Looked.{Looked, Given};
@@ -369,6 +370,8 @@ impl<A: Allocator + Copy> Client<A> {
     pub fn on_block(&mut self, block: Option<&[u8]>) -> Result<Step<A>, ClientError>
         requires { IsSome self.old.checked }
         ensures handed { IfSome self.old.checked (λ k. IfOk result (λ step. Handed self.old k (option_copied block.entry) step self.new)) }
+        // A block that is absent or has another digest is told without memory.
+        ensures told { IfSome self.old.checked (λ k. block_breaks (held self.old.blocks) k.asked (option_copied block.entry) ≡ Some Rule.Block → IsOk result) }
         ensures only_memory { IfErr result (λ e. e ≡ ClientError.Memory) }
         ensures err { OnErr result (self.new ≡ self.old) }
     {
@@ -491,6 +494,8 @@ impl<A: Allocator + Copy> Client<A> {
     pub fn give(&mut self, block: Option<&[u8]>) -> Result<Look<A>, ClientError>
         requires { IsSomeAnd self.old.view (λ v. IsSome v.looking) }
         ensures given { IfSome self.old.view (λ v. IfSome v.looking (λ l. IfOk result (λ look. Given self.old v l (option_copied block.entry) look self.new))) }
+        // A block that is absent or has another digest is told without memory.
+        ensures told { IfSome self.old.view (λ v. IfSome v.looking (λ l. block_breaks (held self.old.blocks) l.asked (option_copied block.entry) ≡ Some Rule.Block → IsOk result)) }
         ensures only_memory { IfErr result (λ e. e ≡ ClientError.Memory) }
         ensures err { OnErr result (self.new ≡ self.old) }
     {

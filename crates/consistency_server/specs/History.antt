@@ -2,6 +2,7 @@
 use Rattle.std.specs.Prelude.{◌≡◌, ◌⊎◌, ℕ, List, [], ◌∷◌, ◌++◌}
 use Rattle.wire.specs.declared.kinds.Status.{Status}
 use Rattle.wire.specs.declared.kinds.Status.TheVariants as status
+use Rattle.consistency_server.specs.declared.call.CallKind.{CallKind}
 use Rattle.consistency_server.specs.declared.call.CallKind.TheVariants.{Update, Commit}
 use Rattle.consistency_server.specs.Event.{Event}
 use Rattle.consistency_server.specs.Answers.{Call, Answer, Outcome, outcome_of, answer, happened}
@@ -11,11 +12,14 @@ pub record Ordered : Type 0 where
   pub pinned : List ℕ
   pub history : List Call
 
+abbrev pub call_of : CallKind → List ℕ → Call
+call_of kind text = record { kind = kind; text = text }
+
 abbrev pub update_of : List ℕ → Call
-update_of text = record { kind = Update; text = text }
+update_of text = call_of Update text
 
 abbrev pub commit_of : List ℕ → Call
-commit_of text = record { kind = Commit; text = text }
+commit_of text = call_of Commit text
 
 -- what the calls placed and committed, under the key of user 0
 unfoldable pub events : List ℕ → List Call → List Event

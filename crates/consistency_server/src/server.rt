@@ -71,7 +71,7 @@ impl<A: Allocator> Model for Ordered<A> {
 
 /// What is done for a call once it is judged: room is made for it, it goes to the log if it happens, and then what is
 /// kept changes, which can't fail.
-fn settle<A: Allocator + Copy, G: Log<Call<A>>>(
+fn carry_out<A: Allocator + Copy, G: Log<Call<A>>>(
     state: &mut State<A>,
     history: &mut Vec<Call<A>, A>,
     log: &mut G,
@@ -119,7 +119,7 @@ impl Refusal {
 }
 
 impl<A: Allocator + Copy> Ordered<A> {
-    ghost use Rattle.consistency_server.specs.History.{update_of, commit_of, answer_of, logged, IsServed, IsTurnedAway};
+    ghost use Rattle.consistency_server.specs.History.{call_of, update_of, commit_of, answer_of, logged, IsServed, IsTurnedAway};
     ghost use Rattle.wire.specs.declared.kinds.Status.TheVariants as status;
 
     /// Before the first call. `pinned` is the key that every client knows, user 0's.
@@ -155,40 +155,7 @@ impl<A: Allocator + Copy> Ordered<A> {
         ensures same { IsTurnedAway result.status → self.new ≡ self.old }
         ensures log_same { IsTurnedAway result.status → G.pushed log.new ≡ G.pushed log.old }
     {
-        let alloc = *self.history.allocator();
-        match self.try_update(log, text) {
-            Ok(answer) => answer,
-            Err(refusal) => Answer::bare(alloc, refusal.status()),
-        }
-    }
-
-    fn try_update<G: Log<Call<A>>>(
-        &mut self,
-        log: &mut G,
-        text: &[u8],
-    ) -> Result<Answer<A>, Refusal>
-        ensures answer { IfOk result
-            (λ answer. answer ≡ answer_of self.old.pinned self.old.history (update_of text.now)) }
-        ensures history { OnOk result
-            (self.new ≡ record self.old { history = update_of text.now ∷ self.old.history }) }
-        ensures log { OnOk result
-            (G.pushed log.new ≡ G.pushed log.old ++ logged self.old (update_of text.now)) }
-        ensures served { IfOk result (λ answer. IsServed answer.status) }
-        ensures same { OnErr result (self.new ≡ self.old) }
-        ensures log_same { OnErr result (G.pushed log.new ≡ G.pushed log.old) }
-        ensures busy { result ≡ Err Refusal.Busy → IsTrue (G.is_full log.old) }
-        ensures busy_event { result ≡ Err Refusal.Busy → logged self.old (update_of text.now) ≢ [] }
-    {
-        let alloc = *self.history.allocator();
-        let judged = self.state.judge_update(alloc, &self.pinned, text)?;
-        settle(
-            &mut self.state,
-            &mut self.history,
-            log,
-            CallKind::Update,
-            text,
-            judged,
-        )
+        self.answer(log, CallKind::Update, text)
     }
 
     /// Answers a COMMIT, whose text is a signed structure.
@@ -206,37 +173,56 @@ impl<A: Allocator + Copy> Ordered<A> {
         ensures same { IsTurnedAway result.status → self.new ≡ self.old }
         ensures log_same { IsTurnedAway result.status → G.pushed log.new ≡ G.pushed log.old }
     {
+        self.answer(log, CallKind::Commit, text)
+    }
+
+    /// Answers a call.
+    fn answer<G: Log<Call<A>>>(&mut self, log: &mut G, kind: CallKind, text: &[u8]) -> Answer<A>
+        ensures answer { IsServed result.status
+            → result ≡ answer_of self.old.pinned self.old.history (call_of kind text.now) }
+        ensures history { IsServed result.status
+            → self.new ≡ record self.old { history = call_of kind text.now ∷ self.old.history } }
+        ensures log { IsServed result.status
+            → G.pushed log.new ≡ G.pushed log.old ++ logged self.old (call_of kind text.now) }
+        ensures busy { result.status ≡ status.Busy → IsTrue (G.is_full log.old) }
+        ensures busy_event { result.status ≡ status.Busy → logged self.old (call_of kind text.now) ≢ [] }
+        ensures bare { IsTurnedAway result.status → result.payload ≡ [] }
+        ensures same { IsTurnedAway result.status → self.new ≡ self.old }
+        ensures log_same { IsTurnedAway result.status → G.pushed log.new ≡ G.pushed log.old }
+    {
         let alloc = *self.history.allocator();
-        match self.try_commit(log, text) {
+        match self.serve(log, kind, text) {
             Ok(answer) => answer,
             Err(refusal) => Answer::bare(alloc, refusal.status()),
         }
     }
 
-    fn try_commit<G: Log<Call<A>>>(
+    /// Serves a call, unless the log is full or memory runs out.
+    fn serve<G: Log<Call<A>>>(
         &mut self,
         log: &mut G,
+        kind: CallKind,
         text: &[u8],
     ) -> Result<Answer<A>, Refusal>
         ensures answer { IfOk result
-            (λ answer. answer ≡ answer_of self.old.pinned self.old.history (commit_of text.now)) }
+            (λ answer. answer ≡ answer_of self.old.pinned self.old.history (call_of kind text.now)) }
         ensures history { OnOk result
-            (self.new ≡ record self.old { history = commit_of text.now ∷ self.old.history }) }
+            (self.new ≡ record self.old { history = call_of kind text.now ∷ self.old.history }) }
         ensures log { OnOk result
-            (G.pushed log.new ≡ G.pushed log.old ++ logged self.old (commit_of text.now)) }
+            (G.pushed log.new ≡ G.pushed log.old ++ logged self.old (call_of kind text.now)) }
         ensures served { IfOk result (λ answer. IsServed answer.status) }
         ensures same { OnErr result (self.new ≡ self.old) }
         ensures log_same { OnErr result (G.pushed log.new ≡ G.pushed log.old) }
         ensures busy { result ≡ Err Refusal.Busy → IsTrue (G.is_full log.old) }
-        ensures busy_event { result ≡ Err Refusal.Busy → logged self.old (commit_of text.now) ≢ [] }
+        ensures busy_event { result ≡ Err Refusal.Busy → logged self.old (call_of kind text.now) ≢ [] }
     {
         let alloc = *self.history.allocator();
-        let judged = self.state.judge_commit(alloc, &self.pinned, text)?;
-        settle(
+        let judged = self.state.judge(alloc, &self.pinned, kind, text)?;
+        carry_out(
             &mut self.state,
             &mut self.history,
             log,
-            CallKind::Commit,
+            kind,
             text,
             judged,
         )

@@ -14,10 +14,12 @@ ghost use Rattle.pending_list.specs.Reply.{digest_of_last, reply};
 ghost use Rattle.wire.specs.declared.kinds.Status.TheVariants as status;
 ghost use Rattle.consistency_server.specs.Reading.{FoundIs};
 ghost use Rattle.consistency_server.specs.Event.{Event, Placed};
-ghost use Rattle.consistency_server.specs.Answers.{Refused, Repeated, Happens, read_update, read_commit};
+ghost use Rattle.consistency_server.specs.Answers.{Refused, Repeated, Happens, outcome_of, read_update, read_commit};
+ghost use Rattle.consistency_server.specs.History.{call_of};
 ghost use Rattle.consistency_server.specs.State.{Keeps};
 ghost use Rattle.consistency_server.specs.Steps.{is_next_by, next_item, next_reply, placing_beside, placing_by, committing_by};
 
+use crate::call::CallKind;
 use layout::{Digest, Memory, ReadError, Text, digest};
 use lms_sign::{PublicKey, verify};
 use pending_list::{PendingItem, Reply, Signed};
@@ -256,8 +258,25 @@ impl<A: Allocator + Copy> State<A> {
         }
     }
 
+    /// What a call leads to.
+    #[tactic(auto, unfolding(crate::specs::Answers::outcome_of))]
+    pub(crate) fn judge(
+        &self,
+        alloc: A,
+        pinned: &PublicKey,
+        kind: CallKind,
+        text: &[u8],
+    ) -> Result<Judged<A>, Memory>
+        ensures { (es : List Event) → Keeps es self.now → IfOk result (λ judged. JudgedAs self.now judged (outcome_of pinned.now es (call_of kind text.now))) }
+    {
+        match kind {
+            CallKind::Update => self.judge_update(alloc, pinned, text),
+            CallKind::Commit => self.judge_commit(alloc, pinned, text),
+        }
+    }
+
     /// What an UPDATE leads to.
-    pub(crate) fn judge_update(
+    fn judge_update(
         &self,
         alloc: A,
         pinned: &PublicKey,
@@ -360,7 +379,7 @@ impl<A: Allocator + Copy> State<A> {
     }
 
     /// What a COMMIT leads to.
-    pub(crate) fn judge_commit(
+    fn judge_commit(
         &self,
         alloc: A,
         pinned: &PublicKey,

@@ -1,6 +1,6 @@
 //! Laying out what a script's operation names: its changes, and the texts to be stored before it is declared.
 
-use crate::task::{Deed, Task};
+use crate::task::{Task, TaskAction};
 use client_tree::Held;
 use directory::Directory;
 use itable::{Inode, Laid, LayError, lay_file};
@@ -55,19 +55,19 @@ fn empty_directory<A: Allocator + Copy>(alloc: A) -> Result<Digest, Memory> {
     Ok(digest(&text))
 }
 
-/// What a deed of a script is as a change's action.
+/// What a action of a script is as a change's action.
 fn action_of<A: Allocator + Copy>(
     alloc: A,
     laid: &mut Vec<Vec<u8, A>, A>,
-    deed: Deed<A>,
+    action: TaskAction<A>,
 ) -> Result<Action<A>, Memory> {
-    match deed {
-        Deed::Make(bytes) => Ok(Action::Make(lay(alloc, laid, &bytes)?)),
-        Deed::MakeDirectory => Ok(Action::Make(empty_directory(alloc)?)),
-        Deed::Put(bytes) => Ok(Action::Put(lay(alloc, laid, &bytes)?)),
-        Deed::Remove => Ok(Action::Remove),
-        Deed::Link(entry) => Ok(Action::Link(entry)),
-        Deed::Unlink(name) => Ok(Action::Unlink(name)),
+    match action {
+        TaskAction::Make(bytes) => Ok(Action::Make(lay(alloc, laid, &bytes)?)),
+        TaskAction::MakeDirectory => Ok(Action::Make(empty_directory(alloc)?)),
+        TaskAction::Put(bytes) => Ok(Action::Put(lay(alloc, laid, &bytes)?)),
+        TaskAction::Remove => Ok(Action::Remove),
+        TaskAction::Link(entry) => Ok(Action::Link(entry)),
+        TaskAction::Unlink(name) => Ok(Action::Unlink(name)),
     }
 }
 
@@ -82,9 +82,9 @@ pub(crate) fn work_of<A: Allocator + Copy>(
         let Task {
             principal,
             i_number,
-            deed,
+            action,
         } = task;
-        let action = action_of(alloc, &mut laid, deed)?;
+        let action = action_of(alloc, &mut laid, action)?;
         changes.push(Change::new(principal, i_number, action))?;
     }
     Ok(Work { changes, laid })

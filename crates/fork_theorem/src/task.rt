@@ -10,7 +10,7 @@ use std::str::Split;
 
 /// What is done at an i-number.
 #[derive(Drop)]
-pub(crate) enum Deed<A: Allocator> {
+pub(crate) enum TaskAction<A: Allocator> {
     /// `make P I file TEXT`.
     Make(Vec<u8, A>),
     /// `make P I dir`.
@@ -30,7 +30,7 @@ pub(crate) enum Deed<A: Allocator> {
 pub(crate) struct Task<A: Allocator> {
     pub(crate) principal: Principal,
     pub(crate) i_number: INumber,
-    pub(crate) deed: Deed<A>,
+    pub(crate) action: TaskAction<A>,
 }
 
 /// The next word.
@@ -55,10 +55,10 @@ fn target(words: &mut Split<'_, char>) -> Result<Target, Unread> {
 }
 
 /// What is made: a file or the empty directory.
-fn made<A: Allocator>(alloc: A, words: &mut Split<'_, char>) -> Result<Deed<A>, Unread> {
+fn made<A: Allocator>(alloc: A, words: &mut Split<'_, char>) -> Result<TaskAction<A>, Unread> {
     match next(words)? {
-        "file" => Ok(Deed::Make(bytes_of(alloc, next(words)?)?)),
-        "dir" => Ok(Deed::MakeDirectory),
+        "file" => Ok(TaskAction::Make(bytes_of(alloc, next(words)?)?)),
+        "dir" => Ok(TaskAction::MakeDirectory),
         _ => Err(Unread::NoCommand),
     }
 }
@@ -90,12 +90,12 @@ fn task_of<A: Allocator>(alloc: A, text: &str) -> Result<Task<A>, Unread> {
         principal,
         i_number,
     } = target(&mut words)?;
-    let deed = match verb {
+    let action = match verb {
         "make" => made(alloc, &mut words)?,
-        "put" => Deed::Put(bytes_of(alloc, next(&mut words)?)?),
-        "remove" => Deed::Remove,
-        "link" => Deed::Link(entry(alloc, &mut words)?),
-        "unlink" => Deed::Unlink(name(alloc, &mut words)?),
+        "put" => TaskAction::Put(bytes_of(alloc, next(&mut words)?)?),
+        "remove" => TaskAction::Remove,
+        "link" => TaskAction::Link(entry(alloc, &mut words)?),
+        "unlink" => TaskAction::Unlink(name(alloc, &mut words)?),
         _ => return Err(Unread::NoCommand),
     };
     match words.next() {
@@ -103,7 +103,7 @@ fn task_of<A: Allocator>(alloc: A, text: &str) -> Result<Task<A>, Unread> {
         None => Ok(Task {
             principal,
             i_number,
-            deed,
+            action,
         }),
     }
 }
