@@ -8,7 +8,7 @@ use std::alloc::Allocator;
 use std::rt::Clock;
 use std::time::Instant;
 
-/// The least time of so many rounds counts.
+/// The least of so many rounds counts, each in compressions of its own round.
 const ROUNDS: u32 = 20;
 
 /// The texts of chunks 1 to 63 have 2,182 bytes, that of chunk 0 has 2,148, and that of the root 2,118.
@@ -37,14 +37,14 @@ impl Round {
 }
 
 /// Sets each i-number, the greatest first, so that each set shifts all that are there.
-fn fill<A: Allocator>(clock: &impl Clock, table: &mut ITable<A>) -> Result<Time> {
+fn fill<A: Allocator>(clock: &impl Clock, table: &mut ITable<A>, unit: f64) -> Result<Time> {
     let start = Instant::now(clock)?;
     for number in 1..4096 {
         if let Some(i_number) = INumber::new(4096 - number) {
             table.set(i_number, Digest::from_bytes([(number % 256) as u8; 32]))?;
         }
     }
-    Ok(Time::new(start.elapsed(clock)?, 0))
+    Ok(Time::new(start.elapsed(clock)?, 0, unit))
 }
 
 /// The handle where no chunk's digest is known, and after one i-number was set.
@@ -52,24 +52,26 @@ fn handles<A: Allocator + Copy>(
     clock: &impl Clock,
     alloc: A,
     table: &mut ITable<A>,
+    unit: f64,
 ) -> Result<(Time, Time)> {
     let start = Instant::now(clock)?;
     let first = table.handle(alloc)?;
-    let whole = Time::new(start.elapsed(clock)?, WHOLE);
+    let whole = Time::new(start.elapsed(clock)?, WHOLE, unit);
     if let Some(i_number) = INumber::new(2000) {
         table.set(i_number, first)?;
     }
     let start = Instant::now(clock)?;
     table.handle(alloc)?;
-    let again = Time::new(start.elapsed(clock)?, CHUNK + ROOT);
+    let again = Time::new(start.elapsed(clock)?, CHUNK + ROOT, unit);
     Ok((whole, again))
 }
 
 fn measure(rt: &HostRuntime) -> Result<Round> {
+    let (unit, _digest) = compress(rt)?;
     let alloc = rt.alloc();
     let mut table = ITable::empty(alloc, Principal::from(User::superuser()));
-    let fill = fill(rt, &mut table)?;
-    let (handle, again) = handles(rt, alloc, &mut table)?;
+    let fill = fill(rt, &mut table, unit)?;
+    let (handle, again) = handles(rt, alloc, &mut table, unit)?;
     Ok(Round {
         fill,
         handle,
@@ -79,12 +81,11 @@ fn measure(rt: &HostRuntime) -> Result<Round> {
 
 /// Measures, and prints the least times of all rounds.
 pub(crate) fn report(rt: &HostRuntime) -> Result<()> {
-    let (compression, _digest) = compress(rt)?;
     let mut least = measure(rt)?;
     for _round in 1..ROUNDS {
         least = least.least(measure(rt)?);
     }
-    share(rt, "4095 sets", least.fill, compression)?;
-    share(rt, "handle", least.handle, compression)?;
-    share(rt, "handle after one set", least.again, compression)
+    share(rt, "4095 sets", least.fill)?;
+    share(rt, "handle", least.handle)?;
+    share(rt, "handle after one set", least.again)
 }

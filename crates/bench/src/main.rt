@@ -1,11 +1,12 @@
 //! How long things take, for people: `bench lms` keys, signatures and verifications, `bench itable` an i-table of 4,095
-//! digests, `bench directory` a directory of 1,024 entries. With no word it does nothing.
+//! digests, `bench directory` a directory of 1,024 entries, `bench look` looks at files. With no word it does nothing.
 #![tactic(auto)]
 
 mod counts;
 mod directories;
 mod i_tables;
 mod lms;
+mod looks;
 mod time;
 
 use anyhow::Result;
@@ -17,6 +18,7 @@ fn report(rt: &HostRuntime, word: &str) -> Result<()> {
         "lms" => lms::report(rt),
         "itable" => i_tables::report(rt),
         "directory" => directories::report(rt),
+        "look" => looks::report(rt),
         _ => Ok(()),
     }
 }
