@@ -147,14 +147,14 @@ impl<'a> Reader<'a> {
     }
 
     /// What is left.
-    pub(crate) fn left(&self) -> &'a [u8]
+    pub fn left(&self) -> &'a [u8]
         ensures { result.now ≡ self.now }
     {
         self.left
     }
 
     /// Goes back to where this was left.
-    pub(crate) fn go_back(&mut self, left: &'a [u8])
+    pub fn go_back(&mut self, left: &'a [u8])
         ensures { self.new ≡ left.now }
     {
         self.left = left;

@@ -9,7 +9,7 @@ use crate::reader::Reader;
 use crate::writer::Writer;
 use std::alloc::Allocator;
 
-/// A text of the protocol.
+/// A text of the protocol, or a part of one that has a spelling of its own.
 pub trait Text<A: Allocator + Copy>: Sized + Drop {
     ghost use Rattle.layout.specs.Format.{Format};
     ghost use Rattle.layout.specs.Laws.{Lawful};

@@ -84,7 +84,7 @@ impl<A: Allocator + Copy> RowFormat<A> for StructureRows {
 
     ghost format = { λ _. structure_rows };
 
-    fn read_row(
+    fn read_fields(
         &self,
         alloc: A,
         reader: &mut Reader<'_>,
@@ -95,7 +95,7 @@ impl<A: Allocator + Copy> RowFormat<A> for StructureRows {
         Ok(Signed { value, signature })
     }
 
-    fn write_row(&self, writer: &mut Writer<A>, row: &Signed<Structure<A>>) -> Result<(), Memory> {
+    fn write_fields(&self, writer: &mut Writer<A>, row: &Signed<Structure<A>>) -> Result<(), Memory> {
         let _plan = row.value.plan();
         write_nested(*writer.allocator(), writer, &row.value)?;
         writer.bytes(row.signature.as_bytes())
@@ -111,7 +111,7 @@ impl<A: Allocator + Copy> RowFormat<A> for PendingRows {
 
     ghost format = { λ _. pending_rows };
 
-    fn read_row(
+    fn read_fields(
         &self,
         alloc: A,
         reader: &mut Reader<'_>,
@@ -123,7 +123,7 @@ impl<A: Allocator + Copy> RowFormat<A> for PendingRows {
         Ok(PendingItem::new(Signed { value, signature }, plan))
     }
 
-    fn write_row(&self, writer: &mut Writer<A>, row: &PendingItem<A>) -> Result<(), Memory> {
+    fn write_fields(&self, writer: &mut Writer<A>, row: &PendingItem<A>) -> Result<(), Memory> {
         let alloc = *writer.allocator();
         write_nested(alloc, writer, row.cert())?;
         writer.bytes(row.signature().as_bytes())?;
@@ -153,7 +153,7 @@ impl<A: Allocator + Copy> Text<A> for Reply<A> {
 
     ghost format = { reply };
 
-    fn read_from(alloc: A, reader: &mut Reader<'_>) -> Result<Reply<A>, ReadError> {
+    fn read_fields(alloc: A, reader: &mut Reader<'_>) -> Result<Reply<A>, ReadError> {
         reader.tag(b"SRL1")?;
         let count = reader.u8_in(0, 64)?;
         let structures = read_rows(alloc, reader, &StructureRows, usize::from(count))?;
@@ -165,7 +165,7 @@ impl<A: Allocator + Copy> Text<A> for Reply<A> {
         })
     }
 
-    fn write_to(&self, writer: &mut Writer<A>) -> Result<(), Memory> {
+    fn write_fields(&self, writer: &mut Writer<A>) -> Result<(), Memory> {
         write_lists(writer, &self.structures, &self.pending)
     }
 

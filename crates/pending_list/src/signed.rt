@@ -67,13 +67,13 @@ impl<A: Allocator + Copy, T: Text<A>> Text<A> for Signed<T> {
 
     ghost format = { signed T.format };
 
-    fn read_from(alloc: A, reader: &mut Reader<'_>) -> Result<Signed<T>, ReadError> {
+    fn read_fields(alloc: A, reader: &mut Reader<'_>) -> Result<Signed<T>, ReadError> {
         let value = T::read_from(alloc, reader)?;
         let signature = Signature::read_from(reader)?;
         Ok(Signed { value, signature })
     }
 
-    fn write_to(&self, writer: &mut Writer<A>) -> Result<(), Memory> {
+    fn write_fields(&self, writer: &mut Writer<A>) -> Result<(), Memory> {
         self.value.write_to(writer)?;
         writer.bytes(self.signature.as_bytes())
     }

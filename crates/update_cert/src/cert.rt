@@ -37,7 +37,7 @@ impl<A: Allocator + Copy> Text<A> for Cert<A> {
 
     ghost format = { cert };
 
-    fn read_from(alloc: A, reader: &mut Reader<'_>) -> Result<Cert<A>, ReadError> {
+    fn read_fields(alloc: A, reader: &mut Reader<'_>) -> Result<Cert<A>, ReadError> {
         reader.tag(b"SUC1")?;
         let user = reader.user()?;
         let number = reader.version()?;
@@ -52,7 +52,7 @@ impl<A: Allocator + Copy> Text<A> for Cert<A> {
         })
     }
 
-    fn write_to(&self, writer: &mut Writer<A>) -> Result<(), Memory> {
+    fn write_fields(&self, writer: &mut Writer<A>) -> Result<(), Memory> {
         writer.tag(b"SUC1")?;
         writer.user(self.user)?;
         writer.version(self.number)?;

@@ -120,7 +120,7 @@ impl<A: Allocator + Copy> RowFormat<A> for Changes {
 
     ghost format = { λ _. change_rows };
 
-    fn read_row(
+    fn read_fields(
         &self,
         alloc: A,
         reader: &mut Reader<'_>,
@@ -133,7 +133,7 @@ impl<A: Allocator + Copy> RowFormat<A> for Changes {
         Ok(Change::new(principal, i_number, action))
     }
 
-    fn write_row(&self, writer: &mut Writer<A>, row: &Change<A>) -> Result<(), Memory> {
+    fn write_fields(&self, writer: &mut Writer<A>, row: &Change<A>) -> Result<(), Memory> {
         writer.u8(row.action.kind())?;
         writer.principal(row.principal)?;
         writer.i_number(row.i_number)?;

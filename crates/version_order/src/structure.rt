@@ -33,7 +33,7 @@ impl<A: Allocator + Copy> RowFormat<A> for GroupRecordRows {
 
     ghost format = { λ _. group_record };
 
-    fn read_row(
+    fn read_fields(
         &self,
         _alloc: A,
         reader: &mut Reader<'_>,
@@ -54,7 +54,7 @@ impl<A: Allocator + Copy> RowFormat<A> for GroupRecordRows {
         })
     }
 
-    fn write_row(&self, writer: &mut Writer<A>, row: &GroupRecord) -> Result<(), Memory> {
+    fn write_fields(&self, writer: &mut Writer<A>, row: &GroupRecord) -> Result<(), Memory> {
         writer.group(row.group)?;
         writer.version(row.version)?;
         writer.u32(row.table)?;
@@ -86,13 +86,13 @@ impl<A: Allocator + Copy> Text<A> for GroupRecords<A> {
 
     ghost format = { group_records };
 
-    fn read_from(alloc: A, reader: &mut Reader<'_>) -> Result<GroupRecords<A>, ReadError> {
+    fn read_fields(alloc: A, reader: &mut Reader<'_>) -> Result<GroupRecords<A>, ReadError> {
         let count = reader.u8_in(0, u8::MAX)?;
         let records = read_rows(alloc, reader, &GroupRecordRows, usize::from(count))?;
         Ok(GroupRecords { records })
     }
 
-    fn write_to(&self, writer: &mut Writer<A>) -> Result<(), Memory> {
+    fn write_fields(&self, writer: &mut Writer<A>) -> Result<(), Memory> {
         writer.u8(self.records.len() as u8)?;
         write_rows(writer, &GroupRecordRows, &self.records)
     }
@@ -193,7 +193,7 @@ impl<A: Allocator + Copy> Text<A> for Structure<A> {
 
     ghost format = { structure };
 
-    fn read_from(alloc: A, reader: &mut Reader<'_>) -> Result<Structure<A>, ReadError> {
+    fn read_fields(alloc: A, reader: &mut Reader<'_>) -> Result<Structure<A>, ReadError> {
         reader.tag(b"SVS1")?;
         let plan = read_nested(alloc, reader)?;
         let handle = reader.digest()?;
@@ -201,7 +201,7 @@ impl<A: Allocator + Copy> Text<A> for Structure<A> {
         Ok(Structure::new(plan, handle, groups))
     }
 
-    fn write_to(&self, writer: &mut Writer<A>) -> Result<(), Memory> {
+    fn write_fields(&self, writer: &mut Writer<A>) -> Result<(), Memory> {
         writer.tag(b"SVS1")?;
         write_nested(*writer.allocator(), writer, &self.plan)?;
         writer.digest(&self.handle)?;

@@ -29,7 +29,7 @@ impl<A: Allocator + Copy> RowFormat<A> for Components {
 
     ghost format = { λ _. component };
 
-    fn read_row(
+    fn read_fields(
         &self,
         _alloc: A,
         reader: &mut Reader<'_>,
@@ -43,7 +43,7 @@ impl<A: Allocator + Copy> RowFormat<A> for Components {
         Ok(Component { principal, version })
     }
 
-    fn write_row(&self, writer: &mut Writer<A>, row: &Component) -> Result<(), Memory> {
+    fn write_fields(&self, writer: &mut Writer<A>, row: &Component) -> Result<(), Memory> {
         writer.principal(row.principal)?;
         writer.version(row.version)
     }
@@ -73,13 +73,13 @@ impl<A: Allocator + Copy> Text<A> for Vector<A> {
 
     ghost format = { vector };
 
-    fn read_from(alloc: A, reader: &mut Reader<'_>) -> Result<Vector<A>, ReadError> {
+    fn read_fields(alloc: A, reader: &mut Reader<'_>) -> Result<Vector<A>, ReadError> {
         let count = reader.u8_in(0, u8::MAX)?;
         let components = read_rows(alloc, reader, &Components, usize::from(count))?;
         Ok(Vector { components })
     }
 
-    fn write_to(&self, writer: &mut Writer<A>) -> Result<(), Memory> {
+    fn write_fields(&self, writer: &mut Writer<A>) -> Result<(), Memory> {
         writer.u8(self.components.len() as u8)?;
         write_rows(writer, &Components, &self.components)
     }

@@ -1,6 +1,6 @@
 use Rattle.std.proofs.Common.{◌≡◌, Ok, rules}
 use Rattle.itable.specs.Chunk.{chunk, lawful_chunk}
-use Rattle.itable.proofs.chunk.ChunkText.read_from.Goals as goal
+use Rattle.itable.proofs.chunk.ChunkText.read_fields.Goals as goal
 
 pub invariant_of-result : goal.invariant_of-result
 invariant_of-result g c =

@@ -1,6 +1,6 @@
 use Rattle.std.proofs.Common.{◌≡◌, Ok, rules}
 use Rattle.version_order.specs.Structure.{group_records, lawful_group_records}
-use Rattle.version_order.proofs.structure.GroupRecordsText.read_from.Goals as goal
+use Rattle.version_order.proofs.structure.GroupRecordsText.read_fields.Goals as goal
 
 pub invariant_of-result : goal.invariant_of-result
 invariant_of-result g c =

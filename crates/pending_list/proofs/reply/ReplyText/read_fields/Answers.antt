@@ -1,6 +1,6 @@
 use Rattle.std.proofs.Common.{◌≡◌, Ok, rules}
 use Rattle.pending_list.specs.Reply.{reply, lawful_reply}
-use Rattle.pending_list.proofs.reply.ReplyText.read_from.Goals as goal
+use Rattle.pending_list.proofs.reply.ReplyText.read_fields.Goals as goal
 
 pub invariant_of-result : goal.invariant_of-result
 invariant_of-result g c =

@@ -1,6 +1,6 @@
 use Rattle.std.proofs.Common.{◌≡◌, Ok, rules}
 use Rattle.itable.specs.Inode.{inode, lawful_inode}
-use Rattle.itable.proofs.inode.InodeText.read_from.Goals as goal
+use Rattle.itable.proofs.inode.InodeText.read_fields.Goals as goal
 
 pub invariant_of-result : goal.invariant_of-result
 invariant_of-result g c =

@@ -1,6 +1,6 @@
 use Rattle.std.proofs.Common.{◌≡◌, Ok, rules}
 use Rattle.update_cert.specs.Cert.{cert, lawful_cert}
-use Rattle.update_cert.proofs.cert.CertText.read_from.Goals as goal
+use Rattle.update_cert.proofs.cert.CertText.read_fields.Goals as goal
 
 pub invariant_of-result : goal.invariant_of-result
 invariant_of-result g c =
