@@ -1,8 +1,8 @@
 //! Replies to updates.
 
-ghost use Rattle.std.specs.Prelude.{◌≡◌, ◌≤◌, OnOk, IfOk, vec_len, length};
+ghost use Rattle.std.specs.Prelude.{◌≡◌, ◌≤◌, OnErr, OnOk, IfOk, vec_len, length};
 ghost use Rattle.std.specs.List.{All};
-ghost use Rattle.layout.specs.Format.{Reads};
+ghost use Rattle.layout.specs.Format.{BeginsWith, Reads};
 ghost use Rattle.pending_list.specs.Reply.{reply, structure_rows, pending_rows, signed_structure, pending_item};
 
 use crate::signed::{Signature, Signed};
@@ -247,7 +247,8 @@ fn write_lists<A: Allocator + Copy>(
 ) -> Result<(), Memory>
     requires few_structures { length structures.now ≤ 64 }
     requires few_pending { length pending.now ≤ 64 }
-    ensures { OnOk result (writer.new ≡ reply.onto writer.old (record { structures = structures.now; pending = pending.now })) }
+    ensures ok { OnOk result (writer.new ≡ reply.onto writer.old (record { structures = structures.now; pending = pending.now })) }
+    ensures front { OnErr result (BeginsWith writer.new writer.old) }
 {
     writer.tag(b"SRL1")?;
     writer.u8(structures.len() as u8)?;
