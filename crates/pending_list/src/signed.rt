@@ -9,9 +9,12 @@ use layout::{Memory, ReadError, Reader, Text, Writer, are_bytes};
 use std::alloc::Allocator;
 use std::marker::Model;
 
+/// How many bytes a signature has.
+pub const SIGNATURE_SIZE: usize = 2508;
+
 /// A signature of LMS (RFC 8554 section 5.4): 2,508 bytes.
 #[derive(Clone, Copy, PartialEq, Eq)]
-pub struct Signature([u8; 2508]);
+pub struct Signature([u8; SIGNATURE_SIZE]);
 
 impl Model for Signature {
     ghost use Rattle.std.specs.Prelude.{ℕ, List};

@@ -6,12 +6,18 @@ ghost use Rattle.layout.specs.Format.{Reads};
 ghost use Rattle.update_cert.specs.Change.{change};
 ghost use Rattle.update_cert.specs.Cert.{cert, digest_of};
 
-use crate::change::{Change, Changes};
+use crate::change::{CHANGE_SIZE, Change, Changes};
 use layout::{
     Digest, Memory, ReadError, Reader, Text, User, Version, Writer, digest, read_rows, write_rows,
 };
 use std::alloc::Allocator;
 use std::marker::Model;
+
+/// How many changes a certificate has at most.
+pub const MOST_CHANGES: usize = 16;
+
+/// How many bytes the text of a certificate has at most: the tag, the user, the number, the digest, and the changes.
+pub const CERT_SIZE: usize = 4 + 1 + 4 + 32 + (1 + MOST_CHANGES * CHANGE_SIZE);
 
 /// What a user signs to have an operation placed: at most 16 changes, behind the user's last structure.
 #[derive(Drop)]

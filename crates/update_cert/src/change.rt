@@ -10,6 +10,9 @@ use layout::{Digest, INumber, Memory, Principal, ReadError, Reader, RowFormat, T
 use std::alloc::Allocator;
 use std::marker::Model;
 
+/// How many bytes a change has at most in a text: its kind, its place, and an entry with a name of 255 bytes.
+pub const CHANGE_SIZE: usize = 1 + (1 + 2) + (1 + 255 + (1 + 2));
+
 /// What is done at an i-number.
 #[derive(Drop)]
 pub enum Action<A: Allocator> {

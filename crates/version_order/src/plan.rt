@@ -13,6 +13,10 @@ use layout::{
 use std::alloc::Allocator;
 use std::marker::Model;
 
+/// How many bytes the text of a plan has at most: the tag, the user, the number, the digest, a component for each of 96
+/// principals and an entry for each of 64 users.
+pub const PLAN_SIZE: usize = 4 + 1 + 4 + 32 + (1 + 96 * (1 + 4)) + (1 + 64 * (1 + 4 + 32));
+
 /// An operation that was pending when another was placed.
 #[derive(Clone, Copy, Debug, PartialEq, Eq)]
 pub struct Entry {

@@ -5,13 +5,17 @@ ghost use Rattle.std.specs.Option.{option_copied};
 ghost use Rattle.layout.specs.Format.{Reads};
 ghost use Rattle.version_order.specs.Structure.{group_record};
 
-use crate::plan::Plan;
+use crate::plan::{PLAN_SIZE, Plan};
 use layout::{
     Digest, Group, Memory, ReadError, Reader, RowFormat, Text, Version, Writer, digest,
     read_nested, read_rows, write_nested, write_rows,
 };
 use std::alloc::Allocator;
 use std::marker::Model;
+
+/// How many bytes the text of a structure has at most: the tag, the plan behind its size, the handle, and a record for
+/// each of 32 groups.
+pub const STRUCTURE_SIZE: usize = 4 + (2 + PLAN_SIZE) + 32 + (1 + 32 * (1 + 4 + 4 + 32));
 
 /// The state of a group that a user wrote.
 #[derive(Clone, Copy, Debug, PartialEq, Eq)]
