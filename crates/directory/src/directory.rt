@@ -38,14 +38,14 @@ impl<A: Allocator + Copy> Text<A> for Directory<A> {
 
     ghost format = { directory };
 
-    fn read_from(alloc: A, reader: &mut Reader<'_>) -> Result<Directory<A>, ReadError> {
+    fn read_fields(alloc: A, reader: &mut Reader<'_>) -> Result<Directory<A>, ReadError> {
         reader.tag(b"SDI1")?;
         let count = reader.u16_in(0, 1024)?;
         let entries = read_rows(alloc, reader, &Entries, usize::from(count))?;
         Ok(Directory { entries })
     }
 
-    fn write_to(&self, writer: &mut Writer<A>) -> Result<(), Memory> {
+    fn write_fields(&self, writer: &mut Writer<A>) -> Result<(), Memory> {
         writer.tag(b"SDI1")?;
         writer.u16(self.entries.len() as u16)?;
         write_rows(writer, &Entries, &self.entries)

@@ -8,8 +8,8 @@ ghost use Rattle.directory.specs.Name.{is_name};
 ghost use Rattle.directory.specs.Directory.{by_bytes, name_of, named, target as target_format};
 
 use crate::name::{Name, read_name};
-use crate::target::{Target, read_target, write_target};
-use layout::{Memory, ReadError, Reader, RowFormat, Writer, are_bytes};
+use crate::target::{Target, read_target};
+use layout::{Memory, ReadError, Reader, RowFormat, Text, Writer, are_bytes};
 use std::alloc::{AllocError, Allocator};
 use std::marker::Model;
 
@@ -62,24 +62,23 @@ impl<A: Allocator> Entry<A> {
     }
 }
 
-impl<A: Allocator + Copy> Entry<A> {
-    /// A name and its target, in what is left of a text.
-    pub fn read_from(alloc: A, reader: &mut Reader<'_>) -> Result<Entry<A>, ReadError>
-        ensures reads { Reads result reader.new (named.read reader.old) }
-        ensures bytes { IsBytes reader.old }
-    {
+impl<A: Allocator + Copy> Text<A> for Entry<A> {
+    ghost use Rattle.directory.specs.Directory.{named, lawful_named};
+
+    ghost format = { named };
+
+    fn read_fields(alloc: A, reader: &mut Reader<'_>) -> Result<Entry<A>, ReadError> {
         let name = read_name(reader)?;
         let target = read_target(reader)?;
         Ok(Entry::new(alloc, name, target)?)
     }
 
-    /// Writes both at the end of a text.
-    pub fn write_to(&self, writer: &mut Writer<A>) -> Result<(), Memory>
-        ensures { OnOk result (writer.new ≡ named.onto writer.old self.now) }
-    {
+    fn write_fields(&self, writer: &mut Writer<A>) -> Result<(), Memory> {
         self.name.write_to(writer)?;
-        write_target(writer, self.target)
+        self.target.write_to(writer)
     }
+
+    ghost lawful = { lawful_named };
 }
 
 fn is_above<A: Allocator>(before: Option<&Entry<A>>, name: &[u8]) -> bool
@@ -102,7 +101,7 @@ impl<A: Allocator + Copy> RowFormat<A> for Entries {
 
     ghost format = { λ _. entry };
 
-    fn read_row(
+    fn read_fields(
         &self,
         alloc: A,
         reader: &mut Reader<'_>,
@@ -116,7 +115,7 @@ impl<A: Allocator + Copy> RowFormat<A> for Entries {
         Ok(Entry::new(alloc, text, target)?)
     }
 
-    fn write_row(&self, writer: &mut Writer<A>, entry: &Entry<A>) -> Result<(), Memory> {
+    fn write_fields(&self, writer: &mut Writer<A>, entry: &Entry<A>) -> Result<(), Memory> {
         entry.write_to(writer)
     }
 }

@@ -1,10 +1,11 @@
 //! The names of a directory's entries.
 
-ghost use Rattle.std.specs.Prelude.{◌≡◌, true, false, IfOk, OnOk, MatchOption};
+ghost use Rattle.layout.specs.declared.error.ReadError.TheVariants as read_error;
+ghost use Rattle.std.specs.Prelude.{◌≡◌, ◌≢◌, true, false, IfOk, IfErr, OnErr, MatchOption};
 ghost use Rattle.layout.specs.Format.{IsBytes, ReadsAs};
 ghost use Rattle.directory.specs.Name.{has_length, has_separator, is_dots, is_allowed, is_name, name};
 
-use layout::{Memory, ReadError, Reader, Writer, are_bytes};
+use layout::{Memory, ReadError, Reader, Text, Writer, are_bytes};
 use std::alloc::{AllocError, Allocator};
 use std::marker::Model;
 
@@ -61,15 +62,53 @@ pub fn name_text(bytes: &[u8]) -> Option<&str>
     }
 }
 
-/// A name behind its length, in what is left of a text.
-pub fn read_name<'a>(reader: &mut Reader<'a>) -> Result<&'a str, ReadError>
+/// A length, and as many bytes that are a name.
+fn read_parts<'a>(reader: &mut Reader<'a>) -> Result<&'a str, ReadError>
     ensures reads { ReadsAs (λ text. text.now) result reader.new (name.read reader.old) }
     ensures name { IfOk result (λ text. is_name text.now ≡ true) }
     ensures bytes { IsBytes reader.old }
+    ensures no_memory { IfErr result (λ e. e ≢ read_error.Memory) }
 {
     let length = reader.u8_in(0, u8::MAX)?;
     let bytes = reader.bytes(usize::from(length))?;
     name_text(bytes).ok_or(ReadError::Range)
+}
+
+/// A name behind its length, in what is left of a text. It takes no memory. After a refusal the reader stands where it
+/// stood.
+pub fn read_name<'a>(reader: &mut Reader<'a>) -> Result<&'a str, ReadError>
+    ensures reads { ReadsAs (λ text. text.now) result reader.new (name.read reader.old) }
+    ensures name { IfOk result (λ text. is_name text.now ≡ true) }
+    ensures bytes { IsBytes reader.old }
+    ensures no_memory { IfErr result (λ e. e ≢ read_error.Memory) }
+    ensures err { OnErr result (reader.new ≡ reader.old) }
+{
+    let start = reader.left();
+    let found = read_parts(reader);
+    if found.is_err() {
+        reader.go_back(start);
+    }
+    found
+}
+
+impl<A: Allocator + Copy> Text<A> for Name<A> {
+    ghost use Rattle.directory.specs.Name.{name, lawful_name};
+
+    ghost format = { name };
+
+    fn read_fields(alloc: A, reader: &mut Reader<'_>) -> Result<Name<A>, ReadError> {
+        let text = read_name(reader)?;
+        Ok(Name::new(alloc, text)?)
+    }
+
+    #[tactic(auto, using(crate::proofs::Names::length_name))]
+    fn write_fields(&self, writer: &mut Writer<A>) -> Result<(), Memory> {
+        let bytes = self.as_bytes();
+        writer.u8(bytes.len() as u8)?;
+        writer.bytes(bytes)
+    }
+
+    ghost lawful = { lawful_name };
 }
 
 impl<A: Allocator> Name<A> {
@@ -100,15 +139,5 @@ impl<A: Allocator> Name<A> {
         ensures name { is_name self.now ≡ true }
     {
         self.text.as_str()
-    }
-
-    /// Writes it behind its length.
-    #[tactic(auto, using(crate::proofs::Names::length_name))]
-    pub fn write_to<B: Allocator>(&self, writer: &mut Writer<B>) -> Result<(), Memory>
-        ensures { OnOk result (writer.new ≡ name.onto writer.old self.now) }
-    {
-        let bytes = self.as_bytes();
-        writer.u8(bytes.len() as u8)?;
-        writer.bytes(bytes)
     }
 }

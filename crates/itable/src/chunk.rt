@@ -1,9 +1,10 @@
 //! Chunks of an i-table.
 
-ghost use Rattle.std.specs.Prelude.{◌≡◌, ◌<◌, ◌≤◌, ◌++◌, ◌/◌, Option, Ok, OnOk, IfOk, MatchOption, length};
+ghost use Rattle.layout.specs.declared.error.ReadError.TheVariants as read_error;
+ghost use Rattle.std.specs.Prelude.{◌≡◌, ◌≢◌, ◌<◌, ◌≤◌, ◌++◌, ◌/◌, Option, Ok, OnOk, OnErr, IfOk, IfErr, MatchOption, length};
 ghost use Rattle.std.specs.Int.{w8};
 ghost use Rattle.std.specs.Option.{option_copied};
-ghost use Rattle.layout.specs.Format.{Reads, Gives, IsBytes, uint_in, whole};
+ghost use Rattle.layout.specs.Format.{BeginsWith, Reads, Gives, IsBytes, uint_in, whole};
 ghost use Rattle.itable.specs.Chunk.{Chunk as PlainChunk, chunk as chunk_format, chunk_number, pair_row};
 
 use layout::{
@@ -70,6 +71,8 @@ impl ChunkNumber {
 pub(crate) fn read_number(reader: &mut Reader<'_>) -> Result<ChunkNumber, ReadError>
     ensures reads { Reads result reader.new ((uint_in w8 0 63).read reader.old) }
     ensures bytes { IsBytes reader.old }
+    ensures no_memory { IfErr result (λ e. e ≢ read_error.Memory) }
+    ensures err { OnErr result (reader.new ≡ reader.old) }
 {
     let number = reader.u8_in(0, 63)?;
     Ok(ChunkNumber(number))
@@ -93,7 +96,7 @@ impl<A: Allocator + Copy> RowFormat<A> for PairRows {
 
     ghost format = { λ rows. pair_row rows.number };
 
-    fn read_row(
+    fn read_fields(
         &self,
         _alloc: A,
         reader: &mut Reader<'_>,
@@ -110,7 +113,7 @@ impl<A: Allocator + Copy> RowFormat<A> for PairRows {
         Ok(Pair { i_number, digest })
     }
 
-    fn write_row(&self, writer: &mut Writer<A>, row: &Pair) -> Result<(), Memory> {
+    fn write_fields(&self, writer: &mut Writer<A>, row: &Pair) -> Result<(), Memory> {
         writer.i_number(row.i_number)?;
         writer.digest(&row.digest)
     }
@@ -140,7 +143,8 @@ pub(crate) fn write_chunk<A: Allocator + Copy>(
     pairs: &[Pair],
 ) -> Result<(), Memory>
     requires { length pairs.now < 256 }
-    ensures { OnOk result (writer.new ≡ chunk_format.onto writer.old (record { number = number; pairs = pairs.now })) }
+    ensures ok { OnOk result (writer.new ≡ chunk_format.onto writer.old (record { number = number; pairs = pairs.now })) }
+    ensures front { OnErr result (BeginsWith writer.new writer.old) }
 {
     writer.tag(b"STC1")?;
     writer.u8(number.get())?;
@@ -153,7 +157,7 @@ impl<A: Allocator + Copy> Text<A> for Chunk<A> {
 
     ghost format = { chunk };
 
-    fn read_from(alloc: A, reader: &mut Reader<'_>) -> Result<Chunk<A>, ReadError> {
+    fn read_fields(alloc: A, reader: &mut Reader<'_>) -> Result<Chunk<A>, ReadError> {
         reader.tag(b"STC1")?;
         let number = read_number(reader)?;
         let count = reader.u8_in(1, 64)?;
@@ -161,7 +165,7 @@ impl<A: Allocator + Copy> Text<A> for Chunk<A> {
         Ok(Chunk { number, pairs })
     }
 
-    fn write_to(&self, writer: &mut Writer<A>) -> Result<(), Memory> {
+    fn write_fields(&self, writer: &mut Writer<A>) -> Result<(), Memory> {
         write_chunk(writer, self.number, &self.pairs)
     }
 

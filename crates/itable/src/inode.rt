@@ -1,6 +1,7 @@
 //! I-nodes.
 
-ghost use Rattle.std.specs.Prelude.{◌≡◌, ◌≤◌, ◌++◌, Option, OnOk, IfOk, length};
+ghost use Rattle.layout.specs.declared.error.ReadError.TheVariants as read_error;
+ghost use Rattle.std.specs.Prelude.{◌≡◌, ◌≢◌, ◌≤◌, ◌++◌, Option, OnErr, IfOk, IfErr, length};
 ghost use Rattle.std.specs.Int.{w8, w16, w32};
 ghost use Rattle.std.specs.Option.{option_copied};
 ghost use Rattle.layout.specs.Format.{Reads, IsBytes, be, raw};
@@ -44,6 +45,8 @@ impl Kind {
 fn read_kind(reader: &mut Reader<'_>) -> Result<Kind, ReadError>
     ensures reads { Reads result reader.new (kind_format.read reader.old) }
     ensures bytes { IsBytes reader.old }
+    ensures no_memory { IfErr result (λ e. e ≢ read_error.Memory) }
+    ensures err { OnErr result (reader.new ≡ reader.old) }
 {
     let number = reader.u8_in(1, 2)?;
     if number == 1 {
@@ -57,6 +60,8 @@ fn read_kind(reader: &mut Reader<'_>) -> Result<Kind, ReadError>
 fn read_size(reader: &mut Reader<'_>, kind: Kind) -> Result<u32, ReadError>
     ensures reads { Reads result reader.new ((size_format kind).read reader.old) }
     ensures bytes { IsBytes reader.old }
+    ensures no_memory { IfErr result (λ e. e ≢ read_error.Memory) }
+    ensures err { OnErr result (reader.new ≡ reader.old) }
 {
     match kind {
         Kind::File => reader.u32_in(0, FILE_SIZE),
@@ -73,7 +78,7 @@ impl<A: Allocator + Copy> RowFormat<A> for Digests {
 
     ghost format = { λ _ _. raw 32 };
 
-    fn read_row(
+    fn read_fields(
         &self,
         _alloc: A,
         reader: &mut Reader<'_>,
@@ -82,7 +87,7 @@ impl<A: Allocator + Copy> RowFormat<A> for Digests {
         reader.digest()
     }
 
-    fn write_row(&self, writer: &mut Writer<A>, row: &Digest) -> Result<(), Memory> {
+    fn write_fields(&self, writer: &mut Writer<A>, row: &Digest) -> Result<(), Memory> {
         writer.digest(row)
     }
 }
@@ -110,7 +115,7 @@ impl<A: Allocator + Copy> Text<A> for Inode<A> {
 
     ghost format = { inode };
 
-    fn read_from(alloc: A, reader: &mut Reader<'_>) -> Result<Inode<A>, ReadError> {
+    fn read_fields(alloc: A, reader: &mut Reader<'_>) -> Result<Inode<A>, ReadError> {
         reader.tag(b"SIN1")?;
         let kind = read_kind(reader)?;
         let size = read_size(reader, kind)?;
@@ -120,7 +125,7 @@ impl<A: Allocator + Copy> Text<A> for Inode<A> {
         Ok(Inode { kind, size, blocks })
     }
 
-    fn write_to(&self, writer: &mut Writer<A>) -> Result<(), Memory> {
+    fn write_fields(&self, writer: &mut Writer<A>) -> Result<(), Memory> {
         writer.tag(b"SIN1")?;
         writer.u8(self.kind.number())?;
         writer.u32(self.size)?;

@@ -1,8 +1,8 @@
 //! Roots of i-tables.
 
-ghost use Rattle.std.specs.Prelude.{◌≡◌, ◌≤◌, ◌<◌, ◌++◌, Option, Ok, OnOk, IfOk, length};
+ghost use Rattle.std.specs.Prelude.{◌≡◌, ◌≤◌, ◌<◌, ◌++◌, Option, Ok, OnOk, OnErr, IfOk, length};
 ghost use Rattle.std.specs.Option.{option_copied};
-ghost use Rattle.layout.specs.Format.{Reads, Gives, whole};
+ghost use Rattle.layout.specs.Format.{BeginsWith, Reads, Gives, whole};
 ghost use Rattle.itable.specs.Root.{Root as PlainRoot, root as root_format, chunk_row};
 
 use crate::chunk::{ChunkNumber, read_number};
@@ -29,7 +29,7 @@ impl<A: Allocator + Copy> RowFormat<A> for ChunkRows {
 
     ghost format = { λ _. chunk_row };
 
-    fn read_row(
+    fn read_fields(
         &self,
         _alloc: A,
         reader: &mut Reader<'_>,
@@ -43,7 +43,7 @@ impl<A: Allocator + Copy> RowFormat<A> for ChunkRows {
         Ok(ListedChunk { number, digest })
     }
 
-    fn write_row(&self, writer: &mut Writer<A>, row: &ListedChunk) -> Result<(), Memory> {
+    fn write_fields(&self, writer: &mut Writer<A>, row: &ListedChunk) -> Result<(), Memory> {
         writer.u8(row.number.get())?;
         writer.digest(&row.digest)
     }
@@ -73,7 +73,8 @@ pub(crate) fn write_root<A: Allocator + Copy>(
     chunks: &[ListedChunk],
 ) -> Result<(), Memory>
     requires { length chunks.now < 256 }
-    ensures { OnOk result (writer.new ≡ root_format.onto writer.old (record { principal = principal; chunks = chunks.now })) }
+    ensures ok { OnOk result (writer.new ≡ root_format.onto writer.old (record { principal = principal; chunks = chunks.now })) }
+    ensures front { OnErr result (BeginsWith writer.new writer.old) }
 {
     writer.tag(b"STR1")?;
     writer.principal(principal)?;
@@ -86,7 +87,7 @@ impl<A: Allocator + Copy> Text<A> for Root<A> {
 
     ghost format = { root };
 
-    fn read_from(alloc: A, reader: &mut Reader<'_>) -> Result<Root<A>, ReadError> {
+    fn read_fields(alloc: A, reader: &mut Reader<'_>) -> Result<Root<A>, ReadError> {
         reader.tag(b"STR1")?;
         let principal = reader.principal()?;
         let count = reader.u8_in(0, 64)?;
@@ -94,7 +95,7 @@ impl<A: Allocator + Copy> Text<A> for Root<A> {
         Ok(Root { principal, chunks })
     }
 
-    fn write_to(&self, writer: &mut Writer<A>) -> Result<(), Memory> {
+    fn write_fields(&self, writer: &mut Writer<A>) -> Result<(), Memory> {
         write_root(writer, self.principal, &self.chunks)
     }
 

@@ -37,6 +37,10 @@ ReadsAs view (Err e) left read = Fails e read
 abbrev pub Reads : {X : Type 0} → Result X ReadError → List ℕ → Answer X → Type 0
 Reads r left read = ReadsAs (λ x. x) r left read
 
+-- the text begins with these bytes
+abbrev pub BeginsWith : List ℕ → List ℕ → Type 0
+BeginsWith text front = take (length front) text ≡ front
+
 abbrev pub IsBytes : List ℕ → Type 0
 IsBytes bytes = (i : ℕ) → slice_index bytes i < 256
 

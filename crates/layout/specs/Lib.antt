@@ -1,6 +1,7 @@
 pub mod Ascending
 pub mod AscendingLaws
 pub mod Format
+pub mod Fronts
 pub mod Hash
 pub mod HashLaws
 pub mod Hasher

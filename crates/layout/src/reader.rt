@@ -146,6 +146,20 @@ impl<'a> Reader<'a> {
         }
     }
 
+    /// What is left.
+    pub fn left(&self) -> &'a [u8]
+        ensures { result.now ≡ self.now }
+    {
+        self.left
+    }
+
+    /// Goes back to where this was left.
+    pub fn go_back(&mut self, left: &'a [u8])
+        ensures { self.new ≡ left.now }
+    {
+        self.left = left;
+    }
+
     /// Whether nothing is left.
     pub fn is_empty(&self) -> bool
         ensures { result ≡ ends self.now }

@@ -1,6 +1,6 @@
 //! Writing fields at the end of a text.
 
-ghost use Rattle.std.specs.Prelude.{◌≡◌, ◌++◌, [], OnOk, OnErr, IfOk};
+ghost use Rattle.std.specs.Prelude.{◌≡◌, ◌++◌, [], length, take, OnOk, OnErr};
 ghost use Rattle.layout.specs.Format.{be};
 ghost use Rattle.std.specs.Int.{w8, w16, w32};
 
@@ -72,6 +72,20 @@ impl<A: Allocator> Writer<A> {
     {
         self.text.extend_from_slice(tag)?;
         Ok(())
+    }
+
+    /// How many bytes it holds.
+    pub(crate) fn len(&self) -> usize
+        ensures { result ≡ length self.now }
+    {
+        self.text.len()
+    }
+
+    /// Lets go of all but the first bytes.
+    pub(crate) fn truncate(&mut self, count: usize)
+        ensures { self.new ≡ take count self.old }
+    {
+        self.text.truncate(count);
     }
 
     /// The allocator that the text lies in.

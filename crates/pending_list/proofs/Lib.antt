@@ -1,1 +1,1 @@
-pub mod Deepest
+pub mod Highest

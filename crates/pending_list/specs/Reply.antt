@@ -1,19 +1,20 @@
 -- Replies: `SRL1`, the latest signed structure of each user, and the pending operations in their order.
 -- The bytes stand in docs/FORMATS.md.
 use Rattle.std.proofs.Common.{◌≤◌, arith, refl}
-use Rattle.std.specs.Prelude.{ℕ, Bool, List, [], ◌∷◌, length, Option, Some, None, nat_lt, codes, replicate, if◌then◌else◌}
+use Rattle.std.specs.Prelude.{ℕ, ◌==◌, Bool, ◌&&◌, ◌||◌, List, [], ◌∷◌, length, Option, Some, None, nat_lt, codes, replicate, if◌then◌else◌}
 use Rattle.std.specs.Int.{w8, w16}
 use Rattle.std.specs.List.{All}
 use Rattle.std.specs.Option.{option_map_or}
 use Rattle.layout.specs.Format.{Format, Rows, uint_in, pair, behind, mapped, listed, nested}
 use Rattle.layout.specs.Laws.{Lawful, laws, lawful_mapped, wide8, wide16, listed_fits, rows_fit}
-use Rattle.layout.specs.Sizes.{AtMost, at_most_listed, at_most_behind, at_most_mapped, at_most_pair, at_most_nested, at_most_more, nested_fits}
+use Rattle.layout.specs.Sizes.{AtMost, at_most_listed, at_most_behind, at_most_mapped, at_most_pair, at_most_nested, nested_fits}
 use Rattle.layout.specs.Ranges.{size}
 use Rattle.version_order.specs.declared.vector.Component.{Component}
 use Rattle.version_order.specs.Vector.{depth}
 use Rattle.version_order.specs.Plan.{Plan, plan, lawful_plan, at_most_plan}
 use Rattle.version_order.specs.Structure.{Structure, structure, digest_of, lawful_structure, at_most_structure}
 use Rattle.update_cert.specs.Cert.{Cert, cert, lawful_cert, at_most_cert}
+use Rattle.pending_list.specs.declared.reply.TheConstants.{REPLY_SIZE}
 use Rattle.pending_list.specs.declared.signed.Signed.{Signed}
 use Rattle.pending_list.specs.Signed.{signature, signed, lawful_signed, at_most_signed}
 
@@ -62,15 +63,15 @@ lawful_reply = search (laws, lawful_signed_structure, lawful_pending_item) depth
 
 -- ---- sizes
 
--- a reply has at most 2,097,000 bytes
-pub at_most_reply : AtMost reply 2097000
+pub at_most_reply : AtMost reply REPLY_SIZE
 at_most_reply =
-    at_most_more reply 1049926 2097000
-    (at_most_behind (codes "SRL1") _ 1049922
+    at_most_behind (codes "SRL1") _ 1049922
     (at_most_mapped _ _ _ 1049922 (at_most_pair _ _ 432129 617793
     (at_most_listed w8 0 64 structure_rows 6752 wide8 (λ _. at_most_signed (nested size structure) 4244 (at_most_nested w16 0 65535 structure 4242 wide16 at_most_structure)))
-    (at_most_listed w8 0 64 pending_rows 9653 wide8 (λ _. at_most_mapped _ _ _ 9653 (at_most_pair _ _ 6760 2893 (at_most_signed (nested size cert) 4252 (at_most_nested w16 0 65535 cert 4250 wide16 at_most_cert)) (at_most_nested w16 0 65535 plan 2891 wide16 at_most_plan)))))))
-    (omega arith)
+    (at_most_listed w8 0 64 pending_rows 9653 wide8 (λ _. at_most_mapped _ _ _ 9653 (at_most_pair _ _ 6760 2893 (at_most_signed (nested size cert) 4252 (at_most_nested w16 0 65535 cert 4250 wide16 at_most_cert)) (at_most_nested w16 0 65535 plan 2891 wide16 at_most_plan))))))
+
+pub size_of : (r : Reply) → reply.Fits r → length (reply.spell r) ≤ REPLY_SIZE
+size_of r fits = at_most_reply.holds r fits
 
 -- what fits alone fits a row
 pub structure_row_fits : (s : Signed Structure) → structure.Fits s.value → signature.Fits s.signature → signed_structure.Fits s
@@ -98,15 +99,22 @@ digest_of_last last = option_map_or (λ s. digest_of s.value) last (replicate 32
 abbrev pub depth_of : Signed Structure → ℕ
 depth_of s = depth s.value.plan.vector
 
--- the one of greater depth, of equal ones the first
-abbrev pub deeper : Signed Structure → Option (Signed Structure) → Option (Signed Structure)
-deeper s None = Some s
-deeper s (Some t) = if nat_lt (depth_of s) (depth_of t) then Some t else Some s
+abbrev pub user_of : Signed Structure → ℕ
+user_of s = s.value.plan.user
 
--- the structure of greatest depth, of equal ones the first, which is the least user's where the list ascends by user
+-- the first counts more operations than the second, or as many for a lesser user
+unfoldable pub outranks : Signed Structure → Signed Structure → Bool
+outranks s t = nat_lt (depth_of t) (depth_of s) || ((depth_of s == depth_of t) && nat_lt (user_of s) (user_of t))
+
+-- the first, but where the second outranks it
+abbrev pub higher : Signed Structure → Option (Signed Structure) → Option (Signed Structure)
+higher s None = Some s
+higher s (Some t) = if outranks t s then Some t else Some s
+
+-- the structure of greatest depth, of equal ones the least user's
 abbrev pub top : List (Signed Structure) → Option (Signed Structure)
 top [] = None
-top (s ∷ ss) = deeper s (top ss)
+top (s ∷ ss) = higher s (top ss)
 
 -- the plan of top, where there is a structure
 abbrev pub top_plan : List (Signed Structure) → Option Plan

@@ -1,8 +1,9 @@
 //! Where the line of committed operations ends, which pending ones continue it, and what a certificate names of it.
 
-ghost use Rattle.std.specs.Prelude.{◌≡◌, IfOk};
+ghost use Rattle.std.specs.Prelude.{◌≡◌, ◌≤◌, ◌↔◌, [], IfOk, IfSome, IsNone, IsOk};
+ghost use Rattle.std.specs.List.{All, Contains};
 ghost use Rattle.std.specs.Option.{option_copied};
-ghost use Rattle.pending_list.specs.Reply.{deeper, top, depth_of_top, is_above, digest_of_last};
+ghost use Rattle.pending_list.specs.Reply.{depth_of, user_of, outranks, higher, top, depth_of_top, is_above, digest_of_last};
 
 use crate::reply::{PendingItem, Reply};
 use crate::signed::Signed;
@@ -10,38 +11,54 @@ use layout::{Digest, Memory};
 use std::alloc::Allocator;
 use version_order::{Structure, depth};
 
-/// The one of greater depth, of equal ones the first.
-fn deeper<'a, A: Allocator>(
+/// Whether the first counts more operations than the second, or as many for a lesser user.
+#[tactic(auto, unfolding(crate::specs::Reply::outranks))]
+fn outranks<A: Allocator>(first: &Signed<Structure<A>>, second: &Signed<Structure<A>>) -> bool
+    ensures { result ≡ outranks first.now second.now }
+{
+    let (first, second) = (first.value.plan(), second.value.plan());
+    let (counts, others) = (depth(first), depth(second));
+    others < counts || counts == others && first.user().get() < second.user().get()
+}
+
+/// The first, but where the second outranks it.
+fn higher<'a, A: Allocator>(
     first: &'a Signed<Structure<A>>,
     second: &'a Signed<Structure<A>>,
 ) -> &'a Signed<Structure<A>>
-    ensures { Some result.now ≡ deeper first.now (Some second.now) }
+    ensures { Some result.now ≡ higher first.now (Some second.now) }
 {
-    if depth(first.value.plan()) < depth(second.value.plan()) {
+    if outranks(second, first) {
         second
     } else {
         first
     }
 }
 
-fn deepest<A: Allocator>(structures: &[Signed<Structure<A>>]) -> Option<&Signed<Structure<A>>>
+fn highest<A: Allocator>(structures: &[Signed<Structure<A>>]) -> Option<&Signed<Structure<A>>>
     ensures { option_copied result ≡ top structures.now }
 {
     let mut best: Option<&Signed<Structure<A>>> = None;
     for structure in structures {
         best = match best {
-            Some(best) => Some(deeper(best, structure)),
+            Some(best) => Some(higher(best, structure)),
             None => Some(structure),
         };
     }
     best
 }
 
-/// The structure of greatest depth, of equal ones the first, which is the least user's where the list ascends by user.
+/// The structure of greatest depth, of equal ones the least user's, in whatever order the list has them.
 pub fn top<A: Allocator>(reply: &Reply<A>) -> Option<&Signed<Structure<A>>>
-    ensures { option_copied result ≡ top reply.now.structures }
+    ensures same { option_copied result ≡ top reply.now.structures }
+    ensures none { IsNone result ↔ (reply.now.structures ≡ []) }
+    ensures there { IfSome result (λ top. Contains reply.now.structures top.now) }
+    // No structure is deeper.
+    ensures deepest { IfSome result (λ top. All (λ s. depth_of s ≤ depth_of top.now) reply.now.structures) }
+    // None of equal depth has a lesser user.
+    ensures least { IfSome result (λ top. All (λ s. depth_of s ≡ depth_of top.now → user_of top.now ≤ user_of s) reply.now.structures) }
 {
-    deepest(reply.structures())
+    highest(reply.structures())
 }
 
 /// How many operations the top counts: 0 where there is no structure.
@@ -66,7 +83,9 @@ pub fn digest_of_last<A: Allocator + Copy>(
     alloc: A,
     last: Option<&Signed<Structure<A>>>,
 ) -> Result<Digest, Memory>
-    ensures { IfOk result (λ digest. digest ≡ digest_of_last (option_copied last.entry)) }
+    ensures same { IfOk result (λ digest. digest ≡ digest_of_last (option_copied last.entry)) }
+    // Zeros take no memory.
+    ensures of_nothing { option_copied last.entry ≡ None → IsOk result }
 {
     match last {
         Some(last) => last.value.digest(alloc),

@@ -1,19 +1,28 @@
 //! Replies to updates.
 
-ghost use Rattle.std.specs.Prelude.{◌≡◌, ◌≤◌, OnOk, IfOk, vec_len, length};
+ghost use Rattle.std.specs.Prelude.{◌≡◌, ◌≤◌, OnErr, OnOk, IfOk, vec_len, length};
 ghost use Rattle.std.specs.List.{All};
-ghost use Rattle.layout.specs.Format.{Reads};
+ghost use Rattle.layout.specs.Format.{BeginsWith, Reads};
 ghost use Rattle.pending_list.specs.Reply.{reply, structure_rows, pending_rows, signed_structure, pending_item};
 
-use crate::signed::{Signature, Signed};
+use crate::signed::{SIGNATURE_SIZE, Signature, Signed};
 use layout::{
     Memory, ReadError, Reader, RowFormat, Text, Writer, read_nested, read_rows, write_nested,
     write_rows,
 };
 use std::alloc::Allocator;
 use std::marker::Model;
-use update_cert::Cert;
-use version_order::{Plan, Structure};
+use update_cert::{CERT_SIZE, Cert};
+use version_order::{PLAN_SIZE, Plan, STRUCTURE_SIZE, Structure};
+
+/// How many structures a reply has at most, and how many pending operations.
+pub const MOST_ROWS: usize = 64;
+
+/// How many bytes the text of a reply has at most: the tag; the structures and the pending operations behind their counts,
+/// each text behind its size, and each signature.
+pub const REPLY_SIZE: usize = 4
+    + (1 + MOST_ROWS * ((2 + STRUCTURE_SIZE) + SIGNATURE_SIZE))
+    + (1 + MOST_ROWS * ((2 + CERT_SIZE) + SIGNATURE_SIZE + (2 + PLAN_SIZE)));
 
 /// An operation that is pending: its signed certificate, and the plan that the server made for it.
 #[derive(Drop)]
@@ -84,7 +93,7 @@ impl<A: Allocator + Copy> RowFormat<A> for StructureRows {
 
     ghost format = { λ _. structure_rows };
 
-    fn read_row(
+    fn read_fields(
         &self,
         alloc: A,
         reader: &mut Reader<'_>,
@@ -95,7 +104,11 @@ impl<A: Allocator + Copy> RowFormat<A> for StructureRows {
         Ok(Signed { value, signature })
     }
 
-    fn write_row(&self, writer: &mut Writer<A>, row: &Signed<Structure<A>>) -> Result<(), Memory> {
+    fn write_fields(
+        &self,
+        writer: &mut Writer<A>,
+        row: &Signed<Structure<A>>,
+    ) -> Result<(), Memory> {
         let _plan = row.value.plan();
         write_nested(*writer.allocator(), writer, &row.value)?;
         writer.bytes(row.signature.as_bytes())
@@ -111,7 +124,7 @@ impl<A: Allocator + Copy> RowFormat<A> for PendingRows {
 
     ghost format = { λ _. pending_rows };
 
-    fn read_row(
+    fn read_fields(
         &self,
         alloc: A,
         reader: &mut Reader<'_>,
@@ -123,7 +136,7 @@ impl<A: Allocator + Copy> RowFormat<A> for PendingRows {
         Ok(PendingItem::new(Signed { value, signature }, plan))
     }
 
-    fn write_row(&self, writer: &mut Writer<A>, row: &PendingItem<A>) -> Result<(), Memory> {
+    fn write_fields(&self, writer: &mut Writer<A>, row: &PendingItem<A>) -> Result<(), Memory> {
         let alloc = *writer.allocator();
         write_nested(alloc, writer, row.cert())?;
         writer.bytes(row.signature().as_bytes())?;
@@ -153,7 +166,7 @@ impl<A: Allocator + Copy> Text<A> for Reply<A> {
 
     ghost format = { reply };
 
-    fn read_from(alloc: A, reader: &mut Reader<'_>) -> Result<Reply<A>, ReadError> {
+    fn read_fields(alloc: A, reader: &mut Reader<'_>) -> Result<Reply<A>, ReadError> {
         reader.tag(b"SRL1")?;
         let count = reader.u8_in(0, 64)?;
         let structures = read_rows(alloc, reader, &StructureRows, usize::from(count))?;
@@ -165,7 +178,7 @@ impl<A: Allocator + Copy> Text<A> for Reply<A> {
         })
     }
 
-    fn write_to(&self, writer: &mut Writer<A>) -> Result<(), Memory> {
+    fn write_fields(&self, writer: &mut Writer<A>) -> Result<(), Memory> {
         write_lists(writer, &self.structures, &self.pending)
     }
 
@@ -212,9 +225,12 @@ impl<A: Allocator> Reply<A> {
     }
 
     /// The latest structure of each user.
+    #[tactic(auto, using(crate::specs::Reply::size_of))]
     pub fn structures(&self) -> &[Signed<Structure<A>>]
         ensures same { result.now ≡ self.now.structures }
         ensures fits { reply.Fits self.now }
+        // How long its text is at most.
+        ensures size { length (reply.spell self.now) ≤ REPLY_SIZE }
     {
         &self.structures
     }
@@ -247,7 +263,8 @@ fn write_lists<A: Allocator + Copy>(
 ) -> Result<(), Memory>
     requires few_structures { length structures.now ≤ 64 }
     requires few_pending { length pending.now ≤ 64 }
-    ensures { OnOk result (writer.new ≡ reply.onto writer.old (record { structures = structures.now; pending = pending.now })) }
+    ensures ok { OnOk result (writer.new ≡ reply.onto writer.old (record { structures = structures.now; pending = pending.now })) }
+    ensures front { OnErr result (BeginsWith writer.new writer.old) }
 {
     writer.tag(b"SRL1")?;
     writer.u8(structures.len() as u8)?;
@@ -267,8 +284,11 @@ impl<A: Allocator + Copy> Reply<A> {
     ) -> Result<Vec<u8, A>, Memory>
         requires few_structures { length structures.now ≤ 64 }
         requires few_pending { length pending.now ≤ 64 }
-        ensures { IfOk result (λ text. text.items ≡ reply.spell (record { structures = structures.now; pending = pending.now })) }
+        ensures text { IfOk result (λ text. text.items ≡ reply.spell (record { structures = structures.now; pending = pending.now })) }
+        ensures size { IfOk result (λ text. length text.items ≤ REPLY_SIZE) }
     {
+        structures_fit(structures);
+        pending_fit(pending);
         let mut writer = Writer::new(alloc);
         write_lists(&mut writer, structures, pending)?;
         Ok(writer.finish())

@@ -9,9 +9,12 @@ use layout::{Memory, ReadError, Reader, Text, Writer, are_bytes};
 use std::alloc::Allocator;
 use std::marker::Model;
 
+/// How many bytes a signature has.
+pub const SIGNATURE_SIZE: usize = 2508;
+
 /// A signature of LMS (RFC 8554 section 5.4): 2,508 bytes.
 #[derive(Clone, Copy, PartialEq, Eq)]
-pub struct Signature([u8; 2508]);
+pub struct Signature([u8; SIGNATURE_SIZE]);
 
 impl Model for Signature {
     ghost use Rattle.std.specs.Prelude.{ℕ, List};
@@ -67,13 +70,13 @@ impl<A: Allocator + Copy, T: Text<A>> Text<A> for Signed<T> {
 
     ghost format = { signed T.format };
 
-    fn read_from(alloc: A, reader: &mut Reader<'_>) -> Result<Signed<T>, ReadError> {
+    fn read_fields(alloc: A, reader: &mut Reader<'_>) -> Result<Signed<T>, ReadError> {
         let value = T::read_from(alloc, reader)?;
         let signature = Signature::read_from(reader)?;
         Ok(Signed { value, signature })
     }
 
-    fn write_to(&self, writer: &mut Writer<A>) -> Result<(), Memory> {
+    fn write_fields(&self, writer: &mut Writer<A>) -> Result<(), Memory> {
         self.value.write_to(writer)?;
         writer.bytes(self.signature.as_bytes())
     }

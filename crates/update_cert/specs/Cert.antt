@@ -8,6 +8,7 @@ use Rattle.layout.specs.Laws.{Lawful, laws, wide8, wide32}
 use Rattle.layout.specs.Sizes.{AtMost, at_most_behind, at_most_listed, at_most_mapped, at_most_pair, at_most_uint_in, at_most_raw}
 use Rattle.layout.specs.Ranges.{user, version}
 use Rattle.layout.specs.Hash.{hash}
+use Rattle.update_cert.specs.declared.cert.TheConstants.{CERT_SIZE}
 use Rattle.update_cert.specs.Change.{Change, change, lawful_change, at_most_change}
 
 -- a certificate without where it lies in memory
@@ -34,8 +35,7 @@ cert =
 pub lawful_cert : Lawful cert
 lawful_cert = search (laws, lawful_change) depth 12
 
--- a certificate has at most 4,250 bytes
-pub at_most_cert : AtMost cert 4250
+pub at_most_cert : AtMost cert CERT_SIZE
 at_most_cert =
     at_most_behind (codes "SUC1") _ 4246
     (at_most_mapped _ _ _ 4246 (at_most_pair _ _ 1 4245 (at_most_uint_in w8 0 63 wide8)

@@ -9,6 +9,7 @@ use Rattle.layout.specs.Sizes.{AtMost, at_most_mapped, at_most_more, at_most_not
 use Rattle.layout.specs.Ranges.{principal, i_number}
 use Rattle.directory.specs.Directory.{Entry, named, lawful_named, at_most_name, at_most_named}
 use Rattle.directory.specs.Name.{name, lawful_name}
+use Rattle.update_cert.specs.declared.change.TheConstants.{CHANGE_SIZE}
 use Rattle.update_cert.specs.declared.change.Action.{Action as Held}
 use Rattle.update_cert.specs.declared.change.Action.TheVariants as held
 
@@ -145,6 +146,5 @@ at_most_action (suc (suc (suc (suc (suc n))))) = at_most_variant (λ old. Unlink
 at_most_fields : (k : ℕ) → AtMost (fields k) 262
 at_most_fields k = at_most_mapped _ _ _ 262 (at_most_pair _ _ 1 261 (at_most_uint_in w8 0 95 wide8) (at_most_pair _ _ 2 259 (at_most_uint_in w16 1 4095 wide16) (at_most_action k)))
 
--- a change has at most 263 bytes
-pub at_most_change : AtMost change 263
+pub at_most_change : AtMost change CHANGE_SIZE
 at_most_change = at_most_sized (uint_in w8 1 5) kind_of fields 1 262 (at_most_uint_in w8 1 5 wide8) at_most_fields

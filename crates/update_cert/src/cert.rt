@@ -6,12 +6,18 @@ ghost use Rattle.layout.specs.Format.{Reads};
 ghost use Rattle.update_cert.specs.Change.{change};
 ghost use Rattle.update_cert.specs.Cert.{cert, digest_of};
 
-use crate::change::{Change, Changes};
+use crate::change::{CHANGE_SIZE, Change, Changes};
 use layout::{
     Digest, Memory, ReadError, Reader, Text, User, Version, Writer, digest, read_rows, write_rows,
 };
 use std::alloc::Allocator;
 use std::marker::Model;
+
+/// How many changes a certificate has at most.
+pub const MOST_CHANGES: usize = 16;
+
+/// How many bytes the text of a certificate has at most: the tag, the user, the number, the digest, and the changes.
+pub const CERT_SIZE: usize = 4 + 1 + 4 + 32 + (1 + MOST_CHANGES * CHANGE_SIZE);
 
 /// What a user signs to have an operation placed: at most 16 changes, behind the user's last structure.
 #[derive(Drop)]
@@ -37,7 +43,7 @@ impl<A: Allocator + Copy> Text<A> for Cert<A> {
 
     ghost format = { cert };
 
-    fn read_from(alloc: A, reader: &mut Reader<'_>) -> Result<Cert<A>, ReadError> {
+    fn read_fields(alloc: A, reader: &mut Reader<'_>) -> Result<Cert<A>, ReadError> {
         reader.tag(b"SUC1")?;
         let user = reader.user()?;
         let number = reader.version()?;
@@ -52,7 +58,7 @@ impl<A: Allocator + Copy> Text<A> for Cert<A> {
         })
     }
 
-    fn write_to(&self, writer: &mut Writer<A>) -> Result<(), Memory> {
+    fn write_fields(&self, writer: &mut Writer<A>) -> Result<(), Memory> {
         writer.tag(b"SUC1")?;
         writer.user(self.user)?;
         writer.version(self.number)?;

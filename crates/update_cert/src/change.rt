@@ -1,13 +1,17 @@
 //! Changes.
 
-ghost use Rattle.std.specs.Prelude.{◌≡◌, ◌≤◌, OnOk};
-ghost use Rattle.layout.specs.Format.{Reads, ReadsAs};
+ghost use Rattle.layout.specs.declared.error.ReadError.TheVariants as read_error;
+ghost use Rattle.std.specs.Prelude.{◌≡◌, ◌≢◌, ◌≤◌, IfErr, OnErr, OnOk};
+ghost use Rattle.layout.specs.Format.{BeginsWith, Reads, ReadsAs};
 ghost use Rattle.update_cert.specs.Change.{action as action_format, action_of, change, kind};
 
-use directory::{Entry, Name, read_name};
-use layout::{Digest, INumber, Memory, Principal, ReadError, Reader, RowFormat, Writer};
+use directory::{Entry, Name};
+use layout::{Digest, INumber, Memory, Principal, ReadError, Reader, RowFormat, Text, Writer};
 use std::alloc::Allocator;
 use std::marker::Model;
+
+/// How many bytes a change has at most in a text: its kind, its place, and an entry with a name of 255 bytes.
+pub const CHANGE_SIZE: usize = 1 + (1 + 2) + (1 + 255 + (1 + 2));
 
 /// What is done at an i-number.
 #[derive(Drop)]
@@ -50,14 +54,17 @@ fn read_action<A: Allocator + Copy>(
 ) -> Result<Action<A>, ReadError>
     requires low { 1 ≤ kind }
     requires high { kind ≤ 5 }
-    ensures { ReadsAs action_of result reader.new ((action_format kind).read reader.old) }
+    ensures reads { ReadsAs action_of result reader.new ((action_format kind).read reader.old) }
+    // An entry and a name lie in memory of their own.
+    ensures no_memory { kind ≤ 3 → IfErr result (λ e. e ≢ read_error.Memory) }
+    ensures err { OnErr result (reader.new ≡ reader.old) }
 {
     match kind {
         1 => Ok(Action::Make(reader.digest()?)),
         2 => Ok(Action::Put(reader.digest()?)),
         3 => Ok(Action::Remove),
         4 => Ok(Action::Link(Entry::read_from(alloc, reader)?)),
-        _ => Ok(Action::Unlink(Name::new(alloc, read_name(reader)?)?)),
+        _ => Ok(Action::Unlink(Name::read_from(alloc, reader)?)),
     }
 }
 
@@ -97,7 +104,9 @@ impl<A: Allocator> Action<A> {
 impl<A: Allocator + Copy> Action<A> {
     /// Writes it at the end of a text, without its kind.
     fn write_to(&self, writer: &mut Writer<A>) -> Result<(), Memory>
-        ensures { OnOk result (writer.new ≡ (action_format (kind (action_of self.now))).onto writer.old (action_of self.now)) }
+        ensures ok { OnOk result (writer.new ≡ (action_format (kind (action_of self.now))).onto writer.old (action_of self.now)) }
+        ensures front { BeginsWith writer.new writer.old }
+        ensures err { OnErr result (writer.new ≡ writer.old) }
     {
         match self {
             Action::Make(inode) => writer.digest(inode),
@@ -120,7 +129,7 @@ impl<A: Allocator + Copy> RowFormat<A> for Changes {
 
     ghost format = { λ _. change_rows };
 
-    fn read_row(
+    fn read_fields(
         &self,
         alloc: A,
         reader: &mut Reader<'_>,
@@ -133,7 +142,7 @@ impl<A: Allocator + Copy> RowFormat<A> for Changes {
         Ok(Change::new(principal, i_number, action))
     }
 
-    fn write_row(&self, writer: &mut Writer<A>, row: &Change<A>) -> Result<(), Memory> {
+    fn write_fields(&self, writer: &mut Writer<A>, row: &Change<A>) -> Result<(), Memory> {
         writer.u8(row.action.kind())?;
         writer.principal(row.principal)?;
         writer.i_number(row.i_number)?;

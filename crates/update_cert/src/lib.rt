@@ -14,8 +14,8 @@ mod spot;
 
 pub use applying::{Applied, Voids, apply};
 pub use blocks::{Blocks, some_reading_agrees};
-pub use cert::Cert;
-pub use change::{Action, Change};
+pub use cert::{CERT_SIZE, Cert, MOST_CHANGES};
+pub use change::{Action, CHANGE_SIZE, Change};
 pub use error::ApplyError;
 pub use part::{Part, Settled};
 pub use reading::{read_directory, read_file, read_inode};

@@ -11,6 +11,7 @@ use Rattle.layout.specs.Sizes.{AtMost, KeysAscend, least_key, at_most_ascending,
 use Rattle.layout.specs.Ranges.{user, version}
 use Rattle.layout.specs.Hash.{hash}
 use Rattle.layout.specs.declared.error.ReadError.TheVariants.{Order}
+use Rattle.version_order.specs.declared.plan.TheConstants.{PLAN_SIZE}
 use Rattle.version_order.specs.declared.plan.Entry.{Entry}
 use Rattle.version_order.specs.declared.vector.Component.{Component}
 use Rattle.version_order.specs.Vector.{vector, lawful_vector}
@@ -68,8 +69,7 @@ at_most_entry b =
 at_most_entries : AtMost entries 2369
 at_most_entries = at_most_ascending w8 255 entry (λ e. e.user) 0 64 37 wide8 entries_ascend at_most_entry
 
--- a plan has at most 2,891 bytes
-pub at_most_plan : AtMost plan 2891
+pub at_most_plan : AtMost plan PLAN_SIZE
 at_most_plan =
     at_most_behind (codes "SVP1") _ 2887
     (at_most_mapped _ _ _ 2887 (at_most_pair _ _ 1 2886 (at_most_uint_in w8 0 63 wide8)

@@ -11,6 +11,7 @@ use Rattle.layout.specs.Sizes.{AtMost, KeysAscend, least_key, at_most_ascending,
 use Rattle.layout.specs.Ranges.{group, version, size}
 use Rattle.layout.specs.Hash.{hash}
 use Rattle.layout.specs.declared.error.ReadError.TheVariants.{Order}
+use Rattle.version_order.specs.declared.structure.TheConstants.{STRUCTURE_SIZE}
 use Rattle.version_order.specs.declared.structure.GroupRecord.{GroupRecord}
 use Rattle.version_order.specs.Plan.{Plan, plan, lawful_plan, at_most_plan}
 
@@ -69,8 +70,7 @@ at_most_group_record b =
 at_most_group_records : AtMost group_records 1313
 at_most_group_records = at_most_ascending w8 255 group_record (λ r. r.group) 64 32 41 wide8 records_ascend at_most_group_record
 
--- a structure has at most 4,242 bytes
-pub at_most_structure : AtMost structure 4242
+pub at_most_structure : AtMost structure STRUCTURE_SIZE
 at_most_structure =
     at_most_behind (codes "SVS1") _ 4238
     (at_most_mapped _ _ _ 4238 (at_most_pair _ _ 2893 1345 (at_most_nested w16 0 65535 plan 2891 wide16 at_most_plan) (at_most_pair _ _ 32 1313 (at_most_raw 32) at_most_group_records)))

@@ -106,6 +106,8 @@ version_in_raised b p q (c ∷ cs) fits =
 pub version_of-raised : (p q : ℕ) (v : List Component) → vector.Fits v → version_of q (raised p v) ≡ version_of q v + (if p == q then 1 else 0)
 version_of-raised p q v fits = version_in_raised None p q v fits.1.1
 
+pub ruleset raising = (version_of-raised)
+
 -- raising adds one to the depth at a user
 one_more : (c : Component) → user_version (record c { version = suc c.version }) ≡ user_version c + (if nat_lt c.principal 64 then 1 else 0)
 one_more c =

@@ -10,6 +10,6 @@ mod vector;
 
 pub use error::PlanError;
 pub use order::{below, depth, next_plan};
-pub use plan::{Entries, Entry, Plan};
-pub use structure::{GroupRecord, GroupRecords, Structure};
+pub use plan::{Entries, Entry, PLAN_SIZE, Plan};
+pub use structure::{GroupRecord, GroupRecords, STRUCTURE_SIZE, Structure};
 pub use vector::{Component, Vector};

@@ -13,6 +13,10 @@ use layout::{
 use std::alloc::Allocator;
 use std::marker::Model;
 
+/// How many bytes the text of a plan has at most: the tag, the user, the number, the digest, a component for each of 96
+/// principals and an entry for each of 64 users.
+pub const PLAN_SIZE: usize = 4 + 1 + 4 + 32 + (1 + 96 * (1 + 4)) + (1 + 64 * (1 + 4 + 32));
+
 /// An operation that was pending when another was placed.
 #[derive(Clone, Copy, Debug, PartialEq, Eq)]
 pub struct Entry {
@@ -31,7 +35,7 @@ impl<A: Allocator + Copy> RowFormat<A> for EntryRows {
 
     ghost format = { λ _. entry };
 
-    fn read_row(
+    fn read_fields(
         &self,
         _alloc: A,
         reader: &mut Reader<'_>,
@@ -46,7 +50,7 @@ impl<A: Allocator + Copy> RowFormat<A> for EntryRows {
         Ok(Entry { user, number, plan })
     }
 
-    fn write_row(&self, writer: &mut Writer<A>, row: &Entry) -> Result<(), Memory> {
+    fn write_fields(&self, writer: &mut Writer<A>, row: &Entry) -> Result<(), Memory> {
         writer.user(row.user)?;
         writer.version(row.number)?;
         writer.digest(&row.plan)
@@ -77,13 +81,13 @@ impl<A: Allocator + Copy> Text<A> for Entries<A> {
 
     ghost format = { entries };
 
-    fn read_from(alloc: A, reader: &mut Reader<'_>) -> Result<Entries<A>, ReadError> {
+    fn read_fields(alloc: A, reader: &mut Reader<'_>) -> Result<Entries<A>, ReadError> {
         let count = reader.u8_in(0, u8::MAX)?;
         let entries = read_rows(alloc, reader, &EntryRows, usize::from(count))?;
         Ok(Entries { rows: entries })
     }
 
-    fn write_to(&self, writer: &mut Writer<A>) -> Result<(), Memory> {
+    fn write_fields(&self, writer: &mut Writer<A>) -> Result<(), Memory> {
         writer.u8(self.rows.len() as u8)?;
         write_rows(writer, &EntryRows, &self.rows)
     }
@@ -209,7 +213,7 @@ impl<A: Allocator + Copy> Text<A> for Plan<A> {
 
     ghost format = { plan };
 
-    fn read_from(alloc: A, reader: &mut Reader<'_>) -> Result<Plan<A>, ReadError> {
+    fn read_fields(alloc: A, reader: &mut Reader<'_>) -> Result<Plan<A>, ReadError> {
         reader.tag(b"SVP1")?;
         let user = reader.user()?;
         let number = reader.version()?;
@@ -219,7 +223,7 @@ impl<A: Allocator + Copy> Text<A> for Plan<A> {
         Ok(Plan::new(user, number, certificate, vector, entries))
     }
 
-    fn write_to(&self, writer: &mut Writer<A>) -> Result<(), Memory> {
+    fn write_fields(&self, writer: &mut Writer<A>) -> Result<(), Memory> {
         writer.tag(b"SVP1")?;
         writer.user(self.user)?;
         writer.version(self.number)?;

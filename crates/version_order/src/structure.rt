@@ -5,13 +5,17 @@ ghost use Rattle.std.specs.Option.{option_copied};
 ghost use Rattle.layout.specs.Format.{Reads};
 ghost use Rattle.version_order.specs.Structure.{group_record};
 
-use crate::plan::Plan;
+use crate::plan::{PLAN_SIZE, Plan};
 use layout::{
     Digest, Group, Memory, ReadError, Reader, RowFormat, Text, Version, Writer, digest,
     read_nested, read_rows, write_nested, write_rows,
 };
 use std::alloc::Allocator;
 use std::marker::Model;
+
+/// How many bytes the text of a structure has at most: the tag, the plan behind its size, the handle, and a record for
+/// each of 32 groups.
+pub const STRUCTURE_SIZE: usize = 4 + (2 + PLAN_SIZE) + 32 + (1 + 32 * (1 + 4 + 4 + 32));
 
 /// The state of a group that a user wrote.
 #[derive(Clone, Copy, Debug, PartialEq, Eq)]
@@ -33,7 +37,7 @@ impl<A: Allocator + Copy> RowFormat<A> for GroupRecordRows {
 
     ghost format = { λ _. group_record };
 
-    fn read_row(
+    fn read_fields(
         &self,
         _alloc: A,
         reader: &mut Reader<'_>,
@@ -54,7 +58,7 @@ impl<A: Allocator + Copy> RowFormat<A> for GroupRecordRows {
         })
     }
 
-    fn write_row(&self, writer: &mut Writer<A>, row: &GroupRecord) -> Result<(), Memory> {
+    fn write_fields(&self, writer: &mut Writer<A>, row: &GroupRecord) -> Result<(), Memory> {
         writer.group(row.group)?;
         writer.version(row.version)?;
         writer.u32(row.table)?;
@@ -86,13 +90,13 @@ impl<A: Allocator + Copy> Text<A> for GroupRecords<A> {
 
     ghost format = { group_records };
 
-    fn read_from(alloc: A, reader: &mut Reader<'_>) -> Result<GroupRecords<A>, ReadError> {
+    fn read_fields(alloc: A, reader: &mut Reader<'_>) -> Result<GroupRecords<A>, ReadError> {
         let count = reader.u8_in(0, u8::MAX)?;
         let records = read_rows(alloc, reader, &GroupRecordRows, usize::from(count))?;
         Ok(GroupRecords { records })
     }
 
-    fn write_to(&self, writer: &mut Writer<A>) -> Result<(), Memory> {
+    fn write_fields(&self, writer: &mut Writer<A>) -> Result<(), Memory> {
         writer.u8(self.records.len() as u8)?;
         write_rows(writer, &GroupRecordRows, &self.records)
     }
@@ -193,7 +197,7 @@ impl<A: Allocator + Copy> Text<A> for Structure<A> {
 
     ghost format = { structure };
 
-    fn read_from(alloc: A, reader: &mut Reader<'_>) -> Result<Structure<A>, ReadError> {
+    fn read_fields(alloc: A, reader: &mut Reader<'_>) -> Result<Structure<A>, ReadError> {
         reader.tag(b"SVS1")?;
         let plan = read_nested(alloc, reader)?;
         let handle = reader.digest()?;
@@ -201,7 +205,7 @@ impl<A: Allocator + Copy> Text<A> for Structure<A> {
         Ok(Structure::new(plan, handle, groups))
     }
 
-    fn write_to(&self, writer: &mut Writer<A>) -> Result<(), Memory> {
+    fn write_fields(&self, writer: &mut Writer<A>) -> Result<(), Memory> {
         writer.tag(b"SVS1")?;
         write_nested(*writer.allocator(), writer, &self.plan)?;
         writer.digest(&self.handle)?;

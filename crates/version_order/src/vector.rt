@@ -1,6 +1,6 @@
 //! Vectors of versions.
 
-ghost use Rattle.std.specs.Prelude.{◌≡◌, ◌<◌, ◌≤◌, ◌↔◌, ◌+◌, ◌++◌, Option, OnOk, OnErr, IfOk, IsTrue, MatchResult, [], length};
+ghost use Rattle.std.specs.Prelude.{◌≡◌, ◌≢◌, ◌==◌, ℕ, if◌then◌else◌, IfErr, ◌<◌, ◌≤◌, ◌↔◌, ◌+◌, ◌++◌, Option, OnOk, OnErr, IfOk, IsTrue, MatchResult, [], length};
 ghost use Rattle.std.specs.Option.{option_copied};
 ghost use Rattle.layout.specs.Format.{Reads};
 ghost use Rattle.version_order.specs.VectorLaws.{Stands, IsFree};
@@ -29,7 +29,7 @@ impl<A: Allocator + Copy> RowFormat<A> for Components {
 
     ghost format = { λ _. component };
 
-    fn read_row(
+    fn read_fields(
         &self,
         _alloc: A,
         reader: &mut Reader<'_>,
@@ -43,7 +43,7 @@ impl<A: Allocator + Copy> RowFormat<A> for Components {
         Ok(Component { principal, version })
     }
 
-    fn write_row(&self, writer: &mut Writer<A>, row: &Component) -> Result<(), Memory> {
+    fn write_fields(&self, writer: &mut Writer<A>, row: &Component) -> Result<(), Memory> {
         writer.principal(row.principal)?;
         writer.version(row.version)
     }
@@ -73,13 +73,13 @@ impl<A: Allocator + Copy> Text<A> for Vector<A> {
 
     ghost format = { vector };
 
-    fn read_from(alloc: A, reader: &mut Reader<'_>) -> Result<Vector<A>, ReadError> {
+    fn read_fields(alloc: A, reader: &mut Reader<'_>) -> Result<Vector<A>, ReadError> {
         let count = reader.u8_in(0, u8::MAX)?;
         let components = read_rows(alloc, reader, &Components, usize::from(count))?;
         Ok(Vector { components })
     }
 
-    fn write_to(&self, writer: &mut Writer<A>) -> Result<(), Memory> {
+    fn write_fields(&self, writer: &mut Writer<A>) -> Result<(), Memory> {
         writer.u8(self.components.len() as u8)?;
         write_rows(writer, &Components, &self.components)
     }
@@ -160,6 +160,7 @@ fn find(components: &[Component], principal: Principal) -> Result<(usize, Versio
     }
 }
 
+#[tactic(auto, using(crate::specs::VectorLaws::raising))]
 fn raise<A: Allocator>(
     components: &mut Vec<Component, A>,
     principal: Principal,
@@ -168,6 +169,8 @@ fn raise<A: Allocator>(
     ensures ok { OnOk result (components.new.items ≡ raised principal components.old.items) }
     ensures within { OnOk result (version_of principal components.old.items < 4294967295) }
     ensures limit { (result ≡ Err PlanError.Limit) ↔ (version_of principal components.old.items ≡ 4294967295) }
+    ensures versions { OnOk result ((p : ℕ) → version_of p components.new.items ≡ version_of p components.old.items + (if principal == p then 1 else 0)) }
+    ensures no_memory { 0 < version_of principal components.old.items → IfErr result (λ e. e ≢ PlanError.Memory) }
     ensures err { OnErr result (components.new.items ≡ components.old.items) }
 {
     match find(components, principal) {
@@ -231,6 +234,10 @@ impl<A: Allocator> Vector<A> {
         ensures ok { OnOk result (self.new ≡ raised principal self.old) }
         ensures within { OnOk result (version_of principal self.old < 4294967295) }
         ensures limit { (result ≡ Err PlanError.Limit) ↔ (version_of principal self.old ≡ 4294967295) }
+        // The principal has one more, and each other what it had.
+        ensures versions { OnOk result ((p : ℕ) → version_of p self.new ≡ version_of p self.old + (if principal == p then 1 else 0)) }
+        // One that is listed takes no memory.
+        ensures no_memory { 0 < version_of principal self.old → IfErr result (λ e. e ≢ PlanError.Memory) }
         ensures err { OnErr result (self.new ≡ self.old) }
     {
         let _number = principal.get();

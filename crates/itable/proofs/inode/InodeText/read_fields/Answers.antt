@@ -1,0 +1,8 @@
+use Rattle.std.proofs.Common.{◌≡◌, Ok, rules}
+use Rattle.itable.specs.Inode.{inode, lawful_inode}
+use Rattle.itable.proofs.inode.InodeText.read_fields.Goals as goal
+
+pub invariant_of-result : goal.invariant_of-result
+invariant_of-result g c =
+    let read : inode.read c.args.reader.now ≡ Ok (record { kind = c.in_ok-kind.kind; size = c.in_ok-size.size; blocks = c.in_ok-blocks.blocks.items }, c.read_rows.new.reader) = search rules in
+    (lawful_inode.takes _ _ _ c.tag.ensures.bytes read).fits
