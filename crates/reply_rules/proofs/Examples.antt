@@ -13,7 +13,7 @@ use Rattle.version_order.specs.Plan.{Plan, entry_of, digest_of}
 use Rattle.version_order.specs.Structure.{Structure}
 use Rattle.update_cert.specs.Cert.{Cert}
 use Rattle.pending_list.specs.declared.signed.Signed.{Signed}
-use Rattle.pending_list.specs.Reply.{PendingItem}
+use Rattle.pending_list.specs.Reply.{PendingItem, outranks}
 use Rattle.principals.specs.declared.table.Listing.{Listing}
 use Rattle.reply_rules.specs.Lists.{Lists}
 use Rattle.reply_rules.specs.Rules.{unknown_user, structures_numbered, pending_numbered, pending_next, counts_at, all_in_order, own_above, vectors_follow, top_known, top_waiting, shows_earlier, rest_of, rest_known, rest_waiting, rest_others, within, above_show, own_only, own_all}
@@ -111,9 +111,11 @@ skipped_number = refl
 
 -- top counts user 2's pending operation
 counted : counts_at good 2 ≡ true
+unfolding outranks
 counted = refl
 
 uncounted : counts_at (with (plan_of 1 1 (versions 1 1 0) []) zero_2 one_2) 2 ≡ false
+unfolding outranks
 uncounted = refl
 
 -- ---- vector
@@ -126,30 +128,38 @@ unordered : all_in_order (with one_1 (plan_of 0 2 (versions 3 1 0) []) one_2) �
 unordered = refl
 
 above_top : own_above good ≡ true
+unfolding outranks
 above_top = refl
 
 beside_top : own_above (with one_1 zero_2 (plan_of 1 2 (versions 0 2 1) [])) ≡ false
+unfolding outranks
 beside_top = refl
 
 following : vectors_follow good ≡ true
+unfolding outranks
 following = refl
 
 -- the own vector has one more for user 1 than top's, but not than user 0's second
 not_following : vectors_follow (with one_1 zero_2 (plan_of 1 2 (versions 1 2 1) [])) ≡ false
+unfolding outranks
 not_following = refl
 
 -- ---- entries
 
 top_shows_known : top_known good ≡ true
+unfolding outranks
 top_shows_known = rw (same_digest two_1) refl
 
 top_shows_invented : top_known (with (plan_of 1 1 (versions 1 1 1) (entry_of two_1 ∷ invented ∷ [])) zero_2 one_2) ≡ false
+unfolding outranks
 top_shows_invented = rw (same_digest two_1) refl
 
 top_shows_waiting : top_waiting good ≡ true
+unfolding outranks
 top_shows_waiting = rw (same_digest two_1) refl
 
 top_hides_waiting : top_waiting (with (plan_of 1 1 (versions 1 1 1) []) zero_2 one_2) ≡ false
+unfolding outranks
 top_hides_waiting = refl
 
 -- the own plan shows user 0's second
@@ -161,15 +171,19 @@ earlier_hidden = refl
 
 -- the rest of user 0's second is top's own entry, and top's one
 rest_is_known : rest_known good [] zero_2 ≡ true
+unfolding outranks
 rest_is_known = rw (same_digest one_1, same_digest two_1) refl
 
 rest_is_invented : rest_known good [] (plan_of 0 2 (versions 2 1 1) (entry_of one_1 ∷ entry_of two_1 ∷ invented ∷ [])) ≡ false
+unfolding outranks
 rest_is_invented = rw (same_digest one_1, same_digest two_1) refl
 
 rest_shows_waiting : rest_waiting good [] zero_2 ≡ true
+unfolding outranks
 rest_shows_waiting = rw (same_digest two_1) refl
 
 rest_hides_waiting : rest_waiting good [] (plan_of 0 2 (versions 2 1 1) (entry_of one_1 ∷ [])) ≡ false
+unfolding outranks
 rest_hides_waiting = refl
 
 rest_is_of_others : rest_others [] zero_2 ≡ true
@@ -186,6 +200,7 @@ rest_grows : within (rest_of (zero_2 ∷ []) one_2) (Some (rest_of [] (plan_of 0
 rest_grows = rw (same_digest zero_2) refl
 
 each_above_shows : above_show good ≡ true
+unfolding outranks
 each_above_shows = rw (same_digest zero_2, same_digest one_1, same_digest two_1) refl
 
 own_shows_only : own_only good ≡ true
