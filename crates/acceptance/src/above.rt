@@ -1,11 +1,13 @@
-//! Which pending operations stand above the structures of a reply.
+//! Which pending operations stand above the structures of a reply, and what a reply without structures has in place of
+//! its top.
 
 use crate::texts::{
-    Host, certificate, check, joined, listed, pending, plan, reply, shown, structure,
+    Host, certificate, check, check_text, joined, listed, pending, plan, reply, shown, structure,
 };
 use layout::Text;
-use pending_list::{Reply, is_above};
+use pending_list::{Reply, Signed, depth_of_top, digest_of_last, is_above, top};
 use std::alloc::Global;
+use version_order::Structure;
 
 /// Vectors of depth 1 and 2, and of depth 1 with version 5 of the first group.
 const ONE: &[u8] = b"\x01\0\0\0\0\x01";
@@ -86,10 +88,25 @@ fn stands(rt: &impl Host, reply: &Reply<Global>, case: &Case) {
 }
 
 #[test]
-fn above_top(rt: HostRuntime) {
+fn operations_above_top(rt: HostRuntime) {
     for case in &CASES {
         let text = reply(&rt, &structures_of(&rt, case), &pending_of(&rt, case));
         let read = Reply::read(rt.alloc(), &text).expect(&rt, "a reply");
         stands(&rt, &read, case);
     }
+}
+
+#[test]
+fn no_structure_is_no_top(rt: HostRuntime) {
+    let empty = Reply::new(Vec::new(rt.alloc()), Vec::new(rt.alloc()));
+    check(&rt, top(&empty).is_none(), "no top");
+    check(&rt, depth_of_top(&empty) == 0, "the depth of no top");
+    check_text(
+        &rt,
+        &empty.text(rt.alloc()).expect(&rt, "memory"),
+        b"SRL1\0\0",
+    );
+    let last: Option<&Signed<Structure<Global>>> = None;
+    let digest = digest_of_last(rt.alloc(), last).expect(&rt, "memory");
+    check_text(&rt, digest.as_bytes(), &[0; 32]);
 }

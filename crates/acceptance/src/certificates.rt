@@ -1,15 +1,12 @@
-//! Certificates with changes: one of each kind and one with all of them, byte for byte, their faults field by field, and
-//! what the server answers to them.
+//! Certificates: what they say and how they are spelled, without changes, with one of each kind, and signed.
 
-use crate::replies::first_reply;
-use crate::server::{answers_update, server_of};
-use crate::texts::{Host, check, check_text, joined, key_of, signed};
+use crate::faults::CERT;
+use crate::texts::{Host, certificate, check, check_text, joined};
 use directory::{Entry, Name, Target, name_text};
-use layout::{Digest, INumber, Principal, ReadError, Text, User, Version};
-use pending_list::Reply;
+use layout::{Digest, INumber, Principal, Text, User, Version};
+use pending_list::{Signature, Signed};
 use std::alloc::Global;
 use update_cert::{Action, Cert, Change};
-use wire::Status;
 
 /// A change: its bytes, and what they say.
 struct Case {
@@ -152,16 +149,10 @@ fn is_case(rt: &impl Host, change: &Change<Global>, case: &Case) {
     check(rt, change.i_number().get() == case.i_number, "the i-number");
 }
 
-/// User 0's first certificate, by hand, with these changes behind their count.
-fn by_hand(rt: &impl Host, changes: &[u8]) -> Vec<u8> {
-    joined(rt, &[b"SUC1\0\0\0\0\x01", &[0; 32], changes])
-}
-
-/// The same with the changes of these cases.
-fn by_hand_of(rt: &impl Host, cases: &[Case]) -> Vec<u8> {
-    let [.., count] = cases.len().to_be_bytes();
-    let mut text = by_hand(rt, &[count]);
-    for case in cases {
+/// User 0's first certificate with the changes of the cases, by hand.
+fn by_hand(rt: &impl Host) -> Vec<u8> {
+    let mut text = joined(rt, &[CERT, b"\x05"]);
+    for case in &CASES {
         text.extend_from_slice(case.bytes).expect(rt, "memory");
     }
     text
@@ -174,111 +165,67 @@ pub(crate) fn cert_of(rt: &impl Host, changes: Vec<Change<Global>>) -> Cert<Glob
     Cert::new(User::superuser(), Version::first(), last, changes)
 }
 
-/// The certificate of these cases is written so.
-fn writes(rt: &impl Host, cases: &[Case]) {
+/// User 0's first certificate with the changes of the cases.
+fn cert_of_cases(rt: &impl Host) -> Cert<Global> {
     let mut changes = Vec::new(rt.alloc());
-    for case in cases {
+    for case in &CASES {
         changes.push(change(rt, case)).expect(rt, "memory");
     }
-    let text = cert_of(rt, changes).text(rt.alloc()).expect(rt, "memory");
-    check_text(rt, &text, &by_hand_of(rt, cases));
+    cert_of(rt, changes)
 }
 
-/// The certificate of these cases is read from there.
-fn reads(rt: &impl Host, cases: &[Case]) {
-    let text = by_hand_of(rt, cases);
-    let cert = Cert::read(rt.alloc(), &text).expect(rt, "a certificate");
-    check(rt, cert.changes().len() == cases.len(), "the changes");
-    for (change, case) in cert.changes().iter().zip(cases) {
+/// The certificate of the cases is written so.
+fn is_written(rt: &impl Host, by_hand: &[u8]) {
+    let text = cert_of_cases(rt).text(rt.alloc()).expect(rt, "memory");
+    check_text(rt, &text, by_hand);
+}
+
+/// The certificate of the cases is read from there.
+fn is_read(rt: &impl Host, by_hand: &[u8]) {
+    let cert = Cert::read(rt.alloc(), by_hand).expect(rt, "a certificate");
+    check(rt, cert.changes().len() == 5, "five changes");
+    for (change, case) in cert.changes().iter().zip(&CASES) {
         is_case(rt, change, case);
     }
 }
 
 #[test]
-fn each_kind(rt: HostRuntime) {
-    for i in 0..5 {
-        writes(&rt, &CASES[i..=i]);
-        reads(&rt, &CASES[i..=i]);
-    }
+fn changes_of_each_kind(rt: HostRuntime) {
+    let by_hand = by_hand(&rt);
+    check(&rt, by_hand.len() == 136, "the size");
+    is_written(&rt, &by_hand);
+    is_read(&rt, &by_hand);
+}
+
+/// The certificate is user 0's first one, without changes.
+fn is_first(rt: &impl Host, cert: &Cert<Global>) {
+    check(rt, cert.user() == User::superuser(), "user 0");
+    check(rt, cert.number() == Version::first(), "the first number");
+    check_text(rt, cert.last().as_bytes(), &[0; 32]);
+    check(rt, cert.changes().is_empty(), "no changes");
+}
+
+/// The first certificate is spelled so.
+fn is_spelled(rt: &impl Host, by_hand: &[u8]) {
+    let cert = cert_of(rt, Vec::new(rt.alloc()));
+    check_text(rt, &cert.text(rt.alloc()).expect(rt, "memory"), by_hand);
+}
+
+/// With a signature of 7s it is spelled so, and read from there.
+fn is_signed_so(rt: &impl Host, by_hand: &[u8]) {
+    let signature = Signature::from_bytes([7; 2508]);
+    let value = cert_of(rt, Vec::new(rt.alloc()));
+    let signed = Signed { value, signature };
+    check_text(rt, &signed.text(rt.alloc()).expect(rt, "memory"), by_hand);
+    let again: Signed<Cert<Global>> = Signed::read(rt.alloc(), by_hand).expect(rt, "a signed one");
+    is_first(rt, &again.value);
+    check(rt, again.signature == signature, "the signature");
 }
 
 #[test]
-fn all_kinds(rt: HostRuntime) {
-    writes(&rt, &CASES);
-    reads(&rt, &CASES);
-    check(&rt, by_hand_of(&rt, &CASES).len() == 136, "the size");
-}
-
-/// Changes that are out of range, behind their count.
-static OUT_OF_RANGE: &[&[u8]] = &[
-    b"\x11",
-    b"\x01\0",
-    b"\x01\x06",
-    b"\x01\x03\x60",
-    b"\x01\x03\0\0\0",
-    b"\x01\x03\0\x10\0",
-    b"\x01\x04\0\0\x02\0",
-    b"\x01\x04\0\0\x02\x01/",
-    b"\x01\x04\0\0\x02\x01.",
-    b"\x01\x04\0\0\x02\x01f\x60",
-    b"\x01\x04\0\0\x02\x01f\0\0\0",
-    b"\x01\x04\0\0\x02\x01f\0\x10\0",
-    b"\x01\x05\0\0\x02\0",
-    b"\x01\x05\0\0\x02\x01/",
-    b"\x01\x05\0\0\x02\x01.",
-    b"\x02\x03\0\0\x01\x06",
-];
-
-#[test]
-fn out_of_range(rt: HostRuntime) {
-    for changes in OUT_OF_RANGE {
-        let text = by_hand(&rt, changes);
-        let found: Result<Cert<Global>, ReadError> = Cert::read(rt.alloc(), &text);
-        assert!(rt; matches!(found, Err(ReadError::Range)), "{changes:?}");
-    }
-}
-
-#[test]
-fn cut_or_longer(rt: HostRuntime) {
-    let text = by_hand_of(&rt, &CASES);
-    for size in 0..text.len() {
-        let found: Result<Cert<Global>, ReadError> = Cert::read(rt.alloc(), &text[..size]);
-        assert!(rt; matches!(found, Err(ReadError::Short)), "{size} bytes");
-    }
-    let longer = joined(&rt, &[&text, &[0]]);
-    let found: Result<Cert<Global>, ReadError> = Cert::read(rt.alloc(), &longer);
-    assert!(rt; matches!(found, Err(ReadError::Trailing)));
-}
-
-/// The longest certificate: 16 entries with names of 255 bytes.
-#[test]
-fn longest(rt: HostRuntime) {
-    let row = joined(&rt, &[b"\x04\0\0\x02\xff", &[b'x'; 255], b"\0\0\x03"]);
-    let mut text = by_hand(&rt, &[16]);
-    for _ in 0..16 {
-        text.extend_from_slice(&row).expect(&rt, "memory");
-    }
-    check(&rt, text.len() == 4250, "the size");
-    let cert = Cert::read(rt.alloc(), &text).expect(&rt, "a certificate");
-    check_text(&rt, &cert.text(rt.alloc()).expect(&rt, "memory"), &text);
-}
-
-/// The last item of the reply has the signed certificate as it was sent.
-fn ends_with(rt: &impl Host, reply: &[u8], update: &[u8]) {
-    let reply = Reply::read(rt.alloc(), reply).expect(rt, "a reply");
-    let item = reply.pending().last().expect(rt, "an item");
-    let sent = item.signed_cert().text(rt.alloc()).expect(rt, "memory");
-    check_text(rt, &sent, update);
-}
-
-/// The server places the certificate, and answers it again where it comes again.
-#[test]
-fn placed(rt: HostRuntime) {
-    let mut server = server_of(&rt, 0);
-    let update = signed(&rt, &key_of(&rt, 0), 0, &by_hand_of(&rt, &CASES));
-    let reply = first_reply(&rt, &update);
-    answers_update(&rt, &mut server, &update, Status::Ok, &reply);
-    answers_update(&rt, &mut server, &update, Status::Ok, &reply);
-    check(&rt, server.events() == 1, "one event");
-    ends_with(&rt, &reply, &update);
+fn first_certificate(rt: HostRuntime) {
+    let text = certificate(&rt, 0, 1, &[0; 32]);
+    check(&rt, text.len() == 42, "the size");
+    is_spelled(&rt, &text);
+    is_signed_so(&rt, &joined(&rt, &[&text, &[7; 2508]]));
 }

@@ -1,155 +1,137 @@
-//! Directories: texts that the format's description spells out, faults field by field, and a directory that is full.
+//! Directories: maps from names to what they stand for, and a directory that is full.
 
+use crate::certificates::{i_number, principal};
+use crate::texts::{Host, check, check_text};
 use directory::{DirError, Directory, Target};
-use layout::{INumber, ReadError, Text, User};
+use layout::Text;
 use std::alloc::Global;
-use std::test::Fail;
 
 /// A file of the superuser.
-fn file(number: u16) -> Result<Target, Fail> {
-    let i_number = INumber::new(number).ok_or("no i-number")?;
-    Ok(Target {
-        principal: User::superuser().into(),
-        i_number,
-    })
+fn file(rt: &impl Host, number: u16) -> Target {
+    Target {
+        principal: principal(rt, 0),
+        i_number: i_number(rt, number),
+    }
+}
+
+/// The directory of a text.
+fn directory_of(rt: &impl Host, text: &[u8]) -> Directory<Global> {
+    Directory::read(rt.alloc(), text).expect(rt, "a directory")
+}
+
+/// The directory is spelled so.
+fn is_spelled(rt: &impl Host, directory: &Directory<Global>, by_hand: &[u8]) {
+    let text = directory.text(rt.alloc()).expect(rt, "memory");
+    check_text(rt, &text, by_hand);
+}
+
+/// The name stands for a file of the superuser's, or for nothing.
+fn stands_for(rt: &impl Host, directory: &Directory<Global>, name: &[u8], number: Option<u16>) {
+    let found = directory.get(name).map(|target| target.i_number.get());
+    check(rt, found == number, "what a name stands for");
+}
+
+/// What comes of linking a name.
+fn linked(rt: &impl Host, directory: &mut Directory<Global>, name: &[u8]) -> &'static str {
+    match directory.link(name, file(rt, 4)) {
+        Ok(()) => "linked",
+        Err(DirError::There) => "there",
+        Err(DirError::BadName) => "bad name",
+        Err(DirError::Full) => "full",
+        Err(_) => "another error",
+    }
+}
+
+/// That comes of linking a name.
+fn links(rt: &impl Host, directory: &mut Directory<Global>, name: &[u8], outcome: &str) {
+    check(rt, linked(rt, directory, name) == outcome, outcome);
+}
+
+/// The name is unlinked where it is there.
+fn unlinks(rt: &impl Host, directory: &mut Directory<Global>, name: &[u8], is_there: bool) {
+    let holds = match directory.unlink(name) {
+        Ok(()) => is_there,
+        Err(DirError::Absent) => !is_there,
+        Err(_) => false,
+    };
+    check(rt, holds, "whether a name is unlinked");
 }
 
 #[test]
-fn empty_text(rt: HostRuntime) -> Result<(), Fail> {
-    let text = Directory::empty(rt.alloc()).text(rt.alloc())?;
-    assert_eq!(rt; text.as_slice(), b"SDI1\0\0".as_slice());
-    Ok(())
-}
-
-#[test]
-fn text_of_one(rt: HostRuntime) -> Result<(), Fail> {
+fn names_are_linked_and_unlinked(rt: HostRuntime) {
     let mut directory = Directory::empty(rt.alloc());
-    directory.link(b"f", file(3)?)?;
-    let text = directory.text(rt.alloc())?;
-    assert_eq!(rt; text.as_slice(), b"SDI1\0\x01\x01f\0\0\x03".as_slice());
-    Ok(())
+    is_spelled(&rt, &directory, b"SDI1\0\0");
+    links(&rt, &mut directory, b"f", "linked");
+    is_spelled(&rt, &directory, b"SDI1\0\x01\x01f\0\0\x04");
+    unlinks(&rt, &mut directory, b"f", true);
+    unlinks(&rt, &mut directory, b"f", false);
+    is_spelled(&rt, &directory, b"SDI1\0\0");
+}
+
+/// The directory has these two entries, in their order.
+fn has_two(rt: &impl Host, directory: &Directory<Global>, names: [&str; 2]) {
+    let [first, second] = directory.entries() else {
+        panic!(rt; "not two entries");
+    };
+    check(rt, first.name().as_str() == names[0], "the first name");
+    check_text(rt, second.name().as_bytes(), names[1].as_bytes());
+    check(rt, second.target() == file(rt, 3), "the second target");
 }
 
 #[test]
-fn map_of_two(rt: HostRuntime) -> Result<(), Fail> {
-    let directory = Directory::read(rt.alloc(), b"SDI1\0\x02\x01a\0\0\x04\x01b\0\0\x03")?;
-    assert!(rt; directory.get(b"b") == Some(file(3)?));
-    assert!(rt; directory.get(b"c").is_none());
-    for entry in directory.entries() {
-        assert!(rt; entry.name().as_str() == "a" || entry.name().as_bytes() == b"b".as_slice());
-        assert!(rt; directory.get(entry.name().as_bytes()) == Some(entry.target()));
-    }
-    Ok(())
+fn map_of_two(rt: HostRuntime) {
+    let directory = directory_of(&rt, b"SDI1\0\x02\x01a\0\0\x04\x01b\0\0\x03");
+    has_two(&rt, &directory, ["a", "b"]);
+    stands_for(&rt, &directory, b"a", Some(4));
+    stands_for(&rt, &directory, b"b", Some(3));
+    stands_for(&rt, &directory, b"c", None);
 }
 
 #[test]
-fn unlinked(rt: HostRuntime) -> Result<(), Fail> {
-    let mut directory = Directory::read(rt.alloc(), b"SDI1\0\x01\x01f\0\0\x03")?;
-    directory.unlink(b"f")?;
-    assert!(rt; directory.entries().is_empty());
-    assert!(rt; matches!(directory.unlink(b"f"), Err(DirError::Absent)));
-    Ok(())
+fn refusals_leave_the_directory(rt: HostRuntime) {
+    let mut directory = directory_of(&rt, b"SDI1\0\x01\x01f\0\0\x03");
+    links(&rt, &mut directory, b"f", "there");
+    links(&rt, &mut directory, b"..", "bad name");
+    links(&rt, &mut directory, b"", "bad name");
+    is_spelled(&rt, &directory, b"SDI1\0\x01\x01f\0\0\x03");
 }
 
-#[test]
-fn short_texts(rt: HostRuntime) {
-    for text in [
-        b"SDI".as_slice(),
-        b"SDI1\0",
-        b"SDI1\0\x01",
-        b"SDI1\0\x01\x02f",
-        b"SDI1\0\x01\x01f",
-        b"SDI1\0\x01\x01f\0\0",
-    ] {
-        assert!(rt; matches!(Directory::read(rt.alloc(), text), Err(ReadError::Short)));
-    }
-}
-
-#[test]
-fn texts_out_of_range(rt: HostRuntime) {
-    for text in [
-        b"SDI1\x04\x01".as_slice(),
-        b"SDI1\0\x01\0\0\0\x03",
-        b"SDI1\0\x01\x01/\0\0\x03",
-        b"SDI1\0\x01\x01\0\0\0\x03",
-        b"SDI1\0\x01\x01.\0\0\x03",
-        b"SDI1\0\x01\x02..\0\0\x03",
-        b"SDI1\0\x01\x01\xff\0\0\x03",
-        b"SDI1\0\x01\x01f\x60\0\x03",
-        b"SDI1\0\x01\x01f\0\0\0",
-        b"SDI1\0\x01\x01f\0\x10\0",
-    ] {
-        assert!(rt; matches!(Directory::read(rt.alloc(), text), Err(ReadError::Range)));
-    }
-}
-
-#[test]
-fn other_faults(rt: HostRuntime) {
-    let alloc = rt.alloc();
-    let other_tag = Directory::read(alloc, b"SDI2\0\0");
-    assert!(rt; matches!(other_tag, Err(ReadError::BadTag)));
-    let more = Directory::read(alloc, b"SDI1\0\0\0");
-    assert!(rt; matches!(more, Err(ReadError::Trailing)));
-    let lower = Directory::read(alloc, b"SDI1\0\x02\x01b\0\0\x03\x01a\0\0\x04");
-    assert!(rt; matches!(lower, Err(ReadError::Order)));
-    let equal = Directory::read(alloc, b"SDI1\0\x02\x01b\0\0\x03\x01b\0\0\x04");
-    assert!(rt; matches!(equal, Err(ReadError::Order)));
-}
-
-#[test]
-fn first_of_two_faults(rt: HostRuntime) {
-    let alloc = rt.alloc();
-    let tag_then_count = Directory::read(alloc, b"SDI2\x04\x01");
-    assert!(rt; matches!(tag_then_count, Err(ReadError::BadTag)));
-    let no_name_and_lower = Directory::read(alloc, b"SDI1\0\x02\x01b\0\0\x03\x01.\0\0\x04");
-    assert!(rt; matches!(no_name_and_lower, Err(ReadError::Range)));
-    let lower_then_principal = Directory::read(alloc, b"SDI1\0\x02\x01b\0\0\x03\x01a\x60");
-    assert!(rt; matches!(lower_then_principal, Err(ReadError::Order)));
-    let principal_then_end = Directory::read(alloc, b"SDI1\0\x01\x01f\x60");
-    assert!(rt; matches!(principal_then_end, Err(ReadError::Range)));
-}
-
-/// 1,024 names of 255 bytes.
-fn full(alloc: Global) -> Result<Directory<Global>, Fail> {
-    let mut directory = Directory::empty(alloc);
+/// A name of 255 bytes that begins with these two.
+fn long_name(first: u8, second: u8) -> [u8; 255] {
     let mut name = [b'x'; 255];
+    name[0] = first;
+    name[1] = second;
+    name
+}
+
+/// 1,024 names of 255 bytes, each of which is linked.
+fn full(rt: &impl Host) -> Directory<Global> {
+    let mut directory = Directory::empty(rt.alloc());
     for first in b'A'..b'a' {
-        name[0] = first;
         for second in b'A'..b'a' {
-            name[1] = second;
-            directory.link(&name, file(1)?)?;
+            links(rt, &mut directory, &long_name(first, second), "linked");
         }
     }
-    Ok(directory)
+    directory
 }
 
+/// What a full directory answers to no name, to a name that is there, and to the 1,025th.
 #[test]
-fn refusals(rt: HostRuntime) -> Result<(), Fail> {
-    let mut directory = Directory::read(rt.alloc(), b"SDI1\0\x01\x01f\0\0\x03")?;
-    assert!(rt; matches!(directory.link(b"f", file(4)?), Err(DirError::There)));
-    assert!(rt; matches!(directory.link(b"..", file(4)?), Err(DirError::BadName)));
-    assert!(rt; directory.get(b"f") == Some(file(3)?));
-    Ok(())
+fn full_directory(rt: HostRuntime) {
+    let mut directory = full(&rt);
+    links(&rt, &mut directory, b"/", "bad name");
+    links(&rt, &mut directory, &long_name(b'A', b'A'), "there");
+    links(&rt, &mut directory, b"f", "full");
+    unlinks(&rt, &mut directory, &long_name(b'A', b'A'), true);
+    links(&rt, &mut directory, b"f", "linked");
+    links(&rt, &mut directory, b"g", "full");
 }
 
-/// What a full directory answers to no name, to a name that is there, and to one more.
+/// The largest text of a directory is read again.
 #[test]
-fn refusals_of_a_full_one(rt: HostRuntime) -> Result<(), Fail> {
-    let mut directory = full(rt.alloc())?;
-    assert!(rt; matches!(directory.link(b"/", file(3)?), Err(DirError::BadName)));
-    let mut there = [b'x'; 255];
-    there[..2].copy_from_slice(b"AA");
-    assert!(rt; matches!(directory.link(&there, file(3)?), Err(DirError::There)));
-    assert!(rt; matches!(directory.link(b"f", file(3)?), Err(DirError::Full)));
-    Ok(())
-}
-
-#[test]
-fn full_text(rt: HostRuntime) -> Result<(), Fail> {
-    let directory = full(rt.alloc())?;
-    let text = directory.text(rt.alloc())?;
-    assert_eq!(rt; text.len(), 265222);
-    let again = Directory::read(rt.alloc(), &text)?;
-    assert_eq!(rt; again.entries().len(), 1024);
-    Ok(())
+fn text_of_a_full_directory(rt: HostRuntime) {
+    let text = full(&rt).text(rt.alloc()).expect(&rt, "memory");
+    check(&rt, text.len() == 265222, "the size of its text");
+    let again = directory_of(&rt, &text);
+    check(&rt, again.entries().len() == 1024, "1,024 names");
 }

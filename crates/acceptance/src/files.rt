@@ -109,8 +109,8 @@ fn stands_each(rt: &impl Host, world: &mut World) {
 }
 
 #[test]
-fn each_size(rt: HostRuntime) {
-    let mut world = new_world(&rt);
+fn files_of_each_size(rt: HostRuntime) {
+    let mut world = new_world(&rt, false);
     makes_each(&rt, &mut world);
     stands_each(&rt, &mut world);
     let none = see(&rt, &mut world, 5);

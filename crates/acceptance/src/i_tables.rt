@@ -1,47 +1,52 @@
-//! I-nodes and i-tables: texts that the format's description spells out, and the faults of those that are none.
+//! Files in blocks, and i-tables: what is laid out and written, and that it is read again.
 
+use crate::certificates::{i_number, principal};
+use crate::texts::{Host, check, check_text};
+use client_tree::{Held, read_table};
 use itable::{
-    Chunk, ChunkNumber, FILE_SIZE, ITable, Inode, Kind, LayError, Root, lay_file, read_chunk,
-    read_root,
+    ChunkNumber, FILE_SIZE, ITable, Inode, Kind, LayError, lay_file, read_chunk, read_root,
 };
-use layout::{Digest, INumber, Principal, ReadError, Text, User};
+use layout::{Digest, Text};
 use std::alloc::Global;
-use std::test::Fail;
 
-/// The name of a fault, or that there is none.
-fn named(fault: Option<ReadError>) -> &'static str {
-    match fault {
-        None => "none",
-        Some(ReadError::Short) => "short",
-        Some(ReadError::Trailing) => "trailing",
-        Some(ReadError::BadTag) => "tag",
-        Some(ReadError::Order) => "order",
-        Some(ReadError::Range) => "range",
-        Some(ReadError::Memory) => "memory",
-    }
+/// A file of so many bytes.
+fn file_of(rt: &impl Host, size: usize) -> Vec<u8> {
+    let mut file = Vec::new(rt.alloc());
+    file.resize(size, 7).expect(rt, "memory");
+    file
 }
 
-/// A text that begins so, behind which zeros follow up to a size.
-fn padded(alloc: Global, front: &[u8], size: usize) -> Result<Vec<u8>, Fail> {
-    let mut text = Vec::from_slice(alloc, front)?;
-    text.resize(size, 0)?;
-    Ok(text)
-}
+/// A file's size, how many blocks it has, how many bytes the last one has, and the size of the i-node.
+static LAID: [(u32, usize, usize, usize); 4] = [
+    (1, 1, 1, 43),
+    (4096, 1, 4096, 43),
+    (4097, 2, 1, 75),
+    (FILE_SIZE, 1024, 4096, 32779),
+];
 
-fn i_number(number: u16) -> Result<INumber, Fail> {
-    Ok(INumber::new(number).ok_or("no i-number")?)
-}
-
-fn chunk_number(number: u8) -> Result<ChunkNumber, Fail> {
-    Ok(ChunkNumber::new(number).ok_or("no chunk")?)
+/// The file of a size is laid out so.
+fn is_laid(rt: &impl Host, laid: (u32, usize, usize, usize)) {
+    let (size, blocks, last, inode) = laid;
+    let laid = lay_file(rt.alloc(), &file_of(rt, size as usize)).expect(rt, "a file");
+    check(rt, laid.blocks.len() == blocks, "how many blocks there are");
+    let block = laid.blocks.last().expect(rt, "a block");
+    check_text(rt, block, &file_of(rt, last));
+    check(rt, laid.inode.len() == inode, "the size of the i-node");
+    let found: Inode<Global> = Inode::read(rt.alloc(), &laid.inode).expect(rt, "an i-node");
+    check(rt, found.kind() == Kind::File, "a file");
+    check(rt, found.size() == size, "its size");
 }
 
 #[test]
-fn empty_file(rt: HostRuntime) -> Result<(), Fail> {
-    let laid = lay_file(rt.alloc(), &[])?;
-    assert_eq!(rt; laid.inode.as_slice(), b"SIN1\x01\0\0\0\0\0\0".as_slice());
-    assert_eq!(rt; laid.blocks.len(), 0);
-    Ok(())
+fn files_are_laid_out_in_blocks(rt: HostRuntime) {
+    for laid in &LAID {
+        is_laid(&rt, *laid);
+    }
+    let empty = lay_file(rt.alloc(), &[]).expect(&rt, "a file");
+    check_text(&rt, &empty.inode, b"SIN1\x01\0\0\0\0\0\0");
+    check(&rt, empty.blocks.is_empty(), "no block");
+    let larger = lay_file(rt.alloc(), &file_of(&rt, FILE_SIZE as usize + 1));
+    check(&rt, matches!(larger, Err(LayError::TooLarge)), "too large");
 }
 
 /// The i-node of the empty directory, whose digest any other SHA-256 gives.
@@ -50,211 +55,167 @@ const EMPTY_DIRECTORY: [u8; 43] = *b"SIN1\x02\0\0\0\x06\0\x01\
     \xb1\x8d\x60\x27\xfb\x84\xaa\x51\xef\x95\x32\xb3\x90\xd0\xc2\x55";
 
 #[test]
-fn empty_directory(rt: HostRuntime) -> Result<(), Fail> {
-    let alloc = rt.alloc();
-    let inode = Inode::of_directory(alloc, b"SDI1\0\0")?;
-    assert_eq!(rt; inode.kind(), Kind::Directory);
-    assert_eq!(rt; inode.size(), 6);
-    assert_eq!(rt; inode.blocks().len(), 1);
-    let text = inode.text(alloc)?;
-    assert_eq!(rt; text.as_slice(), EMPTY_DIRECTORY.as_slice());
-    Ok(())
+fn i_node_of_the_empty_directory(rt: HostRuntime) {
+    let inode = Inode::of_directory(rt.alloc(), b"SDI1\0\0").expect(&rt, "memory");
+    check(&rt, inode.kind() == Kind::Directory, "a directory");
+    check(&rt, inode.size() == 6, "its size");
+    check(&rt, inode.blocks().len() == 1, "one block");
+    let text = inode.text(rt.alloc()).expect(&rt, "memory");
+    check_text(&rt, &text, &EMPTY_DIRECTORY);
 }
 
-#[test]
-fn largest_file(rt: HostRuntime) -> Result<(), Fail> {
-    let alloc = rt.alloc();
-    let file = vec![in alloc; 7u8; FILE_SIZE as usize + 1]?;
-    let laid = lay_file(alloc, &file[1..])?;
-    assert_eq!(rt; laid.inode.len(), 32779);
-    assert_eq!(rt; laid.blocks.len(), 1024);
-    assert!(rt; matches!(lay_file(alloc, &file), Err(LayError::TooLarge)));
-    Ok(())
+/// The digest of this byte everywhere is set at an i-number.
+fn set(rt: &impl Host, table: &mut ITable<Global>, number: u16, byte: u8) {
+    let digest = Digest::from_bytes([byte; 32]);
+    table.set(i_number(rt, number), digest).expect(rt, "memory");
 }
 
-#[test]
-fn file_of_two_blocks(rt: HostRuntime) -> Result<(), Fail> {
-    let alloc = rt.alloc();
-    let file = vec![in alloc; 7u8; 4097]?;
-    let laid = lay_file(alloc, &file)?;
-    assert_eq!(rt; laid.blocks.len(), 2);
-    assert_eq!(rt; laid.blocks[1].as_slice(), b"\x07".as_slice());
-    let inode = Inode::read(alloc, &laid.inode)?;
-    assert_eq!(rt; inode.kind(), Kind::File);
-    assert_eq!(rt; inode.size(), 4097);
-    Ok(())
+/// The digest of an i-number, of this byte everywhere, is removed, if it has one.
+fn removes(rt: &impl Host, table: &mut ITable<Global>, number: u16, byte: Option<u8>) {
+    let found = table.remove(i_number(rt, number));
+    let digest = byte.map(|byte| Digest::from_bytes([byte; 32]));
+    check(rt, found == digest, "what was removed");
 }
 
-#[test]
-fn faults_of_i_nodes(rt: HostRuntime) -> Result<(), Fail> {
-    let alloc = rt.alloc();
-    let table: [(&[u8], usize, &str); 17] = [
-        (b"SIN1\x01\0\0\0\x01\0\x01", 43, "none"),
-        (b"SIN1\x02\0\x04\x0c\x06\0\x41", 2091, "none"),
-        (b"SIN", 3, "short"),
-        (b"SIN2\x03", 5, "tag"),
-        (b"SIN1", 4, "short"),
-        (b"SIN1\0", 5, "range"),
-        (b"SIN1\x03\0", 6, "range"),
-        (b"SIN1\x01\0\0\0", 8, "short"),
-        (b"SIN1\x01\0\x40\0\x01", 9, "range"),
-        (b"SIN1\x02\0\0\0\x05\0\x07", 11, "range"),
-        (b"SIN1\x02\0\x04\x0c\x07", 9, "range"),
-        (b"SIN1\x01\0\0\0\x01\0", 10, "short"),
-        (b"SIN1\x01\0\0\0\x01\0\0", 11, "range"),
-        (b"SIN1\x01\0\0\x10\0\0\x02", 75, "range"),
-        (b"SIN1\x01\0\0\0\x01\0\x01", 42, "short"),
-        (b"SIN1\x01\0\0\0\x01\0\x01", 44, "trailing"),
-        (b"SIN1\x01\0\0\0\0\0\0", 12, "trailing"),
-    ];
-    for (front, size, fault) in table {
-        let text = padded(alloc, front, size)?;
-        assert_eq!(rt; named(Inode::<Global>::read(alloc, &text).err()), fault);
-    }
-    Ok(())
-}
-
-#[test]
-fn faults_of_chunks(rt: HostRuntime) -> Result<(), Fail> {
-    let alloc = rt.alloc();
-    let table: [(&[u8], usize, &str); 15] = [
-        (b"STC1\x01\x01\0\x40", 40, "none"),
-        (b"STR1\x40", 5, "tag"),
-        (b"STC", 3, "short"),
-        (b"STC1", 4, "short"),
-        (b"STC1\x40\0", 6, "range"),
-        (b"STC1\x01", 5, "short"),
-        (b"STC1\x01\0", 6, "range"),
-        (b"STC1\x01\x41", 6, "range"),
-        (b"STC1\0\x01\0\0", 8, "range"),
-        (b"STC1\x3f\x01\x10\0", 8, "range"),
-        (b"STC1\x01\x01\0\x3f", 8, "range"),
-        (b"STC1\x01\x01\0\x80", 8, "range"),
-        (b"STC1\x01\x01\0", 7, "short"),
-        (b"STC1\x01\x01\0\x40", 39, "short"),
-        (b"STC1\x01\x01\0\x40", 41, "trailing"),
-    ];
-    for (front, size, fault) in table {
-        let text = padded(alloc, front, size)?;
-        assert_eq!(rt; named(read_chunk(alloc, &text).err()), fault);
-    }
-    Ok(())
-}
-
-#[test]
-fn order_of_pairs(rt: HostRuntime) -> Result<(), Fail> {
-    let alloc = rt.alloc();
-    // The second i-number, and the fault behind the pair of 65.
-    for (second, fault) in [(64, "order"), (65, "order"), (66, "short"), (63, "range")] {
-        let mut text = padded(alloc, b"STC1\x01\x02\0\x41", 40)?;
-        text.extend_from_slice(&[0, second])?;
-        assert_eq!(rt; named(read_chunk(alloc, &text).err()), fault);
-    }
-    Ok(())
-}
-
-#[test]
-fn faults_of_roots(rt: HostRuntime) -> Result<(), Fail> {
-    let alloc = rt.alloc();
-    let table: [(&[u8], usize, &str); 13] = [
-        (b"STR1\x5f\x01\x3f", 39, "none"),
-        (b"STC1\x60", 5, "tag"),
-        (b"STR", 3, "short"),
-        (b"STR1", 4, "short"),
-        (b"STR1\x60\x41", 6, "range"),
-        (b"STR1\x05", 5, "short"),
-        (b"STR1\x05\x41", 6, "range"),
-        (b"STR1\x05\x01", 6, "short"),
-        (b"STR1\x05\x01\x40", 7, "range"),
-        (b"STR1\x05\x01\0", 38, "short"),
-        (b"STR1\x05\x01\0", 40, "trailing"),
-        (b"STR1\x05\x02\0", 40, "order"),
-        (b"STR1\x05\x02\x01", 40, "order"),
-    ];
-    for (front, size, fault) in table {
-        let text = padded(alloc, front, size)?;
-        assert_eq!(rt; named(read_root(alloc, &text).err()), fault);
-    }
-    Ok(())
-}
-
-#[test]
-fn empty_root(rt: HostRuntime) -> Result<(), Fail> {
-    let alloc = rt.alloc();
-    let principal = Principal::new(5).ok_or("no principal")?;
-    let mut table = ITable::empty(alloc, principal);
-    assert_eq!(rt;
-        table.root_text(alloc)?.as_slice(),
-        b"STR1\x05\0".as_slice()
+/// The digest of an i-number is of this byte everywhere, and no other i-number has any.
+fn has_alone(rt: &impl Host, table: &ITable<Global>, number: u16, byte: u8) {
+    let found = table.get(i_number(rt, number));
+    check(
+        rt,
+        found == Some(Digest::from_bytes([byte; 32])),
+        "a digest",
     );
-    assert!(rt; table.chunk_text(alloc, chunk_number(0)?)?.is_none());
-    assert_eq!(rt; table.principal(), principal);
-    Ok(())
+    check(rt, table.pairs().len() == 1, "one pair");
+}
+
+/// The handle.
+fn handle_of(rt: &impl Host, table: &mut ITable<Global>) -> Digest {
+    table.handle(rt.alloc()).expect(rt, "memory")
+}
+
+/// User 0's table with digests of 7s at these i-numbers, set from the last one to the first.
+fn table_of(rt: &impl Host, numbers: &[u16]) -> ITable<Global> {
+    let mut table = ITable::empty(rt.alloc(), principal(rt, 0));
+    for number in numbers.iter().rev() {
+        set(rt, &mut table, *number, 7);
+    }
+    table
+}
+
+/// The text of a chunk that is there.
+fn chunk_of(rt: &impl Host, table: &ITable<Global>, number: u8) -> Vec<u8> {
+    let number = ChunkNumber::new(number).expect(rt, "a chunk");
+    let text = table.chunk_text(rt.alloc(), number).expect(rt, "memory");
+    text.expect(rt, "a chunk with pairs")
+}
+
+/// The text of the root.
+fn root_of(rt: &impl Host, table: &mut ITable<Global>) -> Vec<u8> {
+    table.root_text(rt.alloc()).expect(rt, "memory")
+}
+
+/// Whether the table has a chunk.
+fn has_chunk(rt: &impl Host, table: &ITable<Global>, number: u8) -> bool {
+    let number = ChunkNumber::new(number).expect(rt, "a chunk");
+    let text = table.chunk_text(rt.alloc(), number).expect(rt, "memory");
+    text.is_some()
 }
 
 #[test]
-fn two_pairs(rt: HostRuntime) -> Result<(), Fail> {
-    let alloc = rt.alloc();
-    let mut table = ITable::empty(alloc, Principal::from(User::superuser()));
-    table.set(i_number(2)?, Digest::from_bytes([7; 32]))?;
-    table.set(i_number(1)?, Digest::from_bytes([8; 32]))?;
-    let text = table.chunk_text(alloc, chunk_number(0)?)?.ok_or("no text")?;
-    assert_eq!(rt; text.len(), 74);
-    assert!(rt; text.starts_with(b"STC1\0\x02\0\x01\x08\x08"));
-    let root = table.root_text(alloc)?;
-    assert_eq!(rt; root.len(), 39);
-    assert!(rt; root.starts_with(b"STR1\0\x01\0"));
-    Ok(())
+fn empty_table(rt: HostRuntime) {
+    let mut table = ITable::empty(rt.alloc(), principal(&rt, 5));
+    check(&rt, table.principal() == principal(&rt, 5), "principal 5");
+    check(&rt, !has_chunk(&rt, &table, 0), "no chunk");
+    check_text(&rt, &root_of(&rt, &mut table), b"STR1\x05\0");
 }
 
 #[test]
-fn changes(rt: HostRuntime) -> Result<(), Fail> {
-    let alloc = rt.alloc();
-    let mut table = ITable::empty(alloc, Principal::from(User::superuser()));
-    let one = i_number(1)?;
-    let digest = Digest::from_bytes([7; 32]);
-    let empty = table.handle(alloc)?;
-    table.set(one, Digest::from_bytes([8; 32]))?;
-    table.set(one, digest)?;
-    assert_eq!(rt; table.get(one), Some(digest));
-    assert_eq!(rt; table.pairs().len(), 1);
-    assert!(rt; table.handle(alloc)? != empty);
-    assert_eq!(rt; table.remove(one), Some(digest));
-    assert_eq!(rt; table.remove(one), None);
-    assert_eq!(rt; table.handle(alloc)?, empty);
-    Ok(())
+fn pairs_are_set_and_removed(rt: HostRuntime) {
+    let mut table = table_of(&rt, &[]);
+    let empty = handle_of(&rt, &mut table);
+    set(&rt, &mut table, 1, 8);
+    set(&rt, &mut table, 1, 7);
+    has_alone(&rt, &table, 1, 7);
+    check(&rt, handle_of(&rt, &mut table) != empty, "another handle");
+    removes(&rt, &mut table, 1, Some(7));
+    removes(&rt, &mut table, 1, None);
+    check(&rt, handle_of(&rt, &mut table) == empty, "the handle");
+}
+
+/// The chunk has so many pairs, and is read again.
+fn has_pairs(rt: &impl Host, table: &ITable<Global>, number: u8, pairs: usize, size: usize) {
+    let text = chunk_of(rt, table, number);
+    check(rt, text.len() == size, "the size of a chunk");
+    let chunk = read_chunk(rt.alloc(), &text).expect(rt, "a chunk");
+    check(rt, chunk.number().get() == number, "its number");
+    check(rt, chunk.pairs().len() == pairs, "its pairs");
+}
+
+/// The root has so many chunks, and is read again.
+fn has_chunks(rt: &impl Host, table: &mut ITable<Global>, chunks: usize, size: usize) {
+    let text = root_of(rt, table);
+    check(rt, text.len() == size, "the size of a root");
+    let root = read_root(rt.alloc(), &text).expect(rt, "a root");
+    check(rt, root.principal().get() == 0, "user 0's");
+    check(rt, root.chunks().len() == chunks, "its chunks");
 }
 
 #[test]
-fn full_chunks(rt: HostRuntime) -> Result<(), Fail> {
-    let alloc = rt.alloc();
-    let mut table = ITable::empty(alloc, Principal::from(User::superuser()));
+fn two_pairs(rt: HostRuntime) {
+    let mut table = table_of(&rt, &[2]);
+    set(&rt, &mut table, 1, 8);
+    has_pairs(&rt, &table, 0, 2, 74);
+    let chunk = chunk_of(&rt, &table, 0);
+    check(
+        &rt,
+        chunk.starts_with(b"STC1\0\x02\0\x01\x08\x08"),
+        "the chunk",
+    );
+    has_chunks(&rt, &mut table, 1, 39);
+    let root = root_of(&rt, &mut table);
+    check(&rt, root.starts_with(b"STR1\0\x01\0"), "the root");
+}
+
+/// The i-numbers of two full chunks, and one of each other chunk.
+fn numbers_of_each_chunk(rt: &impl Host) -> Vec<u16> {
+    let mut numbers = Vec::new(rt.alloc());
     for number in 1..128 {
-        table.set(i_number(number)?, Digest::from_bytes([7; 32]))?;
+        numbers.push(number).expect(rt, "memory");
     }
-    for (number, pairs) in [(0, 63), (1, 64)] {
-        let text = table
-            .chunk_text(alloc, chunk_number(number)?)?
-            .ok_or("no text")?;
-        let chunk: Chunk<Global> = read_chunk(alloc, &text)?;
-        assert_eq!(rt; text.len(), 6 + 34 * pairs);
-        assert_eq!(rt; chunk.number().get(), number);
-        assert_eq!(rt; chunk.pairs().len(), pairs);
+    for chunk in 2..64 {
+        numbers.push(chunk * 64 + 63).expect(rt, "memory");
     }
-    Ok(())
+    numbers
 }
 
 #[test]
-fn full_root(rt: HostRuntime) -> Result<(), Fail> {
-    let alloc = rt.alloc();
-    let mut table = ITable::empty(alloc, Principal::from(User::superuser()));
-    for number in 0..64 {
-        table.set(i_number(number * 64 + 63)?, Digest::from_bytes([7; 32]))?;
-    }
-    let text = table.root_text(alloc)?;
-    assert_eq!(rt; text.len(), 2118);
-    let root: Root<Global> = read_root(alloc, &text)?;
-    assert_eq!(rt; root.principal().get(), 0);
-    assert_eq!(rt; root.chunks().len(), 64);
-    Ok(())
+fn full_chunks_and_a_full_root(rt: HostRuntime) {
+    let mut table = table_of(&rt, &numbers_of_each_chunk(&rt));
+    has_pairs(&rt, &table, 0, 63, 2148);
+    has_pairs(&rt, &table, 1, 64, 2182);
+    has_pairs(&rt, &table, 63, 1, 40);
+    has_chunks(&rt, &mut table, 64, 2118);
+}
+
+/// Keeps a text.
+fn keep(rt: &impl Host, held: &mut Held<Global>, text: Vec<u8>) -> Digest {
+    held.keep(text).expect(rt, "memory")
+}
+
+/// The i-table that the held blocks spell under the handle has the pairs of this one.
+fn is_read_again(rt: &impl Host, held: &Held<Global>, handle: Digest, table: &ITable<Global>) {
+    let again = read_table(rt.alloc(), held, principal(rt, 0), handle).expect(rt, "a table");
+    check(rt, again.pairs() == table.pairs(), "the same pairs");
+}
+
+/// User 0's table with i-numbers in the chunks 0 and 3.
+#[test]
+fn table_is_read_again(rt: HostRuntime) {
+    let mut table = table_of(&rt, &[1, 2, 200]);
+    let mut held = Held::empty(rt.alloc());
+    let _first = keep(&rt, &mut held, chunk_of(&rt, &table, 0));
+    let _other = keep(&rt, &mut held, chunk_of(&rt, &table, 3));
+    let handle = keep(&rt, &mut held, root_of(&rt, &mut table));
+    is_read_again(&rt, &held, handle, &table);
+    check(&rt, handle_of(&rt, &mut table) == handle, "the handle");
 }

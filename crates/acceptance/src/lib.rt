@@ -6,21 +6,19 @@ mod above;
 #[cfg(test)]
 mod blocks;
 #[cfg(test)]
-mod broken_streams;
-#[cfg(test)]
 mod certificates;
 #[cfg(test)]
 mod changes;
 #[cfg(test)]
 mod directories;
 #[cfg(test)]
+mod faults;
+#[cfg(test)]
 mod files;
 #[cfg(test)]
-mod first_path;
+mod frames;
 #[cfg(test)]
-mod groups;
-#[cfg(test)]
-mod hostile_store;
+mod histories;
 #[cfg(test)]
 mod i_tables;
 #[cfg(test)]
@@ -28,15 +26,19 @@ mod laid_out;
 #[cfg(test)]
 mod last_blocks;
 #[cfg(test)]
+mod longest;
+#[cfg(test)]
 mod missing_chunks;
 #[cfg(test)]
 mod missing_files;
 #[cfg(test)]
+mod operations;
+#[cfg(test)]
 mod other_users;
 #[cfg(test)]
-mod refusals;
+mod plans;
 #[cfg(test)]
-mod removed;
+mod refusals;
 #[cfg(test)]
 mod replies;
 #[cfg(test)]
@@ -44,18 +46,10 @@ mod rule_parts;
 #[cfg(test)]
 mod scripts;
 #[cfg(test)]
-mod second_operation;
-#[cfg(test)]
 mod server;
-#[cfg(test)]
-mod spellings;
 #[cfg(test)]
 mod spots;
 #[cfg(test)]
-mod stored_directories;
-#[cfg(test)]
 mod texts;
-#[cfg(test)]
-mod trees;
 #[cfg(test)]
 mod world;

@@ -3,15 +3,26 @@
 use crate::texts::{Host, check, key_of, listed, named, pending, plan, reply};
 use client_verify::{Client, Phase, Rule, Step, are_laid};
 use layout::User;
+use lms_sign::PublicKey;
 use std::alloc::Global;
 use update_cert::Change;
 use wire::Status;
 
 /// The client of a user by its key, which takes the first key for user 0's.
 pub(crate) fn client_of(rt: &impl Host, user: u8, key: u8) -> Client<Global> {
-    let pinned = key_of(rt, 0).public();
+    let own = key_of(rt, key);
+    let pinned = if key == 0 {
+        own.public()
+    } else {
+        first_key(rt)
+    };
     let user = User::new(user).expect(rt, "a user");
-    Client::new(rt.alloc(), user, key_of(rt, key), pinned).expect(rt, "memory")
+    Client::new(rt.alloc(), user, own, pinned).expect(rt, "memory")
+}
+
+/// The key that every client knows, user 0's.
+pub(crate) fn first_key(rt: &impl Host) -> PublicKey {
+    key_of(rt, 0).public()
 }
 
 /// The client of user 0, which knows its own key.

@@ -1,8 +1,8 @@
-//! What scripts print.
+//! What scripts print, also where a reader or a writer fails: the lines before stand.
 
-use crate::texts::{Host, check_text};
-use fork_theorem::play;
-use std::io::Cursor;
+use crate::texts::{Host, check, check_text};
+use fork_theorem::{PlayError, play};
+use std::io::{self, BufReader, Cursor, ErrorKind, Read};
 
 /// A script, and what it prints.
 struct Case {
@@ -212,6 +212,134 @@ static CASES: [Case; 9] = [
     },
 ];
 
+/// Twenty operations, each with a file and its name.
+static TWENTY: Case = Case {
+    script: b"begin 0 make 0 3 file t1; link 0 2 n1 0 3\n\
+        update 0 a\n\
+        commit 0 a\n\
+        begin 0 make 0 4 file t2; link 0 2 n2 0 4\n\
+        update 0 a\n\
+        commit 0 a\n\
+        begin 0 make 0 5 file t3; link 0 2 n3 0 5\n\
+        update 0 a\n\
+        commit 0 a\n\
+        begin 0 make 0 6 file t4; link 0 2 n4 0 6\n\
+        update 0 a\n\
+        commit 0 a\n\
+        begin 0 make 0 7 file t5; link 0 2 n5 0 7\n\
+        update 0 a\n\
+        commit 0 a\n\
+        begin 0 make 0 8 file t6; link 0 2 n6 0 8\n\
+        update 0 a\n\
+        commit 0 a\n\
+        begin 0 make 0 9 file t7; link 0 2 n7 0 9\n\
+        update 0 a\n\
+        commit 0 a\n\
+        begin 0 make 0 10 file t8; link 0 2 n8 0 10\n\
+        update 0 a\n\
+        commit 0 a\n\
+        begin 0 make 0 11 file t9; link 0 2 n9 0 11\n\
+        update 0 a\n\
+        commit 0 a\n\
+        begin 0 make 0 12 file t10; link 0 2 n10 0 12\n\
+        update 0 a\n\
+        commit 0 a\n\
+        begin 0 make 0 13 file t11; link 0 2 n11 0 13\n\
+        update 0 a\n\
+        commit 0 a\n\
+        begin 0 make 0 14 file t12; link 0 2 n12 0 14\n\
+        update 0 a\n\
+        commit 0 a\n\
+        begin 0 make 0 15 file t13; link 0 2 n13 0 15\n\
+        update 0 a\n\
+        commit 0 a\n\
+        begin 0 make 0 16 file t14; link 0 2 n14 0 16\n\
+        update 0 a\n\
+        commit 0 a\n\
+        begin 0 make 0 17 file t15; link 0 2 n15 0 17\n\
+        update 0 a\n\
+        commit 0 a\n\
+        begin 0 make 0 18 file t16; link 0 2 n16 0 18\n\
+        update 0 a\n\
+        commit 0 a\n\
+        begin 0 make 0 19 file t17; link 0 2 n17 0 19\n\
+        update 0 a\n\
+        commit 0 a\n\
+        begin 0 make 0 20 file t18; link 0 2 n18 0 20\n\
+        update 0 a\n\
+        commit 0 a\n\
+        begin 0 make 0 21 file t19; link 0 2 n19 0 21\n\
+        update 0 a\n\
+        commit 0 a\n\
+        begin 0 make 0 22 file t20; link 0 2 n20 0 22\n\
+        update 0 a\n\
+        commit 0 a\n\
+        show 0 0 2\n\
+        show 0 0 22\n",
+    lines: b"0 begin 1\n\
+        0 accepted 1\n\
+        0 committed\n\
+        0 begin 2\n\
+        0 accepted 2\n\
+        0 committed\n\
+        0 begin 3\n\
+        0 accepted 3\n\
+        0 committed\n\
+        0 begin 4\n\
+        0 accepted 4\n\
+        0 committed\n\
+        0 begin 5\n\
+        0 accepted 5\n\
+        0 committed\n\
+        0 begin 6\n\
+        0 accepted 6\n\
+        0 committed\n\
+        0 begin 7\n\
+        0 accepted 7\n\
+        0 committed\n\
+        0 begin 8\n\
+        0 accepted 8\n\
+        0 committed\n\
+        0 begin 9\n\
+        0 accepted 9\n\
+        0 committed\n\
+        0 begin 10\n\
+        0 accepted 10\n\
+        0 committed\n\
+        0 begin 11\n\
+        0 accepted 11\n\
+        0 committed\n\
+        0 begin 12\n\
+        0 accepted 12\n\
+        0 committed\n\
+        0 begin 13\n\
+        0 accepted 13\n\
+        0 committed\n\
+        0 begin 14\n\
+        0 accepted 14\n\
+        0 committed\n\
+        0 begin 15\n\
+        0 accepted 15\n\
+        0 committed\n\
+        0 begin 16\n\
+        0 accepted 16\n\
+        0 committed\n\
+        0 begin 17\n\
+        0 accepted 17\n\
+        0 committed\n\
+        0 begin 18\n\
+        0 accepted 18\n\
+        0 committed\n\
+        0 begin 19\n\
+        0 accepted 19\n\
+        0 committed\n\
+        0 begin 20\n\
+        0 accepted 20\n\
+        0 committed\n\
+        0 dir n1 0:3 n10 0:12 n11 0:13 n12 0:14 n13 0:15 n14 0:16 n15 0:17 n16 0:18 n17 0:19 n18 0:20 n19 0:21 n2 0:4 n20 0:22 n3 0:5 n4 0:6 n5 0:7 n6 0:8 n7 0:9 n8 0:10 n9 0:11\n\
+        0 file t20\n",
+};
+
 /// The script prints its lines.
 fn prints(rt: &impl Host, case: &Case) {
     let mut reader = Cursor::new(case.script);
@@ -221,8 +349,58 @@ fn prints(rt: &impl Host, case: &Case) {
 }
 
 #[test]
-fn each_script(rt: HostRuntime) {
+fn each_script_prints_its_lines(rt: HostRuntime) {
     for case in &CASES {
         prints(&rt, case);
     }
+}
+
+#[test]
+fn twenty_operations_in_a_script(rt: HostRuntime) {
+    prints(&rt, &TWENTY);
+}
+
+/// Gives these bytes, and then fails.
+#[derive(Drop)]
+struct Failing {
+    bytes: &'static [u8],
+}
+
+impl Read for Failing {
+    fn read(&mut self, buffer: &mut [u8]) -> io::Result<usize> {
+        let size = self.bytes.len().min(buffer.len());
+        if size == 0 {
+            return Err(io::Error::from(ErrorKind::Other));
+        }
+        let (front, rest) = self.bytes.split_at(size);
+        buffer[..size].copy_from_slice(front);
+        self.bytes = rest;
+        Ok(size)
+    }
+}
+
+/// Fails in its third line.
+const SCRIPT: &[u8] = b"begin 0\nshow\nbeg";
+
+#[test]
+fn lines_before_a_failing_read(rt: HostRuntime) {
+    let failing = Failing { bytes: SCRIPT };
+    let mut reader = BufReader::new(rt.alloc(), failing).expect(&rt, "memory");
+    let mut writer = Vec::new(rt.alloc());
+    let played = play(rt.alloc(), &mut reader, &mut writer);
+    check(&rt, matches!(played, Err(PlayError::Read)), "no reader");
+    check_text(&rt, &writer, b"0 begin 1\nerror\n");
+}
+
+/// A writer with room for the first line and a part of the second one.
+const ROOM: usize = 12;
+
+#[test]
+fn lines_before_a_failing_write(rt: HostRuntime) {
+    let mut room = [0; ROOM];
+    let mut reader = Cursor::new(b"begin 0\nupdate 0 a\ncommit 0 a\n".as_slice());
+    let mut writer = Cursor::new(room.as_mut_slice());
+    let played = play(rt.alloc(), &mut reader, &mut writer);
+    check(&rt, matches!(played, Err(PlayError::Write)), "no writer");
+    check_text(&rt, &room, b"0 begin 1\n0 ");
 }

@@ -1,19 +1,22 @@
-//! A client of user 0, its server, and a store of blocks, from which the client gets what it asks for.
+//! A client of user 0, its server, and a store of blocks, from which the client gets what it asks for. A hostile store
+//! hands in something else first: the client answers which rule that breaks, asks for the same block still, and goes on
+//! with it.
 
 use crate::certificates::{i_number, principal};
 use crate::changes::Planned;
-use crate::replies::{declare_changes, end, sign, step_on, superuser};
+use crate::refusals::changed;
+use crate::replies::{declare_changes, end, first_key, sign, step_on, superuser};
 use crate::server::{Server, answers_commit, answers_update_so, server_of};
-use crate::texts::{Host, check, check_text};
+use crate::texts::{Host, check, check_text, joined};
 use client_tree::Held;
-use client_verify::{Client, Look, Step};
+use client_verify::{Client, Look, Rule, Step};
 use layout::{Digest, digest};
 use std::alloc::Global;
 use update_cert::Blocks;
 use wire::Status;
 
 /// How many blocks are handed in at most for one operation or one look.
-pub(crate) const BOUND: usize = 2000;
+const BOUND: usize = 2000;
 
 /// A client of user 0, its server, and a store of blocks.
 #[derive(Drop)]
@@ -23,22 +26,74 @@ pub(crate) struct World {
     store: Held<Global>,
     /// The blocks that were asked for since this was looked at.
     asked: Vec<Digest>,
+    /// Whether the store hands in something else first.
+    is_hostile: bool,
 }
 
-/// The beginning, where nothing is stored.
-pub(crate) fn new_world(rt: &impl Host) -> World {
+/// The beginning, where nothing is stored, with a store that is hostile or not.
+pub(crate) fn new_world(rt: &impl Host, is_hostile: bool) -> World {
     World {
         client: superuser(rt),
-        server: server_of(rt, 0),
+        server: server_of(rt, first_key(rt)),
         store: Held::empty(rt.alloc()),
         asked: Vec::new(rt.alloc()),
+        is_hostile,
     }
 }
 
-impl World {
-    /// The stored block of a digest.
-    pub(crate) fn stored(&self, digest: Digest) -> Option<&[u8]> {
-        self.store.get(digest)
+/// What is handed in in the place of a block.
+#[derive(Clone, Copy)]
+enum Fault {
+    /// Nothing.
+    Absent,
+    /// The block without its last byte.
+    Cut,
+    /// The block with its last bit changed.
+    Flipped,
+    /// Another block.
+    Another,
+}
+
+static FAULTS: [Fault; 4] = [Fault::Absent, Fault::Cut, Fault::Flipped, Fault::Another];
+
+/// A block of a file, which a client that laid it out never asks for.
+const OTHER: &[u8] = b"hello";
+
+/// What is handed in by this fault in the place of a block.
+fn bad(rt: &impl Host, block: &[u8], fault: Fault) -> Option<Vec<u8>> {
+    match fault {
+        Fault::Absent => None,
+        Fault::Cut => Some(joined(rt, &[&block[..block.len().saturating_sub(1)]])),
+        Fault::Flipped => Some(changed(rt, block)),
+        Fault::Another => Some(joined(rt, &[OTHER])),
+    }
+}
+
+/// Whether what is handed in for the block that the reply asks for breaks the rule on blocks.
+fn breaks_reply(rt: &impl Host, client: &mut Client<Global>, block: Option<&[u8]>) -> bool {
+    assert!(rt; client.wants());
+    let step = client.on_block(block).expect(rt, "memory");
+    matches!(step, Step::Broken(Rule::Block))
+}
+
+/// The same where a look asks for it.
+fn breaks_look(rt: &impl Host, client: &mut Client<Global>, block: Option<&[u8]>) -> bool {
+    assert!(rt; client.looking());
+    let look = client.give(block).expect(rt, "memory");
+    matches!(look, Look::Broken(Rule::Block))
+}
+
+/// A hostile store hands in each fault in the place of a block, which a reply or a look asks for.
+fn hand_faults(rt: &impl Host, world: &mut World, digest: Digest, is_look: bool) {
+    let block = world.store.get(digest).expect(rt, "a stored block");
+    for fault in &FAULTS {
+        let block = bad(rt, block, *fault);
+        let is_broken = if is_look {
+            breaks_look(rt, &mut world.client, block.as_deref())
+        } else {
+            breaks_reply(rt, &mut world.client, block.as_deref())
+        };
+        check(rt, is_broken, "a block of a hostile store");
     }
 }
 
@@ -60,15 +115,18 @@ pub(crate) fn begin(rt: &impl Host, world: &mut World, planned: Planned) -> Step
 }
 
 /// Hands in the block that the reply asks for.
-pub(crate) fn hand(rt: &impl Host, world: &mut World, digest: Digest) -> Step<Global> {
+fn hand(rt: &impl Host, world: &mut World, digest: Digest) -> Step<Global> {
     world.asked.push(digest).expect(rt, "memory");
+    if world.is_hostile {
+        hand_faults(rt, world, digest, false);
+    }
     assert!(rt; world.client.wants());
     let block = world.store.get(digest);
     world.client.on_block(block).expect(rt, "memory")
 }
 
 /// Hands in each block that the reply asks for, up to the texts that are handed out.
-fn hand_each(rt: &impl Host, world: &mut World, first: Step<Global>) -> Vec<Vec<u8>> {
+pub(crate) fn hand_each(rt: &impl Host, world: &mut World, first: Step<Global>) -> Vec<Vec<u8>> {
     let mut step = first;
     for _ in 0..BOUND {
         match step {
@@ -110,8 +168,11 @@ pub(crate) fn look_at(rt: &impl Host, world: &mut World, number: u16) -> Look<Gl
 }
 
 /// Gives the block that the look asks for.
-pub(crate) fn give(rt: &impl Host, world: &mut World, digest: Digest) -> Look<Global> {
+fn give(rt: &impl Host, world: &mut World, digest: Digest) -> Look<Global> {
     world.asked.push(digest).expect(rt, "memory");
+    if world.is_hostile {
+        hand_faults(rt, world, digest, true);
+    }
     assert!(rt; world.client.looking());
     let block = world.store.get(digest);
     world.client.give(block).expect(rt, "memory")
