@@ -22,7 +22,7 @@ returns g c =
     let structures : c.as_slice.result.now ≡ option_to_list state.last = c.as_slice.ensures ∙ ap (λ s. option_to_list s.last) c.self.view_is in
     let pending : c.deref.result.now ≡ next_item state found ∷ [] = c.deref.ensures.value ∙ one ∙ ap (λ i. i ∷ []) new in
     let text : c.in_ok-reply.reply.items ≡ reply.spell (next_reply state found)
-    = c.in_ok-reply.ensures
+    = c.in_ok-reply.ensures.text
     ∙ ap (λ ss. reply.spell (record { structures = ss; pending = c.deref.result.now })) structures
     ∙ ap (λ is. reply.spell (record { structures = option_to_list state.last; pending = is })) pending in
     let vector : c.in_ok-vector.vector ≡ raised found.value.user state.vector = c.in_ok-vector.ensures ∙ c.vector.ensures ∙ ap (λ p. p.vector) c.requires.plan in
