@@ -218,13 +218,6 @@ impl<A: Allocator + Copy> Ordered<A> {
     {
         let alloc = *self.history.allocator();
         let judged = self.state.judge(alloc, &self.pinned, kind, text)?;
-        carry_out(
-            &mut self.state,
-            &mut self.history,
-            log,
-            kind,
-            text,
-            judged,
-        )
+        carry_out(&mut self.state, &mut self.history, log, kind, text, judged)
     }
 }

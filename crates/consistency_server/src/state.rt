@@ -276,12 +276,7 @@ impl<A: Allocator + Copy> State<A> {
     }
 
     /// What an UPDATE leads to.
-    fn judge_update(
-        &self,
-        alloc: A,
-        pinned: &PublicKey,
-        text: &[u8],
-    ) -> Result<Judged<A>, Memory>
+    fn judge_update(&self, alloc: A, pinned: &PublicKey, text: &[u8]) -> Result<Judged<A>, Memory>
         ensures { (es : List Event) → Keeps es self.now → IfOk result (λ judged. JudgedAs self.now judged (read_update pinned.now es (whole (signed cert) text.now))) }
     {
         match read_signed::<A, Cert<A>>(alloc, text)? {
@@ -379,12 +374,7 @@ impl<A: Allocator + Copy> State<A> {
     }
 
     /// What a COMMIT leads to.
-    fn judge_commit(
-        &self,
-        alloc: A,
-        pinned: &PublicKey,
-        text: &[u8],
-    ) -> Result<Judged<A>, Memory>
+    fn judge_commit(&self, alloc: A, pinned: &PublicKey, text: &[u8]) -> Result<Judged<A>, Memory>
         ensures { (es : List Event) → Keeps es self.now → IfOk result (λ judged. JudgedAs self.now judged (read_commit pinned.now es (whole (signed structure) text.now))) }
     {
         let Some(found) = read_signed::<A, Structure<A>>(alloc, text)? else {

@@ -13,8 +13,9 @@ const WORDS: u8 = 5;
 /// Runs the script. The program takes no words but `--help`.
 fn run(rt: &HostRuntime) -> anyhow::Result<ExitCode> {
     let words: Vec<String> = env::args(rt)?.collect(rt.alloc())?;
-    let command = Command::new(rt.alloc(), "sundr_play")
-        .about("Runs a script from standard input: a command a line, a printed line for each");
+    let command = Command::new(rt.alloc(), "sundr_play").about(
+        "Runs a script from standard input: a command a line, a printed line for each",
+    );
     if let Err(fault) = command.try_get_matches_from(words.as_slice()) {
         fault.print(rt)?;
         let status = if fault.exit_code() == 0 { 0 } else { WORDS };
