@@ -12,7 +12,7 @@ abbrev pub least : List (Rule × Bool) → Option Rule
 least [] = None
 least (t ∷ ts) = if t.1 then least ts else Some t.0
 
--- the rules after that on unknown users
+-- the rules behind that on unknown users
 abbrev pub behind_users : Lists → List (Rule × Bool)
 behind_users x = (rule.Numbers, numbers x) ∷ (rule.Vector, vector x) ∷ (rule.Entries, entries x) ∷ (rule.Link, link x) ∷ []
 

@@ -1,4 +1,3 @@
--- Nobody has to believe this file: an aid of private contracts.
 -- Entries that are one of two.
 use Rattle.std.specs.Prelude.{List, Bool, ◌||◌}
 use Rattle.std.specs.List.{list_all}

@@ -151,7 +151,7 @@ same_vector [] (b ∷ bs) = false
 same_vector (a ∷ as') [] = false
 same_vector (a ∷ as') (b ∷ bs) = same_version a b && same_vector as' bs
 
--- the vector of an operation after one of this vector
+-- the vector of an operation behind one of this vector
 abbrev pub next_vector : PendingItem → List Component → List Component
 next_vector i v = raised_all (raised_groups i) (vector_spec.raised i.plan.user v)
 
@@ -221,7 +221,7 @@ shows x before rest p =
     shows_earlier before p
     && (rest_known x before p && (rest_waiting x before p && (rest_others before p && within (rest_of before p) rest)))
 
--- each plan above shows what it has to, given those before it
+-- each plan above shows what it has to, behind those before it
 abbrev pub all_show : Lists → List Plan → Option (List Entry) → List Plan → Bool
 all_show x before rest [] = true
 all_show x before rest (p ∷ ps) = shows x before rest p && all_show x (before ++ p ∷ []) (Some (rest_of before p)) ps

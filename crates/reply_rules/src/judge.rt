@@ -66,7 +66,7 @@ fn users_known<A: Allocator>(
     structures_known(table, structures) && pending_known(table, others) && own_known
 }
 
-/// The first broken rule after that on unknown users, where there is one structure at most, and nothing is pending
+/// The first broken rule behind that on unknown users, where there is one structure at most, and nothing is pending
 /// but the own item.
 fn broken_alone<A: Allocator + Copy>(
     alloc: A,
