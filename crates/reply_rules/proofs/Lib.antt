@@ -6,3 +6,4 @@ pub mod RaisedLaws
 pub mod VectorLaws
 pub mod EntriesLaws
 pub mod RecordsLaws
+pub mod Examples

@@ -1,5 +1,5 @@
-//! The rules of a client that speak of the lists of a reply and the table alone: which of them is the first that doesn't
-//! hold.
+//! The rules of a client that speak of the lists of a reply and the table alone: which of them is the first that
+//! doesn't hold.
 #![tactic(auto)]
 
 mod entries;
