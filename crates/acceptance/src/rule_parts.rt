@@ -475,8 +475,8 @@ fn first_broken(rt: &impl Host, reply: &Reply<Global>) -> Option<Rule> {
     if !lists_hold(reply) {
         return Some(Rule::Lists);
     }
-    assert!(rt; !reply.pending().is_empty());
-    broken(rt.alloc(), reply, &table(rt)).expect(rt, "memory")
+    let own = reply.pending().last().expect(rt, "an own item");
+    broken(rt.alloc(), reply, &table(rt), own.plan().user()).expect(rt, "memory")
 }
 
 #[test]

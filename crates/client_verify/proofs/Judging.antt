@@ -1,6 +1,6 @@
 -- From the rules' tests to the first broken rule.
-use Rattle.std.proofs.Common.{◌≡◌, ℕ, ◌<◌, arith, ◌-◌, true, false, List, [], ◌∷◌, Option, Some, None, refl, length}
-use Rattle.std.specs.Prelude.{IsSome, IsSomeAnd, IfSome, IfOk, Result, Ok, Err}
+use Rattle.std.proofs.Common.{◌≡◌, ℕ, ◌<◌, arith, ◌-◌, true, false, List, [], ◌∷◌, Option, Some, None, refl, sym, ap, ◌∙◌, length}
+use Rattle.std.specs.Prelude.{IsSome, IfSome, IfOk, Result, Ok, Err}
 use Rattle.std.specs.List.{slice_get}
 use Rattle.std.specs.Option.{option_map, option_map_or}
 use Rattle.pending_list.specs.Reply.{PendingItem, Reply}
@@ -37,6 +37,13 @@ pub pending_length : (r : Reply) (declared : List ℕ) → own_pending declared 
 unfolding own_pending
 pending_length r declared h = some_length declared r.pending h
 
+-- and there is a last one
+pub something_stands : (r : Reply) (declared : List ℕ) → own_pending declared r ≡ true → slice_get r.pending (length r.pending - 1) ≡ None → ⊥
+unfolding own_pending
+something_stands r declared h none =
+    let fails : false ≡ true = sym (ap (λ (o : Option PendingItem). option_map_or (λ i. bytes_eq (cert_sent i) declared) o false) none) ∙ h in
+    cc
+
 -- what is left to judge where the rules up to user 0's signatures hold
 pub rules_left : (k : Known) (r : Reply) → lists r ≡ true → own_last k.user k.last r ≡ true → own_pending k.declared r ≡ true → super_signature k.pinned r ≡ true
     → of_reply k r ≡ least (of_lists k.pinned (lists_of r))
@@ -51,8 +58,3 @@ broken_first pinned (Some x) answer h told = told
 pub each_ok : {X E : Type 0} (r : Result X E) (P Q : X → Type 0) → ((x : X) → P x → Q x) → IfOk r P → IfOk r Q
 each_ok (Ok x) P Q h told = h x told
 each_ok (Err e) P Q h told = tt
-
--- what holds of it if there is some, holds where there is some
-pub some_and : {A : Type 0} (o : Option A) (P : A → Type 0) → IsSome o → IfSome o P → IsSomeAnd o P
-some_and None P is told = absurd cc
-some_and (Some a) P is told = told

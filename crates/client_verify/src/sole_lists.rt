@@ -18,7 +18,7 @@ pub(crate) struct SoleLists<A: Allocator> {
 impl<A: Allocator> Model for SoleLists<A> {
     ghost use Rattle.reply_rules.specs.Lists.{Lists};
     ghost use Rattle.std.specs.Prelude.{◌≡◌, true};
-    ghost use Rattle.reply_rules.specs.Lists.{is_of_one};
+    ghost use Rattle.client_verify.specs.Sole.{is_of_one};
 
     ghost Value = { Lists };
 
@@ -28,7 +28,8 @@ impl<A: Allocator> Model for SoleLists<A> {
 }
 
 impl<A: Allocator> SoleLists<A> {
-    ghost use Rattle.reply_rules.specs.Lists.{lists_of, is_of_one};
+    ghost use Rattle.reply_rules.specs.Lists.{lists_of};
+    ghost use Rattle.client_verify.specs.Sole.{is_of_one};
 
     /// The lists of a reply that shows nobody else's structure. None where nothing is pending.
     pub(crate) fn of(reply: Reply<A>) -> Option<SoleLists<A>>

@@ -3,7 +3,8 @@
 ghost use Rattle.std.specs.Prelude.{IsSomeAnd, IfErr, OnOk, Ok, ◌≡◌, ℕ, List, IfOk, Option, Some, None, IsSome, true, map};
 ghost use Rattle.std.specs.List.{list_all};
 ghost use Rattle.std.specs.Option.{option_copied, option_map};
-ghost use Rattle.reply_rules.specs.Lists.{lists_of, is_of_one};
+ghost use Rattle.reply_rules.specs.Lists.{lists_of};
+ghost use Rattle.client_verify.specs.Sole.{is_of_one};
 ghost use Rattle.pending_list.specs.Signed.{signed};
 ghost use Rattle.update_cert.specs.Cert.{cert};
 ghost use Rattle.client_verify.specs.FirstBroken.{own_last, own_pending, super_signature, shown_of, structure_sent, cert_sent, same_bytes, structure_verifies, cert_verifies, of_reply, first_broken};
@@ -176,7 +177,11 @@ pub(crate) fn first_broken<A: Allocator + Copy>(
     if !super_signature(alloc, pinned, reply)? {
         return Ok(Some(Rule::SuperSignature));
     }
-    broken(alloc, reply, &Table::genesis(*pinned))
+    // The last pending certificate is the own one.
+    let Some(own) = reply.pending().last() else {
+        unreachable!()
+    };
+    broken(alloc, reply, &Table::genesis(*pinned), own.plan().user())
 }
 
 /// Reads and judges the bytes of a reply: the reply, or the first rule that it breaks.

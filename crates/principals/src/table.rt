@@ -1,12 +1,12 @@
 //! The table, and its rows.
 
-ghost use Rattle.std.specs.Prelude.{◌≡◌, ℕ, true};
+ghost use Rattle.std.specs.Prelude.{◌≡◌};
 
-use layout::User;
+use layout::{Group, User};
 use lms_sign::PublicKey;
 use std::marker::Model;
 
-/// A row of the table: a user and its key.
+/// A user and its key.
 #[derive(Clone, Copy, Debug)]
 pub struct Listing {
     pub user: User,
@@ -15,25 +15,25 @@ pub struct Listing {
     pub key: PublicKey,
 }
 
-/// Who is a user, since when, and by which key.
+/// Who is a user, since when and by which key, and who is a member of which group.
 #[derive(Debug, Drop)]
 pub struct Table {
     superuser: Listing,
 }
 
 impl Model for Table {
-    ghost use Rattle.std.specs.Prelude.{List, [], ◌∷◌, ◌≡◌};
-    ghost use Rattle.principals.specs.declared.table.Listing.{Listing};
+    ghost use Rattle.std.specs.Prelude.{[], ◌∷◌, ◌≡◌};
+    ghost use Rattle.principals.specs.Table.{Table};
 
-    ghost Value = { List Listing };
+    ghost Value = { Table };
 
-    ghost view = { λ t. t.superuser ∷ [] };
+    ghost view = { λ t. record { users = t.superuser ∷ []; rows = [] } };
 
     ghost invariant = { λ t. t.superuser.user ≡ 0 };
 }
 
 impl Table {
-    ghost use Rattle.principals.specs.Table.{genesis, key_of, is_listed};
+    ghost use Rattle.principals.specs.Table.{genesis, key_of, is_listed, is_member};
 
     /// The table of the beginning: user 0 with the key that every client knows.
     pub fn genesis(key: PublicKey) -> Table
@@ -61,9 +61,16 @@ impl Table {
 
     /// Whether the user is listed since this number of user 0's or before. Until users can be added, user 0 alone is.
     pub fn is_listed(&self, user: User, number: u32) -> bool
-        ensures listed { result ≡ is_listed self.now user number }
-        ensures superuser { (u n : ℕ) → is_listed self.now u n ≡ true → u ≡ 0 }
+        ensures { result ≡ is_listed self.now user number }
     {
         self.superuser.user == user && self.superuser.since <= number
+    }
+
+    /// Whether the user is a member of the group at this number of user 0's. Until members can be added, nobody is.
+    pub fn is_member(&self, group: Group, user: User, version: u32) -> bool
+        ensures { result ≡ is_member self.now group user version }
+    {
+        let _nobody = &self.superuser;
+        false
     }
 }

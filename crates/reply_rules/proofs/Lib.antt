@@ -1,5 +1,9 @@
-pub mod Alone
-pub mod Reduced
+pub mod Tests
+pub mod Above
+pub mod GroupsLaws
 pub mod SameVector
-pub mod First
+pub mod RaisedLaws
+pub mod VectorLaws
+pub mod EntriesLaws
+pub mod RecordsLaws
 pub mod Examples

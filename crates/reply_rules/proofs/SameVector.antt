@@ -1,12 +1,10 @@
 -- Vectors that are compared component by component.
-use Rattle.std.proofs.Common.{◌≡◌, ℕ, ◌+◌, Bool, true, false, List, [], ◌∷◌, refl, sym, ap, subst, cond, ◌∙◌}
+use Rattle.std.proofs.Common.{◌≡◌, Bool, true, false, List, [], ◌∷◌, refl, sym, ap, subst, ◌∙◌}
 use Rattle.std.specs.Prelude.{◌↔◌, IsTrue}
 use Rattle.std.proofs.lemmas.Bool.{eqb-true, eq-eqb}
 use Rattle.version_order.specs.declared.vector.Component.{Component}
-use Rattle.version_order.specs.Vector.{version_of, raised, vector}
-use Rattle.version_order.specs.VectorLaws.{version_of-raised}
 use Rattle.reply_rules.specs.Rules.{same_version, same_vector}
-use Rattle.reply_rules.proofs.Alone.{both}
+use Rattle.reply_rules.proofs.Tests.{both, is_false}
 
 same_version_is : (a b : Component) → same_version a b ≡ true → a ≡ b
 same_version_is a b h =
@@ -29,18 +27,7 @@ pub same_vector_self : (v : List Component) → same_vector v v ≡ true
 same_vector_self [] = refl
 same_vector_self (a ∷ as') = rw (eq-eqb a.principal a.principal refl, eq-eqb a.version a.version refl, same_vector_self as') refl
 
-is_false : (b : Bool) → (b ≡ true → ⊥) → b ≡ false
-is_false true h = absurd (h refl)
-is_false false h = refl
-
 -- a test that tells whether two vectors are one tells whether they are the same
 pub same_by : (b : Bool) (v w : List Component) → (IsTrue b ↔ (v ≡ w)) → b ≡ same_vector v w
 same_by true v w h = let e : v ≡ w = h.0 refl in sym (subst (λ (z : List Component). same_vector v z ≡ true) e (same_vector_self v))
 same_by false v w h = sym (is_false _ (λ t. let e : false ≡ true = h.1 (same_vector_is v w t) in cc))
-
--- a vector whose version isn't one more isn't the raised one
-pub not_raised : (u : ℕ) (v w : List Component) → vector.Fits w → (version_of u v ≡ version_of u w + 1 → ⊥) → same_vector v (raised u w) ≡ false
-not_raised u v w fits other =
-    is_false _ (λ h.
-    let same : v ≡ raised u w = same_vector_is v (raised u w) h in
-    other (ap (version_of u) same ∙ version_of-raised u u w fits ∙ ap (λ b. version_of u w + cond b 1 0) (eq-eqb u u refl)))

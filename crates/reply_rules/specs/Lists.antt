@@ -1,7 +1,6 @@
 -- The lists of a reply in which something is pending: the structures, the pending items of others, and the own item,
 -- which is the last.
-use Rattle.std.specs.Prelude.{ℕ, Bool, List, [], ◌∷◌, ◌++◌, Option, Some, None, ◌==◌, map, find}
-use Rattle.std.specs.List.{list_all}
+use Rattle.std.specs.Prelude.{ℕ, List, [], ◌∷◌, ◌++◌, Option, Some, None, ◌==◌, map, find}
 use Rattle.std.specs.Option.{option_map, option_map_or}
 use Rattle.version_order.specs.Plan.{Plan}
 use Rattle.version_order.specs.Structure.{Structure}
@@ -41,12 +40,3 @@ structure_of u x = find (λ z. z.value.plan.user == u) x.structures
 -- the number of a user's structure, 0 where there is none
 abbrev pub number_of : ℕ → Lists → ℕ
 number_of u x = option_map_or (λ z. z.value.plan.number) (structure_of u x) 0
-
--- the lists of a reply that has at most one structure, and nothing pending but the own item
-abbrev pub alone : Option (Signed Structure) → PendingItem → Lists
-alone None i = record { structures = []; others = []; own = i }
-alone (Some z) i = record { structures = z ∷ []; others = []; own = i }
-
--- each structure is of the own item's user
-abbrev pub is_of_one : Lists → Bool
-is_of_one x = list_all (λ z. z.value.plan.user == x.own.plan.user) x.structures

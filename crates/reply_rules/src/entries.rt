@@ -1,58 +1,226 @@
-//! The rule on entries, where there is one structure at most, and nothing is pending but the own item.
+//! The rule on entries. Each plan's entry is made once.
 
-ghost use Rattle.std.specs.Prelude.{◌≡◌, IfOk, true};
-ghost use Rattle.std.specs.Option.{option_copied};
+ghost use Rattle.std.specs.Prelude.{◌≡◌, ◌&&◌, IfOk, map, take, drop};
+ghost use Rattle.std.specs.List.{list_all};
 ghost use Rattle.version_order.specs.Plan.{entry_of};
-ghost use Rattle.reply_rules.specs.Lists.{alone};
-ghost use Rattle.reply_rules.specs.Rules.{same_entry, is_above, top_known, entries};
-ghost use Rattle.reply_rules.specs.Known.{all_of_two};
+ghost use Rattle.reply_rules.specs.Lists.{shown, pending};
+ghost use Rattle.reply_rules.specs.Rules.{waiting, above, entries_of, top_entries, own_entry_of_top, top_known, top_waiting, above_show, other_entries, own_only, own_all, entries};
+ghost use Rattle.reply_rules.specs.Shown.{shows_left, shows_by, place_of_depth};
 
-use layout::Memory;
+use crate::reply_lists::Lists;
+use crate::rest::{Rest, are_listed, are_of_either};
+use layout::{Memory, User};
 use pending_list::{PendingItem, Signed};
 use std::alloc::Allocator;
-use version_order::{Entry, Structure};
+use version_order::{Entry, Plan, Structure, depth};
 
-/// Whether two entries have the same user, number and digest.
-fn same_entry(a: &Entry, b: &Entry) -> bool
-    ensures { result ≡ same_entry a.now b.now }
-{
-    a.user == b.user && a.number == b.number && a.plan == b.plan
-}
-
-/// Whether each entry is one of these two.
-fn all_of_two(entries: &[Entry], first: &Entry, second: &Entry) -> bool
-    ensures { result ≡ all_of_two entries.now first.now second.now }
-{
-    entries.iter().all(|entry| same_entry(entry, first) || same_entry(entry, second))
-}
-
-/// Whether each entry of top is of its structure or of the own plan.
-fn top_known<A: Allocator + Copy>(
+/// The entries of these structures' plans.
+fn entries_of_structures<A: Allocator + Copy>(
     alloc: A,
-    shown: Option<&Signed<Structure<A>>>,
-    own: &PendingItem<A>,
-) -> Result<bool, Memory>
-    ensures { IfOk result (λ known. known ≡ top_known (alone (option_copied shown.entry) own.now)) }
+    structures: &[Signed<Structure<A>>],
+) -> Result<Vec<Entry, A>, Memory>
+    ensures { IfOk result (λ made. made.items ≡ entries_of (map (λ z. z.value.plan) structures.now)) }
 {
-    let Some(top) = shown else {
-        return Ok(true);
-    };
-    let plan = top.value.plan();
-    let first = plan.entry(alloc)?;
-    let second = own.plan().entry(alloc)?;
-    Ok(all_of_two(plan.entries().as_slice(), &first, &second))
+    let mut made = Vec::new(alloc);
+    for structure in structures {
+        made.push(structure.value.plan().entry(alloc)?)?;
+    }
+    Ok(made)
 }
 
-/// Whether the rule on entries holds, where the own plan is above top.
-#[tactic(auto, using(crate::proofs::Reduced::entries_of_alone))]
+/// The entries of these pending plans.
+fn entries_of_pending<A: Allocator + Copy>(
+    alloc: A,
+    items: &[PendingItem<A>],
+) -> Result<Vec<Entry, A>, Memory>
+    ensures { IfOk result (λ made. made.items ≡ entries_of (map (λ i. i.plan) items.now)) }
+{
+    let mut made = Vec::new(alloc);
+    for item in items {
+        made.push(item.plan().entry(alloc)?)?;
+    }
+    Ok(made)
+}
+
+/// Top's entries, none where there is no structure.
+fn top_entries<'a, A: Allocator>(lists: &Lists<'a, A>) -> &'a [Entry]
+    ensures { result.now ≡ top_entries lists.now }
+{
+    match lists.top() {
+        Some(top) => top.value.plan().entries().as_slice(),
+        None => &[],
+    }
+}
+
+/// How many structures come before the first of this depth.
+fn place_of_depth<A: Allocator>(structures: &[Signed<Structure<A>>], top: u64) -> usize
+    ensures { result ≡ place_of_depth top structures.now }
+{
+    let mut before = 0;
+    for structure in structures {
+        if depth(structure.value.plan()) == top {
+            return before;
+        }
+        before += 1;
+    }
+    before
+}
+
+/// The first of these entries that is left after some of them, if there is one.
+fn first_after(entries: &[Entry], place: usize) -> &[Entry]
+    ensures { result.now ≡ take 1 (drop place entries.now) }
+{
+    if place < entries.len() {
+        &entries[place..place + 1]
+    } else {
+        &[]
+    }
+}
+
+/// Top's own entry, none where there is no structure.
+fn own_entry_of_top<'e, A: Allocator>(lists: &Lists<'_, A>, entered: &'e [Entry]) -> &'e [Entry]
+    requires { entered.now ≡ entries_of (shown lists.now) }
+    ensures { result.now ≡ own_entry_of_top lists.now }
+{
+    first_after(
+        entered,
+        place_of_depth(lists.structures(), lists.depth_of_top()),
+    )
+}
+
+/// Whether a plan of this user and with these entries shows what it has to, where those left of them without those
+/// before are these.
+fn shows_left(
+    top: &[Entry],
+    own: &[Entry],
+    waiting: &[Entry],
+    before: &[Entry],
+    left: &Rest<'_>,
+    rest: &Option<Rest<'_>>,
+    entries: &[Entry],
+    user: User,
+) -> bool
+    ensures { result ≡ shows_left top.now own.now waiting.now before.now left.now rest.now entries.now user }
+{
+    are_listed(before, entries)
+        && left.is_of_either(top, own)
+        && left.has_all(waiting)
+        && left.is_of_others(user)
+        && left.is_within(rest)
+}
+
+/// Whether a plan above shows what it has to, told by the entries of those that wait and of those before it.
+fn shows<A: Allocator>(
+    lists: &Lists<'_, A>,
+    own: &[Entry],
+    waiting: &[Entry],
+    before: &[Entry],
+    rest: &Option<Rest<'_>>,
+    plan: &Plan<A>,
+) -> bool
+    requires { own.now ≡ own_entry_of_top lists.now }
+    ensures { result ≡ shows_by lists.now waiting.now before.now rest.now plan.now }
+{
+    let top = top_entries(lists);
+    let entries = plan.entries().as_slice();
+    let left = Rest::of(before, entries);
+    shows_left(top, own, waiting, before, &left, rest, entries, plan.user())
+}
+
+/// Whether each plan above does.
+fn above_show<A: Allocator>(
+    lists: &Lists<'_, A>,
+    own: &[Entry],
+    waits: &[Entry],
+    later: &[Entry],
+) -> bool
+    requires own { own.now ≡ own_entry_of_top lists.now }
+    requires waits { waits.now ≡ entries_of (waiting lists.now) }
+    requires later { later.now ≡ entries_of (above lists.now) }
+    ensures { result ≡ above_show lists.now }
+{
+    let items = lists.above();
+    let mut rest = None;
+    for (k, item) in items.iter().enumerate() {
+        let before = &later[..k];
+        if !shows(lists, own, waits, before, &rest, item.plan()) {
+            return false;
+        }
+        rest = Some(Rest::of(before, item.plan().entries().as_slice()));
+    }
+    true
+}
+
+/// Whether the own plan's entries are those of the other pending plans, and all of them.
+fn own_shows<A: Allocator>(lists: &Lists<'_, A>, others: &[Entry]) -> bool
+    requires { others.now ≡ other_entries lists.now }
+    ensures { result ≡ (own_only lists.now && own_all lists.now) }
+{
+    let own = lists.own().plan().entries().as_slice();
+    are_listed(own, others) && are_listed(others, own)
+}
+
+/// Whether each entry of top is of its user's structure or pending plan.
+fn top_known<A: Allocator>(lists: &Lists<'_, A>, entered: &[Entry], made: &[Entry]) -> bool
+    requires entered { entered.now ≡ entries_of (shown lists.now) }
+    requires made { made.now ≡ entries_of (pending lists.now) }
+    ensures { result ≡ top_known lists.now }
+{
+    are_of_either(top_entries(lists), entered, made)
+}
+
+/// Whether each pending plan that isn't above is an entry of top.
+fn top_waiting<A: Allocator>(lists: &Lists<'_, A>, waits: &[Entry]) -> bool
+    requires { waits.now ≡ entries_of (waiting lists.now) }
+    ensures { result ≡ top_waiting lists.now }
+{
+    are_listed(waits, top_entries(lists))
+}
+
+/// Whether the rule on entries holds, told by the entries of the structures, of the pending plans, of those of them that
+/// wait and that are above, and of the others.
+#[tactic(auto, unfolding(crate::specs::Rules::entries))]
+fn all_hold<A: Allocator>(
+    lists: &Lists<'_, A>,
+    entered: &[Entry],
+    made: &[Entry],
+    waits: &[Entry],
+    later: &[Entry],
+    others: &[Entry],
+) -> bool
+    requires entered { entered.now ≡ entries_of (shown lists.now) }
+    requires made { made.now ≡ entries_of (pending lists.now) }
+    requires waits { waits.now ≡ entries_of (waiting lists.now) }
+    requires later { later.now ≡ entries_of (above lists.now) }
+    requires others { others.now ≡ other_entries lists.now }
+    ensures { result ≡ entries lists.now }
+{
+    let own = own_entry_of_top(lists, entered);
+    top_known(lists, entered, made)
+        && top_waiting(lists, waits)
+        && above_show(lists, own, waits, later)
+        && own_shows(lists, others)
+}
+
+/// The same, told by the entries of the structures and of the pending plans.
+fn hold_by<A: Allocator>(lists: &Lists<'_, A>, entered: &[Entry], made: &[Entry]) -> bool
+    requires entered { entered.now ≡ entries_of (shown lists.now) }
+    requires made { made.now ≡ entries_of (pending lists.now) }
+    ensures { result ≡ entries lists.now }
+{
+    let (waits, later) = made.split_at(lists.waiting().len());
+    let others = &made[..lists.others().len()];
+    all_hold(lists, entered, made, waits, later, others)
+}
+
+/// Whether the rule on entries holds.
 pub(crate) fn entries_hold<A: Allocator + Copy>(
     alloc: A,
-    shown: Option<&Signed<Structure<A>>>,
-    own: &PendingItem<A>,
+    lists: &Lists<'_, A>,
 ) -> Result<bool, Memory>
-    requires { is_above (alone (option_copied shown) own.now) own.now.plan ≡ true }
-    ensures { IfOk result (λ holds. holds ≡ entries (alone (option_copied shown.entry) own.now)) }
+    ensures { IfOk result (λ holds. holds ≡ entries lists.now) }
 {
-    let known = top_known(alloc, shown, own)?;
-    Ok(known && own.plan().entries().as_slice().is_empty())
+    let entered = entries_of_structures(alloc, lists.structures())?;
+    let made = entries_of_pending(alloc, lists.pending())?;
+    Ok(hold_by(lists, &entered, &made))
 }

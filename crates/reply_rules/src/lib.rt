@@ -1,11 +1,16 @@
-//! The rules of a client that speak of the lists of a reply alone: which of them is the first that doesn't hold.
+//! The rules of a client that speak of the lists of a reply and the table alone: which of them is the first that
+//! doesn't hold.
 #![tactic(auto)]
 
 mod entries;
+mod groups;
 mod judge;
 mod link;
 mod lists;
 mod numbers;
+mod records;
+mod reply_lists;
+mod rest;
 mod rule;
 mod vector;
 

@@ -1,15 +1,13 @@
-//! The rule on links, where there is one structure at most, and nothing is pending but the own item.
+//! The rule on links. Each certificate's digest is made once, and each structure's at most once, since no two pending
+//! certificates are of one user.
 
-ghost use Rattle.std.specs.Prelude.{◌≡◌, IfOk};
-ghost use Rattle.std.specs.Option.{option_copied};
-ghost use Rattle.reply_rules.specs.Lists.{alone};
-ghost use Rattle.reply_rules.specs.Rules.{names_certificate, names_last, last_digest, link};
+ghost use Rattle.std.specs.Prelude.{◌≡◌, ◌&&◌, IfOk};
+ghost use Rattle.reply_rules.specs.Rules.{names_certificate, names_last, link};
 
-use crate::lists::shown_user;
-use layout::{Digest, Memory};
-use pending_list::{PendingItem, Signed, digest_of_last};
+use crate::reply_lists::Lists;
+use layout::Memory;
+use pending_list::{PendingItem, digest_of_last};
 use std::alloc::Allocator;
-use version_order::Structure;
 
 /// Whether the plan names its certificate.
 fn names_certificate<A: Allocator + Copy>(alloc: A, item: &PendingItem<A>) -> Result<bool, Memory>
@@ -18,31 +16,43 @@ fn names_certificate<A: Allocator + Copy>(alloc: A, item: &PendingItem<A>) -> Re
     Ok(item.plan().certificate() == item.cert().digest(alloc)?)
 }
 
-/// The digest of the structure of the own certificate's user, zeros where there is none.
-fn last_digest<A: Allocator + Copy>(
+/// Whether the certificate names its user's structure.
+fn names_last<A: Allocator + Copy>(
     alloc: A,
-    shown: Option<&Signed<Structure<A>>>,
-    own: &PendingItem<A>,
-) -> Result<Digest, Memory>
-    ensures { IfOk result (λ last. last ≡ last_digest own.now.cert.user (alone (option_copied shown.entry) own.now)) }
+    lists: &Lists<'_, A>,
+    item: &PendingItem<A>,
+) -> Result<bool, Memory>
+    ensures { IfOk result (λ names. names ≡ names_last lists.now item.now) }
 {
-    let last = match shown {
-        Some(top) if shown_user(top) == own.cert().user().get() => shown,
-        _ => None,
-    };
-    digest_of_last(alloc, last)
+    let structure = lists.structure_of(item.cert().user().get());
+    let last = digest_of_last(alloc, structure)?;
+    Ok(item.cert().last() == last)
+}
+
+/// Whether both are so.
+fn links<A: Allocator + Copy>(
+    alloc: A,
+    lists: &Lists<'_, A>,
+    item: &PendingItem<A>,
+) -> Result<bool, Memory>
+    ensures { IfOk result (λ links. links ≡ (names_certificate item.now && names_last lists.now item.now)) }
+{
+    Ok(names_certificate(alloc, item)? && names_last(alloc, lists, item)?)
 }
 
 /// Whether the rule on links holds.
 #[tactic(auto, unfolding(crate::specs::Rules::link))]
 pub(crate) fn link_holds<A: Allocator + Copy>(
     alloc: A,
-    shown: Option<&Signed<Structure<A>>>,
-    own: &PendingItem<A>,
+    lists: &Lists<'_, A>,
 ) -> Result<bool, Memory>
-    ensures { IfOk result (λ holds. holds ≡ link (alone (option_copied shown.entry) own.now)) }
+    ensures { IfOk result (λ holds. holds ≡ link lists.now) }
 {
-    let certificate = names_certificate(alloc, own)?;
-    let last = last_digest(alloc, shown, own)?;
-    Ok(certificate && own.cert().last() == last)
+    let items = lists.pending();
+    for item in items {
+        if !links(alloc, lists, item)? {
+            return Ok(false);
+        }
+    }
+    Ok(true)
 }

@@ -1,12 +1,22 @@
-use Rattle.std.proofs.Common.{◌≡◌, sym, ◌∙◌, true, subst, List}
+use Rattle.std.proofs.Common.{◌≡◌, ◌-◌, sym, ap, ◌∙◌, true, subst, List, None, length}
 use Rattle.std.specs.Prelude.{IfOk, IfSome}
-use Rattle.principals.specs.declared.table.Listing.{Listing}
+use Rattle.principals.specs.Table.{Table}
 use Rattle.reply_rules.specs.Broken.{broken}
 use Rattle.std.specs.Option.{option_copied}
-use Rattle.reply_rules.specs.Lists.{lists_of, is_of_one}
+use Rattle.std.specs.List.{slice_get}
+use Rattle.pending_list.specs.Reply.{PendingItem}
+use Rattle.reply_rules.specs.Lists.{lists_of}
 use Rattle.client_verify.specs.FirstBroken.{Known, own_last, own_pending, super_signature}
-use Rattle.client_verify.proofs.Judging.{something_pending, pending_length, rules_left, broken_first, each_ok, some_and}
+use Rattle.client_verify.proofs.Judging.{something_pending, pending_length, something_stands, rules_left, broken_first, each_ok}
+use Rattle.client_verify.proofs.Sole.{sole_lists}
 use Rattle.client_verify.proofs.verdict.first_broken.Goals as goal
+
+pub unreachable-requires : goal.unreachable-requires
+unreachable-requires g c =
+    let waits : own_pending c.args.declared.now c.args.reply.now ≡ true = cc (c.in_ok-own_pending.ensures) in
+    let none : slice_get c.args.reply.now.pending (length c.args.reply.now.pending - 1) ≡ None =
+    ap (λ (is : List PendingItem). slice_get is (length is - 1)) (sym c.pending.ensures) ∙ sym c.last.ensures.value ∙ ap option_copied c.in_default.is in
+    something_stands c.args.reply.now c.args.declared.now waits none
 
 pub broken-requires-clause-pending : goal.broken-requires-clause-pending
 broken-requires-clause-pending g c =
@@ -21,9 +31,10 @@ returns-clause-first g c =
     let signed : super_signature c.args.pinned.now c.args.reply.now ≡ true = cc (c.in_ok-super_signature.ensures) in
     let left = rules_left known c.args.reply.now (sym c.lists_hold.ensures ∙ c.if-not-lists_hold.false) last waits signed in
     each_ok c.broken.result _ _ (λ answer told. broken_first c.args.pinned.now (lists_of c.args.reply.now) answer (something_pending c.args.reply.now c.args.declared.now waits) told ∙ sym left)
-    (subst (λ (table : List Listing). IfOk c.broken.result (λ answer. IfSome (lists_of c.args.reply.now) (λ x. answer ≡ broken table x))) c.genesis.ensures c.broken.ensures.first)
+    (subst (λ (table : Table). IfOk c.broken.result (λ answer. IfSome (lists_of c.args.reply.now) (λ x. answer ≡ broken table x))) c.genesis.ensures c.broken.ensures)
 
 pub returns-clause-sole : goal.returns-clause-sole
 returns-clause-sole g c =
     let waits : own_pending c.args.declared.now c.args.reply.now ≡ true = cc (c.in_ok-own_pending.ensures) in
-    each_ok c.broken.result _ _ (λ answer sole none. some_and (lists_of c.args.reply.now) (λ x. is_of_one x ≡ true) (something_pending c.args.reply.now c.args.declared.now waits) (sole none)) c.broken.ensures.sole
+    each_ok c.broken.result _ _ (λ answer told none. sole_lists c.args.pinned.now (lists_of c.args.reply.now) answer (something_pending c.args.reply.now c.args.declared.now waits) told none)
+    (subst (λ (table : Table). IfOk c.broken.result (λ answer. IfSome (lists_of c.args.reply.now) (λ x. answer ≡ broken table x))) c.genesis.ensures c.broken.ensures)

@@ -2,7 +2,7 @@ use Rattle.std.proofs.Common.{◌≡◌, List, ap, sym, subst, ◌∙◌, true, 
 use Rattle.std.specs.Prelude.{IfSome}
 use Rattle.pending_list.specs.declared.signed.Signed.{Signed}
 use Rattle.version_order.specs.Structure.{Structure}
-use Rattle.reply_rules.specs.Lists.{is_of_one}
+use Rattle.client_verify.specs.Sole.{is_of_one}
 use Rattle.reply_rules.specs.ListsLaws.{lists_are}
 use Rattle.client_verify.proofs.sole_lists.SoleLists.of.Goals as goal
 

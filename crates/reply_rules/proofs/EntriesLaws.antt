@@ -1,0 +1,184 @@
+-- Laws of the rule on entries.
+use Rattle.std.proofs.Common.{◌≡◌, ℕ, zero, suc, ◌+◌, ◌<◌, ◌≤◌, Bool, ◌&&◌, List, [], ◌∷◌, ◌++◌, Option, Some, None, length, take, drop, map, refl, sym, ap, ◌∙◌, inl, inr, arith, length-append}
+use Rattle.std.specs.Prelude.{◌==◌, slice_index_or, find}
+use Rattle.std.specs.Option.{option_map_or}
+use Rattle.std.specs.List.{take-map}
+use Rattle.std.proofs.lemmas.List.{take_more}
+use Rattle.std.proofs.lemmas.Bool.{cases_lt, cases_eq, eq-eqb, ne_eqb, lt-ltb, le-ltb}
+use Rattle.version_order.specs.declared.plan.Entry.{Entry}
+use Rattle.version_order.specs.Vector.{depth}
+use Rattle.version_order.specs.Plan.{Plan, entry_of}
+use Rattle.version_order.specs.Structure.{Structure}
+use Rattle.pending_list.specs.declared.signed.Signed.{Signed}
+use Rattle.pending_list.specs.Reply.{PendingItem, depth_of, top, depth_of_top}
+use Rattle.reply_rules.specs.Lists.{Lists, items, shown, pending}
+use Rattle.reply_rules.specs.Rules.{entries_of, shows, all_show, rest_of, waiting, above, items_waiting, items_above, other_entries, own_entry_of_top}
+use Rattle.reply_rules.specs.Shown.{place_of_depth, shows_by}
+use Rattle.reply_rules.proofs.Above.{waiting_plans, above_plans}
+use Rattle.reply_rules.proofs.Tests.{dropped}
+
+-- ---- the front and the back of joined lists
+
+pub front : {A : Type 0} (xs ys : List A) → take (length xs) (xs ++ ys) ≡ xs
+front [] ys = refl
+front {A} (x ∷ xs) ys = ap (λ (zs : List A). x ∷ zs) (front xs ys)
+
+pub back : {A : Type 0} (xs ys : List A) → drop (length xs) (xs ++ ys) ≡ ys
+back [] ys = refl
+back (x ∷ xs) ys = back xs ys
+
+map_joined : {A B : Type 0} (f : A → B) (xs ys : List A) → map f (xs ++ ys) ≡ map f xs ++ map f ys
+map_joined f [] ys = refl
+map_joined {A} {B} f (x ∷ xs) ys = ap (λ (zs : List B). f x ∷ zs) (map_joined f xs ys)
+
+map_length : {A B : Type 0} (f : A → B) (xs : List A) → length (map f xs) ≡ length xs
+map_length f [] = refl
+map_length f (x ∷ xs) = omega (arith, map_length f xs)
+
+abbrev plan_in : PendingItem → Plan
+plan_in i = i.plan
+
+abbrev entries_in : List PendingItem → List Entry
+entries_in is = entries_of (map plan_in is)
+
+entries_joined : (is js : List PendingItem) → entries_in (is ++ js) ≡ entries_in is ++ entries_in js
+entries_joined is js = ap entries_of (map_joined plan_in is js) ∙ map_joined entry_of (map plan_in is) (map plan_in js)
+
+entries_length : (is : List PendingItem) → length (entries_in is) ≡ length is
+entries_length is = map_length entry_of (map plan_in is) ∙ map_length plan_in is
+
+entries_front : (is js : List PendingItem) (n : ℕ) → n ≡ length is → take n (entries_in (is ++ js)) ≡ entries_in is
+entries_front is js n size =
+    ap (λ (es : List Entry). take n es) (entries_joined is js)
+    ∙ ap (λ k. take k (entries_in is ++ entries_in js)) (size ∙ sym (entries_length is))
+    ∙ front (entries_in is) (entries_in js)
+
+entries_back : (is js : List PendingItem) (n : ℕ) → n ≡ length is → drop n (entries_in (is ++ js)) ≡ entries_in js
+entries_back is js n size =
+    ap (λ (es : List Entry). drop n es) (entries_joined is js)
+    ∙ ap (λ k. drop k (entries_in is ++ entries_in js)) (size ∙ sym (entries_length is))
+    ∙ back (entries_in is) (entries_in js)
+
+-- ---- the entries of those that wait, of those above, and of the others
+
+pub waiting_entries : (x : Lists) (is : List PendingItem) (n : ℕ) (es fs : List Entry) → is ≡ items_waiting x → items x ≡ items_waiting x ++ items_above x → n ≡ length is → es ≡ entries_of (pending x) → fs ≡ take n es → fs ≡ entries_of (waiting x)
+waiting_entries x is n es fs same joined size made cut =
+    cut ∙ ap (λ (e : List Entry). take n e) (made ∙ ap entries_in joined)
+    ∙ entries_front (items_waiting x) (items_above x) n (size ∙ ap (λ (js : List PendingItem). length js) same)
+    ∙ ap entries_of (sym (waiting_plans x))
+
+pub above_entries : (x : Lists) (is : List PendingItem) (n : ℕ) (es fs : List Entry) → is ≡ items_waiting x → items x ≡ items_waiting x ++ items_above x → n ≡ length is → es ≡ entries_of (pending x) → fs ≡ drop n es → fs ≡ entries_of (above x)
+above_entries x is n es fs same joined size made cut =
+    cut ∙ ap (λ (e : List Entry). drop n e) (made ∙ ap entries_in joined)
+    ∙ entries_back (items_waiting x) (items_above x) n (size ∙ ap (λ (js : List PendingItem). length js) same)
+    ∙ ap entries_of (sym (above_plans x))
+
+pub entries_of_others : (x : Lists) (is : List PendingItem) (n : ℕ) (es : List Entry) → is ≡ x.others → n ≡ length is → es ≡ entries_of (pending x) → take n es ≡ other_entries x
+entries_of_others x is n es same size made =
+    ap (λ (e : List Entry). take n e) made ∙ entries_front x.others (x.own ∷ []) n (size ∙ ap (λ (js : List PendingItem). length js) same)
+
+-- ---- top's own entry
+
+-- how many operations a structure counts
+abbrev depth_in : Option (Signed Structure) → ℕ
+depth_in o = depth (option_map_or (λ p. p.vector) (option_map_or (λ s. Some s.value.plan) o None) [])
+
+abbrev with_depth : ℕ → List (Signed Structure) → Option (Signed Structure)
+with_depth n zs = find (λ y. depth_of y == n) zs
+
+-- the first of the greatest depth is top
+top_first : (z : Signed Structure) (later : Option (Signed Structure)) (zs : List (Signed Structure)) → top zs ≡ later → with_depth (depth_of_top zs) zs ≡ top zs
+    → with_depth (depth_of_top (z ∷ zs)) (z ∷ zs) ≡ top (z ∷ zs)
+top_first z None zs e h =
+    let best : top (z ∷ zs) ≡ Some z = rw e refl in
+    let here : with_depth (depth_of z) (z ∷ zs) ≡ Some z = rw (eq-eqb (depth_of z) (depth_of z) refl) refl in
+    ap (λ o. with_depth (depth_in o) (z ∷ zs)) best ∙ here ∙ sym best
+top_first z (Some t) zs e h =
+    let there : with_depth (depth_of t) zs ≡ Some t = ap (λ o. with_depth (depth_in o) zs) (sym e) ∙ h ∙ e in
+    elim (cases_lt (depth_of z) (depth_of t)) [
+      | inl less ↦ (
+          let best : top (z ∷ zs) ≡ Some t = rw (e, lt-ltb (depth_of z) (depth_of t) less) refl in
+          let later : with_depth (depth_of t) (z ∷ zs) ≡ Some t = rw (ne_eqb (depth_of z) (depth_of t) (λ k. omega arith)) there in
+          ap (λ o. with_depth (depth_in o) (z ∷ zs)) best ∙ later ∙ sym best)
+      | inr le ↦ (
+          let best : top (z ∷ zs) ≡ Some z = rw (e, le-ltb (depth_of z) (depth_of t) le) refl in
+          let here : with_depth (depth_of z) (z ∷ zs) ≡ Some z = rw (eq-eqb (depth_of z) (depth_of z) refl) refl in
+          ap (λ o. with_depth (depth_in o) (z ∷ zs)) best ∙ here ∙ sym best)
+    ]
+
+top_found : (zs : List (Signed Structure)) → with_depth (depth_of_top zs) zs ≡ top zs
+top_found [] = refl
+top_found (z ∷ zs) = top_first z (top zs) zs refl (top_found zs)
+
+abbrev entry_in : Option (Signed Structure) → List Entry
+entry_in z = option_map_or (λ p. entry_of p ∷ []) (option_map_or (λ s. Some s.value.plan) z None) []
+
+entry_found : (d : ℕ) (zs : List (Signed Structure)) → take 1 (drop (place_of_depth d zs) (entries_of (map (λ z. z.value.plan) zs))) ≡ entry_in (with_depth d zs)
+entry_found d [] = refl
+entry_found d (z ∷ zs) =
+    elim (cases_eq (depth_of z) d) [
+      | inl e ↦ rw (eq-eqb (depth_of z) d e) refl
+      | inr other ↦ rw (ne_eqb (depth_of z) d other) (entry_found d zs)
+    ]
+
+pub entry_of_top : (x : Lists) (es fs : List Entry) (zs : List (Signed Structure)) (d k : ℕ) → es ≡ entries_of (shown x) → zs ≡ x.structures → d ≡ depth_of_top x.structures → k ≡ place_of_depth d zs → fs ≡ take 1 (drop k es)
+    → fs ≡ own_entry_of_top x
+entry_of_top x es fs zs d k made same deep place cut =
+    cut
+    ∙ ap (λ (e : List Entry). take 1 (drop k e)) made
+    ∙ ap (λ n. take 1 (drop n (entries_of (shown x)))) (place ∙ ap (place_of_depth d) same ∙ ap (λ n. place_of_depth n x.structures) deep)
+    ∙ entry_found (depth_of_top x.structures) x.structures
+    ∙ ap entry_in (top_found x.structures)
+
+-- ---- one plan above after another
+
+push_take : {A : Type 0} (xs : List A) (k : ℕ) (x : A) → k < length xs → x ≡ slice_index_or xs k x → take k xs ++ x ∷ [] ≡ take (k + 1) xs
+push_take {A} xs k x inside at = sym (take_more xs k x inside ∙ ap (λ (y : A). take k xs ++ y ∷ []) (sym at))
+
+plan_at : (is : List PendingItem) (k : ℕ) (i : PendingItem) → k < length is → i ≡ slice_index_or is k i → i.plan ≡ slice_index_or (map plan_in is) k i.plan
+plan_at [] k i inside at = absurd (omega arith)
+plan_at (j ∷ js) zero i inside at = ap plan_in at
+plan_at (j ∷ js) (suc k) i inside at = plan_at js k i (omega arith) at
+
+-- a plan above with those before it, and then those after it
+pub next_shows : (x : Lists) (ps : List Plan) (k : ℕ) (p : Plan) (rest : Option (List Entry)) → k < length ps → p ≡ slice_index_or ps k p
+    → all_show x (take k ps) rest (drop k ps) ≡ (shows x (take k ps) rest p && all_show x (take (k + 1) ps) (Some (rest_of (take k ps) p)) (drop (k + 1) ps))
+next_shows x ps k p rest inside at =
+    ap (all_show x (take k ps) rest) (dropped ps k p inside at)
+    ∙ ap (λ (qs : List Plan). shows x (take k ps) rest p && all_show x qs (Some (rest_of (take k ps) p)) (drop (k + 1) ps)) (push_take ps k p inside at)
+
+-- ---- what the code finds
+
+pub above_size : (x : Lists) → length (entries_of (above x)) ≡ length (items_above x)
+above_size x = ap (λ (ps : List Plan). length (entries_of ps)) (above_plans x) ∙ entries_length (items_above x)
+
+pub others_size : (x : Lists) → length x.others ≤ length (entries_of (pending x))
+others_size x = omega (arith, entries_length (x.others ++ x.own ∷ []), length-append x.others (x.own ∷ []))
+
+pub above_length : (x : Lists) → length (above x) ≡ length (items_above x)
+above_length x = ap (λ (ps : List Plan). length ps) (above_plans x) ∙ map_length plan_in (items_above x)
+
+-- the plan of an item above stands at its place among the plans above
+pub above_at : (x : Lists) (is : List PendingItem) (k : ℕ) (i : PendingItem) → is ≡ items_above x → k < length is → i ≡ slice_index_or is k i → (k < length (above x)) × (i.plan ≡ slice_index_or (above x) k i.plan)
+above_at x is k i same inside at =
+    let plans : map plan_in is ≡ above x = ap (λ (js : List PendingItem). map plan_in js) same ∙ sym (above_plans x) in
+    (omega (arith, map_length plan_in is, ap (λ (ps : List Plan). length ps) plans), plan_at is k i inside at ∙ ap (λ (ps : List Plan). slice_index_or ps k i.plan) plans)
+
+pub before_at : (x : Lists) (later : List Entry) (k : ℕ) → later ≡ entries_of (above x) → take k later ≡ entries_of (take k (above x))
+before_at x later k made = ap (λ (es : List Entry). take k es) made ∙ take-map entry_of k (above x)
+
+pub shown_so : (x : Lists) (waits before : List Entry) (earlier : List Plan) (rest : Option (List Entry)) (p q : Plan) (b : Bool) → waits ≡ entries_of (waiting x) → before ≡ entries_of earlier → q ≡ p → b ≡ shows_by x waits before rest q
+    → b ≡ shows x earlier rest p
+shown_so x waits before earlier rest p q b of_waiting of_earlier same told =
+    told
+    ∙ ap (λ (w : List Entry). shows_by x w before rest q) of_waiting
+    ∙ ap (λ (es : List Entry). shows_by x (entries_of (waiting x)) es rest q) of_earlier
+    ∙ ap (λ (r : Plan). shows_by x (entries_of (waiting x)) (entries_of earlier) rest r) same
+
+-- ---- the place of a depth
+
+pub place_here : (d : ℕ) (zs : List (Signed Structure)) (k : ℕ) (z : Signed Structure) → k < length zs → z ≡ slice_index_or zs k z → depth_of z ≡ d → place_of_depth d (drop k zs) ≡ 0
+place_here d zs k z inside at e = ap (place_of_depth d) (dropped zs k z inside at) ∙ rw (eq-eqb (depth_of z) d e) refl
+
+pub place_later : (d : ℕ) (zs : List (Signed Structure)) (k : ℕ) (z : Signed Structure) → k < length zs → z ≡ slice_index_or zs k z → (depth_of z ≡ d → ⊥) → place_of_depth d (drop k zs) ≡ suc (place_of_depth d (drop (k + 1) zs))
+place_later d zs k z inside at other = ap (place_of_depth d) (dropped zs k z inside at) ∙ rw (ne_eqb (depth_of z) d other) refl

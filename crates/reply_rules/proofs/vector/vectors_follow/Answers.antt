@@ -1,0 +1,27 @@
+use Rattle.std.proofs.Common.{◌≡◌, ◌+◌, ℕ, true, List, drop, sym, ap, ◌∙◌}
+use Rattle.std.specs.Prelude.{◌&&◌}
+use Rattle.version_order.specs.Plan.{Plan}
+use Rattle.version_order.specs.declared.vector.Component.{Component}
+use Rattle.version_order.specs.Vector.{raised, raised_all}
+use Rattle.reply_rules.specs.Groups.{raised_groups}
+use Rattle.reply_rules.specs.Rules.{follow, same_vector, next_vector}
+use Rattle.reply_rules.proofs.VectorLaws.{next_follows}
+use Rattle.reply_rules.proofs.vector.vectors_follow.Goals as goal
+
+pub loop-item-preserved : goal.loop-item-preserved
+loop-item-preserved g c =
+    let t = c.args.table.now in
+    let i = c.item-item.result in
+    let v = c.loop-item.next in
+    let is = c.above-above.result.now in
+    let k = c.loop-item.item-index in
+    let groups : c.deref.result.now ≡ raised_groups t i = c.deref.ensures.value ∙ c.in_ok-groups.ensures in
+    let told : same_vector i.plan.vector (next_vector t i v) ≡ true =
+    ap (λ (gs : List ℕ). same_vector i.plan.vector (raised_all gs (raised i.plan.user v))) (sym groups)
+    ∙ ap (λ (p : Plan). same_vector p.vector (raised_all c.deref.result.now (raised p.user v))) (sym c.plan.ensures)
+    ∙ sym c.in_ok-follows.ensures.follows
+    ∙ c.if-not-branch.false in
+    let new : c.follows.new.next ≡ i.plan.vector = c.in_ok-follows.ensures.next c.if-not-branch.false ∙ ap (λ (p : Plan). p.vector) c.plan.ensures in
+    ap (λ (w : List Component). follow t w (drop (k + 1) is)) new
+    ∙ sym (next_follows t v is k i c.loop-item-test.true c.item-item.is ∙ ap (λ b. b && follow t i.plan.vector (drop (k + 1) is)) told)
+    ∙ c.loop-item.invariant
