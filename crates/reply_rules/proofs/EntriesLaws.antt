@@ -13,7 +13,7 @@ use Rattle.pending_list.specs.declared.signed.Signed.{Signed}
 use Rattle.pending_list.specs.Reply.{PendingItem, depth_of, top, depth_of_top}
 use Rattle.reply_rules.specs.Lists.{Lists, items, shown, pending}
 use Rattle.reply_rules.specs.Rules.{entries_of, shows, all_show, rest_of, waiting, above, items_waiting, items_above, other_entries, own_entry_of_top}
-use Rattle.reply_rules.specs.Shown.{place_of_depth, shows_by}
+use Rattle.reply_rules.specs.Shown.{shows_by}
 use Rattle.reply_rules.proofs.Above.{waiting_plans, above_plans}
 use Rattle.reply_rules.proofs.Tests.{dropped}
 
@@ -77,59 +77,6 @@ pub entries_of_others : (x : Lists) (is : List PendingItem) (n : ℕ) (es : List
 entries_of_others x is n es same size made =
     ap (λ (e : List Entry). take n e) made ∙ entries_front x.others (x.own ∷ []) n (size ∙ ap (λ (js : List PendingItem). length js) same)
 
--- ---- top's own entry
-
--- how many operations a structure counts
-abbrev depth_in : Option (Signed Structure) → ℕ
-depth_in o = depth (option_map_or (λ p. p.vector) (option_map_or (λ s. Some s.value.plan) o None) [])
-
-abbrev with_depth : ℕ → List (Signed Structure) → Option (Signed Structure)
-with_depth n zs = find (λ y. depth_of y == n) zs
-
--- the first of the greatest depth is top
-top_first : (z : Signed Structure) (later : Option (Signed Structure)) (zs : List (Signed Structure)) → top zs ≡ later → with_depth (depth_of_top zs) zs ≡ top zs
-    → with_depth (depth_of_top (z ∷ zs)) (z ∷ zs) ≡ top (z ∷ zs)
-top_first z None zs e h =
-    let best : top (z ∷ zs) ≡ Some z = rw e refl in
-    let here : with_depth (depth_of z) (z ∷ zs) ≡ Some z = rw (eq-eqb (depth_of z) (depth_of z) refl) refl in
-    ap (λ o. with_depth (depth_in o) (z ∷ zs)) best ∙ here ∙ sym best
-top_first z (Some t) zs e h =
-    let there : with_depth (depth_of t) zs ≡ Some t = ap (λ o. with_depth (depth_in o) zs) (sym e) ∙ h ∙ e in
-    elim (cases_lt (depth_of z) (depth_of t)) [
-      | inl less ↦ (
-          let best : top (z ∷ zs) ≡ Some t = rw (e, lt-ltb (depth_of z) (depth_of t) less) refl in
-          let later : with_depth (depth_of t) (z ∷ zs) ≡ Some t = rw (ne_eqb (depth_of z) (depth_of t) (λ k. omega arith)) there in
-          ap (λ o. with_depth (depth_in o) (z ∷ zs)) best ∙ later ∙ sym best)
-      | inr le ↦ (
-          let best : top (z ∷ zs) ≡ Some z = rw (e, le-ltb (depth_of z) (depth_of t) le) refl in
-          let here : with_depth (depth_of z) (z ∷ zs) ≡ Some z = rw (eq-eqb (depth_of z) (depth_of z) refl) refl in
-          ap (λ o. with_depth (depth_in o) (z ∷ zs)) best ∙ here ∙ sym best)
-    ]
-
-top_found : (zs : List (Signed Structure)) → with_depth (depth_of_top zs) zs ≡ top zs
-top_found [] = refl
-top_found (z ∷ zs) = top_first z (top zs) zs refl (top_found zs)
-
-abbrev entry_in : Option (Signed Structure) → List Entry
-entry_in z = option_map_or (λ p. entry_of p ∷ []) (option_map_or (λ s. Some s.value.plan) z None) []
-
-entry_found : (d : ℕ) (zs : List (Signed Structure)) → take 1 (drop (place_of_depth d zs) (entries_of (map (λ z. z.value.plan) zs))) ≡ entry_in (with_depth d zs)
-entry_found d [] = refl
-entry_found d (z ∷ zs) =
-    elim (cases_eq (depth_of z) d) [
-      | inl e ↦ rw (eq-eqb (depth_of z) d e) refl
-      | inr other ↦ rw (ne_eqb (depth_of z) d other) (entry_found d zs)
-    ]
-
-pub entry_of_top : (x : Lists) (es fs : List Entry) (zs : List (Signed Structure)) (d k : ℕ) → es ≡ entries_of (shown x) → zs ≡ x.structures → d ≡ depth_of_top x.structures → k ≡ place_of_depth d zs → fs ≡ take 1 (drop k es)
-    → fs ≡ own_entry_of_top x
-entry_of_top x es fs zs d k made same deep place cut =
-    cut
-    ∙ ap (λ (e : List Entry). take 1 (drop k e)) made
-    ∙ ap (λ n. take 1 (drop n (entries_of (shown x)))) (place ∙ ap (place_of_depth d) same ∙ ap (λ n. place_of_depth n x.structures) deep)
-    ∙ entry_found (depth_of_top x.structures) x.structures
-    ∙ ap entry_in (top_found x.structures)
-
 -- ---- one plan above after another
 
 push_take : {A : Type 0} (xs : List A) (k : ℕ) (x : A) → k < length xs → x ≡ slice_index_or xs k x → take k xs ++ x ∷ [] ≡ take (k + 1) xs
@@ -174,11 +121,3 @@ shown_so x waits before earlier rest p q b of_waiting of_earlier same told =
     ∙ ap (λ (w : List Entry). shows_by x w before rest q) of_waiting
     ∙ ap (λ (es : List Entry). shows_by x (entries_of (waiting x)) es rest q) of_earlier
     ∙ ap (λ (r : Plan). shows_by x (entries_of (waiting x)) (entries_of earlier) rest r) same
-
--- ---- the place of a depth
-
-pub place_here : (d : ℕ) (zs : List (Signed Structure)) (k : ℕ) (z : Signed Structure) → k < length zs → z ≡ slice_index_or zs k z → depth_of z ≡ d → place_of_depth d (drop k zs) ≡ 0
-place_here d zs k z inside at e = ap (place_of_depth d) (dropped zs k z inside at) ∙ rw (eq-eqb (depth_of z) d e) refl
-
-pub place_later : (d : ℕ) (zs : List (Signed Structure)) (k : ℕ) (z : Signed Structure) → k < length zs → z ≡ slice_index_or zs k z → (depth_of z ≡ d → ⊥) → place_of_depth d (drop k zs) ≡ suc (place_of_depth d (drop (k + 1) zs))
-place_later d zs k z inside at other = ap (place_of_depth d) (dropped zs k z inside at) ∙ rw (ne_eqb (depth_of z) d other) refl

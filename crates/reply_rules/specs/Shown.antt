@@ -21,8 +21,3 @@ shows_left top own waiting before left rest es user =
 abbrev pub shows_by : Lists → List Entry → List Entry → Option (List Entry) → Plan → Bool
 shows_by x waiting before rest p =
     shows_left (top_entries x) (own_entry_of_top x) waiting before (left_of before p.entries) rest p.entries p.user
-
--- how many structures come before the first of this depth
-abbrev pub place_of_depth : ℕ → List (Signed Structure) → ℕ
-place_of_depth d [] = zero
-place_of_depth d (z ∷ zs) = if depth_of z == d then zero else suc (place_of_depth d zs)

@@ -5,7 +5,7 @@ ghost use Rattle.std.specs.List.{list_all};
 ghost use Rattle.version_order.specs.Plan.{entry_of};
 ghost use Rattle.reply_rules.specs.Lists.{shown, pending};
 ghost use Rattle.reply_rules.specs.Rules.{waiting, above, entries_of, top_entries, own_entry_of_top, top_known, top_waiting, above_show, other_entries, own_only, own_all, entries};
-ghost use Rattle.reply_rules.specs.Shown.{shows_left, shows_by, place_of_depth};
+ghost use Rattle.reply_rules.specs.Shown.{shows_left, shows_by};
 
 use crate::reply_lists::Lists;
 use crate::rest::{Rest, are_listed, are_of_either};
@@ -52,40 +52,18 @@ fn top_entries<'a, A: Allocator>(lists: &Lists<'a, A>) -> &'a [Entry]
     }
 }
 
-/// How many structures come before the first of this depth.
-fn place_of_depth<A: Allocator>(structures: &[Signed<Structure<A>>], top: u64) -> usize
-    ensures { result ≡ place_of_depth top structures.now }
-{
-    let mut before = 0;
-    for structure in structures {
-        if depth(structure.value.plan()) == top {
-            return before;
-        }
-        before += 1;
-    }
-    before
-}
-
-/// The first of these entries that is left after some of them, if there is one.
-fn first_after(entries: &[Entry], place: usize) -> &[Entry]
-    ensures { result.now ≡ take 1 (drop place entries.now) }
-{
-    if place < entries.len() {
-        &entries[place..place + 1]
-    } else {
-        &[]
-    }
-}
-
 /// Top's own entry, none where there is no structure.
-fn own_entry_of_top<'e, A: Allocator>(lists: &Lists<'_, A>, entered: &'e [Entry]) -> &'e [Entry]
-    requires { entered.now ≡ entries_of (shown lists.now) }
-    ensures { result.now ≡ own_entry_of_top lists.now }
+fn own_entry_of_top<A: Allocator + Copy>(
+    alloc: A,
+    lists: &Lists<'_, A>,
+) -> Result<Vec<Entry, A>, Memory>
+    ensures { IfOk result (λ own. own.items ≡ own_entry_of_top lists.now) }
 {
-    first_after(
-        entered,
-        place_of_depth(lists.structures(), lists.depth_of_top()),
-    )
+    let mut own = Vec::new(alloc);
+    if let Some(top) = lists.top() {
+        own.push(top.value.plan().entry(alloc)?)?;
+    }
+    Ok(own)
 }
 
 /// Whether a plan of this user and with these entries shows what it has to, where those left of them without those
@@ -182,12 +160,14 @@ fn top_waiting<A: Allocator>(lists: &Lists<'_, A>, waits: &[Entry]) -> bool
 #[tactic(auto, unfolding(crate::specs::Rules::entries))]
 fn all_hold<A: Allocator>(
     lists: &Lists<'_, A>,
+    own: &[Entry],
     entered: &[Entry],
     made: &[Entry],
     waits: &[Entry],
     later: &[Entry],
     others: &[Entry],
 ) -> bool
+    requires own { own.now ≡ own_entry_of_top lists.now }
     requires entered { entered.now ≡ entries_of (shown lists.now) }
     requires made { made.now ≡ entries_of (pending lists.now) }
     requires waits { waits.now ≡ entries_of (waiting lists.now) }
@@ -195,7 +175,6 @@ fn all_hold<A: Allocator>(
     requires others { others.now ≡ other_entries lists.now }
     ensures { result ≡ entries lists.now }
 {
-    let own = own_entry_of_top(lists, entered);
     top_known(lists, entered, made)
         && top_waiting(lists, waits)
         && above_show(lists, own, waits, later)
@@ -203,14 +182,20 @@ fn all_hold<A: Allocator>(
 }
 
 /// The same, told by the entries of the structures and of the pending plans.
-fn hold_by<A: Allocator>(lists: &Lists<'_, A>, entered: &[Entry], made: &[Entry]) -> bool
+fn hold_by<A: Allocator>(
+    lists: &Lists<'_, A>,
+    own: &[Entry],
+    entered: &[Entry],
+    made: &[Entry],
+) -> bool
+    requires own { own.now ≡ own_entry_of_top lists.now }
     requires entered { entered.now ≡ entries_of (shown lists.now) }
     requires made { made.now ≡ entries_of (pending lists.now) }
     ensures { result ≡ entries lists.now }
 {
     let (waits, later) = made.split_at(lists.waiting().len());
     let others = &made[..lists.others().len()];
-    all_hold(lists, entered, made, waits, later, others)
+    all_hold(lists, own, entered, made, waits, later, others)
 }
 
 /// Whether the rule on entries holds.
@@ -222,5 +207,6 @@ pub(crate) fn entries_hold<A: Allocator + Copy>(
 {
     let entered = entries_of_structures(alloc, lists.structures())?;
     let made = entries_of_pending(alloc, lists.pending())?;
-    Ok(hold_by(lists, &entered, &made))
+    let own = own_entry_of_top(alloc, lists)?;
+    Ok(hold_by(lists, &own, &entered, &made))
 }

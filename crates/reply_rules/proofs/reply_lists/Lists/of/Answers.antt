@@ -7,7 +7,7 @@ use Rattle.reply_rules.proofs.reply_lists.Lists.of.Goals as goal
 
 pub invariant_of-result : goal.invariant_of-result
 invariant_of-result g c =
-    is_split c.args.reply.now _ _ _ _ _ _ _ _ _ c.requires c.structures-structures.ensures.same c.pending-pending.ensures c.in_ok-own.ensures.cases.0 c.depth_of_top.ensures c.place_above-place.ensures.same c.split_at.ensures.front c.split_at.ensures.back c.top.ensures
+    is_split c.args.reply.now _ _ _ _ _ _ _ _ _ c.requires c.structures-structures.ensures.same c.pending-pending.ensures c.in_ok-own.ensures.cases.0 c.depth_of_top.ensures c.place_above-place.ensures.same c.split_at.ensures.front c.split_at.ensures.back c.top.ensures.same
 
 pub returns : goal.returns
 returns g c =
