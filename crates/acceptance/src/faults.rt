@@ -402,7 +402,7 @@ static TABLES: [Row; 32] = [
         &[b"STC1\x01\x01\0\x40", DIGEST, b"\0"],
         TRAILING,
     ),
-    // An i-number behind the one of 65.
+    // An i-number after the one of 65.
     Row(
         Kind::Chunk,
         &[b"STC1\x01\x02\0\x41", DIGEST, b"\0\x40"],

@@ -1,4 +1,4 @@
-//! Files of each size, from their making to a look at them in the view behind it, byte for byte.
+//! Files of each size, from their making to a look at them in the view after it, byte for byte.
 
 use crate::changes::{Planned, lay, nothing, plan_action};
 use crate::texts::{Host, check};
@@ -93,7 +93,7 @@ fn stands(rt: &impl Host, world: &mut World, case: Case) {
     asked_for_so_many(rt, world, 0);
 }
 
-/// Makes the file of each case, and sees it right behind that.
+/// Makes the file of each case, and sees it right after that.
 fn makes_each(rt: &impl Host, world: &mut World) {
     for case in &CASES {
         makes(rt, world, *case);

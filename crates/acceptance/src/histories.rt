@@ -1,5 +1,5 @@
 //! Histories of operations with changes: which blocks each asks for, the texts by which it is stored, which of its
-//! changes are lost, and what stands in the view behind it. The digests in the texts are another program's LMS and
+//! changes are lost, and what stands in the view after it. The digests in the texts are another program's LMS and
 //! SHA-256. A hostile store changes nothing of it.
 
 use crate::blocks::{OF_F, OF_F_INODE};
@@ -39,7 +39,7 @@ struct Operation {
     /// The texts that it hands out.
     stored: &'static [&'static [u8]],
     lost: &'static [u8],
-    /// That of the own i-table behind it.
+    /// That of the own i-table after it.
     handle: [u8; 32],
     sights: &'static [Sight],
 }
@@ -55,7 +55,7 @@ const SECOND: &[(u16, Deed)] = &[
     (2, Deed::Unlink(b"g")),
 ];
 
-/// Chunk 0 and the root of user 0's i-table behind the first operation, and behind the second one.
+/// Chunk 0 and the root of user 0's i-table after the first operation, and after the second one.
 const CHUNK: &[u8] = b"STC1\0\x03\0\x01\
     \x96\xbf\xe5\x83\x01\x19\x62\xf8\x67\x08\xec\xfe\x5e\x40\x80\x60\
     \x42\x9b\xe8\x86\x1b\x3d\xcf\xe9\xef\x9c\xd6\xcb\xe7\x29\xa6\x92\
@@ -82,7 +82,7 @@ const NEXT_ROOT: &[u8] = b"STR1\0\x01\0\
     \xe2\x58\xc4\x73\x48\x31\x2c\x0d\x06\x02\xd5\x5e\x1c\x65\xdc\x3c\
     \x4a\x79\x40\xb1\xa3\x31\x4b\x36\x59\xa5\x1b\xb8\xcc\xdc\x5e\x18";
 
-/// The handles behind these.
+/// The handles after these.
 const HANDLE: [u8; 32] = *b"\
     \xee\x8f\xb4\x30\x26\x6b\xd3\x7e\x66\x7a\x36\x5f\xce\x3a\xe5\x7a\
     \xea\x1e\x6d\xd5\x55\x2e\x4d\xb3\xc2\x8e\x46\x7f\xd9\x12\xc9\xb4";
@@ -140,7 +140,7 @@ static FOUR: [Operation; 4] = [
         handle: NEXT_HANDLE,
         sights: &[],
     },
-    // The directory is changed, and is as before behind the changes: nothing has to be stored.
+    // The directory is changed, and is as before, after the changes: nothing has to be stored.
     Operation {
         deeds: &[(2, Deed::Unlink(b"f")), (2, Deed::Link(b"f", 3))],
         asked: &[],

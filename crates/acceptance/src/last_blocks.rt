@@ -1,4 +1,4 @@
-//! The last block of a directory, which is taken behind those before it.
+//! The last block of a directory, which is taken after those before it.
 
 use crate::blocks::{held, keep};
 use crate::texts::{Host, check, joined};

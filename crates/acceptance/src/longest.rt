@@ -9,7 +9,7 @@ use update_cert::Cert;
 use version_order::{Plan, Structure};
 use wire::{Status, reply_frame};
 
-/// A row behind its count, as often as that says.
+/// A row after its count, as often as that says.
 fn repeated(rt: &impl Host, row: &[u8], count: u8) -> Vec<u8> {
     let mut rows = joined(rt, &[&[count]]);
     for _ in 0..count {
@@ -18,7 +18,7 @@ fn repeated(rt: &impl Host, row: &[u8], count: u8) -> Vec<u8> {
     rows
 }
 
-/// So many rows behind their count: the numbers from `first` on, each with this behind it.
+/// So many rows after their count: the numbers from `first` on, each with this after it.
 fn numbered(rt: &impl Host, first: u8, count: u8, rest: &[u8]) -> Vec<u8> {
     let mut rows = joined(rt, &[&[count]]);
     for number in 0..count {

@@ -9,7 +9,7 @@ use layout::digest;
 use std::alloc::Global;
 use update_cert::Spot;
 
-/// The tree over that i-table, behind an operation without changes.
+/// The tree over that i-table, after an operation without changes.
 fn tree(rt: &impl Host, texts: &Texts) -> Tree<Global> {
     let held = held(rt, &[&texts.root, &texts.first, &texts.other]);
     let cert = cert_of(rt, Vec::new(rt.alloc()));

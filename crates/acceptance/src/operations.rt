@@ -15,11 +15,11 @@ pub(crate) const FIRST_HANDLE: [u8; 32] =
     *b"\xee\x04\x6d\x62\x38\xe1\xec\xdd\x86\x97\x6d\x7b\x7d\x03\x12\xb7\
     \x54\x90\xec\x7e\x7b\xe5\x05\xd0\xaa\x33\xe0\x47\xd8\x9c\x15\x55";
 
-/// User 0's operation of a number, behind a structure.
+/// User 0's operation of a number, after a structure.
 #[derive(Clone, Copy)]
 struct Operation<'a> {
     number: u8,
-    /// The digest of the structure behind which it stands.
+    /// The digest of the structure after which it stands.
     last: &'a [u8; 32],
     /// The list that the reply shows of the structures.
     structures: &'a [u8],
@@ -33,7 +33,7 @@ struct Texts {
     commit: Vec<u8>,
 }
 
-/// The client declares the operation, whose certificate names the structure behind which it stands.
+/// The client declares the operation, whose certificate names the structure after which it stands.
 fn declares(rt: &impl Host, client: &mut Client<Global>, operation: &Operation<'_>) -> Vec<u8> {
     let update = declare(rt, client);
     let by_hand = certificate(rt, 0, u32::from(operation.number), operation.last);
@@ -73,14 +73,14 @@ fn completes(
     }
 }
 
-/// The first operation, behind no structure.
+/// The first operation, after no structure.
 const FIRST: Operation<'static> = Operation {
     number: 1,
     last: &[0; 32],
     structures: b"\0",
 };
 
-/// Completes the second operation, behind the structure of the first one.
+/// Completes the second operation, after the structure of the first one.
 fn completes_second(
     rt: &impl Host,
     client: &mut Client<Global>,

@@ -15,7 +15,7 @@ fn structure_of_super(rt: &impl Host) -> Vec<u8> {
     structure(rt, &plan_of(rt, 1, &update), &[5; 32])
 }
 
-/// The reply to user 1's first certificate, behind this signed structure of user 0's.
+/// The reply to user 1's first certificate, after this signed structure of user 0's.
 fn reply_behind(rt: &impl Host, structure: &[u8], update: &[u8]) -> Vec<u8> {
     let vector = b"\x02\0\0\0\0\x01\x01\0\0\0\x01";
     let own_plan = plan(rt, 1, 1, &named(update), vector, b"\0");
@@ -23,7 +23,7 @@ fn reply_behind(rt: &impl Host, structure: &[u8], update: &[u8]) -> Vec<u8> {
     reply(rt, &listed(rt, &shown(rt, structure)), &listed(rt, &own))
 }
 
-/// A reply behind user 0's structure with this signature breaks the rule.
+/// A reply after user 0's structure with this signature breaks the rule.
 fn breaks_behind(rt: &impl Host, client: &mut Client<Global>, structure: &[u8], rule: Rule) {
     let update = declare(rt, client);
     breaks(

@@ -148,7 +148,7 @@ fn update_of_user(rt: &impl Host) -> Vec<u8> {
     signed(rt, &key_of(rt, 1), 0, &text)
 }
 
-/// The plan of user 0's first certificate behind user 1's first plan.
+/// The plan of user 0's first certificate after user 1's first plan.
 fn plan_behind_user(rt: &impl Host, update: &[u8], other: &[u8]) -> Vec<u8> {
     let entries = joined(rt, &[b"\x01\x01\0\0\0\x01", digest(other).as_bytes()]);
     let vector = b"\x02\0\0\0\0\x01\x01\0\0\0\x01";

@@ -97,7 +97,7 @@ pub(crate) fn plan_of(rt: &impl Host, number: u8, certificate: &[u8]) -> Vec<u8>
     plan(rt, 0, number, &named(certificate), &vector, b"\0")
 }
 
-/// The reply to user 0's certificate of this number, which shows these structures, behind their count.
+/// The reply to user 0's certificate of this number, which shows these structures, after their count.
 pub(crate) fn reply_to(
     rt: &impl Host,
     structures: &[u8],

@@ -76,7 +76,7 @@ struct Operation {
     user: u8,
     number: u32,
     certificate: Named,
-    /// The vector, behind its count.
+    /// The vector, after its count.
     vector: &'static [u8],
     /// The user and the plan of the one entry, whose number is 1.
     entry: Option<(u8, Named)>,
@@ -120,7 +120,7 @@ const OWN: Operation = Operation {
     ..SHOWN
 };
 
-/// User 0's third operation, as one behind no structure.
+/// User 0's third operation, as one after no structure.
 const THIRD: Operation = Operation {
     signed: 3,
     number: 3,
@@ -128,7 +128,7 @@ const THIRD: Operation = Operation {
     ..SHOWN
 };
 
-/// User 1's first operation, behind user 0's first one.
+/// User 1's first operation, after user 0's first one.
 const OTHER: Operation = Operation {
     signer: 1,
     user: 1,
@@ -136,7 +136,7 @@ const OTHER: Operation = Operation {
     ..SHOWN
 };
 
-/// User 0's second operation, behind user 1's first one.
+/// User 0's second operation, after user 1's first one.
 const OWN_BESIDE: Operation = Operation {
     vector: TWO_AND_USER,
     ..OWN
@@ -366,7 +366,7 @@ fn certificate_of(rt: &impl Host, operation: &Operation, digests: &Digests) -> V
     certificate(rt, operation.signer, operation.signed, last)
 }
 
-/// The entries of an operation's plan, behind their count.
+/// The entries of an operation's plan, after their count.
 fn entries_of(rt: &impl Host, operation: &Operation, digests: &Digests) -> Vec<u8> {
     match operation.entry {
         Some((user, plan)) => joined(rt, &[&[1, user, 0, 0, 0, 1], digests.of(plan)]),
@@ -428,7 +428,7 @@ fn structure_row(rt: &impl Host, operation: &Operation) -> Vec<u8> {
     shown(rt, &signed)
 }
 
-/// The list of the structures of a case, behind its count.
+/// The list of the structures of a case, after its count.
 fn structures_of(rt: &impl Host, case: &Case) -> Vec<u8> {
     let [.., count] = case.structures.len().to_be_bytes();
     let mut list = joined(rt, &[&[count]]);
@@ -445,7 +445,7 @@ fn pending_row(rt: &impl Host, operation: &Operation, digests: &Digests) -> Vec<
     pending(rt, &signed, &plan_of(rt, operation, digests))
 }
 
-/// The list of the pending operations of a case, behind its count.
+/// The list of the pending operations of a case, after its count.
 fn pending_of(rt: &impl Host, case: &Case, digests: &Digests) -> Vec<u8> {
     let [.., count] = case.pending.len().to_be_bytes();
     let mut list = joined(rt, &[&[count]]);

@@ -78,7 +78,7 @@ enum Last {
 /// What is sent.
 #[derive(Clone, Copy)]
 enum Sent {
-    /// A certificate of this user and number, which names a structure, signed by this key, with these changes behind
+    /// A certificate of this user and number, which names a structure, signed by this key, with these changes after
     /// their count.
     Certificate(u8, u8, Last, u8, &'static [u8]),
     /// The certificate that was placed last, as it was sent.
@@ -169,7 +169,7 @@ static HISTORY: [(Sent, Status); 40] = [
     // Another structure over the same plan, and what was pending.
     (Sent::Structure(0, 1, 6, 0), Status::NotPending),
     (Sent::PlacedAgain, Status::WrongNumber),
-    // The second operation is placed behind the structure of the first one alone.
+    // The second operation is placed after the structure of the first one alone.
     (
         Sent::Certificate(0, 2, Last::Zeros, 0, NONE),
         Status::WrongNumber,

@@ -50,7 +50,7 @@ pub(crate) fn certificate(rt: &impl Host, user: u8, number: u32, last: &[u8; 32]
     joined(rt, &[b"SUC1", &[user], &number.to_be_bytes(), last, &[0]])
 }
 
-/// A plan with a vector and entries that are spelled already, each behind its count.
+/// A plan with a vector and entries that are spelled already, each after its count.
 pub(crate) fn plan<'a>(
     rt: &impl Host,
     user: u8,
@@ -77,7 +77,7 @@ pub(crate) fn structure(rt: &impl Host, plan: &[u8], handle: &[u8; 32]) -> Vec<u
     joined(rt, &[b"SVS1", &size_of(plan), plan, handle, &[0]])
 }
 
-/// A text, and behind it its signature by a leaf.
+/// A text, and after it its signature by a leaf.
 pub(crate) fn signed(rt: &impl Host, key: &PrivateKey<Global>, leaf: u32, text: &[u8]) -> Vec<u8>
     requires { leaf < 1024 }
 {
@@ -96,7 +96,7 @@ pub(crate) fn named(signed: &[u8]) -> [u8; 32] {
     *digest(unsigned(signed)).as_bytes()
 }
 
-/// A signed structure as a reply lists it: behind the size of what was signed.
+/// A signed structure as a reply lists it: after the size of what was signed.
 pub(crate) fn shown(rt: &impl Host, structure: &[u8]) -> Vec<u8> {
     joined(rt, &[&size_of(unsigned(structure)), structure])
 }
@@ -114,7 +114,7 @@ pub(crate) fn pending(rt: &impl Host, certificate: &[u8], plan: &[u8]) -> Vec<u8
     )
 }
 
-/// A reply of structures and pending operations, each list behind its count.
+/// A reply of structures and pending operations, each list after its count.
 pub(crate) fn reply(rt: &impl Host, structures: &[u8], pending: &[u8]) -> Vec<u8> {
     joined(rt, &[b"SRL1", structures, pending])
 }

@@ -1,4 +1,4 @@
--- The tree behind an operation of a user who acts alone.
+-- The tree after an operation of a user who acts alone.
 use Rattle.std.proofs.Common.{◌≡◌, ℕ, Bool, true, false, List, [], ◌∷◌, ◌++◌, Option, Some, None, refl, subst, sym, ap, ◌∙◌, inl, inr}
 use Rattle.std.specs.Prelude.{◌==◌, ◌&&◌, nat_le, if◌then◌else◌}
 use Rattle.std.proofs.lemmas.Bool.{cases_eq, eq-eqb, eqb-true, ne_eqb}
@@ -53,7 +53,7 @@ is_part_of reads t i = rw (eq-eqb t.principal t.principal refl) (laid reads (dig
 pub stands : (reads : List ℕ → Content) (t : ITable) (p i : ℕ) (digest : List ℕ) → (p == t.principal) ≡ true → digest_at t i ≡ Some digest → Some (reads digest) ≡ tree_of reads t p i
 stands reads t p i digest own at = rw own (ap (option_map reads) (sym at))
 
--- ---- the tree behind the changes
+-- ---- the tree after the changes
 
 -- who acts alone has no effect on what is another's
 other_stays : (reads : List ℕ → Content) (user : ℕ) (c : Change) (content : Option Content) → (c.principal == user) ≡ false → behind reads (alone user) c content ≡ content

@@ -1,3 +1,4 @@
+-- Nobody has to believe this file: an aid of private contracts.
 -- The changes that a user loses who acts alone: each that is another principal's, and the own ones without effect.
 use Rattle.std.specs.Prelude.{ℕ, ◌+◌, ◌==◌, Bool, ◌||◌, not, List, [], ◌∷◌, if◌then◌else◌}
 use Rattle.std.specs.List.{list_any}

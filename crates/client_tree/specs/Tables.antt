@@ -24,7 +24,7 @@ root_at blocks handle = option_and_then (λ text. result_ok (whole root text)) (
 abbrev pub chunk_held : Blocks → List ℕ → Option Chunk
 chunk_held blocks digest = option_and_then (λ text. result_ok (whole chunk text)) (blocks digest)
 
--- the pairs of listed chunks behind one another, if all are held
+-- the pairs of listed chunks one after another, if all are held
 unfoldable pub pairs_over : Blocks → List ListedChunk → Option (List Pair)
 pairs_over blocks [] = Some []
 pairs_over blocks (c ∷ cs) = option_and_then (λ x. option_map (λ rest. x.pairs ++ rest) (pairs_over blocks cs)) (chunk_held blocks c.digest)

@@ -1,4 +1,4 @@
--- The tree of an accepted view while one user acts alone: the user's own i-table, read before the operation and behind it.
+-- The tree of an accepted view while one user acts alone: the user's own i-table, read before the operation and after it.
 use Rattle.std.specs.Prelude.{◌≡◌, ◌⊎◌, ℕ, ◌==◌, false, List, ◌++◌, [], Some, None, if◌then◌else◌}
 use Rattle.std.specs.Option.{option_map}
 use Rattle.std.specs.Str.{bytes_eq}
@@ -16,7 +16,7 @@ use Rattle.update_cert.specs.declared.error.ApplyError.{ApplyError}
 use Rattle.update_cert.specs.declared.spot.Spot.{Spot}
 use Rattle.client_tree.specs.Tables.{IsOfTable, IsRead}
 
--- the i-table of the user behind the operation, and the numbers of the changes that had no effect
+-- the i-table of the user after the operation, and the numbers of the changes that had no effect
 pub record OwnTree : Type 0 where
   pub table : ITable
   pub lost : List ℕ
@@ -39,7 +39,7 @@ pub record IsOutcome (blocks : Blocks) (handle : List ℕ) (c : Cert) (tree : Ow
   -- the i-table before the operation, as the blocks spell it
   pub before : ITable
   pub read : IsRead blocks c.user handle before
-  -- the part behind its changes, in turn, and what stands in it: that of the tree before behind these changes
+  -- the part after its changes, in turn, and what stands in it: that of the tree before, after these changes
   pub part : Part
   pub is_part : IsPart part
   pub slots : (reads : List ℕ → Content) → Agrees blocks reads → (i : ℕ) → slot_at part i ≡ slot_after reads (alone c.user) c.user i c.changes (slot_at (part_of before) i)
@@ -48,7 +48,7 @@ pub record IsOutcome (blocks : Blocks) (handle : List ℕ) (c : Cert) (tree : Ow
   pub is_table : IsTable tree.table
   pub principal : tree.table.principal ≡ c.user
   pub digests : (i : ℕ) → digest_at tree.table i ≡ option_map settled_digest (slot_at part i)
-  -- and is that of the tree behind these changes, where the digests of directories that changed stand for them,
+  -- and is that of the tree after these changes, where the digests of directories that changed stand for them,
   pub world : (reads : List ℕ → Content) → Agrees blocks reads → ReadsChanged reads part → (p i : ℕ) → tree_of reads tree.table p i ≡ after reads (alone c.user) c.changes (tree_of reads before) p i
   -- as they do for who holds their texts
   pub read_back : (i : ℕ) (digest : List ℕ) (entries : List Entry) → slot_at part i ≡ Some (Changed digest entries) → IsReadBack entries

@@ -1,5 +1,5 @@
 //! What a client reads of an accepted reply from the blocks that it holds: the i-table that a handle names, the tree
-//! behind the own operation, and what stands there.
+//! after the own operation, and what stands there.
 #![tactic(auto)]
 
 mod contents;

@@ -18,7 +18,7 @@ use std::alloc::Allocator;
 use std::marker::Model;
 use update_cert::{ApplyError, Blocks, Cert, Part, Settled, apply};
 
-/// The i-table of the user behind the operation, with its handle, and which changes had no effect.
+/// The i-table of the user after the operation, with its handle, and which changes had no effect.
 #[derive(Drop)]
 pub struct Tree<A: Allocator> {
     table: ITable<A>,
@@ -38,7 +38,7 @@ impl<A: Allocator> Model for Tree<A> {
     ghost invariant = { λ t. t.handle ≡ handle_of t.table };
 }
 
-/// A tree behind an operation, and the texts by which it is stored.
+/// A tree after an operation, and the texts by which it is stored.
 #[derive(Drop)]
 pub struct Outcome<A: Allocator> {
     /// The tree.
@@ -96,7 +96,7 @@ impl<A: Allocator> Tree<A> {
 }
 
 impl<A: Allocator + Copy> Tree<A> {
-    /// The tree behind the operation of this certificate, whose user's i-table before it has this handle. The errors are
+    /// The tree after the operation of this certificate, whose user's i-table before it has this handle. The errors are
     /// Missing of a block, and Memory.
     pub fn of<B: Blocks>(
         alloc: A,

@@ -1,4 +1,4 @@
--- Blocks that are kept one behind another.
+-- Blocks that are kept one after another.
 use Rattle.std.proofs.Common.{◌≡◌, ℕ, List, ap, ◌∙◌}
 use Rattle.client_tree.specs.Held.{Block, keeping, keeping_all}
 

@@ -1,3 +1,4 @@
+-- Nobody has to believe this file: an aid of private contracts.
 -- What a tree, or what stands in it, comes to by the blocks that are held.
 use Rattle.std.specs.Prelude.{◌≡◌, ℕ, List, Some, None, true, map}
 use Rattle.std.specs.Vec.{vec_items}

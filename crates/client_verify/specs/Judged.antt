@@ -12,7 +12,7 @@ use Rattle.client_verify.specs.FirstBroken.{first_broken}
 use Rattle.client_verify.specs.State.{State, Checked, known, lists_in, last_handle, block_breaks, holding}
 
 -- Where these lists break no rule: a block is asked for that tells what the operation makes, and of which no text is held
--- that its spot takes; or, once none is wanted any more, the reply is accepted with the tree behind the operation, and
+-- that its spot takes; or, once none is wanted any more, the reply is accepted with the tree after the operation, and
 -- the new texts are handed out.
 abbrev pub Goes : {A : Type 0} → State → Lists → Step A → State → Type 0
 Goes s x (Need digest) new =

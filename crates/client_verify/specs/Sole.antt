@@ -1,3 +1,4 @@
+-- Nobody has to believe this file: an aid of private contracts.
 -- What holds while the table lists user 0 alone. An item of a user who isn't listed breaks UnknownUser, so that neither a
 -- rule on others' signatures is the first broken one, nor a structure of anyone else is shown in a reply that breaks none.
 use Rattle.std.specs.Prelude.{Bool, ◌==◌}

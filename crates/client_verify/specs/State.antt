@@ -37,7 +37,7 @@ pub record Checked : Type 0 where
   pub lists : Lists
   pub asked : Asked
 
--- a reply that breaks no rule, and the tree behind the own operation
+-- a reply that breaks no rule, and the tree after the own operation
 pub record Ready : Type 0 where
   pub lists : Lists
   pub tree : OwnTree
@@ -145,7 +145,7 @@ last_handle s = handle_behind s.user s.pinned s.last
 abbrev pub groups : Option (Signed Structure) → List GroupRecord
 groups last = option_map_or (λ z. z.value.groups) last []
 
--- the structure over a plan, with this handle, behind the one that was signed last
+-- the structure over a plan, with this handle, after the one that was signed last
 abbrev pub structure_over : List ℕ → Option (Signed Structure) → Plan → Structure
 structure_over handle last plan = record { plan = plan; handle = handle; groups = groups last }
 

@@ -1,4 +1,4 @@
-//! The tree behind the own operation, as far as the blocks that are held tell it.
+//! The tree after the own operation, as far as the blocks that are held tell it.
 
 ghost use Rattle.std.specs.Prelude.{◌≡◌, IfOk, map, true};
 ghost use Rattle.std.specs.Option.{option_copied};
@@ -19,7 +19,7 @@ use std::alloc::Allocator;
 use update_cert::{ApplyError, Blocks, Cert};
 use version_order::Structure;
 
-/// The tree behind an operation, or the block that is wanted to tell it.
+/// The tree after an operation, or the block that is wanted to tell it.
 #[derive(Drop)]
 pub(crate) enum Grown<A: Allocator> {
     Lacks(Asked),
@@ -58,7 +58,7 @@ fn wanted(error: ApplyError) -> Result<Asked, Memory>
     }
 }
 
-/// The tree behind the operation of a certificate, whose user signed this structure last.
+/// The tree after the operation of a certificate, whose user signed this structure last.
 pub(crate) fn grow<A: Allocator + Copy, B: Blocks>(
     alloc: A,
     user: User,

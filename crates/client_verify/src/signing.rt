@@ -26,7 +26,7 @@ fn with_room<A: Allocator>(text: Vec<u8, A>) -> Result<Vec<u8, A>, Memory>
     Ok(roomy)
 }
 
-/// The text with a signature behind it, where there is room.
+/// The text with a signature after it, where there is room.
 fn with_signature<A: Allocator>(text: Vec<u8, A>, signature: &Signature) -> Vec<u8, A>
     requires { vec_len text + 2508 ≤ vec_capacity text }
     ensures { result.items ≡ text.items ++ signature.now }

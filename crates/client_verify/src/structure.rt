@@ -14,7 +14,7 @@ use pending_list::Signed;
 use std::alloc::Allocator;
 use version_order::{GroupRecords, Plan, Structure};
 
-/// The structure over a plan, with this handle, behind the one that was signed last.
+/// The structure over a plan, with this handle, after the one that was signed last.
 fn structure_over<A: Allocator + Copy>(
     alloc: A,
     handle: Digest,

@@ -24,7 +24,7 @@ impl<A: Allocator> Model for Checked<A> {
     ghost view = { λ c. record { lists = c.lists; asked = c.asked } };
 }
 
-/// A reply that breaks no rule, and the tree behind the own operation.
+/// A reply that breaks no rule, and the tree after the own operation.
 #[derive(Drop)]
 pub(crate) struct Ready<A: Allocator> {
     pub(crate) lists: SoleLists<A>,

@@ -1,4 +1,4 @@
--- What judging a call found is what the call leads to, and what is kept behind it is what the events say.
+-- What judging a call found is what the call leads to, and what is kept after it is what the events say.
 use Rattle.std.proofs.Common.{◌≡◌, ℕ, ◌+◌, ◌≤◌, ◌<◌, true, false, cond, length, List, [], ◌∷◌, ◌++◌, Option, Some, None, Ok, refl, sym, ap, ◌∙◌, subst, inl, inr, arith}
 use Rattle.std.specs.Prelude.{◌==◌, not, IsSomeAnd, if◌then◌else◌}
 use Rattle.std.specs.Option.{option_map_or, option_to_list}
@@ -46,7 +46,7 @@ pub signed_commit : (pinned : List ℕ) (es : List Event) (state : State) (s : S
 signed_commit pinned es state s key keeps known true' =
     ap (verified_commit es s) known ∙ ap (λ b. cond b (committing es s) (Refused status.BadSignature)) true' ∙ committing_kept es state s keeps (known_user pinned s.value.plan.user key known)
 
--- ---- what is kept behind a change
+-- ---- what is kept after a change
 
 keeps_placement : (es : List Event) (state : State) (w : Waiting) (v : List Component) → Keeps es state → IsPlacement state v w → Keeps (Placed (cert_of w.item) ∷ es) (record { vector = v; last = state.last; waiting = Some w })
 keeps_placement es state w v keeps p =
@@ -67,7 +67,7 @@ keeps_changed es state (Commits last) (Placed c) keeps p = absurd p
 keeps_changed es state (Commits last) (Committed s) keeps p =
     subst (λ (o : Option (Signed Structure)). Keeps (Committed s ∷ es) (record { vector = state.vector; last = o; waiting = None })) (sym p.structure) (keeps_commit es state s state.waiting refl keeps p.pending)
 
--- what is kept behind a call is what the events say
+-- what is kept after a call is what the events say
 pub keeps_behind : {A : Type 0} (es : List Event) (state : State) (j : Judged A) (o : Outcome) → Keeps es state → JudgedAs state j o → Keeps (happened o ++ es) (state_behind state j)
 keeps_behind es state (judged.Refused s) o keeps is = subst (λ (p : Outcome). Keeps (happened p ++ es) state) (sym is) keeps
 keeps_behind es state (judged.Repeated text) o keeps is = subst (λ (p : Outcome). Keeps (happened p ++ es) state) (sym is) keeps

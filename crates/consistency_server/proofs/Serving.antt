@@ -1,4 +1,4 @@
--- What a call that was settled leaves behind, in the words of the history.
+-- What a call leaves that was carried out, in the words of the history.
 use Rattle.std.proofs.Common.{◌≡◌, ℕ, Bool, true, false, cond, List, [], ◌∷◌, ◌++◌, Option, Some, None, Result, Ok, Err, refl, sym, ap, ◌∙◌, subst, inl, inr}
 use Rattle.std.specs.Prelude.{OnOk, OnErr, not, reverse}
 use Rattle.std.specs.List.{list_any}

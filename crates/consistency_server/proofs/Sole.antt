@@ -110,7 +110,7 @@ is_committed-above (Committed s ∷ es) i sole above =
     rw (other, is_committed-above es i sole.1.1 above)
     (elim (s.value.plan.user == i.plan.user) as (λ b. ((b && false) || false) ≡ false) [ true ↦ refl | false ↦ refl ])
 
--- an operation that is placed is pending behind the others
+-- an operation that is placed is pending after the others
 pub pending_placed : (es : List Event) (c : Signed Cert) → Sole es → c.value.number ≡ count_of 0 es + 1 → pending (Placed c ∷ es) ≡ pending es ++ item_of es (pending es) c ∷ []
 unfolding items
 pending_placed es c sole number =

@@ -21,7 +21,7 @@ use Rattle.consistency_server.specs.State.{Waiting, State, Waits, Keeps, cert_of
 use Rattle.consistency_server.specs.Steps.{next_item, next_reply, is_next_by, placing_beside, placing_by, plans, committing_by}
 use Rattle.consistency_server.proofs.Sole.{structures_sole, entries_none, count_of-placed, version_counted, pending_placed, commits, pending_committed}
 
--- what is kept behind a certificate that is placed, and behind a structure that is committed
+-- what is kept after a certificate that is placed, and after a structure that is committed
 abbrev pub after_placing : State → Signed Cert → State
 after_placing state c = record {
   vector = raised c.value.user state.vector;

@@ -51,7 +51,7 @@ kept (Committed s ∷ es) c = kept es c
 abbrev pub last_digest : ℕ → List Event → List ℕ
 last_digest user es = digest_of_last (last_of user es)
 
--- it is the user's next operation, behind its last structure, and the user has no other pending
+-- it is the user's next operation, after its last structure, and the user has no other pending
 abbrev pub is_next : List Event → Cert → Bool
 is_next es c =
     (c.number == count_of c.user es + 1)

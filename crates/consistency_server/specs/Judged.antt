@@ -1,3 +1,4 @@
+-- Nobody has to believe this file: an aid of private contracts.
 -- What judging a call found: an outcome, and a change of what is kept.
 use Rattle.std.specs.Prelude.{◌≡◌, ◌+◌, List, [], ◌∷◌, Option, Some, None, IsSomeAnd}
 use Rattle.version_order.specs.declared.vector.Component.{Component}
@@ -15,7 +16,7 @@ use Rattle.consistency_server.specs.Answers.{Call, Answer, Outcome, Refused, Rep
 use Rattle.consistency_server.specs.State.{State, Waiting, cert_of}
 use Rattle.consistency_server.specs.Steps.{next_item, next_reply}
 
--- what is kept behind a change
+-- what is kept after a change
 abbrev pub changed : {A : Type 0} → State → Change A → State
 changed state (Places vector waiting) = record { vector = vector; last = state.last; waiting = Some waiting }
 changed state (Commits last) = record { vector = state.vector; last = last; waiting = None }
@@ -47,7 +48,7 @@ JudgedAs state (judged.Refused s) o = o ≡ Refused s
 JudgedAs state (judged.Repeated text) o = o ≡ Repeated text.items
 JudgedAs state (judged.Happens change text) o = (e : Event) × (o ≡ Happens e text.items) × Admits state change e
 
--- what is kept behind a call
+-- what is kept after a call
 abbrev pub state_behind : {A : Type 0} → State → Judged A → State
 state_behind state (judged.Refused s) = state
 state_behind state (judged.Repeated text) = state

@@ -1,3 +1,4 @@
+-- Nobody has to believe this file: an aid of private contracts.
 -- What a reader found, where memory didn't run out.
 use Rattle.std.specs.Prelude.{◌≡◌, Option, Some, None, Result, Ok, Err}
 use Rattle.layout.specs.declared.error.ReadError.{ReadError}

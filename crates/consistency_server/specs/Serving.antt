@@ -1,3 +1,4 @@
+-- Nobody has to believe this file: an aid of private contracts.
 -- The status of a call that wasn't served.
 use Rattle.wire.specs.declared.kinds.Status.{Status}
 use Rattle.wire.specs.declared.kinds.Status.TheVariants as status

@@ -1,3 +1,4 @@
+-- Nobody has to believe this file: an aid of private contracts.
 -- What the server keeps of its events while user 0 alone is known, beside the calls themselves.
 use Rattle.std.specs.Prelude.{◌≡◌, ℕ, ◌≤◌, List, [], ◌∷◌, Option, IfSome}
 use Rattle.std.specs.Option.{option_map, option_to_list}

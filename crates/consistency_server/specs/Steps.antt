@@ -1,3 +1,4 @@
+-- Nobody has to believe this file: an aid of private contracts.
 -- What calls lead to by what the server keeps, while user 0 alone is known: the outcomes of Answers, without the events.
 use Rattle.std.specs.Prelude.{◌+◌, [], ◌∷◌, Option, Some, None, Bool, false, ◌==◌, ◌&&◌, not, if◌then◌else◌}
 use Rattle.std.specs.Option.{option_map_or, option_to_list}
@@ -33,7 +34,7 @@ next_item state c = record {
 abbrev pub next_reply : State → Signed Cert → Reply
 next_reply state c = record { structures = option_to_list state.last; pending = next_item state c ∷ [] }
 
--- the next number, behind the last structure
+-- the next number, after the last structure
 abbrev pub is_next_by : State → Cert → Bool
 is_next_by state c = (c.number == version_of c.user state.vector + 1) && bytes_eq c.last (digest_of_last state.last)
 

@@ -22,7 +22,7 @@ pub trait Log<E> {
 
     ghost is_full: { Self → Bool };
 
-    /// Takes an event behind the others. It takes no memory.
+    /// Takes an event after the others. It takes no memory.
     fn try_push(&mut self, event: E) -> Result<(), LogFull>
         ensures ok { OnOk result (pushed self.new ≡ pushed self.old ++ event ∷ []) }
         ensures full { is_err result ≡ is_full self.old }

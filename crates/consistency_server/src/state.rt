@@ -123,7 +123,7 @@ impl<A: Allocator> Model for State<A> {
 /// An event, with all that is kept of it.
 #[derive(Drop)]
 pub(crate) enum Change<A: Allocator> {
-    /// An operation is placed: the vector behind it, and the operation.
+    /// An operation is placed: the vector after it, and the operation.
     Places(Vector<A>, Waiting<A>),
     /// An operation is committed.
     Commits(Latest<A>),
@@ -159,7 +159,7 @@ impl<A: Allocator> State<A> {
         }
     }
 
-    /// Whether the certificate has the next number, behind the last structure.
+    /// Whether the certificate has the next number, after the last structure.
     fn is_next(&self, cert: &Cert<A>) -> bool
         ensures same { result ≡ is_next_by self.now cert.now }
         ensures below { IsTrue result → version_of cert.now.user self.now.vector < 4294967295 }

@@ -74,7 +74,7 @@ fn read_parts<'a>(reader: &mut Reader<'a>) -> Result<&'a str, ReadError>
     name_text(bytes).ok_or(ReadError::Range)
 }
 
-/// A name behind its length, in what is left of a text. It takes no memory. After a refusal the reader stands where it
+/// A name after its length, in what is left of a text. It takes no memory. After a refusal the reader stands where it
 /// stood.
 pub fn read_name<'a>(reader: &mut Reader<'a>) -> Result<&'a str, ReadError>
     ensures reads { ReadsAs (λ text. text.now) result reader.new (name.read reader.old) }

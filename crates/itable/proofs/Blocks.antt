@@ -28,7 +28,7 @@ front bytes block rest whole is =
           (ap (take 4096) whole ∙ take_at block rest 4096 full, ap (drop 4096) whole ∙ drop_at block rest 4096 full))
     ]
 
--- the first block, and those of the bytes behind it
+-- the first block, and those of the bytes after it
 pub next_block : (bytes block rest : List ℕ) → bytes ≡ block ++ rest → length block ≡ min 4096 (length bytes) → 0 < length bytes → blocks_of bytes ≡ block ∷ blocks_of rest
 unfolding pieces
 next_block bytes block rest whole is some =

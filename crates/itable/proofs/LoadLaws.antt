@@ -1,4 +1,4 @@
--- A table takes in a chunk that stands behind its own.
+-- A table takes in a chunk that stands after its own.
 use Rattle.std.proofs.Common.{◌≡◌, ◌≢◌, ℕ, zero, suc, ◌+◌, ◌<◌, ◌≤◌, Bool, true, false, List, [], ◌∷◌, ◌++◌, length, set, Option, Some, None, refl, sym, ap, subst, ◌∙◌, inl, inr, arith}
 use Rattle.std.specs.Prelude.{filter, filter_map}
 use Rattle.std.specs.Int.{w8, w16}

@@ -1,4 +1,4 @@
--- I-nodes: `SIN1`, a kind, a size in bytes, and the digests of as many blocks as that size takes, behind their count.
+-- I-nodes: `SIN1`, a kind, a size in bytes, and the digests of as many blocks as that size takes, after their count.
 -- The bytes stand in docs/FORMATS.md.
 use Rattle.std.proofs.Common.{◌≡◌, inl, inr, refl, arith}
 use Rattle.std.specs.Prelude.{ℕ, ◌+◌, ◌/◌, List, codes, ◌==◌, if◌then◌else◌}
@@ -35,7 +35,7 @@ abbrev pub size : Kind → Format ℕ
 size File = uint_in w32 0 4194304
 size Directory = uint_in w32 6 265222
 
--- that many digests, behind their count
+-- that many digests, after their count
 abbrev pub digests : ℕ → Format (List (List ℕ))
 digests count = listed (uint_in w16 count count) (λ _. raw 32)
 

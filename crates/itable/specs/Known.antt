@@ -1,3 +1,4 @@
+-- Nobody has to believe this file: an aid of private contracts.
 -- The digests of its chunks' texts that a table in memory knows.
 use Rattle.std.specs.Prelude.{◌≡◌, ℕ, List, Option, Some, None, length, slice_index_or}
 use Rattle.std.specs.Option.{option_map}

@@ -112,13 +112,13 @@ impl<A: Allocator> ITable<A> {
         take_out(&mut self.pairs, i_number).map(|pair| pair.digest)
     }
 
-    /// Takes in a chunk that stands behind all that the table has, and whose text has this digest: so a table is read
+    /// Takes in a chunk that stands after all that the table has, and whose text has this digest: so a table is read
     /// chunk by chunk, and its handle needs no hash of those that stay. After an error the table is as before.
     pub fn load(&mut self, chunk: &Chunk<A>, digest: Digest) -> Result<(), Memory>
         requires behind { All (λ c. c.number < chunk.now.number) (listings_of self.old) }
         requires digest { digest ≡ hash (chunk_format.spell chunk.now) }
         ensures pairs { OnOk result (self.new ≡ record self.old { pairs = self.old.pairs ++ chunk.now.pairs }) }
-        // Its root lists the chunk behind those that it listed.
+        // Its root lists the chunk after those that it listed.
         ensures listed { OnOk result (listings_of self.new ≡ listings_of self.old ++ record { number = chunk.now.number; digest = digest } ∷ []) }
         ensures err { OnErr result (self.new ≡ self.old) }
     {

@@ -1,3 +1,4 @@
+-- Nobody has to believe this file: laws, which are proved.
 -- The laws of rows that ascend by a key.
 use Rattle.std.proofs.Common.{◌≡◌, ℕ, zero, suc, ◌+◌, ◌<◌, ◌≤◌, Bool, true, false, cond, List, [], ◌∷◌, length, get_or, Option, Some, None, Result, Ok, Err, refl, sym, ap, subst, ◌∙◌, arith}
 use Rattle.std.specs.Prelude.{MatchResult, slice_index_or}
@@ -29,7 +30,7 @@ module _ {T K : Type 0} (cmp : K → K → Ordering) (key : T → K) (total : Is
   turned : (a b : K) (o : Ordering) → cmp a b ≡ o → cmp b a ≡ ordering_reverse o
   turned a b o h = total.antisymm b a ∙ ap ordering_reverse h
 
-  -- ---- what stands behind a row
+  -- ---- what stands after a row
 
   behind : (x : T) (xs : List T) → Ascends cmp key (Some x) xs → (i : ℕ) (d : T) → i < length xs → cmp (key x) (key (slice_index_or xs i d)) ≡ Less
   unfolding Ascends
@@ -107,7 +108,7 @@ module _ {T K : Type 0} (cmp : K → K → Ordering) (key : T → K) (total : Is
 
   -- ---- the rows with one more, and with one less
 
-  -- a row below: the key is its own, or is looked for behind it
+  -- a row below: the key is its own, or is looked for after it
   with_below : (y x : T) (ys : List T) (q : K) (o : Ordering) → cmp (key y) (key x) ≡ Less → cmp (key y) q ≡ o → row_at cmp key (with_row cmp key ys x) q ≡ cond (is_eq (cmp (key x) q)) (Some x) (row_at cmp key ys q)
       → cond (is_eq (cmp (key y) q)) (Some y) (row_at cmp key (with_row cmp key ys x) q) ≡ cond (is_eq (cmp (key x) q)) (Some x) (cond (is_eq (cmp (key y) q)) (Some y) (row_at cmp key ys q))
   with_below y x ys q Less h e later = rw e later
@@ -129,7 +130,7 @@ module _ {T K : Type 0} (cmp : K → K → Ordering) (key : T → K) (total : Is
   row_at-with_row [] x q = refl
   row_at-with_row (y ∷ ys) x q = with_step y x ys q (cmp (key y) (key x)) refl (row_at-with_row ys x q)
 
-  -- what ascends behind a row ascends behind any that is above no more
+  -- what ascends after a row ascends after any that is above no more
   ascends_behind : (b c : Option T) (xs : List T) → ((x : T) → above cmp key b (key x) ≡ true → above cmp key c (key x) ≡ true) → Ascends cmp key b xs → Ascends cmp key c xs
   unfolding Ascends
   ascends_behind b c [] more up = tt
@@ -177,7 +178,7 @@ module _ {T K : Type 0} (cmp : K → K → Ordering) (key : T → K) (total : Is
   past a b q Equal e h less = sym (alike_right total a q b e) ∙ turned a b Less less
   past a b q Greater e h less = turned q b Less (total.trans q a b (turned a q Greater e) less)
 
-  -- no key at or below a row stands behind it
+  -- no key at or below a row stands after it
   none_behind : (x : T) (xs : List T) (q : K) → Ascends cmp key (Some x) xs → is_lt (cmp (key x) q) ≡ false → row_at cmp key xs q ≡ None
   unfolding Ascends
   none_behind x [] q up h = refl
@@ -212,7 +213,7 @@ module _ {T K : Type 0} (cmp : K → K → Ordering) (key : T → K) (total : Is
   row_at-without_row b [] k q up = either_way (is_eq (cmp k q)) None
   row_at-without_row b (x ∷ xs) k q up = without_step x xs k q (cmp (key x) k) refl up.1 (row_at-without_row (Some x) xs k q up.1)
 
-  -- what ascends behind a row ascends behind what the row is above
+  -- what ascends after a row ascends after what the row is above
   pub ascends_earlier : (b : Option T) (x : T) (xs : List T) → above cmp key b (key x) ≡ true → Ascends cmp key (Some x) xs → Ascends cmp key b xs
   unfolding Ascends
   ascends_earlier b x [] up all = tt

@@ -92,7 +92,7 @@ guarded f test fault = record {
 abbrev pub uint_in : Width → ℕ → ℕ → Format ℕ
 uint_in w low high = guarded (uint w) (λ n. nat_le low n && nat_le n high) Range
 
--- a value, and behind it one whose format the first decides
+-- a value, and after it one whose format the first decides
 abbrev pub followed : {A B : Type 0} → Format A → (A → Format B) → Format (A × B)
 followed f g = record {
   spell = λ p. f.spell p.0 ++ (g p.0).spell p.1;
@@ -104,7 +104,7 @@ followed f g = record {
 abbrev pub pair : {A B : Type 0} → Format A → Format B → Format (A × B)
 pair f g = followed f (λ _. g)
 
--- a value behind a tag
+-- a value after a tag
 abbrev pub behind : {A : Type 0} → List ℕ → Format A → Format A
 behind tag f = record {
   spell = λ x. tag ++ f.spell x;
@@ -150,7 +150,7 @@ rows row count = record {
   Fits = λ xs. (length xs ≡ count) × FitRows row None xs;
 }
 
--- a size, and behind it what has that size
+-- a size, and after it what has that size
 abbrev pub sized : {A : Type 0} → Format ℕ → (A → ℕ) → (ℕ → Format A) → Format A
 sized count size f = mapped (λ p. p.1) (λ x. (size x, x)) (followed count f)
 

@@ -1,3 +1,4 @@
+-- Nobody has to believe this file: laws, which are proved.
 -- Texts that begin with other texts.
 use Rattle.std.proofs.Common.{◌≡◌, ◌≤◌, ℕ, List, ◌++◌, length, take, arith, ap, sym, ◌∙◌}
 use Rattle.std.proofs.lemmas.List.{length-take, take-take}

@@ -1,3 +1,4 @@
+-- Nobody has to believe this file: laws, which are proved.
 -- A digest fits where a text has one: it has 32 bytes, and they are bytes. This is all that is known of it above.
 use Rattle.std.proofs.Common.{ℕ, zero, suc, ◌-◌, List, [], ◌∷◌, ◌++◌, length, inl, inr, arith}
 use Rattle.std.specs.Int.{w32, to_be_bytes}

@@ -1,3 +1,4 @@
+-- Nobody has to believe this file: an aid of private contracts.
 -- The bytes that a hasher took so far.
 use Rattle.std.specs.Prelude.{ℕ, List}
 use Rattle.sha2.specs.Hashers.{Holds256}

@@ -1,3 +1,4 @@
+-- Nobody has to believe this file: laws, which are proved.
 -- How long a spelling may be.
 use Rattle.std.proofs.Common.{◌≡◌, ℕ, zero, suc, ◌+◌, ◌*◌, ◌^◌, ◌≤◌, ◌<◌, List, [], ◌∷◌, ◌++◌, length, Option, Some, None, arith, sym, ap, ◌∙◌, subst}
 use Rattle.std.specs.Option.{option_map_or}
@@ -102,7 +103,7 @@ at_most_ascending w high row key low many m wide ascends few = record {
       omega (arith, length-append (be w (length xs)) (spell_rows row None xs), (at_most_uint w wide).holds (length xs) fits.0.0, all, most);
 }
 
--- a text inside another, behind its size
+-- a text inside another, after its size
 pub at_most_nested : {A : Type 0} (w : Width) (low high : ℕ) (f : Format A) (m : ℕ) → IsWide w → AtMost f m → AtMost (nested (uint_in w low high) f) (byte_len w + m)
 at_most_nested w low high f m wide few = record {
   holds = λ x fits.

@@ -108,7 +108,7 @@ pub fn read_nested<A: Allocator + Copy, T: Text<A>>(
     found
 }
 
-/// Writes a text inside another one, behind its size in two bytes.
+/// Writes a text inside another one, after its size in two bytes.
 pub fn write_nested<A: Allocator + Copy, T: Text<A>>(
     alloc: A,
     writer: &mut Writer<A>,

@@ -32,7 +32,7 @@ inner_more id nodes value at long low is above number le lt =
       | inr other ↦ inner_kept id nodes value at number other (omega arith) (omega arith) (above number (omega arith) lt)
     ]
 
--- one value more behind a place
+-- one value more after a place
 pub filled_more : (nodes : List (List ℕ)) (value : List ℕ) (piece : ℕ → List ℕ) (from count at : ℕ) → from + count ≡ at → at < length nodes → value ≡ piece count
     → ((k : ℕ) → k < count → get_or nodes (from + k) [] ≡ piece k) → (k : ℕ) → k < count + 1 → get_or (set nodes at value) (from + k) [] ≡ piece k
 filled_more nodes value piece from count at place long is before k lt =

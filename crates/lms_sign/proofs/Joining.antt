@@ -24,14 +24,14 @@ joined_more count piece =
     ap (flat_map piece) (range_more count 0) ∙ flat_map-append piece (range_with_len 0 count) ((0 + count) ∷ [])
     ∙ ap (λ (l : List ℕ). joined count piece ++ l) (append-nil (piece (0 + count)) ∙ ap piece last)
 
--- the next piece behind those that stand behind a head
+-- the next piece after those that stand after a head
 pub joined_on : (head bytes : List ℕ) (piece : ℕ → List ℕ) (count : ℕ) → bytes ≡ piece count → (head ++ joined count piece) ++ bytes ≡ head ++ joined (count + 1) piece
 joined_on head bytes piece count is =
     let next : suc count ≡ count + 1 = omega arith in
     append_assoc head (joined count piece) bytes ∙ ap (λ (l : List ℕ). head ++ (joined count piece ++ l)) is ∙ ap (λ (l : List ℕ). head ++ l) (sym (joined_more count piece))
     ∙ ap (λ n. head ++ joined n piece) next
 
--- the next piece, written into a buffer behind those before it
+-- the next piece, written into a buffer after those before it
 pub joined_grown : (was now head bytes : List ℕ) (piece : ℕ → List ℕ) (at count : ℕ) → take (at + 32 * count + length bytes) now ≡ take (at + 32 * count) was ++ bytes → length bytes ≡ 32 → take (at + 32 * count) was ≡ head ++ joined count piece → bytes ≡ piece count
     → take (at + 32 * (count + 1)) now ≡ head ++ joined (count + 1) piece
 joined_grown was now head bytes piece at count wrote size before is =

@@ -44,7 +44,7 @@ fn checksum(digest: &[u8]) -> u16
     sum * 16
 }
 
-/// A digest with its checksum behind it.
+/// A digest with its checksum after it.
 pub(crate) fn with_checksum(digest: &Digest) -> [u8; 34]
     ensures { result ≡ digest.now ++ be w16 (checksum digest.now) }
 {

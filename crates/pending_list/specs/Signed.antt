@@ -1,4 +1,4 @@
--- Signed texts: the text, and behind it a signature of 2,508 bytes.
+-- Signed texts: the text, and after it a signature of 2,508 bytes.
 -- The bytes stand in docs/FORMATS.md.
 use Rattle.std.specs.Prelude.{refl, ℕ, ◌+◌, List}
 use Rattle.layout.specs.Format.{Format, raw, pair, mapped}

@@ -18,8 +18,8 @@ use version_order::{PLAN_SIZE, Plan, STRUCTURE_SIZE, Structure};
 /// How many structures a reply has at most, and how many pending operations.
 pub const MOST_ROWS: usize = 64;
 
-/// How many bytes the text of a reply has at most: the tag; the structures and the pending operations behind their counts,
-/// each text behind its size, and each signature.
+/// How many bytes the text of a reply has at most: the tag; the structures and the pending operations after their counts,
+/// each text after its size, and each signature.
 pub const REPLY_SIZE: usize = 4
     + (1 + MOST_ROWS * ((2 + STRUCTURE_SIZE) + SIGNATURE_SIZE))
     + (1 + MOST_ROWS * ((2 + CERT_SIZE) + SIGNATURE_SIZE + (2 + PLAN_SIZE)));

@@ -1,4 +1,4 @@
-//! Signatures, and texts with one behind them.
+//! Signatures, and texts with one after them.
 
 ghost use Rattle.std.specs.Prelude.{◌≡◌, ◌≢◌, IfErr, OnOk, OnErr, length};
 ghost use Rattle.layout.specs.declared.error.ReadError.TheVariants as read_error;

@@ -1,3 +1,4 @@
+-- Nobody has to believe this file: laws, which are proved.
 -- Laws of the lists of a reply.
 use Rattle.std.proofs.Common.{◌≡◌, List, [], ◌∷◌, ◌++◌, Some, None, refl, ap, ◌∙◌}
 use Rattle.std.specs.Option.{option_map}

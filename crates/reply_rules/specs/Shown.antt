@@ -1,3 +1,4 @@
+-- Nobody has to believe this file: an aid of private contracts.
 -- Entries as the code compares them: by the entries of plans, which are made once.
 use Rattle.std.specs.Prelude.{ℕ, zero, suc, List, [], ◌∷◌, Option, Bool, ◌&&◌, ◌||◌, not, if◌then◌else◌, ◌==◌}
 use Rattle.std.specs.List.{list_all}

@@ -1,3 +1,4 @@
+-- Nobody has to believe this file: an aid of private contracts.
 -- The pending items in two: those that aren't above come before those that are.
 use Rattle.std.specs.Prelude.{◌≡◌, ℕ, zero, suc, List, [], ◌∷◌, ◌++◌, Option, if◌then◌else◌, nat_lt}
 use Rattle.version_order.specs.Structure.{Structure}

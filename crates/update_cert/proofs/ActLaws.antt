@@ -1,4 +1,4 @@
--- What stands in a part behind an action.
+-- What stands in a part after an action.
 use Rattle.std.proofs.Common.{◌≡◌, ℕ, Bool, true, false, List, [], ◌∷◌, Option, Some, None, refl, subst, sym, ap, ◌∙◌, arith}
 use Rattle.std.specs.Prelude.{◌==◌, ◌&&◌, ◌||◌, not, nat_le, is_some, IsSome, if◌then◌else◌, slice_index_or}
 use Rattle.std.specs.List.{slice_set}
@@ -207,7 +207,7 @@ followed_step reads actor c s content false is = is
 own_test : (p q i k : ℕ) → p ≡ q → ((p == q) && (i == k)) ≡ (k == i)
 own_test p q i k same = grind (arith, nat_tests)
 
--- the part of the tree behind a change of its principal
+-- the part of the tree after a change of its principal
 pub part_followed : (reads : List ℕ → Content) (actor : Actor) (c : Change) (old new : Part) (tree : Tree) → c.principal ≡ old.table.principal → new.table.principal ≡ old.table.principal
     → ((i : ℕ) → slot_at new i ≡ (if c.i_number == i then slot_behind reads actor c (slot_at old i) else slot_at old i)) → IsPartOf reads old tree → IsPartOf reads new (after_change reads actor c tree)
 part_followed reads actor c old new tree of same slots is i =

@@ -24,7 +24,7 @@ all_back : {X : Type 0} (P : X → Type 0) (xs ys : List X) → All P (xs ++ ys)
 all_back {X} P [] ys all = all
 all_back {X} P (x ∷ xs) ys all = all_back P xs ys (All-tail P x (xs ++ ys) all)
 
--- texts that are held, behind one another
+-- texts that are held, one after another
 joined_held : (blocks : Blocks) (texts : List (List ℕ)) → All (IsHeld blocks) texts → joined blocks (map hash texts) ≡ Some (concat texts)
 unfolding joined
 joined_held blocks [] all = refl

@@ -1,11 +1,11 @@
--- Texts of blocks behind one another.
+-- Texts of blocks one after another.
 use Rattle.std.proofs.Common.{◌≡◌, ℕ, suc, ◌+◌, ◌<◌, ◌≤◌, List, [], ◌∷◌, ◌++◌, length, drop, Option, Some, None, refl, sym, ap, ◌∙◌, append_assoc, add-one, drop-cons}
 use Rattle.std.specs.Prelude.{slice_index_or}
 use Rattle.std.proofs.lemmas.List.{append-nil, drop_all}
 use Rattle.std.specs.Option.{option_map}
 use Rattle.update_cert.specs.Blocks.{Blocks, joined}
 
--- what is joined already, and the rest behind it
+-- what is joined already, and the rest after it
 abbrev pub onto : List ℕ → Option (List ℕ) → Option (List ℕ)
 onto old rest = option_map (λ more. old ++ more) rest
 

@@ -148,7 +148,7 @@ front_held : (before last : Option (List ℕ)) (text : List ℕ) → with_last b
 front_held None last text all = absurd cc
 front_held (Some front) last text all = refl
 
--- a block of an i-node that is held, behind others that are held
+-- a block of an i-node that is held, after others that are held
 pub is_block : (blocks : Blocks) (digest : List ℕ) (n : Inode) (kind : Kind) (k : ℕ) (block : List ℕ) → inode_at blocks digest ≡ Some n → n.kind ≡ kind → k < length n.blocks → block ≡ slice_index_or n.blocks k block → IsSome (joined blocks (take k n.blocks)) → IsBlockOf blocks kind digest k block
 is_block blocks digest n kind k block at of_kind inside here front = rw at (of_kind, slice_get_read n.blocks (length n.blocks) k block refl inside here, front)
 

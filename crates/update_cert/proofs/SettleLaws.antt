@@ -136,7 +136,7 @@ texts_next first all k o old new t inside at stored more before =
     ∙ flat_map_more (λ (x : Open). texts_unless (is_stored first x) x) [] (take k all) o
     ∙ sym (ap (changed_texts first) (take_next all k o inside at))
 
--- a directory's texts behind others
+-- a directory's texts after others
 pub texts_laid : {A : Type 0} (old blocks new : List (Vec ℕ A)) (text : Vec ℕ A) (es : List Entry) → map vec_items blocks ≡ blocks_of (directory.spell es) → text.items ≡ inode.spell (directory_inode es) → new ≡ (old ++ blocks) ++ text ∷ []
     → map vec_items new ≡ map vec_items old ++ directory_texts es
 texts_laid old blocks new text es are is news =

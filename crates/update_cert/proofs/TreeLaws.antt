@@ -1,4 +1,4 @@
--- The tree and a principal's part of it, behind changes in turn.
+-- The tree and a principal's part of it, after changes in turn.
 use Rattle.std.proofs.Common.{◌≡◌, ◌≢◌, ℕ, suc, ◌+◌, ◌<◌, Bool, true, false, List, [], ◌∷◌, ◌++◌, length, take, Option, refl, subst, sym, ap, ◌∙◌, arith, add-one}
 use Rattle.std.specs.Prelude.{◌==◌, ◌&&◌, if◌then◌else◌, slice_index_or}
 use Rattle.std.proofs.lemmas.Bool.{eq-eqb, ne_eqb}

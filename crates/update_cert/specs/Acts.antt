@@ -1,3 +1,4 @@
+-- Nobody has to believe this file: an aid of private contracts.
 -- What one change makes of a principal's part, and what it asks for.
 use Rattle.std.specs.Prelude.{◌≡◌, ℕ, ◌==◌, Bool, true, false, length, ◌&&◌, not, List, Option, Some, None, if◌then◌else◌}
 use Rattle.std.specs.Option.{option_map_or}

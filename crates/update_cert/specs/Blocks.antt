@@ -21,7 +21,7 @@ IsHeld blocks text = blocks (hash text) ≡ Some text
 abbrev pub inode_at : Blocks → List ℕ → Option Inode
 inode_at blocks digest = option_and_then (λ text. result_ok (whole inode text)) (blocks digest)
 
--- texts behind one another, if all are held
+-- texts one after another, if all are held
 unfoldable pub joined : Blocks → List (List ℕ) → Option (List ℕ)
 joined blocks [] = Some []
 joined blocks (d ∷ ds) = option_and_then (λ text. option_map (λ rest. text ++ rest) (joined blocks ds)) (blocks d)

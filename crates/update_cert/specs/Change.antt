@@ -65,7 +65,7 @@ abbrev pub as_unlink : Action → Option (List ℕ)
 as_unlink (Unlink old) = Some old
 as_unlink other = None
 
--- what stands behind the kinds 1 to 5: the digest of an i-node for 1 and 2, nothing for 3, an entry for 4, a name for 5
+-- what stands after the kinds 1 to 5: the digest of an i-node for 1 and 2, nothing for 3, an entry for 4, a name for 5
 abbrev pub action : ℕ → Format Action
 action zero = variant (λ _. Remove) as_remove nothing
 action (suc zero) = variant (λ inode. Make inode) as_make (raw 32)
@@ -74,7 +74,7 @@ action (suc (suc (suc zero))) = variant (λ _. Remove) as_remove nothing
 action (suc (suc (suc (suc zero)))) = variant (λ entry. Link entry) as_link named
 action (suc (suc (suc (suc (suc n))))) = variant (λ old. Unlink old) as_unlink name
 
--- the fields behind the kind
+-- the fields after the kind
 abbrev pub fields : ℕ → Format Change
 fields k =
     mapped (λ p. record { principal = p.0; i_number = p.1.0; action = p.1.1 }) (λ c. (c.principal, (c.i_number, c.action)))
@@ -119,7 +119,7 @@ lawful_action (suc (suc (suc (suc (suc n))))) = lawful_variant (λ old. Unlink o
 lawful_fields : (k : ℕ) → Lawful (fields k)
 lawful_fields k = search (laws, lawful_action) depth 9
 
--- what is read behind a kind is of this kind
+-- what is read after a kind is of this kind
 same_kind : (k : ℕ) (c : Change) → (uint_in w8 1 5).Fits k → (fields k).Fits c → kind_of c ≡ k
 same_kind zero c few fits = let range = in_range w8 1 5 zero few in absurd (omega (arith, range.0))
 same_kind (suc zero) c few fits = ap kind (sym (variant_is _ as_make (raw 32) is_make c.action fits.1.1).1)

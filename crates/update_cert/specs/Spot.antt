@@ -37,7 +37,7 @@ size_of_block size k = min 4096 (size - 4096 * k)
 abbrev pub takes_file_block : ℕ → List ℕ → Inode → Bool
 takes_file_block k text n = is_of_file n.kind && (nat_lt k (block_count n.size) && (length text == size_of_block n.size k))
 
--- the last block of a directory is, behind the others, what makes the text of one
+-- the last block of a directory is, after the others, what makes the text of one
 abbrev pub completes : Blocks → Inode → ℕ → List ℕ → Bool
 completes blocks n k text = option_map_or (λ before. is_some (of_size n.size (before ++ text))) (joined blocks (take k n.blocks)) false
 

@@ -96,15 +96,15 @@ becomes reads (Unlink name) content = Some (Directory (unlinked (entries_of cont
 unfoldable pub has_effect : Actor → Change → Option Content → Bool
 has_effect actor c content = permitted actor c && fits actor.user c content
 
--- what stands at its i-number behind the change
+-- what stands at its i-number after the change
 unfoldable pub behind : (List ℕ → Content) → Actor → Change → Option Content → Option Content
 behind reads actor c content = if has_effect actor c content then becomes reads c.action content else content
 
--- the tree behind a change: all else is as before
+-- the tree after a change: all else is as before
 abbrev pub after_change : (List ℕ → Content) → Actor → Change → Tree → Tree
 after_change reads actor c tree p i = if (p == c.principal) && (i == c.i_number) then behind reads actor c (tree p i) else tree p i
 
--- the tree behind the changes, in turn
+-- the tree after the changes, in turn
 unfoldable pub after : (List ℕ → Content) → Actor → List Change → Tree → Tree
 after reads actor [] tree = tree
 after reads actor (c ∷ cs) tree = after reads actor cs (after_change reads actor c tree)

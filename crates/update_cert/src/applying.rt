@@ -37,16 +37,16 @@ impl<A: Allocator> Voids<A> {
     }
 }
 
-/// A part behind a certificate's changes.
+/// A part after a certificate's changes.
 #[derive(Drop)]
 pub struct Applied<A: Allocator> {
-    /// The part behind the changes.
+    /// The part after the changes.
     pub part: Part<A>,
     /// Which changes of the part's principal had no effect.
     pub voids: Voids<A>,
 }
 
-/// What stands behind a certificate's changes in a principal's part: those of other principals are passed over. A part
+/// What stands after a certificate's changes in a principal's part: those of other principals are passed over. A part
 /// that can't be changed for want of a block or of memory is gone, and its maker makes it anew.
 pub fn apply<A: Allocator + Copy, B: Blocks>(
     alloc: A,

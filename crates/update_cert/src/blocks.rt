@@ -61,7 +61,7 @@ pub(crate) fn inode_at<A: Allocator + Copy, B: Blocks>(
     }
 }
 
-/// The texts of these digests behind one another, if all are held.
+/// The texts of these digests one after another, if all are held.
 pub(crate) fn join<A: Allocator + Copy, B: Blocks>(
     alloc: A,
     blocks: &B,

@@ -19,7 +19,7 @@ pub const MOST_CHANGES: usize = 16;
 /// How many bytes the text of a certificate has at most: the tag, the user, the number, the digest, and the changes.
 pub const CERT_SIZE: usize = 4 + 1 + 4 + 32 + (1 + MOST_CHANGES * CHANGE_SIZE);
 
-/// What a user signs to have an operation placed: at most 16 changes, behind the user's last structure.
+/// What a user signs to have an operation placed: at most 16 changes, after the user's last structure.
 #[derive(Drop)]
 pub struct Cert<A: Allocator> {
     user: User,

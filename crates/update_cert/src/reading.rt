@@ -38,7 +38,7 @@ pub fn read_inode<A: Allocator + Copy, B: Blocks>(
     }
 }
 
-/// The blocks of what an i-node is of, behind one another: each has its size.
+/// The blocks of what an i-node is of, one after another: each has its size.
 fn text_of<A: Allocator + Copy, B: Blocks>(
     alloc: A,
     blocks: &B,

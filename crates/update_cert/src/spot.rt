@@ -67,7 +67,7 @@ fn takes_file_block<A: Allocator>(inode: &Inode<A>, place: u16, text: &[u8]) -> 
         && text.len() == size_of_block(inode.size(), place) as usize
 }
 
-/// Whether the text makes, behind the blocks before this place, the text of a directory of the i-node's size.
+/// Whether the text makes, after the blocks before this place, the text of a directory of the i-node's size.
 fn completes<A: Allocator + Copy, B: Blocks>(
     alloc: A,
     blocks: &B,

@@ -1,3 +1,4 @@
+-- Nobody has to believe this file: laws, which are proved.
 -- The laws of vectors: how many components there are, and what raising does.
 use Rattle.std.proofs.Common.{◌≡◌, ℕ, suc, ◌+◌, ◌<◌, ◌≤◌, Bool, true, false, List, [], ◌∷◌, length, Option, Some, None, refl, sym, ap, ◌∙◌, inl, inr, arith}
 use Rattle.std.specs.Prelude.{◌==◌, nat_lt, insert, if◌then◌else◌}
@@ -36,7 +37,7 @@ at_most_component b =
 pub at_most_vector : AtMost vector 481
 at_most_vector = at_most_ascending w8 255 component principal_of 0 96 5 wide8 components_ascend at_most_component
 
--- ---- what stands behind a component
+-- ---- what stands after a component
 
 rows_behind : (b d : Option Component) (v : List Component) → ((p : ℕ) → is_above b p ≡ true → is_above d p ≡ true) → FitRows component b v → FitRows component d v
 unfolding FitRows

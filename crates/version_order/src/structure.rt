@@ -13,7 +13,7 @@ use layout::{
 use std::alloc::Allocator;
 use std::marker::Model;
 
-/// How many bytes the text of a structure has at most: the tag, the plan behind its size, the handle, and a record for
+/// How many bytes the text of a structure has at most: the tag, the plan after its size, the handle, and a record for
 /// each of 32 groups.
 pub const STRUCTURE_SIZE: usize = 4 + (2 + PLAN_SIZE) + 32 + (1 + 32 * (1 + 4 + 4 + 32));
 

@@ -10,7 +10,7 @@ use Rattle.wire.specs.declared.kinds.RequestKind.TheVariants.{Update, Commit, Pu
 use Rattle.wire.specs.declared.kinds.Status.{Status}
 use Rattle.wire.specs.declared.kinds.Status.TheVariants.{Ok, Form, UnknownUser, BadSignature, WrongNumber, NotPending, Busy, TooLarge, Absent, Memory}
 
--- a body behind its length
+-- a body after its length
 abbrev pub frame : Format (List ℕ)
 frame = string (uint_in w32 1 2097152)
 

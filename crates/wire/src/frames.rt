@@ -1,4 +1,4 @@
-//! Frames, each a body behind its length.
+//! Frames, each a body after its length.
 
 ghost use Rattle.layout.specs.declared.error.ReadError.TheVariants as read_error;
 ghost use Rattle.std.specs.Prelude.{◌≢◌, IfErr, ◌≡◌, ◌<◌, List, ℕ, ◌∷◌, Ok, IfOk, Some, true, length, option_map};

@@ -1,4 +1,4 @@
-//! What a client and the server say to each other: frames, each a body behind its length.
+//! What a client and the server say to each other: frames, each a body after its length.
 #![tactic(auto)]
 
 mod frames;
