@@ -71,13 +71,13 @@ module _ (reads : List ℕ → Content) (p : ℕ) where
         | false ↦ later
       ]
 
-  lost_behind : (n : ℕ) (before : List ℕ) (cs : List Change) (tree : Tree) → IsFrom n before → lost_from n p (before ++ void_from n reads (alone p) (is_of p) cs tree) cs ≡ void_from n reads (alone p) (λ _. true) cs tree
+  lost_after : (n : ℕ) (before : List ℕ) (cs : List Change) (tree : Tree) → IsFrom n before → lost_from n p (before ++ void_from n reads (alone p) (is_of p) cs tree) cs ≡ void_from n reads (alone p) (λ _. true) cs tree
   unfolding void_from
-  lost_behind n before [] tree none = refl
-  lost_behind n before (c ∷ cs) tree none =
-      let behind = after_change reads (alone p) c tree in
-      lost_step n p before (void_from (n + 1) reads (alone p) (is_of p) cs behind) (void_from (n + 1) reads (alone p) (λ _. true) cs behind) c cs (c.principal == p) (has_effect (alone p) c (tree c.principal c.i_number)) refl (foreign c tree) none
-      (none_above n (n + 1) cs behind (omega arith)) (λ earlier less. lost_behind (n + 1) earlier cs behind less)
+  lost_after n before [] tree none = refl
+  lost_after n before (c ∷ cs) tree none =
+      let next = after_change reads (alone p) c tree in
+      lost_step n p before (void_from (n + 1) reads (alone p) (is_of p) cs next) (void_from (n + 1) reads (alone p) (λ _. true) cs next) c cs (c.principal == p) (has_effect (alone p) c (tree c.principal c.i_number)) refl (foreign c tree) none
+      (none_above n (n + 1) cs next (omega arith)) (λ earlier less. lost_after (n + 1) earlier cs next less)
 
   pub lost_is_void : (cs : List Change) (tree : Tree) → lost_from 1 p (void_of reads (alone p) p cs tree) cs ≡ void reads (alone p) cs tree
-  lost_is_void cs tree = lost_behind 1 [] cs tree (λ m le. refl)
+  lost_is_void cs tree = lost_after 1 [] cs tree (λ m le. refl)

@@ -99,7 +99,7 @@ taken_at blocks p n (c ∷ cs) digest all found =
 pub nothing_lacks : (blocks : Blocks) (p : ℕ) (handle : List ℕ) (r : Root) → root_at blocks handle ≡ Some r → lacks blocks handle (spot.Root p) ≡ false → All (IsTaken blocks p) r.chunks
     → (digest : List ℕ) (s : Spot) → IsOfTable blocks p handle digest s → lacks blocks digest s ≡ false
 nothing_lacks blocks p handle r held found chunks digest (spot.Root q) (of, is) = rw (of, is) found
-nothing_lacks blocks p handle r held found chunks digest (spot.Chunk q n) (of, behind, listed) =
+nothing_lacks blocks p handle r held found chunks digest (spot.Chunk q n) (of, follows, listed) =
     let found : option_map (λ x. x.digest) (chunk_at r n) ≡ Some digest = subst (λ (o : Option Root). IsSomeAnd o (λ x. option_map (λ c. c.digest) (chunk_at x n) ≡ Some digest)) held listed in
     subst (λ (m : ℕ). lacks blocks digest (spot.Chunk m n) ≡ false) (sym of) (taken_at blocks p n r.chunks digest chunks found)
 nothing_lacks blocks p handle r held found chunks digest (spot.Inode q i) is = absurd is
@@ -120,18 +120,18 @@ ascend r fits = (ascends_from_fits nat_cmp number_of nat_cmp_total chunk_row IsL
 lt_from_less : (a b : ℕ) → is_lt (nat_cmp a b) ≡ true → a < b
 lt_from_less a b h = grind (arith, nat_tests)
 
-rise_behind : (c : ListedChunk) (cs : List ListedChunk) → Ascends nat_cmp number_of (Some c) cs → (j : ℕ) (d : ListedChunk) → j < length cs → c.number < (get_or cs j d).number
+rise_following : (c : ListedChunk) (cs : List ListedChunk) → Ascends nat_cmp number_of (Some c) cs → (j : ℕ) (d : ListedChunk) → j < length cs → c.number < (get_or cs j d).number
 unfolding Ascends
-rise_behind c [] up j d lt = absurd (omega arith)
-rise_behind c (x ∷ xs) up zero d lt = lt_from_less c.number x.number up.0
-rise_behind c (x ∷ xs) up (suc j) d lt = omega (arith, lt_from_less c.number x.number up.0, rise_behind x xs up.1 j d (omega arith))
+rise_following c [] up j d lt = absurd (omega arith)
+rise_following c (x ∷ xs) up zero d lt = lt_from_less c.number x.number up.0
+rise_following c (x ∷ xs) up (suc j) d lt = omega (arith, lt_from_less c.number x.number up.0, rise_following x xs up.1 j d (omega arith))
 
 below_in : (b : Option ListedChunk) (cs : List ListedChunk) → Ascends nat_cmp number_of b cs → (k : ℕ) (d : ListedChunk) → k < length cs → All (λ c. c.number < (get_or cs k d).number) (take k cs)
 unfolding Ascends
 below_in b [] up k d lt = absurd (omega arith)
 below_in b (x ∷ xs) up zero d lt = All-nil (λ c. c.number < x.number)
 below_in b (x ∷ xs) up (suc k) d lt =
-    All-cons (λ c. c.number < (get_or xs k d).number) x (take k xs) (rise_behind x xs up.1 k d (omega arith)) (below_in (Some x) xs up.1 k d (omega arith))
+    All-cons (λ c. c.number < (get_or xs k d).number) x (take k xs) (rise_following x xs up.1 k d (omega arith)) (below_in (Some x) xs up.1 k d (omega arith))
 
 -- those before a chunk have lesser numbers
 pub below : (r : Root) → root.Fits r → (k : ℕ) (d : ListedChunk) → k < length r.chunks → All (λ c. c.number < (get_or r.chunks k d).number) (take k r.chunks)
@@ -147,7 +147,7 @@ found_in : (b : Option ListedChunk) (cs : List ListedChunk) → Ascends nat_cmp 
 unfolding Ascends
 found_in b [] up k d lt = absurd (omega arith)
 found_in b (x ∷ xs) up zero d lt = rw (itself x.number) refl
-found_in b (x ∷ xs) up (suc k) d lt = rw (other_key x.number (get_or xs k d).number (rise_behind x xs up.1 k d (omega arith))) (found_in (Some x) xs up.1 k d (omega arith))
+found_in b (x ∷ xs) up (suc k) d lt = rw (other_key x.number (get_or xs k d).number (rise_following x xs up.1 k d (omega arith))) (found_in (Some x) xs up.1 k d (omega arith))
 
 -- a chunk of the list is the one that stands there
 pub found : (r : Root) → root.Fits r → (k : ℕ) (d : ListedChunk) → k < length r.chunks → chunk_at r (get_or r.chunks k d).number ≡ Some (get_or r.chunks k d)

@@ -9,7 +9,7 @@ use Rattle.itable.specs.ITable.{ITable, digest_at, handle_of, listings, new_text
 use Rattle.itable.specs.declared.root.ListedChunk.{ListedChunk}
 use Rattle.directory.specs.Directory.{Entry}
 use Rattle.update_cert.specs.Change.{Change}
-use Rattle.update_cert.specs.World.{Content, Directory, Tree, after, after_change, alone, becomes, behind, fits, has_effect, void, void_of}
+use Rattle.update_cert.specs.World.{Content, Directory, Tree, after, after_change, alone, becomes, content_after, fits, has_effect, void, void_of}
 use Rattle.update_cert.specs.Part.{Changed, IsPartOf, Laid, Part, Slot, content_of, part_of, slot_at, slot_of, stands_at}
 use Rattle.update_cert.specs.Slots.{directory_digest, settled_digest}
 use Rattle.update_cert.specs.Cert.{Cert}
@@ -56,14 +56,14 @@ stands reads t p i digest own at = rw own (ap (option_map reads) (sym at))
 -- ---- the tree after the changes
 
 -- who acts alone has no effect on what is another's
-other_stays : (reads : List ℕ → Content) (user : ℕ) (c : Change) (content : Option Content) → (c.principal == user) ≡ false → behind reads (alone user) c content ≡ content
-unfolding behind has_effect
+other_stays : (reads : List ℕ → Content) (user : ℕ) (c : Change) (content : Option Content) → (c.principal == user) ≡ false → content_after reads (alone user) c content ≡ content
+unfolding content_after has_effect
 other_stays reads user c content other = rw other (elim (nat_le 64 c.principal) as (λ t. (if (t && false) && fits user c content then becomes reads c.action content else content) ≡ content) [ true ↦ refl | false ↦ refl ])
 
 change_stays : (reads : List ℕ → Content) (user p i : ℕ) (c : Change) (tree : Tree) → (p == user) ≡ false → after_change reads (alone user) c tree p i ≡ tree p i
 change_stays reads user p i c tree other =
     elim (cases_eq p c.principal) [
-      | inl same ↦ rw (eq-eqb p c.principal same) (elim (i == c.i_number) as (λ t. (if t then behind reads (alone user) c (tree p i) else tree p i) ≡ tree p i) [ true ↦ other_stays reads user c (tree p i) (ap (λ (q : ℕ). q == user) (sym same) ∙ other) | false ↦ refl ])
+      | inl same ↦ rw (eq-eqb p c.principal same) (elim (i == c.i_number) as (λ t. (if t then content_after reads (alone user) c (tree p i) else tree p i) ≡ tree p i) [ true ↦ other_stays reads user c (tree p i) (ap (λ (q : ℕ). q == user) (sym same) ∙ other) | false ↦ refl ])
       | inr apart ↦ rw (ne_eqb p c.principal apart) refl
     ]
 

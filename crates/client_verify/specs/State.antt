@@ -135,11 +135,11 @@ holding s block = record s { blocks = keeping s.blocks block }
 -- ---- signing
 
 -- the handle of a user's i-table that was signed last, at the beginning that of the beginning
-abbrev pub handle_behind : ℕ → List ℕ → Option (Signed Structure) → List ℕ
-handle_behind user pinned last = option_map_or (λ z. z.value.handle) last (first_handle user pinned)
+abbrev pub handle_after : ℕ → List ℕ → Option (Signed Structure) → List ℕ
+handle_after user pinned last = option_map_or (λ z. z.value.handle) last (first_handle user pinned)
 
 abbrev pub last_handle : State → List ℕ
-last_handle s = handle_behind s.user s.pinned s.last
+last_handle s = handle_after s.user s.pinned s.last
 
 -- the records of groups, which are carried on
 abbrev pub groups : Option (Signed Structure) → List GroupRecord

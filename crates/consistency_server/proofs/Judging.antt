@@ -23,7 +23,7 @@ use Rattle.consistency_server.specs.Answers.{same_structure, Call, answer, happe
 use Rattle.consistency_server.specs.History.{logged_of}
 use Rattle.consistency_server.specs.State.{Waiting, State, Keeps, cert_of}
 use Rattle.consistency_server.specs.Steps.{next_item, next_reply, is_next_by, placing_beside, placing_by, plans, committing_by}
-use Rattle.consistency_server.specs.Judged.{changed, IsPlacement, Admits, JudgedAs, state_behind, answer_by, logged_by}
+use Rattle.consistency_server.specs.Judged.{changed, IsPlacement, Admits, JudgedAs, state_after, answer_by, logged_by}
 use Rattle.consistency_server.proofs.Steps.{after_placing, after_commit, keeps_placed, keeps_committed, placing_kept, committing_kept}
 
 -- user 0 alone has a key
@@ -68,10 +68,10 @@ keeps_changed es state (Commits last) (Committed s) keeps p =
     subst (λ (o : Option (Signed Structure)). Keeps (Committed s ∷ es) (record { vector = state.vector; last = o; waiting = None })) (sym p.structure) (keeps_commit es state s state.waiting refl keeps p.pending)
 
 -- what is kept after a call is what the events say
-pub keeps_behind : {A : Type 0} (es : List Event) (state : State) (j : Judged A) (o : Outcome) → Keeps es state → JudgedAs state j o → Keeps (happened o ++ es) (state_behind state j)
-keeps_behind es state (judged.Refused s) o keeps is = subst (λ (p : Outcome). Keeps (happened p ++ es) state) (sym is) keeps
-keeps_behind es state (judged.Repeated text) o keeps is = subst (λ (p : Outcome). Keeps (happened p ++ es) state) (sym is) keeps
-keeps_behind es state (judged.Happens change text) o keeps is =
+pub keeps_after : {A : Type 0} (es : List Event) (state : State) (j : Judged A) (o : Outcome) → Keeps es state → JudgedAs state j o → Keeps (happened o ++ es) (state_after state j)
+keeps_after es state (judged.Refused s) o keeps is = subst (λ (p : Outcome). Keeps (happened p ++ es) state) (sym is) keeps
+keeps_after es state (judged.Repeated text) o keeps is = subst (λ (p : Outcome). Keeps (happened p ++ es) state) (sym is) keeps
+keeps_after es state (judged.Happens change text) o keeps is =
     subst (λ (p : Outcome). Keeps (happened p ++ es) (changed state change)) (sym is.1) (keeps_changed es state change is.0 keeps is.2)
 
 pub answer_judged : {A : Type 0} (state : State) (j : Judged A) (o : Outcome) → JudgedAs state j o → answer o ≡ answer_by j

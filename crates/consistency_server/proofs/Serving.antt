@@ -23,9 +23,9 @@ use Rattle.consistency_server.specs.Event.{Event, Placed, Committed, pending, re
 use Rattle.consistency_server.specs.Answers.{Call, Outcome, Refused, Repeated, Happens, answer, happened, outcome_of, by_kind, kept, same_cert, is_next, at_limit, placing, verified_update, read_update, same_structure, is_pending, committing, verified_commit, read_commit}
 use Rattle.consistency_server.specs.History.{Ordered, events, IsServed, IsTurnedAway}
 use Rattle.consistency_server.specs.State.{State, Keeps}
-use Rattle.consistency_server.specs.Judged.{JudgedAs, state_behind}
+use Rattle.consistency_server.specs.Judged.{JudgedAs, state_after}
 use Rattle.consistency_server.specs.Serving.{status_of}
-use Rattle.consistency_server.proofs.Judging.{keeps_behind}
+use Rattle.consistency_server.proofs.Judging.{keeps_after}
 
 -- ---- no outcome is to be turned away
 
@@ -108,12 +108,12 @@ settled_history pinned old new call server is more =
     ap (ordered pinned) (ap reverse more ∙ reverse_more old call) ∙ ap (λ (s : Ordered). ordered s.pinned (call ∷ s.history)) is
 
 pub keeps_settled : {A X E : Type 0} (r : Result X E) (pinned : List ℕ) (old new : List Call) (call : Call) (state state' : State) (j : Judged A) → Keeps (events pinned (reverse old)) state → JudgedAs state j (outcome_of pinned (events pinned (reverse old)) call)
-    → OnOk r (state' ≡ state_behind state j) → OnOk r (new ≡ old ++ call ∷ []) → OnErr r (state' ≡ state) → OnErr r (new ≡ old) → Keeps (events pinned (reverse new)) state'
+    → OnOk r (state' ≡ state_after state j) → OnOk r (new ≡ old ++ call ∷ []) → OnErr r (state' ≡ state) → OnErr r (new ≡ old) → Keeps (events pinned (reverse new)) state'
 unfolding events
-keeps_settled (Ok x) pinned old new call state state' j keeps is behind more none none' =
+keeps_settled (Ok x) pinned old new call state state' j keeps is moved more none none' =
     let es : List Event = events pinned (reverse old) in
     let e : call ∷ reverse old ≡ reverse new = sym (ap reverse more ∙ reverse_more old call) in
-    let kept : Keeps (happened (outcome_of pinned es call) ++ es) (state_behind state j) = keeps_behind es state j (outcome_of pinned es call) keeps is in
-    subst (λ h. Keeps (events pinned h) state') e (subst (Keeps (events pinned (call ∷ reverse old))) (sym behind) kept)
-keeps_settled (Err x) pinned old new call state state' j keeps is behind more same same' =
+    let kept : Keeps (happened (outcome_of pinned es call) ++ es) (state_after state j) = keeps_after es state j (outcome_of pinned es call) keeps is in
+    subst (λ h. Keeps (events pinned h) state') e (subst (Keeps (events pinned (call ∷ reverse old))) (sym moved) kept)
+keeps_settled (Err x) pinned old new call state state' j keeps is moved more same same' =
     subst (λ h. Keeps (events pinned (reverse h)) state') (sym same') (subst (Keeps (events pinned (reverse old))) (sym same) keeps)

@@ -22,11 +22,11 @@ changed state (Places vector waiting) = record { vector = vector; last = state.l
 changed state (Commits last) = record { vector = state.vector; last = last; waiting = None }
 
 -- the operation is the next one, where none is pending
-pub record IsPlacement (state : State) (behind : List Component) (w : Waiting) : Type 0 where
+pub record IsPlacement (state : State) (next : List Component) (w : Waiting) : Type 0 where
   pub free : state.waiting ≡ None
   pub user : w.item.cert.user ≡ 0
   pub number : w.item.cert.number ≡ version_of w.item.cert.user state.vector + 1
-  pub vector : behind ≡ raised w.item.cert.user state.vector
+  pub vector : next ≡ raised w.item.cert.user state.vector
   pub item : w.item ≡ next_item state (cert_of w.item)
   pub reply : w.reply ≡ reply.spell (next_reply state (cert_of w.item))
 
@@ -49,10 +49,10 @@ JudgedAs state (judged.Repeated text) o = o ≡ Repeated text.items
 JudgedAs state (judged.Happens change text) o = (e : Event) × (o ≡ Happens e text.items) × Admits state change e
 
 -- what is kept after a call
-abbrev pub state_behind : {A : Type 0} → State → Judged A → State
-state_behind state (judged.Refused s) = state
-state_behind state (judged.Repeated text) = state
-state_behind state (judged.Happens change text) = changed state change
+abbrev pub state_after : {A : Type 0} → State → Judged A → State
+state_after state (judged.Refused s) = state
+state_after state (judged.Repeated text) = state
+state_after state (judged.Happens change text) = changed state change
 
 -- the answer
 abbrev pub answer_by : {A : Type 0} → Judged A → Answer

@@ -1,7 +1,7 @@
 //! The server's one order of calls.
 
 ghost use Rattle.std.specs.Prelude.{◌≡◌, ◌≢◌, [], ◌∷◌, ◌++◌, OnOk, OnErr, IfOk, IsTrue, Err, reverse};
-ghost use Rattle.consistency_server.specs.Judged.{answer_by, state_behind, logged_by};
+ghost use Rattle.consistency_server.specs.Judged.{answer_by, state_after, logged_by};
 
 use crate::call::{Answer, Call, CallKind};
 use crate::log::{Log, LogFull};
@@ -80,7 +80,7 @@ fn carry_out<A: Allocator + Copy, G: Log<Call<A>>>(
     judged: Judged<A>,
 ) -> Result<Answer<A>, Refusal>
     ensures answer { IfOk result (λ answer. answer ≡ answer_by judged) }
-    ensures state { OnOk result (state.new ≡ state_behind state.old judged) }
+    ensures state { OnOk result (state.new ≡ state_after state.old judged) }
     ensures history { OnOk result (history.new.items ≡ history.old.items ++ record { kind = kind; text = text.now } ∷ []) }
     ensures log { OnOk result (G.pushed log.new ≡ G.pushed log.old ++ logged_by judged (record { kind = kind; text = text.now })) }
     ensures state_err { OnErr result (state.new ≡ state.old) }

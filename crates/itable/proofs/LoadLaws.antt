@@ -39,15 +39,15 @@ set_twice {X} (z ∷ zs) (suc i) x y = ap (λ (ws : List X). z ∷ ws) (set_twic
 abbrev IsFound : List Pair → Pair → Type 0
 IsFound ps p = row_at nat_cmp i_number_of ps p.i_number ≡ None → ⊥
 
-found_behind : (x : Pair) (ps : List Pair) (p : Pair) → IsFound ps p → (t : Bool) → is_eq (nat_cmp x.i_number p.i_number) ≡ t → IsFound (x ∷ ps) p
-found_behind x ps p found true is none = let some : row_at nat_cmp i_number_of (x ∷ ps) p.i_number ≡ Some x = rw is refl in absurd cc
-found_behind x ps p found false is none = let same : row_at nat_cmp i_number_of (x ∷ ps) p.i_number ≡ row_at nat_cmp i_number_of ps p.i_number = rw is refl in found (sym same ∙ none)
+found_following : (x : Pair) (ps : List Pair) (p : Pair) → IsFound ps p → (t : Bool) → is_eq (nat_cmp x.i_number p.i_number) ≡ t → IsFound (x ∷ ps) p
+found_following x ps p found true is none = let some : row_at nat_cmp i_number_of (x ∷ ps) p.i_number ≡ Some x = rw is refl in absurd cc
+found_following x ps p found false is none = let same : row_at nat_cmp i_number_of (x ∷ ps) p.i_number ≡ row_at nat_cmp i_number_of ps p.i_number = rw is refl in found (sym same ∙ none)
 
 all_found : (ps : List Pair) → All (IsFound ps) ps
 all_found [] = All-nil (IsFound [])
 all_found (x ∷ ps) =
     All-cons (IsFound (x ∷ ps)) x ps (λ none. let some = found_first x ps in absurd cc)
-    (All-weaker (IsFound ps) (IsFound (x ∷ ps)) (λ p found. found_behind x ps p found (is_eq (nat_cmp x.i_number p.i_number)) refl) ps (all_found ps))
+    (All-weaker (IsFound ps) (IsFound (x ∷ ps)) (λ p found. found_following x ps p found (is_eq (nat_cmp x.i_number p.i_number)) refl) ps (all_found ps))
 
 some_is : {A : Type 0} {x y : A} → Some x ≡ Some y → x ≡ y
 some_is e = cc
@@ -121,14 +121,14 @@ above_first : (n : ℕ) (b : Option Pair) (y : Pair) → IsBefore n b → chunk_
 above_first n None y before is = refl
 above_first n (Some p) y before is = less_from_lt p.i_number y.i_number (omega arith)
 
-ascends_behind : (n : ℕ) (b : Option Pair) (ys : List Pair) → IsBefore n b → All (IsOf n) ys → Ascends nat_cmp i_number_of None ys → Ascends nat_cmp i_number_of b ys
+ascends_following : (n : ℕ) (b : Option Pair) (ys : List Pair) → IsBefore n b → All (IsOf n) ys → Ascends nat_cmp i_number_of None ys → Ascends nat_cmp i_number_of b ys
 unfolding Ascends
-ascends_behind n b [] before all up = tt
-ascends_behind n b (y ∷ ys) before all up = (above_first n b y before (All-head (IsOf n) y ys all).1, up.1)
+ascends_following n b [] before all up = tt
+ascends_following n b (y ∷ ys) before all up = (above_first n b y before (All-head (IsOf n) y ys all).1, up.1)
 
 ascends_both : (n : ℕ) (b : Option Pair) (xs ys : List Pair) → IsBefore n b → All (IsBelow n) xs → Ascends nat_cmp i_number_of b xs → All (IsOf n) ys → Ascends nat_cmp i_number_of None ys → Ascends nat_cmp i_number_of b (xs ++ ys)
 unfolding Ascends
-ascends_both n b [] ys before below up all more = ascends_behind n b ys before all more
+ascends_both n b [] ys before below up all more = ascends_following n b ys before all more
 ascends_both n b (x ∷ xs) ys before below up all more =
     (up.0, ascends_both n (Some x) xs ys (All-head (IsBelow n) x xs below) (All-tail (IsBelow n) x xs below) up.1 all more)
 
@@ -210,8 +210,8 @@ module _ (t : ITable) (c : Chunk) (is : IsTable t) (fits : chunk.Fits c) (below 
   entry_here : listing (with_chunk t c) c.number ≡ Some entry
   entry_here = ap (option_map (λ (y : List ℕ). record { number = c.number; digest = hash y })) text_here
 
-  none_behind : (m : ℕ) → c.number < m → listing (with_chunk t c) m ≡ None
-  none_behind m lt = ap (option_map (λ (y : List ℕ). record { number = m; digest = hash y })) (text_elsewhere m (λ e. omega arith) ∙ none_from m (omega arith))
+  none_following : (m : ℕ) → c.number < m → listing (with_chunk t c) m ≡ None
+  none_following m lt = ap (option_map (λ (y : List ℕ). record { number = m; digest = hash y })) (text_elsewhere m (λ e. omega arith) ∙ none_from m (omega arith))
 
   nothing_listed : (f : ℕ → Option ListedChunk) (a k : ℕ) → ((m : ℕ) → a ≤ m → f m ≡ None) → filter_map f (range_with_len a k) ≡ []
   nothing_listed f a zero none = refl
@@ -225,7 +225,7 @@ module _ (t : ITable) (c : Chunk) (is : IsTable t) (fits : chunk.Fits c) (below 
             let first : listing (with_chunk t c) a ≡ Some entry = rw e entry_here in
             let old : listing t a ≡ None = none_before a (omega arith) in
             rw (first, old)
-            (ap (λ (xs : List ListedChunk). entry ∷ xs) (nothing_listed (listing (with_chunk t c)) (a + 1) k (λ m le. none_behind m (omega arith)))
+            (ap (λ (xs : List ListedChunk). entry ∷ xs) (nothing_listed (listing (with_chunk t c)) (a + 1) k (λ m le. none_following m (omega arith)))
             ∙ ap (λ (xs : List ListedChunk). xs ++ entry ∷ []) (sym (nothing_listed (listing t) (a + 1) k (λ m le. none_before m (omega arith))))))
         | inr e ↦ rw (same_before a (omega arith)) (cons_front (listing t a) entry _ _ (one_more (a + 1) k (omega arith) (omega arith)))
       ]

@@ -3,7 +3,7 @@
 use Rattle.std.specs.Prelude.{ℕ, ◌/◌, ◌==◌, List, Option, codes}
 use Rattle.std.specs.Int.{w8}
 use Rattle.std.specs.Ordering.{nat_cmp}
-use Rattle.layout.specs.Format.{Format, Rows, uint_in, raw, pair, guarded, followed, behind, mapped, listed}
+use Rattle.layout.specs.Format.{Format, Rows, uint_in, raw, pair, guarded, followed, headed, mapped, listed}
 use Rattle.layout.specs.Laws.{Lawful, laws}
 use Rattle.layout.specs.Ranges.{i_number}
 use Rattle.layout.specs.Ascending.{above}
@@ -32,7 +32,7 @@ pair_row number before =
 -- a chunk has at least one pair
 abbrev pub chunk : Format Chunk
 chunk =
-    behind (codes "STC1")
+    headed (codes "STC1")
     (mapped (λ p. record { number = p.0; pairs = p.1 }) (λ c. (c.number, c.pairs))
     (followed (uint_in w8 0 63) (λ number. listed (uint_in w8 1 64) (pair_row number))))
 

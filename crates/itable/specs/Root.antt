@@ -3,7 +3,7 @@
 use Rattle.std.specs.Prelude.{ℕ, List, Option, codes}
 use Rattle.std.specs.Int.{w8}
 use Rattle.std.specs.Ordering.{nat_cmp}
-use Rattle.layout.specs.Format.{Format, Rows, uint_in, raw, pair, guarded, behind, mapped, listed}
+use Rattle.layout.specs.Format.{Format, Rows, uint_in, raw, pair, guarded, headed, mapped, listed}
 use Rattle.layout.specs.Laws.{Lawful, laws}
 use Rattle.layout.specs.Ranges.{principal}
 use Rattle.layout.specs.Ascending.{above, row_at}
@@ -30,7 +30,7 @@ chunk_row before =
 
 abbrev pub root : Format Root
 root =
-    behind (codes "STR1")
+    headed (codes "STR1")
     (mapped (λ p. record { principal = p.0; chunks = p.1 }) (λ r. (r.principal, r.chunks))
     (pair principal (listed (uint_in w8 0 64) chunk_row)))
 

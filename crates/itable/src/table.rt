@@ -115,7 +115,7 @@ impl<A: Allocator> ITable<A> {
     /// Takes in a chunk that stands after all that the table has, and whose text has this digest: so a table is read
     /// chunk by chunk, and its handle needs no hash of those that stay. After an error the table is as before.
     pub fn load(&mut self, chunk: &Chunk<A>, digest: Digest) -> Result<(), Memory>
-        requires behind { All (λ c. c.number < chunk.now.number) (listings_of self.old) }
+        requires follows { All (λ c. c.number < chunk.now.number) (listings_of self.old) }
         requires digest { digest ≡ hash (chunk_format.spell chunk.now) }
         ensures pairs { OnOk result (self.new ≡ record self.old { pairs = self.old.pairs ++ chunk.now.pairs }) }
         // Its root lists the chunk after those that it listed.

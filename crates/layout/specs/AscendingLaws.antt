@@ -32,11 +32,11 @@ module _ {T K : Type 0} (cmp : K → K → Ordering) (key : T → K) (total : Is
 
   -- ---- what stands after a row
 
-  behind : (x : T) (xs : List T) → Ascends cmp key (Some x) xs → (i : ℕ) (d : T) → i < length xs → cmp (key x) (key (slice_index_or xs i d)) ≡ Less
+  greater_following : (x : T) (xs : List T) → Ascends cmp key (Some x) xs → (i : ℕ) (d : T) → i < length xs → cmp (key x) (key (slice_index_or xs i d)) ≡ Less
   unfolding Ascends
-  behind x [] up i d lt = absurd (omega arith)
-  behind x (y ∷ ys) up zero d lt = is_less _ up.0
-  behind x (y ∷ ys) up (suc i) d lt = total.trans (key x) (key y) (key (slice_index_or ys i d)) (is_less _ up.0) (behind y ys up.1 i d (omega arith))
+  greater_following x [] up i d lt = absurd (omega arith)
+  greater_following x (y ∷ ys) up zero d lt = is_less _ up.0
+  greater_following x (y ∷ ys) up (suc i) d lt = total.trans (key x) (key y) (key (slice_index_or ys i d)) (is_less _ up.0) (greater_following y ys up.1 i d (omega arith))
 
   -- what is above a row is above what the row is above
   further : (b : Option T) (x : T) (k : K) → above cmp key b (key x) ≡ true → cmp (key x) k ≡ Less → above cmp key b k ≡ true
@@ -46,7 +46,7 @@ module _ {T K : Type 0} (cmp : K → K → Ordering) (key : T → K) (total : Is
   sorted : (b : Option T) (xs : List T) → Ascends cmp key b xs → IsSortedBy (λ x y. is_lt (cmp (key x) (key y))) xs
   unfolding Ascends
   sorted b [] up k d low high = absurd (omega arith)
-  sorted b (x ∷ xs) up zero d low high = ap is_lt (turned (key x) (key (slice_index_or xs 0 d)) Less (behind x xs up.1 0 d (omega arith)))
+  sorted b (x ∷ xs) up zero d low high = ap is_lt (turned (key x) (key (slice_index_or xs 0 d)) Less (greater_following x xs up.1 0 d (omega arith)))
   sorted b (x ∷ xs) up (suc k) d low high =
       let next : suc k + 1 ≡ suc (k + 1) = omega arith in
       rw next (sorted (Some x) xs up.1 k d (omega arith) (omega arith))
@@ -69,7 +69,7 @@ module _ {T K : Type 0} (cmp : K → K → Ordering) (key : T → K) (total : Is
       }
   stands b (x ∷ xs) k (suc i) up lt here =
       let later = stands (Some x) xs k i up.1 (omega arith) here in
-      let less : cmp (key x) k ≡ Less = sym (alike_right total (key (slice_index_or xs i x)) k (key x) (here x)) ∙ behind x xs up.1 i x (omega arith) in
+      let less : cmp (key x) k ≡ Less = sym (alike_right total (key (slice_index_or xs i x)) k (key x) (here x)) ∙ greater_following x xs up.1 i x (omega arith) in
       record {
         inside = lt;
         found = λ d. rw less (later.found d);
@@ -131,16 +131,16 @@ module _ {T K : Type 0} (cmp : K → K → Ordering) (key : T → K) (total : Is
   row_at-with_row (y ∷ ys) x q = with_step y x ys q (cmp (key y) (key x)) refl (row_at-with_row ys x q)
 
   -- what ascends after a row ascends after any that is above no more
-  ascends_behind : (b c : Option T) (xs : List T) → ((x : T) → above cmp key b (key x) ≡ true → above cmp key c (key x) ≡ true) → Ascends cmp key b xs → Ascends cmp key c xs
+  ascends_following : (b c : Option T) (xs : List T) → ((x : T) → above cmp key b (key x) ≡ true → above cmp key c (key x) ≡ true) → Ascends cmp key b xs → Ascends cmp key c xs
   unfolding Ascends
-  ascends_behind b c [] more up = tt
-  ascends_behind b c (x ∷ xs) more up = (more x up.0, up.1)
+  ascends_following b c [] more up = tt
+  ascends_following b c (x ∷ xs) more up = (more x up.0, up.1)
 
   with_ascends : (b : Option T) (y x : T) (ys : List T) (o : Ordering) → cmp (key y) (key x) ≡ o → above cmp key b (key x) ≡ true → Ascends cmp key b (y ∷ ys) → (cmp (key y) (key x) ≡ Less → Ascends cmp key (Some y) (with_row cmp key ys x))
       → Ascends cmp key b (with_row cmp key (y ∷ ys) x)
   unfolding Ascends
   with_ascends b y x ys Less h up all later = rw h (all.0, later h)
-  with_ascends b y x ys Equal h up all later = rw h (up, ascends_behind (Some y) (Some x) ys (λ z above. ap is_lt (sym (total.congr (key y) (key x) (key z) h)) ∙ above) all.1)
+  with_ascends b y x ys Equal h up all later = rw h (up, ascends_following (Some y) (Some x) ys (λ z above. ap is_lt (sym (total.congr (key y) (key x) (key z) h)) ∙ above) all.1)
   with_ascends b y x ys Greater h up all later = rw h (up, (ap is_lt (turned (key y) (key x) Greater h), all.1))
 
   -- it keeps the order
@@ -179,17 +179,17 @@ module _ {T K : Type 0} (cmp : K → K → Ordering) (key : T → K) (total : Is
   past a b q Greater e h less = turned q b Less (total.trans q a b (turned a q Greater e) less)
 
   -- no key at or below a row stands after it
-  none_behind : (x : T) (xs : List T) (q : K) → Ascends cmp key (Some x) xs → is_lt (cmp (key x) q) ≡ false → row_at cmp key xs q ≡ None
+  none_following : (x : T) (xs : List T) (q : K) → Ascends cmp key (Some x) xs → is_lt (cmp (key x) q) ≡ false → row_at cmp key xs q ≡ None
   unfolding Ascends
-  none_behind x [] q up h = refl
-  none_behind x (y ∷ ys) q up h =
+  none_following x [] q up h = refl
+  none_following x (y ∷ ys) q up h =
       let greater = past (key x) (key y) q (cmp (key x) q) refl h (is_less _ up.0) in
-      rw greater (none_behind y ys q up.1 (ap is_lt greater))
+      rw greater (none_following y ys q up.1 (ap is_lt greater))
 
   without_here : (x : T) (xs : List T) (q : K) (o : Ordering) → cmp (key x) q ≡ o → Ascends cmp key (Some x) xs → row_at cmp key xs q ≡ cond (is_eq o) None (cond (is_eq o) (Some x) (row_at cmp key xs q))
   without_here x xs q Less h up = refl
   without_here x xs q Greater h up = refl
-  without_here x xs q Equal h up = none_behind x xs q up (ap is_lt h)
+  without_here x xs q Equal h up = none_following x xs q up (ap is_lt h)
 
   without_apart : (x : T) (xs rest : List T) (k q : K) (o : Ordering) → cmp (key x) q ≡ o → is_eq (cmp (key x) k) ≡ false → row_at cmp key rest q ≡ cond (is_eq (cmp k q)) None (row_at cmp key xs q)
       → cond (is_eq o) (Some x) (row_at cmp key rest q) ≡ cond (is_eq (cmp k q)) None (cond (is_eq o) (Some x) (row_at cmp key xs q))
@@ -249,13 +249,13 @@ module _ {T K : Type 0} (cmp : K → K → Ordering) (key : T → K) (total : Is
   not_below : (x y : T) (xs ys : List T) → Ascends cmp key (Some y) ys → row_at cmp key (x ∷ xs) (key x) ≡ row_at cmp key (y ∷ ys) (key x) → cmp (key x) (key y) ≡ Less → ⊥
   not_below x y xs ys up same less =
       let greater : cmp (key y) (key x) ≡ Greater = turned (key x) (key y) Less less in
-      let none : row_at cmp key (y ∷ ys) (key x) ≡ None = rw greater (none_behind y ys (key x) up (ap is_lt greater)) in
+      let none : row_at cmp key (y ∷ ys) (key x) ≡ None = rw greater (none_following y ys (key x) up (ap is_lt greater)) in
       let clash : Some x ≡ None = sym (found_itself x xs) ∙ same ∙ none in
       absurd cc
 
   same_tails : (x y : T) (xs ys : List T) (q : K) (o : Ordering) → cmp (key x) q ≡ o → cmp (key y) q ≡ o → Ascends cmp key (Some x) xs → Ascends cmp key (Some y) ys → row_at cmp key (x ∷ xs) q ≡ row_at cmp key (y ∷ ys) q → row_at cmp key xs q ≡ row_at cmp key ys q
   same_tails x y xs ys q Less h k up down same = rw (h, k) at same
-  same_tails x y xs ys q Equal h k up down same = none_behind x xs q up (ap is_lt h) ∙ sym (none_behind y ys q down (ap is_lt k))
+  same_tails x y xs ys q Equal h k up down same = none_following x xs q up (ap is_lt h) ∙ sym (none_following y ys q down (ap is_lt k))
   same_tails x y xs ys q Greater h k up down same = rw (h, k) at same
 
   first_same : (x y : T) (xs ys : List T) → cmp (key x) (key y) ≡ Equal → row_at cmp key (x ∷ xs) (key x) ≡ row_at cmp key (y ∷ ys) (key x) → x ≡ y

@@ -105,8 +105,8 @@ abbrev pub pair : {A B : Type 0} → Format A → Format B → Format (A × B)
 pair f g = followed f (λ _. g)
 
 -- a value after a tag
-abbrev pub behind : {A : Type 0} → List ℕ → Format A → Format A
-behind tag f = record {
+abbrev pub headed : {A : Type 0} → List ℕ → Format A → Format A
+headed tag f = record {
   spell = λ x. tag ++ f.spell x;
   onto = λ old x. f.onto (old ++ tag) x;
   read = λ bytes. (tagged tag).read bytes >>= λ t. f.read t.1;

@@ -14,7 +14,7 @@ use Rattle.std.proofs.lemmas.Bool.Decides.{Decides-eqb}
 use Rattle.std.proofs.lemmas.Nat.{be_bytes_2, be_bytes_4, from_be_bytes-to_be_bytes_2, from_be_bytes-to_be_bytes_4}
 use Rattle.layout.specs.declared.error.ReadError.{ReadError}
 use Rattle.layout.specs.declared.error.ReadError.TheVariants.{Short, BadTag, Range, Trailing}
-use Rattle.layout.specs.Format.{Answer, Format, Rows, IsBytes, ◌>>=◌, ends, be, uint, uint_in, raw, tagged, guarded, followed, behind, mapped, rows, read_rows, spell_rows, rows_onto, FitRows, sized, listed, string, nested, nothing, variant, whole, Gives}
+use Rattle.layout.specs.Format.{Answer, Format, Rows, IsBytes, ◌>>=◌, ends, be, uint, uint_in, raw, tagged, guarded, followed, headed, mapped, rows, read_rows, spell_rows, rows_onto, FitRows, sized, listed, string, nested, nothing, variant, whole, Gives}
 
 -- what was read from the front of bytes
 pub record Takes {A : Type 0} (f : Format A) (bytes : List ℕ) (x : A) (rest : List ℕ) : Type 0 where
@@ -256,8 +256,8 @@ tagged_again tag x rest fits =
 pub lawful_tagged : (tag : List ℕ) → Lawful (tagged tag)
 lawful_tagged tag = record { takes = tagged_takes tag; onto = λ old x. refl; again = tagged_again tag }
 
-pub lawful_behind : {A : Type 0} (tag : List ℕ) (f : Format A) → Lawful f → Lawful (behind tag f)
-lawful_behind {A} tag f law = record {
+pub lawful_headed : {A : Type 0} (tag : List ℕ) (f : Format A) → Lawful f → Lawful (headed tag f)
+lawful_headed {A} tag f law = record {
   takes = λ bytes x rest fits e.
       let a = bind_ok ((tagged tag).read bytes) (λ (t : Unit {0} × List ℕ). f.read t.1) (x, rest) e in
       let t = tagged_takes tag bytes a.0.0 a.0.1 fits a.1 in
@@ -269,7 +269,7 @@ lawful_behind {A} tag f law = record {
       };
   onto = λ old x. law.onto (old ++ tag) x ∙ append_assoc old tag (f.spell x);
   again = λ x rest fits.
-      ap (behind tag f).read (append_assoc (tag) (f.spell x) rest)
+      ap (headed tag f).read (append_assoc (tag) (f.spell x) rest)
       ∙ ap (λ (r : Answer (Unit {0})). r >>= λ t. f.read t.1) (tagged_again tag tt (f.spell x ++ rest) tt)
       ∙ law.again x rest fits;
 }
@@ -385,7 +385,7 @@ rows_fit f b [] all = tt
 rows_fit f b (x ∷ xs) all = (All-head f.Fits x xs all, rows_fit f (Some x) xs (All-tail f.Fits x xs all))
 
 -- every law, for `search`
-pub ruleset laws = (lawful_raw, lawful_uint_in, wide8, wide16, wide32, lawful_guarded, lawful_followed, lawful_behind, lawful_mapped, lawful_sized, lawful_listed, lawful_string, lawful_nested, lawful_nothing, refl)
+pub ruleset laws = (lawful_raw, lawful_uint_in, wide8, wide16, wide32, lawful_guarded, lawful_followed, lawful_headed, lawful_mapped, lawful_sized, lawful_listed, lawful_string, lawful_nested, lawful_nothing, refl)
 
 -- a text that was written is the spelling
 pub is_text : {A : Type 0} (f : Format A) → Lawful f → (x : A) (text : List ℕ) → text ≡ f.onto [] x → text ≡ f.spell x

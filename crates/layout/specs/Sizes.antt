@@ -7,7 +7,7 @@ use Rattle.std.specs.Int.{Width, byte_len, to_be_bytes}
 use Rattle.std.proofs.lemmas.List.{length-append}
 use Rattle.std.proofs.lemmas.Nat.{mul-le}
 use Rattle.layout.specs.declared.error.ReadError.{ReadError}
-use Rattle.layout.specs.Format.{Format, Rows, be, uint, uint_in, raw, guarded, followed, pair, behind, mapped, rows, spell_rows, FitRows, sized, listed, string, nested, nothing, variant}
+use Rattle.layout.specs.Format.{Format, Rows, be, uint, uint_in, raw, guarded, followed, pair, headed, mapped, rows, spell_rows, FitRows, sized, listed, string, nested, nothing, variant}
 use Rattle.layout.specs.Laws.{IsWide, in_range, in_range_fits}
 
 -- no spelling of this format has more bytes
@@ -48,8 +48,8 @@ most_of_variant f m few (Some x) fits = few.holds x fits
 pub at_most_variant : {A B : Type 0} (to : A → B) (from : B → Option A) (f : Format A) (m : ℕ) → AtMost f m → AtMost (variant to from f) m
 at_most_variant to from f m few = record { holds = λ y fits. most_of_variant f m few (from y) fits }
 
-pub at_most_behind : {A : Type 0} (tag : List ℕ) (f : Format A) (m : ℕ) → AtMost f m → AtMost (behind tag f) (length tag + m)
-at_most_behind tag f m few = record { holds = λ x fits. omega (arith, length-append tag (f.spell x), few.holds x fits) }
+pub at_most_headed : {A : Type 0} (tag : List ℕ) (f : Format A) (m : ℕ) → AtMost f m → AtMost (headed tag f) (length tag + m)
+at_most_headed tag f m few = record { holds = λ x fits. omega (arith, length-append tag (f.spell x), few.holds x fits) }
 
 pub at_most_mapped : {A B : Type 0} (to : A → B) (from : B → A) (f : Format A) (m : ℕ) → AtMost f m → AtMost (mapped to from f) m
 at_most_mapped to from f m few = record { holds = λ y fits. few.holds (from y) fits }

@@ -1,6 +1,6 @@
 -- The table of principals: who is a user, since when and by which key, and who is a member of which group. Until users
 -- and members can be added it is that of the beginning, which lists user 0 alone and has no members.
-use Rattle.std.specs.Prelude.{ℕ, Bool, List, [], ◌∷◌, Option, ◌==◌, ◌&&◌, ◌||◌, nat_lt, nat_le, find}
+use Rattle.std.specs.Prelude.{ℕ, Bool, List, [], ◌∷◌, ◌++◌, Option, ◌==◌, ◌&&◌, ◌||◌, nat_lt, nat_le, find, map, if◌then◌else◌}
 use Rattle.std.specs.List.{list_any}
 use Rattle.std.specs.Option.{option_map}
 use Rattle.principals.specs.declared.table.Listing.{Listing}
@@ -46,3 +46,30 @@ counts_at version r = nat_le r.begins version && ((r.until == 0) || nat_lt versi
 -- the user is a member of the group at this number of user 0's
 abbrev pub is_member : Table → ℕ → ℕ → ℕ → Bool
 is_member table group user version = list_any (λ r. is_row_of group user r && counts_at version r) table.rows
+
+-- ---- changes, each of an operation of user 0's with this number
+
+-- the user is listed, since whenever
+abbrev pub lists_user : Table → ℕ → Bool
+lists_user table user = list_any (λ l. l.user == user) table.users
+
+-- the row of a member whose membership hasn't ended
+abbrev pub is_open : ℕ → ℕ → Row → Bool
+is_open group user r = is_row_of group user r && (r.until == 0)
+
+-- the user is a member of the group after all of user 0's operations
+abbrev pub is_member_now : Table → ℕ → ℕ → Bool
+is_member_now table group user = list_any (is_open group user) table.rows
+
+abbrev pub user_added : ℕ → ℕ → List ℕ → Table → Table
+user_added number user key table = record { users = table.users ++ record { user = user; since = number; key = key } ∷ []; rows = table.rows }
+
+abbrev pub member_added : ℕ → ℕ → ℕ → Table → Table
+member_added number group user table = record { users = table.users; rows = table.rows ++ record { group = group; user = user; begins = number; until = 0 } ∷ [] }
+
+-- an open row of the group and the user ends; others stay
+abbrev pub ended : ℕ → ℕ → ℕ → Row → Row
+ended number group user r = if is_open group user r then record { group = r.group; user = r.user; begins = r.begins; until = number } else r
+
+abbrev pub member_dropped : ℕ → ℕ → ℕ → Table → Table
+member_dropped number group user table = record { users = table.users; rows = map (ended number group user) table.rows }

@@ -10,9 +10,9 @@ use Rattle.layout.specs.Ascending.{Stands, row_at, with_row}
 use Rattle.directory.specs.Directory.{Entry, linked, unlinked}
 use Rattle.itable.specs.ITable.{digest_at}
 use Rattle.update_cert.specs.Change.{Action, Make, Put, Remove, Link, Unlink, Change}
-use Rattle.update_cert.specs.World.{Content, File, Directory, Actor, Tree, permitted, has_effect, fits, has_room, has_name, entries_of, becomes, behind, after_change}
+use Rattle.update_cert.specs.World.{Content, File, Directory, Actor, Tree, permitted, has_effect, fits, has_room, has_name, entries_of, becomes, content_after, after_change}
 use Rattle.update_cert.specs.Part.{Open, Part, Slot, Changed, IsPart, IsPartOf, number_of, opened_at, slot_at, slot_of, stands_at}
-use Rattle.update_cert.specs.Slots.{content_in, laid_under, slot_becomes, slot_behind}
+use Rattle.update_cert.specs.Slots.{content_in, laid_under, slot_becomes, slot_after_change}
 use Rattle.update_cert.specs.Acts.{Acts, change_at, is_void_of, listed}
 use Rattle.update_cert.proofs.OpenedLaws.{entries_in, entries_with, is_part_with, key_test}
 use Rattle.update_cert.proofs.PartLaws.{closed}
@@ -153,8 +153,8 @@ pub no_effect : (actor : Actor) (c : Change) (content : Option Content) → perm
 unfolding has_effect
 no_effect actor c content not = rw not refl
 
-unchanged : (reads : List ℕ → Content) (actor : Actor) (c : Change) (s : Option Slot) → has_effect actor c (content_in reads s) ≡ false → slot_behind reads actor c s ≡ s
-unfolding slot_behind
+unchanged : (reads : List ℕ → Content) (actor : Actor) (c : Change) (s : Option Slot) → has_effect actor c (content_in reads s) ≡ false → slot_after_change reads actor c s ≡ s
+unfolding slot_after_change
 unchanged reads actor c s none = rw none refl
 
 either : (t : Bool) (x y : Option Slot) → x ≡ y → y ≡ (if t then x else y)
@@ -162,8 +162,8 @@ either true x y is = sym is
 either false x y is = refl
 
 -- a change that isn't permitted leaves the slots
-pub slots_still : (reads : List ℕ → Content) (actor : Actor) (c : Change) (part : Part) (i : ℕ) → permitted actor c ≡ false → slot_at part i ≡ (if c.i_number == i then slot_behind reads actor c (slot_at part i) else slot_at part i)
-slots_still reads actor c part i not = either (c.i_number == i) (slot_behind reads actor c (slot_at part i)) (slot_at part i) (unchanged reads actor c (slot_at part i) (no_effect actor c (stands_at reads part i) not))
+pub slots_still : (reads : List ℕ → Content) (actor : Actor) (c : Change) (part : Part) (i : ℕ) → permitted actor c ≡ false → slot_at part i ≡ (if c.i_number == i then slot_after_change reads actor c (slot_at part i) else slot_at part i)
+slots_still reads actor c part i not = either (c.i_number == i) (slot_after_change reads actor c (slot_at part i)) (slot_at part i) (unchanged reads actor c (slot_at part i) (no_effect actor c (stands_at reads part i) not))
 
 effect_fits : (actor : Actor) (c : Change) (content : Option Content) (user : ℕ) → permitted actor c ≡ true → actor.user ≡ user → has_effect actor c content ≡ fits user c content
 unfolding has_effect
@@ -172,17 +172,17 @@ effect_fits actor c content user may is = rw (may, is) refl
 pub has_acted : (reads : List ℕ → Content) (user : ℕ) (actor : Actor) (c : Change) (old new : Part) (fitted : Bool) → permitted actor c ≡ true → actor.user ≡ user → Acts reads user c old new fitted → fitted ≡ has_effect actor c (stands_at reads old c.i_number)
 has_acted reads user actor c old new fitted may is acts = acts.is_fit ∙ sym (effect_fits actor c (stands_at reads old c.i_number) user may is)
 
-behind_step : (reads : List ℕ → Content) (actor : Actor) (c : Change) (s : Option Slot) (fitted t : Bool) → (t ≡ true → fitted ≡ has_effect actor c (content_in reads s)) → (if fitted && t then slot_becomes reads c.action s else s) ≡ (if t then slot_behind reads actor c s else s)
-unfolding slot_behind
-behind_step reads actor c s true true is = rw (sym (is refl)) refl
-behind_step reads actor c s false true is = rw (sym (is refl)) refl
-behind_step reads actor c s true false is = refl
-behind_step reads actor c s false false is = refl
+change_step : (reads : List ℕ → Content) (actor : Actor) (c : Change) (s : Option Slot) (fitted t : Bool) → (t ≡ true → fitted ≡ has_effect actor c (content_in reads s)) → (if fitted && t then slot_becomes reads c.action s else s) ≡ (if t then slot_after_change reads actor c s else s)
+unfolding slot_after_change
+change_step reads actor c s true true is = rw (sym (is refl)) refl
+change_step reads actor c s false true is = rw (sym (is refl)) refl
+change_step reads actor c s true false is = refl
+change_step reads actor c s false false is = refl
 
 pub slots_acted : (reads : List ℕ → Content) (user : ℕ) (actor : Actor) (c : Change) (old new : Part) (fitted : Bool) (i : ℕ) → permitted actor c ≡ true → actor.user ≡ user → Acts reads user c old new fitted
-    → slot_at new i ≡ (if c.i_number == i then slot_behind reads actor c (slot_at old i) else slot_at old i)
+    → slot_at new i ≡ (if c.i_number == i then slot_after_change reads actor c (slot_at old i) else slot_at old i)
 slots_acted reads user actor c old new fitted i may is acts =
-    acts.slots i ∙ behind_step reads actor c (slot_at old i) fitted (c.i_number == i) (λ t. has_acted reads user actor c old new fitted may is acts ∙ ap (λ (k : ℕ). has_effect actor c (stands_at reads old k)) (eqb-true c.i_number i t))
+    acts.slots i ∙ change_step reads actor c (slot_at old i) fitted (c.i_number == i) (λ t. has_acted reads user actor c old new fitted may is acts ∙ ap (λ (k : ℕ). has_effect actor c (stands_at reads old k)) (eqb-true c.i_number i t))
 
 -- ---- what stands, from the slots
 
@@ -193,15 +193,15 @@ content_becomes reads Remove s = refl
 content_becomes reads (Link entry) s = refl
 content_becomes reads (Unlink name) s = refl
 
-content_behind : (reads : List ℕ → Content) (actor : Actor) (c : Change) (s : Option Slot) → content_in reads (slot_behind reads actor c s) ≡ behind reads actor c (content_in reads s)
-unfolding slot_behind behind
-content_behind reads actor c s = elim (has_effect actor c (content_in reads s)) as (λ t. content_in reads (if t then slot_becomes reads c.action s else s) ≡ (if t then becomes reads c.action (content_in reads s) else content_in reads s)) [
+content_is_after : (reads : List ℕ → Content) (actor : Actor) (c : Change) (s : Option Slot) → content_in reads (slot_after_change reads actor c s) ≡ content_after reads actor c (content_in reads s)
+unfolding slot_after_change content_after
+content_is_after reads actor c s = elim (has_effect actor c (content_in reads s)) as (λ t. content_in reads (if t then slot_becomes reads c.action s else s) ≡ (if t then becomes reads c.action (content_in reads s) else content_in reads s)) [
   | true ↦ content_becomes reads c.action s
   | false ↦ refl
 ]
 
-followed_step : (reads : List ℕ → Content) (actor : Actor) (c : Change) (s : Option Slot) (content : Option Content) (t : Bool) → content ≡ content_in reads s → (if t then behind reads actor c content else content) ≡ content_in reads (if t then slot_behind reads actor c s else s)
-followed_step reads actor c s content true is = ap (behind reads actor c) is ∙ sym (content_behind reads actor c s)
+followed_step : (reads : List ℕ → Content) (actor : Actor) (c : Change) (s : Option Slot) (content : Option Content) (t : Bool) → content ≡ content_in reads s → (if t then content_after reads actor c content else content) ≡ content_in reads (if t then slot_after_change reads actor c s else s)
+followed_step reads actor c s content true is = ap (content_after reads actor c) is ∙ sym (content_is_after reads actor c s)
 followed_step reads actor c s content false is = is
 
 own_test : (p q i k : ℕ) → p ≡ q → ((p == q) && (i == k)) ≡ (k == i)
@@ -209,11 +209,11 @@ own_test p q i k same = grind (arith, nat_tests)
 
 -- the part of the tree after a change of its principal
 pub part_followed : (reads : List ℕ → Content) (actor : Actor) (c : Change) (old new : Part) (tree : Tree) → c.principal ≡ old.table.principal → new.table.principal ≡ old.table.principal
-    → ((i : ℕ) → slot_at new i ≡ (if c.i_number == i then slot_behind reads actor c (slot_at old i) else slot_at old i)) → IsPartOf reads old tree → IsPartOf reads new (after_change reads actor c tree)
+    → ((i : ℕ) → slot_at new i ≡ (if c.i_number == i then slot_after_change reads actor c (slot_at old i) else slot_at old i)) → IsPartOf reads old tree → IsPartOf reads new (after_change reads actor c tree)
 part_followed reads actor c old new tree of same slots is i =
     let p = new.table.principal in
     let stood : tree p i ≡ stands_at reads old i = ap (λ (q : ℕ). tree q i) same ∙ is i in
-    ap (λ (t : Bool). if t then behind reads actor c (tree p i) else tree p i) (own_test p c.principal i c.i_number (same ∙ sym of))
+    ap (λ (t : Bool). if t then content_after reads actor c (tree p i) else tree p i) (own_test p c.principal i c.i_number (same ∙ sym of))
     ∙ followed_step reads actor c (slot_at old i) (tree p i) (c.i_number == i) stood
     ∙ sym (ap (content_in reads) (slots i))
 

@@ -66,8 +66,8 @@ rows_read text entries e =
     let left : drop 2 (drop 4 text) ≡ d.0.1 = ap (drop 2) tag.1 ∙ ap (λ (p : ℕ × List ℕ). p.1) (count.1 ∙ in_range.1) in
     let made = ok_is ((d.0.0, f.0.0), f.0.1) c.0 f.2 in
     let given = ok_is (c.0.0.1, c.0.1) a.0 c.2 in
-    let behind_count : f.0 ≡ (c.0.0.1, c.0.1) = ap (λ (z : (ℕ × List Entry) × List ℕ). (z.0.1, z.1)) made in
-    let same : f.0 ≡ (entries, []) = behind_count ∙ given ∙ both_are a.0 entries [] all.1 nothing in
+    let after_count : f.0 ≡ (c.0.0.1, c.0.1) = ap (λ (z : (ℕ × List Entry) × List ℕ). (z.0.1, z.1)) made in
+    let same : f.0 ≡ (entries, []) = after_count ∙ given ∙ both_are a.0 entries [] all.1 nothing in
     let long : 6 ≤ length text = omega (arith, ltb-false _ _ tag.0, ltb-false _ _ count.0, ap length tag.1, length-drop 4 text) in
     (long, (d.0.0, ap (read_rows entry d.0.0 None) left ∙ f.1 ∙ ap (λ (p : List Entry × List ℕ). done p) same))
 

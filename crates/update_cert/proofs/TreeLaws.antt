@@ -6,7 +6,7 @@ use Rattle.std.proofs.lemmas.List.{append-nil}
 use Rattle.std.proofs.Math.Seq.{take-suc}
 use Rattle.update_cert.specs.Change.{Change}
 use Rattle.update_cert.specs.World.{Content, Actor, Tree, after_change, after, void_from, is_of, void_of}
-use Rattle.update_cert.specs.Slots.{slot_behind, slot_after}
+use Rattle.update_cert.specs.Slots.{slot_after_change, slot_after}
 use Rattle.update_cert.specs.Part.{Part, Slot, IsPartOf}
 use Rattle.update_cert.specs.Acts.{is_void_of}
 
@@ -46,20 +46,20 @@ slot_last : (reads : List ℕ → Content) (actor : Actor) (p i : ℕ) (cs : Lis
 unfolding slot_after
 slot_last reads actor p i [] c s = refl
 slot_last reads actor p i (x ∷ xs) c s = elim ((x.principal == p) && (x.i_number == i)) as (λ t.
-    (if t then slot_after reads actor p i (xs ++ c ∷ []) (slot_behind reads actor x s) else slot_after reads actor p i (xs ++ c ∷ []) s)
-    ≡ slot_after reads actor p i (c ∷ []) (if t then slot_after reads actor p i xs (slot_behind reads actor x s) else slot_after reads actor p i xs s)) [
-      | true ↦ slot_last reads actor p i xs c (slot_behind reads actor x s)
+    (if t then slot_after reads actor p i (xs ++ c ∷ []) (slot_after_change reads actor x s) else slot_after reads actor p i (xs ++ c ∷ []) s)
+    ≡ slot_after reads actor p i (c ∷ []) (if t then slot_after reads actor p i xs (slot_after_change reads actor x s) else slot_after reads actor p i xs s)) [
+      | true ↦ slot_last reads actor p i xs c (slot_after_change reads actor x s)
       | false ↦ slot_last reads actor p i xs c s
     ]
 
 -- one change of the principal's, or of another's
-pub slot_own : (reads : List ℕ → Content) (actor : Actor) (p i : ℕ) (c : Change) (s new : Option Slot) → c.principal ≡ p → new ≡ (if c.i_number == i then slot_behind reads actor c s else s) → new ≡ slot_after reads actor p i (c ∷ []) s
+pub slot_own : (reads : List ℕ → Content) (actor : Actor) (p i : ℕ) (c : Change) (s new : Option Slot) → c.principal ≡ p → new ≡ (if c.i_number == i then slot_after_change reads actor c s else s) → new ≡ slot_after reads actor p i (c ∷ []) s
 unfolding slot_after
-slot_own reads actor p i c s new of is = is ∙ sym (ap (λ (t : Bool). if t && (c.i_number == i) then slot_behind reads actor c s else s) (eq-eqb c.principal p of))
+slot_own reads actor p i c s new of is = is ∙ sym (ap (λ (t : Bool). if t && (c.i_number == i) then slot_after_change reads actor c s else s) (eq-eqb c.principal p of))
 
 pub slot_foreign : (reads : List ℕ → Content) (actor : Actor) (p i : ℕ) (c : Change) (s : Option Slot) → c.principal ≢ p → s ≡ slot_after reads actor p i (c ∷ []) s
 unfolding slot_after
-slot_foreign reads actor p i c s other = sym (ap (λ (t : Bool). if t && (c.i_number == i) then slot_behind reads actor c s else s) (ne_eqb c.principal p other))
+slot_foreign reads actor p i c s other = sym (ap (λ (t : Bool). if t && (c.i_number == i) then slot_after_change reads actor c s else s) (ne_eqb c.principal p other))
 
 -- ---- one change more
 

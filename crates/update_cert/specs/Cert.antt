@@ -3,9 +3,9 @@
 -- The bytes stand in docs/FORMATS.md.
 use Rattle.std.specs.Prelude.{ℕ, List, codes}
 use Rattle.std.specs.Int.{w8, w32}
-use Rattle.layout.specs.Format.{Format, Rows, uint_in, raw, pair, behind, mapped, listed}
+use Rattle.layout.specs.Format.{Format, Rows, uint_in, raw, pair, headed, mapped, listed}
 use Rattle.layout.specs.Laws.{Lawful, laws, wide8, wide32}
-use Rattle.layout.specs.Sizes.{AtMost, at_most_behind, at_most_listed, at_most_mapped, at_most_pair, at_most_uint_in, at_most_raw}
+use Rattle.layout.specs.Sizes.{AtMost, at_most_headed, at_most_listed, at_most_mapped, at_most_pair, at_most_uint_in, at_most_raw}
 use Rattle.layout.specs.Ranges.{user, version}
 use Rattle.layout.specs.Hash.{hash}
 use Rattle.update_cert.specs.declared.cert.TheConstants.{CERT_SIZE}
@@ -28,7 +28,7 @@ changes = listed (uint_in w8 0 16) change_rows
 
 abbrev pub cert : Format Cert
 cert =
-    behind (codes "SUC1")
+    headed (codes "SUC1")
     (mapped (λ p. record { user = p.0; number = p.1.0; last = p.1.1.0; changes = p.1.1.1 }) (λ c. (c.user, (c.number, (c.last, c.changes))))
     (pair user (pair version (pair (raw 32) changes))))
 
@@ -37,7 +37,7 @@ lawful_cert = search (laws, lawful_change) depth 12
 
 pub at_most_cert : AtMost cert CERT_SIZE
 at_most_cert =
-    at_most_behind (codes "SUC1") _ 4246
+    at_most_headed (codes "SUC1") _ 4246
     (at_most_mapped _ _ _ 4246 (at_most_pair _ _ 1 4245 (at_most_uint_in w8 0 63 wide8)
     (at_most_pair _ _ 4 4241 (at_most_uint_in w32 1 4294967295 wide32)
     (at_most_pair _ _ 32 4209 (at_most_raw 32) (at_most_listed w8 0 16 change_rows 263 wide8 (λ _. at_most_change))))))

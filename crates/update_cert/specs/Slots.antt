@@ -33,14 +33,14 @@ slot_becomes reads (Link entry) s = Some (Changed (laid_under s) (linked (entrie
 slot_becomes reads (Unlink name) s = Some (Changed (laid_under s) (unlinked (entries_of (content_in reads s)) name))
 
 -- the slot of a change, after it
-unfoldable pub slot_behind : (List ℕ → Content) → Actor → Change → Option Slot → Option Slot
-slot_behind reads actor c s = if has_effect actor c (content_in reads s) then slot_becomes reads c.action s else s
+unfoldable pub slot_after_change : (List ℕ → Content) → Actor → Change → Option Slot → Option Slot
+slot_after_change reads actor c s = if has_effect actor c (content_in reads s) then slot_becomes reads c.action s else s
 
 -- a principal's slot at an i-number, after the changes in turn
 unfoldable pub slot_after : (List ℕ → Content) → Actor → ℕ → ℕ → List Change → Option Slot → Option Slot
 slot_after reads actor p i [] s = s
 slot_after reads actor p i (c ∷ cs) s =
-    if (c.principal == p) && (c.i_number == i) then slot_after reads actor p i cs (slot_behind reads actor c s) else slot_after reads actor p i cs s
+    if (c.principal == p) && (c.i_number == i) then slot_after reads actor p i cs (slot_after_change reads actor c s) else slot_after reads actor p i cs s
 
 -- ---- what an i-table has of it
 

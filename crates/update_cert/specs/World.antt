@@ -97,12 +97,12 @@ unfoldable pub has_effect : Actor → Change → Option Content → Bool
 has_effect actor c content = permitted actor c && fits actor.user c content
 
 -- what stands at its i-number after the change
-unfoldable pub behind : (List ℕ → Content) → Actor → Change → Option Content → Option Content
-behind reads actor c content = if has_effect actor c content then becomes reads c.action content else content
+unfoldable pub content_after : (List ℕ → Content) → Actor → Change → Option Content → Option Content
+content_after reads actor c content = if has_effect actor c content then becomes reads c.action content else content
 
 -- the tree after a change: all else is as before
 abbrev pub after_change : (List ℕ → Content) → Actor → Change → Tree → Tree
-after_change reads actor c tree p i = if (p == c.principal) && (i == c.i_number) then behind reads actor c (tree p i) else tree p i
+after_change reads actor c tree p i = if (p == c.principal) && (i == c.i_number) then content_after reads actor c (tree p i) else tree p i
 
 -- the tree after the changes, in turn
 unfoldable pub after : (List ℕ → Content) → Actor → List Change → Tree → Tree

@@ -12,7 +12,7 @@ ghost use Rattle.update_cert.specs.World.{Content, Actor, Tree, after_change, ha
 ghost use Rattle.update_cert.specs.Blocks.{Agrees, inode_at as inode_of};
 ghost use Rattle.update_cert.specs.Part.{Changed, IsPart, IsPartOf, number_of, opened_at as entries_at, part_of, slot_at, stands_at};
 ghost use Rattle.update_cert.specs.Acts.{Acts, LacksAt, change_at, is_void_of, listed};
-ghost use Rattle.update_cert.specs.Slots.{IsReadBack, changed_texts, laid_under, settled_digest, slot_after, slot_behind};
+ghost use Rattle.update_cert.specs.Slots.{IsReadBack, changed_texts, laid_under, settled_digest, slot_after, slot_after_change};
 
 use crate::blocks::Blocks;
 use crate::change::{Action, Change};
@@ -355,7 +355,7 @@ impl<A: Allocator + Copy> Part<A> {
             → IfOk result (λ effect. effect ≡ has_effect actor change.now (stands_at reads self.old change.now.i_number)) }
         ensures slots { (reads : List ℕ → Content) (actor : Actor)
             → Agrees (B.held blocks.now) reads → actor.user ≡ user → actor.member self.old.table.principal ≡ is_member
-            → OnOk result ((i : ℕ) → slot_at self.new i ≡ (if change.now.i_number == i then slot_behind reads actor change.now (slot_at self.old i) else slot_at self.old i)) }
+            → OnOk result ((i : ℕ) → slot_at self.new i ≡ (if change.now.i_number == i then slot_after_change reads actor change.now (slot_at self.old i) else slot_at self.old i)) }
         ensures principal { OnOk result (self.new.table.principal ≡ self.old.table.principal) }
         ensures missing { IfErr result (LacksAt (B.held blocks.now) self.old change.now.i_number) }
     {

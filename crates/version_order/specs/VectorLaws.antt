@@ -39,10 +39,10 @@ at_most_vector = at_most_ascending w8 255 component principal_of 0 96 5 wide8 co
 
 -- ---- what stands after a component
 
-rows_behind : (b d : Option Component) (v : List Component) → ((p : ℕ) → is_above b p ≡ true → is_above d p ≡ true) → FitRows component b v → FitRows component d v
+rows_following : (b d : Option Component) (v : List Component) → ((p : ℕ) → is_above b p ≡ true → is_above d p ≡ true) → FitRows component b v → FitRows component d v
 unfolding FitRows
-rows_behind b d [] above fits = tt
-rows_behind b d (c ∷ cs) above fits = (((fits.0.0.0, above c.principal fits.0.0.1), fits.0.1), fits.1)
+rows_following b d [] above fits = tt
+rows_following b d (c ∷ cs) above fits = (((fits.0.0.0, above c.principal fits.0.0.1), fits.0.1), fits.1)
 
 -- a principal that isn't above the one before isn't listed
 version_of-absent : (c : Component) (cs : List Component) (p : ℕ) → p ≤ c.principal → FitRows component (Some c) cs → version_of p cs ≡ 0
@@ -63,7 +63,7 @@ fits_raised b p (c ∷ cs) above small room fits =
       | inl e ↦ (
           let room' = rw (eq-eqb c.principal p e) at room in
           let next : version.Fits (suc c.version) = in_range_fits w32 1 4294967295 (suc c.version) (omega arith) (omega arith) (omega arith) in
-          rw (eq-eqb c.principal p e) ((fits.0.0, next), rows_behind (Some c) (Some (record c { version = suc c.version })) cs (λ q h. h) fits.1))
+          rw (eq-eqb c.principal p e) ((fits.0.0, next), rows_following (Some c) (Some (record c { version = suc c.version })) cs (λ q h. h) fits.1))
       | inr t ↦ elim t [
         | inl l ↦ (
             let room' = rw (ne_eqb c.principal p (λ e. omega arith)) at room in
@@ -203,10 +203,10 @@ free_step p c cs fits later false less h =
       }
     ]
 
-free_behind : (b : Option Component) (p : ℕ) (v : List Component) → FitRows component b v → version_at v (place p v) p ≡ None → IsFree p v (place p v)
+free_following : (b : Option Component) (p : ℕ) (v : List Component) → FitRows component b v → version_at v (place p v) p ≡ None → IsFree p v (place p v)
 unfolding FitRows
-free_behind b p [] fits h = record { inside = omega arith; version = refl; raises = refl }
-free_behind b p (c ∷ cs) fits h = free_step p c cs fits.1 (free_behind (Some c) p cs fits.1) (nat_lt c.principal p) refl h
+free_following b p [] fits h = record { inside = omega arith; version = refl; raises = refl }
+free_following b p (c ∷ cs) fits h = free_step p c cs fits.1 (free_following (Some c) p cs fits.1) (nat_lt c.principal p) refl h
 
 pub is_free : (p : ℕ) (v : List Component) → vector.Fits v → version_at v (place p v) p ≡ None → IsFree p v (place p v)
-is_free p v fits h = free_behind None p v fits.1.1 h
+is_free p v fits h = free_following None p v fits.1.1 h

@@ -66,8 +66,8 @@ returns-clause-read g c =
       taken = nothing_lacks held c.args.principal c.args.handle r root.found root.taken taken;
     }
 
-pub load-requires-clause-behind : goal.load-requires-clause-behind
-load-requires-clause-behind g c =
+pub load-requires-clause-follows : goal.load-requires-clause-follows
+load-requires-clause-follows g c =
     let r = c.in_ok-root.root in
     let k = c.loop-listed.listed-index in
     let item = c.listed-item.result in
