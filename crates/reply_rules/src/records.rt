@@ -3,13 +3,12 @@
 ghost use Rattle.std.specs.Prelude.{◌≡◌, ◌==◌, ◌&&◌, ◌+◌, IfOk, not, nat_le, nat_lt};
 ghost use Rattle.std.specs.List.{list_all, list_any};
 ghost use Rattle.version_order.specs.Vector.{version_of};
-ghost use Rattle.reply_rules.specs.Groups.{groups, raises};
+ghost use Rattle.pending_list.specs.Groups.{groups, raises};
 ghost use Rattle.reply_rules.specs.Rules.{version_within, table_within, of_member, record_holds, differ, records_once, newest_in, newest, versions_beyond, each_once, has_all, group_complete, group_records};
 
-use crate::groups::raises;
 use crate::reply_lists::Lists;
 use layout::{Group, Memory, Principal, User};
-use pending_list::{PendingItem, Signed};
+use pending_list::{PendingItem, Signed, raises};
 use principals::Table;
 use std::alloc::Allocator;
 use version_order::{GroupRecord, Plan, Structure};

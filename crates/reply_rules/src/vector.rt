@@ -5,10 +5,9 @@ ghost use Rattle.std.specs.List.{list_all};
 ghost use Rattle.version_order.specs.Vector.{version_of, raised, raised_all, vector as vector_format};
 ghost use Rattle.reply_rules.specs.Rules.{in_order, any_two, all_in_order, own_above, top_vector, same_vector, vectors_follow, vector};
 
-use crate::groups::raised_groups;
 use crate::reply_lists::Lists;
 use layout::{Group, Memory, Principal};
-use pending_list::{PendingItem, Signed};
+use pending_list::{PendingItem, Signed, raised_groups};
 use principals::Table;
 use std::alloc::Allocator;
 use version_order::{Plan, PlanError, Structure, Vector, below, depth};

@@ -1,8 +1,8 @@
 use Rattle.std.proofs.Common.{filter, sym, ap, ◌∙◌}
-use Rattle.reply_rules.specs.Groups.{raises_at}
-use Rattle.reply_rules.proofs.GroupsLaws.{none_below, kept_more, left_out}
-use Rattle.reply_rules.proofs.groups.raised_groups.Goals.{then-raises_at+in_ok-push, else-raises_at}
-use Rattle.reply_rules.proofs.groups.raised_groups.Goals as goal
+use Rattle.pending_list.specs.Groups.{none_below, raises_at}
+use Rattle.pending_list.proofs.GroupsLaws.{kept_more, left_out}
+use Rattle.pending_list.proofs.groups.raised_groups.Goals.{then-raises_at+in_ok-push, else-raises_at}
+use Rattle.pending_list.proofs.groups.raised_groups.Goals as goal
 
 pub loop-n-init : goal.loop-n-init
 loop-n-init g c =

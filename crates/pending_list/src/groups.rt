@@ -2,10 +2,10 @@
 
 ghost use Rattle.std.specs.Prelude.{◌≡◌, IfOk};
 ghost use Rattle.std.specs.List.{list_any};
-ghost use Rattle.reply_rules.specs.Groups.{touches, raises_at, table_version, raised_groups, raises};
+ghost use Rattle.pending_list.specs.Groups.{touches, raises_at, table_version, raised_groups, raises};
 
+use crate::reply::PendingItem;
 use layout::{Group, Memory, Principal, User};
-use pending_list::PendingItem;
 use principals::Table;
 use std::alloc::Allocator;
 use update_cert::{Cert, Change};
@@ -26,8 +26,8 @@ fn raises_at<A: Allocator>(table: &Table, version: u32, cert: &Cert<A>, group: G
     touch(cert.changes(), group) && table.is_member(group, cert.user(), version)
 }
 
-/// User 0's number before the operation.
-fn table_version<A: Allocator>(plan: &Plan<A>) -> u32
+/// User 0's number before the operation: where membership is judged.
+pub fn table_version<A: Allocator>(plan: &Plan<A>) -> u32
     ensures { result ≡ table_version plan.now }
 {
     let number = plan.vector().version_of(Principal::from(User::superuser()));
@@ -38,8 +38,8 @@ fn table_version<A: Allocator>(plan: &Plan<A>) -> u32
     }
 }
 
-/// The groups that a pending operation raises, ascending.
-pub(crate) fn raised_groups<A: Allocator + Copy>(
+/// The groups that a pending operation raises, ascending. The error is Memory.
+pub fn raised_groups<A: Allocator + Copy>(
     alloc: A,
     table: &Table,
     item: &PendingItem<A>,
@@ -61,7 +61,7 @@ pub(crate) fn raised_groups<A: Allocator + Copy>(
 }
 
 /// Whether the operation raises the group.
-pub(crate) fn raises<A: Allocator>(table: &Table, group: Group, item: &PendingItem<A>) -> bool
+pub fn raises<A: Allocator>(table: &Table, group: Group, item: &PendingItem<A>) -> bool
     ensures { result ≡ raises table.now group item.now }
 {
     let _range = group.get();

@@ -1,6 +1,6 @@
--- What is settled of the directories that changed.
+-- The texts and the digests of the directories that changed.
 use Rattle.std.proofs.Common.{◌≡◌, ℕ, suc, ◌+◌, ◌<◌, Bool, true, false, List, [], ◌∷◌, ◌++◌, take, drop, length, map, Option, Some, None, Vec, refl, subst, sym, ap, ◌∙◌, arith, add-one, drop-cons}
-use Rattle.std.specs.Prelude.{◌==◌, if◌then◌else◌, IsSome, is_some, slice_index_or}
+use Rattle.std.specs.Prelude.{◌==◌, ◌||◌, if◌then◌else◌, IsSome, is_some, slice_index_or}
 use Rattle.std.specs.List.{All}
 use Rattle.std.specs.Option.{option_map, option_map_or}
 use Rattle.std.specs.Ordering.{nat_cmp, is_lt, is_eq}
@@ -17,7 +17,7 @@ use Rattle.itable.specs.Inode.{inode}
 use Rattle.itable.specs.File.{blocks_of}
 use Rattle.directory.specs.Directory.{Entry, directory}
 use Rattle.update_cert.specs.Part.{Open, Part, Slot, Changed, IsPart, number_of, slot_at, slot_of}
-use Rattle.update_cert.specs.Slots.{IsReadBack, changed_texts, directory_digest, directory_inode, directory_texts, is_stored, laid_under, settled_digest}
+use Rattle.update_cert.specs.Slots.{IsReadBack, changed_texts, has_digest, directory_digest, directory_inode, directory_texts, is_stored, laid_under, slot_digest}
 use Rattle.update_cert.proofs.OpenedLaws.{entries_in, key_test}
 use Rattle.update_cert.proofs.ActLaws.{slot_in, slot_with}
 
@@ -63,27 +63,27 @@ mapped_at first all k o whole inside at =
 
 -- ---- the digests
 
-settled_step : (t : Bool) (o : Open) (d : List ℕ) (old : Option (List ℕ)) (s : Option Slot) → d ≡ directory_digest o.entries → old ≡ option_map settled_digest s → (if t then Some d else old) ≡ option_map settled_digest (if t then Some (Changed (laid_under s) o.entries) else s)
-settled_step true o d old s is before = ap (λ (x : List ℕ). Some x) is
-settled_step false o d old s is before = before
+laid_step : (t : Bool) (o : Open) (d : List ℕ) (old : Option (List ℕ)) (s : Option Slot) → d ≡ directory_digest o.entries → old ≡ option_map slot_digest s → (if t then Some d else old) ≡ option_map slot_digest (if t then Some (Changed (laid_under s) o.entries) else s)
+laid_step true o d old s is before = ap (λ (x : List ℕ). Some x) is
+laid_step false o d old s is before = before
 
 -- the table has the digests of the first directories that changed, and of one more
-pub settled_next : (first old new : ITable) (all : List Open) (k : ℕ) (o : Open) (d : List ℕ) → IsPart (record { table = first; opened = all }) → k < length all → o ≡ slice_index_or all k o → d ≡ directory_digest o.entries
-    → ((i : ℕ) → digest_at new i ≡ (if o.i_number == i then Some d else digest_at old i)) → ((i : ℕ) → digest_at old i ≡ option_map settled_digest (slot_at (record { table = first; opened = take k all }) i))
-    → (i : ℕ) → digest_at new i ≡ option_map settled_digest (slot_at (record { table = first; opened = take (k + 1) all }) i)
-settled_next first old new all k o d whole inside at is set before i =
+pub laid_next : (first old new : ITable) (all : List Open) (k : ℕ) (o : Open) (d : List ℕ) → IsPart (record { table = first; opened = all }) → k < length all → o ≡ slice_index_or all k o → d ≡ directory_digest o.entries
+    → ((i : ℕ) → digest_at new i ≡ (if o.i_number == i then Some d else digest_at old i)) → ((i : ℕ) → digest_at old i ≡ option_map slot_digest (slot_at (record { table = first; opened = take k all }) i))
+    → (i : ℕ) → digest_at new i ≡ option_map slot_digest (slot_at (record { table = first; opened = take (k + 1) all }) i)
+laid_next first old new all k o d whole inside at is set before i =
     let part : Part = record { table = first; opened = take k all } in
     set i
-    ∙ settled_step (o.i_number == i) o d (digest_at old i) (slot_at part i) is (before i)
-    ∙ sym (ap (option_map settled_digest) (slot_with part (take (k + 1) all) o i (mapped_at first all k o whole inside at) (taken_with all k o whole.ascending inside at)))
+    ∙ laid_step (o.i_number == i) o d (digest_at old i) (slot_at part i) is (before i)
+    ∙ sym (ap (option_map slot_digest) (slot_with part (take (k + 1) all) o i (mapped_at first all k o whole inside at) (taken_with all k o whole.ascending inside at)))
 
-none_yet : (digest : Option (List ℕ)) → digest ≡ option_map settled_digest (option_map (slot_of None) digest)
+none_yet : (digest : Option (List ℕ)) → digest ≡ option_map slot_digest (option_map (slot_of None) digest)
 none_yet None = refl
 none_yet (Some d) = refl
 
 -- of none of them, at first
-pub settled_first : (table : ITable) (i : ℕ) → digest_at table i ≡ option_map settled_digest (slot_at (record { table = table; opened = [] }) i)
-settled_first table i = none_yet (digest_at table i)
+pub laid_first : (table : ITable) (i : ℕ) → digest_at table i ≡ option_map slot_digest (slot_at (record { table = table; opened = [] }) i)
+laid_first table i = none_yet (digest_at table i)
 
 -- ---- a directory that was changed back
 
@@ -93,48 +93,40 @@ unfolding Ascends
 none_here before [] ys o up = refl
 none_here before (x ∷ xs) ys o up = rw (apart x.i_number o.i_number (below x xs ys o up.1)) (none_here (Some x) xs ys o up.1)
 
--- where the first directories are settled, the next one's digest is that of the first table still
+-- where the first directories are laid, the next one's digest is that of the first table still
 digest_still : (first old : ITable) (all : List Open) (k : ℕ) (o : Open) → Ascends nat_cmp number_of None all → k < length all → o ≡ slice_index_or all k o
-    → ((i : ℕ) → digest_at old i ≡ option_map settled_digest (slot_at (record { table = first; opened = take k all }) i)) → digest_at old o.i_number ≡ digest_at first o.i_number
+    → ((i : ℕ) → digest_at old i ≡ option_map slot_digest (slot_at (record { table = first; opened = take k all }) i)) → digest_at old o.i_number ≡ digest_at first o.i_number
 digest_still first old all k o up inside at before =
     let none = none_here None (take k all) (drop (suc k) all) o (subst (Ascends nat_cmp number_of None) (split_at all k o inside at) up) in
     before o.i_number
-    ∙ ap (λ (es : Option (List Entry)). option_map settled_digest (slot_in es (digest_at first o.i_number))) none
+    ∙ ap (λ (es : Option (List Entry)). option_map slot_digest (slot_in es (digest_at first o.i_number))) none
     ∙ sym (none_yet (digest_at first o.i_number))
 
 -- so the table tells whether it was changed back
-pub stored_now : (first old : ITable) (all : List Open) (k : ℕ) (o : Open) (d : List ℕ) → Ascends nat_cmp number_of None all → k < length all → o ≡ slice_index_or all k o → d ≡ directory_digest o.entries
-    → ((i : ℕ) → digest_at old i ≡ option_map settled_digest (slot_at (record { table = first; opened = take k all }) i)) → is_stored first o ≡ option_map_or (λ stored. bytes_eq stored d) (digest_at old o.i_number) false
-stored_now first old all k o d up inside at is before =
-    sym (ap (λ (x : List ℕ). option_map_or (λ stored. bytes_eq stored x) (digest_at old o.i_number) false) is
-    ∙ ap (λ (x : Option (List ℕ)). option_map_or (λ stored. bytes_eq stored (directory_digest o.entries)) x false) (digest_still first old all k o up inside at before))
-
-same_step : (t : Bool) (x : Option (List ℕ)) (d : List ℕ) → (t ≡ true → x ≡ Some d) → x ≡ (if t then Some d else x)
-same_step true x d here = here refl
-same_step false x d here = refl
-
--- a table that has this digest is as if it were set
-pub set_still : (table : ITable) (n : ℕ) (d : List ℕ) → digest_at table n ≡ Some d → (i : ℕ) → digest_at table i ≡ (if n == i then Some d else digest_at table i)
-set_still table n d has i = same_step (n == i) (digest_at table i) d (λ t. ap (digest_at table) (sym (eqb-true n i t)) ∙ has)
+pub stored_now : (before first old : ITable) (all : List Open) (k : ℕ) (o : Open) (d : List ℕ) → Ascends nat_cmp number_of None all → k < length all → o ≡ slice_index_or all k o → d ≡ directory_digest o.entries
+    → ((i : ℕ) → digest_at old i ≡ option_map slot_digest (slot_at (record { table = first; opened = take k all }) i)) → is_stored before first o ≡ (has_digest before o.i_number d || has_digest old o.i_number d)
+stored_now before first old all k o d up inside at is earlier =
+    sym (ap (λ (x : List ℕ). has_digest before o.i_number x || has_digest old o.i_number x) is
+    ∙ ap (λ (x : Option (List ℕ)). has_digest before o.i_number (directory_digest o.entries) || option_map_or (λ stored. bytes_eq stored (directory_digest o.entries)) x false) (digest_still first old all k o up inside at earlier))
 
 -- ---- the texts
 
-pub texts_first : (first : ITable) → changed_texts first [] ≡ []
+pub texts_first : (before first : ITable) → changed_texts before first [] ≡ []
 unfolding changed_texts
-texts_first first = refl
+texts_first before first = refl
 
 -- those of a directory, unless it is stored
 abbrev pub texts_unless : Bool → Open → List (List ℕ)
 texts_unless t o = if t then [] else directory_texts o.entries
 
-pub texts_next : (first : ITable) (all : List Open) (k : ℕ) (o : Open) (old new : List (List ℕ)) (t : Bool) → k < length all → o ≡ slice_index_or all k o → is_stored first o ≡ t → new ≡ old ++ texts_unless t o → old ≡ changed_texts first (take k all) → new ≡ changed_texts first (take (k + 1) all)
+pub texts_next : (before first : ITable) (all : List Open) (k : ℕ) (o : Open) (old new : List (List ℕ)) (t : Bool) → k < length all → o ≡ slice_index_or all k o → is_stored before first o ≡ t → new ≡ old ++ texts_unless t o → old ≡ changed_texts before first (take k all) → new ≡ changed_texts before first (take (k + 1) all)
 unfolding changed_texts
-texts_next first all k o old new t inside at stored more before =
+texts_next before first all k o old new t inside at stored more earlier =
     more
     ∙ ap (λ (b : Bool). old ++ texts_unless b o) (sym stored)
-    ∙ ap (λ (texts : List (List ℕ)). texts ++ texts_unless (is_stored first o) o) before
-    ∙ flat_map_more (λ (x : Open). texts_unless (is_stored first x) x) [] (take k all) o
-    ∙ sym (ap (changed_texts first) (take_next all k o inside at))
+    ∙ ap (λ (texts : List (List ℕ)). texts ++ texts_unless (is_stored before first o) o) earlier
+    ∙ flat_map_more (λ (x : Open). texts_unless (is_stored before first x) x) [] (take k all) o
+    ∙ sym (ap (changed_texts before first) (take_next all k o inside at))
 
 -- a directory's texts after others
 pub texts_laid : {A : Type 0} (old blocks new : List (Vec ℕ A)) (text : Vec ℕ A) (es : List Entry) → map vec_items blocks ≡ blocks_of (directory.spell es) → text.items ≡ inode.spell (directory_inode es) → new ≡ (old ++ blocks) ++ text ∷ []

@@ -4,18 +4,9 @@ use Rattle.std.specs.Prelude.{◌==◌}
 use Rattle.std.specs.List.{list_any}
 use Rattle.std.proofs.lemmas.List.Elements.{filter-append}
 use Rattle.std.proofs.lemmas.List.Folds.{list_any-append}
-use Rattle.std.proofs.Math.Bool.{and-true, or-false}
+use Rattle.std.proofs.Math.Bool.{and-false, and-true, or-false}
 use Rattle.std.proofs.lemmas.Bool.{cases_eq, eq-eqb, ne_eqb}
-use Rattle.reply_rules.specs.Groups.{groups_below}
-use Rattle.reply_rules.proofs.Tests.{and_false}
-
-pub none_below : groups_below 0 ≡ []
-unfolding groups_below
-none_below = refl
-
-pub one_more : (n : ℕ) → groups_below (n + 1) ≡ groups_below n ++ (n + 64) ∷ []
-unfolding groups_below
-one_more n = rw (add-one) refl
+use Rattle.pending_list.specs.Groups.{groups_below, none_below, one_more}
 
 -- one group more is kept where the test holds of it
 pub kept_more : (t : ℕ → Bool) (n g : ℕ) → g ≡ 64 + n → t g ≡ true → filter t (groups_below (n + 1)) ≡ filter t (groups_below n) ++ g ∷ []
@@ -52,7 +43,7 @@ no_group t (suc n) g far =
     has_more t n g
     ∙ ap (λ b. b || (t (n + 64) && ((n + 64) == g))) (no_group t n g (omega arith))
     ∙ ap (λ b. t (n + 64) && b) (ne_eqb (n + 64) g (λ e. omega arith))
-    ∙ and_false (t (n + 64))
+    ∙ and-false (t (n + 64))
 
 -- a group among the first n is kept where the test holds of it
 pub has_group : (t : ℕ → Bool) (n g : ℕ) → 64 ≤ g → g < 64 + n → list_any (λ k. k == g) (filter t (groups_below n)) ≡ t g
@@ -69,6 +60,6 @@ has_group t (suc n) g low high =
           has_more t n g
           ∙ ap (λ b. b || (t (n + 64) && ((n + 64) == g))) (has_group t n g low (omega arith))
           ∙ ap (λ b. t g || (t (n + 64) && b)) (ne_eqb (n + 64) g other)
-          ∙ ap (λ b. t g || b) (and_false (t (n + 64)))
+          ∙ ap (λ b. t g || b) (and-false (t (n + 64)))
           ∙ or-false (t g)
     ]

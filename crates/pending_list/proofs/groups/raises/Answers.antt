@@ -1,7 +1,7 @@
 use Rattle.std.proofs.Common.{◌≡◌, ap, sym, ◌∙◌}
-use Rattle.reply_rules.specs.Groups.{raises_at, table_version}
-use Rattle.reply_rules.proofs.GroupsLaws.{has_group}
-use Rattle.reply_rules.proofs.groups.raises.Goals as goal
+use Rattle.pending_list.specs.Groups.{raises_at, table_version}
+use Rattle.pending_list.proofs.GroupsLaws.{has_group}
+use Rattle.pending_list.proofs.groups.raises.Goals as goal
 
 pub returns : goal.returns
 returns g c =
