@@ -3,7 +3,7 @@
 -- The bytes stand in docs/FORMATS.md.
 use Rattle.std.specs.Prelude.{ℕ, List, codes}
 use Rattle.std.specs.Int.{w8, w32}
-use Rattle.layout.specs.Format.{Format, Rows, uint_in, raw, pair, headed, mapped, listed}
+use Rattle.layout.specs.Format.{Format, RowAfter, uint_in, raw, pair, headed, mapped, listed}
 use Rattle.layout.specs.Laws.{Lawful, laws, wide8, wide32}
 use Rattle.layout.specs.Sizes.{AtMost, at_most_headed, at_most_listed, at_most_mapped, at_most_pair, at_most_uint_in, at_most_raw}
 use Rattle.layout.specs.Ranges.{user, version}
@@ -21,7 +21,7 @@ pub record Cert : Type 0 where
   pub last : Digest
   pub changes : List (Change Digest)
 
-abbrev pub change_rows : Rows (Change Digest)
+abbrev pub change_rows : RowAfter (Change Digest)
 change_rows before = change
 
 abbrev pub changes : Format (List (Change Digest))
