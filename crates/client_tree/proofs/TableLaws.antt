@@ -20,13 +20,13 @@ use Rattle.itable.specs.declared.root.ListedChunk.{ListedChunk}
 use Rattle.itable.specs.Chunk.{Chunk, chunk}
 use Rattle.itable.specs.Root.{Root, root, chunk_row, number_of, chunk_at}
 use Rattle.itable.specs.ITable.{ITable, listings, handle_of}
-use Rattle.update_cert.specs.Blocks.{Blocks}
+use Rattle.update_cert.specs.Blocks.{Blocks, chunk_held, root_at}
 use Rattle.update_cert.specs.Spot.{takes, lacks}
 use Rattle.update_cert.specs.declared.error.ApplyError.{ApplyError}
 use Rattle.update_cert.specs.declared.error.ApplyError.TheVariants as error
 use Rattle.update_cert.specs.declared.spot.Spot.{Spot}
 use Rattle.update_cert.specs.declared.spot.Spot.TheVariants as spot
-use Rattle.client_tree.specs.Tables.{chunk_held, pairs_over, root_at, table_at, IsOfTable, LacksOfTable}
+use Rattle.client_tree.specs.Tables.{pairs_over, table_at, IsOfTable, LacksOfTable}
 
 -- ---- what a spot takes
 

@@ -7,7 +7,8 @@ ghost use Rattle.itable.specs.Root.{root as root_format};
 ghost use Rattle.update_cert.specs.Spot.{takes, lacks};
 ghost use Rattle.update_cert.specs.declared.error.ApplyError.TheVariants as error;
 ghost use Rattle.update_cert.specs.declared.spot.Spot.TheVariants as spots;
-ghost use Rattle.client_tree.specs.Tables.{chunk_held, root_at, IsRead, LacksOfTable};
+ghost use Rattle.update_cert.specs.Blocks.{chunk_held, root_at};
+ghost use Rattle.client_tree.specs.Tables.{IsRead, LacksOfTable};
 
 use itable::{Chunk, ITable, ListedChunk, Root};
 use layout::{Digest, Principal, Text};

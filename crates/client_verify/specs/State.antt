@@ -4,6 +4,7 @@ use Rattle.std.specs.Option.{option_map_or, option_and_then}
 use Rattle.std.specs.Result.{result_ok}
 use Rattle.layout.specs.Format.{whole}
 use Rattle.layout.specs.Hash.{hash}
+use Rattle.layout.specs.Types.{Digest}
 use Rattle.lms_sign.specs.Signature.{signature_of}
 use Rattle.version_order.specs.declared.structure.GroupRecord.{GroupRecord}
 use Rattle.version_order.specs.Plan.{Plan}
@@ -97,7 +98,7 @@ initial user seed id pinned = record {
 -- ---- declaring
 
 -- the certificate of these changes that comes next
-abbrev pub next_cert : State → List Change → Cert
+abbrev pub next_cert : State → List (Change Digest) → Cert
 next_cert s changes = record { user = s.user; number = s.number + 1; last = digest_of_last s.last; changes = changes }
 
 -- a text with its signature by the next leaf
@@ -105,7 +106,7 @@ abbrev pub sent : State → List ℕ → List ℕ
 sent s text = text ++ signature_of s.seed s.id s.leaf text
 
 -- the state after these changes are declared, for which these blocks were laid out
-abbrev pub declared : State → List Change → List (List ℕ) → State
+abbrev pub declared : State → List (Change Digest) → List (List ℕ) → State
 declared s changes laid = record s {
   leaf = s.leaf + 1;
   number = s.number + 1;

@@ -1,7 +1,7 @@
 //! The client.
 
 ghost use Rattle.std.specs.Prelude.{◌≡◌, ◌≢◌, ◌+◌, ◌<◌, ◌≤◌, Some, IfOk, IfErr, IsErrOf, IfSome, IsOk, OnOk, OnErr, IsSome, IsSomeAnd, IsTrue, ◌↔◌, true, length, map};
-ghost use Rattle.std.specs.Option.{option_copied};
+ghost use Rattle.std.specs.Option.{option_copied, option_map};
 ghost use Rattle.std.specs.Vec.{vec_items};
 ghost use Rattle.principals.specs.Table.{genesis};
 ghost use Rattle.update_cert.specs.Cert.{cert};
@@ -79,7 +79,10 @@ impl<A: Allocator> Model for Client<A> {
 impl<A: Allocator + Copy> Client<A> {
     ghost use Rattle.std.specs.Prelude.{ℕ, List};
     ghost use Rattle.itable.specs.File.{NoneCollide};
-    ghost use Rattle.update_cert.specs.World.{Content, genesis as first_tree};
+    ghost use Rattle.principals.specs.Table.{genesis as first_users};
+    ghost use Rattle.update_cert.specs.World.{genesis as first_tree, File};
+    ghost use Rattle.update_cert.specs.Reading.{Reading};
+    ghost use Rattle.itable.specs.ITable.{digest_at};
     ghost use Rattle.update_cert.specs.Blocks.{Agrees};
     ghost use Rattle.client_tree.specs.Held.{held};
     ghost use Rattle.client_tree.specs.Tree.{tree_of};
@@ -97,8 +100,12 @@ impl<A: Allocator + Copy> Client<A> {
         ensures state { IfOk result (λ client. client ≡ initial user key.seed key.id pinned) }
         // What it has is the user's part of the tree of the beginning, unless two texts of the beginning have one digest.
         ensures genesis { IfOk result (λ client. NoneCollide (first_texts user pinned) (first_texts user pinned)
-            → (reads : List ℕ → Content) → Agrees (held client.blocks) reads
-            → (i : ℕ) → tree_of reads (first_table user pinned) user i ≡ first_tree (table_text pinned) user i) }
+            → (reads : Reading) → Agrees (held client.blocks) reads
+            → (i : ℕ) → tree_of reads (first_users pinned) (first_table user pinned) user i ≡ first_tree pinned user i) }
+        // The table of principals lies in its text, a file.
+        ensures table_file { IfOk result (λ client. NoneCollide (first_texts user pinned) (first_texts user pinned)
+            → (reads : Reading) → Agrees (held client.blocks) reads
+            → user ≡ 0 → option_map reads.content (digest_at (first_table user pinned) 1) ≡ Some (File (table_text pinned))) }
     {
         let blocks = first_blocks(alloc, user, pinned.as_bytes())?;
         Ok(Client {
@@ -208,11 +215,11 @@ impl<A: Allocator + Copy> Client<A> {
     }
 
     /// The table of principals of the accepted view. It is that of the beginning, since no operation changes it yet.
-    pub fn table(&self) -> Table
+    pub fn table(&self) -> Table<A>
         requires { IsSome self.now.view }
         ensures { result ≡ genesis self.now.pinned }
     {
-        Table::genesis(self.pinned)
+        Table::genesis(self.alloc, self.pinned)
     }
 }
 

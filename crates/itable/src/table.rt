@@ -174,6 +174,17 @@ fn lists(before: &[ListedChunk], chunk: &ListedChunk) -> bool
 }
 
 impl<A: Allocator + Copy> ITable<A> {
+    /// The same table once more, whose chunks' digests are computed anew. The error is Memory.
+    pub fn copy(&self, alloc: A) -> Result<ITable<A>, Memory>
+        ensures { IfOk result (λ copy. copy ≡ self.now) }
+    {
+        Ok(ITable {
+            principal: self.principal,
+            pairs: Vec::from_slice(alloc, &self.pairs)?,
+            known: [None; 64],
+        })
+    }
+
     /// The text of a chunk, if any of its i-numbers has a digest.
     pub fn chunk_text(&self, alloc: A, number: ChunkNumber) -> Result<Option<Vec<u8, A>>, Memory>
         ensures text { IfOk result (λ text. option_map vec_items text ≡ text_of_chunk self.now number) }

@@ -15,7 +15,8 @@ use Rattle.itable.specs.declared.inode.Kind.{Kind}
 use Rattle.itable.specs.declared.inode.Kind.TheVariants as kinds
 use Rattle.directory.specs.Directory.{Entry, entry, directory}
 use Rattle.update_cert.specs.World.{Content, File, Directory}
-use Rattle.update_cert.specs.Blocks.{Blocks, inode_at, joined, of_size, directory_over, if_of_size, file_over, IsOf, Agrees}
+use Rattle.update_cert.specs.Reading.{Reading}
+use Rattle.update_cert.specs.Blocks.{Blocks, inode_at, inode_told, joined, of_size, directory_over, if_of_size, file_over, IsOf, Agrees}
 
 -- ---- steps that did not fail
 
@@ -154,8 +155,16 @@ abbrev content_if : Blocks → Option Inode → Content
 content_if blocks None = File []
 content_if blocks (Some n) = content_over blocks n n.kind
 
-pub some_reading : (blocks : Blocks) → (reads : List ℕ → Content) × Agrees blocks reads
+-- what is told, or that nothing is there
+abbrev if_told : Option (Option (List ℕ)) → Option (List ℕ)
+if_told None = None
+if_told (Some told) = told
+
+pub some_reading : (blocks : Blocks) → (reads : Reading) × Agrees blocks reads
 some_reading blocks = (
-  λ digest. content_if blocks (inode_at blocks digest),
-  λ digest n at. subst (IsOf blocks n) (sym (ap (content_if blocks) at)) (is_over blocks n n.kind refl),
+  record { content = λ digest. content_if blocks (inode_at blocks digest); inode = λ p handle i. if_told (inode_told blocks p handle i) },
+  record {
+    contents = λ digest n at. subst (IsOf blocks n) (sym (ap (content_if blocks) at)) (is_over blocks n n.kind refl);
+    inodes = λ p handle i told is. ap if_told is;
+  },
 )
