@@ -215,11 +215,11 @@ impl<A: Allocator + Copy> Client<A> {
     }
 
     /// The table of principals of the accepted view. It is that of the beginning, since no operation changes it yet.
-    pub fn table(&self) -> Table
+    pub fn table(&self) -> Table<A>
         requires { IsSome self.now.view }
         ensures { result ≡ genesis self.now.pinned }
     {
-        Table::genesis(self.pinned)
+        Table::genesis(self.alloc, self.pinned)
     }
 }
 

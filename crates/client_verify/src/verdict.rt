@@ -183,7 +183,12 @@ pub(crate) fn first_broken<A: Allocator + Copy>(
     let Some(own) = reply.pending().last() else {
         unreachable!()
     };
-    broken(alloc, reply, &Table::genesis(*pinned), own.plan().user())
+    broken(
+        alloc,
+        reply,
+        &Table::genesis(alloc, *pinned),
+        own.plan().user(),
+    )
 }
 
 /// Reads and judges the bytes of a reply: the reply, or the first rule that it breaks.

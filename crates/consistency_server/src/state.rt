@@ -296,7 +296,7 @@ impl<A: Allocator + Copy> State<A> {
         requires { text.now ≡ (signed cert).spell found }
         ensures { (es : List Event) → Keeps es self.now → IfOk result (λ judged. JudgedAs self.now judged (read_update pinned.now es (Ok found))) }
     {
-        let Some(key) = Table::genesis(*pinned).key_of(found.value.user()) else {
+        let Some(key) = Table::genesis(alloc, *pinned).key_of(found.value.user()) else {
             return Ok(Judged::Refused(Status::UnknownUser));
         };
         if !is_signed::<A, Cert<A>>(&key, &found, text) {
@@ -380,7 +380,7 @@ impl<A: Allocator + Copy> State<A> {
         let Some(found) = read_signed::<A, Structure<A>>(alloc, text)? else {
             return Ok(Judged::Refused(Status::Form));
         };
-        let Some(key) = Table::genesis(*pinned).key_of(found.value.plan().user()) else {
+        let Some(key) = Table::genesis(alloc, *pinned).key_of(found.value.plan().user()) else {
             return Ok(Judged::Refused(Status::UnknownUser));
         };
         if !is_signed::<A, Structure<A>>(&key, &found, text) {

@@ -20,7 +20,7 @@ fn touch<A: Allocator>(changes: &[Change<A>], group: Group) -> bool
 }
 
 /// Whether a change of the certificate is of the group, and its user is a member at this version of the table.
-fn raises_at<A: Allocator>(table: &Table, version: u32, cert: &Cert<A>, group: Group) -> bool
+fn raises_at<A: Allocator>(table: &Table<A>, version: u32, cert: &Cert<A>, group: Group) -> bool
     ensures { result ≡ raises_at table.now version cert.now group }
 {
     touch(cert.changes(), group) && table.is_member(group, cert.user(), version)
@@ -41,7 +41,7 @@ pub fn table_version<A: Allocator>(plan: &Plan<A>) -> u32
 /// The groups that a pending operation raises, ascending. The error is Memory.
 pub fn raised_groups<A: Allocator + Copy>(
     alloc: A,
-    table: &Table,
+    table: &Table<A>,
     item: &PendingItem<A>,
 ) -> Result<Vec<Group, A>, Memory>
     ensures { IfOk result (λ groups. groups.items ≡ raised_groups table.now item.now) }
@@ -61,7 +61,7 @@ pub fn raised_groups<A: Allocator + Copy>(
 }
 
 /// Whether the operation raises the group.
-pub fn raises<A: Allocator>(table: &Table, group: Group, item: &PendingItem<A>) -> bool
+pub fn raises<A: Allocator>(table: &Table<A>, group: Group, item: &PendingItem<A>) -> bool
     ensures { result ≡ raises table.now group item.now }
 {
     let _range = group.get();

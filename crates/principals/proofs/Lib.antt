@@ -1,0 +1,4 @@
+mod InTurn
+mod MarksLaws
+mod Parts
+mod Users

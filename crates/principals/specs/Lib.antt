@@ -1,1 +1,3 @@
+pub mod Kept
 pub mod Table
+pub mod TableText

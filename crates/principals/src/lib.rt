@@ -1,7 +1,10 @@
-//! The table of principals: who is a user, since when and by which key, and who is a member of which group. Until users
-//! and members can be added it is the table of the beginning, which lists user 0 alone and has no members.
+//! The table of principals: who is a user, since when and by which key, and who is a member of which group.
 #![tactic(auto)]
 
+mod error;
+mod marks;
+mod reading;
 mod table;
 
-pub use table::{Listing, Table};
+pub use error::TableError;
+pub use table::{Listing, Row, Table};

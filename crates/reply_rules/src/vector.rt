@@ -144,7 +144,7 @@ fn follows<A: Allocator>(
 /// Whether each plan above has the vector that follows from the one before it, the first one from top's.
 fn vectors_follow<A: Allocator + Copy>(
     alloc: A,
-    table: &Table,
+    table: &Table<A>,
     lists: &Lists<'_, A>,
 ) -> Result<bool, Memory>
     ensures { IfOk result (λ follow. follow ≡ vectors_follow table.now lists.now) }
@@ -164,7 +164,7 @@ fn vectors_follow<A: Allocator + Copy>(
 #[tactic(auto, unfolding(crate::specs::Rules::vector))]
 pub(crate) fn vector_holds<A: Allocator + Copy>(
     alloc: A,
-    table: &Table,
+    table: &Table<A>,
     lists: &Lists<'_, A>,
 ) -> Result<bool, Memory>
     ensures { IfOk result (λ holds. holds ≡ vector table.now lists.now) }
