@@ -14,6 +14,7 @@ mod rest;
 mod rule;
 mod vector;
 
+pub use groups::groups_at;
 pub use judge::broken;
 pub use lists::lists_hold;
 pub use rule::Rule;
