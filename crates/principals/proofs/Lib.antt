@@ -1,4 +1,7 @@
+mod FitLaws
 mod InTurn
+mod LineLaws
 mod MarksLaws
+mod OpenLaws
 mod Parts
 mod Users
