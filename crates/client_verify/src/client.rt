@@ -13,10 +13,10 @@ use crate::checking::check;
 use crate::error::ClientError;
 use crate::genesis::first_blocks;
 use crate::growing::{Grown, Sight, grow, grow_with, see, see_with};
+use crate::lists::Lists;
 use crate::look::Look;
 use crate::phase::Phase;
 use crate::signing::{Sealed, seal};
-use crate::sole_lists::SoleLists;
 use crate::step::Step;
 use crate::structure::{SignedOver, sign_over};
 use crate::verdict::judge;
@@ -318,7 +318,7 @@ impl<A: Allocator + Copy> Client<A> {
     }
 
     /// Goes on with a reply whose lists break no rule: a block is asked for, or the reply is accepted.
-    fn go(&mut self, lists: SoleLists<A>, grown: Grown<A>) -> Step<A>
+    fn go(&mut self, lists: Lists<A>, grown: Grown<A>) -> Step<A>
         requires { IsGrown (held self.old.blocks) (last_handle self.old) lists.own.cert grown }
         ensures { Goes self.old lists result self.new }
     {
@@ -359,7 +359,7 @@ impl<A: Allocator + Copy> Client<A> {
             Err(rule) => return Ok(Step::Broken(rule)),
         };
         // Its last pending certificate is the own one.
-        let Some(lists) = SoleLists::of(reply) else {
+        let Some(lists) = Lists::of(reply)? else {
             unreachable!()
         };
         let grown = grow(
@@ -411,7 +411,6 @@ impl<A: Allocator + Copy> Client<A> {
 
     /// Signs the structure over the accepted reply, and gives it as it is sent. From here on the view is accepted. It
     /// uses a leaf, unless it answers an error: NoLeaf, or Memory.
-    #[tactic(auto, using(crate::proofs::Sole::with_own_sole))]
     pub fn sign(&mut self) -> Result<Vec<u8, A>, ClientError>
         requires { IsSome self.old.accepted }
         ensures signed { OnOk result (IfSome self.old.accepted (λ r. self.new ≡ signed_over self.old r)) }
@@ -439,7 +438,7 @@ impl<A: Allocator + Copy> Client<A> {
         };
         let SignedOver {
             structure,
-            view,
+            shown,
             kept,
             sent,
         } = over;
@@ -449,7 +448,7 @@ impl<A: Allocator + Copy> Client<A> {
         self.text = kept;
         self.checked = None;
         self.view = Some(View {
-            structures: view,
+            structures: ready.lists.with_own(shown),
             tree: ready.tree,
             looking: None,
         });

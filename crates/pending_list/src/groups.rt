@@ -2,7 +2,7 @@
 
 ghost use Rattle.std.specs.Prelude.{◌≡◌, IfOk};
 ghost use Rattle.std.specs.List.{list_any};
-ghost use Rattle.pending_list.specs.Groups.{touches, raises_at, table_version, raised_groups, raises};
+ghost use Rattle.pending_list.specs.Groups.{touches, raises_at, groups_at, table_version, raised_groups, raises};
 
 use crate::reply::PendingItem;
 use layout::{Group, Memory, Principal, User};
@@ -38,16 +38,16 @@ pub fn table_version<A: Allocator>(plan: &Plan<A>) -> u32
     }
 }
 
-/// The groups that a pending operation raises, ascending. The error is Memory.
-pub fn raised_groups<A: Allocator + Copy>(
+/// The groups that a certificate raises, ascending, where membership is judged at this version of the table. The error is
+/// Memory.
+pub fn groups_at<A: Allocator + Copy>(
     alloc: A,
     table: &Table<A>,
-    item: &PendingItem<A>,
+    version: u32,
+    cert: &Cert<A>,
 ) -> Result<Vec<Group, A>, Memory>
-    ensures { IfOk result (λ groups. groups.items ≡ raised_groups table.now item.now) }
+    ensures { IfOk result (λ groups. groups.items ≡ groups_at table.now version cert.now) }
 {
-    let version = table_version(item.plan());
-    let cert = item.cert();
     let mut raised = Vec::new(alloc);
     for n in 0..32 {
         let Some(group) = Group::new(64 + n) else {
@@ -58,6 +58,17 @@ pub fn raised_groups<A: Allocator + Copy>(
         }
     }
     Ok(raised)
+}
+
+/// The groups that a pending operation raises, ascending. The error is Memory.
+pub fn raised_groups<A: Allocator + Copy>(
+    alloc: A,
+    table: &Table<A>,
+    item: &PendingItem<A>,
+) -> Result<Vec<Group, A>, Memory>
+    ensures { IfOk result (λ groups. groups.items ≡ raised_groups table.now item.now) }
+{
+    groups_at(alloc, table, table_version(item.plan()), item.cert())
 }
 
 /// Whether the operation raises the group.

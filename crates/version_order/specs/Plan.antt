@@ -59,7 +59,7 @@ above_least : (b : Option Entry) (u : ℕ) → is_above b u ≡ true → least_k
 above_least None u h = omega arith
 above_least (Some before) u h = ltb-true before.user u h
 
-entries_ascend : KeysAscend entry (λ e. e.user) 0 64
+pub entries_ascend : KeysAscend entry (λ e. e.user) 0 64
 entries_ascend = record { holds = λ b e fits. (above_least b e.user fits.0.1, omega (arith, (in_range w8 0 63 e.user fits.0.0).1)) }
 
 at_most_entry : (b : Option Entry) → AtMost (entry b) 37
