@@ -1,24 +1,24 @@
 -- What is changed at a number that is no less than those before still has a text.
-use Rattle.std.proofs.Common.{◌≡◌, ◌≢◌, ℕ, ◌+◌, ◌-◌, ◌^◌, ◌<◌, ◌≤◌, Bool, true, false, cond, ◌&&◌, ◌||◌, ◌⊎◌, List, [], ◌∷◌, ◌++◌, length, Option, Some, None, refl, sym, ap, subst, ◌∙◌, append_assoc, inl, inr, arith, map}
-use Rattle.std.specs.Prelude.{◌==◌, is_some, not, nat_le, if◌then◌else◌}
-use Rattle.std.specs.Int.{w8, w16, w32}
+use Rattle.std.proofs.Common.{◌≡◌, ◌≢◌, ℕ, ◌+◌, ◌-◌, ◌<◌, ◌≤◌, Bool, true, false, cond, ◌||◌, ◌⊎◌, List, [], ◌∷◌, ◌++◌, length, Option, Some, None, refl, sym, ap, subst, ◌∙◌, append_assoc, inl, inr, arith, map}
+use Rattle.std.specs.Prelude.{◌==◌, is_some, nat_le}
+use Rattle.std.specs.Int.{w16, w32}
 use Rattle.std.specs.List.{All, list_any, slice_get}
 use Rattle.std.specs.Option.{option_map, option_map_or}
 use Rattle.std.specs.Ordering.{nat_cmp, is_eq}
-use Rattle.std.proofs.lemmas.Bool.{eqb-true, eq-eqb, ne_eqb, cases_eq, le-leb}
+use Rattle.std.proofs.lemmas.Bool.{eq-eqb, ne_eqb, cases_eq, le-leb}
 use Rattle.std.proofs.lemmas.Cmp.{nat_cmp_total}
 use Rattle.std.proofs.lemmas.List.{append-nil, length-append, length-map, map-append}
 use Rattle.std.proofs.lemmas.List.Elements.{All-head, All-tail}
 use Rattle.std.proofs.lemmas.Option.{slice_get-map, slice_get_cases}
 use Rattle.layout.specs.Format.{FitRows, uint_in}
-use Rattle.layout.specs.Laws.{in_range, in_range_fits}
+use Rattle.layout.specs.Laws.{in_range_fits}
 use Rattle.layout.specs.Ranges.{user, group, version}
 use Rattle.layout.specs.Ascending.{row_at, with_row}
 use Rattle.layout.specs.AscendingLaws.{row_at-with_row}
 use Rattle.principals.specs.declared.table.Listing.{Listing}
 use Rattle.principals.specs.declared.table.Row.{Row}
-use Rattle.principals.specs.Table.{Table, user_of, lists_user, is_row_of, is_open, is_member_now, ended}
-use Rattle.principals.specs.TableText.{users, row, member_rows, last_begins, may_end, table, without_rows}
+use Rattle.principals.specs.Table.{user_of, lists_user, is_open, is_member_now, ended}
+use Rattle.principals.specs.TableText.{users, row, member_rows, last_begins, may_end, table}
 use Rattle.principals.proofs.Parts.{made}
 use Rattle.principals.proofs.Users.{found_is, lists_is}
 use Rattle.principals.proofs.MarksLaws.{others_open}

@@ -1,3 +1,4 @@
+mod Bools
 mod FitLaws
 mod InTurn
 mod LineLaws

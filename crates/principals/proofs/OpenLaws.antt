@@ -1,6 +1,6 @@
 -- In a table that has a text no group and user have two open rows.
-use Rattle.std.proofs.Common.{◌≡◌, ℕ, ◌+◌, ◌≤◌, Bool, true, false, ◌&&◌, ◌||◌, List, [], ◌∷◌, ◌++◌, length, refl, sym, ap, subst, ◌∙◌, append_assoc, arith, filter}
-use Rattle.std.specs.Prelude.{◌==◌, not, if◌then◌else◌}
+use Rattle.std.proofs.Common.{◌≡◌, ℕ, ◌+◌, ◌≤◌, Bool, true, false, ◌||◌, List, [], ◌∷◌, ◌++◌, length, refl, append_assoc, arith, filter}
+use Rattle.std.specs.Prelude.{◌==◌}
 use Rattle.std.specs.List.{list_any}
 use Rattle.std.proofs.lemmas.Bool.{eqb-true}
 use Rattle.std.proofs.lemmas.List.{append-nil}
@@ -8,17 +8,9 @@ use Rattle.layout.specs.Format.{FitRows}
 use Rattle.principals.specs.declared.table.Listing.{Listing}
 use Rattle.principals.specs.declared.table.Row.{Row}
 use Rattle.principals.specs.Table.{Table, is_row_of, is_open}
-use Rattle.principals.specs.TableText.{member_rows, row, may_end, table}
+use Rattle.principals.specs.TableText.{member_rows, may_end, table}
 use Rattle.principals.proofs.Parts.{made}
-
-both : (a b : Bool) → (a && b) ≡ true → (a ≡ true) × (b ≡ true)
-both true true h = (refl, refl)
-both true false h = absurd cc
-both false b h = absurd cc
-
-not_true : (b : Bool) → not b ≡ true → b ≡ false
-not_true true h = absurd cc
-not_true false h = refl
+use Rattle.principals.proofs.Bools.{both, not_true}
 
 none_step : {X : Type 0} (p : X → Bool) (x : X) (xs : List X) (t : Bool) → p x ≡ t → (t || list_any p xs) ≡ false → (list_any p xs ≡ false → length (filter p xs) ≡ 0) → length (filter p (x ∷ xs)) ≡ 0
 none_step p x xs true is none later = absurd cc

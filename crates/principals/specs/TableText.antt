@@ -6,7 +6,7 @@ use Rattle.std.specs.List.{All, slice_get}
 use Rattle.std.specs.Option.{option_map_or}
 use Rattle.std.specs.Ordering.{nat_cmp}
 use Rattle.layout.specs.Format.{Format, Rows, RowAfter, uint_in, raw, pair, followed, guarded, headed, mapped, listed, listed_from}
-use Rattle.layout.specs.Laws.{Lawful, laws, lawful_listed_from, lawful_uint_in, wide8, wide16, wide32}
+use Rattle.layout.specs.Laws.{Lawful, laws, lawful_listed_from, lawful_uint_in, wide16}
 use Rattle.layout.specs.Ranges.{user, group, version}
 use Rattle.layout.specs.Ascending.{above}
 use Rattle.layout.specs.declared.error.ReadError.TheVariants.{Order, Range}

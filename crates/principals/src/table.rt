@@ -5,9 +5,8 @@ ghost use Rattle.std.specs.Option.{option_copied};
 ghost use Rattle.std.specs.List.{list_any};
 ghost use Rattle.std.specs.Ordering.{nat_cmp};
 ghost use Rattle.layout.specs.Ascending.{Ascends, Stands, IsFree, row_at};
-ghost use Rattle.principals.specs.Table.{user_of, listing_of, user_refused, ended};
+ghost use Rattle.principals.specs.Table.{user_of, listing_of, user_refused, ended, Told};
 ghost use Rattle.principals.specs.TableText.{key as key_format, users, without_rows};
-ghost use Rattle.principals.specs.Kept.{Told};
 
 use crate::error::TableError;
 use crate::marks::{Marks, no_marks, slot};
