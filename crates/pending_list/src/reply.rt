@@ -2,7 +2,7 @@
 
 ghost use Rattle.std.specs.Prelude.{◌≡◌, ◌<◌, ◌≤◌, ◌++◌, [], ◌∷◌, None, OnErr, OnOk, IfOk, map, vec_len, length};
 ghost use Rattle.std.specs.List.{All};
-ghost use Rattle.layout.specs.Format.{BeginsWith, Reads, rows_onto};
+ghost use Rattle.layout.specs.Format.{BeginsWith, Reads, after_row, rows_onto};
 ghost use Rattle.pending_list.specs.Reply.{reply, structure_rows, pending_rows, signed_structure, pending_item};
 
 use crate::signed::{SIGNATURE_SIZE, Signature, Signed};
@@ -298,7 +298,7 @@ fn write_others<A: Allocator + Copy, H: HasItem<A>>(
     writer: &mut Writer<A>,
     others: &[H],
 ) -> Result<(), Memory>
-    ensures { OnOk result (writer.new ≡ rows_onto pending_rows None writer.old (map H.item others.now)) }
+    ensures { OnOk result (writer.new ≡ rows_onto (after_row pending_rows) None writer.old (map H.item others.now)) }
 {
     for other in others {
         PendingRows.write_row(writer, other.item())?;

@@ -5,7 +5,7 @@ use Rattle.std.specs.Int.{w8}
 use Rattle.std.specs.List.{All}
 use Rattle.std.proofs.lemmas.Bool.{lt-ltb}
 use Rattle.std.proofs.lemmas.List.Elements.{All-head, All-tail}
-use Rattle.layout.specs.Format.{FitRows, raw}
+use Rattle.layout.specs.Format.{FitRows, after_row, raw}
 use Rattle.layout.specs.Laws.{listed_fits}
 use Rattle.layout.specs.Sizes.{few_rows}
 use Rattle.layout.specs.Ranges.{user, version}
@@ -18,7 +18,7 @@ record FitsAlone (x : Entry) : Type 0 where
   number : version.Fits x.number
   plan : (raw 32).Fits x.plan
 
-rows_pushed : (b : Option Entry) (xs : List Entry) (x : Entry) → FitsAlone x → is_above b x.user ≡ true → All (λ e. e.user < x.user) xs → FitRows entry b xs → FitRows entry b (xs ++ x ∷ [])
+rows_pushed : (b : Option Entry) (xs : List Entry) (x : Entry) → FitsAlone x → is_above b x.user ≡ true → All (λ e. e.user < x.user) xs → FitRows (after_row entry) b xs → FitRows (after_row entry) b (xs ++ x ∷ [])
 unfolding FitRows
 rows_pushed b [] x alone above all fits = (((alone.user, above), (alone.number, alone.plan)), tt)
 rows_pushed b (y ∷ ys) x alone above all fits =
