@@ -1,22 +1,28 @@
 -- What operations make of the table of principals.
-use Rattle.std.specs.Prelude.{ℕ, List, [], ◌∷◌, ◌==◌, if◌then◌else◌}
+use Rattle.std.specs.Prelude.{List, [], ◌∷◌, Option, Some, None, false, ◌==◌, if◌then◌else◌}
+use Rattle.layout.specs.Types.{Digest, Version}
 use Rattle.principals.specs.Table.{Table}
-use Rattle.update_cert.specs.Change.{Action, Make, Put, Remove, Link, Unlink, Change}
+use Rattle.update_cert.specs.Change.{Change}
 use Rattle.update_cert.specs.Cert.{Cert}
+use Rattle.update_cert.specs.World.{Actor, File, Principals, content_after, table_of}
+use Rattle.update_cert.specs.Reading.{Reading, read_change}
 
--- The table after an action of user 0's operation of this number. These five are done to files and directories, and leave
--- it as it is.
-abbrev pub after_action : ℕ → Action → Table → Table
-after_action number (Make inode) table = table
-after_action number (Put inode) table = table
-after_action number Remove table = table
-after_action number (Link entry) table = table
-after_action number (Unlink name) table = table
+-- whoever looks at the table alone needs no contents of files: each digest may stand for an empty one
+abbrev pub unread : Reading
+unread = record { content = λ digest. File []; inode = λ p handle i. None }
+
+-- user 0, in an operation of this number
+abbrev pub superuser : Version → Actor
+superuser number = record { user = 0; number = number; member = λ group. false }
+
+-- the table after a change of user 0's: a change of a file or a directory doesn't fit the table, and leaves it
+abbrev pub after_change : Version → Change Digest → Table → Table
+after_change number c table = table_of (content_after (superuser number) (read_change unread c) (Some (Principals table)))
 
 -- the table after the changes, in turn
-abbrev pub after_changes : ℕ → List Change → Table → Table
+abbrev pub after_changes : Version → List (Change Digest) → Table → Table
 after_changes number [] table = table
-after_changes number (c ∷ cs) table = after_changes number cs (after_action number c.action table)
+after_changes number (c ∷ cs) table = after_changes number cs (after_change number c table)
 
 -- the table after an operation: user 0's alone change it
 abbrev pub after_operation : Cert → Table → Table
