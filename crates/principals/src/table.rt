@@ -118,12 +118,19 @@ fn ended_row(row: Row, number: Version, group: Group, user: User) -> Row
 }
 
 /// Writes a number into what is open of a pair's rows: one pass.
-fn end_rows(rows: &mut [Row], number: Version, group: Group, user: User)
+fn end_each(rows: &mut [Row], number: Version, group: Group, user: User)
     ensures { rows.new ≡ map (ended number group user) rows.old }
 {
     for row in rows.iter_mut() {
         *row = ended_row(*row, number, group, user);
     }
+}
+
+/// The same, of the rows of a table, which keeps them all.
+fn end_rows<A: Allocator>(rows: &mut Vec<Row, A>, number: Version, group: Group, user: User)
+    ensures { rows.new.items ≡ map (ended number group user) rows.old.items }
+{
+    end_each(rows, number, group, user);
 }
 
 impl<A: Allocator + Copy> Table<A> {

@@ -3,7 +3,7 @@ use Rattle.std.specs.List.{slice_set}
 use Rattle.principals.specs.declared.table.Row.{Row}
 use Rattle.principals.specs.Table.{ended}
 use Rattle.principals.proofs.InTurn.{next_is, one_more, all_changed}
-use Rattle.principals.proofs.table.end_rows.Goals as goal
+use Rattle.principals.proofs.table.end_each.Goals as goal
 
 pub loop-row-preserved : goal.loop-row-preserved
 loop-row-preserved c =
