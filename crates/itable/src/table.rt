@@ -118,6 +118,8 @@ impl<A: Allocator> ITable<A> {
         requires follows { All (λ c. c.number < chunk.now.number) (listings_of self.old) }
         requires digest { digest ≡ hash (chunk_format.spell chunk.now) }
         ensures pairs { OnOk result (self.new ≡ record self.old { pairs = self.old.pairs ++ chunk.now.pairs }) }
+        // In the chunk it has what the chunk says, and elsewhere what it had.
+        ensures digests { OnOk result ((i : ℕ) → digest_at self.new i ≡ (if chunk_number i == chunk.now.number then digest_in chunk.now.pairs i else digest_at self.old i)) }
         // Its root lists the chunk after those that it listed.
         ensures listed { OnOk result (listings_of self.new ≡ listings_of self.old ++ record { number = chunk.now.number; digest = digest } ∷ []) }
         ensures err { OnErr result (self.new ≡ self.old) }

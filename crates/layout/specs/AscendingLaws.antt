@@ -1,6 +1,6 @@
 -- Nobody has to believe this file: laws, which are proved.
 -- The laws of rows that ascend by a key.
-use Rattle.std.proofs.Common.{◌≡◌, ℕ, zero, suc, ◌+◌, ◌<◌, ◌≤◌, Bool, true, false, cond, List, [], ◌∷◌, length, get_or, Option, Some, None, Result, Ok, Err, refl, sym, ap, subst, ◌∙◌, arith}
+use Rattle.std.proofs.Common.{◌≡◌, ℕ, zero, suc, ◌+◌, ◌<◌, ◌≤◌, Bool, true, false, cond, List, [], ◌∷◌, ◌++◌, length, get_or, Option, Some, None, Result, Ok, Err, refl, sym, ap, subst, ◌∙◌, arith}
 use Rattle.std.specs.Prelude.{MatchResult, slice_index_or}
 use Rattle.std.specs.Cmp.{IsTotalOrder}
 use Rattle.std.specs.List.{All, slice_set, insert, remove}
@@ -25,6 +25,24 @@ some_is e = cc
 either_way : {A : Type 0} (t : Bool) (x : A) → x ≡ cond t x x
 either_way true x = refl
 either_way false x = refl
+
+-- ---- rows in two lists, of which one has no row with the key
+
+module _ {T K : Type 0} (cmp : K → K → Ordering) (key : T → K) where
+  abbrev pub HasOther : K → T → Type 0
+  HasOther k x = is_eq (cmp (key x) k) ≡ false
+
+  pub no_row : (xs : List T) (k : K) → All (HasOther k) xs → row_at cmp key xs k ≡ None
+  no_row [] k all = refl
+  no_row (x ∷ xs) k all = rw (All-head (HasOther k) x xs all) (no_row xs k (All-tail (HasOther k) x xs all))
+
+  pub row_in_last : (xs ys : List T) (k : K) → All (HasOther k) xs → row_at cmp key (xs ++ ys) k ≡ row_at cmp key ys k
+  row_in_last [] ys k all = refl
+  row_in_last (x ∷ xs) ys k all = rw (All-head (HasOther k) x xs all) (row_in_last xs ys k (All-tail (HasOther k) x xs all))
+
+  pub row_in_first : (xs ys : List T) (k : K) → All (HasOther k) ys → row_at cmp key (xs ++ ys) k ≡ row_at cmp key xs k
+  row_in_first [] ys k all = no_row ys k all
+  row_in_first (x ∷ xs) ys k all = ap (λ (o : Option T). cond (is_eq (cmp (key x) k)) (Some x) o) (row_in_first xs ys k all)
 
 module _ {T K : Type 0} (cmp : K → K → Ordering) (key : T → K) (total : IsTotalOrder cmp) where
   turned : (a b : K) (o : Ordering) → cmp a b ≡ o → cmp b a ≡ ordering_reverse o

@@ -1,30 +1,13 @@
 -- The marks tell which pairs have an open row.
-use Rattle.std.proofs.Common.{◌≡◌, ◌≢◌, ℕ, ◌+◌, ◌*◌, ◌-◌, ◌<◌, ◌≤◌, Bool, true, false, ◌&&◌, ◌||◌, List, [], ◌∷◌, ◌++◌, length, get_or, replicate, refl, sym, ap, ◌∙◌, ◌⊎◌, inl, inr, arith, map}
-use Rattle.std.specs.Prelude.{◌==◌, slice_index_or}
+use Rattle.std.proofs.Common.{◌≡◌, ◌≢◌, ℕ, ◌<◌, ◌≤◌, Bool, true, false, List, [], ◌∷◌, replicate, refl, sym, ◌∙◌, ◌⊎◌, inl, inr, arith, map}
+use Rattle.std.specs.Prelude.{◌==◌}
 use Rattle.std.specs.List.{list_any, slice_set}
 use Rattle.std.proofs.lemmas.Bool.{eqb-true, eq-eqb, ne_eqb, cases_eq}
 use Rattle.std.proofs.lemmas.List.{length-replicate, length-set, get_or-replicate, get_or-set_same, get_or-set_other}
-use Rattle.std.proofs.lemmas.List.Folds.{list_any-append}
 use Rattle.principals.specs.declared.table.Row.{Row}
 use Rattle.principals.specs.Table.{is_row_of, is_open, ended}
 use Rattle.principals.specs.Kept.{slot, Marks}
-
-both : (a b : Bool) → (a && b) ≡ true → (a ≡ true) × (b ≡ true)
-both true true h = (refl, refl)
-both true false h = absurd cc
-both false b h = absurd cc
-
-and_false : (b : Bool) → (b && false) ≡ false
-and_false true = refl
-and_false false = refl
-
-or_false : (b : Bool) → (b || false) ≡ b
-or_false true = refl
-or_false false = refl
-
-or_true : (b : Bool) → (b || true) ≡ true
-or_true true = refl
-or_true false = refl
+use Rattle.principals.proofs.Bools.{both, and_false}
 
 -- ---- rows of pairs
 
@@ -100,25 +83,6 @@ marks_set marks rows new g u b low high small here others old = record {
         | inr ne ↦
             get_or-set_other marks (slot g u) (slot h v) b false ne ∙ old.tells h v low' high' small' ∙ sym (others h v (apart_is g u h v low small low' small' (λ e. ne (sym e))))
       ];
-}
-
-one_more : (g u : ℕ) (rows : List Row) (r : Row) → list_any (is_open g u) (rows ++ r ∷ []) ≡ (list_any (is_open g u) rows || is_open g u r)
-one_more g u rows r = list_any-append (is_open g u) rows (r ∷ []) ∙ ap (λ b. list_any (is_open g u) rows || b) (or_false (is_open g u r))
-
--- one more row, which is open
-pub marks_open : (marks : List Bool) (rows : List Row) (r : Row) → 64 ≤ r.group → r.group < 96 → r.user < 64 → r.until ≡ 0 → Marks marks rows → Marks (slice_set marks (slot r.group r.user) true) (rows ++ r ∷ [])
-marks_open marks rows r low high small still old =
-    let is : is_open r.group r.user r ≡ true = rw (row_is r.group r.user r refl refl, eq-eqb r.until 0 still) refl in
-    marks_set marks rows (rows ++ r ∷ []) r.group r.user true low high small
-    (one_more r.group r.user rows r ∙ rw is (or_true (list_any (is_open r.group r.user) rows)))
-    (λ h v apart. one_more h v rows r ∙ rw (open_apart h v r apart) (or_false (list_any (is_open h v) rows)))
-    old
-
--- and one that isn't
-pub marks_closed : (marks : List Bool) (rows : List Row) (r : Row) → r.until ≢ 0 → Marks marks rows → Marks marks (rows ++ r ∷ [])
-marks_closed marks rows r closed old = record {
-  size = old.size;
-  tells = λ g u low high small. old.tells g u low high small ∙ sym (one_more g u rows r ∙ rw (closed_is g u r closed) (or_false (list_any (is_open g u) rows)));
 }
 
 -- a pair's open rows end

@@ -1,16 +1,16 @@
 -- Reading and writing a table by its parts.
-use Rattle.std.proofs.Common.{◌≡◌, ℕ, zero, suc, ◌<◌, ◌≤◌, List, [], ◌∷◌, ◌++◌, length, get_or, Option, Some, None, Result, Ok, Err, refl, sym, ap, ◌∙◌, append_assoc, arith}
+use Rattle.std.proofs.Common.{◌≡◌, ℕ, ◌<◌, List, [], ◌∷◌, ◌++◌, length, Option, Some, None, Result, Ok, Err, refl, sym, ap, ◌∙◌, append_assoc, arith}
 use Rattle.std.specs.Prelude.{slice_index_or, remove, OnOk, OnErr}
 use Rattle.std.specs.Int.{w8, w16}
 use Rattle.std.proofs.Math.Seq.{take-append_seam}
 use Rattle.std.proofs.lemmas.List.{append-nil}
 use Rattle.layout.specs.declared.error.ReadError.{ReadError}
-use Rattle.layout.specs.Format.{Answer, ◌>>=◌, BeginsWith, be, Rows, after_row, read_rows, read_state, state_after, rows_onto}
+use Rattle.layout.specs.Format.{Answer, ◌>>=◌, BeginsWith, be, after_row, read_rows, read_state, state_after, rows_onto}
 use Rattle.layout.specs.Laws.{in_range, onto_alike}
 use Rattle.principals.specs.declared.table.Listing.{Listing}
 use Rattle.principals.specs.declared.table.Row.{Row}
 use Rattle.principals.specs.Table.{Table}
-use Rattle.principals.specs.TableText.{listing, users, member_rows, plain_row, with_next, without_rows}
+use Rattle.principals.specs.TableText.{listing, users, member_rows, plain_row, without_rows}
 
 -- ---- users
 

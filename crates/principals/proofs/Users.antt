@@ -1,5 +1,5 @@
 -- The users of a table: user 0, and the others above it.
-use Rattle.std.proofs.Common.{◌≡◌, ◌≢◌, ℕ, ◌+◌, ◌<◌, ◌≤◌, Bool, true, false, ◌||◌, List, [], ◌∷◌, length, Option, Some, None, refl, sym, ap, ◌∙◌, inl, inr, arith}
+use Rattle.std.proofs.Common.{◌≡◌, ℕ, ◌<◌, ◌≤◌, true, false, ◌||◌, List, [], ◌∷◌, length, Option, Some, None, refl, sym, ap, ◌∙◌, inl, inr, arith}
 use Rattle.std.specs.Prelude.{◌==◌, find, is_some, if◌then◌else◌}
 use Rattle.std.specs.Int.{w8, w16, w32}
 use Rattle.std.specs.List.{All, list_any}
@@ -17,6 +17,7 @@ use Rattle.principals.specs.declared.error.TableError.TheVariants.{Listed}
 use Rattle.principals.specs.declared.table.Listing.{Listing}
 use Rattle.principals.specs.Table.{user_of, genesis, user_refused}
 use Rattle.principals.specs.TableText.{key, listing, later_listing, users, table, without_rows}
+use Rattle.principals.proofs.Bools.{or_true}
 
 -- a user other than user 0, wherever it stands
 abbrev pub Each : Listing → Type 0
@@ -122,10 +123,6 @@ listed_none xs u at = sym (lists_is xs u) ∙ ap is_some (found_is xs u ∙ at)
 -- where it isn't user 0, it is looked for among the others
 pub found_later : (s : Listing) (os : List Listing) (u : ℕ) (o : Option Listing) → (s.user == u) ≡ false → row_at nat_cmp user_of os u ≡ o → find (λ l. l.user == u) (s ∷ os) ≡ o
 found_later s os u o apart at = rw apart (found_is os u ∙ at)
-
-or_true : (b : Bool) → (b || true) ≡ true
-or_true true = refl
-or_true false = refl
 
 pub refused_there : (s : Listing) (os : List Listing) (u : ℕ) → list_any (λ l. l.user == u) os ≡ true → user_refused (without_rows (s ∷ os)) u ≡ Some Listed
 refused_there s os u there = rw there (rw (or_true (s.user == u)) refl)

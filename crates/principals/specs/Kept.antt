@@ -1,8 +1,7 @@
+-- Nobody has to believe this file: no public contract names it.
 -- What the code keeps beside a table: which pairs of a group and a user have an open row.
-use Rattle.std.specs.Prelude.{◌≡◌, ℕ, ◌+◌, ◌*◌, ◌-◌, ◌≤◌, ◌<◌, ◌⊎◌, Bool, false, List, ◌∷◌, length, Option, Some, None, Result, Ok, Err, slice_index_or}
+use Rattle.std.specs.Prelude.{◌≡◌, ℕ, ◌+◌, ◌*◌, ◌-◌, ◌≤◌, ◌<◌, Bool, false, List, ◌∷◌, length, slice_index_or}
 use Rattle.std.specs.List.{list_any}
-use Rattle.principals.specs.declared.error.TableError.{TableError}
-use Rattle.principals.specs.declared.error.TableError.TheVariants.{Memory}
 use Rattle.principals.specs.declared.table.Listing.{Listing}
 use Rattle.principals.specs.declared.table.Row.{Row}
 use Rattle.principals.specs.Table.{is_open}
@@ -22,8 +21,3 @@ pub record IsKept (superuser : Listing) (others : List Listing) (rows : List Row
   pub listed : users.Fits (superuser ∷ others)
   pub few : length rows ≤ 65535
   pub marked : Marks marks rows
-
--- what a call answers: nothing but that memory ran out, where it isn't refused
-abbrev pub Told : {X : Type 0} → Option TableError → Result X TableError → Type 0
-Told refused (Ok x) = refused ≡ None
-Told refused (Err e) = (refused ≡ Some e) ⊎ ((refused ≡ None) × (e ≡ Memory))

@@ -1,11 +1,11 @@
 -- The table of principals: who is a user, since when and by which key, and who is a member of which group.
-use Rattle.std.specs.Prelude.{ℕ, Bool, not, List, [], ◌∷◌, ◌++◌, length, Option, Some, None, ◌==◌, ◌&&◌, ◌||◌, nat_lt, nat_le, find, map, if◌then◌else◌}
+use Rattle.std.specs.Prelude.{◌≡◌, ◌⊎◌, ℕ, Bool, not, List, [], ◌∷◌, ◌++◌, length, Option, Some, None, Result, Ok, Err, ◌==◌, ◌&&◌, ◌||◌, nat_lt, nat_le, find, map, if◌then◌else◌}
 use Rattle.std.specs.List.{list_any}
 use Rattle.std.specs.Option.{option_map}
 use Rattle.std.specs.Ordering.{nat_cmp}
 use Rattle.layout.specs.Ascending.{with_row}
 use Rattle.principals.specs.declared.error.TableError.{TableError}
-use Rattle.principals.specs.declared.error.TableError.TheVariants.{Listed, Unlisted, NotGroup, NotMember, Full}
+use Rattle.principals.specs.declared.error.TableError.TheVariants.{Listed, Unlisted, NotGroup, NotMember, Full, Memory}
 use Rattle.principals.specs.declared.table.Listing.{Listing}
 use Rattle.principals.specs.declared.table.Row.{Row}
 
@@ -102,3 +102,8 @@ drop_refused table group user =
     else if not (is_group group) then Some NotGroup
     else if not (is_member_now table group user) then Some NotMember
     else None
+
+-- what a call answers: why it is refused, and where it isn't, at most that memory ran out
+abbrev pub Told : {X : Type 0} → Option TableError → Result X TableError → Type 0
+Told refused (Ok x) = refused ≡ None
+Told refused (Err e) = (refused ≡ Some e) ⊎ ((refused ≡ None) × (e ≡ Memory))

@@ -1,12 +1,12 @@
 -- The text of the table of principals: `SPT1`, the users after their count, and the rows of the members after theirs.
 -- The bytes stand in docs/FORMATS.md.
-use Rattle.std.specs.Prelude.{ℕ, ◌==◌, ◌-◌, Bool, not, List, [], ◌∷◌, ◌++◌, length, Option, Some, None, codes, nat_le, if◌then◌else◌}
+use Rattle.std.specs.Prelude.{ℕ, ◌==◌, ◌-◌, ◌≤◌, Bool, not, List, [], ◌∷◌, ◌++◌, length, Option, Some, None, codes, nat_le, if◌then◌else◌}
 use Rattle.std.specs.Int.{w8, w16, w32}
-use Rattle.std.specs.List.{slice_get}
+use Rattle.std.specs.List.{All, slice_get}
 use Rattle.std.specs.Option.{option_map_or}
 use Rattle.std.specs.Ordering.{nat_cmp}
 use Rattle.layout.specs.Format.{Format, Rows, RowAfter, uint_in, raw, pair, followed, guarded, headed, mapped, listed, listed_from}
-use Rattle.layout.specs.Laws.{Lawful, laws, lawful_listed_from, lawful_uint_in, wide8, wide16, wide32}
+use Rattle.layout.specs.Laws.{Lawful, laws, lawful_listed_from, lawful_uint_in, wide16}
 use Rattle.layout.specs.Ranges.{user, group, version}
 use Rattle.layout.specs.Ascending.{above}
 use Rattle.layout.specs.declared.error.ReadError.TheVariants.{Order, Range}
@@ -93,6 +93,10 @@ table =
     headed (codes "SPT1")
     (mapped (λ p. record { users = p.0; rows = p.1 }) (λ t. (t.users, t.rows))
     (followed users rows_of))
+
+-- no row begins after this number
+abbrev pub NoneAfter : ℕ → Table → Type 0
+NoneAfter number table = All (λ r. r.begins ≤ number) table.rows
 
 pub lawful_key : Lawful key
 lawful_key = search laws

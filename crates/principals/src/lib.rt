@@ -2,9 +2,13 @@
 #![tactic(auto)]
 
 mod error;
+mod laws;
 mod marks;
 mod reading;
 mod table;
+#[cfg(test)]
+mod tests;
 
 pub use error::TableError;
+pub use laws::{membership, open_rows};
 pub use table::{Listing, Row, Table};

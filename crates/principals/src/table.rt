@@ -5,9 +5,8 @@ ghost use Rattle.std.specs.Option.{option_copied};
 ghost use Rattle.std.specs.List.{list_any};
 ghost use Rattle.std.specs.Ordering.{nat_cmp};
 ghost use Rattle.layout.specs.Ascending.{Ascends, Stands, IsFree, row_at};
-ghost use Rattle.principals.specs.Table.{user_of, listing_of, user_refused, ended};
+ghost use Rattle.principals.specs.Table.{user_of, listing_of, user_refused, ended, Told};
 ghost use Rattle.principals.specs.TableText.{key as key_format, users, without_rows};
-ghost use Rattle.principals.specs.Kept.{Told};
 
 use crate::error::TableError;
 use crate::marks::{Marks, no_marks, slot};
@@ -152,7 +151,7 @@ impl<A: Allocator + Copy> Table<A> {
 
 impl<A: Allocator> Table<A> {
     ghost use Rattle.principals.specs.Table.{key_of, since, is_listed, lists_user, is_member, is_member_now, user_added, member_added, member_dropped, member_refused, drop_refused};
-    ghost use Rattle.principals.specs.TableText.{with_next, last_begins};
+    ghost use Rattle.principals.specs.TableText.{table as table_format, with_next, last_begins, NoneAfter};
 
     /// The listing of a user, by one binary search.
     fn listing_of(&self, user: User) -> Option<&Listing>
@@ -254,6 +253,8 @@ impl<A: Allocator> Table<A> {
     ) -> Result<(), TableError>
         ensures ok { OnOk result (self.new ≡ user_added number user key self.old) }
         ensures told { Told (user_refused self.old user) result }
+        // A table that has a text has one afterwards.
+        ensures fits { table_format.Fits self.old → OnOk result (table_format.Fits self.new) }
         ensures err { OnErr result (self.new ≡ self.old) }
     {
         let place = room_for(&self.superuser, &self.others, user)?;
@@ -261,6 +262,32 @@ impl<A: Allocator> Table<A> {
         let _user = user.get();
         key_fits(&key);
         self.others.insert(place, Listing { user, since, key })?;
+        Ok(())
+    }
+
+    /// An open row at the end.
+    fn open_row(&mut self, number: Version, group: Group, user: User) -> Result<(), TableError>
+        ensures ok { OnOk result (self.new ≡ member_added number group user self.old) }
+        ensures told { Told (member_refused self.old group user) result }
+        ensures fits { table_format.Fits self.old → NoneAfter number self.old → OnOk result (table_format.Fits self.new) }
+        ensures err { OnErr result (self.new ≡ self.old) }
+    {
+        if self.is_member_now(group, user) {
+            return Err(TableError::Listed);
+        }
+        if !self.lists_user(user) {
+            return Err(TableError::Unlisted);
+        }
+        if self.rows.len() >= MOST_ROWS {
+            return Err(TableError::Full);
+        }
+        let _fits = (group.get(), user.get(), number.get());
+        self.push(Row {
+            group,
+            user,
+            begins: number,
+            until: 0,
+        })?;
         Ok(())
     }
 
@@ -273,30 +300,15 @@ impl<A: Allocator> Table<A> {
     ) -> Result<(), TableError>
         ensures ok { OnOk result (self.new ≡ member_added number group user self.old) }
         ensures told { Told (member_refused self.old group user) result }
+        // A table that has a text has one afterwards, if the number isn't less than those before.
+        ensures fits { table_format.Fits self.old → NoneAfter number self.old → OnOk result (table_format.Fits self.new) }
         ensures err { OnErr result (self.new ≡ self.old) }
     {
-        let found = Group::new(group.get());
-        if let Some(group) = found
-            && self.is_member_now(group, user)
-        {
-            return Err(TableError::Listed);
+        match Group::new(group.get()) {
+            Some(group) => self.open_row(number, group, user),
+            None if !self.lists_user(user) => Err(TableError::Unlisted),
+            None => Err(TableError::NotGroup),
         }
-        if !self.lists_user(user) {
-            return Err(TableError::Unlisted);
-        }
-        let Some(group) = found else {
-            return Err(TableError::NotGroup);
-        };
-        if self.rows.len() >= MOST_ROWS {
-            return Err(TableError::Full);
-        }
-        self.push(Row {
-            group,
-            user,
-            begins: number,
-            until: 0,
-        })?;
-        Ok(())
     }
 
     /// Takes a member out of a group, by user 0's operation of this number: one pass over the rows.
@@ -308,6 +320,8 @@ impl<A: Allocator> Table<A> {
     ) -> Result<(), TableError>
         ensures ok { OnOk result (self.new ≡ member_dropped number group user self.old) }
         ensures told { Told (drop_refused self.old group user) result }
+        // A table that has a text has one afterwards, if the number isn't less than those before.
+        ensures fits { table_format.Fits self.old → NoneAfter number self.old → OnOk result (table_format.Fits self.new) }
         ensures err { OnErr result (self.new ≡ self.old) }
     {
         if !self.lists_user(user) {

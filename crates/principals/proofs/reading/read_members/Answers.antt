@@ -1,4 +1,4 @@
-use Rattle.std.proofs.Common.{◌≡◌, Ok, rules, ap, sym, subst, ◌∙◌}
+use Rattle.std.proofs.Common.{◌≡◌, Ok, rules, ap, subst, ◌∙◌}
 use Rattle.layout.specs.Format.{read_rows, read_state}
 use Rattle.principals.specs.Table.{Table}
 use Rattle.principals.specs.TableText.{member_rows, without_rows}

@@ -1,4 +1,4 @@
-use Rattle.std.proofs.Common.{◌≡◌, Ok, rules, arith, sym, subst, length}
+use Rattle.std.proofs.Common.{◌≡◌, Ok, rules, arith, sym, subst}
 use Rattle.principals.specs.TableText.{users, lawful_users}
 use Rattle.principals.proofs.MarksLaws.{no_marks}
 use Rattle.principals.proofs.Parts.{some_users, head_off}

@@ -1,8 +1,8 @@
-use Rattle.std.proofs.Common.{◌≡◌, ◌<◌, ◌≤◌, List, get_or, length, ap, sym, ◌∙◌, arith}
+use Rattle.std.proofs.Common.{◌<◌, List, get_or, length, ap, ◌∙◌}
 use Rattle.std.specs.List.{slice_set}
 use Rattle.principals.specs.declared.table.Row.{Row}
 use Rattle.principals.specs.Table.{ended}
-use Rattle.principals.proofs.InTurn.{changed, next_is, one_more, all_changed}
+use Rattle.principals.proofs.InTurn.{next_is, one_more, all_changed}
 use Rattle.principals.proofs.table.end_rows.Goals as goal
 
 pub loop-row-preserved : goal.loop-row-preserved

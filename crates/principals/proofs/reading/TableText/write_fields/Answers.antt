@@ -1,7 +1,5 @@
-use Rattle.std.proofs.Common.{◌≡◌, List, ℕ, ◌∷◌, ◌++◌, ◌∙◌, None, arith}
-use Rattle.layout.specs.Format.{BeginsWith}
+use Rattle.std.proofs.Common.{None, arith}
 use Rattle.layout.specs.Fronts.{begins_then}
-use Rattle.principals.proofs.Users.{few_users}
 use Rattle.principals.proofs.Parts.{spelled, begins_append, on_ok, on_err}
 use Rattle.principals.proofs.reading.TableText.write_fields.Goals as goal
 

@@ -1,6 +1,4 @@
-use Rattle.std.proofs.Common.{[], refl, arith, sym, subst}
-use Rattle.principals.specs.declared.table.Listing.{Listing}
-use Rattle.principals.specs.TableText.{users}
+use Rattle.std.proofs.Common.{arith}
 use Rattle.principals.proofs.MarksLaws.{no_marks}
 use Rattle.principals.proofs.Users.{first_users, first_fits}
 use Rattle.principals.proofs.table.Table.genesis.Goals as goal

@@ -1,0 +1,7 @@
+mod Appended
+mod Chains
+mod Fronts
+mod Headers
+mod Opened
+mod Reached
+mod Staged
