@@ -19,7 +19,7 @@ use Rattle.pending_list.specs.Reply.{PendingItem, pending_item, digest_of_last, 
 use Rattle.principals.specs.Table.{key_of}
 use Rattle.wire.specs.declared.kinds.Status.TheVariants as status
 use Rattle.consistency_server.specs.Event.{Placed, users_below}
-use Rattle.consistency_server.specs.State.{State, Placement, groups_raised, next_vector, pending_of, entries_of, next_plan, next_item, next_reply, next_placement}
+use Rattle.consistency_server.specs.State.{State, Placement, next_groups, next_vector, pending_of, entries_of, next_plan, next_item, next_reply, next_placement}
 use Rattle.consistency_server.specs.Answers.{Refused, Happens, structure_of, cert_of, same_cert, is_next, at_limit, placing, verified_update, read_update, same_plan}
 use Rattle.consistency_server.specs.Judged.{IsNext}
 use Rattle.consistency_server.proofs.Rows.{find_holds, no_users, more, keys_below}
@@ -85,20 +85,20 @@ next_by state c number free =
     sym (ap (λ b. b && (not (is_some (pending_of c.user state.pending)) && bytes_eq c.last (digest_of_last (structure_of c.user state)))) (eq-eqb c.number (version_of c.user state.vector + 1) number)
     ∙ ap (λ o. not (is_some o) && bytes_eq c.last (digest_of_last (structure_of c.user state))) free)
 
-module _ (state : State) (c : Cert) (u n : ℕ) (d gs : List ℕ) (v : List Component) (es : List Entry) (eu : u ≡ c.user) (en : n ≡ c.number) (ed : d ≡ digest_of c) (eg : gs ≡ groups_raised state.table state.vector c) (ev : v ≡ state.vector) (ee : es ≡ entries_of state.pending) where
+module _ (state : State) (c : Cert) (u n : ℕ) (d gs : List ℕ) (v : List Component) (es : List Entry) (eu : u ≡ c.user) (en : n ≡ c.number) (ed : d ≡ digest_of c) (eg : gs ≡ next_groups state.table state.vector c) (ev : v ≡ state.vector) (ee : es ≡ entries_of state.pending) where
   pub planned : record { user = u; number = n; certificate = d; vector = raised_all gs (raised u v); entries = es } ≡ next_plan state c
   planned =
       ap (λ (k : ℕ). record { user = k; number = n; certificate = d; vector = raised_all gs (raised k v); entries = es }) eu
       ∙ ap (λ (k : ℕ). record { user = c.user; number = k; certificate = d; vector = raised_all gs (raised c.user v); entries = es }) en
       ∙ ap (λ (k : List ℕ). record { user = c.user; number = c.number; certificate = k; vector = raised_all gs (raised c.user v); entries = es }) ed
       ∙ ap (λ (k : List ℕ). record { user = c.user; number = c.number; certificate = digest_of c; vector = raised_all k (raised c.user v); entries = es }) eg
-      ∙ ap (λ (k : List Component). record { user = c.user; number = c.number; certificate = digest_of c; vector = raised_all (groups_raised state.table state.vector c) (raised c.user k); entries = es }) ev
+      ∙ ap (λ (k : List Component). record { user = c.user; number = c.number; certificate = digest_of c; vector = raised_all (next_groups state.table state.vector c) (raised c.user k); entries = es }) ev
       ∙ ap (λ (k : List Entry). record { user = c.user; number = c.number; certificate = digest_of c; vector = next_vector state.table state.vector c; entries = k }) ee
 
   pub limit_is : not (can_raise_all (u ∷ gs) v) ≡ at_limit state c
   limit_is =
       ap (λ (k : ℕ). not (can_raise_all (k ∷ gs) v)) eu ∙ ap (λ (k : List ℕ). not (can_raise_all (c.user ∷ k) v)) eg
-      ∙ ap (λ (k : List Component). not (can_raise_all (c.user ∷ groups_raised state.table state.vector c) k)) ev
+      ∙ ap (λ (k : List Component). not (can_raise_all (c.user ∷ next_groups state.table state.vector c) k)) ev
 
 -- a certificate that was read, of a user who is listed and signed it
 pub signed_update : (state : State) (c : Signed Cert) (key : List ℕ) (r : Result (Signed Cert) ReadError) → r ≡ Ok c → key_of c.value.user state.table ≡ Some key → valid key (cert.spell c.value) c.signature ≡ true → read_update state r ≡ placing state c

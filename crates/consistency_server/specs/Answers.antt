@@ -1,10 +1,11 @@
 -- What a call is answered where this is kept: the first that applies.
-use Rattle.std.specs.Prelude.{ℕ, ◌+◌, List, [], ◌∷◌, Option, Some, None, is_some, Result, Ok, Err, Bool, false, ◌==◌, ◌&&◌, not, find, if◌then◌else◌}
+use Rattle.std.specs.Prelude.{◌+◌, List, [], ◌∷◌, Option, Some, None, is_some, Result, Ok, Err, Bool, false, ◌==◌, ◌&&◌, not, find, if◌then◌else◌}
 use Rattle.std.specs.List.{list_any}
 use Rattle.std.specs.Option.{option_map_or}
 use Rattle.std.specs.Str.{bytes_eq}
 use Rattle.layout.specs.declared.error.ReadError.{ReadError}
 use Rattle.layout.specs.Format.{whole}
+use Rattle.layout.specs.Types.{Bytes, Key, User}
 use Rattle.lms_sign.specs.Signature.{valid}
 use Rattle.version_order.specs.Vector.{version_of, can_raise_all}
 use Rattle.version_order.specs.Structure.{Structure, structure}
@@ -19,26 +20,26 @@ use Rattle.wire.specs.declared.kinds.Status.TheVariants as status
 use Rattle.consistency_server.specs.declared.call.CallKind.{CallKind}
 use Rattle.consistency_server.specs.declared.call.CallKind.TheVariants.{Update, Commit}
 use Rattle.consistency_server.specs.Event.{Event, Placed, Committed}
-use Rattle.consistency_server.specs.State.{State, Placement, groups_raised, pending_of, next_reply}
+use Rattle.consistency_server.specs.State.{State, Placement, next_groups, pending_of, next_reply}
 
 -- a call, and the signed text that came with it
 pub record Call : Type 0 where
   pub kind : CallKind
-  pub text : List ℕ
+  pub text : Bytes
 
 -- a status, and what comes with status 0
 pub record Answer : Type 0 where
   pub status : Status
-  pub payload : List ℕ
+  pub payload : Bytes
 
 -- what a call leads to: a refusal, the same answer as before, or an event
 pub data Outcome : Type 0 where
   Refused : Status → Outcome
-  Repeated : List ℕ → Outcome
-  Happens : Event → List ℕ → Outcome
+  Repeated : Bytes → Outcome
+  Happens : Event → Bytes → Outcome
 
 -- the structure that a user committed last
-abbrev pub structure_of : ℕ → State → Option (Signed Structure)
+abbrev pub structure_of : User → State → Option (Signed Structure)
 structure_of user state = find (λ s. s.value.plan.user == user) state.structures
 
 -- ---- UPDATE
@@ -59,7 +60,7 @@ is_next state c =
 
 -- the version of a principal that it raises could grow no further
 abbrev pub at_limit : State → Cert → Bool
-at_limit state c = not (can_raise_all (c.user ∷ groups_raised state.table state.vector c) state.vector)
+at_limit state c = not (can_raise_all (c.user ∷ next_groups state.table state.vector c) state.vector)
 
 -- what a certificate leads to, beside the operation that is pending with it, if there is one
 abbrev pub placing_beside : Option Placement → State → Signed Cert → Outcome
@@ -72,7 +73,7 @@ placing_beside None state c =
 abbrev pub placing : State → Signed Cert → Outcome
 placing state c = placing_beside (find (same_cert c) state.pending) state c
 
-abbrev pub verified_update : State → Signed Cert → Option (List ℕ) → Outcome
+abbrev pub verified_update : State → Signed Cert → Option Key → Outcome
 verified_update state c None = Refused status.UnknownUser
 verified_update state c (Some key) = if valid key (cert.spell c.value) c.signature then placing state c else Refused status.BadSignature
 
@@ -99,7 +100,7 @@ committing state s =
     else if is_pending state s.value then Happens (Committed s) []
     else Refused status.NotPending
 
-abbrev pub verified_commit : State → Signed Structure → Option (List ℕ) → Outcome
+abbrev pub verified_commit : State → Signed Structure → Option Key → Outcome
 verified_commit state s None = Refused status.UnknownUser
 verified_commit state s (Some key) = if valid key (structure.spell s.value) s.signature then committing state s else Refused status.BadSignature
 
@@ -109,7 +110,7 @@ read_commit state (Ok s) = verified_commit state s (key_of s.value.plan.user sta
 
 -- ---- calls
 
-abbrev pub by_kind : State → List ℕ → CallKind → Outcome
+abbrev pub by_kind : State → Bytes → CallKind → Outcome
 by_kind state text Update = read_update state (whole (signed cert) text)
 by_kind state text Commit = read_commit state (whole (signed structure) text)
 

@@ -1,5 +1,6 @@
 -- What the server did: an event places an operation or commits one. The newest event of a list is its first.
 use Rattle.std.specs.Prelude.{ℕ, zero, suc, List, [], ◌∷◌, ◌++◌, Option, Some, None, ◌==◌, find, filter_map}
+use Rattle.layout.specs.Types.{User}
 use Rattle.version_order.specs.Structure.{Structure}
 use Rattle.update_cert.specs.Cert.{Cert}
 use Rattle.pending_list.specs.declared.signed.Signed.{Signed}
@@ -25,15 +26,15 @@ abbrev pub committed : List Event → List (Signed Structure)
 committed es = filter_map as_committed es
 
 -- the structure that a user committed last
-abbrev pub last_of : ℕ → List Event → Option (Signed Structure)
+abbrev pub last_of : User → List Event → Option (Signed Structure)
 last_of user es = find (λ s. s.value.plan.user == user) (committed es)
 
 -- the users below this number, in order
-unfoldable pub users_below : ℕ → List ℕ
+unfoldable pub users_below : ℕ → List User
 users_below zero = []
 users_below (suc n) = users_below n ++ n ∷ []
 
-abbrev pub users : List ℕ
+abbrev pub users : List User
 users = users_below 64
 
 -- the latest structure of each user, ascending by user

@@ -1,6 +1,7 @@
 -- What the server keeps, beside the calls themselves: each part of it is a function of the events.
-use Rattle.std.specs.Prelude.{ℕ, List, [], ◌∷◌, ◌++◌, Option, Bool, ◌==◌, ◌&&◌, not, find, filter, filter_map, map}
+use Rattle.std.specs.Prelude.{List, [], ◌∷◌, ◌++◌, Option, Bool, ◌==◌, ◌&&◌, not, find, filter, filter_map, map}
 use Rattle.std.specs.Option.{option_map}
+use Rattle.layout.specs.Types.{Bytes, Group, Key, User}
 use Rattle.version_order.specs.declared.vector.Component.{Component}
 use Rattle.version_order.specs.declared.plan.Entry.{Entry}
 use Rattle.version_order.specs.Vector.{version_of, raised, raised_all}
@@ -17,7 +18,7 @@ use Rattle.consistency_server.specs.Tables.{after_operation}
 -- an operation as it was placed, and the text of its reply, which was made then
 pub record Placement : Type 0 where
   pub item : PendingItem
-  pub reply : List ℕ
+  pub reply : Bytes
 
 pub record State : Type 0 where
   -- the table of principals after all operations that were placed
@@ -33,15 +34,15 @@ pub record State : Type 0 where
 
 -- The groups that a certificate raises where the operation before it has this vector: who is a member is judged at user 0's
 -- number there.
-abbrev pub groups_raised : Table → List Component → Cert → List ℕ
-groups_raised table vector c = groups_at table (version_of 0 vector) c
+abbrev pub next_groups : Table → List Component → Cert → List Group
+next_groups table vector c = groups_at table (version_of 0 vector) c
 
 -- its own vector: one more for its user, and for each group that it raises
 abbrev pub next_vector : Table → List Component → Cert → List Component
-next_vector table vector c = raised_all (groups_raised table vector c) (raised c.user vector)
+next_vector table vector c = raised_all (next_groups table vector c) (raised c.user vector)
 
 -- the operation of a user among these
-abbrev pub pending_of : ℕ → List Placement → Option Placement
+abbrev pub pending_of : User → List Placement → Option Placement
 pending_of user ws = find (λ w. w.item.plan.user == user) ws
 
 -- an entry for each of these, ascending by user
@@ -72,19 +73,19 @@ next_placement state c = record { item = next_item state c; reply = reply.spell 
 
 -- ---- after events, the newest first, where this is the key that every client knows
 
-unfoldable pub table_after : List ℕ → List Event → Table
+unfoldable pub table_after : Key → List Event → Table
 table_after pinned [] = genesis pinned
 table_after pinned (Placed c ∷ es) = after_operation c.value (table_after pinned es)
 table_after pinned (Committed s ∷ es) = table_after pinned es
 
 -- the vector of the operation that was placed last
-unfoldable pub vector_after : List ℕ → List Event → List Component
+unfoldable pub vector_after : Key → List Event → List Component
 vector_after pinned [] = []
 vector_after pinned (Placed c ∷ es) = next_vector (table_after pinned es) (vector_after pinned es) c.value
 vector_after pinned (Committed s ∷ es) = vector_after pinned es
 
 -- what is kept where these operations are pending
-abbrev pub with_pending : List ℕ → List Event → List Placement → State
+abbrev pub with_pending : Key → List Event → List Placement → State
 with_pending pinned es ws = record {
   table = table_after pinned es;
   vector = vector_after pinned es;
@@ -97,11 +98,11 @@ abbrev pub commits : Signed Structure → Placement → Bool
 commits s w = (s.value.plan.user == w.item.plan.user) && (s.value.plan.number == w.item.plan.number)
 
 -- an operation that is placed is pending after the others, until its structure is committed
-unfoldable pub pending_after : List ℕ → List Event → List Placement
+unfoldable pub pending_after : Key → List Event → List Placement
 pending_after pinned [] = []
 pending_after pinned (Placed c ∷ es) =
     pending_after pinned es ++ next_placement (with_pending pinned es (pending_after pinned es)) c ∷ []
 pending_after pinned (Committed s ∷ es) = filter (λ w. not (commits s w)) (pending_after pinned es)
 
-abbrev pub state_after : List ℕ → List Event → State
+abbrev pub state_after : Key → List Event → State
 state_after pinned es = with_pending pinned es (pending_after pinned es)

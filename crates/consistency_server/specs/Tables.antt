@@ -1,5 +1,5 @@
 -- What operations make of the table of principals.
-use Rattle.std.specs.Prelude.{List, [], ◌∷◌, Option, Some, None, false, ◌==◌, if◌then◌else◌}
+use Rattle.std.specs.Prelude.{List, [], ◌∷◌, Some, None, false, ◌==◌, if◌then◌else◌}
 use Rattle.layout.specs.Types.{Digest, Version}
 use Rattle.principals.specs.Table.{Table}
 use Rattle.update_cert.specs.Change.{Change}

@@ -3,18 +3,18 @@ use Rattle.std.proofs.Common.{◌≡◌, sym, ap, ◌∙◌}
 use Rattle.std.specs.Prelude.{not}
 use Rattle.version_order.specs.Vector.{version_of}
 use Rattle.pending_list.specs.Groups.{groups_at}
-use Rattle.consistency_server.specs.State.{State, groups_raised, entries_of}
+use Rattle.consistency_server.specs.State.{State, next_groups, entries_of}
 use Rattle.consistency_server.proofs.Texts.{with_ok}
 use Rattle.consistency_server.proofs.Serving.{on_ok}
 use Rattle.consistency_server.proofs.Placing.{planned, limit_is}
 use Rattle.consistency_server.proofs.state.State.plan.Given as given
 use Rattle.consistency_server.proofs.state.State.plan.Goals as goal
 
-groups : (g : given.Over) (c : goal.After-drop-groups-2 g) → c.deref-2.result.now ≡ groups_raised c.args.self.now.table c.args.self.now.vector c.args.cert.now
+groups : (g : given.Over) (c : goal.After-drop-groups-2 g) → c.deref-2.result.now ≡ next_groups c.args.self.now.table c.args.self.now.vector c.args.cert.now
 groups g c =
     c.deref-2.ensures.value ∙ c.in_ok-groups.ensures
     ∙ ap (λ n. groups_at c.self.inside.table n c.args.cert.now) (c.version_of-number.ensures ∙ ap (λ p. version_of p c.self.inside.vector) (c.from.ensures ∙ c.superuser.ensures))
-    ∙ ap (λ (s : State). groups_raised s.table s.vector c.args.cert.now) c.self.view_is
+    ∙ ap (λ (s : State). next_groups s.table s.vector c.args.cert.now) c.self.view_is
 
 entries : (g : given.Over) (c : goal.After-drop-groups-2 g) → c.in_ok-entries.entries ≡ entries_of c.args.self.now.pending
 entries g c = c.in_ok-entries.ensures ∙ ap entries_of c.deref.ensures.value ∙ ap (λ (s : State). entries_of s.pending) c.self.view_is
