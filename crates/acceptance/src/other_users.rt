@@ -26,12 +26,7 @@ fn reply_after(rt: &impl Host, structure: &[u8], update: &[u8]) -> Vec<u8> {
 /// A reply after user 0's structure with this signature breaks the rule.
 fn breaks_after(rt: &impl Host, client: &mut Client<Global>, structure: &[u8], rule: Rule) {
     let update = declare(rt, client);
-    breaks(
-        rt,
-        client,
-        &reply_after(rt, structure, &update),
-        Some(rule),
-    );
+    breaks(rt, client, &reply_after(rt, structure, &update), Some(rule));
 }
 
 /// A new client of user 1.

@@ -1,23 +1,24 @@
 -- A table takes in a chunk that stands after its own.
 use Rattle.std.proofs.Common.{◌≡◌, ◌≢◌, ℕ, zero, suc, ◌+◌, ◌<◌, ◌≤◌, Bool, true, false, List, [], ◌∷◌, ◌++◌, length, set, Option, Some, None, refl, sym, ap, subst, ◌∙◌, inl, inr, arith}
-use Rattle.std.specs.Prelude.{filter, filter_map}
+use Rattle.std.specs.Prelude.{◌==◌, filter, filter_map, if◌then◌else◌}
 use Rattle.std.specs.Int.{w8, w16}
 use Rattle.std.specs.List.{All, range_with_len, cons_option}
 use Rattle.std.specs.Option.{option_map}
 use Rattle.std.specs.Ordering.{nat_cmp, is_eq}
 use Rattle.std.proofs.lemmas.Bool.{cases_eq, eqb-true, eq-eqb, ne_eqb}
+use Rattle.std.proofs.lemmas.Bool.Decides.{nat_tests}
 use Rattle.std.proofs.lemmas.Cmp.{nat_cmp_total}
 use Rattle.std.proofs.lemmas.List.{append-nil}
 use Rattle.std.proofs.lemmas.List.Elements.{All-append, All-cons, All-head, All-nil, All-tail, All-weaker, filter-append}
 use Rattle.layout.specs.Hash.{hash}
 use Rattle.layout.specs.Laws.{in_range}
 use Rattle.layout.specs.Ascending.{above, Ascends, row_at}
-use Rattle.layout.specs.AscendingLaws.{Ordered, ascends_from_fits}
+use Rattle.layout.specs.AscendingLaws.{Ordered, ascends_from_fits, HasOther, row_in_first, row_in_last}
 use Rattle.itable.specs.declared.chunk.Pair.{Pair}
 use Rattle.itable.specs.declared.root.ListedChunk.{ListedChunk}
 use Rattle.itable.specs.Chunk.{Chunk, chunk, chunk_number, i_number_of, pair_row}
 use Rattle.itable.specs.Root.{number_of}
-use Rattle.itable.specs.ITable.{ITable, IsPair, IsTable, is_in, listing, listings, text_of_chunk}
+use Rattle.itable.specs.ITable.{ITable, IsPair, IsTable, digest_at, digest_in, is_in, listing, listings, text_of_chunk}
 use Rattle.itable.specs.Known.{IsKept}
 use Rattle.itable.proofs.ChunkLaws.{no_text, found_first}
 use Rattle.itable.proofs.KnownLaws.{Known, keeps_others, keeps_more}
@@ -153,6 +154,17 @@ cons_front : (o : Option ListedChunk) (x : ListedChunk) (xs ys : List ListedChun
 cons_front None x xs ys e = e
 cons_front (Some y) x xs ys e = ap (λ (zs : List ListedChunk). y ∷ zs) e
 
+-- ---- the row of an i-number in both lists
+
+other_number : (a b : ℕ) → a ≢ b → is_eq (nat_cmp a b) ≡ false
+other_number a b apart = grind (arith, nat_tests)
+
+below_apart : (a i n : ℕ) → chunk_number a < n → chunk_number i ≡ n → is_eq (nat_cmp a i) ≡ false
+below_apart a i n lower same = other_number a i (λ e. let both : chunk_number a ≡ chunk_number i = ap chunk_number e in absurd (omega (arith, lower, same, both)))
+
+chunk_apart : (a i n : ℕ) → chunk_number a ≡ n → (chunk_number i == n) ≡ false → is_eq (nat_cmp a i) ≡ false
+chunk_apart a i n of other = other_number a i (λ e. let clash = sym other ∙ eq-eqb (chunk_number i) n (ap chunk_number (sym e) ∙ of) in absurd cc)
+
 -- ---- the table with the chunk
 
 abbrev pub with_chunk : ITable → Chunk → ITable
@@ -191,6 +203,17 @@ module _ (t : ITable) (c : Chunk) (is : IsTable t) (fits : chunk.Fits c) (below 
   pub text_here : text_of_chunk (with_chunk t c) c.number ≡ Some (chunk.spell c)
   unfolding text_of_chunk
   text_here = rw pairs_here (rw (ne_eqb (length c.pairs) 0 (some_pairs c fits)) refl)
+
+  digests_step : (i : ℕ) (in_chunk : Bool) → (chunk_number i == c.number) ≡ in_chunk → digest_at (with_chunk t c) i ≡ (if in_chunk then digest_in c.pairs i else digest_at t i)
+  digests_step i true here =
+      ap (option_map (λ p. p.digest))
+      (row_in_last nat_cmp i_number_of t.pairs c.pairs i (All-weaker (IsBelow c.number) (HasOther nat_cmp i_number_of i) (λ p below_it. below_apart p.i_number i c.number below_it (eqb-true (chunk_number i) c.number here)) t.pairs lower))
+  digests_step i false other =
+      ap (option_map (λ p. p.digest))
+      (row_in_first nat_cmp i_number_of t.pairs c.pairs i (All-weaker (IsOf c.number) (HasOther nat_cmp i_number_of i) (λ p of. chunk_apart p.i_number i c.number of.1 other) c.pairs mine.0))
+
+  pub digests_loaded : (i : ℕ) → digest_at (with_chunk t c) i ≡ (if chunk_number i == c.number then digest_in c.pairs i else digest_at t i)
+  digests_loaded i = digests_step i (chunk_number i == c.number) refl
 
   none_from : (m : ℕ) → c.number ≤ m → text_of_chunk t m ≡ None
   unfolding text_of_chunk

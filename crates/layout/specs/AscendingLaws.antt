@@ -1,6 +1,6 @@
 -- Nobody has to believe this file: laws, which are proved.
 -- The laws of rows that ascend by a key.
-use Rattle.std.proofs.Common.{◌≡◌, ℕ, zero, suc, ◌+◌, ◌<◌, ◌≤◌, Bool, true, false, cond, List, [], ◌∷◌, length, get_or, Option, Some, None, Result, Ok, Err, refl, sym, ap, subst, ◌∙◌, arith}
+use Rattle.std.proofs.Common.{◌≡◌, ℕ, zero, suc, ◌+◌, ◌<◌, ◌≤◌, Bool, true, false, cond, List, [], ◌∷◌, ◌++◌, length, get_or, Option, Some, None, Result, Ok, Err, refl, sym, ap, subst, ◌∙◌, arith}
 use Rattle.std.specs.Prelude.{MatchResult, slice_index_or}
 use Rattle.std.specs.Cmp.{IsTotalOrder}
 use Rattle.std.specs.List.{All, slice_set, insert, remove}
@@ -11,7 +11,7 @@ use Rattle.std.specs.declared.cmp.Ordering.TheVariants.{Less, Equal, Greater}
 use Rattle.std.proofs.lemmas.Cmp.{tied_back, tied_itself, alike_right, eq_by_cmp_equiv}
 use Rattle.std.proofs.lemmas.List.Sorted.{searchable_from_sorted}
 use Rattle.std.proofs.lemmas.List.Elements.{All-nil, All-head, All-tail, All-cons}
-use Rattle.layout.specs.Format.{Rows, FitRows}
+use Rattle.layout.specs.Format.{RowAfter, after_row, FitRows}
 use Rattle.layout.specs.Ascending.{above, Ascends, row_at, with_row, without_row, Stands, IsFree}
 
 is_less : (o : Ordering) → is_lt o ≡ true → o ≡ Less
@@ -25,6 +25,24 @@ some_is e = cc
 either_way : {A : Type 0} (t : Bool) (x : A) → x ≡ cond t x x
 either_way true x = refl
 either_way false x = refl
+
+-- ---- rows in two lists, of which one has no row with the key
+
+module _ {T K : Type 0} (cmp : K → K → Ordering) (key : T → K) where
+  abbrev pub HasOther : K → T → Type 0
+  HasOther k x = is_eq (cmp (key x) k) ≡ false
+
+  pub no_row : (xs : List T) (k : K) → All (HasOther k) xs → row_at cmp key xs k ≡ None
+  no_row [] k all = refl
+  no_row (x ∷ xs) k all = rw (All-head (HasOther k) x xs all) (no_row xs k (All-tail (HasOther k) x xs all))
+
+  pub row_in_last : (xs ys : List T) (k : K) → All (HasOther k) xs → row_at cmp key (xs ++ ys) k ≡ row_at cmp key ys k
+  row_in_last [] ys k all = refl
+  row_in_last (x ∷ xs) ys k all = rw (All-head (HasOther k) x xs all) (row_in_last xs ys k (All-tail (HasOther k) x xs all))
+
+  pub row_in_first : (xs ys : List T) (k : K) → All (HasOther k) ys → row_at cmp key (xs ++ ys) k ≡ row_at cmp key xs k
+  row_in_first [] ys k all = no_row ys k all
+  row_in_first (x ∷ xs) ys k all = ap (λ (o : Option T). cond (is_eq (cmp (key x) k)) (Some x) o) (row_in_first xs ys k all)
 
 module _ {T K : Type 0} (cmp : K → K → Ordering) (key : T → K) (total : IsTotalOrder cmp) where
   turned : (a b : K) (o : Ordering) → cmp a b ≡ o → cmp b a ≡ ordering_reverse o
@@ -282,11 +300,11 @@ module _ {T K : Type 0} (cmp : K → K → Ordering) (key : T → K) (total : Is
   -- ---- rows of a text
 
   -- a row of this format is one of these, above the one before
-  pub record Ordered (row : Rows T) (Each : T → Type 0) : Type 0 where
+  pub record Ordered (row : RowAfter T) (Each : T → Type 0) : Type 0 where
     pub splits : (b : Option T) (x : T) → (row b).Fits x → Each x × (above cmp key b (key x) ≡ true)
     pub joins : (b : Option T) (x : T) → Each x → above cmp key b (key x) ≡ true → (row b).Fits x
 
-  pub ascends_from_fits : (row : Rows T) (Each : T → Type 0) → Ordered row Each → (b : Option T) (xs : List T) → FitRows row b xs → All Each xs × Ascends cmp key b xs
+  pub ascends_from_fits : (row : RowAfter T) (Each : T → Type 0) → Ordered row Each → (b : Option T) (xs : List T) → FitRows (after_row row) b xs → All Each xs × Ascends cmp key b xs
   unfolding FitRows Ascends
   ascends_from_fits row Each ordered b [] fits = (All-nil Each, tt)
   ascends_from_fits row Each ordered b (x ∷ xs) fits =
@@ -294,7 +312,7 @@ module _ {T K : Type 0} (cmp : K → K → Ordering) (key : T → K) (total : Is
       let later = ascends_from_fits row Each ordered (Some x) xs fits.1 in
       (All-cons Each x xs one.0 later.0, (one.1, later.1))
 
-  pub fits_from_ascends : (row : Rows T) (Each : T → Type 0) → Ordered row Each → (b : Option T) (xs : List T) → All Each xs → Ascends cmp key b xs → FitRows row b xs
+  pub fits_from_ascends : (row : RowAfter T) (Each : T → Type 0) → Ordered row Each → (b : Option T) (xs : List T) → All Each xs → Ascends cmp key b xs → FitRows (after_row row) b xs
   unfolding FitRows Ascends
   fits_from_ascends row Each ordered b [] all up = tt
   fits_from_ascends row Each ordered b (x ∷ xs) all up = (ordered.joins b x (All-head Each x xs all) up.0, fits_from_ascends row Each ordered (Some x) xs (All-tail Each x xs all) up.1)

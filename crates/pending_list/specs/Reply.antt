@@ -5,7 +5,7 @@ use Rattle.std.specs.Prelude.{ℕ, ◌==◌, Bool, ◌&&◌, ◌||◌, List, [],
 use Rattle.std.specs.Int.{w8, w16}
 use Rattle.std.specs.List.{All}
 use Rattle.std.specs.Option.{option_map_or}
-use Rattle.layout.specs.Format.{Format, Rows, uint_in, pair, headed, mapped, listed, nested}
+use Rattle.layout.specs.Format.{Format, RowAfter, uint_in, pair, headed, mapped, listed, nested}
 use Rattle.layout.specs.Laws.{Lawful, laws, lawful_mapped, wide8, wide16, listed_fits, rows_fit}
 use Rattle.layout.specs.Sizes.{AtMost, at_most_listed, at_most_headed, at_most_mapped, at_most_pair, at_most_nested, nested_fits}
 use Rattle.layout.specs.Ranges.{size}
@@ -39,10 +39,10 @@ pending_item =
     mapped (λ p. record { cert = p.0.value; signature = p.0.signature; plan = p.1 }) (λ i. (record { value = i.cert; signature = i.signature }, i.plan))
     (pair (signed (nested size cert)) (nested size plan))
 
-abbrev pub structure_rows : Rows (Signed Structure)
+abbrev pub structure_rows : RowAfter (Signed Structure)
 structure_rows before = signed_structure
 
-abbrev pub pending_rows : Rows PendingItem
+abbrev pub pending_rows : RowAfter PendingItem
 pending_rows before = pending_item
 
 abbrev pub reply : Format Reply
