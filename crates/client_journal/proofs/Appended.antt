@@ -1,11 +1,11 @@
 -- `append`: a record after a gate that isn't open, a sync, and then the gate.
-use Rattle.std.proofs.Common.{◌≡◌, ◌≢◌, inl, inr, ℕ, ◌+◌, ◌<◌, ◌≤◌, ◌^◌, List, [], ◌∷◌, ◌++◌, length, get_or, take, drop, true, false, Option, Some, None, option_map, refl, sym, ◌∙◌, ap, subst, arith}
+use Rattle.std.proofs.Common.{◌≡◌, inl, inr, ℕ, ◌+◌, ◌<◌, ◌^◌, List, [], ◌∷◌, ◌++◌, length, get_or, take, drop, true, Some, None, refl, sym, ◌∙◌, ap, subst, arith}
 use Rattle.std.proofs.lemmas.List.{append_assoc, append-nil, take_at, drop_at, take-take, drop-take, get_or-append-add, length-append}
 use Rattle.leaf_ledger.specs.Device.{Disk, History, Torn, Throughout, extent, at_rest, written, wrote_bytes, WroteSome, synced}
 use Rattle.leaf_ledger.specs.Moments.{along, weakened, some_put, all_put}
 use Rattle.leaf_ledger.specs.declared.extent.Extent.{Extent}
-use Rattle.client_journal.specs.Records.{Record, State, Idle, Declared, Signed, next_state, may_come, state_of, header, spelled, chain, records_of, TellsWithOrWithout}
-use Rattle.client_journal.specs.Places.{part, state_at, IsBelow, AreBelow, IsShort, Reaches, Ends, IsReady, KeepsFront}
+use Rattle.client_journal.specs.Records.{Record, State, Idle, Declared, Signed, next_state, may_come, header, spelled, chain, records_of, TellsWithOrWithout, IsShort}
+use Rattle.client_journal.specs.Places.{part, state_at, IsBelow, AreBelow, Reaches, Ends, IsReady, KeepsFront}
 use Rattle.client_journal.specs.declared.phase.Phase.{Phase}
 use Rattle.client_journal.specs.declared.phase.Phase.TheVariants as phase
 use Rattle.client_journal.specs.declared.kind.Kind.{Kind}

@@ -1,11 +1,10 @@
 -- The records of a chain are those that were chained.
-use Rattle.std.proofs.Common.{◌≡◌, ◌≢◌, ℕ, zero, suc, ◌+◌, ◌-◌, ◌<◌, ◌≤◌, ◌^◌, List, [], ◌∷◌, ◌++◌, length, take, drop, get_or, true, false, eqb, leb, inl, inr, Option, Some, None, option_map, refl, sym, ◌∙◌, ap, subst, arith}
+use Rattle.std.proofs.Common.{◌≡◌, ◌≢◌, ℕ, zero, suc, ◌+◌, ◌-◌, ◌<◌, ◌≤◌, List, [], ◌∷◌, ◌++◌, length, true, false, eqb, leb, inl, inr, Option, Some, None, option_map, refl, sym, ◌∙◌, ap, arith}
 use Rattle.std.specs.Option.{option_and_then}
 use Rattle.std.proofs.lemmas.Bool.{cases_lt, ne_eqb, lt-leb, le-leb}
 use Rattle.std.proofs.lemmas.List.{append-nil, append_assoc, length-append}
-use Rattle.client_journal.specs.Records.{Record, State, Idle, next_state, state_after, state_of, spelled, chain, record_at, records_from, records_of}
-use Rattle.client_journal.specs.Places.{AllShort, IsShort}
-use Rattle.client_journal.proofs.Headers.{record_again, length-spelled}
+use Rattle.client_journal.specs.Records.{Record, State, Idle, next_state, state_after, state_of, spelled, chain, record_at, records_from, records_of, AllShort, IsShort}
+use Rattle.client_journal.proofs.Headers.{record_again}
 
 same_option : {A : Type 0} (o : Option A) → o ≡ option_map (λ x. x) o
 same_option None = refl

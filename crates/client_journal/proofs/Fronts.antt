@@ -1,7 +1,7 @@
 -- A run of writes from a place on: what stands before it stays, whatever crash comes.
 use Rattle.std.proofs.Common.{◌≡◌, inl, inr, ℕ, ◌+◌, ◌≤◌, List, [], ◌∷◌, ◌++◌, length, take, refl, sym, ◌∙◌, ap, subst, arith}
-use Rattle.std.proofs.lemmas.List.{append_assoc, length-append, take-take}
-use Rattle.leaf_ledger.specs.Device.{Disk, History, Torn, Leaves, Throughout, extent, at_rest, written, wrote, wrote_bytes, WroteSome, synced}
+use Rattle.std.proofs.lemmas.List.{length-append, take-take}
+use Rattle.leaf_ledger.specs.Device.{Disk, History, Torn, Leaves, Throughout, extent, at_rest, written, wrote_bytes, WroteSome, synced}
 use Rattle.leaf_ledger.specs.Moments.{rests, stayed, one_more, along, one_write, some_write}
 use Rattle.leaf_ledger.specs.Writes.{AreAfter, after-push, torn_front, written_front, length-written, written_on}
 use Rattle.client_journal.specs.Places.{KeepsFront}

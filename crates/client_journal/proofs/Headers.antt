@@ -1,13 +1,12 @@
 -- What a record begins with, and a record at the front of bytes.
-use Rattle.std.proofs.Common.{◌≡◌, ℕ, ◌+◌, ◌<◌, ◌≤◌, ◌^◌, List, [], ◌∷◌, ◌++◌, length, take, drop, get_or, true, false, ltb, eqb, inl, inr, Option, Some, None, refl, sym, ◌∙◌, ap, arith, take-append-drop}
+use Rattle.std.proofs.Common.{◌≡◌, ℕ, ◌+◌, ◌<◌, ◌≤◌, ◌^◌, List, [], ◌∷◌, ◌++◌, length, take, drop, get_or, true, false, ltb, eqb, inl, inr, Option, Some, None, option_map, refl, sym, ◌∙◌, ap, arith, take-append-drop}
 use Rattle.std.specs.Int.{w32, to_be_bytes, from_be_bytes}
-use Rattle.std.proofs.lemmas.Nat.{from_be_bytes-to_be_bytes_4}
+use Rattle.std.proofs.lemmas.Nat.{be_bytes_4, from_be_bytes-to_be_bytes_4}
 use Rattle.std.proofs.lemmas.Bool.{lt-ltb, le-ltb, cases_eq, ne_eqb}
 use Rattle.std.specs.Option.{option_and_then}
 use Rattle.std.specs.Prelude.{nat_lt, if◌then◌else◌}
-use Rattle.std.proofs.lemmas.List.{append_assoc, take_at, drop_at, drop-drop, length-append, length-take, length-drop}
-use Rattle.client_journal.specs.Records.{Record, kind_of, number_of, header, header_of, record_at, spelled}
-use Rattle.client_journal.specs.Places.{IsShort}
+use Rattle.std.proofs.lemmas.List.{append_assoc, take_at, drop_at, drop-drop, length-append, length-take, length-drop, get_or-drop}
+use Rattle.client_journal.specs.Records.{Record, kind_of, number_of, header, header_of, record_at, spelled, IsShort}
 use Rattle.client_journal.specs.declared.kind.Kind.{Kind}
 use Rattle.client_journal.specs.declared.kind.Kind.TheVariants.{Certificate, Structure}
 
@@ -35,6 +34,34 @@ kind_takes n kind is = elim (cases_eq n 1) [
         let here : kind_of n ≡ None = rw (first, second) refl in absurd (cc (here, is))
   ]
 ]
+
+pub cells : (bytes : List ℕ) → length bytes ≡ 5 → get_or bytes 1 0 ∷ get_or bytes 2 0 ∷ get_or bytes 3 0 ∷ get_or bytes 4 0 ∷ [] ≡ drop 1 bytes
+cells bytes size = ap (λ (l : List ℕ). drop 1 l) (five bytes size)
+
+pub reads : (bytes : List ℕ) (o : Option Kind) → kind_of (get_or bytes 0 0) ≡ o → option_map (λ kind. (kind, from_be_bytes w32 (drop 1 bytes))) o ≡ header_of bytes
+unfolding header_of
+reads bytes o is = ap (λ (o : Option Kind). option_map (λ kind. (kind, from_be_bytes w32 (drop 1 bytes))) o) (sym is)
+
+pub header_so : (bytes : List ℕ) (kind : Kind) (n : ℕ) → length bytes ≡ 5 → ((i : ℕ) → get_or bytes i 0 < 256) → kind_of (get_or bytes 0 0) ≡ Some kind → n ≡ from_be_bytes w32 (drop 1 bytes) → bytes ≡ header kind n
+unfolding header
+header_so bytes kind n size fits is number =
+    let rest : to_be_bytes w32 n ≡ drop 1 bytes =
+    be_bytes_4 (drop 1 bytes) n (omega (arith, length-drop 1 bytes, size)) (λ i. omega (arith, get_or-drop 1 bytes i 0, fits (1 + i))) number in
+    sym (five bytes size)
+    ∙ ap (λ (l : List ℕ). get_or bytes 0 0 ∷ l) (cells bytes size ∙ sym rest)
+    ∙ ap (λ (k : ℕ). k ∷ to_be_bytes w32 n) (kind_takes (get_or bytes 0 0) kind is)
+
+kind_and_size : (o : Option Kind) (m : ℕ) (kind : Kind) (n : ℕ) → option_map {U = Kind × ℕ} (λ k. (k, m)) o ≡ Some (kind, n) → (o ≡ Some kind) × (n ≡ m)
+kind_and_size None m kind n is = absurd (cc is)
+kind_and_size (Some k) m kind n is =
+    let pairs : ◌≡◌ {A = Kind × ℕ} (k, m) (kind, n) = cc in (ap (λ (p : Kind × ℕ). Some p.0) pairs, sym (ap (λ (p : Kind × ℕ). p.1) pairs))
+
+-- five bytes that are read as a header are that header
+pub header_takes : (bytes : List ℕ) (kind : Kind) (n : ℕ) → length bytes ≡ 5 → ((i : ℕ) → get_or bytes i 0 < 256) → header_of bytes ≡ Some (kind, n) → bytes ≡ header kind n
+unfolding header_of
+header_takes bytes kind n size fits is =
+    let both = kind_and_size (kind_of (get_or bytes 0 0)) (from_be_bytes w32 (drop 1 bytes)) kind n is in
+    header_so bytes kind n size fits both.0 both.1
 
 pub length-header : (kind : Kind) (n : ℕ) → length (header kind n) ≡ 5
 unfolding header

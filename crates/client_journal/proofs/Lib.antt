@@ -5,3 +5,4 @@ mod Headers
 mod Opened
 mod Reached
 mod Staged
+mod Takes

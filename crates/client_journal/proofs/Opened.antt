@@ -1,12 +1,11 @@
 -- A file of at most one byte is a new journal, before and after its gate is written.
-use Rattle.std.proofs.Common.{◌≡◌, ◌≢◌, inl, inr, ℕ, ◌+◌, ◌<◌, ◌≤◌, ◌^◌, true, List, [], ◌∷◌, ◌++◌, length, leb, take, drop, get_or, Option, Some, refl, sym, ◌∙◌, ap, subst, arith}
+use Rattle.std.proofs.Common.{◌≡◌, ℕ, ◌≤◌, true, List, [], ◌∷◌, length, leb, Option, Some, refl, sym, ◌∙◌, ap, subst, arith}
 use Rattle.std.proofs.lemmas.Bool.{le-leb}
-use Rattle.std.proofs.lemmas.List.{drop_all, length-append}
+use Rattle.std.proofs.lemmas.List.{drop_all}
 use Rattle.leaf_ledger.specs.Device.{Disk, History, Torn, Leaves, Throughout, extent, at_rest, written, wrote_bytes, WroteSome, synced}
 use Rattle.leaf_ledger.specs.Moments.{rests, stayed, one_more, along, some_put, all_put}
 use Rattle.client_journal.specs.Records.{Record, records_of}
-use Rattle.client_journal.specs.Places.{Reaches, Ends, IsReady}
-use Rattle.client_journal.specs.declared.phase.Phase.{Phase}
+use Rattle.client_journal.specs.Places.{Ends, IsReady}
 use Rattle.client_journal.specs.declared.phase.Phase.TheVariants as phase
 use Rattle.client_journal.proofs.Reached.{at_first}
 

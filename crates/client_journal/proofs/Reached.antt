@@ -1,16 +1,15 @@
 -- One record further in a file, and files that are damaged.
-use Rattle.std.proofs.Common.{◌≡◌, ◌≢◌, ℕ, zero, suc, ◌+◌, ◌-◌, ◌<◌, ◌≤◌, ◌^◌, List, [], ◌∷◌, ◌++◌, length, take, drop, get_or, true, false, eqb, leb, Option, Some, None, Err, IsErrOf, option_map, refl, sym, ◌∙◌, ap, subst, arith}
+use Rattle.std.proofs.Common.{◌≡◌, ◌≢◌, ℕ, zero, suc, ◌+◌, ◌-◌, ◌<◌, ◌≤◌, ◌^◌, List, [], ◌∷◌, ◌++◌, length, drop, get_or, false, leb, Option, Some, None, Err, IsErrOf, option_map, refl, sym, ◌∙◌, ap, arith}
 use Rattle.std.specs.Option.{option_and_then}
 use Rattle.std.proofs.lemmas.Bool.{lt-leb}
-use Rattle.std.proofs.lemmas.List.{append_assoc, length-append, length-drop, length-take}
+use Rattle.std.proofs.lemmas.List.{length-append, length-drop, length-take}
 use Rattle.std.proofs.Math.Seq.{drop-cons}
 use Rattle.leaf_ledger.specs.declared.extent.Extent.{Extent}
-use Rattle.client_journal.specs.Records.{Record, State, Idle, next_state, state_after, state_of, spelled, chain, record_at, records_from, records_of, told}
-use Rattle.client_journal.specs.Places.{part, state_at, IsBelow, AreBelow, AllShort, IsShort, Reaches, Ends}
+use Rattle.client_journal.specs.Records.{Record, State, Idle, next_state, state_of, spelled, chain, record_at, records_from, records_of, told}
+use Rattle.client_journal.specs.Places.{part, state_at, AreBelow, Reaches, Ends}
 use Rattle.client_journal.specs.declared.kind.Kind.{Kind}
 use Rattle.client_journal.specs.declared.phase.Phase.{Phase}
 use Rattle.client_journal.specs.declared.phase.Phase.TheVariants as phase
-use Rattle.client_journal.proofs.Headers.{length-spelled}
 use Rattle.client_journal.proofs.Chains.{records_chain, state-push, short-push, chain-push, shut_after, no_longer}
 
 -- the gate, and what follows it

@@ -1,11 +1,11 @@
 -- What an append leaves: after a gate that isn't open, and at the gate.
-use Rattle.std.proofs.Common.{◌≡◌, ◌≢◌, inl, inr, ℕ, ◌+◌, ◌<◌, ◌≤◌, List, [], ◌∷◌, ◌++◌, length, get_or, set, take, drop, Some, refl, sym, ◌∙◌, ap, subst, arith, take-append-drop}
+use Rattle.std.proofs.Common.{◌≡◌, ◌≢◌, inl, inr, ℕ, ◌+◌, ◌<◌, List, [], ◌∷◌, ◌++◌, length, get_or, set, take, drop, Some, sym, ◌∙◌, ap, arith, take-append-drop}
 use Rattle.std.proofs.lemmas.Bool.{cases_eq}
 use Rattle.std.proofs.lemmas.List.{append_assoc, take_at, set_at, length-append}
 use Rattle.leaf_ledger.specs.Device.{Torn, extent, written}
 use Rattle.leaf_ledger.specs.Writes.{written_one, torn_one}
-use Rattle.client_journal.specs.Records.{Record, State, next_state, state_of, spelled, chain, records_of, TellsWithOrWithout, Idle}
-use Rattle.client_journal.specs.Places.{AllShort, IsShort, KeepsFront}
+use Rattle.client_journal.specs.Records.{Record, State, next_state, state_of, spelled, chain, records_of, TellsWithOrWithout, Idle, AllShort, IsShort}
+use Rattle.client_journal.specs.Places.{KeepsFront}
 use Rattle.client_journal.proofs.Chains.{state-push, short-push, chain-push, shut_after}
 
 -- a file whose records end at a gate that isn't open

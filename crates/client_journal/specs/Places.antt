@@ -1,9 +1,9 @@
 -- Where the texts of the last records lie in a journal's file.
 -- Nobody has to believe what stands here: it is how the journal keeps its state.
-use Rattle.std.specs.Prelude.{◌≡◌, ◌≢◌, ℕ, ◌+◌, ◌<◌, ◌≤◌, List, ◌++◌, length, take, drop, get_or, Option, Some, None, option_map, IfSome, ◌^◌, [], ◌∷◌}
+use Rattle.std.specs.Prelude.{◌≡◌, ◌≢◌, ℕ, ◌+◌, ◌<◌, ◌≤◌, List, ◌++◌, length, take, drop, get_or, Some, option_map, IfSome, ◌^◌}
 use Rattle.leaf_ledger.specs.Device.{Disk, at_rest}
 use Rattle.leaf_ledger.specs.declared.extent.Extent.{Extent}
-use Rattle.client_journal.specs.Records.{Record, State, Idle, Declared, Signed, state_of, chain}
+use Rattle.client_journal.specs.Records.{Record, State, Idle, Declared, Signed, state_of, chain, AllShort}
 use Rattle.client_journal.specs.declared.phase.Phase.{Phase}
 use Rattle.client_journal.specs.declared.phase.Phase.TheVariants as phase
 
@@ -26,14 +26,6 @@ abbrev pub AreBelow : ℕ → Phase → Type 0
 AreBelow end phase.Idle = Unit {0}
 AreBelow end (phase.Declared last certificate) = IfSome last (IsBelow end) × IsBelow end certificate
 AreBelow end (phase.Signed structure) = IsBelow end structure
-
--- each text's length has four bytes
-abbrev pub IsShort : Record → Type 0
-IsShort r = length r.text < 2 ^ 32
-
-abbrev pub AllShort : List Record → Type 0
-AllShort [] = Unit {0}
-AllShort (r ∷ rs) = IsShort r × AllShort rs
 
 -- up to a gate, the file is a chain of records, with the state whose texts lie there
 pub record Reaches (file : List ℕ) (gate : ℕ) (phase : Phase) : Type 0 where

@@ -1,6 +1,6 @@
 -- Records of a journal, the state that they tell, and the file that has them.
 -- The bytes stand in docs/FORMATS.md.
-use Rattle.std.specs.Prelude.{◌≡◌, ◌⊎◌, ℕ, zero, suc, ◌+◌, ◌<◌, Bool, true, false, List, [], ◌∷◌, ◌++◌, length, take, drop, get_or, Option, Some, None, option_map, nat_lt, nat_le, ◌==◌, if◌then◌else◌}
+use Rattle.std.specs.Prelude.{◌≡◌, ◌≢◌, ◌⊎◌, ℕ, zero, suc, ◌+◌, ◌<◌, ◌^◌, Bool, true, false, List, [], ◌∷◌, ◌++◌, length, take, drop, get_or, Option, Some, None, option_map, nat_lt, nat_le, ◌==◌, if◌then◌else◌}
 use Rattle.std.specs.Int.{w32, to_be_bytes, from_be_bytes}
 use Rattle.std.specs.Option.{option_and_then}
 use Rattle.leaf_ledger.specs.Device.{History, synced}
@@ -55,6 +55,24 @@ spelled r = header r.kind (length r.text) ++ r.text
 abbrev pub chain : List Record → List ℕ
 chain [] = []
 chain (r ∷ rs) = 1 ∷ (spelled r ++ chain rs)
+
+-- the length of the text has four bytes
+abbrev pub IsShort : Record → Type 0
+IsShort r = length r.text < 2 ^ 32
+
+abbrev pub AllShort : List Record → Type 0
+AllShort [] = Unit {0}
+AllShort (r ∷ rs) = IsShort r × AllShort rs
+
+-- The file is these records, none of them out of turn from this state on, each after an open gate; then comes a gate that
+-- isn't open, and whatever stands after it doesn't count.
+pub record IsChained (from : State) (rs : List Record) (file : List ℕ) : Type 0 where
+  pub gate : ℕ
+  pub rest : List ℕ
+  pub split : file ≡ chain rs ++ gate ∷ rest
+  pub shut : gate ≢ 1
+  pub state : State
+  pub in_turn : state_after from rs ≡ Some state
 
 -- the kind and the length that five bytes are, if there is such a kind
 unfoldable pub header_of : List ℕ → Option (Kind × ℕ)

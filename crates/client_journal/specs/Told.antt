@@ -1,5 +1,5 @@
 -- The state that a journal answers.
-use Rattle.std.specs.Prelude.{Option, option_map}
+use Rattle.std.specs.Prelude.{option_map}
 use Rattle.client_journal.specs.Records.{State, Idle, Declared, Signed}
 use Rattle.client_journal.specs.declared.state.JournalState.{JournalState}
 use Rattle.client_journal.specs.declared.state.JournalState.TheVariants as held

@@ -1,5 +1,5 @@
 -- What is surely used stays so through a whole life, so no leaf is handed out twice.
-use Rattle.std.proofs.Common.{◌≡◌, ◌≢◌, ◌⊎◌, inl, inr, ℕ, Bool, true, false, ◌||◌, nat_eq, IfSome, Option, Some, None, List, [], ◌∷◌, ◌++◌, length, get_or, not, ◌==◌, ◌+◌, refl, sym, ◌∙◌, ap, subst, arith}
+use Rattle.std.proofs.Common.{◌≡◌, ◌≢◌, ◌⊎◌, inl, inr, ℕ, Bool, true, false, ◌||◌, nat_eq, IfSome, Option, Some, None, List, [], ◌∷◌, length, get_or, not, ◌==◌, ◌+◌, refl, sym, ◌∙◌, ap, subst, arith}
 use Rattle.std.specs.List.{IsDistinct, AllByRecursion}
 use Rattle.std.proofs.lemmas.List.{append_cancel_right, get_or_past}
 use Rattle.leaf_ledger.specs.Device.{Disk, History, MayLeave, Leaves, EachLeaves, Throughout, at_rest, moments, started, synced}

@@ -1,8 +1,8 @@
 -- What marking a leaf does to a ledger's file, also where a crash cuts it short.
-use Rattle.std.proofs.Common.{◌≡◌, ◌≢◌, ◌⊎◌, inl, inr, ℕ, suc, ◌+◌, ◌-◌, ◌<◌, Bool, true, false, not, ◌||◌, ◌==◌, nat_eq, List, [], ◌∷◌, ◌++◌, length, get_or, set, take, drop, refl, sym, ◌∙◌, ap, subst, arith}
+use Rattle.std.proofs.Common.{◌≡◌, ◌≢◌, ◌⊎◌, inl, inr, ℕ, ◌+◌, ◌-◌, ◌<◌, Bool, true, false, not, ◌||◌, ◌==◌, nat_eq, List, [], ◌∷◌, ◌++◌, length, get_or, set, refl, sym, ◌∙◌, ap, subst, arith}
 use Rattle.std.proofs.lemmas.Bool.{cases_eq, cases_lt}
 use Rattle.std.proofs.lemmas.Bool.Decides.{nat_tests}
-use Rattle.std.proofs.lemmas.List.{append_assoc, set_split, set-append_right, get_or_past, get_or-append-add, get_or-set_same, get_or-set_other, length-append}
+use Rattle.std.proofs.lemmas.List.{set-append_right, get_or_past, get_or-append-add, get_or-set_same, get_or-set_other, length-append}
 use Rattle.leaf_ledger.specs.Device.{Disk, History, Torn, Throughout, extent, at_rest, wrote, written, WroteSome, synced}
 use Rattle.leaf_ledger.specs.Ledger.{is_used, UsedWith, UsedWithOrWithout, IsLeastFree}
 use Rattle.leaf_ledger.specs.Moments.{some_put, all_put}

@@ -1,5 +1,5 @@
 -- One call more, after those that were made.
-use Rattle.std.proofs.Common.{◌≡◌, ℕ, List, [], ◌∷◌, ◌++◌, Vec, refl, sym, ◌∙◌, ap}
+use Rattle.std.proofs.Common.{◌≡◌, ℕ, List, [], ◌∷◌, ◌++◌, Vec, refl, ◌∙◌, ap}
 use Rattle.leaf_ledger.specs.Device.{Disk, History, at_rest, extent, started, wrote, written, synced}
 use Rattle.leaf_ledger.specs.Recording.{after_call, replayed}
 use Rattle.leaf_ledger.specs.declared.extent.Extent.{Extent}

@@ -1,6 +1,6 @@
 -- What a write makes of a text, and what a torn one leaves of it: laws for the proofs of those who call a device.
 -- Nobody has to believe what stands here: it is proved.
-use Rattle.std.proofs.Common.{◌≡◌, ◌≢◌, inl, inr, ℕ, suc, ◌+◌, ◌-◌, ◌<◌, ◌≤◌, List, [], ◌∷◌, ◌++◌, length, get_or, set, take, drop, refl, sym, ◌∙◌, ap, arith}
+use Rattle.std.proofs.Common.{◌≡◌, inl, inr, ℕ, suc, ◌+◌, ◌<◌, ◌≤◌, List, [], ◌∷◌, ◌++◌, length, get_or, set, take, drop, sym, ◌∙◌, ap, arith}
 use Rattle.std.proofs.lemmas.Bool.{cases_eq, cases_lt}
 use Rattle.std.proofs.lemmas.List.{append_assoc, ext_get_or, set_split, take_at, drop_at, drop-drop, length-append, length-take, length-take-le, length-set, get_or-take, get_or-set_same, get_or-set_other}
 use Rattle.leaf_ledger.specs.Device.{Torn, IsOutside, extent, written}

@@ -2,7 +2,8 @@
 //! whatever crash comes.
 //!
 //! A `Device` holds the bytes of a file (specs/Device.antt says what its calls do and what a crash may leave), and a
-//! `Ledger` stands on one. `MemoryDevice` is a device in memory whose calls fail and which crashes as it is told.
+//! `Ledger` stands on one. `MemoryDevice` is a device in memory whose calls fail and which crashes as it is told,
+//! `FileDevice` one over a file of the system.
 #![tactic(auto)]
 
 mod device;
@@ -10,6 +11,9 @@ mod device_call;
 mod error;
 mod extent;
 mod fault;
+mod file;
+#[cfg(test)]
+mod file_tests;
 mod laws;
 mod ledger;
 mod load;
@@ -22,6 +26,7 @@ mod tests;
 pub use device::{Device, DeviceError, write_through};
 pub use error::LedgerError;
 pub use extent::Extent;
+pub use file::FileDevice;
 pub use laws::no_leaf_twice;
 pub use ledger::Ledger;
 pub use memory::{CrashError, MemoryDevice};

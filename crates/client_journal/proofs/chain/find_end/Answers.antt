@@ -1,4 +1,4 @@
-use Rattle.std.proofs.Common.{◌≤◌, length, sym, ◌∙◌, ap, arith}
+use Rattle.std.proofs.Common.{◌≤◌, length, ◌∙◌, ap, arith}
 use Rattle.leaf_ledger.specs.Device.{History}
 use Rattle.client_journal.proofs.Opened.{synced_once, gate_failed, gate_written, same_records}
 use Rattle.client_journal.proofs.chain.find_end.Goals as goal

@@ -1,4 +1,4 @@
-use Rattle.std.proofs.Common.{◌≡◌, ◌∷◌, [], ℕ, Some, Option, length, take, drop, sym, ◌∙◌, ap, arith, length-drop}
+use Rattle.std.proofs.Common.{◌≡◌, ℕ, Some, drop, sym, ◌∙◌, ap, arith, length-drop}
 use Rattle.client_journal.specs.Records.{header_of}
 use Rattle.client_journal.specs.declared.kind.Kind.{Kind}
 use Rattle.client_journal.proofs.Headers.{no_record, spells}

@@ -1,4 +1,4 @@
-use Rattle.std.proofs.Common.{rules, ◌≡◌, ◌∷◌, [], length, get_or, ◌∙◌}
+use Rattle.std.proofs.Common.{rules, ◌≡◌, length}
 use Rattle.client_journal.specs.Records.{header}
 use Rattle.client_journal.proofs.Headers.{four}
 use Rattle.client_journal.proofs.record.header.Goals as goal

@@ -1,6 +1,6 @@
-use Rattle.std.proofs.Common.{rules, ◌≡◌, ◌+◌, ◌∷◌, [], ◌++◌, ℕ, List, length, take, sym, ◌∙◌, ap, arith}
-use Rattle.leaf_ledger.specs.Device.{Disk, History, at_rest, written}
-use Rattle.client_journal.specs.Records.{Record, header, spelled}
+use Rattle.std.proofs.Common.{rules, ◌≡◌, ◌+◌, ◌∷◌, [], ◌++◌, ℕ, List, length, take, ◌∙◌, ap, arith}
+use Rattle.leaf_ledger.specs.Device.{History, at_rest, written}
+use Rattle.client_journal.specs.Records.{Record, spelled}
 use Rattle.client_journal.proofs.Fronts.{start, failed, failed_read, ends, unsynced, first, second, third, all_written}
 use Rattle.client_journal.proofs.staging.stage.Goals as goal
 

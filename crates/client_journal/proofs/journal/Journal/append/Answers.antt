@@ -1,6 +1,6 @@
-use Rattle.std.proofs.Common.{◌≡◌, ◌∷◌, [], ◌++◌, ◌<◌, ◌+◌, ◌^◌, ℕ, List, length, Some, None, true, sym, ◌∙◌, ap, subst, arith, inl, inr}
-use Rattle.leaf_ledger.specs.Device.{History, Throughout, extent, at_rest, written}
-use Rattle.client_journal.specs.Records.{JournalFile, Record, State, may_come, told, spelled, records_of, TellsWithOrWithout}
+use Rattle.std.proofs.Common.{◌≡◌, ◌∷◌, [], ◌++◌, ◌<◌, ◌+◌, ◌^◌, List, length, Some, true, sym, ◌∙◌, ap, subst, arith, inl, inr}
+use Rattle.leaf_ledger.specs.Device.{Throughout, extent, at_rest, written}
+use Rattle.client_journal.specs.Records.{JournalFile, Record, may_come, told, spelled, records_of, TellsWithOrWithout}
 use Rattle.client_journal.specs.Places.{part, state_at}
 use Rattle.client_journal.proofs.Headers.{length-spelled}
 use Rattle.client_journal.proofs.Reached.{told_is}

@@ -1,4 +1,4 @@
-use Rattle.std.proofs.Common.{◌≡◌, true, Option, sym, ◌∙◌, ap, subst}
+use Rattle.std.proofs.Common.{◌≡◌, true, Option, ◌∙◌, ap, subst}
 use Rattle.client_journal.specs.Records.{JournalFile, State, may_come, told}
 use Rattle.client_journal.proofs.Reached.{told_is}
 use Rattle.client_journal.proofs.journal.Journal.next.Goals as goal

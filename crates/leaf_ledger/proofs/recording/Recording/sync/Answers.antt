@@ -1,5 +1,5 @@
 use Rattle.std.proofs.Common.{◌∙◌, ap}
-use Rattle.leaf_ledger.specs.Device.{History, synced}
+use Rattle.leaf_ledger.specs.Device.{synced}
 use Rattle.leaf_ledger.proofs.Replays.{sync_history, sync_disk}
 use Rattle.leaf_ledger.proofs.recording.Recording.sync.Goals as goal
 
