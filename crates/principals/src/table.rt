@@ -251,7 +251,8 @@ impl<A: Allocator> Table<A> {
         Ok(())
     }
 
-    /// Lists a user, by user 0's operation of this number: one binary search and one shift.
+    /// Lists a user, by user 0's operation of this number: one binary search and one shift. Listed where it is listed
+    /// already. The number isn't compared with those in the table.
     pub fn add_user(
         &mut self,
         number: Version,
@@ -298,7 +299,8 @@ impl<A: Allocator> Table<A> {
         Ok(())
     }
 
-    /// Makes a user a member of a group, by user 0's operation of this number.
+    /// Makes a user a member of a group, by user 0's operation of this number. Listed where it is a member now, Unlisted
+    /// where it isn't listed, NotGroup where the principal is a user, Full at 65,535 rows; of several the least.
     pub fn add_member(
         &mut self,
         number: Version,
@@ -318,7 +320,9 @@ impl<A: Allocator> Table<A> {
         }
     }
 
-    /// Takes a member out of a group, by user 0's operation of this number: one pass over the rows.
+    /// Takes a member out of a group, by user 0's operation of this number: one pass over the rows. Unlisted where the
+    /// user isn't listed, NotGroup where the principal is a user, NotMember where it is no member now; of several the
+    /// least.
     pub fn drop_member(
         &mut self,
         number: Version,
