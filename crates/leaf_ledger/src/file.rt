@@ -17,6 +17,9 @@ use std::marker::Model;
 use std::os::unix::fs::FileExt;
 
 /// A device over a file of the system, which nobody else may write to.
+///
+/// After a write that failed the file may hold another part of it than what is kept: each call that meets the difference
+/// is a fault, until the file is opened anew.
 #[derive(Drop)]
 pub struct FileDevice<A: Allocator> {
     file: File,
@@ -33,9 +36,9 @@ impl<A: Allocator> Model for FileDevice<A> {
 }
 
 impl<A: Allocator + Copy> FileDevice<A> {
-    /// The device over the file at a path, which is made where there is none. What it holds counts as synced once this
-    /// has synced it.
-    pub fn open(rt: &HostRuntime, alloc: A, path: &str) -> io::Result<FileDevice<A>>
+    /// The device over the file at a path in a folder, which is made where there is none. File and folder are synced
+    /// first, so that what the file holds stays, and that it is there.
+    pub fn open(rt: &HostRuntime, alloc: A, folder: &str, path: &str) -> io::Result<FileDevice<A>>
         ensures history { IfOk result (λ device. device.history ≡ started device.history.now.text) }
         ensures faults { IfOk result (λ device. device.faults ≡ 0) }
     {
@@ -45,6 +48,7 @@ impl<A: Allocator + Copy> FileDevice<A> {
             .create(true)
             .open(rt, path)?;
         file.sync_all()?;
+        File::open(rt, folder)?.sync_all()?;
         let mut text = Vec::new(alloc);
         file.read_to_end(&mut text)?;
         match Recording::new(alloc, text) {

@@ -50,12 +50,12 @@ fn a_file_does_what_memory_does(rt: HostRuntime) {
     let alloc = rt.alloc();
     let _ = fs::remove_dir_all(&rt, FOLDER);
     fs::create_dir(&rt, FOLDER).expect(&rt, "the folder is made");
-    let mut file = FileDevice::open(&rt, alloc, PATH).expect(&rt, "the file is made");
+    let mut file = FileDevice::open(&rt, alloc, FOLDER, PATH).expect(&rt, "the file is made");
     let mut memory = MemoryDevice::new(alloc, Vec::new(alloc)).expect(&rt, "there is memory");
     run_both(&rt, &mut file, &mut memory);
     assert!(rt; file.faults() == 0 && memory.text().len() > 100);
     // Opened again it holds the same.
-    let mut again = FileDevice::open(&rt, alloc, PATH).expect(&rt, "the file is opened");
+    let mut again = FileDevice::open(&rt, alloc, FOLDER, PATH).expect(&rt, "the file is opened");
     assert!(rt; again.text() == memory.text());
     // What another writes to it is a fault.
     fs::write(&rt, PATH, b"other".as_slice()).expect(&rt, "it is written");
