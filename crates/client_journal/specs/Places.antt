@@ -1,3 +1,4 @@
+-- Nobody has to believe this file: an aid of private contracts.
 -- Where the texts of the last records lie in a journal's file.
 -- Nobody has to believe what stands here: it is how the journal keeps its state.
 use Rattle.std.specs.Prelude.{◌≡◌, ◌≢◌, ℕ, ◌+◌, ◌<◌, ◌≤◌, List, ◌++◌, length, take, drop, get_or, Some, option_map, IfSome, ◌^◌}

@@ -183,12 +183,9 @@ pub(crate) fn first_broken<A: Allocator + Copy>(
     let Some(own) = reply.pending().last() else {
         unreachable!()
     };
-    broken(
-        alloc,
-        reply,
-        &Table::genesis(alloc, *pinned),
-        own.plan().user(),
-    )
+    let table = Table::genesis(alloc, *pinned);
+    let first = broken(alloc, reply, &table, own.plan().user())?;
+    Ok(first)
 }
 
 /// Reads and judges the bytes of a reply: the reply, or the first rule that it breaks.

@@ -1,3 +1,4 @@
+-- Nobody has to believe this file: laws, which are proved.
 -- What a crash leaves throughout a run of device calls: laws for the proofs of those who call a device.
 -- Nobody has to believe what stands here: it is proved.
 use Rattle.std.proofs.Common.{◌≡◌, ℕ, List, [], ◌∷◌, ◌++◌, length, refl, sym, ◌∙◌, ap, subst, arith, inl, inr}

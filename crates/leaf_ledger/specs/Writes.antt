@@ -1,3 +1,4 @@
+-- Nobody has to believe this file: laws, which are proved.
 -- What a write makes of a text, and what a torn one leaves of it: laws for the proofs of those who call a device.
 -- Nobody has to believe what stands here: it is proved.
 use Rattle.std.proofs.Common.{◌≡◌, inl, inr, ℕ, suc, ◌+◌, ◌<◌, ◌≤◌, List, [], ◌∷◌, ◌++◌, length, get_or, set, take, drop, sym, ◌∙◌, ap, arith}
