@@ -463,12 +463,11 @@ fn reply_of(rt: &impl Host, case: &Case) -> Reply<Global> {
 }
 
 /// The table of the beginning. Its key is a form without meaning, since no signature is checked.
-fn table(rt: &impl Host) -> Table<Global> {
+fn table(rt: &impl Host) -> Table {
     let mut bytes = [0; 56];
     bytes[3] = 6;
     bytes[7] = 3;
-    let key = PublicKey::from_bytes(bytes).expect(rt, "a key");
-    Table::genesis(rt.alloc(), key)
+    Table::genesis(PublicKey::from_bytes(bytes).expect(rt, "a key"))
 }
 
 /// The first rule that the reply breaks.

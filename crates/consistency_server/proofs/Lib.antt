@@ -1,6 +1,5 @@
+pub mod Sole
+pub mod Steps
 pub mod Texts
-pub mod Placing
-pub mod Rows
-pub mod Tidy
-pub mod Kept
+pub mod Judging
 pub mod Serving

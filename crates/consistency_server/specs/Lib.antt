@@ -1,9 +1,8 @@
 pub mod Event
-pub mod Tables
-pub mod State
-pub mod Answers
 pub mod History
+pub mod Answers
+pub mod State
+pub mod Steps
 pub mod Reading
-pub mod Tidy
 pub mod Judged
 pub mod Serving

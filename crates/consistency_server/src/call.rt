@@ -1,9 +1,7 @@
 //! Calls, and what they are answered.
 
-ghost use Rattle.std.specs.Prelude.{◌≡◌, ◌≤◌, length};
+ghost use Rattle.std.specs.Prelude.{◌≡◌};
 
-use crate::payload::Payload;
-use pending_list::REPLY_SIZE;
 use std::alloc::Allocator;
 use std::marker::Model;
 use wire::Status;
@@ -56,19 +54,20 @@ impl<A: Allocator> Call<A> {
 #[derive(Drop)]
 pub struct Answer<A: Allocator> {
     status: Status,
-    payload: Payload<A>,
+    payload: Vec<u8, A>,
 }
 
 impl<A: Allocator> Model for Answer<A> {
-    ghost use Rattle.std.specs.Prelude.{◌≡◌, true};
-    ghost use Rattle.wire.specs.Frame.{may_carry};
     ghost use Rattle.consistency_server.specs.Answers.{Answer};
 
     ghost Value = { Answer };
 
-    ghost view = { λ a. record { status = a.status; payload = a.payload } };
+    ghost view = { λ a. record { status = a.status; payload = a.payload.items } };
 
-    ghost invariant = { λ a. may_carry a.status a.payload ≡ true };
+    ghost use Rattle.std.specs.Prelude.{◌≡◌, true};
+    ghost use Rattle.wire.specs.Frame.{may_carry};
+
+    ghost invariant = { λ a. may_carry a.status a.payload.items ≡ true };
 }
 
 impl<A: Allocator> Answer<A> {
@@ -77,8 +76,8 @@ impl<A: Allocator> Answer<A> {
     ghost use Rattle.wire.specs.declared.kinds.Status.TheVariants as status;
 
     /// `Ok`, with what comes with it.
-    pub(crate) fn with_payload(payload: Payload<A>) -> Answer<A>
-        ensures { result ≡ record { status = status.Ok; payload = payload } }
+    pub(crate) fn with_payload(payload: Vec<u8, A>) -> Answer<A>
+        ensures { result ≡ record { status = status.Ok; payload = payload.items } }
     {
         Answer {
             status: Status::Ok,
@@ -92,7 +91,7 @@ impl<A: Allocator> Answer<A> {
     {
         Answer {
             status,
-            payload: Payload::empty(alloc),
+            payload: Vec::new(alloc),
         }
     }
 
@@ -107,17 +106,14 @@ impl<A: Allocator> Answer<A> {
         ensures same { result.now ≡ self.now.payload }
         // Only `Ok` has a payload.
         ensures carried { may_carry self.now.status self.now.payload ≡ true }
-        // It is no longer than the text of a reply can be.
-        ensures size { length self.now.payload ≤ REPLY_SIZE }
     {
-        self.payload.as_slice()
+        &self.payload
     }
 
     pub fn into_payload(self) -> Vec<u8, A>
-        ensures same { result.items ≡ self.payload }
-        ensures size { length self.payload ≤ REPLY_SIZE }
+        ensures { result.items ≡ self.payload }
     {
         let Answer { status: _, payload } = self;
-        payload.into_vec()
+        payload
     }
 }

@@ -8,4 +8,3 @@ pub mod Hasher
 pub mod Laws
 pub mod Ranges
 pub mod Sizes
-pub mod Types

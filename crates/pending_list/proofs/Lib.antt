@@ -1,3 +1,1 @@
 pub mod Highest
-pub mod GroupsLaws
-pub mod Rows

@@ -1,4 +1,1 @@
-pub mod Kept
-pub mod Line
 pub mod Table
-pub mod TableText

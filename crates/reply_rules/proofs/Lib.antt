@@ -1,5 +1,6 @@
 pub mod Tests
 pub mod Above
+pub mod GroupsLaws
 pub mod SameVector
 pub mod RaisedLaws
 pub mod VectorLaws

@@ -3,6 +3,7 @@
 #![tactic(auto)]
 
 mod entries;
+mod groups;
 mod judge;
 mod link;
 mod lists;

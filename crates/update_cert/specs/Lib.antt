@@ -1,7 +1,6 @@
 pub mod Change
 pub mod Cert
 pub mod World
-pub mod Reading
 pub mod Blocks
 pub mod Spot
 pub mod Part

@@ -1,6 +1,0 @@
-mod Files
-mod Lives
-mod Marked
-mod Parts
-mod Replays
-mod Taken

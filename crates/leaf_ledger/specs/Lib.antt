@@ -1,6 +1,0 @@
-pub mod Device
-pub mod Ledger
-pub mod Life
-pub mod Moments
-pub mod Recording
-pub mod Writes
