@@ -34,5 +34,5 @@ fn replies_are_framed(rt: HostRuntime) {
     let (status, payload) = reply_of(body).expect(&rt, "a reply");
     check(&rt, status == Status::Busy, "busy");
     check_text(&rt, payload, &[]);
-    check(&rt, reply_of(b"\x06\0").is_none(), "a payload behind busy");
+    check(&rt, reply_of(b"\x06\0").is_none(), "a payload after busy");
 }

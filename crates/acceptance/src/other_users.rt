@@ -16,7 +16,7 @@ fn structure_of_super(rt: &impl Host) -> Vec<u8> {
 }
 
 /// The reply to user 1's first certificate, after this signed structure of user 0's.
-fn reply_behind(rt: &impl Host, structure: &[u8], update: &[u8]) -> Vec<u8> {
+fn reply_after(rt: &impl Host, structure: &[u8], update: &[u8]) -> Vec<u8> {
     let vector = b"\x02\0\0\0\0\x01\x01\0\0\0\x01";
     let own_plan = plan(rt, 1, 1, &named(update), vector, b"\0");
     let own = pending(rt, update, &own_plan);
@@ -24,14 +24,9 @@ fn reply_behind(rt: &impl Host, structure: &[u8], update: &[u8]) -> Vec<u8> {
 }
 
 /// A reply after user 0's structure with this signature breaks the rule.
-fn breaks_behind(rt: &impl Host, client: &mut Client<Global>, structure: &[u8], rule: Rule) {
+fn breaks_after(rt: &impl Host, client: &mut Client<Global>, structure: &[u8], rule: Rule) {
     let update = declare(rt, client);
-    breaks(
-        rt,
-        client,
-        &reply_behind(rt, structure, &update),
-        Some(rule),
-    );
+    breaks(rt, client, &reply_after(rt, structure, &update), Some(rule));
 }
 
 /// A new client of user 1.
@@ -43,9 +38,9 @@ fn user_1(rt: &impl Host) -> Client<Global> {
 fn forged_structure_of_user_0(rt: HostRuntime) {
     let text = structure_of_super(&rt);
     let forged = joined(&rt, &[&text, &[0; 2508]]);
-    breaks_behind(&rt, &mut user_1(&rt), &forged, Rule::SuperSignature);
+    breaks_after(&rt, &mut user_1(&rt), &forged, Rule::SuperSignature);
     let another = signed(&rt, &key_of(&rt, 1), 1, &text);
-    breaks_behind(&rt, &mut user_1(&rt), &another, Rule::SuperSignature);
+    breaks_after(&rt, &mut user_1(&rt), &another, Rule::SuperSignature);
 }
 
 /// With user 0's own signature the first broken rule is that user 1 isn't listed.
@@ -53,5 +48,5 @@ fn forged_structure_of_user_0(rt: HostRuntime) {
 fn true_structure_of_user_0(rt: HostRuntime) {
     let text = structure_of_super(&rt);
     let structure = signed(&rt, &key_of(&rt, 0), 1, &text);
-    breaks_behind(&rt, &mut user_1(&rt), &structure, Rule::UnknownUser);
+    breaks_after(&rt, &mut user_1(&rt), &structure, Rule::UnknownUser);
 }

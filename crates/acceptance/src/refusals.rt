@@ -50,7 +50,7 @@ fn refuses_sizes(rt: &impl Host, client: &mut Client<Global>, update: &[u8]) {
 }
 
 /// A reply that shows a structure which the client never signed.
-fn reply_behind_forged(rt: &impl Host, update: &[u8]) -> Vec<u8> {
+fn reply_after_forged(rt: &impl Host, update: &[u8]) -> Vec<u8> {
     let structure = structure(rt, &plan_of(rt, 1, update), &[5; 32]);
     let forged = joined(rt, &[&structure, &[0; 2508]]);
     reply_to(rt, &listed(rt, &shown(rt, &forged)), 1, update)
@@ -61,7 +61,7 @@ fn refuses_own_texts(rt: &impl Host, client: &mut Client<Global>, update: &[u8])
     breaks(rt, client, b"SRL1\0\0", Some(Rule::OwnPending));
     let other = first_reply(rt, &changed(rt, update));
     breaks(rt, client, &other, Some(Rule::OwnPending));
-    let forged = reply_behind_forged(rt, update);
+    let forged = reply_after_forged(rt, update);
     breaks(rt, client, &forged, Some(Rule::OwnLast));
 }
 
@@ -149,24 +149,24 @@ fn update_of_user(rt: &impl Host) -> Vec<u8> {
 }
 
 /// The plan of user 0's first certificate after user 1's first plan.
-fn plan_behind_user(rt: &impl Host, update: &[u8], other: &[u8]) -> Vec<u8> {
+fn plan_after(rt: &impl Host, update: &[u8], other: &[u8]) -> Vec<u8> {
     let entries = joined(rt, &[b"\x01\x01\0\0\0\x01", digest(other).as_bytes()]);
     let vector = b"\x02\0\0\0\0\x01\x01\0\0\0\x01";
     plan(rt, 0, 1, &named(update), vector, &entries)
 }
 
 /// The list of user 1's first operation and user 0's first one.
-fn list_behind_user(rt: &impl Host, update: &[u8]) -> Vec<u8> {
+fn list_after(rt: &impl Host, update: &[u8]) -> Vec<u8> {
     let other = update_of_user(rt);
     let other_plan = plan(rt, 1, 1, &named(&other), b"\x01\x01\0\0\0\x01", NONE);
-    let own_plan = plan_behind_user(rt, update, &other_plan);
+    let own_plan = plan_after(rt, update, &other_plan);
     let first = pending(rt, &other, &other_plan);
     joined(rt, &[&[2], &first, &pending(rt, update, &own_plan)])
 }
 
 /// User 1's first operation is pending before the own one, as it would be if user 1 were listed.
 fn refuses_user(rt: &impl Host, client: &mut Client<Global>, update: &[u8]) {
-    let reply = reply(rt, NONE, &list_behind_user(rt, update));
+    let reply = reply(rt, NONE, &list_after(rt, update));
     breaks(rt, client, &reply, Some(Rule::UnknownUser));
 }
 
@@ -189,7 +189,7 @@ fn takes_first(rt: &impl Host, client: &mut Client<Global>) {
 }
 
 /// The reply to the second certificate that shows this structure breaks the rule, or none.
-fn breaks_behind(
+fn breaks_after(
     rt: &impl Host,
     client: &mut Client<Global>,
     update: &[u8],
@@ -206,8 +206,8 @@ fn takes_second(rt: &impl Host, client: &mut Client<Global>, last: &[u8]) {
     let without = reply_to(rt, NONE, 2, &update);
     breaks(rt, client, &without, Some(Rule::OwnLast));
     let other = changed(rt, last);
-    breaks_behind(rt, client, &update, &other, Some(Rule::OwnLast));
-    breaks_behind(rt, client, &update, last, None);
+    breaks_after(rt, client, &update, &other, Some(Rule::OwnLast));
+    breaks_after(rt, client, &update, last, None);
 }
 
 #[test]

@@ -463,11 +463,12 @@ fn reply_of(rt: &impl Host, case: &Case) -> Reply<Global> {
 }
 
 /// The table of the beginning. Its key is a form without meaning, since no signature is checked.
-fn table(rt: &impl Host) -> Table {
+fn table(rt: &impl Host) -> Table<Global> {
     let mut bytes = [0; 56];
     bytes[3] = 6;
     bytes[7] = 3;
-    Table::genesis(PublicKey::from_bytes(bytes).expect(rt, "a key"))
+    let key = PublicKey::from_bytes(bytes).expect(rt, "a key");
+    Table::genesis(rt.alloc(), key)
 }
 
 /// The first rule that the reply breaks.

@@ -1,32 +1,32 @@
 -- The chunks that a root lists, one after the other.
 use Rattle.std.proofs.Common.{◌≡◌, ℕ, zero, suc, ◌+◌, ◌<◌, Bool, true, false, List, [], ◌∷◌, ◌++◌, length, take, get_or, Option, Some, None, Ok, refl, sym, ap, subst, ◌∙◌, ◌⊎◌, inl, inr, arith, add-one, append_assoc}
-use Rattle.std.specs.Prelude.{IsSomeAnd, not, slice_index_or, if◌then◌else◌}
+use Rattle.std.specs.Prelude.{◌==◌, IsSomeAnd, not, slice_index_or, if◌then◌else◌}
 use Rattle.std.proofs.Math.Seq.{take-suc}
 use Rattle.std.proofs.lemmas.List.{append-nil}
 use Rattle.std.specs.List.{All}
 use Rattle.std.specs.Option.{option_and_then, option_map}
 use Rattle.std.specs.Ordering.{nat_cmp, is_lt, is_eq}
-use Rattle.std.proofs.lemmas.Bool.{and_parts, eqb-true}
+use Rattle.std.proofs.lemmas.Bool.{and_parts, eqb-true, eq-eqb}
 use Rattle.std.proofs.lemmas.Bool.Decides.{nat_tests}
 use Rattle.std.proofs.lemmas.Cmp.{nat_cmp_total}
-use Rattle.std.proofs.lemmas.List.Elements.{All-append, All-cons, All-head, All-nil, All-tail}
+use Rattle.std.proofs.lemmas.List.Elements.{All-append, All-cons, All-head, All-nil, All-tail, All-weaker}
 use Rattle.layout.specs.Format.{whole, uint_in, raw}
 use Rattle.layout.specs.Hash.{hash}
 use Rattle.layout.specs.Ascending.{Ascends, row_at}
-use Rattle.layout.specs.AscendingLaws.{Ordered, ascends_from_fits}
+use Rattle.layout.specs.AscendingLaws.{Ordered, ascends_from_fits, HasOther, row_in_first, row_in_last}
 use Rattle.std.specs.Int.{w8}
 use Rattle.itable.specs.declared.chunk.Pair.{Pair}
 use Rattle.itable.specs.declared.root.ListedChunk.{ListedChunk}
-use Rattle.itable.specs.Chunk.{Chunk, chunk}
+use Rattle.itable.specs.Chunk.{Chunk, chunk, chunk_number}
 use Rattle.itable.specs.Root.{Root, root, chunk_row, number_of, chunk_at}
-use Rattle.itable.specs.ITable.{ITable, listings, handle_of}
-use Rattle.update_cert.specs.Blocks.{Blocks}
+use Rattle.itable.specs.ITable.{ITable, digest_at, digest_in, listings, handle_of}
+use Rattle.update_cert.specs.Blocks.{Blocks, chunk_held, inode_told, root_at, told_by}
 use Rattle.update_cert.specs.Spot.{takes, lacks}
 use Rattle.update_cert.specs.declared.error.ApplyError.{ApplyError}
 use Rattle.update_cert.specs.declared.error.ApplyError.TheVariants as error
 use Rattle.update_cert.specs.declared.spot.Spot.{Spot}
 use Rattle.update_cert.specs.declared.spot.Spot.TheVariants as spot
-use Rattle.client_tree.specs.Tables.{chunk_held, pairs_over, root_at, table_at, IsOfTable, LacksOfTable}
+use Rattle.client_tree.specs.Tables.{pairs_over, table_at, IsOfTable, LacksOfTable}
 
 -- ---- what a spot takes
 
@@ -99,7 +99,7 @@ taken_at blocks p n (c ∷ cs) digest all found =
 pub nothing_lacks : (blocks : Blocks) (p : ℕ) (handle : List ℕ) (r : Root) → root_at blocks handle ≡ Some r → lacks blocks handle (spot.Root p) ≡ false → All (IsTaken blocks p) r.chunks
     → (digest : List ℕ) (s : Spot) → IsOfTable blocks p handle digest s → lacks blocks digest s ≡ false
 nothing_lacks blocks p handle r held found chunks digest (spot.Root q) (of, is) = rw (of, is) found
-nothing_lacks blocks p handle r held found chunks digest (spot.Chunk q n) (of, behind, listed) =
+nothing_lacks blocks p handle r held found chunks digest (spot.Chunk q n) (of, follows, listed) =
     let found : option_map (λ x. x.digest) (chunk_at r n) ≡ Some digest = subst (λ (o : Option Root). IsSomeAnd o (λ x. option_map (λ c. c.digest) (chunk_at x n) ≡ Some digest)) held listed in
     subst (λ (m : ℕ). lacks blocks digest (spot.Chunk m n) ≡ false) (sym of) (taken_at blocks p n r.chunks digest chunks found)
 nothing_lacks blocks p handle r held found chunks digest (spot.Inode q i) is = absurd is
@@ -120,18 +120,18 @@ ascend r fits = (ascends_from_fits nat_cmp number_of nat_cmp_total chunk_row IsL
 lt_from_less : (a b : ℕ) → is_lt (nat_cmp a b) ≡ true → a < b
 lt_from_less a b h = grind (arith, nat_tests)
 
-rise_behind : (c : ListedChunk) (cs : List ListedChunk) → Ascends nat_cmp number_of (Some c) cs → (j : ℕ) (d : ListedChunk) → j < length cs → c.number < (get_or cs j d).number
+rise_following : (c : ListedChunk) (cs : List ListedChunk) → Ascends nat_cmp number_of (Some c) cs → (j : ℕ) (d : ListedChunk) → j < length cs → c.number < (get_or cs j d).number
 unfolding Ascends
-rise_behind c [] up j d lt = absurd (omega arith)
-rise_behind c (x ∷ xs) up zero d lt = lt_from_less c.number x.number up.0
-rise_behind c (x ∷ xs) up (suc j) d lt = omega (arith, lt_from_less c.number x.number up.0, rise_behind x xs up.1 j d (omega arith))
+rise_following c [] up j d lt = absurd (omega arith)
+rise_following c (x ∷ xs) up zero d lt = lt_from_less c.number x.number up.0
+rise_following c (x ∷ xs) up (suc j) d lt = omega (arith, lt_from_less c.number x.number up.0, rise_following x xs up.1 j d (omega arith))
 
 below_in : (b : Option ListedChunk) (cs : List ListedChunk) → Ascends nat_cmp number_of b cs → (k : ℕ) (d : ListedChunk) → k < length cs → All (λ c. c.number < (get_or cs k d).number) (take k cs)
 unfolding Ascends
 below_in b [] up k d lt = absurd (omega arith)
 below_in b (x ∷ xs) up zero d lt = All-nil (λ c. c.number < x.number)
 below_in b (x ∷ xs) up (suc k) d lt =
-    All-cons (λ c. c.number < (get_or xs k d).number) x (take k xs) (rise_behind x xs up.1 k d (omega arith)) (below_in (Some x) xs up.1 k d (omega arith))
+    All-cons (λ c. c.number < (get_or xs k d).number) x (take k xs) (rise_following x xs up.1 k d (omega arith)) (below_in (Some x) xs up.1 k d (omega arith))
 
 -- those before a chunk have lesser numbers
 pub below : (r : Root) → root.Fits r → (k : ℕ) (d : ListedChunk) → k < length r.chunks → All (λ c. c.number < (get_or r.chunks k d).number) (take k r.chunks)
@@ -147,11 +147,42 @@ found_in : (b : Option ListedChunk) (cs : List ListedChunk) → Ascends nat_cmp 
 unfolding Ascends
 found_in b [] up k d lt = absurd (omega arith)
 found_in b (x ∷ xs) up zero d lt = rw (itself x.number) refl
-found_in b (x ∷ xs) up (suc k) d lt = rw (other_key x.number (get_or xs k d).number (rise_behind x xs up.1 k d (omega arith))) (found_in (Some x) xs up.1 k d (omega arith))
+found_in b (x ∷ xs) up (suc k) d lt = rw (other_key x.number (get_or xs k d).number (rise_following x xs up.1 k d (omega arith))) (found_in (Some x) xs up.1 k d (omega arith))
 
 -- a chunk of the list is the one that stands there
 pub found : (r : Root) → root.Fits r → (k : ℕ) (d : ListedChunk) → k < length r.chunks → chunk_at r (get_or r.chunks k d).number ≡ Some (get_or r.chunks k d)
 found r fits k d lt = found_in None r.chunks (ascend r fits) k d lt
+
+-- ---- what the blocks tell at each i-number
+
+apart_from : (a n m : ℕ) → a < m → (n == m) ≡ true → is_eq (nat_cmp a n) ≡ false
+apart_from a n m lt here = other_key a n (omega (arith, lt, eqb-true n m here))
+
+not_same : (n m : ℕ) → (n == m) ≡ false → is_eq (nat_cmp m n) ≡ false
+not_same n m other = grind (arith, nat_tests)
+
+told_step : (blocks : Blocks) (i n : ℕ) (cs : List ListedChunk) (c : ListedChunk) (x : Chunk) (old new : ITable) (here : Bool) → (n == c.number) ≡ here → All (λ b. b.number < c.number) cs → chunk_held blocks c.digest ≡ Some x
+    → digest_at new i ≡ (if here then digest_in x.pairs i else digest_at old i) → told_by blocks i (row_at nat_cmp number_of cs n) ≡ Some (digest_at old i) → told_by blocks i (row_at nat_cmp number_of (cs ++ c ∷ []) n) ≡ Some (digest_at new i)
+told_step blocks i n cs c x old new true here lesser held loaded so_far =
+    let others = All-weaker (λ b. b.number < c.number) (HasOther nat_cmp number_of n) (λ b lt. apart_from b.number n c.number lt here) cs lesser in
+    let is : row_at nat_cmp number_of (c ∷ []) n ≡ Some c = rw (ap is_eq (ap (nat_cmp c.number) (eqb-true n c.number here)) ∙ itself c.number) refl in
+    ap (told_by blocks i) (row_in_last nat_cmp number_of cs (c ∷ []) n others ∙ is) ∙ rw held (ap (λ (d : Option (List ℕ)). Some d) (sym loaded))
+told_step blocks i n cs c x old new false other lesser held loaded so_far =
+    ap (told_by blocks i) (row_in_first nat_cmp number_of cs (c ∷ []) n (All-cons (HasOther nat_cmp number_of n) c [] (not_same n c.number other) (All-nil (HasOther nat_cmp number_of n))))
+    ∙ so_far
+    ∙ ap (λ (d : Option (List ℕ)). Some d) (sym loaded)
+
+-- one chunk more
+pub told_next : (blocks : Blocks) (i : ℕ) (cs : List ListedChunk) (k : ℕ) (c : ListedChunk) (x : Chunk) (old new : ITable) → k < length cs → c ≡ slice_index_or cs k c → All (λ b. b.number < c.number) (take k cs) → chunk_held blocks c.digest ≡ Some x
+    → digest_at new i ≡ (if chunk_number i == c.number then digest_in x.pairs i else digest_at old i) → told_by blocks i (row_at nat_cmp number_of (take k cs) (chunk_number i)) ≡ Some (digest_at old i)
+    → told_by blocks i (row_at nat_cmp number_of (take (k + 1) cs) (chunk_number i)) ≡ Some (digest_at new i)
+told_next blocks i cs k c x old new inside at lesser held loaded so_far =
+    ap (λ (xs : List ListedChunk). told_by blocks i (row_at nat_cmp number_of xs (chunk_number i))) (take_next cs k c inside at)
+    ∙ told_step blocks i (chunk_number i) (take k cs) c x old new (chunk_number i == c.number) refl lesser held loaded so_far
+
+-- all of them: what is told of the table with this handle
+pub all_told : (blocks : Blocks) (p : ℕ) (handle : List ℕ) (r : Root) (t : ITable) (i : ℕ) → root_at blocks handle ≡ Some r → r.principal ≡ p → told_by blocks i (chunk_at r (chunk_number i)) ≡ Some (digest_at t i) → inode_told blocks p handle i ≡ Some (digest_at t i)
+all_told blocks p handle r t i held of told = rw held (rw (eq-eqb r.principal p of) told)
 
 -- ---- the handle
 

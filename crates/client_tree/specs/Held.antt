@@ -6,19 +6,20 @@ use Rattle.std.specs.Ordering.{nat_cmp}
 use Rattle.std.specs.Cmp.Lexicographic.{slice_cmp}
 use Rattle.std.specs.declared.cmp.Ordering.{Ordering}
 use Rattle.layout.specs.Hash.{hash}
+use Rattle.layout.specs.Types.{Bytes, Digest}
 use Rattle.layout.specs.Ascending.{Ascends, row_at, with_row}
 use Rattle.update_cert.specs.Blocks.{Blocks}
 
 -- a text, and its digest
 pub record Block : Type 0 where
-  pub digest : List ℕ
-  pub text : List ℕ
+  pub digest : Digest
+  pub text : Bytes
 
-abbrev pub digest_of : Block → List ℕ
+abbrev pub digest_of : Block → Digest
 digest_of block = block.digest
 
 -- digests stand in the order of their bytes
-abbrev pub by_bytes : List ℕ → List ℕ → Ordering
+abbrev pub by_bytes : Digest → Digest → Ordering
 by_bytes = slice_cmp nat_cmp
 
 -- the text of a digest, if it is held
@@ -26,11 +27,11 @@ unfoldable pub held : List Block → Blocks
 held blocks digest = option_map (λ b. b.text) (row_at by_bytes digest_of blocks digest)
 
 -- the blocks with this text among them; one of its digest that is held already stays
-unfoldable pub keeping : List Block → List ℕ → List Block
+unfoldable pub keeping : List Block → Bytes → List Block
 keeping blocks text = if is_some (held blocks (hash text)) then blocks else with_row by_bytes digest_of blocks (record { digest = hash text; text = text })
 
 -- and with all these, in turn
-unfoldable pub keeping_all : List Block → List (List ℕ) → List Block
+unfoldable pub keeping_all : List Block → List Bytes → List Block
 keeping_all blocks [] = blocks
 keeping_all blocks (text ∷ texts) = keeping_all (keeping blocks text) texts
 

@@ -2,27 +2,17 @@
 -- The bytes stand in docs/FORMATS.md.
 use Rattle.std.specs.Prelude.{◌≡◌, ℕ, false, List, [], ◌∷◌, ◌++◌, Option, Some, IsSomeAnd}
 use Rattle.std.specs.Option.{option_and_then, option_map}
-use Rattle.std.specs.Result.{result_ok}
-use Rattle.layout.specs.Format.{whole}
-use Rattle.itable.specs.Chunk.{Chunk, chunk}
-use Rattle.itable.specs.Root.{Root, root, chunk_at}
+use Rattle.itable.specs.Root.{Root, chunk_at}
 use Rattle.itable.specs.ITable.{ITable, IsTable, handle_of}
 use Rattle.itable.specs.declared.chunk.Pair.{Pair}
 use Rattle.itable.specs.declared.root.ListedChunk.{ListedChunk}
-use Rattle.update_cert.specs.Blocks.{Blocks}
+use Rattle.layout.specs.Types.{Digest, Handle, Principal}
+use Rattle.update_cert.specs.Blocks.{Blocks, root_at, chunk_held}
 use Rattle.update_cert.specs.Spot.{lacks}
 use Rattle.update_cert.specs.Asked.{Lacks}
 use Rattle.update_cert.specs.declared.error.ApplyError.{ApplyError}
 use Rattle.update_cert.specs.declared.spot.Spot.{Spot}
 use Rattle.update_cert.specs.declared.spot.Spot.TheVariants as spot
-
--- the root of a handle, if its text is held and is one
-abbrev pub root_at : Blocks → List ℕ → Option Root
-root_at blocks handle = option_and_then (λ text. result_ok (whole root text)) (blocks handle)
-
--- the chunk of a digest, if its text is held and is one
-abbrev pub chunk_held : Blocks → List ℕ → Option Chunk
-chunk_held blocks digest = option_and_then (λ text. result_ok (whole chunk text)) (blocks digest)
 
 -- the pairs of listed chunks one after another, if all are held
 unfoldable pub pairs_over : Blocks → List ListedChunk → Option (List Pair)
@@ -34,28 +24,28 @@ abbrev pub table_over : Blocks → Root → Option ITable
 table_over blocks r = option_map (λ pairs. record { principal = r.principal; pairs = pairs }) (pairs_over blocks r.chunks)
 
 -- the i-table of a handle, if its root and its chunks are held
-abbrev pub table_at : Blocks → List ℕ → Option ITable
+abbrev pub table_at : Blocks → Handle → Option ITable
 table_at blocks handle = option_and_then (table_over blocks) (root_at blocks handle)
 
 -- ---- what is asked for
 
 -- The digest is the one that the spot asks for, of the table with this handle: the handle itself, or, once the root is
 -- held, the digest that it has of a chunk.
-abbrev pub IsOfTable : Blocks → ℕ → List ℕ → List ℕ → Spot → Type 0
+abbrev pub IsOfTable : Blocks → Principal → Handle → Digest → Spot → Type 0
 IsOfTable blocks p handle digest (spot.Root q) = (q ≡ p) × (digest ≡ handle)
 IsOfTable blocks p handle digest (spot.Chunk q n) =
     (q ≡ p) × (lacks blocks handle (spot.Root p) ≡ false) × IsSomeAnd (root_at blocks handle) (λ r. option_map (λ c. c.digest) (chunk_at r n) ≡ Some digest)
 IsOfTable blocks p handle digest other = ⊥
 
 -- what is missing is asked for so, and no text of it is held that its spot takes; want of memory says nothing
-abbrev pub LacksOfTable : Blocks → ℕ → List ℕ → ApplyError → Type 0
+abbrev pub LacksOfTable : Blocks → Principal → Handle → ApplyError → Type 0
 LacksOfTable blocks p handle e = Lacks blocks (IsOfTable blocks p handle) e
 
 -- The table is the one of this handle that the blocks spell, and nothing of it is missing: its root and each chunk that
 -- the root lists are what their spots take.
-pub record IsRead (blocks : Blocks) (p : ℕ) (handle : List ℕ) (t : ITable) : Type 0 where
+pub record IsRead (blocks : Blocks) (p : Principal) (handle : Handle) (t : ITable) : Type 0 where
   pub spelled : table_at blocks handle ≡ Some t
   pub is_table : IsTable t
   pub principal : t.principal ≡ p
   pub named : handle_of t ≡ handle
-  pub taken : (digest : List ℕ) (s : Spot) → IsOfTable blocks p handle digest s → lacks blocks digest s ≡ false
+  pub taken : (digest : Digest) (s : Spot) → IsOfTable blocks p handle digest s → lacks blocks digest s ≡ false

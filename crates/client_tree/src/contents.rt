@@ -2,7 +2,7 @@
 
 ghost use Rattle.std.specs.Prelude.{◌≡◌, ℕ, List, Some, IfOk, IfErr, OnOk};
 ghost use Rattle.itable.specs.ITable.{ITable, digest_at};
-ghost use Rattle.update_cert.specs.World.{Content};
+ghost use Rattle.update_cert.specs.Reading.{Reading};
 ghost use Rattle.update_cert.specs.Blocks.{Agrees};
 ghost use Rattle.client_tree.specs.Tree.{HasLooked, LacksLooked};
 ghost use Rattle.client_tree.specs.Seen.{content_seen};
@@ -32,7 +32,7 @@ pub(crate) fn read_content<A: Allocator + Copy, B: Blocks>(
     i_number: INumber,
     digest: Digest,
 ) -> Result<Seen<A>, ApplyError>
-    ensures seen { (reads : List ℕ → Content) → Agrees (B.held blocks.now) reads → IfOk result (λ s. content_seen s ≡ Some (reads digest)) }
+    ensures seen { (reads : Reading) → Agrees (B.held blocks.now) reads → IfOk result (λ s. content_seen s ≡ Some (reads.content digest)) }
     // Whichever table has the digest there.
     ensures taken { (t : ITable) → digest_at t i_number ≡ Some digest → OnOk result (HasLooked (B.held blocks.now) t principal i_number) }
     ensures missing { (t : ITable) → t.principal ≡ principal → digest_at t i_number ≡ Some digest → IfErr result (LacksLooked (B.held blocks.now) t principal i_number) }

@@ -1,13 +1,15 @@
 //! The i-table that a handle names.
 
-ghost use Rattle.std.specs.Prelude.{◌≡◌, ◌⊎◌, Some, IfOk, IfErr, OnOk, true, false};
+ghost use Rattle.std.specs.Prelude.{◌≡◌, ◌⊎◌, ℕ, Some, IfOk, IfErr, OnOk, true, false};
 ghost use Rattle.layout.specs.Hash.{hash};
 ghost use Rattle.itable.specs.Chunk.{chunk as chunk_format};
 ghost use Rattle.itable.specs.Root.{root as root_format};
 ghost use Rattle.update_cert.specs.Spot.{takes, lacks};
 ghost use Rattle.update_cert.specs.declared.error.ApplyError.TheVariants as error;
 ghost use Rattle.update_cert.specs.declared.spot.Spot.TheVariants as spots;
-ghost use Rattle.client_tree.specs.Tables.{chunk_held, root_at, IsRead, LacksOfTable};
+ghost use Rattle.itable.specs.ITable.{digest_at};
+ghost use Rattle.update_cert.specs.Blocks.{chunk_held, inode_told, root_at};
+ghost use Rattle.client_tree.specs.Tables.{IsRead, LacksOfTable};
 
 use itable::{Chunk, ITable, ListedChunk, Root};
 use layout::{Digest, Principal, Text};
@@ -85,6 +87,8 @@ pub fn read_table<A: Allocator + Copy, B: Blocks>(
     handle: Digest,
 ) -> Result<ITable<A>, ApplyError>
     ensures read { IfOk result (IsRead (B.held blocks.now) principal handle) }
+    // The blocks tell each digest of it.
+    ensures told { IfOk result (λ t. (i : ℕ) → inode_told (B.held blocks.now) principal handle i ≡ Some (digest_at t i)) }
     // Missing names the handle or the digest of a chunk that its root lists, and no text of it is held that is one.
     ensures missing { IfErr result (LacksOfTable (B.held blocks.now) principal handle) }
 {

@@ -4,9 +4,9 @@ ghost use Rattle.std.specs.Prelude.{◌≡◌, ◌++◌, ℕ, List, [], None, If
 ghost use Rattle.std.specs.Str.{bytes_eq};
 ghost use Rattle.std.specs.Vec.{vec_items};
 ghost use Rattle.itable.specs.ITable.{IsTable, digest_at, handle_of, new_texts};
-ghost use Rattle.update_cert.specs.World.{Content};
+ghost use Rattle.update_cert.specs.Reading.{Reading};
 ghost use Rattle.update_cert.specs.Blocks.{Agrees};
-ghost use Rattle.client_tree.specs.Tree.{HasLooked, IsOutcome, LacksReached, LacksLooked, tree_of};
+ghost use Rattle.client_tree.specs.Tree.{HasLooked, IsOutcome, LacksReached, LacksLooked, shown_by};
 ghost use Rattle.client_tree.specs.Seen.{content_seen};
 
 use crate::contents::{Seen, read_content};
@@ -16,7 +16,7 @@ use itable::{ITable, ListedChunk};
 use layout::{Digest, INumber, Memory, Principal};
 use std::alloc::Allocator;
 use std::marker::Model;
-use update_cert::{ApplyError, Blocks, Cert, Part, Settled, apply};
+use update_cert::{ApplyError, Blocks, Cert, LaidPart, Part, apply};
 
 /// The i-table of the user after the operation, with its handle, and which changes had no effect.
 #[derive(Drop)]
@@ -50,20 +50,20 @@ pub struct Outcome<A: Allocator> {
 /// The outcome of which this is the part, whose table was stored with this handle and these chunks before.
 fn stored<A: Allocator + Copy>(
     alloc: A,
-    settled: Settled<A>,
+    laid: LaidPart<A>,
     lost: Vec<u8, A>,
     handle: Digest,
     listed: &[ListedChunk],
 ) -> Result<Outcome<A>, Memory>
-    ensures table { IfOk result (λ o. o.tree.table ≡ settled.table) }
+    ensures table { IfOk result (λ o. o.tree.table ≡ laid.table) }
     ensures is_table { IfOk result (λ o. IsTable o.tree.table) }
     ensures lost { IfOk result (λ o. o.tree.lost ≡ lost.items) }
-    ensures texts { IfOk result (λ o. map vec_items o.texts.items ≡ map vec_items settled.texts.items ++ (if bytes_eq (handle_of settled.table) handle then [] else new_texts listed.now settled.table)) }
+    ensures texts { IfOk result (λ o. map vec_items o.texts.items ≡ map vec_items laid.texts.items ++ (if bytes_eq (handle_of laid.table) handle then [] else new_texts listed.now laid.table)) }
 {
-    let Settled {
+    let LaidPart {
         mut table,
         mut texts,
-    } = settled;
+    } = laid;
     // It is as its type keeps it.
     let _principal = table.principal();
     let new_handle = table.handle(alloc)?;
@@ -111,11 +111,12 @@ impl<A: Allocator + Copy> Tree<A> {
         let user = Principal::from(cert.user());
         let mut table = read_table(alloc, blocks, user, handle)?;
         let listed = table.listings(alloc)?;
+        let before = table.copy(alloc)?;
         let part = Part::of(alloc, table);
         let applied = apply(alloc, part, blocks, false, cert)?;
         let lost = lost_among(alloc, user, cert.changes(), applied.voids.numbers())?;
-        let settled = applied.part.settle(alloc)?;
-        let outcome = stored(alloc, settled, lost, handle, &listed)?;
+        let laid = applied.part.lay(alloc, &before)?;
+        let outcome = stored(alloc, laid, lost, handle, &listed)?;
         Ok(outcome)
     }
 
@@ -128,7 +129,7 @@ impl<A: Allocator + Copy> Tree<A> {
         i_number: INumber,
     ) -> Result<Seen<A>, ApplyError>
         // Whatever stands for the digests of which no block tells.
-        ensures seen { (reads : List ℕ → Content) → Agrees (B.held blocks.now) reads → IfOk result (λ s. content_seen s ≡ tree_of reads self.now.table principal i_number) }
+        ensures seen { (reads : Reading) → Agrees (B.held blocks.now) reads → IfOk result (λ s. content_seen s ≡ shown_by reads self.now.table principal i_number) }
         // Each block of it is what its place takes.
         ensures taken { OnOk result (HasLooked (B.held blocks.now) self.now.table principal i_number) }
         ensures missing { IfErr result (LacksLooked (B.held blocks.now) self.now.table principal i_number) }

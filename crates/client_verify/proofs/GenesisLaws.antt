@@ -1,6 +1,6 @@
 -- What a client holds and has at the beginning.
 use Rattle.std.proofs.Common.{◌≡◌, ℕ, zero, suc, ◌<◌, ◌≤◌, Bool, true, false, List, [], ◌∷◌, length, map, Option, Some, None, refl, sym, ap, subst, ◌∙◌, inl, inr, arith, length-append}
-use Rattle.std.specs.Prelude.{◌==◌, not, Contains, if◌then◌else◌}
+use Rattle.std.specs.Prelude.{◌==◌, ◌&&◌, Contains, if◌then◌else◌}
 use Rattle.std.specs.Int.{w16, w32}
 use Rattle.std.specs.Option.{option_and_then, option_map}
 use Rattle.std.specs.Ordering.{nat_cmp, is_eq}
@@ -20,7 +20,10 @@ use Rattle.itable.specs.ITable.{digest_in}
 use Rattle.itable.proofs.Blocks.{next_block, no_block}
 use Rattle.itable.proofs.FileLaws.{file_fits, inode_fits}
 use Rattle.directory.specs.Directory.{directory, lawful_directory}
-use Rattle.update_cert.specs.World.{Content, File, Directory, genesis}
+use Rattle.principals.specs.Table.{genesis as first_users}
+use Rattle.itable.specs.ITable.{digest_at}
+use Rattle.update_cert.specs.World.{Content, File, Directory, Principals, genesis, is_table, is_root}
+use Rattle.update_cert.specs.Reading.{Reading}
 use Rattle.update_cert.specs.Blocks.{Agrees, Blocks, directory_over, file_over, if_of_size, joined, of_size}
 use Rattle.update_cert.proofs.Contents.{directory_is, file_is, inode_held}
 use Rattle.client_tree.specs.Held.{Block, held, keeping, keeping_all}
@@ -108,8 +111,8 @@ alone_joined blocks bytes is = rw is (ap (λ (all : List ℕ). Some all) (append
 over_one : (blocks : Blocks) (bytes : List ℕ) → 0 < length bytes → length bytes ≤ 4096 → blocks (hash bytes) ≡ Some bytes → joined blocks (map hash (blocks_of bytes)) ≡ Some bytes
 over_one blocks bytes some few is = ap (λ (bs : List (List ℕ)). joined blocks (map hash bs)) (one_block bytes some few) ∙ alone_joined blocks bytes is
 
-table_is : (blocks : Blocks) (reads : List ℕ → Content) (key : List ℕ) → length (table_text key) ≡ 68 → Agrees blocks reads → blocks (hash (table_text key)) ≡ Some (table_text key) → blocks (digest_of (table_inode key)) ≡ Some (inode.spell (table_inode key))
-    → Some (File (table_text key)) ≡ Some (reads (digest_of (table_inode key)))
+table_is : (blocks : Blocks) (reads : Reading) (key : List ℕ) → length (table_text key) ≡ 68 → Agrees blocks reads → blocks (hash (table_text key)) ≡ Some (table_text key) → blocks (digest_of (table_inode key)) ≡ Some (inode.spell (table_inode key))
+    → Some (File (table_text key)) ≡ Some (reads.content (digest_of (table_inode key)))
 table_is blocks reads key size agrees text is =
     let bytes = table_text key in
     let n = table_inode key in
@@ -129,7 +132,7 @@ root_fits =
     let size = empty_size in
     inode_fits kind.Directory (directory.spell []) (in_range_fits w32 6 265222 (length (directory.spell [])) (omega (arith, size)) (omega (arith, size)) (omega (arith, size))) (omega (arith, size))
 
-root_is : (blocks : Blocks) (reads : List ℕ → Content) → Agrees blocks reads → blocks (hash (directory.spell [])) ≡ Some (directory.spell []) → blocks (digest_of root_inode) ≡ Some (inode.spell root_inode) → Some (Directory []) ≡ Some (reads (digest_of root_inode))
+root_is : (blocks : Blocks) (reads : Reading) → Agrees blocks reads → blocks (hash (directory.spell [])) ≡ Some (directory.spell []) → blocks (digest_of root_inode) ≡ Some (inode.spell root_inode) → Some (Directory []) ≡ Some (reads.content (digest_of root_inode))
 root_is blocks reads agrees text is =
     let size = empty_size in
     let over : directory_over blocks root_inode ≡ Some [] =
@@ -142,34 +145,43 @@ root_is blocks reads agrees text is =
 key_test : (a b : ℕ) → is_eq (nat_cmp a b) ≡ (a == b)
 key_test a b = grind (arith, nat_tests)
 
--- what user 0 has
-pairs_stand : (reads : List ℕ → Content) (key : List ℕ) (i : ℕ) → Some (File (table_text key)) ≡ Some (reads (digest_of (table_inode key))) → Some (Directory []) ≡ Some (reads (digest_of root_inode))
-    → option_map reads (digest_in (first_pairs key) i) ≡ (if i == 1 then Some (File (table_text key)) else if i == 2 then Some (Directory []) else None)
-pairs_stand reads key i table root =
-    elim (cases_eq i 1) [
-      | inl one ↦ rw one (sym table)
-      | inr other ↦ elim (cases_eq i 2) [
-        | inl two ↦ rw two (sym root)
-        | inr neither ↦ rw (key_test 1 i, key_test 2 i, ne_eqb 1 i (λ e. other (sym e)), ne_eqb 2 i (λ e. neither (sym e)), ne_eqb i 1 other, ne_eqb i 2 neither) refl
-      ]
+not_one : (i : ℕ) → (i == 1) ≡ false → i ≡ 1 → ⊥
+not_one i other one = let clash = sym other ∙ eq-eqb i 1 one in absurd cc
+
+-- what user 0 has, beside the table
+pairs_stand : (reads : Reading) (key : List ℕ) (i : ℕ) → (i == 1) ≡ false → Some (Directory []) ≡ Some (reads.content (digest_of root_inode)) → option_map reads.content (digest_in (first_pairs key) i) ≡ (if i == 2 then Some (Directory []) else None)
+pairs_stand reads key i other root =
+    elim (cases_eq i 2) [
+      | inl two ↦ rw two (sym root)
+      | inr neither ↦ rw (key_test 1 i, key_test 2 i, ne_eqb 1 i (λ e. not_one i other (sym e)), ne_eqb 2 i (λ e. neither (sym e)), ne_eqb i 2 neither) refl
     ]
 
 -- what a user has, who is user 0 or isn't
-part_stands : (reads : List ℕ → Content) (key : List ℕ) (i : ℕ) (first : Bool) → Some (File (table_text key)) ≡ Some (reads (digest_of (table_inode key))) → Some (Directory []) ≡ Some (reads (digest_of root_inode))
-    → option_map reads (digest_in (if first then first_pairs key else []) i) ≡ (if not first then None else if i == 1 then Some (File (table_text key)) else if i == 2 then Some (Directory []) else None)
-part_stands reads key i true table root = pairs_stand reads key i table root
-part_stands reads key i false table root = refl
+part_stands : (reads : Reading) (key : List ℕ) (i : ℕ) (first : Bool) → (first && (i == 1)) ≡ false → Some (Directory []) ≡ Some (reads.content (digest_of root_inode))
+    → option_map reads.content (digest_in (if first then first_pairs key else []) i) ≡ (if first && (i == 2) then Some (Directory []) else None)
+part_stands reads key i true place root = pairs_stand reads key i place root
+part_stands reads key i false place root = refl
 
 pub length-table_text : (key : List ℕ) → length key ≡ 56 → length (table_text key) ≡ 68
 unfolding table_text be
 length-table_text key size = omega (arith, size, length-append key (be w16 0))
 
-pub has_genesis : (user : ℕ) (key : List ℕ) (blocks : List Block) → length key ≡ 56 → blocks ≡ first_blocks user key → NoneCollide (first_texts user key) (first_texts user key) → (reads : List ℕ → Content) → Agrees (held blocks) reads
-    → (i : ℕ) → tree_of reads (first_table user key) user i ≡ genesis (table_text key) user i
-has_genesis user key blocks size is apart reads agrees i =
+abbrev Apart : ℕ → List ℕ → Type 0
+Apart user key = NoneCollide (first_texts user key) (first_texts user key)
+
+pub has_table : (user : ℕ) (key : List ℕ) (blocks : List Block) → length key ≡ 56 → blocks ≡ first_blocks user key → Apart user key → (reads : Reading) → Agrees (held blocks) reads → user ≡ 0 → option_map reads.content (digest_at (first_table user key) 1) ≡ Some (File (table_text key))
+has_table user key blocks size is apart reads agrees first =
     let of_first : Agrees (held (first_blocks user key)) reads = subst (λ (bs : List Block). Agrees (held bs) reads) is agrees in
     let there = held_at_first user key apart in
-    let own : (user == user) ≡ true = eq-eqb user user refl in
-    let table = table_is (held (first_blocks user key)) reads key (length-table_text key size) of_first (there (table_text key) (0, omega arith, refl)) (there (inode.spell (table_inode key)) (1, omega arith, refl)) in
+    rw first (sym (table_is (held (first_blocks user key)) reads key (length-table_text key size) of_first (there (table_text key) (0, omega arith, refl)) (there (inode.spell (table_inode key)) (1, omega arith, refl))))
+
+genesis_step : (reads : Reading) (user : ℕ) (key : List ℕ) (i : ℕ) (t : Bool) → is_table user i ≡ t → Some (Directory []) ≡ Some (reads.content (digest_of root_inode)) → tree_of reads (first_users key) (first_table user key) user i ≡ genesis key user i
+genesis_step reads user key i true place root = rw place refl
+genesis_step reads user key i false place root = rw (place, eq-eqb user user refl) (part_stands reads key i (user == 0) place root)
+
+pub has_genesis : (user : ℕ) (key : List ℕ) (blocks : List Block) → blocks ≡ first_blocks user key → Apart user key → (reads : Reading) → Agrees (held blocks) reads → (i : ℕ) → tree_of reads (first_users key) (first_table user key) user i ≡ genesis key user i
+has_genesis user key blocks is apart reads agrees i =
+    let of_first : Agrees (held (first_blocks user key)) reads = subst (λ (bs : List Block). Agrees (held bs) reads) is agrees in
+    let there = held_at_first user key apart in
     let root = root_is (held (first_blocks user key)) reads of_first (there (directory.spell []) (2, omega arith, refl)) (there (inode.spell root_inode) (3, omega arith, refl)) in
-    rw own (part_stands reads key i (user == 0) table root)
+    genesis_step reads user key i (is_table user i) refl root

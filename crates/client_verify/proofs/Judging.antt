@@ -1,12 +1,12 @@
 -- From the rules' tests to the first broken rule.
-use Rattle.std.proofs.Common.{◌≡◌, ℕ, ◌<◌, arith, ◌-◌, true, false, List, [], ◌∷◌, Option, Some, None, refl, sym, ap, ◌∙◌, length}
+use Rattle.std.proofs.Common.{◌≡◌, ℕ, ◌<◌, arith, ◌-◌, Bool, ◌&&◌, true, false, List, [], ◌∷◌, Option, Some, None, refl, sym, ap, ◌∙◌, length}
 use Rattle.std.specs.Prelude.{IsSome, IfSome, IfOk, Result, Ok, Err}
 use Rattle.std.specs.List.{slice_get}
 use Rattle.std.specs.Option.{option_map, option_map_or}
 use Rattle.pending_list.specs.Reply.{PendingItem, Reply}
 use Rattle.reply_rules.specs.declared.rule.Rule.{Rule}
 use Rattle.reply_rules.specs.Lists.{Lists, lists_of, split_last}
-use Rattle.reply_rules.specs.Rules.{lists}
+use Rattle.reply_rules.specs.Rules.{lists, structures_ascend}
 use Rattle.reply_rules.specs.Broken.{least, broken}
 use Rattle.principals.specs.Table.{genesis}
 use Rattle.std.specs.Str.{bytes_eq}
@@ -55,6 +55,15 @@ pub broken_first : (pinned : List ℕ) (o : Option Lists) (answer : Option Rule)
 broken_first pinned None answer h told = absurd cc
 broken_first pinned (Some x) answer h told = told
 
+first_of : (a b : Bool) → (a && b) ≡ true → a ≡ true
+first_of true b h = refl
+first_of false b h = absurd cc
+
 pub each_ok : {X E : Type 0} (r : Result X E) (P Q : X → Type 0) → ((x : X) → P x → Q x) → IfOk r P → IfOk r Q
 each_ok (Ok x) P Q h told = h x told
 each_ok (Err e) P Q h told = tt
+
+-- where the rule on lists holds, the structures ascend
+pub lists_ascend : (r : Reply) → lists r ≡ true → structures_ascend r ≡ true
+unfolding lists
+lists_ascend r h = first_of (structures_ascend r) _ h

@@ -1,5 +1,5 @@
 pub mod Judging
-pub mod Sole
+pub mod ListsLaws
 pub mod Steps
 pub mod Firsts
 pub mod LaidLaws

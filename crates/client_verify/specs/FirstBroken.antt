@@ -81,6 +81,6 @@ of_read k (Ok r) = of_reply k r
 
 -- The first broken rule of the bytes of a reply, or none, while user 0 alone is listed. The rules on blocks are judged
 -- where a block is handed in (block_breaks). An item of another user breaks UnknownUser, so that the rules on others'
--- signatures can't be the first (what holds while user 0 alone is listed stands in Sole).
+-- signatures can't be the first.
 unfoldable pub first_broken : Known → List ℕ → Option Rule
 first_broken k text = of_read k (whole reply text)

@@ -5,9 +5,10 @@ use Rattle.std.specs.Vec.{vec_items}
 use Rattle.itable.specs.ITable.{ITable}
 use Rattle.update_cert.specs.Cert.{Cert}
 use Rattle.update_cert.specs.World.{Content, File, Directory}
+use Rattle.update_cert.specs.Reading.{Reading}
 use Rattle.update_cert.specs.Blocks.{Blocks, Agrees}
 use Rattle.update_cert.specs.Spot.{lacks}
-use Rattle.client_tree.specs.Tree.{HasLooked, IsOutcome, IsReached, IsLooked, tree_of}
+use Rattle.client_tree.specs.Tree.{HasLooked, IsOutcome, IsReached, IsLooked, shown_by}
 use Rattle.client_tree.specs.Seen.{content_seen}
 use Rattle.client_tree.specs.declared.contents.Seen.{Seen}
 use Rattle.client_verify.specs.declared.look.Look.{Look}
@@ -23,7 +24,7 @@ IsGrown blocks handle c (grown.Stands o) = IsOutcome blocks handle c o.tree (map
 
 abbrev pub IsSight : {A : Type 0} → Blocks → ITable → ℕ → ℕ → Sight A → Type 0
 IsSight blocks t p i (sight.Lacks a) = IsLooked blocks t p i a.digest a.spot × (lacks blocks a.digest a.spot ≡ true)
-IsSight blocks t p i (sight.Sees seen) = HasLooked blocks t p i × ((reads : List ℕ → Content) → Agrees blocks reads → content_seen seen ≡ tree_of reads t p i)
+IsSight blocks t p i (sight.Sees seen) = HasLooked blocks t p i × ((reads : Reading) → Agrees blocks reads → content_seen seen ≡ shown_by reads t p i)
 
 -- what is seen is told as it is
 abbrev pub IsTold : {A : Type 0} → Seen A → Look A → Type 0

@@ -1,6 +1,5 @@
 pub mod Genesis
 pub mod FirstBroken
-pub mod Sole
 pub mod State
 pub mod Judged
 pub mod Looked

@@ -1,10 +1,11 @@
 -- What a client sees in its accepted view.
 use Rattle.std.specs.Prelude.{◌≡◌, ℕ, List, Option, Some, None, IsSomeAnd, true}
 use Rattle.update_cert.specs.World.{Content, File, Directory}
+use Rattle.update_cert.specs.Reading.{Reading}
 use Rattle.update_cert.specs.Blocks.{Agrees}
 use Rattle.update_cert.specs.Spot.{lacks}
 use Rattle.client_tree.specs.Held.{held}
-use Rattle.client_tree.specs.Tree.{HasLooked, IsLooked, tree_of}
+use Rattle.client_tree.specs.Tree.{HasLooked, IsLooked, shown_by}
 use Rattle.client_verify.specs.declared.asked.Asked.{Asked}
 use Rattle.client_verify.specs.declared.view.Looking.{Looking}
 use Rattle.client_verify.specs.declared.look.Look.{Look}
@@ -17,7 +18,7 @@ abbrev pub Stands : State → View → ℕ → ℕ → Option Content → State 
 Stands s v p i content new =
     (new ≡ record s { view = Some (record v { looking = None }) })
     × HasLooked (held s.blocks) v.tree.table p i
-    × ((reads : List ℕ → Content) → Agrees (held s.blocks) reads → content ≡ tree_of reads v.tree.table p i)
+    × ((reads : Reading) → Agrees (held s.blocks) reads → content ≡ shown_by reads v.tree.table p i)
 
 -- A look: a block of what stands there is asked for, of which no text is held that its spot takes; or, once none is
 -- wanted any more, what stands there is told.

@@ -1,9 +1,12 @@
 -- A client as a machine: its state, and what each call makes of it.
-use Rattle.std.specs.Prelude.{ℕ, ◌+◌, List, [], ◌∷◌, ◌++◌, Option, Some, None, filter, nat_lt}
+use Rattle.std.specs.Prelude.{ℕ, ◌+◌, List, [], ◌++◌, Option, Some, None}
 use Rattle.std.specs.Option.{option_map_or, option_and_then}
 use Rattle.std.specs.Result.{result_ok}
+use Rattle.std.specs.Ordering.{nat_cmp}
+use Rattle.layout.specs.Ascending.{with_row}
 use Rattle.layout.specs.Format.{whole}
 use Rattle.layout.specs.Hash.{hash}
+use Rattle.layout.specs.Types.{Digest}
 use Rattle.lms_sign.specs.Signature.{signature_of}
 use Rattle.version_order.specs.declared.structure.GroupRecord.{GroupRecord}
 use Rattle.version_order.specs.Plan.{Plan}
@@ -17,7 +20,7 @@ use Rattle.client_tree.specs.Held.{Block, keeping, keeping_all}
 use Rattle.client_tree.specs.Tree.{OwnTree}
 use Rattle.pending_list.specs.declared.signed.Signed.{Signed}
 use Rattle.pending_list.specs.Signed.{signed}
-use Rattle.pending_list.specs.Reply.{digest_of_last, reply}
+use Rattle.pending_list.specs.Reply.{digest_of_last, reply, user_of}
 use Rattle.reply_rules.specs.Lists.{Lists, lists_of}
 use Rattle.reply_rules.specs.declared.rule.Rule.{Rule}
 use Rattle.reply_rules.specs.declared.rule.Rule.TheVariants as rule
@@ -97,7 +100,7 @@ initial user seed id pinned = record {
 -- ---- declaring
 
 -- the certificate of these changes that comes next
-abbrev pub next_cert : State → List Change → Cert
+abbrev pub next_cert : State → List (Change Digest) → Cert
 next_cert s changes = record { user = s.user; number = s.number + 1; last = digest_of_last s.last; changes = changes }
 
 -- a text with its signature by the next leaf
@@ -105,7 +108,7 @@ abbrev pub sent : State → List ℕ → List ℕ
 sent s text = text ++ signature_of s.seed s.id s.leaf text
 
 -- the state after these changes are declared, for which these blocks were laid out
-abbrev pub declared : State → List Change → List (List ℕ) → State
+abbrev pub declared : State → List (Change Digest) → List (List ℕ) → State
 declared s changes laid = record s {
   leaf = s.leaf + 1;
   number = s.number + 1;
@@ -135,11 +138,11 @@ holding s block = record s { blocks = keeping s.blocks block }
 -- ---- signing
 
 -- the handle of a user's i-table that was signed last, at the beginning that of the beginning
-abbrev pub handle_behind : ℕ → List ℕ → Option (Signed Structure) → List ℕ
-handle_behind user pinned last = option_map_or (λ z. z.value.handle) last (first_handle user pinned)
+abbrev pub handle_after : ℕ → List ℕ → Option (Signed Structure) → List ℕ
+handle_after user pinned last = option_map_or (λ z. z.value.handle) last (first_handle user pinned)
 
 abbrev pub last_handle : State → List ℕ
-last_handle s = handle_behind s.user s.pinned s.last
+last_handle s = handle_after s.user s.pinned s.last
 
 -- the records of groups, which are carried on
 abbrev pub groups : Option (Signed Structure) → List GroupRecord
@@ -159,10 +162,9 @@ signed_by seed id leaf z = record { value = z; signature = signature_of seed id 
 abbrev pub signed_structure : State → Ready → Signed Structure
 signed_structure s r = signed_by s.seed s.id s.leaf (next_structure s r)
 
--- the structures of lesser users, this one, and those of greater users
+-- the structures, which ascend by user, with this one in its user's place
 abbrev pub with_own : Signed Structure → List (Signed Structure) → List (Signed Structure)
-with_own z zs =
-    filter (λ y. nat_lt y.value.plan.user z.value.plan.user) zs ++ z ∷ filter (λ y. nat_lt z.value.plan.user y.value.plan.user) zs
+with_own z zs = with_row nat_cmp user_of zs z
 
 -- the view of an accepted reply
 abbrev pub view_of : State → Ready → View

@@ -1,7 +1,7 @@
 //! The client.
 
 ghost use Rattle.std.specs.Prelude.{◌≡◌, ◌≢◌, ◌+◌, ◌<◌, ◌≤◌, Some, IfOk, IfErr, IsErrOf, IfSome, IsOk, OnOk, OnErr, IsSome, IsSomeAnd, IsTrue, ◌↔◌, true, length, map};
-ghost use Rattle.std.specs.Option.{option_copied};
+ghost use Rattle.std.specs.Option.{option_copied, option_map};
 ghost use Rattle.std.specs.Vec.{vec_items};
 ghost use Rattle.principals.specs.Table.{genesis};
 ghost use Rattle.update_cert.specs.Cert.{cert};
@@ -13,10 +13,10 @@ use crate::checking::check;
 use crate::error::ClientError;
 use crate::genesis::first_blocks;
 use crate::growing::{Grown, Sight, grow, grow_with, see, see_with};
+use crate::lists::Lists;
 use crate::look::Look;
 use crate::phase::Phase;
 use crate::signing::{Sealed, seal};
-use crate::sole_lists::SoleLists;
 use crate::step::Step;
 use crate::structure::{SignedOver, sign_over};
 use crate::verdict::judge;
@@ -79,7 +79,10 @@ impl<A: Allocator> Model for Client<A> {
 impl<A: Allocator + Copy> Client<A> {
     ghost use Rattle.std.specs.Prelude.{ℕ, List};
     ghost use Rattle.itable.specs.File.{NoneCollide};
-    ghost use Rattle.update_cert.specs.World.{Content, genesis as first_tree};
+    ghost use Rattle.principals.specs.Table.{genesis as first_users};
+    ghost use Rattle.update_cert.specs.World.{genesis as first_tree, File};
+    ghost use Rattle.update_cert.specs.Reading.{Reading};
+    ghost use Rattle.itable.specs.ITable.{digest_at};
     ghost use Rattle.update_cert.specs.Blocks.{Agrees};
     ghost use Rattle.client_tree.specs.Held.{held};
     ghost use Rattle.client_tree.specs.Tree.{tree_of};
@@ -97,8 +100,12 @@ impl<A: Allocator + Copy> Client<A> {
         ensures state { IfOk result (λ client. client ≡ initial user key.seed key.id pinned) }
         // What it has is the user's part of the tree of the beginning, unless two texts of the beginning have one digest.
         ensures genesis { IfOk result (λ client. NoneCollide (first_texts user pinned) (first_texts user pinned)
-            → (reads : List ℕ → Content) → Agrees (held client.blocks) reads
-            → (i : ℕ) → tree_of reads (first_table user pinned) user i ≡ first_tree (table_text pinned) user i) }
+            → (reads : Reading) → Agrees (held client.blocks) reads
+            → (i : ℕ) → tree_of reads (first_users pinned) (first_table user pinned) user i ≡ first_tree pinned user i) }
+        // The table of principals lies in its text, a file.
+        ensures table_file { IfOk result (λ client. NoneCollide (first_texts user pinned) (first_texts user pinned)
+            → (reads : Reading) → Agrees (held client.blocks) reads
+            → user ≡ 0 → option_map reads.content (digest_at (first_table user pinned) 1) ≡ Some (File (table_text pinned))) }
     {
         let blocks = first_blocks(alloc, user, pinned.as_bytes())?;
         Ok(Client {
@@ -208,11 +215,11 @@ impl<A: Allocator + Copy> Client<A> {
     }
 
     /// The table of principals of the accepted view. It is that of the beginning, since no operation changes it yet.
-    pub fn table(&self) -> Table
+    pub fn table(&self) -> Table<A>
         requires { IsSome self.now.view }
         ensures { result ≡ genesis self.now.pinned }
     {
-        Table::genesis(self.pinned)
+        Table::genesis(self.alloc, self.pinned)
     }
 }
 
@@ -311,7 +318,7 @@ impl<A: Allocator + Copy> Client<A> {
     }
 
     /// Goes on with a reply whose lists break no rule: a block is asked for, or the reply is accepted.
-    fn go(&mut self, lists: SoleLists<A>, grown: Grown<A>) -> Step<A>
+    fn go(&mut self, lists: Lists<A>, grown: Grown<A>) -> Step<A>
         requires { IsGrown (held self.old.blocks) (last_handle self.old) lists.own.cert grown }
         ensures { Goes self.old lists result self.new }
     {
@@ -352,7 +359,7 @@ impl<A: Allocator + Copy> Client<A> {
             Err(rule) => return Ok(Step::Broken(rule)),
         };
         // Its last pending certificate is the own one.
-        let Some(lists) = SoleLists::of(reply) else {
+        let Some(lists) = Lists::of(reply)? else {
             unreachable!()
         };
         let grown = grow(
@@ -404,7 +411,6 @@ impl<A: Allocator + Copy> Client<A> {
 
     /// Signs the structure over the accepted reply, and gives it as it is sent. From here on the view is accepted. It
     /// uses a leaf, unless it answers an error: NoLeaf, or Memory.
-    #[tactic(auto, using(crate::proofs::Sole::with_own_sole))]
     pub fn sign(&mut self) -> Result<Vec<u8, A>, ClientError>
         requires { IsSome self.old.accepted }
         ensures signed { OnOk result (IfSome self.old.accepted (λ r. self.new ≡ signed_over self.old r)) }
@@ -432,7 +438,7 @@ impl<A: Allocator + Copy> Client<A> {
         };
         let SignedOver {
             structure,
-            view,
+            shown,
             kept,
             sent,
         } = over;
@@ -442,7 +448,7 @@ impl<A: Allocator + Copy> Client<A> {
         self.text = kept;
         self.checked = None;
         self.view = Some(View {
-            structures: view,
+            structures: ready.lists.with_own(shown),
             tree: ready.tree,
             looking: None,
         });

@@ -6,7 +6,7 @@ ghost use Rattle.std.specs.Vec.{vec_items};
 ghost use Rattle.update_cert.specs.declared.error.ApplyError.TheVariants as apply_error;
 ghost use Rattle.layout.specs.Hash.{hash};
 ghost use Rattle.client_tree.specs.Held.{held, keeping};
-ghost use Rattle.client_verify.specs.State.{handle_behind};
+ghost use Rattle.client_verify.specs.State.{handle_after};
 ghost use Rattle.client_verify.specs.Grown.{IsGrown, IsSight};
 
 use crate::asked::Asked;
@@ -40,7 +40,7 @@ fn handle_before<A: Allocator + Copy>(
     pinned: &PublicKey,
     last: Option<&Signed<Structure<A>>>,
 ) -> Result<Digest, Memory>
-    ensures { IfOk result (λ handle. handle ≡ handle_behind user pinned.now (option_copied last.entry)) }
+    ensures { IfOk result (λ handle. handle ≡ handle_after user pinned.now (option_copied last.entry)) }
 {
     match last {
         Some(last) => Ok(last.value.handle()),
@@ -67,7 +67,7 @@ pub(crate) fn grow<A: Allocator + Copy, B: Blocks>(
     cert: &Cert<A>,
     blocks: &B,
 ) -> Result<Grown<A>, Memory>
-    ensures { IfOk result (λ grown. IsGrown (B.held blocks.now) (handle_behind user pinned.now (option_copied last.entry)) cert.now grown) }
+    ensures { IfOk result (λ grown. IsGrown (B.held blocks.now) (handle_after user pinned.now (option_copied last.entry)) cert.now grown) }
 {
     let handle = handle_before(alloc, user, pinned, last)?;
     match Tree::of(alloc, handle, cert, blocks) {
@@ -104,7 +104,7 @@ pub(crate) fn grow_with<A: Allocator + Copy>(
     text: &[u8],
 ) -> Result<Grown<A>, Memory>
     requires { digest ≡ hash text.now }
-    ensures { IfOk result (λ grown. IsGrown (held (keeping blocks.now text.now)) (handle_behind user pinned.now (option_copied last.entry)) cert.now grown) }
+    ensures { IfOk result (λ grown. IsGrown (held (keeping blocks.now text.now)) (handle_after user pinned.now (option_copied last.entry)) cert.now grown) }
 {
     let with = With::new(blocks, digest, text);
     grow(alloc, user, pinned, last, cert, &with)

@@ -73,7 +73,7 @@ fn is_laid<A: Allocator + Copy>(
             Ok(is_file_laid(alloc, blocks, *inode)? || *inode == root_digest(alloc)?)
         }
         Action::Put(inode) => is_file_laid(alloc, blocks, *inode),
-        _ => Ok(true),
+        Action::Remove | Action::Link(_) | Action::Unlink(_) => Ok(true),
     }
 }
 

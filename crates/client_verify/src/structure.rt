@@ -1,6 +1,6 @@
 //! The structure that is signed over an accepted reply.
 
-ghost use Rattle.std.specs.Prelude.{◌≡◌, ◌<◌, ◌++◌, [], ◌∷◌, IfOk, vec_len, vec_capacity};
+ghost use Rattle.std.specs.Prelude.{◌≡◌, ◌<◌, IfOk};
 ghost use Rattle.std.specs.Option.{option_copied};
 ghost use Rattle.lms_sign.specs.Signature.{signature_of};
 ghost use Rattle.version_order.specs.Structure.{structure};
@@ -34,23 +34,9 @@ fn structure_over<A: Allocator + Copy>(
 /// A structure that was just signed: to be kept, to be shown in the view, and as it is sent, twice.
 pub(crate) struct SignedOver<A: Allocator> {
     pub(crate) structure: Signed<Structure<A>>,
-    pub(crate) view: Vec<Signed<Structure<A>>, A>,
+    pub(crate) shown: Signed<Structure<A>>,
     pub(crate) kept: Vec<u8, A>,
     pub(crate) sent: Vec<u8, A>,
-}
-
-/// A list of this one structure, for which room was made.
-fn only<A: Allocator>(
-    room: Vec<Signed<Structure<A>>, A>,
-    structure: Signed<Structure<A>>,
-) -> Vec<Signed<Structure<A>>, A>
-    requires empty { room.items ≡ [] }
-    requires room { vec_len room < vec_capacity room }
-    ensures { result.items ≡ structure ∷ [] }
-{
-    let mut list = room;
-    list.push(structure).unwrap();
-    list
 }
 
 /// Signs the structure over a plan by this leaf. All growths come before the leaf is used.
@@ -64,13 +50,12 @@ pub(crate) fn sign_over<A: Allocator + Copy>(
 ) -> Result<SignedOver<A>, Memory>
     requires { leaf < 1024 }
     ensures structure { IfOk result (λ over. over.structure ≡ signed_by key.now.seed key.now.id leaf (structure_over handle (option_copied last.entry) plan.now)) }
-    ensures view { IfOk result (λ over. over.view.items ≡ over.structure ∷ []) }
+    ensures shown { IfOk result (λ over. over.shown ≡ over.structure) }
     ensures kept { IfOk result (λ over. over.kept.items ≡ (signed structure).spell over.structure) }
     ensures sent { IfOk result (λ over. over.sent.items ≡ (signed structure).spell over.structure) }
 {
     let value = structure_over(alloc, handle, last, plan)?;
-    let shown = value.copy(alloc)?;
-    let room = Vec::with_capacity(alloc, 1)?;
+    let copy = value.copy(alloc)?;
     let text = value.text(alloc)?;
     let sealed = seal(alloc, key, leaf, text)?;
     let Sealed {
@@ -80,13 +65,10 @@ pub(crate) fn sign_over<A: Allocator + Copy>(
     } = sealed;
     Ok(SignedOver {
         structure: Signed { value, signature },
-        view: only(
-            room,
-            Signed {
-                value: shown,
-                signature,
-            },
-        ),
+        shown: Signed {
+            value: copy,
+            signature,
+        },
         kept,
         sent,
     })

@@ -1,10 +1,10 @@
 //! The first broken rule of a reply.
 
-ghost use Rattle.std.specs.Prelude.{IsSomeAnd, IfErr, OnOk, Ok, ◌≡◌, ℕ, List, IfOk, Option, Some, None, IsSome, true, map};
+ghost use Rattle.std.specs.Prelude.{IfErr, OnOk, Ok, ◌≡◌, ℕ, List, IfOk, Option, Some, None, IsSome, true, map};
 ghost use Rattle.std.specs.List.{list_all};
 ghost use Rattle.std.specs.Option.{option_copied, option_map};
 ghost use Rattle.reply_rules.specs.Lists.{lists_of};
-ghost use Rattle.client_verify.specs.Sole.{is_of_one};
+ghost use Rattle.reply_rules.specs.Rules.{structures_ascend};
 ghost use Rattle.pending_list.specs.Signed.{signed};
 ghost use Rattle.update_cert.specs.Cert.{cert};
 ghost use Rattle.client_verify.specs.FirstBroken.{own_last, own_pending, super_signature, shown_of, structure_sent, cert_sent, same_bytes, structure_verifies, cert_verifies, of_reply, first_broken};
@@ -162,8 +162,10 @@ pub(crate) fn first_broken<A: Allocator + Copy>(
     declared: &[u8],
     reply: &Reply<A>,
 ) -> Result<Option<Rule>, Memory>
+    ensures lists { IfOk result (λ rule. rule ≡ None → IsSome (lists_of reply.now)) }
     ensures first { IfOk result (λ rule. rule ≡ of_reply (record { user = user; pinned = pinned.now; last = option_copied last.entry; declared = declared.now }) reply.now) }
-    ensures sole { IfOk result (λ rule. rule ≡ None → IsSomeAnd (lists_of reply.now) (λ x. is_of_one x ≡ true)) }
+    // Then its structures ascend by user.
+    ensures ascending { IfOk result (λ rule. rule ≡ None → structures_ascend reply.now ≡ true) }
 {
     if !lists_hold(reply) {
         return Ok(Some(Rule::Lists));
@@ -181,7 +183,9 @@ pub(crate) fn first_broken<A: Allocator + Copy>(
     let Some(own) = reply.pending().last() else {
         unreachable!()
     };
-    broken(alloc, reply, &Table::genesis(*pinned), own.plan().user())
+    let table = Table::genesis(alloc, *pinned);
+    let first = broken(alloc, reply, &table, own.plan().user())?;
+    Ok(first)
 }
 
 /// Reads and judges the bytes of a reply: the reply, or the first rule that it breaks.
@@ -197,7 +201,8 @@ pub(crate) fn judge<A: Allocator + Copy>(
     ensures broken { IfOk result (λ judged. IfErr judged (λ rule. first_broken (record { user = user; pinned = pinned.now; last = option_copied last.entry; declared = declared.now }) text.now ≡ Some rule)) }
     ensures accepted { IfOk result (λ judged. OnOk judged (first_broken (record { user = user; pinned = pinned.now; last = option_copied last.entry; declared = declared.now }) text.now ≡ None)) }
     ensures read { IfOk result (λ judged. IfOk judged (λ r. whole reply text.now ≡ Ok r)) }
-    ensures sole { IfOk result (λ judged. IfOk judged (λ r. IsSomeAnd (lists_of r) (λ x. is_of_one x ≡ true))) }
+    ensures lists { IfOk result (λ judged. IfOk judged (λ r. IsSome (lists_of r))) }
+    ensures ascending { IfOk result (λ judged. IfOk judged (λ r. structures_ascend r ≡ true)) }
 {
     let reply = match Reply::read(alloc, text) {
         Ok(reply) => reply,

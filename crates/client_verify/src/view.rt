@@ -1,7 +1,7 @@
 //! What a client keeps of replies: one under check, one that was accepted, and the view that was signed.
 
 use crate::asked::Asked;
-use crate::sole_lists::SoleLists;
+use crate::lists::Lists;
 use client_tree::Tree;
 use layout::{INumber, Principal};
 use pending_list::Signed;
@@ -12,7 +12,7 @@ use version_order::Structure;
 /// A reply that breaks none of the rules on lists, of which a block is asked for.
 #[derive(Drop)]
 pub(crate) struct Checked<A: Allocator> {
-    pub(crate) lists: SoleLists<A>,
+    pub(crate) lists: Lists<A>,
     pub(crate) asked: Asked,
 }
 
@@ -27,7 +27,7 @@ impl<A: Allocator> Model for Checked<A> {
 /// A reply that breaks no rule, and the tree after the own operation.
 #[derive(Drop)]
 pub(crate) struct Ready<A: Allocator> {
-    pub(crate) lists: SoleLists<A>,
+    pub(crate) lists: Lists<A>,
     pub(crate) tree: Tree<A>,
 }
 

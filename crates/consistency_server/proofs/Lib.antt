@@ -1,5 +1,6 @@
-pub mod Sole
-pub mod Steps
 pub mod Texts
-pub mod Judging
+pub mod Placing
+pub mod Rows
+pub mod Tidy
+pub mod Kept
 pub mod Serving

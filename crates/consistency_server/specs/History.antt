@@ -1,38 +1,44 @@
 -- Histories: the calls that the server answered otherwise than busy or out of memory. The newest call is the first.
-use Rattle.std.specs.Prelude.{◌≡◌, ◌⊎◌, ℕ, List, [], ◌∷◌, ◌++◌}
+use Rattle.std.specs.Prelude.{◌≡◌, ◌⊎◌, List, [], ◌∷◌, ◌++◌}
+use Rattle.layout.specs.Types.{Bytes, Key}
 use Rattle.wire.specs.declared.kinds.Status.{Status}
 use Rattle.wire.specs.declared.kinds.Status.TheVariants as status
 use Rattle.consistency_server.specs.declared.call.CallKind.{CallKind}
 use Rattle.consistency_server.specs.declared.call.CallKind.TheVariants.{Update, Commit}
 use Rattle.consistency_server.specs.Event.{Event}
+use Rattle.consistency_server.specs.State.{State, state_after}
 use Rattle.consistency_server.specs.Answers.{Call, Answer, Outcome, outcome_of, answer, happened}
 
 -- a server without where it lies in memory: user 0's key, and the calls that it answered
 pub record Ordered : Type 0 where
-  pub pinned : List ℕ
+  pub pinned : Key
   pub history : List Call
 
-abbrev pub call_of : CallKind → List ℕ → Call
+abbrev pub call_of : CallKind → Bytes → Call
 call_of kind text = record { kind = kind; text = text }
 
-abbrev pub update_of : List ℕ → Call
+abbrev pub update_of : Bytes → Call
 update_of text = call_of Update text
 
-abbrev pub commit_of : List ℕ → Call
+abbrev pub commit_of : Bytes → Call
 commit_of text = call_of Commit text
 
--- what the calls placed and committed, under the key of user 0
-unfoldable pub events : List ℕ → List Call → List Event
+-- what the calls placed and committed, where this is the key that every client knows
+unfoldable pub events : Key → List Call → List Event
 events pinned [] = []
-events pinned (call ∷ earlier) = happened (outcome_of pinned (events pinned earlier) call) ++ events pinned earlier
+events pinned (call ∷ earlier) = happened (outcome_of (state_after pinned (events pinned earlier)) call) ++ events pinned earlier
+
+-- what the server keeps after a history
+abbrev pub kept : Key → List Call → State
+kept pinned history = state_after pinned (events pinned history)
 
 -- what a call leads to after a history
 abbrev pub outcome_after : Ordered → Call → Outcome
-outcome_after server call = outcome_of server.pinned (events server.pinned server.history) call
+outcome_after server call = outcome_of (kept server.pinned server.history) call
 
 -- what a call is answered after a history, want of memory and a full log aside
-abbrev pub answer_of : List ℕ → List Call → Call → Answer
-answer_of pinned history call = answer (outcome_of pinned (events pinned history) call)
+abbrev pub answer_of : Key → List Call → Call → Answer
+answer_of pinned history call = answer (outcome_of (kept pinned history) call)
 
 -- the log was full, or memory ran out
 abbrev pub IsTurnedAway : Status → Type 0

@@ -1,8 +1,9 @@
 pub mod Event
-pub mod History
-pub mod Answers
+pub mod Tables
 pub mod State
-pub mod Steps
+pub mod Answers
+pub mod History
 pub mod Reading
+pub mod Tidy
 pub mod Judged
 pub mod Serving

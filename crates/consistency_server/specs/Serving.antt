@@ -2,8 +2,8 @@
 -- The status of a call that wasn't served.
 use Rattle.wire.specs.declared.kinds.Status.{Status}
 use Rattle.wire.specs.declared.kinds.Status.TheVariants as status
-use Rattle.consistency_server.specs.declared.server.Refusal.{Refusal}
-use Rattle.consistency_server.specs.declared.server.Refusal.TheVariants.{Busy, Memory}
+use Rattle.consistency_server.specs.declared.refusal.Refusal.{Refusal}
+use Rattle.consistency_server.specs.declared.refusal.Refusal.TheVariants.{Busy, Memory}
 
 abbrev pub status_of : Refusal → Status
 status_of Busy = status.Busy

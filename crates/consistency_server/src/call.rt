@@ -1,7 +1,9 @@
 //! Calls, and what they are answered.
 
-ghost use Rattle.std.specs.Prelude.{◌≡◌};
+ghost use Rattle.std.specs.Prelude.{◌≡◌, ◌≤◌, length};
 
+use crate::payload::Payload;
+use pending_list::REPLY_SIZE;
 use std::alloc::Allocator;
 use std::marker::Model;
 use wire::Status;
@@ -54,20 +56,19 @@ impl<A: Allocator> Call<A> {
 #[derive(Drop)]
 pub struct Answer<A: Allocator> {
     status: Status,
-    payload: Vec<u8, A>,
+    payload: Payload<A>,
 }
 
 impl<A: Allocator> Model for Answer<A> {
+    ghost use Rattle.std.specs.Prelude.{◌≡◌, true};
+    ghost use Rattle.wire.specs.Frame.{may_carry};
     ghost use Rattle.consistency_server.specs.Answers.{Answer};
 
     ghost Value = { Answer };
 
-    ghost view = { λ a. record { status = a.status; payload = a.payload.items } };
+    ghost view = { λ a. record { status = a.status; payload = a.payload } };
 
-    ghost use Rattle.std.specs.Prelude.{◌≡◌, true};
-    ghost use Rattle.wire.specs.Frame.{may_carry};
-
-    ghost invariant = { λ a. may_carry a.status a.payload.items ≡ true };
+    ghost invariant = { λ a. may_carry a.status a.payload ≡ true };
 }
 
 impl<A: Allocator> Answer<A> {
@@ -76,8 +77,8 @@ impl<A: Allocator> Answer<A> {
     ghost use Rattle.wire.specs.declared.kinds.Status.TheVariants as status;
 
     /// `Ok`, with what comes with it.
-    pub(crate) fn with_payload(payload: Vec<u8, A>) -> Answer<A>
-        ensures { result ≡ record { status = status.Ok; payload = payload.items } }
+    pub(crate) fn with_payload(payload: Payload<A>) -> Answer<A>
+        ensures { result ≡ record { status = status.Ok; payload = payload } }
     {
         Answer {
             status: Status::Ok,
@@ -91,7 +92,7 @@ impl<A: Allocator> Answer<A> {
     {
         Answer {
             status,
-            payload: Vec::new(alloc),
+            payload: Payload::empty(alloc),
         }
     }
 
@@ -106,14 +107,17 @@ impl<A: Allocator> Answer<A> {
         ensures same { result.now ≡ self.now.payload }
         // Only `Ok` has a payload.
         ensures carried { may_carry self.now.status self.now.payload ≡ true }
+        // It is no longer than the text of a reply can be.
+        ensures size { length self.now.payload ≤ REPLY_SIZE }
     {
-        &self.payload
+        self.payload.as_slice()
     }
 
     pub fn into_payload(self) -> Vec<u8, A>
-        ensures { result.items ≡ self.payload }
+        ensures same { result.items ≡ self.payload }
+        ensures size { length self.payload ≤ REPLY_SIZE }
     {
         let Answer { status: _, payload } = self;
-        payload
+        payload.into_vec()
     }
 }

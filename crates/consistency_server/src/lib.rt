@@ -3,8 +3,13 @@
 
 mod call;
 mod log;
+mod payload;
+mod placement;
+mod refusal;
 mod server;
+mod signed_text;
 mod state;
+mod structures;
 
 pub use call::{Answer, Call, CallKind};
 pub use log::{Log, LogFull, MemoryLog};

@@ -1,53 +1,15 @@
 //! The server's one order of calls.
 
 ghost use Rattle.std.specs.Prelude.{◌≡◌, ◌≢◌, [], ◌∷◌, ◌++◌, OnOk, OnErr, IfOk, IsTrue, Err, reverse};
-ghost use Rattle.consistency_server.specs.Judged.{answer_by, state_behind, logged_by};
+ghost use Rattle.consistency_server.specs.Judged.{MayHappen, answer_by, state_after, logged_by};
 
 use crate::call::{Answer, Call, CallKind};
-use crate::log::{Log, LogFull};
+use crate::log::Log;
+use crate::refusal::Refusal;
 use crate::state::{Judged, State};
-use layout::Memory;
 use lms_sign::PublicKey;
-use std::alloc::{AllocError, Allocator};
+use std::alloc::Allocator;
 use std::marker::Model;
-use wire::Status;
-
-/// Why a call wasn't served.
-#[derive(Clone, Copy, Debug)]
-enum Refusal {
-    Busy,
-    Memory,
-}
-
-impl From<LogFull> for Refusal {
-    ghost use Rattle.consistency_server.specs.declared.server.Refusal.TheVariants as refusal;
-
-    ghost from_gives = { λ _ e. e ≡ refusal.Busy };
-
-    fn from(_e: LogFull) -> Refusal {
-        Refusal::Busy
-    }
-}
-
-impl From<Memory> for Refusal {
-    ghost use Rattle.consistency_server.specs.declared.server.Refusal.TheVariants as refusal;
-
-    ghost from_gives = { λ _ e. e ≡ refusal.Memory };
-
-    fn from(_e: Memory) -> Refusal {
-        Refusal::Memory
-    }
-}
-
-impl From<AllocError> for Refusal {
-    ghost use Rattle.consistency_server.specs.declared.server.Refusal.TheVariants as refusal;
-
-    ghost from_gives = { λ _ e. e ≡ refusal.Memory };
-
-    fn from(_e: AllocError) -> Refusal {
-        Refusal::Memory
-    }
-}
 
 /// The order of the calls so far, under the key of user 0.
 #[derive(Drop)]
@@ -58,15 +20,14 @@ pub struct Ordered<A: Allocator> {
 }
 
 impl<A: Allocator> Model for Ordered<A> {
-    ghost use Rattle.std.specs.Prelude.{reverse};
-    ghost use Rattle.consistency_server.specs.History.{Ordered, events};
-    ghost use Rattle.consistency_server.specs.State.{Keeps};
+    ghost use Rattle.std.specs.Prelude.{◌≡◌, reverse};
+    ghost use Rattle.consistency_server.specs.History.{Ordered, kept};
 
     ghost Value = { Ordered };
 
     ghost view = { λ o. record { pinned = o.pinned; history = reverse o.history.items } };
 
-    ghost invariant = { λ o. Keeps (events o.pinned (reverse o.history.items)) o.state };
+    ghost invariant = { λ o. o.state ≡ kept o.pinned (reverse o.history.items) };
 }
 
 /// What is done for a call once it is judged: room is made for it, it goes to the log if it happens, and then what is
@@ -79,8 +40,9 @@ fn carry_out<A: Allocator + Copy, G: Log<Call<A>>>(
     text: &[u8],
     judged: Judged<A>,
 ) -> Result<Answer<A>, Refusal>
+    requires { MayHappen state.old judged }
     ensures answer { IfOk result (λ answer. answer ≡ answer_by judged) }
-    ensures state { OnOk result (state.new ≡ state_behind state.old judged) }
+    ensures state { OnOk result (state.new ≡ state_after state.old judged) }
     ensures history { OnOk result (history.new.items ≡ history.old.items ++ record { kind = kind; text = text.now } ∷ []) }
     ensures log { OnOk result (G.pushed log.new ≡ G.pushed log.old ++ logged_by judged (record { kind = kind; text = text.now })) }
     ensures state_err { OnErr result (state.new ≡ state.old) }
@@ -96,26 +58,12 @@ fn carry_out<A: Allocator + Copy, G: Log<Call<A>>>(
         Judged::Refused(status) => Answer::bare(alloc, status),
         Judged::Repeated(payload) => Answer::with_payload(payload),
         Judged::Happens(change, payload) => {
-            log.try_push(Call::new(kind, Vec::from_slice(alloc, text)?))?;
-            state.apply(change);
+            state.happen(log, Call::new(kind, Vec::from_slice(alloc, text)?), change)?;
             Answer::with_payload(payload)
         }
     };
     history.push(call).unwrap();
     Ok(answer)
-}
-
-impl Refusal {
-    ghost use Rattle.consistency_server.specs.Serving.{status_of};
-
-    fn status(self) -> Status
-        ensures { result ≡ status_of self }
-    {
-        match self {
-            Refusal::Busy => Status::Busy,
-            Refusal::Memory => Status::Memory,
-        }
-    }
 }
 
 impl<A: Allocator + Copy> Ordered<A> {
@@ -128,7 +76,7 @@ impl<A: Allocator + Copy> Ordered<A> {
     {
         Ordered {
             pinned,
-            state: State::new(alloc),
+            state: State::new(alloc, pinned),
             history: Vec::new(alloc),
         }
     }
@@ -217,7 +165,7 @@ impl<A: Allocator + Copy> Ordered<A> {
         ensures busy_event { result ≡ Err Refusal.Busy → logged self.old (call_of kind text.now) ≢ [] }
     {
         let alloc = *self.history.allocator();
-        let judged = self.state.judge(alloc, &self.pinned, kind, text)?;
+        let judged = self.state.judge(alloc, kind, text)?;
         carry_out(&mut self.state, &mut self.history, log, kind, text, judged)
     }
 }

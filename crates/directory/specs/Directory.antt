@@ -8,9 +8,9 @@ use Rattle.std.specs.Option.{option_map}
 use Rattle.std.specs.Ordering.{nat_cmp}
 use Rattle.std.specs.Cmp.Lexicographic.{slice_cmp}
 use Rattle.std.specs.declared.cmp.Ordering.{Ordering}
-use Rattle.layout.specs.Format.{Format, Rows, be, uint_in, pair, guarded, behind, mapped, listed, spell_rows}
+use Rattle.layout.specs.Format.{Format, RowAfter, be, uint_in, pair, guarded, headed, mapped, listed, after_row, spell_rows}
 use Rattle.layout.specs.Laws.{Lawful, laws, wide8, wide16}
-use Rattle.layout.specs.Sizes.{AtMost, at_most_behind, at_most_guarded, at_most_listed, at_most_mapped, at_most_pair, at_most_string, at_most_uint_in}
+use Rattle.layout.specs.Sizes.{AtMost, at_most_headed, at_most_guarded, at_most_listed, at_most_mapped, at_most_pair, at_most_string, at_most_uint_in}
 use Rattle.layout.specs.Ranges.{principal, i_number}
 use Rattle.layout.specs.Ascending.{above, row_at, with_row, without_row}
 use Rattle.layout.specs.declared.error.ReadError.TheVariants.{Order}
@@ -40,11 +40,11 @@ abbrev pub named : Format Entry
 named = mapped (λ p. record { name = p.0; target = p.1 }) (λ e. (e.name, e.target)) (pair name target)
 
 -- a name above the one before, and its target
-abbrev pub entry : Rows Entry
+abbrev pub entry : RowAfter Entry
 entry before = mapped (λ p. record { name = p.0; target = p.1 }) (λ e. (e.name, e.target)) (pair (guarded name (above by_bytes name_of before) Order) target)
 
 abbrev pub directory : Format (List Entry)
-directory = behind (codes "SDI1") (listed (uint_in w16 0 1024) entry)
+directory = headed (codes "SDI1") (listed (uint_in w16 0 1024) entry)
 
 pub lawful_target : Lawful target
 lawful_target = search laws depth 9
@@ -74,13 +74,13 @@ at_most_entry : (before : Option Entry) → AtMost (entry before) 259
 at_most_entry before = at_most_mapped _ _ _ 259 (at_most_pair _ _ 256 3 (at_most_guarded _ _ _ 256 at_most_name) at_most_target)
 
 at_most_directory : AtMost directory 265222
-at_most_directory = at_most_behind (codes "SDI1") _ 265218 (at_most_listed w16 0 1024 entry 259 wide16 at_most_entry)
+at_most_directory = at_most_headed (codes "SDI1") _ 265218 (at_most_listed w16 0 1024 entry 259 wide16 at_most_entry)
 
 -- a text of a directory has 6 to 265,222 bytes
 pub size_of : (entries : List Entry) → directory.Fits entries → (6 ≤ length (directory.spell entries)) × (length (directory.spell entries) ≤ 265222)
 unfolding be
 size_of entries fits =
-    (omega (arith, length-append (codes "SDI1") (be w16 (length entries) ++ spell_rows entry None entries), length-append (be w16 (length entries)) (spell_rows entry None entries), wide16.len (length entries)), at_most_directory.holds entries fits)
+    (omega (arith, length-append (codes "SDI1") (be w16 (length entries) ++ spell_rows (after_row entry) None entries), length-append (be w16 (length entries)) (spell_rows (after_row entry) None entries), wide16.len (length entries)), at_most_directory.holds entries fits)
 
 -- ---- the map
 

@@ -45,14 +45,9 @@ impl<A: Allocator + Copy> Server<A> {
     }
 }
 
-/// The frame of an answer; one that is too long says so.
+/// The frame of an answer.
 fn framed<A: Allocator + Copy>(alloc: A, answer: &Answer<A>) -> Result<Vec<u8, A>, Memory> {
-    let payload = answer.payload();
-    if payload.len() < BODY_LIMIT as usize {
-        reply_frame(alloc, answer.status(), payload)
-    } else {
-        reply_frame(alloc, Status::TooLarge, &[])
-    }
+    reply_frame(alloc, answer.status(), answer.payload())
 }
 
 /// The status of a reply frame, with its payload. A frame that is none of a reply comes from no server of a script.

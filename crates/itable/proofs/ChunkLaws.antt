@@ -10,7 +10,7 @@ use Rattle.std.proofs.lemmas.Bool.Decides.{nat_tests}
 use Rattle.std.proofs.lemmas.Cmp.{nat_cmp_total}
 use Rattle.std.proofs.lemmas.List.{nil_from_length}
 use Rattle.std.proofs.lemmas.List.Elements.{All-head, All-tail, filter_passes}
-use Rattle.layout.specs.Format.{FitRows, whole}
+use Rattle.layout.specs.Format.{FitRows, after_row, whole}
 use Rattle.layout.specs.Laws.{in_range_fits, whole_again}
 use Rattle.layout.specs.Sizes.{KeysAscend, least_key, few_rows}
 use Rattle.layout.specs.Ascending.{above, Ascends, row_at}
@@ -22,13 +22,13 @@ use Rattle.itable.proofs.Runs.{lt_from_less, same_key}
 
 -- ---- the pairs of a chunk
 
-rows_step : (n : ℕ) (b : Option Pair) (p : Pair) (ps : List Pair) → IsPair p → Ascends nat_cmp i_number_of b (p ∷ ps) → FitRows (pair_row n) (Some p) (filter (is_in n) ps) → (Ascends nat_cmp i_number_of b ps → FitRows (pair_row n) b (filter (is_in n) ps))
-    → (t : Bool) → is_in n p ≡ t → FitRows (pair_row n) b (filter (is_in n) (p ∷ ps))
+rows_step : (n : ℕ) (b : Option Pair) (p : Pair) (ps : List Pair) → IsPair p → Ascends nat_cmp i_number_of b (p ∷ ps) → FitRows (after_row (pair_row n)) (Some p) (filter (is_in n) ps) → (Ascends nat_cmp i_number_of b ps → FitRows (after_row (pair_row n)) b (filter (is_in n) ps))
+    → (t : Bool) → is_in n p ≡ t → FitRows (after_row (pair_row n)) b (filter (is_in n) (p ∷ ps))
 unfolding Ascends FitRows
 rows_step n b p ps one up with without true is = rw is ((((one.0, is), up.0), one.1), with)
 rows_step n b p ps one up with without false is = rw is (without (ascends_earlier nat_cmp i_number_of nat_cmp_total b p ps up.0 up.1))
 
-rows_in : (n : ℕ) (b : Option Pair) (ps : List Pair) → All IsPair ps → Ascends nat_cmp i_number_of b ps → FitRows (pair_row n) b (filter (is_in n) ps)
+rows_in : (n : ℕ) (b : Option Pair) (ps : List Pair) → All IsPair ps → Ascends nat_cmp i_number_of b ps → FitRows (after_row (pair_row n)) b (filter (is_in n) ps)
 unfolding Ascends FitRows
 rows_in n b [] all up = tt
 rows_in n b (p ∷ ps) all up =

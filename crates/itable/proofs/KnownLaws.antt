@@ -83,8 +83,12 @@ learned (k ∷ ks) (suc i) (suc n) new d h = elim (learned ks i n new d h) [ inl
 
 -- ---- what a table keeps
 
-pub keeps_nothing : (p : ℕ) → principals.Fits p → IsKept (record { principal = p; pairs = [] }) (replicate 64 None)
-keeps_nothing p fits = record { is_table = is_empty_table p fits; size = refl; known_is = λ n d h. absurd (none_known 64 n d h) }
+-- nothing is known of a table
+pub keeps_nothing : (t : ITable) → IsTable t → IsKept t (replicate 64 None)
+keeps_nothing t is = record { is_table = is; size = refl; known_is = λ n d h. absurd (none_known 64 n d h) }
+
+pub keeps_empty : (p : ℕ) → principals.Fits p → IsKept (record { principal = p; pairs = [] }) (replicate 64 None)
+keeps_empty p fits = keeps_nothing (record { principal = p; pairs = [] }) (is_empty_table p fits)
 
 -- one chunk is forgotten, and the texts of the others stay
 pub keeps_others : (t u : ITable) (known : Known) (i : ℕ) → IsKept t known → IsTable u → ((n : ℕ) → i ≢ n → text_of_chunk u n ≡ text_of_chunk t n) → IsKept u (set known i None)

@@ -1,23 +1,24 @@
 -- A table takes in a chunk that stands after its own.
 use Rattle.std.proofs.Common.{◌≡◌, ◌≢◌, ℕ, zero, suc, ◌+◌, ◌<◌, ◌≤◌, Bool, true, false, List, [], ◌∷◌, ◌++◌, length, set, Option, Some, None, refl, sym, ap, subst, ◌∙◌, inl, inr, arith}
-use Rattle.std.specs.Prelude.{filter, filter_map}
+use Rattle.std.specs.Prelude.{◌==◌, filter, filter_map, if◌then◌else◌}
 use Rattle.std.specs.Int.{w8, w16}
 use Rattle.std.specs.List.{All, range_with_len, cons_option}
 use Rattle.std.specs.Option.{option_map}
 use Rattle.std.specs.Ordering.{nat_cmp, is_eq}
 use Rattle.std.proofs.lemmas.Bool.{cases_eq, eqb-true, eq-eqb, ne_eqb}
+use Rattle.std.proofs.lemmas.Bool.Decides.{nat_tests}
 use Rattle.std.proofs.lemmas.Cmp.{nat_cmp_total}
 use Rattle.std.proofs.lemmas.List.{append-nil}
 use Rattle.std.proofs.lemmas.List.Elements.{All-append, All-cons, All-head, All-nil, All-tail, All-weaker, filter-append}
 use Rattle.layout.specs.Hash.{hash}
 use Rattle.layout.specs.Laws.{in_range}
 use Rattle.layout.specs.Ascending.{above, Ascends, row_at}
-use Rattle.layout.specs.AscendingLaws.{Ordered, ascends_from_fits}
+use Rattle.layout.specs.AscendingLaws.{Ordered, ascends_from_fits, HasOther, row_in_first, row_in_last}
 use Rattle.itable.specs.declared.chunk.Pair.{Pair}
 use Rattle.itable.specs.declared.root.ListedChunk.{ListedChunk}
 use Rattle.itable.specs.Chunk.{Chunk, chunk, chunk_number, i_number_of, pair_row}
 use Rattle.itable.specs.Root.{number_of}
-use Rattle.itable.specs.ITable.{ITable, IsPair, IsTable, is_in, listing, listings, text_of_chunk}
+use Rattle.itable.specs.ITable.{ITable, IsPair, IsTable, digest_at, digest_in, is_in, listing, listings, text_of_chunk}
 use Rattle.itable.specs.Known.{IsKept}
 use Rattle.itable.proofs.ChunkLaws.{no_text, found_first}
 use Rattle.itable.proofs.KnownLaws.{Known, keeps_others, keeps_more}
@@ -39,15 +40,15 @@ set_twice {X} (z ∷ zs) (suc i) x y = ap (λ (ws : List X). z ∷ ws) (set_twic
 abbrev IsFound : List Pair → Pair → Type 0
 IsFound ps p = row_at nat_cmp i_number_of ps p.i_number ≡ None → ⊥
 
-found_behind : (x : Pair) (ps : List Pair) (p : Pair) → IsFound ps p → (t : Bool) → is_eq (nat_cmp x.i_number p.i_number) ≡ t → IsFound (x ∷ ps) p
-found_behind x ps p found true is none = let some : row_at nat_cmp i_number_of (x ∷ ps) p.i_number ≡ Some x = rw is refl in absurd cc
-found_behind x ps p found false is none = let same : row_at nat_cmp i_number_of (x ∷ ps) p.i_number ≡ row_at nat_cmp i_number_of ps p.i_number = rw is refl in found (sym same ∙ none)
+found_following : (x : Pair) (ps : List Pair) (p : Pair) → IsFound ps p → (t : Bool) → is_eq (nat_cmp x.i_number p.i_number) ≡ t → IsFound (x ∷ ps) p
+found_following x ps p found true is none = let some : row_at nat_cmp i_number_of (x ∷ ps) p.i_number ≡ Some x = rw is refl in absurd cc
+found_following x ps p found false is none = let same : row_at nat_cmp i_number_of (x ∷ ps) p.i_number ≡ row_at nat_cmp i_number_of ps p.i_number = rw is refl in found (sym same ∙ none)
 
 all_found : (ps : List Pair) → All (IsFound ps) ps
 all_found [] = All-nil (IsFound [])
 all_found (x ∷ ps) =
     All-cons (IsFound (x ∷ ps)) x ps (λ none. let some = found_first x ps in absurd cc)
-    (All-weaker (IsFound ps) (IsFound (x ∷ ps)) (λ p found. found_behind x ps p found (is_eq (nat_cmp x.i_number p.i_number)) refl) ps (all_found ps))
+    (All-weaker (IsFound ps) (IsFound (x ∷ ps)) (λ p found. found_following x ps p found (is_eq (nat_cmp x.i_number p.i_number)) refl) ps (all_found ps))
 
 some_is : {A : Type 0} {x y : A} → Some x ≡ Some y → x ≡ y
 some_is e = cc
@@ -121,14 +122,14 @@ above_first : (n : ℕ) (b : Option Pair) (y : Pair) → IsBefore n b → chunk_
 above_first n None y before is = refl
 above_first n (Some p) y before is = less_from_lt p.i_number y.i_number (omega arith)
 
-ascends_behind : (n : ℕ) (b : Option Pair) (ys : List Pair) → IsBefore n b → All (IsOf n) ys → Ascends nat_cmp i_number_of None ys → Ascends nat_cmp i_number_of b ys
+ascends_following : (n : ℕ) (b : Option Pair) (ys : List Pair) → IsBefore n b → All (IsOf n) ys → Ascends nat_cmp i_number_of None ys → Ascends nat_cmp i_number_of b ys
 unfolding Ascends
-ascends_behind n b [] before all up = tt
-ascends_behind n b (y ∷ ys) before all up = (above_first n b y before (All-head (IsOf n) y ys all).1, up.1)
+ascends_following n b [] before all up = tt
+ascends_following n b (y ∷ ys) before all up = (above_first n b y before (All-head (IsOf n) y ys all).1, up.1)
 
 ascends_both : (n : ℕ) (b : Option Pair) (xs ys : List Pair) → IsBefore n b → All (IsBelow n) xs → Ascends nat_cmp i_number_of b xs → All (IsOf n) ys → Ascends nat_cmp i_number_of None ys → Ascends nat_cmp i_number_of b (xs ++ ys)
 unfolding Ascends
-ascends_both n b [] ys before below up all more = ascends_behind n b ys before all more
+ascends_both n b [] ys before below up all more = ascends_following n b ys before all more
 ascends_both n b (x ∷ xs) ys before below up all more =
     (up.0, ascends_both n (Some x) xs ys (All-head (IsBelow n) x xs below) (All-tail (IsBelow n) x xs below) up.1 all more)
 
@@ -152,6 +153,17 @@ all_of_chunk n ys all = all_in n ys (All-weaker (IsOf n) (λ p. is_in n p ≡ tr
 cons_front : (o : Option ListedChunk) (x : ListedChunk) (xs ys : List ListedChunk) → xs ≡ ys ++ x ∷ [] → cons_option o xs ≡ cons_option o ys ++ x ∷ []
 cons_front None x xs ys e = e
 cons_front (Some y) x xs ys e = ap (λ (zs : List ListedChunk). y ∷ zs) e
+
+-- ---- the row of an i-number in both lists
+
+other_number : (a b : ℕ) → a ≢ b → is_eq (nat_cmp a b) ≡ false
+other_number a b apart = grind (arith, nat_tests)
+
+below_apart : (a i n : ℕ) → chunk_number a < n → chunk_number i ≡ n → is_eq (nat_cmp a i) ≡ false
+below_apart a i n lower same = other_number a i (λ e. let both : chunk_number a ≡ chunk_number i = ap chunk_number e in absurd (omega (arith, lower, same, both)))
+
+chunk_apart : (a i n : ℕ) → chunk_number a ≡ n → (chunk_number i == n) ≡ false → is_eq (nat_cmp a i) ≡ false
+chunk_apart a i n of other = other_number a i (λ e. let clash = sym other ∙ eq-eqb (chunk_number i) n (ap chunk_number (sym e) ∙ of) in absurd cc)
 
 -- ---- the table with the chunk
 
@@ -192,6 +204,17 @@ module _ (t : ITable) (c : Chunk) (is : IsTable t) (fits : chunk.Fits c) (below 
   unfolding text_of_chunk
   text_here = rw pairs_here (rw (ne_eqb (length c.pairs) 0 (some_pairs c fits)) refl)
 
+  digests_step : (i : ℕ) (in_chunk : Bool) → (chunk_number i == c.number) ≡ in_chunk → digest_at (with_chunk t c) i ≡ (if in_chunk then digest_in c.pairs i else digest_at t i)
+  digests_step i true here =
+      ap (option_map (λ p. p.digest))
+      (row_in_last nat_cmp i_number_of t.pairs c.pairs i (All-weaker (IsBelow c.number) (HasOther nat_cmp i_number_of i) (λ p below_it. below_apart p.i_number i c.number below_it (eqb-true (chunk_number i) c.number here)) t.pairs lower))
+  digests_step i false other =
+      ap (option_map (λ p. p.digest))
+      (row_in_first nat_cmp i_number_of t.pairs c.pairs i (All-weaker (IsOf c.number) (HasOther nat_cmp i_number_of i) (λ p of. chunk_apart p.i_number i c.number of.1 other) c.pairs mine.0))
+
+  pub digests_loaded : (i : ℕ) → digest_at (with_chunk t c) i ≡ (if chunk_number i == c.number then digest_in c.pairs i else digest_at t i)
+  digests_loaded i = digests_step i (chunk_number i == c.number) refl
+
   none_from : (m : ℕ) → c.number ≤ m → text_of_chunk t m ≡ None
   unfolding text_of_chunk
   none_from m le = rw (none_of_lower c.number m t.pairs le lower) refl
@@ -210,8 +233,8 @@ module _ (t : ITable) (c : Chunk) (is : IsTable t) (fits : chunk.Fits c) (below 
   entry_here : listing (with_chunk t c) c.number ≡ Some entry
   entry_here = ap (option_map (λ (y : List ℕ). record { number = c.number; digest = hash y })) text_here
 
-  none_behind : (m : ℕ) → c.number < m → listing (with_chunk t c) m ≡ None
-  none_behind m lt = ap (option_map (λ (y : List ℕ). record { number = m; digest = hash y })) (text_elsewhere m (λ e. omega arith) ∙ none_from m (omega arith))
+  none_following : (m : ℕ) → c.number < m → listing (with_chunk t c) m ≡ None
+  none_following m lt = ap (option_map (λ (y : List ℕ). record { number = m; digest = hash y })) (text_elsewhere m (λ e. omega arith) ∙ none_from m (omega arith))
 
   nothing_listed : (f : ℕ → Option ListedChunk) (a k : ℕ) → ((m : ℕ) → a ≤ m → f m ≡ None) → filter_map f (range_with_len a k) ≡ []
   nothing_listed f a zero none = refl
@@ -225,7 +248,7 @@ module _ (t : ITable) (c : Chunk) (is : IsTable t) (fits : chunk.Fits c) (below 
             let first : listing (with_chunk t c) a ≡ Some entry = rw e entry_here in
             let old : listing t a ≡ None = none_before a (omega arith) in
             rw (first, old)
-            (ap (λ (xs : List ListedChunk). entry ∷ xs) (nothing_listed (listing (with_chunk t c)) (a + 1) k (λ m le. none_behind m (omega arith)))
+            (ap (λ (xs : List ListedChunk). entry ∷ xs) (nothing_listed (listing (with_chunk t c)) (a + 1) k (λ m le. none_following m (omega arith)))
             ∙ ap (λ (xs : List ListedChunk). xs ++ entry ∷ []) (sym (nothing_listed (listing t) (a + 1) k (λ m le. none_before m (omega arith))))))
         | inr e ↦ rw (same_before a (omega arith)) (cons_front (listing t a) entry _ _ (one_more (a + 1) k (omega arith) (omega arith)))
       ]

@@ -9,7 +9,7 @@ use Rattle.std.specs.Option.{option_map}
 use Rattle.std.specs.Ordering.{nat_cmp, is_eq}
 use Rattle.std.proofs.lemmas.Bool.{cases_eq}
 use Rattle.std.proofs.lemmas.Bool.Decides.{nat_tests}
-use Rattle.layout.specs.Format.{FitRows, whole}
+use Rattle.layout.specs.Format.{FitRows, after_row, whole}
 use Rattle.layout.specs.Laws.{in_range_fits, listed_fits, whole_again}
 use Rattle.layout.specs.Hash.{hash}
 use Rattle.layout.specs.Ascending.{above, row_at}
@@ -27,13 +27,13 @@ abbrev listed_from : (ℕ → Option (List ℕ)) → ℕ → ℕ → List Listed
 listed_from texts a n = filter_map (listed_of texts) (range_with_len a n)
 
 rows_step : (texts : ℕ → Option (List ℕ)) (a n : ℕ) (b : Option ListedChunk) (o : Option (List ℕ)) → texts a ≡ o → a < 64 → above nat_cmp number_of b a ≡ true
-    → ((c : Option ListedChunk) → ((q : ℕ) → a + 1 ≤ q → above nat_cmp number_of c q ≡ true) → FitRows chunk_row c (listed_from texts (a + 1) n)) → ((q : ℕ) → a ≤ q → above nat_cmp number_of b q ≡ true) → FitRows chunk_row b (listed_from texts a (suc n))
+    → ((c : Option ListedChunk) → ((q : ℕ) → a + 1 ≤ q → above nat_cmp number_of c q ≡ true) → FitRows (after_row chunk_row) c (listed_from texts (a + 1) n)) → ((q : ℕ) → a ≤ q → above nat_cmp number_of b q ≡ true) → FitRows (after_row chunk_row) b (listed_from texts a (suc n))
 unfolding FitRows
 rows_step texts a n b None is small here later up = rw is (later b (λ q le. up q (omega arith)))
 rows_step texts a n b (Some text) is small here later up =
     rw is (((in_range_fits w8 0 63 a (omega arith) (omega arith) (omega arith), here), hash_fits text), later (Some (record { number = a; digest = hash text })) (λ q le. less_from_lt a q (omega arith)))
 
-rows_from : (texts : ℕ → Option (List ℕ)) (a n : ℕ) (b : Option ListedChunk) → a + n ≤ 64 → ((q : ℕ) → a ≤ q → above nat_cmp number_of b q ≡ true) → FitRows chunk_row b (listed_from texts a n)
+rows_from : (texts : ℕ → Option (List ℕ)) (a n : ℕ) (b : Option ListedChunk) → a + n ≤ 64 → ((q : ℕ) → a ≤ q → above nat_cmp number_of b q ≡ true) → FitRows (after_row chunk_row) b (listed_from texts a n)
 unfolding FitRows
 rows_from texts a zero b few up = tt
 rows_from texts a (suc n) b few up = rows_step texts a n b (texts a) refl (omega arith) (up a (omega arith)) (λ c more. rows_from texts (a + 1) n c (omega arith) more) up

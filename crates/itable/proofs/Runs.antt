@@ -22,18 +22,18 @@ same_key a b h = grind (arith, nat_tests)
 
 -- ---- the order of the pairs
 
-rise_behind : (p : Pair) (ps : List Pair) → Ascends nat_cmp i_number_of (Some p) ps → (j : ℕ) (d : Pair) → j < length ps → p.i_number < (get_or ps j d).i_number
+rise_following : (p : Pair) (ps : List Pair) → Ascends nat_cmp i_number_of (Some p) ps → (j : ℕ) (d : Pair) → j < length ps → p.i_number < (get_or ps j d).i_number
 unfolding Ascends
-rise_behind p [] up j d lt = absurd (omega arith)
-rise_behind p (q ∷ qs) up zero d lt = lt_from_less p.i_number q.i_number up.0
-rise_behind p (q ∷ qs) up (suc j) d lt = omega (arith, lt_from_less p.i_number q.i_number up.0, rise_behind q qs up.1 j d (omega arith))
+rise_following p [] up j d lt = absurd (omega arith)
+rise_following p (q ∷ qs) up zero d lt = lt_from_less p.i_number q.i_number up.0
+rise_following p (q ∷ qs) up (suc j) d lt = omega (arith, lt_from_less p.i_number q.i_number up.0, rise_following q qs up.1 j d (omega arith))
 
 -- the numbers of the chunks don't fall
 pub chunks_rise : (b : Option Pair) (ps : List Pair) → Ascends nat_cmp i_number_of b ps → IsNonDecreasingBy (λ p. chunk_number p.i_number) ps
 unfolding Ascends
 chunks_rise b [] up i j d le lt = absurd (omega arith)
 chunks_rise b (p ∷ ps) up zero zero d le lt = omega arith
-chunks_rise b (p ∷ ps) up zero (suc j) d le lt = omega (arith, rise_behind p ps up.1 j d (omega arith))
+chunks_rise b (p ∷ ps) up zero (suc j) d le lt = omega (arith, rise_following p ps up.1 j d (omega arith))
 chunks_rise b (p ∷ ps) up (suc i) zero d le lt = absurd (omega arith)
 chunks_rise b (p ∷ ps) up (suc i) (suc j) d le lt = chunks_rise (Some p) ps up.1 i j d (omega arith) (omega arith)
 

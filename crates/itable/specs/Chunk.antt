@@ -3,7 +3,7 @@
 use Rattle.std.specs.Prelude.{ℕ, ◌/◌, ◌==◌, List, Option, codes}
 use Rattle.std.specs.Int.{w8}
 use Rattle.std.specs.Ordering.{nat_cmp}
-use Rattle.layout.specs.Format.{Format, Rows, uint_in, raw, pair, guarded, followed, behind, mapped, listed}
+use Rattle.layout.specs.Format.{Format, RowAfter, uint_in, raw, pair, guarded, followed, headed, mapped, listed}
 use Rattle.layout.specs.Laws.{Lawful, laws}
 use Rattle.layout.specs.Ranges.{i_number}
 use Rattle.layout.specs.Ascending.{above}
@@ -24,7 +24,7 @@ abbrev pub i_number_of : Pair → ℕ
 i_number_of p = p.i_number
 
 -- a pair in a chunk: another chunk's i-number is out of range
-abbrev pub pair_row : ℕ → Rows Pair
+abbrev pub pair_row : ℕ → RowAfter Pair
 pair_row number before =
     mapped (λ p. record { i_number = p.0; digest = p.1 }) (λ p. (p.i_number, p.digest))
     (pair (guarded (guarded i_number (λ i. chunk_number i == number) Range) (above nat_cmp i_number_of before) Order) (raw 32))
@@ -32,7 +32,7 @@ pair_row number before =
 -- a chunk has at least one pair
 abbrev pub chunk : Format Chunk
 chunk =
-    behind (codes "STC1")
+    headed (codes "STC1")
     (mapped (λ p. record { number = p.0; pairs = p.1 }) (λ c. (c.number, c.pairs))
     (followed (uint_in w8 0 63) (λ number. listed (uint_in w8 1 64) (pair_row number))))
 

@@ -4,7 +4,7 @@ use Rattle.std.proofs.Common.{◌≡◌, inl, inr, refl, arith}
 use Rattle.std.specs.Prelude.{ℕ, ◌+◌, ◌/◌, List, codes, ◌==◌, if◌then◌else◌}
 use Rattle.std.specs.Int.{w8, w16, w32}
 use Rattle.std.proofs.lemmas.Bool.{eq-eqb, ne_eqb, cases_eq}
-use Rattle.layout.specs.Format.{Format, uint_in, raw, followed, behind, mapped, listed}
+use Rattle.layout.specs.Format.{Format, uint_in, raw, followed, headed, mapped, listed}
 use Rattle.layout.specs.Laws.{Lawful, laws, in_range, lawful_mapped, lawful_uint_in, lawful_listed, lawful_raw, wide8, wide16, wide32}
 use Rattle.itable.specs.declared.inode.Kind.{Kind}
 use Rattle.itable.specs.declared.inode.Kind.TheVariants.{File, Directory}
@@ -41,7 +41,7 @@ digests count = listed (uint_in w16 count count) (λ _. raw 32)
 
 abbrev pub inode : Format Inode
 inode =
-    behind (codes "SIN1")
+    headed (codes "SIN1")
     (mapped (λ p. record { kind = p.0; size = p.1.0; blocks = p.1.1 }) (λ i. (i.kind, (i.size, i.blocks)))
     (followed kind (λ k. followed (size k) (λ bytes. digests (block_count bytes)))))
 

@@ -3,7 +3,7 @@
 use Rattle.std.specs.Prelude.{ℕ, List, Option, codes}
 use Rattle.std.specs.Int.{w8}
 use Rattle.std.specs.Ordering.{nat_cmp}
-use Rattle.layout.specs.Format.{Format, Rows, uint_in, raw, pair, guarded, behind, mapped, listed}
+use Rattle.layout.specs.Format.{Format, RowAfter, uint_in, raw, pair, guarded, headed, mapped, listed}
 use Rattle.layout.specs.Laws.{Lawful, laws}
 use Rattle.layout.specs.Ranges.{principal}
 use Rattle.layout.specs.Ascending.{above, row_at}
@@ -23,14 +23,14 @@ number_of c = c.number
 abbrev pub chunk_at : Root → ℕ → Option ListedChunk
 chunk_at r n = row_at nat_cmp number_of r.chunks n
 
-abbrev pub chunk_row : Rows ListedChunk
+abbrev pub chunk_row : RowAfter ListedChunk
 chunk_row before =
     mapped (λ p. record { number = p.0; digest = p.1 }) (λ c. (c.number, c.digest))
     (pair (guarded (uint_in w8 0 63) (above nat_cmp number_of before) Order) (raw 32))
 
 abbrev pub root : Format Root
 root =
-    behind (codes "STR1")
+    headed (codes "STR1")
     (mapped (λ p. record { principal = p.0; chunks = p.1 }) (λ r. (r.principal, r.chunks))
     (pair principal (listed (uint_in w8 0 64) chunk_row)))
 

@@ -115,9 +115,11 @@ impl<A: Allocator> ITable<A> {
     /// Takes in a chunk that stands after all that the table has, and whose text has this digest: so a table is read
     /// chunk by chunk, and its handle needs no hash of those that stay. After an error the table is as before.
     pub fn load(&mut self, chunk: &Chunk<A>, digest: Digest) -> Result<(), Memory>
-        requires behind { All (λ c. c.number < chunk.now.number) (listings_of self.old) }
+        requires follows { All (λ c. c.number < chunk.now.number) (listings_of self.old) }
         requires digest { digest ≡ hash (chunk_format.spell chunk.now) }
         ensures pairs { OnOk result (self.new ≡ record self.old { pairs = self.old.pairs ++ chunk.now.pairs }) }
+        // In the chunk it has what the chunk says, and elsewhere what it had.
+        ensures digests { OnOk result ((i : ℕ) → digest_at self.new i ≡ (if chunk_number i == chunk.now.number then digest_in chunk.now.pairs i else digest_at self.old i)) }
         // Its root lists the chunk after those that it listed.
         ensures listed { OnOk result (listings_of self.new ≡ listings_of self.old ++ record { number = chunk.now.number; digest = digest } ∷ []) }
         ensures err { OnErr result (self.new ≡ self.old) }
@@ -174,6 +176,17 @@ fn lists(before: &[ListedChunk], chunk: &ListedChunk) -> bool
 }
 
 impl<A: Allocator + Copy> ITable<A> {
+    /// The same table once more, whose chunks' digests are computed anew. The error is Memory.
+    pub fn copy(&self, alloc: A) -> Result<ITable<A>, Memory>
+        ensures { IfOk result (λ copy. copy ≡ self.now) }
+    {
+        Ok(ITable {
+            principal: self.principal,
+            pairs: Vec::from_slice(alloc, &self.pairs)?,
+            known: [None; 64],
+        })
+    }
+
     /// The text of a chunk, if any of its i-numbers has a digest.
     pub fn chunk_text(&self, alloc: A, number: ChunkNumber) -> Result<Option<Vec<u8, A>>, Memory>
         ensures text { IfOk result (λ text. option_map vec_items text ≡ text_of_chunk self.now number) }

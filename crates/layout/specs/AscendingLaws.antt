@@ -1,6 +1,6 @@
 -- Nobody has to believe this file: laws, which are proved.
 -- The laws of rows that ascend by a key.
-use Rattle.std.proofs.Common.{◌≡◌, ℕ, zero, suc, ◌+◌, ◌<◌, ◌≤◌, Bool, true, false, cond, List, [], ◌∷◌, length, get_or, Option, Some, None, Result, Ok, Err, refl, sym, ap, subst, ◌∙◌, arith}
+use Rattle.std.proofs.Common.{◌≡◌, ℕ, zero, suc, ◌+◌, ◌<◌, ◌≤◌, Bool, true, false, cond, List, [], ◌∷◌, ◌++◌, length, get_or, Option, Some, None, Result, Ok, Err, refl, sym, ap, subst, ◌∙◌, arith}
 use Rattle.std.specs.Prelude.{MatchResult, slice_index_or}
 use Rattle.std.specs.Cmp.{IsTotalOrder}
 use Rattle.std.specs.List.{All, slice_set, insert, remove}
@@ -11,7 +11,7 @@ use Rattle.std.specs.declared.cmp.Ordering.TheVariants.{Less, Equal, Greater}
 use Rattle.std.proofs.lemmas.Cmp.{tied_back, tied_itself, alike_right, eq_by_cmp_equiv}
 use Rattle.std.proofs.lemmas.List.Sorted.{searchable_from_sorted}
 use Rattle.std.proofs.lemmas.List.Elements.{All-nil, All-head, All-tail, All-cons}
-use Rattle.layout.specs.Format.{Rows, FitRows}
+use Rattle.layout.specs.Format.{RowAfter, after_row, FitRows}
 use Rattle.layout.specs.Ascending.{above, Ascends, row_at, with_row, without_row, Stands, IsFree}
 
 is_less : (o : Ordering) → is_lt o ≡ true → o ≡ Less
@@ -26,17 +26,35 @@ either_way : {A : Type 0} (t : Bool) (x : A) → x ≡ cond t x x
 either_way true x = refl
 either_way false x = refl
 
+-- ---- rows in two lists, of which one has no row with the key
+
+module _ {T K : Type 0} (cmp : K → K → Ordering) (key : T → K) where
+  abbrev pub HasOther : K → T → Type 0
+  HasOther k x = is_eq (cmp (key x) k) ≡ false
+
+  pub no_row : (xs : List T) (k : K) → All (HasOther k) xs → row_at cmp key xs k ≡ None
+  no_row [] k all = refl
+  no_row (x ∷ xs) k all = rw (All-head (HasOther k) x xs all) (no_row xs k (All-tail (HasOther k) x xs all))
+
+  pub row_in_last : (xs ys : List T) (k : K) → All (HasOther k) xs → row_at cmp key (xs ++ ys) k ≡ row_at cmp key ys k
+  row_in_last [] ys k all = refl
+  row_in_last (x ∷ xs) ys k all = rw (All-head (HasOther k) x xs all) (row_in_last xs ys k (All-tail (HasOther k) x xs all))
+
+  pub row_in_first : (xs ys : List T) (k : K) → All (HasOther k) ys → row_at cmp key (xs ++ ys) k ≡ row_at cmp key xs k
+  row_in_first [] ys k all = no_row ys k all
+  row_in_first (x ∷ xs) ys k all = ap (λ (o : Option T). cond (is_eq (cmp (key x) k)) (Some x) o) (row_in_first xs ys k all)
+
 module _ {T K : Type 0} (cmp : K → K → Ordering) (key : T → K) (total : IsTotalOrder cmp) where
   turned : (a b : K) (o : Ordering) → cmp a b ≡ o → cmp b a ≡ ordering_reverse o
   turned a b o h = total.antisymm b a ∙ ap ordering_reverse h
 
   -- ---- what stands after a row
 
-  behind : (x : T) (xs : List T) → Ascends cmp key (Some x) xs → (i : ℕ) (d : T) → i < length xs → cmp (key x) (key (slice_index_or xs i d)) ≡ Less
+  greater_following : (x : T) (xs : List T) → Ascends cmp key (Some x) xs → (i : ℕ) (d : T) → i < length xs → cmp (key x) (key (slice_index_or xs i d)) ≡ Less
   unfolding Ascends
-  behind x [] up i d lt = absurd (omega arith)
-  behind x (y ∷ ys) up zero d lt = is_less _ up.0
-  behind x (y ∷ ys) up (suc i) d lt = total.trans (key x) (key y) (key (slice_index_or ys i d)) (is_less _ up.0) (behind y ys up.1 i d (omega arith))
+  greater_following x [] up i d lt = absurd (omega arith)
+  greater_following x (y ∷ ys) up zero d lt = is_less _ up.0
+  greater_following x (y ∷ ys) up (suc i) d lt = total.trans (key x) (key y) (key (slice_index_or ys i d)) (is_less _ up.0) (greater_following y ys up.1 i d (omega arith))
 
   -- what is above a row is above what the row is above
   further : (b : Option T) (x : T) (k : K) → above cmp key b (key x) ≡ true → cmp (key x) k ≡ Less → above cmp key b k ≡ true
@@ -46,7 +64,7 @@ module _ {T K : Type 0} (cmp : K → K → Ordering) (key : T → K) (total : Is
   sorted : (b : Option T) (xs : List T) → Ascends cmp key b xs → IsSortedBy (λ x y. is_lt (cmp (key x) (key y))) xs
   unfolding Ascends
   sorted b [] up k d low high = absurd (omega arith)
-  sorted b (x ∷ xs) up zero d low high = ap is_lt (turned (key x) (key (slice_index_or xs 0 d)) Less (behind x xs up.1 0 d (omega arith)))
+  sorted b (x ∷ xs) up zero d low high = ap is_lt (turned (key x) (key (slice_index_or xs 0 d)) Less (greater_following x xs up.1 0 d (omega arith)))
   sorted b (x ∷ xs) up (suc k) d low high =
       let next : suc k + 1 ≡ suc (k + 1) = omega arith in
       rw next (sorted (Some x) xs up.1 k d (omega arith) (omega arith))
@@ -69,7 +87,7 @@ module _ {T K : Type 0} (cmp : K → K → Ordering) (key : T → K) (total : Is
       }
   stands b (x ∷ xs) k (suc i) up lt here =
       let later = stands (Some x) xs k i up.1 (omega arith) here in
-      let less : cmp (key x) k ≡ Less = sym (alike_right total (key (slice_index_or xs i x)) k (key x) (here x)) ∙ behind x xs up.1 i x (omega arith) in
+      let less : cmp (key x) k ≡ Less = sym (alike_right total (key (slice_index_or xs i x)) k (key x) (here x)) ∙ greater_following x xs up.1 i x (omega arith) in
       record {
         inside = lt;
         found = λ d. rw less (later.found d);
@@ -131,16 +149,16 @@ module _ {T K : Type 0} (cmp : K → K → Ordering) (key : T → K) (total : Is
   row_at-with_row (y ∷ ys) x q = with_step y x ys q (cmp (key y) (key x)) refl (row_at-with_row ys x q)
 
   -- what ascends after a row ascends after any that is above no more
-  ascends_behind : (b c : Option T) (xs : List T) → ((x : T) → above cmp key b (key x) ≡ true → above cmp key c (key x) ≡ true) → Ascends cmp key b xs → Ascends cmp key c xs
+  ascends_following : (b c : Option T) (xs : List T) → ((x : T) → above cmp key b (key x) ≡ true → above cmp key c (key x) ≡ true) → Ascends cmp key b xs → Ascends cmp key c xs
   unfolding Ascends
-  ascends_behind b c [] more up = tt
-  ascends_behind b c (x ∷ xs) more up = (more x up.0, up.1)
+  ascends_following b c [] more up = tt
+  ascends_following b c (x ∷ xs) more up = (more x up.0, up.1)
 
   with_ascends : (b : Option T) (y x : T) (ys : List T) (o : Ordering) → cmp (key y) (key x) ≡ o → above cmp key b (key x) ≡ true → Ascends cmp key b (y ∷ ys) → (cmp (key y) (key x) ≡ Less → Ascends cmp key (Some y) (with_row cmp key ys x))
       → Ascends cmp key b (with_row cmp key (y ∷ ys) x)
   unfolding Ascends
   with_ascends b y x ys Less h up all later = rw h (all.0, later h)
-  with_ascends b y x ys Equal h up all later = rw h (up, ascends_behind (Some y) (Some x) ys (λ z above. ap is_lt (sym (total.congr (key y) (key x) (key z) h)) ∙ above) all.1)
+  with_ascends b y x ys Equal h up all later = rw h (up, ascends_following (Some y) (Some x) ys (λ z above. ap is_lt (sym (total.congr (key y) (key x) (key z) h)) ∙ above) all.1)
   with_ascends b y x ys Greater h up all later = rw h (up, (ap is_lt (turned (key y) (key x) Greater h), all.1))
 
   -- it keeps the order
@@ -179,17 +197,17 @@ module _ {T K : Type 0} (cmp : K → K → Ordering) (key : T → K) (total : Is
   past a b q Greater e h less = turned q b Less (total.trans q a b (turned a q Greater e) less)
 
   -- no key at or below a row stands after it
-  none_behind : (x : T) (xs : List T) (q : K) → Ascends cmp key (Some x) xs → is_lt (cmp (key x) q) ≡ false → row_at cmp key xs q ≡ None
+  none_following : (x : T) (xs : List T) (q : K) → Ascends cmp key (Some x) xs → is_lt (cmp (key x) q) ≡ false → row_at cmp key xs q ≡ None
   unfolding Ascends
-  none_behind x [] q up h = refl
-  none_behind x (y ∷ ys) q up h =
+  none_following x [] q up h = refl
+  none_following x (y ∷ ys) q up h =
       let greater = past (key x) (key y) q (cmp (key x) q) refl h (is_less _ up.0) in
-      rw greater (none_behind y ys q up.1 (ap is_lt greater))
+      rw greater (none_following y ys q up.1 (ap is_lt greater))
 
   without_here : (x : T) (xs : List T) (q : K) (o : Ordering) → cmp (key x) q ≡ o → Ascends cmp key (Some x) xs → row_at cmp key xs q ≡ cond (is_eq o) None (cond (is_eq o) (Some x) (row_at cmp key xs q))
   without_here x xs q Less h up = refl
   without_here x xs q Greater h up = refl
-  without_here x xs q Equal h up = none_behind x xs q up (ap is_lt h)
+  without_here x xs q Equal h up = none_following x xs q up (ap is_lt h)
 
   without_apart : (x : T) (xs rest : List T) (k q : K) (o : Ordering) → cmp (key x) q ≡ o → is_eq (cmp (key x) k) ≡ false → row_at cmp key rest q ≡ cond (is_eq (cmp k q)) None (row_at cmp key xs q)
       → cond (is_eq o) (Some x) (row_at cmp key rest q) ≡ cond (is_eq (cmp k q)) None (cond (is_eq o) (Some x) (row_at cmp key xs q))
@@ -249,13 +267,13 @@ module _ {T K : Type 0} (cmp : K → K → Ordering) (key : T → K) (total : Is
   not_below : (x y : T) (xs ys : List T) → Ascends cmp key (Some y) ys → row_at cmp key (x ∷ xs) (key x) ≡ row_at cmp key (y ∷ ys) (key x) → cmp (key x) (key y) ≡ Less → ⊥
   not_below x y xs ys up same less =
       let greater : cmp (key y) (key x) ≡ Greater = turned (key x) (key y) Less less in
-      let none : row_at cmp key (y ∷ ys) (key x) ≡ None = rw greater (none_behind y ys (key x) up (ap is_lt greater)) in
+      let none : row_at cmp key (y ∷ ys) (key x) ≡ None = rw greater (none_following y ys (key x) up (ap is_lt greater)) in
       let clash : Some x ≡ None = sym (found_itself x xs) ∙ same ∙ none in
       absurd cc
 
   same_tails : (x y : T) (xs ys : List T) (q : K) (o : Ordering) → cmp (key x) q ≡ o → cmp (key y) q ≡ o → Ascends cmp key (Some x) xs → Ascends cmp key (Some y) ys → row_at cmp key (x ∷ xs) q ≡ row_at cmp key (y ∷ ys) q → row_at cmp key xs q ≡ row_at cmp key ys q
   same_tails x y xs ys q Less h k up down same = rw (h, k) at same
-  same_tails x y xs ys q Equal h k up down same = none_behind x xs q up (ap is_lt h) ∙ sym (none_behind y ys q down (ap is_lt k))
+  same_tails x y xs ys q Equal h k up down same = none_following x xs q up (ap is_lt h) ∙ sym (none_following y ys q down (ap is_lt k))
   same_tails x y xs ys q Greater h k up down same = rw (h, k) at same
 
   first_same : (x y : T) (xs ys : List T) → cmp (key x) (key y) ≡ Equal → row_at cmp key (x ∷ xs) (key x) ≡ row_at cmp key (y ∷ ys) (key x) → x ≡ y
@@ -282,11 +300,11 @@ module _ {T K : Type 0} (cmp : K → K → Ordering) (key : T → K) (total : Is
   -- ---- rows of a text
 
   -- a row of this format is one of these, above the one before
-  pub record Ordered (row : Rows T) (Each : T → Type 0) : Type 0 where
+  pub record Ordered (row : RowAfter T) (Each : T → Type 0) : Type 0 where
     pub splits : (b : Option T) (x : T) → (row b).Fits x → Each x × (above cmp key b (key x) ≡ true)
     pub joins : (b : Option T) (x : T) → Each x → above cmp key b (key x) ≡ true → (row b).Fits x
 
-  pub ascends_from_fits : (row : Rows T) (Each : T → Type 0) → Ordered row Each → (b : Option T) (xs : List T) → FitRows row b xs → All Each xs × Ascends cmp key b xs
+  pub ascends_from_fits : (row : RowAfter T) (Each : T → Type 0) → Ordered row Each → (b : Option T) (xs : List T) → FitRows (after_row row) b xs → All Each xs × Ascends cmp key b xs
   unfolding FitRows Ascends
   ascends_from_fits row Each ordered b [] fits = (All-nil Each, tt)
   ascends_from_fits row Each ordered b (x ∷ xs) fits =
@@ -294,7 +312,7 @@ module _ {T K : Type 0} (cmp : K → K → Ordering) (key : T → K) (total : Is
       let later = ascends_from_fits row Each ordered (Some x) xs fits.1 in
       (All-cons Each x xs one.0 later.0, (one.1, later.1))
 
-  pub fits_from_ascends : (row : Rows T) (Each : T → Type 0) → Ordered row Each → (b : Option T) (xs : List T) → All Each xs → Ascends cmp key b xs → FitRows row b xs
+  pub fits_from_ascends : (row : RowAfter T) (Each : T → Type 0) → Ordered row Each → (b : Option T) (xs : List T) → All Each xs → Ascends cmp key b xs → FitRows (after_row row) b xs
   unfolding FitRows Ascends
   fits_from_ascends row Each ordered b [] all up = tt
   fits_from_ascends row Each ordered b (x ∷ xs) all up = (ordered.joins b x (All-head Each x xs all) up.0, fits_from_ascends row Each ordered (Some x) xs (All-tail Each x xs all) up.1)

@@ -105,8 +105,8 @@ abbrev pub pair : {A B : Type 0} → Format A → Format B → Format (A × B)
 pair f g = followed f (λ _. g)
 
 -- a value after a tag
-abbrev pub behind : {A : Type 0} → List ℕ → Format A → Format A
-behind tag f = record {
+abbrev pub headed : {A : Type 0} → List ℕ → Format A → Format A
+headed tag f = record {
   spell = λ x. tag ++ f.spell x;
   onto = λ old x. f.onto (old ++ tag) x;
   read = λ bytes. (tagged tag).read bytes >>= λ t. f.read t.1;
@@ -122,41 +122,66 @@ mapped to from f = record {
   Fits = λ y. f.Fits (from y);
 }
 
+-- rows: a state decides the format of the next one, and each row moves the state on
+pub record Rows (S A : Type 0) : Type 1 where
+  pub row : S → Format A
+  pub next : S → A → S
+
+-- the format of a row, where the one before is known
+abbrev pub RowAfter : Type 0 → Type 1
+RowAfter A = Option A → Format A
+
 -- rows, where the one before decides the format of the next
-abbrev pub Rows : Type 0 → Type 1
-Rows A = Option A → Format A
+abbrev pub after_row : {A : Type 0} → RowAfter A → Rows (Option A) A
+after_row row = record { row = row; next = λ _ x. Some x }
 
-unfoldable pub read_rows : {A : Type 0} → Rows A → ℕ → Option A → List ℕ → Answer (List A)
-read_rows row zero before bytes = Ok ([], bytes)
-read_rows row (suc n) before bytes = (row before).read bytes >>= λ x. read_rows row n (Some x.0) x.1 >>= λ xs. Ok (x.0 ∷ xs.0, xs.1)
+unfoldable pub read_rows : {S A : Type 0} → Rows S A → ℕ → S → List ℕ → Answer (List A)
+read_rows rows zero state bytes = Ok ([], bytes)
+read_rows rows (suc n) state bytes = (rows.row state).read bytes >>= λ x. read_rows rows n (rows.next state x.0) x.1 >>= λ xs. Ok (x.0 ∷ xs.0, xs.1)
 
-unfoldable pub spell_rows : {A : Type 0} → Rows A → Option A → List A → List ℕ
-spell_rows row before [] = []
-spell_rows row before (x ∷ xs) = (row before).spell x ++ spell_rows row (Some x) xs
+unfoldable pub spell_rows : {S A : Type 0} → Rows S A → S → List A → List ℕ
+spell_rows rows state [] = []
+spell_rows rows state (x ∷ xs) = (rows.row state).spell x ++ spell_rows rows (rows.next state x) xs
 
-unfoldable pub rows_onto : {A : Type 0} → Rows A → Option A → List ℕ → List A → List ℕ
-rows_onto row before old [] = old
-rows_onto row before old (x ∷ xs) = rows_onto row (Some x) ((row before).onto old x) xs
+unfoldable pub rows_onto : {S A : Type 0} → Rows S A → S → List ℕ → List A → List ℕ
+rows_onto rows state old [] = old
+rows_onto rows state old (x ∷ xs) = rows_onto rows (rows.next state x) ((rows.row state).onto old x) xs
 
-unfoldable pub FitRows : {A : Type 0} → Rows A → Option A → List A → Type 0
-FitRows row before [] = Unit {0}
-FitRows row before (x ∷ xs) = (row before).Fits x × FitRows row (Some x) xs
+unfoldable pub FitRows : {S A : Type 0} → Rows S A → S → List A → Type 0
+FitRows rows state [] = Unit {0}
+FitRows rows state (x ∷ xs) = (rows.row state).Fits x × FitRows rows (rows.next state x) xs
 
-abbrev pub rows : {A : Type 0} → Rows A → ℕ → Format (List A)
-rows row count = record {
-  spell = spell_rows row None;
-  onto = rows_onto row None;
-  read = read_rows row count None;
-  Fits = λ xs. (length xs ≡ count) × FitRows row None xs;
+-- the state after these rows
+unfoldable pub state_after : {S A : Type 0} → Rows S A → S → List A → S
+state_after rows state [] = state
+state_after rows state (x ∷ xs) = state_after rows (rows.next state x) xs
+
+-- the state after that many rows are read
+abbrev pub read_state : {S A : Type 0} → Rows S A → ℕ → S → List ℕ → Answer S
+read_state rows count state bytes = read_rows rows count state bytes >>= λ x. Ok (state_after rows state x.0, x.1)
+
+-- that many rows, the first one at this state
+abbrev pub rows_from : {S A : Type 0} → Rows S A → S → ℕ → Format (List A)
+rows_from rows first count = record {
+  spell = spell_rows rows first;
+  onto = rows_onto rows first;
+  read = read_rows rows count first;
+  Fits = λ xs. (length xs ≡ count) × FitRows rows first xs;
 }
+
+abbrev pub rows : {A : Type 0} → RowAfter A → ℕ → Format (List A)
+rows row count = rows_from (after_row row) None count
 
 -- a size, and after it what has that size
 abbrev pub sized : {A : Type 0} → Format ℕ → (A → ℕ) → (ℕ → Format A) → Format A
 sized count size f = mapped (λ p. p.1) (λ x. (size x, x)) (followed count f)
 
 -- a count, and as many rows
-abbrev pub listed : {A : Type 0} → Format ℕ → Rows A → Format (List A)
-listed count row = sized count length (rows row)
+abbrev pub listed_from : {S A : Type 0} → Format ℕ → Rows S A → S → Format (List A)
+listed_from count rows first = sized count length (rows_from rows first)
+
+abbrev pub listed : {A : Type 0} → Format ℕ → RowAfter A → Format (List A)
+listed count row = listed_from count (after_row row) None
 
 -- all of the bytes
 abbrev pub whole : {A : Type 0} → Format A → List ℕ → Result A ReadError

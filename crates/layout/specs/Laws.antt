@@ -14,7 +14,7 @@ use Rattle.std.proofs.lemmas.Bool.Decides.{Decides-eqb}
 use Rattle.std.proofs.lemmas.Nat.{be_bytes_2, be_bytes_4, from_be_bytes-to_be_bytes_2, from_be_bytes-to_be_bytes_4}
 use Rattle.layout.specs.declared.error.ReadError.{ReadError}
 use Rattle.layout.specs.declared.error.ReadError.TheVariants.{Short, BadTag, Range, Trailing}
-use Rattle.layout.specs.Format.{Answer, Format, Rows, IsBytes, ◌>>=◌, ends, be, uint, uint_in, raw, tagged, guarded, followed, behind, mapped, rows, read_rows, spell_rows, rows_onto, FitRows, sized, listed, string, nested, nothing, variant, whole, Gives}
+use Rattle.layout.specs.Format.{Answer, Format, Rows, RowAfter, after_row, IsBytes, ◌>>=◌, ends, be, uint, uint_in, raw, tagged, guarded, followed, headed, mapped, rows_from, read_rows, spell_rows, rows_onto, FitRows, sized, listed_from, listed, string, nested, nothing, variant, whole, Gives}
 
 -- what was read from the front of bytes
 pub record Takes {A : Type 0} (f : Format A) (bytes : List ℕ) (x : A) (rest : List ℕ) : Type 0 where
@@ -186,46 +186,50 @@ lawful_mapped {A} {B} to from f there back law = record {
 
 -- ---- rows
 
-rows_take : {A : Type 0} (row : Rows A) → ((b : Option A) → Lawful (row b)) → (n : ℕ) (b : Option A) (bytes : List ℕ) (x : List A × List ℕ) → IsBytes bytes → read_rows row n b bytes ≡ Ok x
-    → (bytes ≡ spell_rows row b x.0 ++ x.1) × IsBytes x.1 × (length x.0 ≡ n) × FitRows row b x.0
+rows_take : {S A : Type 0} (rows : Rows S A) → ((s : S) → Lawful (rows.row s)) → (n : ℕ) (s : S) (bytes : List ℕ) (x : List A × List ℕ) → IsBytes bytes → read_rows rows n s bytes ≡ Ok x
+    → (bytes ≡ spell_rows rows s x.0 ++ x.1) × IsBytes x.1 × (length x.0 ≡ n) × FitRows rows s x.0
 unfolding read_rows spell_rows FitRows
-rows_take {A} row laws zero b bytes x fits e =
-    subst (λ (y : List A × List ℕ). (bytes ≡ spell_rows row b y.0 ++ y.1) × IsBytes y.1 × (length y.0 ≡ 0) × FitRows row b y.0) (ok_is ([], bytes) x e) (refl, fits, refl, tt)
-rows_take {A} row laws (suc n) b bytes x fits e =
-    let a = bind_ok ((row b).read bytes) (λ (y : A × List ℕ). read_rows row n (Some y.0) y.1 >>= λ ys. Ok (y.0 ∷ ys.0, ys.1)) x e in
-    let c = bind_ok (read_rows row n (Some a.0.0) a.0.1) (λ (ys : List A × List ℕ). Ok (a.0.0 ∷ ys.0, ys.1)) x a.2 in
-    let t = (laws b).takes bytes a.0.0 a.0.1 fits a.1 in
-    let u = rows_take row laws n (Some a.0.0) a.0.1 c.0 t.rest_fits c.1 in
-    let parts : bytes ≡ ((row b).spell a.0.0 ++ spell_rows row (Some a.0.0) c.0.0) ++ c.0.1
-    = t.parts ∙ ap (λ (r : List ℕ). (row b).spell a.0.0 ++ r) u.0 ∙ sym (append_assoc ((row b).spell a.0.0) (spell_rows row (Some a.0.0) c.0.0) c.0.1) in
-    subst (λ (y : List A × List ℕ). (bytes ≡ spell_rows row b y.0 ++ y.1) × IsBytes y.1 × (length y.0 ≡ suc n) × FitRows row b y.0) (ok_is (a.0.0 ∷ c.0.0, c.0.1) x c.2)
+rows_take {S} {A} rows laws zero s bytes x fits e =
+    subst (λ (y : List A × List ℕ). (bytes ≡ spell_rows rows s y.0 ++ y.1) × IsBytes y.1 × (length y.0 ≡ 0) × FitRows rows s y.0) (ok_is ([], bytes) x e) (refl, fits, refl, tt)
+rows_take {S} {A} rows laws (suc n) s bytes x fits e =
+    let a = bind_ok ((rows.row s).read bytes) (λ (y : A × List ℕ). read_rows rows n (rows.next s y.0) y.1 >>= λ ys. Ok (y.0 ∷ ys.0, ys.1)) x e in
+    let s' = rows.next s a.0.0 in
+    let c = bind_ok (read_rows rows n s' a.0.1) (λ (ys : List A × List ℕ). Ok (a.0.0 ∷ ys.0, ys.1)) x a.2 in
+    let t = (laws s).takes bytes a.0.0 a.0.1 fits a.1 in
+    let u = rows_take rows laws n s' a.0.1 c.0 t.rest_fits c.1 in
+    let parts : bytes ≡ ((rows.row s).spell a.0.0 ++ spell_rows rows s' c.0.0) ++ c.0.1
+    = t.parts ∙ ap (λ (r : List ℕ). (rows.row s).spell a.0.0 ++ r) u.0 ∙ sym (append_assoc ((rows.row s).spell a.0.0) (spell_rows rows s' c.0.0) c.0.1) in
+    subst (λ (y : List A × List ℕ). (bytes ≡ spell_rows rows s y.0 ++ y.1) × IsBytes y.1 × (length y.0 ≡ suc n) × FitRows rows s y.0) (ok_is (a.0.0 ∷ c.0.0, c.0.1) x c.2)
     (parts, u.1, ap suc u.2, (t.fits, u.3))
 
-rows_again : {A : Type 0} (row : Rows A) → ((b : Option A) → Lawful (row b)) → (b : Option A) (xs : List A) (rest : List ℕ) → FitRows row b xs → read_rows row (length xs) b (spell_rows row b xs ++ rest) ≡ Ok (xs, rest)
+rows_again : {S A : Type 0} (rows : Rows S A) → ((s : S) → Lawful (rows.row s)) → (s : S) (xs : List A) (rest : List ℕ) → FitRows rows s xs → read_rows rows (length xs) s (spell_rows rows s xs ++ rest) ≡ Ok (xs, rest)
 unfolding read_rows spell_rows FitRows
-rows_again row laws b [] rest fits = refl
-rows_again row laws b (x ∷ xs) rest fits =
-    rw (append_assoc ((row b).spell x) (spell_rows row (Some x) xs) rest, (laws b).again x (spell_rows row (Some x) xs ++ rest) fits.0, rows_again row laws (Some x) xs rest fits.1) refl
+rows_again rows laws s [] rest fits = refl
+rows_again rows laws s (x ∷ xs) rest fits =
+    rw (append_assoc ((rows.row s).spell x) (spell_rows rows (rows.next s x) xs) rest, (laws s).again x (spell_rows rows (rows.next s x) xs ++ rest) fits.0, rows_again rows laws (rows.next s x) xs rest fits.1) refl
 
-rows_onto_is : {A : Type 0} (row : Rows A) → ((b : Option A) → Lawful (row b)) → (b : Option A) (old : List ℕ) (xs : List A) → rows_onto row b old xs ≡ old ++ spell_rows row b xs
+rows_onto_is : {S A : Type 0} (rows : Rows S A) → ((s : S) → Lawful (rows.row s)) → (s : S) (old : List ℕ) (xs : List A) → rows_onto rows s old xs ≡ old ++ spell_rows rows s xs
 unfolding rows_onto spell_rows
-rows_onto_is row laws b old [] = sym (append-nil old)
-rows_onto_is row laws b old (x ∷ xs) =
-    rows_onto_is row laws (Some x) ((row b).onto old x) xs ∙ ap (λ (t : List ℕ). t ++ spell_rows row (Some x) xs) ((laws b).onto old x) ∙ append_assoc old ((row b).spell x) (spell_rows row (Some x) xs)
+rows_onto_is rows laws s old [] = sym (append-nil old)
+rows_onto_is rows laws s old (x ∷ xs) =
+    rows_onto_is rows laws (rows.next s x) ((rows.row s).onto old x) xs ∙ ap (λ (t : List ℕ). t ++ spell_rows rows (rows.next s x) xs) ((laws s).onto old x) ∙ append_assoc old ((rows.row s).spell x) (spell_rows rows (rows.next s x) xs)
 
-pub lawful_rows : {A : Type 0} (row : Rows A) (count : ℕ) → ((b : Option A) → Lawful (row b)) → Lawful (rows row count)
-lawful_rows {A} row count laws = record {
-  takes = λ bytes x rest fits e. let t = rows_take row laws count None bytes (x, rest) fits e in record { parts = t.0; rest_fits = t.1; fits = (t.2, t.3) };
-  onto = rows_onto_is row laws None;
-  again = λ x rest fits. let same : length x ≡ count = fits.0 in subst (λ n. read_rows row n None (spell_rows row None x ++ rest) ≡ Ok (x, rest)) same (rows_again row laws None x rest fits.1);
+pub lawful_rows_from : {S A : Type 0} (rows : Rows S A) (first : S) (count : ℕ) → ((s : S) → Lawful (rows.row s)) → Lawful (rows_from rows first count)
+lawful_rows_from {S} {A} rows first count laws = record {
+  takes = λ bytes x rest fits e. let t = rows_take rows laws count first bytes (x, rest) fits e in record { parts = t.0; rest_fits = t.1; fits = (t.2, t.3) };
+  onto = rows_onto_is rows laws first;
+  again = λ x rest fits. let same : length x ≡ count = fits.0 in subst (λ n. read_rows rows n first (spell_rows rows first x ++ rest) ≡ Ok (x, rest)) same (rows_again rows laws first x rest fits.1);
 }
 
 pub lawful_sized : {A : Type 0} (count : Format ℕ) (size : A → ℕ) (f : ℕ → Format A) → Lawful count → ((n : ℕ) → Lawful (f n)) → ((n : ℕ) (x : A) → count.Fits n → (f n).Fits x → size x ≡ n) → Lawful (sized count size f)
 lawful_sized {A} count size f law laws same =
     lawful_mapped (λ (p : ℕ × A). p.1) (λ (x : A). (size x, x)) (followed count f) (λ y. refl) (λ p fits. ap (λ n. (n, p.1)) (same p.0 p.1 fits.0 fits.1)) (lawful_followed count f law laws)
 
-pub lawful_listed : {A : Type 0} (count : Format ℕ) (row : Rows A) → Lawful count → ((b : Option A) → Lawful (row b)) → Lawful (listed count row)
-lawful_listed count row law laws = lawful_sized count length (rows row) law (λ n. lawful_rows row n laws) (λ n x few fits. fits.0)
+pub lawful_listed_from : {S A : Type 0} (count : Format ℕ) (rows : Rows S A) (first : S) → Lawful count → ((s : S) → Lawful (rows.row s)) → Lawful (listed_from count rows first)
+lawful_listed_from count rows first law laws = lawful_sized count length (rows_from rows first) law (λ n. lawful_rows_from rows first n laws) (λ n x few fits. fits.0)
+
+pub lawful_listed : {A : Type 0} (count : Format ℕ) (row : RowAfter A) → Lawful count → ((b : Option A) → Lawful (row b)) → Lawful (listed count row)
+lawful_listed count row law laws = lawful_listed_from count (after_row row) None law laws
 
 pub lawful_uint_in : (w : Width) (low high : ℕ) → IsWide w → Lawful (uint_in w low high)
 lawful_uint_in w low high wide = lawful_guarded (uint w) _ Range (lawful_uint w wide)
@@ -256,8 +260,8 @@ tagged_again tag x rest fits =
 pub lawful_tagged : (tag : List ℕ) → Lawful (tagged tag)
 lawful_tagged tag = record { takes = tagged_takes tag; onto = λ old x. refl; again = tagged_again tag }
 
-pub lawful_behind : {A : Type 0} (tag : List ℕ) (f : Format A) → Lawful f → Lawful (behind tag f)
-lawful_behind {A} tag f law = record {
+pub lawful_headed : {A : Type 0} (tag : List ℕ) (f : Format A) → Lawful f → Lawful (headed tag f)
+lawful_headed {A} tag f law = record {
   takes = λ bytes x rest fits e.
       let a = bind_ok ((tagged tag).read bytes) (λ (t : Unit {0} × List ℕ). f.read t.1) (x, rest) e in
       let t = tagged_takes tag bytes a.0.0 a.0.1 fits a.1 in
@@ -269,7 +273,7 @@ lawful_behind {A} tag f law = record {
       };
   onto = λ old x. law.onto (old ++ tag) x ∙ append_assoc old tag (f.spell x);
   again = λ x rest fits.
-      ap (behind tag f).read (append_assoc (tag) (f.spell x) rest)
+      ap (headed tag f).read (append_assoc (tag) (f.spell x) rest)
       ∙ ap (λ (r : Answer (Unit {0})). r >>= λ t. f.read t.1) (tagged_again tag tt (f.spell x ++ rest) tt)
       ∙ law.again x rest fits;
 }
@@ -375,17 +379,28 @@ pub in_range_fits : (w : Width) (low high n : ℕ) → n < 256 ^ byte_len w → 
 in_range_fits w low high n wide above below = (wide, and_from _ _ (le-leb low n above) (le-leb n high below))
 
 -- few enough rows that fit
-pub listed_fits : {A : Type 0} (w : Width) (high : ℕ) (row : Rows A) (xs : List A) → high < 256 ^ byte_len w → length xs ≤ high → FitRows row None xs → (listed (uint_in w 0 high) row).Fits xs
-listed_fits w high row xs wide few fits = (in_range_fits w 0 high (length xs) (omega arith) (omega arith) few, (refl, fits))
+pub listed_from_fits : {S A : Type 0} (w : Width) (high : ℕ) (rows : Rows S A) (first : S) (xs : List A) → high < 256 ^ byte_len w → length xs ≤ high → FitRows rows first xs → (listed_from (uint_in w 0 high) rows first).Fits xs
+listed_from_fits w high rows first xs wide few fits = (in_range_fits w 0 high (length xs) (omega arith) (omega arith) few, (refl, fits))
+
+pub listed_fits : {A : Type 0} (w : Width) (high : ℕ) (row : RowAfter A) (xs : List A) → high < 256 ^ byte_len w → length xs ≤ high → FitRows (after_row row) None xs → (listed (uint_in w 0 high) row).Fits xs
+listed_fits w high row xs wide few fits = listed_from_fits w high (after_row row) None xs wide few fits
 
 -- rows that don't depend on the one before
-pub rows_fit : {A : Type 0} (f : Format A) (b : Option A) (xs : List A) → All f.Fits xs → FitRows (λ _. f) b xs
+pub rows_fit : {A : Type 0} (f : Format A) (b : Option A) (xs : List A) → All f.Fits xs → FitRows (after_row (λ _. f)) b xs
 unfolding FitRows
 rows_fit f b [] all = tt
 rows_fit f b (x ∷ xs) all = (All-head f.Fits x xs all, rows_fit f (Some x) xs (All-tail f.Fits x xs all))
 
+-- rows that are written alike at any state are written alike
+pub onto_alike : {S T A : Type 0} (these : Rows S A) (those : Rows T A) → ((s : S) (t : T) (old : List ℕ) (x : A) → (these.row s).onto old x ≡ (those.row t).onto old x) → (s : S) (t : T) (old : List ℕ) (xs : List A)
+    → rows_onto these s old xs ≡ rows_onto those t old xs
+unfolding rows_onto
+onto_alike these those alike s t old [] = refl
+onto_alike these those alike s t old (x ∷ xs) =
+    onto_alike these those alike (these.next s x) (those.next t x) ((these.row s).onto old x) xs ∙ ap (λ (text : List ℕ). rows_onto those (those.next t x) text xs) (alike s t old x)
+
 -- every law, for `search`
-pub ruleset laws = (lawful_raw, lawful_uint_in, wide8, wide16, wide32, lawful_guarded, lawful_followed, lawful_behind, lawful_mapped, lawful_sized, lawful_listed, lawful_string, lawful_nested, lawful_nothing, refl)
+pub ruleset laws = (lawful_raw, lawful_uint_in, wide8, wide16, wide32, lawful_guarded, lawful_followed, lawful_headed, lawful_mapped, lawful_sized, lawful_listed, lawful_string, lawful_nested, lawful_nothing, refl)
 
 -- a text that was written is the spelling
 pub is_text : {A : Type 0} (f : Format A) → Lawful f → (x : A) (text : List ℕ) → text ≡ f.onto [] x → text ≡ f.spell x

@@ -8,3 +8,4 @@ pub mod Hasher
 pub mod Laws
 pub mod Ranges
 pub mod Sizes
+pub mod Types

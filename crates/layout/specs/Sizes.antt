@@ -7,7 +7,7 @@ use Rattle.std.specs.Int.{Width, byte_len, to_be_bytes}
 use Rattle.std.proofs.lemmas.List.{length-append}
 use Rattle.std.proofs.lemmas.Nat.{mul-le}
 use Rattle.layout.specs.declared.error.ReadError.{ReadError}
-use Rattle.layout.specs.Format.{Format, Rows, be, uint, uint_in, raw, guarded, followed, pair, behind, mapped, rows, spell_rows, FitRows, sized, listed, string, nested, nothing, variant}
+use Rattle.layout.specs.Format.{Format, Rows, RowAfter, after_row, be, uint, uint_in, raw, guarded, followed, pair, headed, mapped, spell_rows, FitRows, sized, listed_from, listed, string, nested, nothing, variant}
 use Rattle.layout.specs.Laws.{IsWide, in_range, in_range_fits}
 
 -- no spelling of this format has more bytes
@@ -48,27 +48,30 @@ most_of_variant f m few (Some x) fits = few.holds x fits
 pub at_most_variant : {A B : Type 0} (to : A → B) (from : B → Option A) (f : Format A) (m : ℕ) → AtMost f m → AtMost (variant to from f) m
 at_most_variant to from f m few = record { holds = λ y fits. most_of_variant f m few (from y) fits }
 
-pub at_most_behind : {A : Type 0} (tag : List ℕ) (f : Format A) (m : ℕ) → AtMost f m → AtMost (behind tag f) (length tag + m)
-at_most_behind tag f m few = record { holds = λ x fits. omega (arith, length-append tag (f.spell x), few.holds x fits) }
+pub at_most_headed : {A : Type 0} (tag : List ℕ) (f : Format A) (m : ℕ) → AtMost f m → AtMost (headed tag f) (length tag + m)
+at_most_headed tag f m few = record { holds = λ x fits. omega (arith, length-append tag (f.spell x), few.holds x fits) }
 
 pub at_most_mapped : {A B : Type 0} (to : A → B) (from : B → A) (f : Format A) (m : ℕ) → AtMost f m → AtMost (mapped to from f) m
 at_most_mapped to from f m few = record { holds = λ y fits. few.holds (from y) fits }
 
-rows_at_most : {A : Type 0} (row : Rows A) (m : ℕ) → ((b : Option A) → AtMost (row b) m) → (b : Option A) (xs : List A) → FitRows row b xs → length (spell_rows row b xs) ≤ length xs * m
+rows_at_most : {S A : Type 0} (rows : Rows S A) (m : ℕ) → ((s : S) → AtMost (rows.row s) m) → (s : S) (xs : List A) → FitRows rows s xs → length (spell_rows rows s xs) ≤ length xs * m
 unfolding spell_rows FitRows
-rows_at_most row m few b [] fits = omega arith
-rows_at_most row m few b (x ∷ xs) fits =
-    omega (arith, length-append ((row b).spell x) (spell_rows row (Some x) xs), (few b).holds x fits.0, rows_at_most row m few (Some x) xs fits.1)
+rows_at_most rows m few s [] fits = omega arith
+rows_at_most rows m few s (x ∷ xs) fits =
+    omega (arith, length-append ((rows.row s).spell x) (spell_rows rows (rows.next s x) xs), (few s).holds x fits.0, rows_at_most rows m few (rows.next s x) xs fits.1)
 
 -- so many rows at most, each of so many bytes at most
-pub at_most_listed : {A : Type 0} (w : Width) (low high : ℕ) (row : Rows A) (m : ℕ) → IsWide w → ((b : Option A) → AtMost (row b) m) → AtMost (listed (uint_in w low high) row) (byte_len w + high * m)
-at_most_listed w low high row m wide few = record {
+pub at_most_listed_from : {S A : Type 0} (w : Width) (low high : ℕ) (rows : Rows S A) (first : S) (m : ℕ) → IsWide w → ((s : S) → AtMost (rows.row s) m) → AtMost (listed_from (uint_in w low high) rows first) (byte_len w + high * m)
+at_most_listed_from w low high rows first m wide few = record {
   holds = λ xs fits.
       let count : length xs ≤ high = (in_range w low high (length xs) fits.0).1 in
-      let all : length (spell_rows row None xs) ≤ length xs * m = rows_at_most row m few None xs fits.1.1 in
+      let all : length (spell_rows rows first xs) ≤ length xs * m = rows_at_most rows m few first xs fits.1.1 in
       let most : length xs * m ≤ high * m = mul-le (length xs) m high m count (omega arith) in
-      omega (arith, length-append (be w (length xs)) (spell_rows row None xs), (at_most_uint w wide).holds (length xs) fits.0.0, all, most);
+      omega (arith, length-append (be w (length xs)) (spell_rows rows first xs), (at_most_uint w wide).holds (length xs) fits.0.0, all, most);
 }
+
+pub at_most_listed : {A : Type 0} (w : Width) (low high : ℕ) (row : RowAfter A) (m : ℕ) → IsWide w → ((b : Option A) → AtMost (row b) m) → AtMost (listed (uint_in w low high) row) (byte_len w + high * m)
+at_most_listed w low high row m wide few = at_most_listed_from w low high (after_row row) None m wide few
 
 pub at_most_sized : {A : Type 0} (count : Format ℕ) (size : A → ℕ) (f : ℕ → Format A) (m n : ℕ) → AtMost count m → ((k : ℕ) → AtMost (f k) n) → AtMost (sized count size f) (m + n)
 at_most_sized count size f m n few rest = at_most_mapped _ _ _ (m + n) (at_most_followed count f m n few rest)
@@ -79,28 +82,28 @@ least_key key low None = low
 least_key key low (Some before) = suc (key before)
 
 -- the keys of rows ascend from low, and stay below a limit
-pub record KeysAscend {A : Type 0} (row : Rows A) (key : A → ℕ) (low limit : ℕ) : Type 0 where
+pub record KeysAscend {A : Type 0} (row : RowAfter A) (key : A → ℕ) (low limit : ℕ) : Type 0 where
   pub holds : (b : Option A) (x : A) → (row b).Fits x → (least_key key low b ≤ key x) × (key x < limit)
 
 -- no more rows than keys
-pub few_rows : {A : Type 0} (row : Rows A) (key : A → ℕ) (low limit : ℕ) → KeysAscend row key low limit → (b : Option A) (xs : List A) → FitRows row b xs → least_key key low b ≤ limit → length xs + least_key key low b ≤ limit
+pub few_rows : {A : Type 0} (row : RowAfter A) (key : A → ℕ) (low limit : ℕ) → KeysAscend row key low limit → (b : Option A) (xs : List A) → FitRows (after_row row) b xs → least_key key low b ≤ limit → length xs + least_key key low b ≤ limit
 unfolding FitRows
 few_rows row key low limit ascends b [] fits le = omega arith
 few_rows row key low limit ascends b (x ∷ xs) fits le =
     let here = ascends.holds b x fits.0 in
     omega (arith, here.0, here.1, few_rows row key low limit ascends (Some x) xs fits.1 (omega (arith, here.1)))
 
-pub length-ascending : {A : Type 0} (count : Format ℕ) (row : Rows A) (key : A → ℕ) (low limit : ℕ) → KeysAscend row key low limit → low ≤ limit → (xs : List A) → (listed count row).Fits xs → length xs + low ≤ limit
+pub length-ascending : {A : Type 0} (count : Format ℕ) (row : RowAfter A) (key : A → ℕ) (low limit : ℕ) → KeysAscend row key low limit → low ≤ limit → (xs : List A) → (listed count row).Fits xs → length xs + low ≤ limit
 length-ascending count row key low limit ascends le xs fits = few_rows row key low limit ascends None xs fits.1.1 le
 
 -- rows that ascend, so many at most, each of so many bytes at most
-pub at_most_ascending : {A : Type 0} (w : Width) (high : ℕ) (row : Rows A) (key : A → ℕ) (low many m : ℕ) → IsWide w → KeysAscend row key low (low + many) → ((b : Option A) → AtMost (row b) m) → AtMost (listed (uint_in w 0 high) row) (byte_len w + many * m)
+pub at_most_ascending : {A : Type 0} (w : Width) (high : ℕ) (row : RowAfter A) (key : A → ℕ) (low many m : ℕ) → IsWide w → KeysAscend row key low (low + many) → ((b : Option A) → AtMost (row b) m) → AtMost (listed (uint_in w 0 high) row) (byte_len w + many * m)
 at_most_ascending w high row key low many m wide ascends few = record {
   holds = λ xs fits.
       let count : length xs ≤ many = omega (arith, length-ascending (uint_in w 0 high) row key low (low + many) ascends (omega arith) xs fits) in
-      let all : length (spell_rows row None xs) ≤ length xs * m = rows_at_most row m few None xs fits.1.1 in
+      let all : length (spell_rows (after_row row) None xs) ≤ length xs * m = rows_at_most (after_row row) m few None xs fits.1.1 in
       let most : length xs * m ≤ many * m = mul-le (length xs) m many m count (omega arith) in
-      omega (arith, length-append (be w (length xs)) (spell_rows row None xs), (at_most_uint w wide).holds (length xs) fits.0.0, all, most);
+      omega (arith, length-append (be w (length xs)) (spell_rows (after_row row) None xs), (at_most_uint w wide).holds (length xs) fits.0.0, all, most);
 }
 
 -- a text inside another, after its size

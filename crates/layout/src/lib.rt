@@ -19,6 +19,6 @@ pub use error::{Memory, ReadError};
 pub use hashing::{Hasher, digest};
 pub use ranges::{Group, INumber, Principal, User, Version};
 pub use reader::Reader;
-pub use rows::{RowFormat, read_rows, write_rows};
+pub use rows::{RowFormat, RowState, read_rows, read_rows_into, write_rows};
 pub use text::{Text, read_nested, write_nested};
 pub use writer::Writer;

@@ -1,1 +1,3 @@
 pub mod Highest
+pub mod GroupsLaws
+pub mod Rows

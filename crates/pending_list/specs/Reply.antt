@@ -5,9 +5,9 @@ use Rattle.std.specs.Prelude.{ℕ, ◌==◌, Bool, ◌&&◌, ◌||◌, List, [],
 use Rattle.std.specs.Int.{w8, w16}
 use Rattle.std.specs.List.{All}
 use Rattle.std.specs.Option.{option_map_or}
-use Rattle.layout.specs.Format.{Format, Rows, uint_in, pair, behind, mapped, listed, nested}
+use Rattle.layout.specs.Format.{Format, RowAfter, uint_in, pair, headed, mapped, listed, nested}
 use Rattle.layout.specs.Laws.{Lawful, laws, lawful_mapped, wide8, wide16, listed_fits, rows_fit}
-use Rattle.layout.specs.Sizes.{AtMost, at_most_listed, at_most_behind, at_most_mapped, at_most_pair, at_most_nested, nested_fits}
+use Rattle.layout.specs.Sizes.{AtMost, at_most_listed, at_most_headed, at_most_mapped, at_most_pair, at_most_nested, nested_fits}
 use Rattle.layout.specs.Ranges.{size}
 use Rattle.version_order.specs.declared.vector.Component.{Component}
 use Rattle.version_order.specs.Vector.{depth}
@@ -39,15 +39,15 @@ pending_item =
     mapped (λ p. record { cert = p.0.value; signature = p.0.signature; plan = p.1 }) (λ i. (record { value = i.cert; signature = i.signature }, i.plan))
     (pair (signed (nested size cert)) (nested size plan))
 
-abbrev pub structure_rows : Rows (Signed Structure)
+abbrev pub structure_rows : RowAfter (Signed Structure)
 structure_rows before = signed_structure
 
-abbrev pub pending_rows : Rows PendingItem
+abbrev pub pending_rows : RowAfter PendingItem
 pending_rows before = pending_item
 
 abbrev pub reply : Format Reply
 reply =
-    behind (codes "SRL1")
+    headed (codes "SRL1")
     (mapped (λ p. record { structures = p.0; pending = p.1 }) (λ r. (r.structures, r.pending))
     (pair (listed (uint_in w8 0 64) structure_rows) (listed (uint_in w8 0 64) pending_rows)))
 
@@ -65,7 +65,7 @@ lawful_reply = search (laws, lawful_signed_structure, lawful_pending_item) depth
 
 pub at_most_reply : AtMost reply REPLY_SIZE
 at_most_reply =
-    at_most_behind (codes "SRL1") _ 1049922
+    at_most_headed (codes "SRL1") _ 1049922
     (at_most_mapped _ _ _ 1049922 (at_most_pair _ _ 432129 617793
     (at_most_listed w8 0 64 structure_rows 6752 wide8 (λ _. at_most_signed (nested size structure) 4244 (at_most_nested w16 0 65535 structure 4242 wide16 at_most_structure)))
     (at_most_listed w8 0 64 pending_rows 9653 wide8 (λ _. at_most_mapped _ _ _ 9653 (at_most_pair _ _ 6760 2893 (at_most_signed (nested size cert) 4252 (at_most_nested w16 0 65535 cert 4250 wide16 at_most_cert)) (at_most_nested w16 0 65535 plan 2891 wide16 at_most_plan))))))

@@ -1,8 +1,8 @@
 //! Replies to updates.
 
-ghost use Rattle.std.specs.Prelude.{◌≡◌, ◌≤◌, OnErr, OnOk, IfOk, vec_len, length};
+ghost use Rattle.std.specs.Prelude.{◌≡◌, ◌<◌, ◌≤◌, ◌++◌, [], ◌∷◌, None, OnErr, OnOk, IfOk, map, vec_len, length};
 ghost use Rattle.std.specs.List.{All};
-ghost use Rattle.layout.specs.Format.{BeginsWith, Reads};
+ghost use Rattle.layout.specs.Format.{BeginsWith, Reads, after_row, rows_onto};
 ghost use Rattle.pending_list.specs.Reply.{reply, structure_rows, pending_rows, signed_structure, pending_item};
 
 use crate::signed::{SIGNATURE_SIZE, Signature, Signed};
@@ -82,6 +82,17 @@ impl<A: Allocator> PendingItem<A> {
     {
         &self.plan
     }
+}
+
+/// What has a pending operation in it.
+pub trait HasItem<A: Allocator> {
+    ghost use Rattle.pending_list.specs.Reply.{PendingItem};
+
+    ghost item: { Self → PendingItem };
+
+    /// The pending operation.
+    fn item(&self) -> &PendingItem<A>
+        ensures { result.now ≡ item self.now };
 }
 
 /// The rows of the structures.
@@ -273,24 +284,54 @@ fn write_lists<A: Allocator + Copy>(
     write_rows(writer, &PendingRows, pending)
 }
 
+/// That each pending operation in these fits its row, as its own contract says.
+fn others_fit<A: Allocator, H: HasItem<A>>(others: &[H])
+    ensures { All pending_item.Fits (map H.item others.now) }
+{
+    for other in others {
+        let _cert = other.item().cert();
+    }
+}
+
+/// Writes the pending operations in these.
+fn write_others<A: Allocator + Copy, H: HasItem<A>>(
+    writer: &mut Writer<A>,
+    others: &[H],
+) -> Result<(), Memory>
+    ensures { OnOk result (writer.new ≡ rows_onto (after_row pending_rows) None writer.old (map H.item others.now)) }
+{
+    for other in others {
+        PendingRows.write_row(writer, other.item())?;
+    }
+    Ok(())
+}
+
 impl<A: Allocator + Copy> Reply<A> {
     ghost use Rattle.pending_list.specs.Reply.{reply};
 
-    /// The text of the reply of these two lists, of at most 64 rows each, which stay where they are.
-    pub fn text_of(
+    /// The text of the reply to an operation, which stands last: of at most 64 structures, and at most 63 other
+    /// operations that are pending. All of them stay where they are.
+    pub fn text_of<H: HasItem<A>>(
         alloc: A,
         structures: &[Signed<Structure<A>>],
-        pending: &[PendingItem<A>],
+        others: &[H],
+        own: &PendingItem<A>,
     ) -> Result<Vec<u8, A>, Memory>
         requires few_structures { length structures.now ≤ 64 }
-        requires few_pending { length pending.now ≤ 64 }
-        ensures text { IfOk result (λ text. text.items ≡ reply.spell (record { structures = structures.now; pending = pending.now })) }
+        requires few_others { length others.now < 64 }
+        ensures text { IfOk result (λ text. text.items ≡ reply.spell (record { structures = structures.now; pending = map H.item others.now ++ own.now ∷ [] })) }
         ensures size { IfOk result (λ text. length text.items ≤ REPLY_SIZE) }
     {
         structures_fit(structures);
-        pending_fit(pending);
+        others_fit(others);
+        let _own = own.cert();
         let mut writer = Writer::new(alloc);
-        write_lists(&mut writer, structures, pending)?;
+        writer.tag(b"SRL1")?;
+        writer.u8(structures.len() as u8)?;
+        write_rows(&mut writer, &StructureRows, structures)?;
+        writer.u8(others.len() as u8 + 1)?;
+        write_others(&mut writer, others)?;
+        PendingRows.write_row(&mut writer, own)?;
         Ok(writer.finish())
     }
 }

@@ -1,1 +1,4 @@
+pub mod Kept
+pub mod Line
 pub mod Table
+pub mod TableText

@@ -1,18 +1,15 @@
--- The table of principals: who is a user, since when and by which key, and who is a member of which group. Until users
--- and members can be added it is that of the beginning, which lists user 0 alone and has no members.
-use Rattle.std.specs.Prelude.{ℕ, Bool, List, [], ◌∷◌, Option, ◌==◌, ◌&&◌, ◌||◌, nat_lt, nat_le, find}
+-- The table of principals: who is a user, since when and by which key, and who is a member of which group.
+use Rattle.std.specs.Prelude.{◌≡◌, ◌⊎◌, ℕ, Bool, not, List, [], ◌∷◌, ◌++◌, length, Option, Some, None, Result, Ok, Err, ◌==◌, ◌&&◌, ◌||◌, nat_lt, nat_le, find, map, if◌then◌else◌}
 use Rattle.std.specs.List.{list_any}
 use Rattle.std.specs.Option.{option_map}
+use Rattle.std.specs.Ordering.{nat_cmp}
+use Rattle.layout.specs.Ascending.{with_row}
+use Rattle.principals.specs.declared.error.TableError.{TableError}
+use Rattle.principals.specs.declared.error.TableError.TheVariants.{Listed, Unlisted, NotGroup, NotMember, Full, Memory}
 use Rattle.principals.specs.declared.table.Listing.{Listing}
+use Rattle.principals.specs.declared.table.Row.{Row}
 
--- a user is a member of a group from a number of user 0's on, and before another one of them; until 0 is open
-pub record Row : Type 0 where
-  pub group : ℕ
-  pub user : ℕ
-  pub begins : ℕ
-  pub until : ℕ
-
--- the users, and the rows of the members
+-- the users, ascending, and the rows of the members, in the order of writing
 pub record Table : Type 0 where
   pub users : List Listing
   pub rows : List Row
@@ -30,6 +27,10 @@ listing_of user table = find (λ l. l.user == user) table.users
 abbrev pub key_of : ℕ → Table → Option (List ℕ)
 key_of user table = option_map (λ l. l.key) (listing_of user table)
 
+-- the number of user 0's that listed the user
+abbrev pub since : ℕ → Table → Option ℕ
+since user table = option_map (λ l. l.since) (listing_of user table)
+
 -- the user is listed since this number of user 0's or before
 abbrev pub is_listed : Table → ℕ → ℕ → Bool
 is_listed table user number = list_any (λ l. (l.user == user) && nat_le l.since number) table.users
@@ -46,3 +47,63 @@ counts_at version r = nat_le r.begins version && ((r.until == 0) || nat_lt versi
 -- the user is a member of the group at this number of user 0's
 abbrev pub is_member : Table → ℕ → ℕ → ℕ → Bool
 is_member table group user version = list_any (λ r. is_row_of group user r && counts_at version r) table.rows
+
+-- ---- changes, each of an operation of user 0's with this number
+
+-- the user is listed, since whenever
+abbrev pub lists_user : Table → ℕ → Bool
+lists_user table user = list_any (λ l. l.user == user) table.users
+
+-- the row of a member whose membership hasn't ended
+abbrev pub is_open : ℕ → ℕ → Row → Bool
+is_open group user r = is_row_of group user r && (r.until == 0)
+
+-- the user is a member of the group after all of user 0's operations
+abbrev pub is_member_now : Table → ℕ → ℕ → Bool
+is_member_now table group user = list_any (is_open group user) table.rows
+
+-- the number by which the users ascend
+abbrev pub user_of : Listing → ℕ
+user_of l = l.user
+
+-- the user stands among the others, in its place
+abbrev pub user_added : ℕ → ℕ → List ℕ → Table → Table
+user_added number user key table = record { users = with_row nat_cmp user_of table.users (record { user = user; since = number; key = key }); rows = table.rows }
+
+abbrev pub member_added : ℕ → ℕ → ℕ → Table → Table
+member_added number group user table = record { users = table.users; rows = table.rows ++ record { group = group; user = user; begins = number; until = 0 } ∷ [] }
+
+-- an open row of the group and the user ends; others stay
+abbrev pub ended : ℕ → ℕ → ℕ → Row → Row
+ended number group user r = if is_open group user r then record { group = r.group; user = r.user; begins = r.begins; until = number } else r
+
+abbrev pub member_dropped : ℕ → ℕ → ℕ → Table → Table
+member_dropped number group user table = record { users = table.users; rows = map (ended number group user) table.rows }
+
+-- ---- why a change is refused, the least of several errors
+
+abbrev pub is_group : ℕ → Bool
+is_group principal = nat_le 64 principal
+
+abbrev pub user_refused : Table → ℕ → Option TableError
+user_refused table user = if lists_user table user then Some Listed else None
+
+abbrev pub member_refused : Table → ℕ → ℕ → Option TableError
+member_refused table group user =
+    if is_group group && is_member_now table group user then Some Listed
+    else if not (lists_user table user) then Some Unlisted
+    else if not (is_group group) then Some NotGroup
+    else if nat_le 65535 (length table.rows) then Some Full
+    else None
+
+abbrev pub drop_refused : Table → ℕ → ℕ → Option TableError
+drop_refused table group user =
+    if not (lists_user table user) then Some Unlisted
+    else if not (is_group group) then Some NotGroup
+    else if not (is_member_now table group user) then Some NotMember
+    else None
+
+-- what a call answers: why it is refused, and where it isn't, at most that memory ran out
+abbrev pub Told : {X : Type 0} → Option TableError → Result X TableError → Type 0
+Told refused (Ok x) = refused ≡ None
+Told refused (Err e) = (refused ≡ Some e) ⊎ ((refused ≡ None) × (e ≡ Memory))

@@ -1,7 +1,14 @@
-//! The table of principals: who is a user, since when and by which key, and who is a member of which group. Until users
-//! and members can be added it is the table of the beginning, which lists user 0 alone and has no members.
+//! The table of principals: who is a user, since when and by which key, and who is a member of which group.
 #![tactic(auto)]
 
+mod error;
+mod laws;
+mod marks;
+mod reading;
 mod table;
+#[cfg(test)]
+mod tests;
 
-pub use table::{Listing, Table};
+pub use error::TableError;
+pub use laws::{membership, open_rows};
+pub use table::{Listing, Row, Table};

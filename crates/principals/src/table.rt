@@ -1,10 +1,22 @@
 //! The table, and its rows.
 
-ghost use Rattle.std.specs.Prelude.{◌≡◌};
+ghost use Rattle.std.specs.Prelude.{◌≡◌, ◌<◌, ◌≤◌, ◌⊎◌, ◌++◌, ◌∷◌, ◌==◌, ◌&&◌, nat_le, [], true, false, length, map, find, Some, None, IfOk, OnOk, OnErr, MatchResult};
+ghost use Rattle.std.specs.Option.{option_copied};
+ghost use Rattle.std.specs.List.{list_any};
+ghost use Rattle.std.specs.Ordering.{nat_cmp};
+ghost use Rattle.layout.specs.Ascending.{Ascends, Stands, IsFree, row_at};
+ghost use Rattle.principals.specs.Table.{user_of, listing_of, user_refused, ended, Told};
+ghost use Rattle.principals.specs.TableText.{key as key_format, users, without_rows};
 
-use layout::{Group, User};
+use crate::error::TableError;
+use crate::marks::{Marks, no_marks, slot};
+use layout::{Group, Memory, Principal, User, Version, are_bytes};
 use lms_sign::PublicKey;
+use std::alloc::Allocator;
 use std::marker::Model;
+
+/// How many rows of members a table has at most.
+pub(crate) const MOST_ROWS: usize = 65535;
 
 /// A user and its key.
 #[derive(Clone, Copy, Debug)]
@@ -15,36 +27,149 @@ pub struct Listing {
     pub key: PublicKey,
 }
 
-/// Who is a user, since when and by which key, and who is a member of which group.
-#[derive(Debug, Drop)]
-pub struct Table {
-    superuser: Listing,
+/// A user is a member of a group from a number of user 0's on.
+#[derive(Clone, Copy, Debug, PartialEq, Eq)]
+pub struct Row {
+    pub group: Group,
+    pub user: User,
+    /// The number of user 0's operation that made the user a member.
+    pub begins: Version,
+    /// The number of the one that took it out of the group; 0 while the row is open.
+    pub until: u32,
 }
 
-impl Model for Table {
-    ghost use Rattle.std.specs.Prelude.{[], ◌∷◌, ◌≡◌};
+/// Who is a user, since when and by which key, and who is a member of which group.
+#[derive(Drop)]
+pub struct Table<A: Allocator> {
+    /// User 0, so that the table of the beginning takes no memory.
+    pub(crate) superuser: Listing,
+    /// The other users, ascending.
+    pub(crate) others: Vec<Listing, A>,
+    /// The rows of members, in the order of writing.
+    pub(crate) rows: Vec<Row, A>,
+    /// Which pairs have an open row.
+    pub(crate) marks: Marks,
+}
+
+impl<A: Allocator> Model for Table<A> {
+    ghost use Rattle.std.specs.Prelude.{◌∷◌};
     ghost use Rattle.principals.specs.Table.{Table};
+    ghost use Rattle.principals.specs.Kept.{IsKept};
 
     ghost Value = { Table };
 
-    ghost view = { λ t. record { users = t.superuser ∷ []; rows = [] } };
+    ghost view = { λ t. record { users = t.superuser ∷ t.others.items; rows = t.rows.items } };
 
-    ghost invariant = { λ t. t.superuser.user ≡ 0 };
+    ghost invariant = { λ t. IsKept t.superuser t.others.items t.rows.items t.marks };
 }
 
-impl Table {
-    ghost use Rattle.principals.specs.Table.{genesis, key_of, is_listed, is_member};
+/// That a key is one in a text, for the contract of what holds it.
+fn key_fits(key: &PublicKey)
+    ensures { key_format.Fits key.now }
+{
+    are_bytes(key.as_bytes());
+}
 
-    /// The table of the beginning: user 0 with the key that every client knows.
-    pub fn genesis(key: PublicKey) -> Table
-        ensures { result ≡ genesis key }
+/// Whether one of these is the user, listed at this number or before.
+fn is_since(others: &[Listing], user: User, number: u32) -> bool
+    ensures { result ≡ list_any (λ l. (l.user == user) && nat_le l.since number) others.now }
+{
+    others
+        .iter()
+        .any(|listing| listing.user == user && listing.since <= number)
+}
+
+/// Where a user stands among the others, or where it would stand.
+fn place_of(others: &[Listing], user: User) -> Result<usize, usize>
+    requires { Ascends nat_cmp user_of None others.now }
+    ensures { MatchResult result (Stands nat_cmp user_of others.now user) (IsFree nat_cmp user_of others.now user) }
+{
+    others.binary_search_by_key(&user.get(), |listing| listing.user.get())
+}
+
+/// Where a new user goes among the others.
+fn room_for(superuser: &Listing, others: &[Listing], user: User) -> Result<usize, TableError>
+    requires { users.Fits (superuser.now ∷ others.now) }
+    ensures told { Told (user_refused (without_rows (superuser.now ∷ others.now)) user) result }
+    ensures room { IfOk result (λ place. IsFree nat_cmp user_of others.now user place) }
+    ensures other { IfOk result (λ _. 0 < user) }
+{
+    if superuser.user == user {
+        return Err(TableError::Listed);
+    }
+    match place_of(others, user) {
+        Ok(_) => Err(TableError::Listed),
+        Err(place) => Ok(place),
+    }
+}
+
+/// A row, which ends at this number if it is the pair's and open.
+fn ended_row(row: Row, number: Version, group: Group, user: User) -> Row
+    ensures { result ≡ ended number group user row }
+{
+    if row.group == group && row.user == user && row.until == 0 {
+        Row {
+            until: number.get(),
+            ..row
+        }
+    } else {
+        row
+    }
+}
+
+/// Writes a number into what is open of a pair's rows: one pass.
+fn end_each(rows: &mut [Row], number: Version, group: Group, user: User)
+    ensures { rows.new ≡ map (ended number group user) rows.old }
+{
+    for row in rows.iter_mut() {
+        *row = ended_row(*row, number, group, user);
+    }
+}
+
+/// The same, of the rows of a table, which keeps them all.
+fn end_rows<A: Allocator>(rows: &mut Vec<Row, A>, number: Version, group: Group, user: User)
+    ensures { rows.new.items ≡ map (ended number group user) rows.old.items }
+{
+    end_each(rows, number, group, user);
+}
+
+impl<A: Allocator + Copy> Table<A> {
+    ghost use Rattle.principals.specs.Table.{genesis};
+    ghost use Rattle.principals.specs.TableText.{table as table_format};
+
+    /// The table of the beginning: user 0 with the key that every client knows. It takes no memory.
+    pub fn genesis(alloc: A, key: PublicKey) -> Table<A>
+        ensures same { result ≡ genesis key }
+        ensures fits { table_format.Fits (genesis key) }
     {
+        key_fits(&key);
         Table {
             superuser: Listing {
                 user: User::superuser(),
                 since: 0,
                 key,
             },
+            others: Vec::new(alloc),
+            rows: Vec::new(alloc),
+            marks: no_marks(),
+        }
+    }
+}
+
+impl<A: Allocator> Table<A> {
+    ghost use Rattle.principals.specs.Table.{key_of, since, is_listed, lists_user, is_member, is_member_now, user_added, member_added, member_dropped, member_refused, drop_refused};
+    ghost use Rattle.principals.specs.TableText.{table as table_format, with_next, last_begins, NoneAfter};
+
+    /// The listing of a user, by one binary search.
+    fn listing_of(&self, user: User) -> Option<&Listing>
+        ensures { option_copied result ≡ listing_of user self.now }
+    {
+        if self.superuser.user == user {
+            return Some(&self.superuser);
+        }
+        match place_of(&self.others, user) {
+            Ok(place) => Some(&self.others[place]),
+            Err(_) => None,
         }
     }
 
@@ -52,25 +177,176 @@ impl Table {
     pub fn key_of(&self, user: User) -> Option<PublicKey>
         ensures { result ≡ key_of user self.now }
     {
-        if self.superuser.user == user {
-            Some(self.superuser.key)
-        } else {
-            None
-        }
+        let listing = self.listing_of(user)?;
+        Some(listing.key)
     }
 
-    /// Whether the user is listed since this number of user 0's or before. Until users can be added, user 0 alone is.
+    /// The number of user 0's operation that listed a user; 0 for user 0 itself. None where it isn't listed.
+    pub fn since(&self, user: User) -> Option<u32>
+        ensures { result ≡ since user self.now }
+    {
+        let listing = self.listing_of(user)?;
+        Some(listing.since)
+    }
+
+    /// Whether the user is listed since this number of user 0's or before.
     pub fn is_listed(&self, user: User, number: u32) -> bool
         ensures { result ≡ is_listed self.now user number }
     {
-        self.superuser.user == user && self.superuser.since <= number
+        (self.superuser.user == user && self.superuser.since <= number)
+            || is_since(&self.others, user, number)
     }
 
-    /// Whether the user is a member of the group at this number of user 0's. Until members can be added, nobody is.
+    /// Whether the user is listed, since whenever.
+    pub(crate) fn lists_user(&self, user: User) -> bool
+        ensures { result ≡ lists_user self.now user }
+    {
+        match self.listing_of(user) {
+            Some(_) => true,
+            None => false,
+        }
+    }
+
+    /// Whether the user is a member of the group at this number of user 0's: one pass over the rows.
     pub fn is_member(&self, group: Group, user: User, version: u32) -> bool
         ensures { result ≡ is_member self.now group user version }
     {
-        let _nobody = &self.superuser;
-        false
+        self.rows.iter().any(|row| {
+            row.group == group
+                && row.user == user
+                && row.begins.get() <= version
+                && (row.until == 0 || version < row.until)
+        })
+    }
+
+    /// Whether the user is a member of the group after all of user 0's operations.
+    pub(crate) fn is_member_now(&self, group: Group, user: User) -> bool
+        ensures { result ≡ is_member_now self.now group user }
+    {
+        self.marks[slot(group, user)]
+    }
+
+    /// Where the last row begins, 0 where there is none.
+    pub(crate) fn last_begins(&self) -> u32
+        ensures { result ≡ last_begins self.now }
+    {
+        match self.rows.last() {
+            Some(row) => row.begins.get(),
+            None => 0,
+        }
+    }
+
+    /// One more row at the end.
+    pub(crate) fn push(&mut self, row: Row) -> Result<(), Memory>
+        requires { length self.old.rows < 65535 }
+        ensures ok { OnOk result (self.new ≡ with_next self.old row) }
+        ensures err { OnErr result (self.new ≡ self.old) }
+    {
+        let place = slot(row.group, row.user);
+        let open = row.until == 0;
+        self.rows.push(row)?;
+        if open {
+            self.marks[place] = true;
+        }
+        Ok(())
+    }
+
+    /// Lists a user, by user 0's operation of this number: one binary search and one shift. Listed where it is listed
+    /// already. The number isn't compared with those in the table.
+    pub fn add_user(
+        &mut self,
+        number: Version,
+        user: User,
+        key: PublicKey,
+    ) -> Result<(), TableError>
+        ensures ok { OnOk result (self.new ≡ user_added number user key self.old) }
+        ensures told { Told (user_refused self.old user) result }
+        // A table that has a text has one afterwards.
+        ensures fits { table_format.Fits self.old → OnOk result (table_format.Fits self.new) }
+        ensures err { OnErr result (self.new ≡ self.old) }
+    {
+        let place = room_for(&self.superuser, &self.others, user)?;
+        let since = number.get();
+        let _user = user.get();
+        key_fits(&key);
+        self.others.insert(place, Listing { user, since, key })?;
+        Ok(())
+    }
+
+    /// An open row at the end.
+    fn open_row(&mut self, number: Version, group: Group, user: User) -> Result<(), TableError>
+        ensures ok { OnOk result (self.new ≡ member_added number group user self.old) }
+        ensures told { Told (member_refused self.old group user) result }
+        ensures fits { table_format.Fits self.old → NoneAfter number self.old → OnOk result (table_format.Fits self.new) }
+        ensures err { OnErr result (self.new ≡ self.old) }
+    {
+        if self.is_member_now(group, user) {
+            return Err(TableError::Listed);
+        }
+        if !self.lists_user(user) {
+            return Err(TableError::Unlisted);
+        }
+        if self.rows.len() >= MOST_ROWS {
+            return Err(TableError::Full);
+        }
+        let _fits = (group.get(), user.get(), number.get());
+        self.push(Row {
+            group,
+            user,
+            begins: number,
+            until: 0,
+        })?;
+        Ok(())
+    }
+
+    /// Makes a user a member of a group, by user 0's operation of this number. Listed where it is a member now, Unlisted
+    /// where it isn't listed, NotGroup where the principal is a user, Full at 65,535 rows; of several the least.
+    pub fn add_member(
+        &mut self,
+        number: Version,
+        group: Principal,
+        user: User,
+    ) -> Result<(), TableError>
+        ensures ok { OnOk result (self.new ≡ member_added number group user self.old) }
+        ensures told { Told (member_refused self.old group user) result }
+        // A table that has a text has one afterwards, if the number isn't less than those before.
+        ensures fits { table_format.Fits self.old → NoneAfter number self.old → OnOk result (table_format.Fits self.new) }
+        ensures err { OnErr result (self.new ≡ self.old) }
+    {
+        match Group::new(group.get()) {
+            Some(group) => self.open_row(number, group, user),
+            None if !self.lists_user(user) => Err(TableError::Unlisted),
+            None => Err(TableError::NotGroup),
+        }
+    }
+
+    /// Takes a member out of a group, by user 0's operation of this number: one pass over the rows. Unlisted where the
+    /// user isn't listed, NotGroup where the principal is a user, NotMember where it is no member now; of several the
+    /// least.
+    pub fn drop_member(
+        &mut self,
+        number: Version,
+        group: Principal,
+        user: User,
+    ) -> Result<(), TableError>
+        ensures ok { OnOk result (self.new ≡ member_dropped number group user self.old) }
+        ensures told { Told (drop_refused self.old group user) result }
+        // A table that has a text has one afterwards, if the number isn't less than those before.
+        ensures fits { table_format.Fits self.old → NoneAfter number self.old → OnOk result (table_format.Fits self.new) }
+        ensures err { OnErr result (self.new ≡ self.old) }
+    {
+        if !self.lists_user(user) {
+            return Err(TableError::Unlisted);
+        }
+        let Some(group) = Group::new(group.get()) else {
+            return Err(TableError::NotGroup);
+        };
+        if !self.is_member_now(group, user) {
+            return Err(TableError::NotMember);
+        }
+        let _number = number.get();
+        end_rows(&mut self.rows, number, group, user);
+        self.marks[slot(group, user)] = false;
+        Ok(())
     }
 }

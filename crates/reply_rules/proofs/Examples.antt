@@ -12,14 +12,16 @@ use Rattle.version_order.specs.declared.plan.Entry.{Entry}
 use Rattle.version_order.specs.declared.structure.GroupRecord.{GroupRecord}
 use Rattle.version_order.specs.Plan.{Plan, entry_of, digest_of}
 use Rattle.version_order.specs.Structure.{Structure}
+use Rattle.layout.specs.Types.{Digest}
 use Rattle.update_cert.specs.Change.{Change, Remove}
 use Rattle.update_cert.specs.Cert.{Cert}
 use Rattle.pending_list.specs.declared.signed.Signed.{Signed}
 use Rattle.pending_list.specs.Reply.{PendingItem, outranks}
 use Rattle.principals.specs.declared.table.Listing.{Listing}
-use Rattle.principals.specs.Table.{Table, Row}
+use Rattle.principals.specs.declared.table.Row.{Row}
+use Rattle.principals.specs.Table.{Table}
 use Rattle.reply_rules.specs.Lists.{Lists}
-use Rattle.reply_rules.specs.Groups.{groups_below, table_version, raised_groups}
+use Rattle.pending_list.specs.Groups.{groups_below, table_version, raised_groups}
 use Rattle.reply_rules.specs.Rules.{unknown_user, structures_numbered, pending_numbered, pending_next, counts_at, all_in_order, own_above, vectors_follow, top_known, top_waiting, shows_earlier, rest_of, rest_known, rest_waiting, rest_others, within, above_show, own_only, own_all, version_within, table_within, of_member, records_once, newest, versions_once, versions_within, versions_complete}
 
 -- ---- what the lists are made of
@@ -245,7 +247,7 @@ abbrev shown_with : Plan → List GroupRecord → Signed Structure
 shown_with p rs = record { value = record { plan = p; handle = []; groups = rs }; signature = [] }
 
 -- a change of group 64
-abbrev of_group : Change
+abbrev of_group : Change Digest
 of_group = record { principal = 64; i_number = 64; action = Remove }
 
 abbrev raising_as : Plan → PendingItem

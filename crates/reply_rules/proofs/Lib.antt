@@ -1,6 +1,5 @@
 pub mod Tests
 pub mod Above
-pub mod GroupsLaws
 pub mod SameVector
 pub mod RaisedLaws
 pub mod VectorLaws

@@ -4,7 +4,7 @@ use Rattle.std.specs.Prelude.{◌&&◌, nat_lt}
 use Rattle.std.specs.Int.{w32}
 use Rattle.std.specs.List.{list_all}
 use Rattle.std.proofs.lemmas.Bool.{eq-eqb, ne_eqb, ltb-true, lt-ltb, le-ltb, cases_eq, and_parts, and_from, cases_order}
-use Rattle.layout.specs.Format.{FitRows}
+use Rattle.layout.specs.Format.{FitRows, after_row}
 use Rattle.layout.specs.Laws.{in_range}
 use Rattle.version_order.specs.declared.vector.Component.{Component}
 use Rattle.version_order.specs.Vector.{version_of, raised, raised_all, component, vector}
@@ -37,14 +37,14 @@ version-absent p (c ∷ cs) h =
 
 -- ---- what fits ascends, and has no version past the last one
 
-fits_before : (c : Component) (v : List Component) → FitRows component (Some c) v → stands_before c.principal v ≡ true
+fits_before : (c : Component) (v : List Component) → FitRows (after_row component) (Some c) v → stands_before c.principal v ≡ true
 unfolding FitRows
 fits_before c [] fits = refl
 fits_before c (d ∷ ds) fits =
     let l = ltb-true c.principal d.principal fits.0.0.1 in
     and_from _ _ fits.0.0.1 (before_less c.principal d.principal ds l (fits_before d ds fits.1))
 
-fits_ascend : (b : Option Component) (v : List Component) → FitRows component b v → ascending v ≡ true
+fits_ascend : (b : Option Component) (v : List Component) → FitRows (after_row component) b v → ascending v ≡ true
 unfolding FitRows
 fits_ascend b [] fits = refl
 fits_ascend b (c ∷ cs) fits = and_from _ _ (fits_before c cs fits.1) (fits_ascend (Some c) cs fits.1)
@@ -52,7 +52,7 @@ fits_ascend b (c ∷ cs) fits = and_from _ _ (fits_before c cs fits.1) (fits_asc
 ascending_of : (v : List Component) → vector.Fits v → ascending v ≡ true
 ascending_of v fits = fits_ascend None v fits.1.1
 
-version_fits : (b : Option Component) (p : ℕ) (v : List Component) → FitRows component b v → version_of p v ≤ 4294967295
+version_fits : (b : Option Component) (p : ℕ) (v : List Component) → FitRows (after_row component) b v → version_of p v ≤ 4294967295
 unfolding FitRows
 version_fits b p [] fits = omega arith
 version_fits b p (c ∷ cs) fits =

@@ -13,10 +13,9 @@ use Rattle.version_order.specs.Structure.{Structure}
 use Rattle.pending_list.specs.declared.signed.Signed.{Signed}
 use Rattle.pending_list.specs.Reply.{PendingItem}
 use Rattle.principals.specs.Table.{Table}
-use Rattle.reply_rules.specs.Groups.{groups_below, raises}
+use Rattle.pending_list.specs.Groups.{groups_below, none_below, one_more, raises}
 use Rattle.reply_rules.specs.Lists.{Lists}
 use Rattle.reply_rules.specs.Rules.{greater, newest_in, newest, versions_beyond, new_versions, own_version, each_once, has_all, group_complete}
-use Rattle.reply_rules.proofs.GroupsLaws.{none_below, one_more}
 use Rattle.reply_rules.proofs.Tests.{dropped, and_false}
 
 -- ---- the greatest version

@@ -1,7 +1,6 @@
 pub mod Lists
 pub mod ListsLaws
 pub mod Number
-pub mod Groups
 pub mod Rules
 pub mod Split
 pub mod Shown

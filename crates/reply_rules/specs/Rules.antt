@@ -22,7 +22,7 @@ use Rattle.pending_list.specs.Reply.{PendingItem, Reply}
 use Rattle.pending_list.specs.Reply as lists_spec
 use Rattle.principals.specs.Table.{Table, is_listed, is_member}
 use Rattle.reply_rules.specs.Lists.{Lists, items, shown, pending, structure_of, number_of}
-use Rattle.reply_rules.specs.Groups.{groups, raised_groups, raises}
+use Rattle.pending_list.specs.Groups.{groups, raised_groups, raises}
 
 -- ---- top and above
 

@@ -20,7 +20,7 @@ use std::alloc::Allocator;
 use version_order::{Plan, Structure};
 
 /// Whether the plan's user is listed since its version of user 0 or before.
-fn is_known<A: Allocator>(table: &Table, plan: &Plan<A>) -> bool
+fn is_known<A: Allocator>(table: &Table<A>, plan: &Plan<A>) -> bool
     ensures { result ≡ is_known table.now plan.now }
 {
     let number = plan.vector().version_of(Principal::from(User::superuser()));
@@ -28,7 +28,7 @@ fn is_known<A: Allocator>(table: &Table, plan: &Plan<A>) -> bool
 }
 
 /// Whether that holds of each structure.
-fn structures_known<A: Allocator>(table: &Table, structures: &[Signed<Structure<A>>]) -> bool
+fn structures_known<A: Allocator>(table: &Table<A>, structures: &[Signed<Structure<A>>]) -> bool
     ensures { result ≡ list_all (is_known table.now) (map (λ z. z.value.plan) structures.now) }
 {
     for structure in structures {
@@ -40,7 +40,7 @@ fn structures_known<A: Allocator>(table: &Table, structures: &[Signed<Structure<
 }
 
 /// Whether it holds of each pending operation.
-fn pending_known<A: Allocator>(table: &Table, pending: &[PendingItem<A>]) -> bool
+fn pending_known<A: Allocator>(table: &Table<A>, pending: &[PendingItem<A>]) -> bool
     ensures { result ≡ list_all (is_known table.now) (map (λ i. i.plan) pending.now) }
 {
     for item in pending {
@@ -53,7 +53,7 @@ fn pending_known<A: Allocator>(table: &Table, pending: &[PendingItem<A>]) -> boo
 
 /// Whether the rule on unknown users holds.
 #[tactic(auto, unfolding(crate::specs::Rules::unknown_user))]
-fn users_known<A: Allocator>(table: &Table, lists: &Lists<'_, A>) -> bool
+fn users_known<A: Allocator>(table: &Table<A>, lists: &Lists<'_, A>) -> bool
     ensures { result ≡ unknown_user table.now lists.now }
 {
     structures_known(table, lists.structures()) && pending_known(table, lists.pending())
@@ -62,7 +62,7 @@ fn users_known<A: Allocator>(table: &Table, lists: &Lists<'_, A>) -> bool
 /// The first of the rules that these lists break.
 fn first_broken<A: Allocator + Copy>(
     alloc: A,
-    table: &Table,
+    table: &Table<A>,
     lists: &Lists<'_, A>,
 ) -> Result<Option<Rule>, Memory>
     ensures { IfOk result (λ rule. rule ≡ broken table.now lists.now) }
@@ -93,7 +93,7 @@ fn first_broken<A: Allocator + Copy>(
 pub fn broken<A: Allocator + Copy>(
     alloc: A,
     reply: &Reply<A>,
-    table: &Table,
+    table: &Table<A>,
     own: User,
 ) -> Result<Option<Rule>, Memory>
     requires lists { lists reply.now ≡ true }

@@ -3,7 +3,6 @@
 #![tactic(auto)]
 
 mod entries;
-mod groups;
 mod judge;
 mod link;
 mod lists;

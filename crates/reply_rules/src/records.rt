@@ -3,13 +3,12 @@
 ghost use Rattle.std.specs.Prelude.{◌≡◌, ◌==◌, ◌&&◌, ◌+◌, IfOk, not, nat_le, nat_lt};
 ghost use Rattle.std.specs.List.{list_all, list_any};
 ghost use Rattle.version_order.specs.Vector.{version_of};
-ghost use Rattle.reply_rules.specs.Groups.{groups, raises};
+ghost use Rattle.pending_list.specs.Groups.{groups, raises};
 ghost use Rattle.reply_rules.specs.Rules.{version_within, table_within, of_member, record_holds, differ, records_once, newest_in, newest, versions_beyond, each_once, has_all, group_complete, group_records};
 
-use crate::groups::raises;
 use crate::reply_lists::Lists;
 use layout::{Group, Memory, Principal, User};
-use pending_list::{PendingItem, Signed};
+use pending_list::{PendingItem, Signed, raises};
 use principals::Table;
 use std::alloc::Allocator;
 use version_order::{GroupRecord, Plan, Structure};
@@ -29,27 +28,27 @@ fn table_within<A: Allocator>(plan: &Plan<A>, row: &GroupRecord) -> bool
 }
 
 /// Whether its structure's user is a member of the group at that table version.
-fn of_member<A: Allocator>(table: &Table, plan: &Plan<A>, row: &GroupRecord) -> bool
+fn of_member<A: Allocator>(table: &Table<A>, plan: &Plan<A>, row: &GroupRecord) -> bool
     ensures { result ≡ of_member table.now plan.now row.now }
 {
     table.is_member(row.group, plan.user(), row.table)
 }
 
-fn record_holds<A: Allocator>(table: &Table, plan: &Plan<A>, row: &GroupRecord) -> bool
+fn record_holds<A: Allocator>(table: &Table<A>, plan: &Plan<A>, row: &GroupRecord) -> bool
     ensures { result ≡ record_holds table.now plan.now row.now }
 {
     version_within(plan, row) && table_within(plan, row) && of_member(table, plan, row)
 }
 
 /// Whether each of these records of one structure holds.
-fn each_holds<A: Allocator>(table: &Table, plan: &Plan<A>, records: &[GroupRecord]) -> bool
+fn each_holds<A: Allocator>(table: &Table<A>, plan: &Plan<A>, records: &[GroupRecord]) -> bool
     ensures { result ≡ list_all (record_holds table.now plan.now) records.now }
 {
     records.iter().all(|row| record_holds(table, plan, row))
 }
 
 /// Whether each record of these structures does.
-fn records_hold<A: Allocator>(table: &Table, structures: &[Signed<Structure<A>>]) -> bool
+fn records_hold<A: Allocator>(table: &Table<A>, structures: &[Signed<Structure<A>>]) -> bool
     ensures { result ≡ list_all (λ z. list_all (record_holds table.now z.value.plan) z.value.groups) structures.now }
 {
     for structure in structures {
@@ -132,7 +131,12 @@ fn newest<A: Allocator>(structures: &[Signed<Structure<A>>], group: Group) -> u3
 }
 
 /// Whether the item raises the group, and has a version of it beyond this one.
-fn is_beyond<A: Allocator>(table: &Table, group: Group, newest: u32, item: &PendingItem<A>) -> bool
+fn is_beyond<A: Allocator>(
+    table: &Table<A>,
+    group: Group,
+    newest: u32,
+    item: &PendingItem<A>,
+) -> bool
     ensures { result ≡ (raises table.now group item.now && nat_lt newest (version_of group item.now.plan.vector)) }
 {
     raises(table, group, item) && newest < item.plan().vector().version_of(Principal::from(group))
@@ -141,7 +145,7 @@ fn is_beyond<A: Allocator>(table: &Table, group: Group, newest: u32, item: &Pend
 /// The versions of a group beyond this one, of those of these pending items that raise it.
 fn versions_beyond<A: Allocator + Copy>(
     alloc: A,
-    table: &Table,
+    table: &Table<A>,
     group: Group,
     newest: u32,
     items: &[PendingItem<A>],
@@ -215,7 +219,7 @@ fn are_complete(versions: &[u32], newest: u32, own: u32) -> bool
 /// Whether the pending items that raise the group have each version beyond its newest record up to the own plan's, once.
 fn group_complete<A: Allocator + Copy>(
     alloc: A,
-    table: &Table,
+    table: &Table<A>,
     lists: &Lists<'_, A>,
     group: Group,
 ) -> Result<bool, Memory>
@@ -234,7 +238,7 @@ fn group_complete<A: Allocator + Copy>(
 /// Whether that holds of each group.
 fn groups_complete<A: Allocator + Copy>(
     alloc: A,
-    table: &Table,
+    table: &Table<A>,
     lists: &Lists<'_, A>,
 ) -> Result<bool, Memory>
     ensures { IfOk result (λ complete. complete ≡ list_all (group_complete table.now lists.now) groups) }
@@ -254,7 +258,7 @@ fn groups_complete<A: Allocator + Copy>(
 #[tactic(auto, unfolding(crate::specs::Rules::group_records))]
 pub(crate) fn group_records_hold<A: Allocator + Copy>(
     alloc: A,
-    table: &Table,
+    table: &Table<A>,
     lists: &Lists<'_, A>,
 ) -> Result<bool, Memory>
     ensures { IfOk result (λ holds. holds ≡ group_records table.now lists.now) }

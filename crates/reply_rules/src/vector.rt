@@ -5,10 +5,9 @@ ghost use Rattle.std.specs.List.{list_all};
 ghost use Rattle.version_order.specs.Vector.{version_of, raised, raised_all, vector as vector_format};
 ghost use Rattle.reply_rules.specs.Rules.{in_order, any_two, all_in_order, own_above, top_vector, same_vector, vectors_follow, vector};
 
-use crate::groups::raised_groups;
 use crate::reply_lists::Lists;
 use layout::{Group, Memory, Principal};
-use pending_list::{PendingItem, Signed};
+use pending_list::{PendingItem, Signed, raised_groups};
 use principals::Table;
 use std::alloc::Allocator;
 use version_order::{Plan, PlanError, Structure, Vector, below, depth};
@@ -145,7 +144,7 @@ fn follows<A: Allocator>(
 /// Whether each plan above has the vector that follows from the one before it, the first one from top's.
 fn vectors_follow<A: Allocator + Copy>(
     alloc: A,
-    table: &Table,
+    table: &Table<A>,
     lists: &Lists<'_, A>,
 ) -> Result<bool, Memory>
     ensures { IfOk result (λ follow. follow ≡ vectors_follow table.now lists.now) }
@@ -165,7 +164,7 @@ fn vectors_follow<A: Allocator + Copy>(
 #[tactic(auto, unfolding(crate::specs::Rules::vector))]
 pub(crate) fn vector_holds<A: Allocator + Copy>(
     alloc: A,
-    table: &Table,
+    table: &Table<A>,
     lists: &Lists<'_, A>,
 ) -> Result<bool, Memory>
     ensures { IfOk result (λ holds. holds ≡ vector table.now lists.now) }

@@ -12,7 +12,8 @@ use Rattle.itable.specs.Inode.{Inode, inode, lawful_inode}
 use Rattle.itable.specs.File.{blocks_of}
 use Rattle.itable.specs.declared.inode.Kind.TheVariants as kinds
 use Rattle.directory.specs.Directory.{Entry, directory, lawful_directory}
-use Rattle.update_cert.specs.World.{Content, File, Directory}
+use Rattle.update_cert.specs.World.{Content, File, Directory, Principals}
+use Rattle.update_cert.specs.Reading.{Reading}
 use Rattle.update_cert.specs.Blocks.{Blocks, Agrees, IsHeld, IsOf, inode_at, joined, of_size, directory_over, file_over}
 use Rattle.update_cert.specs.Slots.{IsReadBack, directory_inode}
 
@@ -40,17 +41,19 @@ spelled_of_size entries fits = rw (eq-eqb (length (directory.spell entries)) (le
 is_file : (blocks : Blocks) (n : Inode) (bytes : List ℕ) (content : Content) → n.kind ≡ kinds.File → file_over blocks n ≡ Some bytes → IsOf blocks n content → content ≡ File bytes
 is_file blocks n bytes (File others) of_file over is = ap (λ (b : List ℕ). File b) (sym (is.2 bytes over))
 is_file blocks n bytes (Directory entries) of_file over is = let clash = sym of_file ∙ is.0 in absurd cc
+is_file blocks n bytes (Principals table) of_file over is = absurd is
 
 is_directory : (blocks : Blocks) (n : Inode) (entries : List Entry) (content : Content) → n.kind ≡ kinds.Directory → directory_over blocks n ≡ Some entries → IsOf blocks n content → content ≡ Directory entries
 is_directory blocks n entries (File bytes) of_directory over is = let clash = sym of_directory ∙ is.0 in absurd cc
 is_directory blocks n entries (Directory others) of_directory over is = ap (λ (es : List Entry). Directory es) (sym (is.2 entries over))
+is_directory blocks n entries (Principals table) of_directory over is = absurd is
 
 -- the digest of an i-node that is held stands for the file or the directory that its blocks make
-pub file_is : (blocks : Blocks) (reads : List ℕ → Content) (digest bytes : List ℕ) (n : Inode) → Agrees blocks reads → inode_at blocks digest ≡ Some n → n.kind ≡ kinds.File → file_over blocks n ≡ Some bytes → reads digest ≡ File bytes
-file_is blocks reads digest bytes n agrees held of_file over = is_file blocks n bytes (reads digest) of_file over (agrees digest n held)
+pub file_is : (blocks : Blocks) (reads : Reading) (digest bytes : List ℕ) (n : Inode) → Agrees blocks reads → inode_at blocks digest ≡ Some n → n.kind ≡ kinds.File → file_over blocks n ≡ Some bytes → reads.content digest ≡ File bytes
+file_is blocks reads digest bytes n agrees held of_file over = is_file blocks n bytes (reads.content digest) of_file over (agrees.contents digest n held)
 
-pub directory_is : (blocks : Blocks) (reads : List ℕ → Content) (digest : List ℕ) (n : Inode) (entries : List Entry) → Agrees blocks reads → inode_at blocks digest ≡ Some n → n.kind ≡ kinds.Directory → directory_over blocks n ≡ Some entries → reads digest ≡ Directory entries
-directory_is blocks reads digest n entries agrees held of_directory over = is_directory blocks n entries (reads digest) of_directory over (agrees digest n held)
+pub directory_is : (blocks : Blocks) (reads : Reading) (digest : List ℕ) (n : Inode) (entries : List Entry) → Agrees blocks reads → inode_at blocks digest ≡ Some n → n.kind ≡ kinds.Directory → directory_over blocks n ≡ Some entries → reads.content digest ≡ Directory entries
+directory_is blocks reads digest n entries agrees held of_directory over = is_directory blocks n entries (reads.content digest) of_directory over (agrees.contents digest n held)
 
 pub read_back : (entries : List Entry) → directory.Fits entries → inode.Fits (directory_inode entries) → concat (blocks_of (directory.spell entries)) ≡ directory.spell entries → IsReadBack entries
 read_back entries fits inode_fits all = λ blocks reads agrees held.

@@ -5,7 +5,7 @@ pub mod OpenedLaws
 pub mod ActLaws
 pub mod AskedLaws
 pub mod TreeLaws
-pub mod SettleLaws
+pub mod LaidLaws
 pub mod SomeReading
 pub mod Contents
 pub mod TakenLaws

@@ -9,13 +9,14 @@ use Rattle.std.proofs.lemmas.Bool.{eqb-true, eq-eqb, ltb-false}
 use Rattle.std.proofs.lemmas.List.{nil_from_length, length-drop, length-replicate}
 use Rattle.layout.specs.declared.error.ReadError.{ReadError}
 use Rattle.layout.specs.declared.error.ReadError.TheVariants.{Short, BadTag, Range, Trailing}
-use Rattle.layout.specs.Format.{◌>>=◌, ends, uint, uint_in, tagged, followed, rows, read_rows, listed, whole}
+use Rattle.layout.specs.Format.{◌>>=◌, ends, uint, uint_in, tagged, followed, rows, after_row, read_rows, listed, whole}
 use Rattle.itable.specs.Inode.{Inode}
 use Rattle.itable.specs.declared.inode.Kind.{Kind}
 use Rattle.itable.specs.declared.inode.Kind.TheVariants as kinds
 use Rattle.directory.specs.Directory.{Entry, entry, directory}
 use Rattle.update_cert.specs.World.{Content, File, Directory}
-use Rattle.update_cert.specs.Blocks.{Blocks, inode_at, joined, of_size, directory_over, if_of_size, file_over, IsOf, Agrees}
+use Rattle.update_cert.specs.Reading.{Reading}
+use Rattle.update_cert.specs.Blocks.{Blocks, inode_at, inode_told, joined, of_size, directory_over, if_of_size, file_over, IsOf, Agrees}
 
 -- ---- steps that did not fail
 
@@ -50,7 +51,7 @@ both_are p entries rest one other = ap (λ (es : List Entry). (es, p.1)) one ∙
 abbrev rows_of : List ℕ → List ℕ
 rows_of text = drop 2 (drop 4 text)
 
-rows_read : (text : List ℕ) (entries : List Entry) → whole directory text ≡ Ok entries → (6 ≤ length text) × ((n : ℕ) × (read_rows entry n None (rows_of text) ≡ Ok (entries, [])))
+rows_read : (text : List ℕ) (entries : List Entry) → whole directory text ≡ Ok entries → (6 ≤ length text) × ((n : ℕ) × (read_rows (after_row entry) n None (rows_of text) ≡ Ok (entries, [])))
 rows_read text entries e =
     let a = bind_ok (directory.read text) (λ (y : List Entry × List ℕ). cond (ends y.1) (Ok y.0) (Err Trailing)) entries e in
     let all = pass_ok (ends a.0.1) Trailing a.0.0 entries a.2 in
@@ -58,29 +59,29 @@ rows_read text entries e =
     let b = bind_ok ((tagged (codes "SDI1")).read text) (λ (u : Unit {0} × List ℕ). (listed (uint_in w16 0 1024) entry).read u.1) a.0 a.1 in
     let tag = tag_ok (nat_lt (length text) 4) (starts_with nat_eq text (codes "SDI1")) (drop 4 text) b.0 b.1 in
     let c = bind_ok ((followed (uint_in w16 0 1024) (rows entry)).read b.0.1) (λ (z : (ℕ × List Entry) × List ℕ). Ok (z.0.1, z.1)) a.0 b.2 in
-    let d = bind_ok ((uint_in w16 0 1024).read b.0.1) (λ (x : ℕ × List ℕ). read_rows entry x.0 None x.1 >>= λ y. Ok ((x.0, y.0), y.1)) c.0 c.1 in
-    let f = bind_ok (read_rows entry d.0.0 None d.0.1) (λ (y : List Entry × List ℕ). Ok ((d.0.0, y.0), y.1)) c.0 d.2 in
+    let d = bind_ok ((uint_in w16 0 1024).read b.0.1) (λ (x : ℕ × List ℕ). read_rows (after_row entry) x.0 None x.1 >>= λ y. Ok ((x.0, y.0), y.1)) c.0 c.1 in
+    let f = bind_ok (read_rows (after_row entry) d.0.0 None d.0.1) (λ (y : List Entry × List ℕ). Ok ((d.0.0, y.0), y.1)) c.0 d.2 in
     let h = bind_ok ((uint w16).read b.0.1) (λ (x : ℕ × List ℕ). cond (nat_le 0 x.0 && nat_le x.0 1024) (Ok x) (Err Range)) d.0 d.1 in
     let in_range = pass_ok (nat_le 0 h.0.0 && nat_le h.0.0 1024) Range h.0 d.0 h.2 in
     let count = guard_ok (nat_lt (length b.0.1) 2) Short (from_be_bytes w16 (take 2 b.0.1), drop 2 b.0.1) h.0 h.1 in
     let left : drop 2 (drop 4 text) ≡ d.0.1 = ap (drop 2) tag.1 ∙ ap (λ (p : ℕ × List ℕ). p.1) (count.1 ∙ in_range.1) in
     let made = ok_is ((d.0.0, f.0.0), f.0.1) c.0 f.2 in
     let given = ok_is (c.0.0.1, c.0.1) a.0 c.2 in
-    let behind_count : f.0 ≡ (c.0.0.1, c.0.1) = ap (λ (z : (ℕ × List Entry) × List ℕ). (z.0.1, z.1)) made in
-    let same : f.0 ≡ (entries, []) = behind_count ∙ given ∙ both_are a.0 entries [] all.1 nothing in
+    let after_count : f.0 ≡ (c.0.0.1, c.0.1) = ap (λ (z : (ℕ × List Entry) × List ℕ). (z.0.1, z.1)) made in
+    let same : f.0 ≡ (entries, []) = after_count ∙ given ∙ both_are a.0 entries [] all.1 nothing in
     let long : 6 ≤ length text = omega (arith, ltb-false _ _ tag.0, ltb-false _ _ count.0, ap length tag.1, length-drop 4 text) in
-    (long, (d.0.0, ap (read_rows entry d.0.0 None) left ∙ f.1 ∙ ap (λ (p : List Entry × List ℕ). done p) same))
+    (long, (d.0.0, ap (read_rows (after_row entry) d.0.0 None) left ∙ f.1 ∙ ap (λ (p : List Entry × List ℕ). done p) same))
 
-no_rows : (n : ℕ) (bytes : List ℕ) → read_rows entry n None bytes ≡ Ok ([], []) → bytes ≡ []
+no_rows : (n : ℕ) (bytes : List ℕ) → read_rows (after_row entry) n None bytes ≡ Ok ([], []) → bytes ≡ []
 unfolding read_rows
 no_rows zero bytes e = ap (λ (p : List Entry × List ℕ). p.1) (ok_is ([], bytes) ([], []) e)
 no_rows (suc n) bytes e =
-    let a = bind_ok ((entry None).read bytes) (λ (x : Entry × List ℕ). read_rows entry n (Some x.0) x.1 >>= λ xs. Ok (x.0 ∷ xs.0, xs.1)) ([], []) e in
-    let b = bind_ok (read_rows entry n (Some a.0.0) a.0.1) (λ (xs : List Entry × List ℕ). Ok (a.0.0 ∷ xs.0, xs.1)) ([], []) a.2 in
+    let a = bind_ok ((entry None).read bytes) (λ (x : Entry × List ℕ). read_rows (after_row entry) n (Some x.0) x.1 >>= λ xs. Ok (x.0 ∷ xs.0, xs.1)) ([], []) e in
+    let b = bind_ok (read_rows (after_row entry) n (Some a.0.0) a.0.1) (λ (xs : List Entry × List ℕ). Ok (a.0.0 ∷ xs.0, xs.1)) ([], []) a.2 in
     let clash = ap (λ (p : List Entry × List ℕ). p.0) (ok_is (a.0.0 ∷ b.0.0, b.0.1) ([], []) b.2) in
     absurd cc
 
-no_bytes : (n : ℕ) (entries : List Entry) → read_rows entry n None [] ≡ Ok (entries, []) → entries ≡ []
+no_bytes : (n : ℕ) (entries : List Entry) → read_rows (after_row entry) n None [] ≡ Ok (entries, []) → entries ≡ []
 unfolding read_rows
 no_bytes zero entries e = sym (ap (λ (p : List Entry × List ℕ). p.0) (ok_is ([], []) (entries, []) e))
 no_bytes (suc n) entries e = absurd cc
@@ -89,11 +90,11 @@ empty_at_6 : (text : List ℕ) (entries : List Entry) → whole directory text �
 empty_at_6 text entries e =
     let read = rows_read text entries e in (
       λ none.
-          let bytes = no_rows read.1.0 (rows_of text) (subst (λ (es : List Entry). read_rows entry read.1.0 None (rows_of text) ≡ Ok (es, [])) none read.1.1) in
+          let bytes = no_rows read.1.0 (rows_of text) (subst (λ (es : List Entry). read_rows (after_row entry) read.1.0 None (rows_of text) ≡ Ok (es, [])) none read.1.1) in
           omega (arith, read.0, ap length bytes, length-drop 2 (drop 4 text), length-drop 4 text),
       λ size.
           let bytes : rows_of text ≡ [] = nil_from_length (rows_of text) (omega (arith, size, length-drop 2 (drop 4 text), length-drop 4 text)) in
-          no_bytes read.1.0 entries (subst (λ (bs : List ℕ). read_rows entry read.1.0 None bs ≡ Ok (entries, [])) bytes read.1.1),
+          no_bytes read.1.0 entries (subst (λ (bs : List ℕ). read_rows (after_row entry) read.1.0 None bs ≡ Ok (entries, [])) bytes read.1.1),
     )
 
 -- ---- a content for an i-node
@@ -154,8 +155,16 @@ abbrev content_if : Blocks → Option Inode → Content
 content_if blocks None = File []
 content_if blocks (Some n) = content_over blocks n n.kind
 
-pub some_reading : (blocks : Blocks) → (reads : List ℕ → Content) × Agrees blocks reads
+-- what is told, or that nothing is there
+abbrev if_told : Option (Option (List ℕ)) → Option (List ℕ)
+if_told None = None
+if_told (Some told) = told
+
+pub some_reading : (blocks : Blocks) → (reads : Reading) × Agrees blocks reads
 some_reading blocks = (
-  λ digest. content_if blocks (inode_at blocks digest),
-  λ digest n at. subst (IsOf blocks n) (sym (ap (content_if blocks) at)) (is_over blocks n n.kind refl),
+  record { content = λ digest. content_if blocks (inode_at blocks digest); inode = λ p handle i. if_told (inode_told blocks p handle i) },
+  record {
+    contents = λ digest n at. subst (IsOf blocks n) (sym (ap (content_if blocks) at)) (is_over blocks n n.kind refl);
+    inodes = λ p handle i told is. ap if_told is;
+  },
 )

@@ -7,28 +7,34 @@ use Rattle.layout.specs.Format.{Format, uint_in, raw, pair, nothing, variant, si
 use Rattle.layout.specs.Laws.{Lawful, laws, in_range, lawful_sized, lawful_variant, variant_is, wide8, wide16}
 use Rattle.layout.specs.Sizes.{AtMost, at_most_mapped, at_most_more, at_most_nothing, at_most_pair, at_most_raw, at_most_sized, at_most_uint_in, at_most_variant}
 use Rattle.layout.specs.Ranges.{principal, i_number}
+use Rattle.layout.specs.Types.{Bytes, Digest, Group, INumber, Key, Principal, User}
 use Rattle.directory.specs.Directory.{Entry, named, lawful_named, at_most_name, at_most_named}
 use Rattle.directory.specs.Name.{name, lawful_name}
 use Rattle.update_cert.specs.declared.change.TheConstants.{CHANGE_SIZE}
 use Rattle.update_cert.specs.declared.change.Action.{Action as Held}
 use Rattle.update_cert.specs.declared.change.Action.TheVariants as held
 
--- what is done: Make and Put name an i-node by its digest, Link has the new entry, and Unlink the name of one
-pub data Action : Type 0 where
-  Make : List ℕ → Action
-  Put : List ℕ → Action
-  Remove : Action
-  Link : Entry → Action
-  Unlink : List ℕ → Action
+-- What is done. Make and Put have what is to stand there: in a certificate the digest of its i-node, in an operation the
+-- content. Link has the new entry, and Unlink the name of one. The last three are done to the table of principals, at user
+-- 0's i-number 1.
+pub data Action (C : Type 0) : Type 0 where
+  Make : C → Action C
+  Put : C → Action C
+  Remove : Action C
+  Link : Entry → Action C
+  Unlink : Bytes → Action C
+  AddUser : User → Key → Action C
+  AddMember : Group → User → Action C
+  DropMember : Group → User → Action C
 
--- what is done at an i-number of a principal, without where it lies in memory
-pub record Change : Type 0 where
-  pub principal : ℕ
-  pub i_number : ℕ
-  pub action : Action
+-- what is done at an i-number of a principal
+pub record Change (C : Type 0) : Type 0 where
+  pub principal : Principal
+  pub i_number : INumber
+  pub action : Action C
 
 -- an action in memory
-abbrev pub action_of : {A : Type 0} → Held A → Action
+abbrev pub action_of : {A : Type 0} → Held A → Action Digest
 action_of (held.Make inode) = Make inode
 action_of (held.Put inode) = Put inode
 action_of held.Remove = Remove
@@ -38,35 +44,39 @@ action_of (held.Unlink old) = Unlink old
 -- ---- the text
 
 -- the number of its kind
-abbrev pub kind : Action → ℕ
+abbrev pub kind : {C : Type 0} → Action C → ℕ
 kind (Make inode) = 1
 kind (Put inode) = 2
 kind Remove = 3
 kind (Link entry) = 4
 kind (Unlink old) = 5
+kind (AddUser u key) = 6
+kind (AddMember g u) = 7
+kind (DropMember g u) = 8
 
-abbrev pub as_make : Action → Option (List ℕ)
+abbrev pub as_make : Action Digest → Option Digest
 as_make (Make inode) = Some inode
 as_make other = None
 
-abbrev pub as_put : Action → Option (List ℕ)
+abbrev pub as_put : Action Digest → Option Digest
 as_put (Put inode) = Some inode
 as_put other = None
 
-abbrev pub as_remove : Action → Option (Unit {0})
+abbrev pub as_remove : Action Digest → Option (Unit {0})
 as_remove Remove = Some tt
 as_remove other = None
 
-abbrev pub as_link : Action → Option Entry
+abbrev pub as_link : Action Digest → Option Entry
 as_link (Link entry) = Some entry
 as_link other = None
 
-abbrev pub as_unlink : Action → Option (List ℕ)
+abbrev pub as_unlink : Action Digest → Option Bytes
 as_unlink (Unlink old) = Some old
 as_unlink other = None
 
--- what stands after the kinds 1 to 5: the digest of an i-node for 1 and 2, nothing for 3, an entry for 4, a name for 5
-abbrev pub action : ℕ → Format Action
+-- What stands after the kinds 1 to 5, which certificates have today: the digest of an i-node for 1 and 2, nothing for 3,
+-- an entry for 4, a name for 5.
+abbrev pub action : ℕ → Format (Action Digest)
 action zero = variant (λ _. Remove) as_remove nothing
 action (suc zero) = variant (λ inode. Make inode) as_make (raw 32)
 action (suc (suc zero)) = variant (λ inode. Put inode) as_put (raw 32)
@@ -75,36 +85,36 @@ action (suc (suc (suc (suc zero)))) = variant (λ entry. Link entry) as_link nam
 action (suc (suc (suc (suc (suc n))))) = variant (λ old. Unlink old) as_unlink name
 
 -- the fields after the kind
-abbrev pub fields : ℕ → Format Change
+abbrev pub fields : ℕ → Format (Change Digest)
 fields k =
     mapped (λ p. record { principal = p.0; i_number = p.1.0; action = p.1.1 }) (λ c. (c.principal, (c.i_number, c.action)))
     (pair principal (pair i_number (action k)))
 
-abbrev pub kind_of : Change → ℕ
+abbrev pub kind_of : {C : Type 0} → Change C → ℕ
 kind_of c = kind c.action
 
-abbrev pub change : Format Change
+abbrev pub change : Format (Change Digest)
 change = sized (uint_in w8 1 5) kind_of fields
 
 -- ---- its laws
 
-is_make : (a : Action) (x : List ℕ) → as_make a ≡ Some x → Make x ≡ a
+is_make : (a : Action Digest) (x : Bytes) → as_make a ≡ Some x → Make x ≡ a
 is_make (Make inode) x e = cc
 is_make other x e = absurd cc
 
-is_put : (a : Action) (x : List ℕ) → as_put a ≡ Some x → Put x ≡ a
+is_put : (a : Action Digest) (x : Bytes) → as_put a ≡ Some x → Put x ≡ a
 is_put (Put inode) x e = cc
 is_put other x e = absurd cc
 
-is_remove : (a : Action) (x : Unit {0}) → as_remove a ≡ Some x → Remove ≡ a
+is_remove : (a : Action Digest) (x : Unit {0}) → as_remove a ≡ Some x → Remove ≡ a
 is_remove Remove x e = refl
 is_remove other x e = absurd cc
 
-is_link : (a : Action) (x : Entry) → as_link a ≡ Some x → Link x ≡ a
+is_link : (a : Action Digest) (x : Entry) → as_link a ≡ Some x → Link x ≡ a
 is_link (Link entry) x e = cc
 is_link other x e = absurd cc
 
-is_unlink : (a : Action) (x : List ℕ) → as_unlink a ≡ Some x → Unlink x ≡ a
+is_unlink : (a : Action Digest) (x : Bytes) → as_unlink a ≡ Some x → Unlink x ≡ a
 is_unlink (Unlink old) x e = cc
 is_unlink other x e = absurd cc
 
@@ -120,7 +130,7 @@ lawful_fields : (k : ℕ) → Lawful (fields k)
 lawful_fields k = search (laws, lawful_action) depth 9
 
 -- what is read after a kind is of this kind
-same_kind : (k : ℕ) (c : Change) → (uint_in w8 1 5).Fits k → (fields k).Fits c → kind_of c ≡ k
+same_kind : (k : ℕ) (c : Change Digest) → (uint_in w8 1 5).Fits k → (fields k).Fits c → kind_of c ≡ k
 same_kind zero c few fits = let range = in_range w8 1 5 zero few in absurd (omega (arith, range.0))
 same_kind (suc zero) c few fits = ap kind (sym (variant_is _ as_make (raw 32) is_make c.action fits.1.1).1)
 same_kind (suc (suc zero)) c few fits = ap kind (sym (variant_is _ as_put (raw 32) is_put c.action fits.1.1).1)

@@ -1,6 +1,7 @@
 pub mod Change
 pub mod Cert
 pub mod World
+pub mod Reading
 pub mod Blocks
 pub mod Spot
 pub mod Part

@@ -1,7 +1,8 @@
 //! The changes of a certificate, applied to a principal's part.
 
 ghost use Rattle.std.specs.Prelude.{◌≡◌, ℕ, List, IfOk, IfErr};
-ghost use Rattle.update_cert.specs.World.{Content, Actor, Tree, after, void_of};
+ghost use Rattle.update_cert.specs.World.{Actor, Tree};
+ghost use Rattle.update_cert.specs.Reading.{Reading, after_read, void_of_read};
 ghost use Rattle.update_cert.specs.Blocks.{Agrees};
 ghost use Rattle.update_cert.specs.Part.{IsPartOf, slot_at};
 ghost use Rattle.update_cert.specs.Asked.{LacksAskedFor};
@@ -56,16 +57,16 @@ pub fn apply<A: Allocator + Copy, B: Blocks>(
     cert: &Cert<A>,
 ) -> Result<Applied<A>, ApplyError>
     // For each tree of which this is the principal's part, whatever stands for digests that no block tells of.
-    ensures part { (reads : List ℕ → Content) (tree : Tree) (actor : Actor)
+    ensures part { (reads : Reading) (tree : Tree) (actor : Actor)
         → Agrees (B.held blocks.now) reads → IsPartOf reads part tree
         → actor.user ≡ cert.now.user → actor.member part.table.principal ≡ is_member
-        → IfOk result (λ applied. IsPartOf reads applied.part (after reads actor cert.now.changes tree)) }
-    ensures voids { (reads : List ℕ → Content) (tree : Tree) (actor : Actor)
+        → IfOk result (λ applied. IsPartOf reads applied.part (after_read reads actor cert.now.changes tree)) }
+    ensures voids { (reads : Reading) (tree : Tree) (actor : Actor)
         → Agrees (B.held blocks.now) reads → IsPartOf reads part tree
         → actor.user ≡ cert.now.user → actor.member part.table.principal ≡ is_member
-        → IfOk result (λ applied. applied.voids ≡ void_of reads actor part.table.principal cert.now.changes tree) }
+        → IfOk result (λ applied. applied.voids ≡ void_of_read reads actor part.table.principal cert.now.changes tree) }
     // By which digest, or by which entries, each thing stands there.
-    ensures slots { (reads : List ℕ → Content) (actor : Actor)
+    ensures slots { (reads : Reading) (actor : Actor)
         → Agrees (B.held blocks.now) reads
         → actor.user ≡ cert.now.user → actor.member part.table.principal ≡ is_member
         → IfOk result (λ applied. (i : ℕ) → slot_at applied.part i ≡ slot_after reads actor part.table.principal i cert.now.changes (slot_at part i)) }
@@ -80,7 +81,7 @@ pub fn apply<A: Allocator + Copy, B: Blocks>(
     let mut part = part;
     let mut numbers = Vec::new(alloc);
     for (place, change) in cert.changes().iter().enumerate() {
-        if part.follow(alloc, blocks, user, is_member, change)? {
+        if part.apply_change(alloc, blocks, user, is_member, change)? {
             numbers.push(place as u8 + 1)?;
         }
     }

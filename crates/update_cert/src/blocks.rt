@@ -6,7 +6,7 @@ ghost use Rattle.std.specs.Result.{result_ok};
 ghost use Rattle.std.specs.Vec.{vec_items};
 ghost use Rattle.layout.specs.Format.{whole};
 ghost use Rattle.layout.specs.Hash.{hash};
-ghost use Rattle.update_cert.specs.World.{Content};
+ghost use Rattle.update_cert.specs.Reading.{Reading};
 ghost use Rattle.update_cert.specs.Blocks.{Agrees, Blocks as Held, inode_at as inode_of, joined};
 
 use itable::Inode;
@@ -30,7 +30,7 @@ pub trait Blocks {
 /// Whatever blocks are held, digests can stand for something that agrees with them: what is said of each such reading is
 /// said of at least one.
 pub fn some_reading_agrees()
-    ensures { (blocks : Held) → (reads : List ℕ → Content) × Agrees blocks reads }
+    ensures { (blocks : Held) → (reads : Reading) × Agrees blocks reads }
 {}
 
 /// The value that the bytes spell, if they spell one.

@@ -37,9 +37,10 @@ pub struct Change<A: Allocator> {
 }
 
 impl<A: Allocator> Model for Change<A> {
+    ghost use Rattle.layout.specs.Types.{Digest};
     ghost use Rattle.update_cert.specs.Change.{Change, action_of, change};
 
-    ghost Value = { Change };
+    ghost Value = { Change Digest };
 
     ghost view = { λ c. record { principal = c.principal; i_number = c.i_number; action = action_of c.action } };
 

@@ -1,6 +1,6 @@
 //! A principal's part of the tree.
 
-ghost use Rattle.std.specs.Prelude.{◌≡◌, ◌==◌, ◌||◌, ◌&&◌, ◌/◌, nat_lt, nat_le, if◌then◌else◌, None, ℕ, List, [], Some, false, IfOk, IfErr, OnOk, IsSome, true, map, ◌∷◌};
+ghost use Rattle.std.specs.Prelude.{◌≡◌, ◌==◌, ◌||◌, ◌&&◌, ◌/◌, nat_lt, nat_le, if◌then◌else◌, None, ℕ, List, [], Some, false, IfOk, IsOk, IfErr, OnOk, IsSome, true, map, ◌∷◌};
 ghost use Rattle.std.specs.Option.{option_copied, option_map};
 ghost use Rattle.std.specs.Vec.{vec_items};
 ghost use Rattle.std.specs.Ordering.{nat_cmp};
@@ -8,11 +8,12 @@ ghost use Rattle.layout.specs.Ascending.{IsFree};
 ghost use Rattle.directory.specs.Directory.{Entry as ListedEntry};
 ghost use Rattle.itable.specs.ITable.{digest_at};
 ghost use Rattle.update_cert.specs.Change.{Make, Put, Remove, Link, Unlink};
-ghost use Rattle.update_cert.specs.World.{Content, Actor, Tree, after_change, has_effect, is_file, is_removable};
+ghost use Rattle.update_cert.specs.World.{Actor, Tree, after_change, is_file, is_removable, is_root as is_root_of};
+ghost use Rattle.update_cert.specs.Reading.{Reading, read_change};
 ghost use Rattle.update_cert.specs.Blocks.{Agrees, inode_at as inode_of};
 ghost use Rattle.update_cert.specs.Part.{Changed, IsPart, IsPartOf, number_of, opened_at as entries_at, part_of, slot_at, stands_at};
-ghost use Rattle.update_cert.specs.Acts.{Acts, LacksAt, change_at, is_void_of, listed};
-ghost use Rattle.update_cert.specs.Slots.{IsReadBack, changed_texts, laid_under, settled_digest, slot_after, slot_behind};
+ghost use Rattle.update_cert.specs.Acts.{Acts, LacksAt, LacksBy, LacksFor, change_at, is_void_of, listed};
+ghost use Rattle.update_cert.specs.Slots.{IsReadBack, changed_texts, has_digest, laid_under, slot_after, slot_after_change, slot_changes, slot_digest};
 
 use crate::blocks::Blocks;
 use crate::change::{Action, Change};
@@ -110,7 +111,7 @@ impl<A: Allocator> Part<A> {
 
     /// What the i-node of this digest is of stands at an i-number from now on, if nothing stood there.
     fn make(&mut self, user: User, i_number: INumber, digest: Digest) -> Result<bool, Memory>
-        ensures acts { (reads : List ℕ → Content) → IfOk result (λ fitted. Acts reads user (change_at self.old i_number (Make digest)) self.old self.new fitted) }
+        ensures acts { (reads : Reading) → IfOk result (λ fitted. Acts reads user (change_at self.old i_number (Make digest)) self.old self.new fitted) }
         ensures principal { OnOk result (self.new.table.principal ≡ self.old.table.principal) }
     {
         if self.table.get(i_number).is_some() || !may_make(user, self.principal(), i_number) {
@@ -131,7 +132,7 @@ impl<A: Allocator + Copy> Part<A> {
     ) -> Result<Option<Inode<A>>, ApplyError>
         requires { entries_at self.now i_number ≡ None }
         ensures found { IfOk result (λ found. option_map (λ n. Some n) found ≡ option_map (inode_of (B.held blocks.now)) (digest_at self.now.table i_number)) }
-        ensures missing { IfErr result (LacksAt (B.held blocks.now) self.now i_number) }
+        ensures missing { IfErr result (LacksAt (B.held blocks.now) self.now i_number false) }
     {
         let Some(digest) = self.table.get(i_number) else {
             return Ok(None);
@@ -147,10 +148,10 @@ impl<A: Allocator + Copy> Part<A> {
         blocks: &B,
         i_number: INumber,
     ) -> Result<bool, ApplyError>
-        ensures file { (reads : List ℕ → Content) → Agrees (B.held blocks.now) reads → IfOk result (λ is. is ≡ is_file (stands_at reads self.now i_number)) }
+        ensures file { (reads : Reading) → Agrees (B.held blocks.now) reads → IfOk result (λ is. is ≡ is_file (stands_at reads self.now i_number)) }
         // It isn't opened then.
         ensures closed { IfOk result (λ is. is ≡ true → entries_at self.now i_number ≡ None) }
-        ensures missing { IfErr result (LacksAt (B.held blocks.now) self.now i_number) }
+        ensures missing { IfErr result (LacksAt (B.held blocks.now) self.now i_number false) }
     {
         if self.opened_at(i_number).is_some() {
             return Ok(false);
@@ -167,8 +168,8 @@ impl<A: Allocator + Copy> Part<A> {
         blocks: &B,
         i_number: INumber,
     ) -> Result<bool, ApplyError>
-        ensures removable { (reads : List ℕ → Content) → Agrees (B.held blocks.now) reads → IfOk result (λ is. is ≡ is_removable (stands_at reads self.now i_number)) }
-        ensures missing { IfErr result (LacksAt (B.held blocks.now) self.now i_number) }
+        ensures removable { (reads : Reading) → Agrees (B.held blocks.now) reads → IfOk result (λ is. is ≡ is_removable (stands_at reads self.now i_number)) }
+        ensures missing { IfErr result (LacksAt (B.held blocks.now) self.now i_number false) }
     {
         if let Some(directory) = self.opened_at(i_number) {
             return Ok(directory.entries().is_empty());
@@ -185,9 +186,9 @@ impl<A: Allocator + Copy> Part<A> {
         i_number: INumber,
     ) -> Result<Option<Directory<A>>, ApplyError>
         requires { entries_at self.now i_number ≡ None }
-        ensures found { (reads : List ℕ → Content) → Agrees (B.held blocks.now) reads → IfOk result (λ found. found ≡ listed (option_map reads (digest_at self.now.table i_number))) }
+        ensures found { (reads : Reading) → Agrees (B.held blocks.now) reads → IfOk result (λ found. found ≡ listed (option_map reads.content (digest_at self.now.table i_number))) }
         ensures mapped { IfOk result (λ found. IsSome found → IsSome (digest_at self.now.table i_number)) }
-        ensures missing { IfErr result (LacksAt (B.held blocks.now) self.now i_number) }
+        ensures missing { IfErr result (LacksAt (B.held blocks.now) self.now i_number true) }
     {
         let Some(digest) = self.table.get(i_number) else {
             return Ok(None);
@@ -210,9 +211,9 @@ impl<A: Allocator + Copy> Part<A> {
         i_number: INumber,
         digest: Digest,
     ) -> Result<bool, ApplyError>
-        ensures acts { (reads : List ℕ → Content) (user : ℕ) → Agrees (B.held blocks.now) reads → IfOk result (λ fitted. Acts reads user (change_at self.old i_number (Put digest)) self.old self.new fitted) }
+        ensures acts { (reads : Reading) (user : ℕ) → Agrees (B.held blocks.now) reads → IfOk result (λ fitted. Acts reads user (change_at self.old i_number (Put digest)) self.old self.new fitted) }
         ensures principal { OnOk result (self.new.table.principal ≡ self.old.table.principal) }
-        ensures missing { IfErr result (LacksAt (B.held blocks.now) self.old i_number) }
+        ensures missing { IfErr result (LacksAt (B.held blocks.now) self.old i_number false) }
     {
         if is_table(self.principal(), i_number) {
             return Ok(false);
@@ -231,9 +232,11 @@ impl<A: Allocator + Copy> Part<A> {
         blocks: &B,
         i_number: INumber,
     ) -> Result<bool, ApplyError>
-        ensures acts { (reads : List ℕ → Content) (user : ℕ) → Agrees (B.held blocks.now) reads → IfOk result (λ fitted. Acts reads user (change_at self.old i_number Remove) self.old self.new fitted) }
+        ensures acts { (reads : Reading) (user : ℕ) → Agrees (B.held blocks.now) reads → IfOk result (λ fitted. Acts reads user (change_at self.old i_number Remove) self.old self.new fitted) }
         ensures principal { OnOk result (self.new.table.principal ≡ self.old.table.principal) }
-        ensures missing { IfErr result (LacksAt (B.held blocks.now) self.old i_number) }
+        // The root directory stays, whatever is held.
+        ensures missing { IfErr result (LacksAt (B.held blocks.now) self.old i_number false) }
+        ensures root { is_root_of self.old.table.principal i_number ≡ true → IsOk result }
     {
         let principal = self.principal();
         if is_table(principal, i_number) || is_root(principal, i_number) {
@@ -266,9 +269,9 @@ impl<A: Allocator + Copy> Part<A> {
         i_number: INumber,
         entry: &Entry<A>,
     ) -> Result<bool, ApplyError>
-        ensures acts { (reads : List ℕ → Content) (user : ℕ) → Agrees (B.held blocks.now) reads → IfOk result (λ fitted. Acts reads user (change_at self.old i_number (Link entry.now)) self.old self.new fitted) }
+        ensures acts { (reads : Reading) (user : ℕ) → Agrees (B.held blocks.now) reads → IfOk result (λ fitted. Acts reads user (change_at self.old i_number (Link entry.now)) self.old self.new fitted) }
         ensures principal { OnOk result (self.new.table.principal ≡ self.old.table.principal) }
-        ensures missing { IfErr result (LacksAt (B.held blocks.now) self.old i_number) }
+        ensures missing { IfErr result (LacksAt (B.held blocks.now) self.old i_number true) }
     {
         let place = match find(&self.opened, i_number) {
             Ok(place) => {
@@ -297,9 +300,9 @@ impl<A: Allocator + Copy> Part<A> {
         i_number: INumber,
         name: &[u8],
     ) -> Result<bool, ApplyError>
-        ensures acts { (reads : List ℕ → Content) (user : ℕ) → Agrees (B.held blocks.now) reads → IfOk result (λ fitted. Acts reads user (change_at self.old i_number (Unlink name.now)) self.old self.new fitted) }
+        ensures acts { (reads : Reading) (user : ℕ) → Agrees (B.held blocks.now) reads → IfOk result (λ fitted. Acts reads user (change_at self.old i_number (Unlink name.now)) self.old self.new fitted) }
         ensures principal { OnOk result (self.new.table.principal ≡ self.old.table.principal) }
-        ensures missing { IfErr result (LacksAt (B.held blocks.now) self.old i_number) }
+        ensures missing { IfErr result (LacksAt (B.held blocks.now) self.old i_number true) }
     {
         let place = match find(&self.opened, i_number) {
             Ok(place) => return Ok(self.opened[place].unlink(name)),
@@ -325,9 +328,9 @@ impl<A: Allocator + Copy> Part<A> {
         change: &Change<A>,
     ) -> Result<bool, ApplyError>
         requires { change.now.principal ≡ self.old.table.principal }
-        ensures acts { (reads : List ℕ → Content) → Agrees (B.held blocks.now) reads → IfOk result (λ fitted. Acts reads user change.now self.old self.new fitted) }
+        ensures acts { (reads : Reading) → Agrees (B.held blocks.now) reads → IfOk result (λ fitted. Acts reads user change.now self.old self.new fitted) }
         ensures principal { OnOk result (self.new.table.principal ≡ self.old.table.principal) }
-        ensures missing { IfErr result (LacksAt (B.held blocks.now) self.old change.now.i_number) }
+        ensures missing { IfErr result (LacksFor (B.held blocks.now) self.old change.now) }
     {
         let i_number = change.i_number();
         match change.action() {
@@ -350,23 +353,27 @@ impl<A: Allocator + Copy> Part<A> {
         change: &Change<A>,
     ) -> Result<bool, ApplyError>
         requires { change.now.principal ≡ self.old.table.principal }
-        ensures effect { (reads : List ℕ → Content) (actor : Actor)
+        ensures effect { (reads : Reading) (actor : Actor)
             → Agrees (B.held blocks.now) reads → actor.user ≡ user → actor.member self.old.table.principal ≡ is_member
-            → IfOk result (λ effect. effect ≡ has_effect actor change.now (stands_at reads self.old change.now.i_number)) }
-        ensures slots { (reads : List ℕ → Content) (actor : Actor)
+            → IfOk result (λ effect. effect ≡ slot_changes reads actor change.now (slot_at self.old change.now.i_number)) }
+        ensures slots { (reads : Reading) (actor : Actor)
             → Agrees (B.held blocks.now) reads → actor.user ≡ user → actor.member self.old.table.principal ≡ is_member
-            → OnOk result ((i : ℕ) → slot_at self.new i ≡ (if change.now.i_number == i then slot_behind reads actor change.now (slot_at self.old i) else slot_at self.old i)) }
+            → OnOk result ((i : ℕ) → slot_at self.new i ≡ (if change.now.i_number == i then slot_after_change reads actor change.now (slot_at self.old i) else slot_at self.old i)) }
         ensures principal { OnOk result (self.new.table.principal ≡ self.old.table.principal) }
-        ensures missing { IfErr result (LacksAt (B.held blocks.now) self.old change.now.i_number) }
+        ensures missing { (actor : Actor) → actor.user ≡ user → actor.member self.old.table.principal ≡ is_member
+            → IfErr result (LacksBy (B.held blocks.now) actor self.old change.now) }
     {
         if !is_permitted(user, is_member, self.principal()) {
+            return Ok(false);
+        }
+        if is_table(self.principal(), change.i_number()) {
             return Ok(false);
         }
         self.act(alloc, blocks, user, change)
     }
 
     /// Applies a change, if it is of the part's principal, and answers whether it is one of theirs that has no effect.
-    pub(crate) fn follow<B: Blocks>(
+    pub(crate) fn apply_change<B: Blocks>(
         &mut self,
         alloc: A,
         blocks: &B,
@@ -374,17 +381,18 @@ impl<A: Allocator + Copy> Part<A> {
         is_member: bool,
         change: &Change<A>,
     ) -> Result<bool, ApplyError>
-        ensures part { (reads : List ℕ → Content) (tree : Tree) (actor : Actor)
+        ensures part { (reads : Reading) (tree : Tree) (actor : Actor)
             → Agrees (B.held blocks.now) reads → IsPartOf reads self.old tree → actor.user ≡ user → actor.member self.old.table.principal ≡ is_member
-            → OnOk result (IsPartOf reads self.new (after_change reads actor change.now tree)) }
-        ensures slots { (reads : List ℕ → Content) (actor : Actor)
+            → OnOk result (IsPartOf reads self.new (after_change actor (read_change reads change.now) tree)) }
+        ensures slots { (reads : Reading) (actor : Actor)
             → Agrees (B.held blocks.now) reads → actor.user ≡ user → actor.member self.old.table.principal ≡ is_member
             → OnOk result ((i : ℕ) → slot_at self.new i ≡ slot_after reads actor self.old.table.principal i (change.now ∷ []) (slot_at self.old i)) }
-        ensures void { (reads : List ℕ → Content) (tree : Tree) (actor : Actor)
+        ensures void { (reads : Reading) (tree : Tree) (actor : Actor)
             → Agrees (B.held blocks.now) reads → IsPartOf reads self.old tree → actor.user ≡ user → actor.member self.old.table.principal ≡ is_member
             → IfOk result (λ is_void. is_void ≡ is_void_of actor self.old.table.principal change.now tree) }
         ensures principal { OnOk result (self.new.table.principal ≡ self.old.table.principal) }
-        ensures missing { IfErr result (λ e. (change.now.principal ≡ self.old.table.principal) × LacksAt (B.held blocks.now) self.old change.now.i_number e) }
+        ensures missing { (actor : Actor) → actor.user ≡ user → actor.member self.old.table.principal ≡ is_member
+            → IfErr result (λ e. (change.now.principal ≡ self.old.table.principal) × LacksBy (B.held blocks.now) actor self.old change.now e) }
     {
         if change.principal().get() != self.principal().get() {
             return Ok(false);
@@ -394,22 +402,44 @@ impl<A: Allocator + Copy> Part<A> {
     }
 }
 
-/// A part as it is stored: its i-table, and the texts of the directories that changed.
+/// A part as it is stored: its i-table, and the texts of the directories that are new.
 #[derive(Drop)]
-pub struct Settled<A: Allocator> {
+pub struct LaidPart<A: Allocator> {
     /// The i-table, with a digest for each directory that changed.
     pub table: ITable<A>,
-    /// Of each directory that isn't as the table had it the blocks, in order, and the i-node; ascending by i-number.
+    /// Of each directory that isn't as it was stored the blocks, in order, and the i-node; ascending by i-number.
     pub texts: Vec<Vec<u8, A>, A>,
 }
 
+/// Whether an i-table has this digest at an i-number.
+fn has_digest<A: Allocator>(table: &ITable<A>, i_number: INumber, digest: Digest) -> bool
+    ensures { result ≡ has_digest table.now i_number digest }
+{
+    match table.get(i_number) {
+        Some(stored) => stored == digest,
+        None => false,
+    }
+}
+
+/// Whether one of two i-tables has this digest at an i-number.
+fn one_has_digest<A: Allocator>(
+    before: &ITable<A>,
+    table: &ITable<A>,
+    i_number: INumber,
+    digest: Digest,
+) -> bool
+    ensures { result ≡ (has_digest before.now i_number digest || has_digest table.now i_number digest) }
+{
+    has_digest(before, i_number, digest) || has_digest(table, i_number, digest)
+}
+
 impl<A: Allocator + Copy> Part<A> {
-    /// Makes the texts of the directories that changed, and sets their digests. Those of a directory that was changed back
-    /// are left out. Where memory is wanting the part is gone.
-    pub fn settle(self, alloc: A) -> Result<Settled<A>, Memory>
-        ensures principal { IfOk result (λ settled. settled.table.principal ≡ self.table.principal) }
-        ensures digests { IfOk result (λ settled. (i : ℕ) → digest_at settled.table i ≡ option_map settled_digest (slot_at self i)) }
-        ensures texts { IfOk result (λ settled. map vec_items settled.texts.items ≡ changed_texts self.table self.opened) }
+    /// Makes the texts of the directories that changed, and sets their digests, where this was the i-table before the
+    /// operation. Those of a directory that is as it was are left out. Where memory is wanting the part is gone.
+    pub fn lay(self, alloc: A, before: &ITable<A>) -> Result<LaidPart<A>, Memory>
+        ensures principal { IfOk result (λ laid. laid.table.principal ≡ self.table.principal) }
+        ensures digests { IfOk result (λ laid. (i : ℕ) → digest_at laid.table i ≡ option_map slot_digest (slot_at self i)) }
+        ensures texts { IfOk result (λ laid. map vec_items laid.texts.items ≡ changed_texts before.now self.table self.opened) }
         // Whoever holds the texts of a directory that changed reads it from them.
         ensures read_back { OnOk result ((i : ℕ) (digest : List ℕ) (entries : List ListedEntry) → slot_at self i ≡ Some (Changed digest entries) → IsReadBack entries) }
         // They ascend by i-number, and each has a digest.
@@ -421,16 +451,14 @@ impl<A: Allocator + Copy> Part<A> {
         for open in &opened {
             let Laid { inode, mut blocks } = lay_directory(alloc, open.directory())?;
             let digest = digest(&inode);
-            match table.get(open.i_number()) {
-                // It was changed and changed back.
-                Some(stored) if stored == digest => {}
-                _ => {
-                    table.set(open.i_number(), digest)?;
-                    texts.append(&mut blocks)?;
-                    texts.push(inode)?;
-                }
+            let i_number = open.i_number();
+            let stored = one_has_digest(before, &table, i_number, digest);
+            table.set(i_number, digest)?;
+            if !stored {
+                texts.append(&mut blocks)?;
+                texts.push(inode)?;
             }
         }
-        Ok(Settled { table, texts })
+        Ok(LaidPart { table, texts })
     }
 }

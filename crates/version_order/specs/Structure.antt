@@ -5,9 +5,9 @@ use Rattle.std.proofs.Common.{◌≡◌, ◌≤◌, arith}
 use Rattle.std.specs.Prelude.{ℕ, Bool, true, List, Option, Some, None, nat_lt, codes}
 use Rattle.std.specs.Int.{w8, w16, w32}
 use Rattle.std.proofs.lemmas.Bool.{ltb-true}
-use Rattle.layout.specs.Format.{Format, Rows, uint_in, raw, pair, behind, guarded, mapped, listed, nested}
+use Rattle.layout.specs.Format.{Format, RowAfter, uint_in, raw, pair, headed, guarded, mapped, listed, nested}
 use Rattle.layout.specs.Laws.{Lawful, laws, in_range, wide8, wide16, wide32}
-use Rattle.layout.specs.Sizes.{AtMost, KeysAscend, least_key, at_most_ascending, at_most_behind, at_most_mapped, at_most_pair, at_most_guarded, at_most_uint_in, at_most_raw, at_most_nested, nested_fits}
+use Rattle.layout.specs.Sizes.{AtMost, KeysAscend, least_key, at_most_ascending, at_most_headed, at_most_mapped, at_most_pair, at_most_guarded, at_most_uint_in, at_most_raw, at_most_nested, nested_fits}
 use Rattle.layout.specs.Ranges.{group, version, size}
 use Rattle.layout.specs.Hash.{hash}
 use Rattle.layout.specs.declared.error.ReadError.TheVariants.{Order}
@@ -26,7 +26,7 @@ abbrev pub is_above : Option GroupRecord → ℕ → Bool
 is_above None g = true
 is_above (Some before) g = nat_lt before.group g
 
-abbrev pub group_record : Rows GroupRecord
+abbrev pub group_record : RowAfter GroupRecord
 group_record before =
     mapped (λ p. record { group = p.0; version = p.1.0; table = p.1.1.0; handle = p.1.1.1 }) (λ r. (r.group, (r.version, (r.table, r.handle))))
     (pair (guarded group (is_above before) Order) (pair version (pair (uint_in w32 0 4294967295) (raw 32))))
@@ -36,7 +36,7 @@ group_records = listed (uint_in w8 0 255) group_record
 
 abbrev pub structure : Format Structure
 structure =
-    behind (codes "SVS1")
+    headed (codes "SVS1")
     (mapped (λ p. record { plan = p.0; handle = p.1.0; groups = p.1.1 }) (λ s. (s.plan, (s.handle, s.groups)))
     (pair (nested size plan) (pair (raw 32) group_records)))
 
@@ -72,7 +72,7 @@ at_most_group_records = at_most_ascending w8 255 group_record (λ r. r.group) 64
 
 pub at_most_structure : AtMost structure STRUCTURE_SIZE
 at_most_structure =
-    at_most_behind (codes "SVS1") _ 4238
+    at_most_headed (codes "SVS1") _ 4238
     (at_most_mapped _ _ _ 4238 (at_most_pair _ _ 2893 1345 (at_most_nested w16 0 65535 plan 2891 wide16 at_most_plan) (at_most_pair _ _ 32 1313 (at_most_raw 32) at_most_group_records)))
 
 -- a plan can stand inside a structure

@@ -3,7 +3,7 @@
 use Rattle.std.specs.Prelude.{ℕ, suc, ◌==◌, Bool, true, List, [], ◌∷◌, Option, Some, None, ◌&&◌, option_and_then, nat_lt, nat_le, sum_by, if◌then◌else◌}
 use Rattle.std.specs.Int.{w8}
 use Rattle.std.specs.List.{list_all, slice_get}
-use Rattle.layout.specs.Format.{Format, Rows, uint_in, pair, guarded, mapped, listed}
+use Rattle.layout.specs.Format.{Format, RowAfter, uint_in, pair, guarded, mapped, listed}
 use Rattle.layout.specs.Laws.{Lawful, laws}
 use Rattle.layout.specs.Ranges.{principal, version}
 use Rattle.layout.specs.declared.error.ReadError.TheVariants.{Order}
@@ -14,7 +14,7 @@ abbrev pub is_above : Option Component → ℕ → Bool
 is_above None p = true
 is_above (Some before) p = nat_lt before.principal p
 
-abbrev pub component : Rows Component
+abbrev pub component : RowAfter Component
 component before =
     mapped (λ p. record { principal = p.0; version = p.1 }) (λ c. (c.principal, c.version))
     (pair (guarded principal (is_above before) Order) version)

@@ -6,7 +6,7 @@ use Rattle.std.specs.List.{slice_set}
 use Rattle.std.specs.Int.{w8, w32}
 use Rattle.std.proofs.lemmas.Bool.{eq-eqb, ne_eqb, ltb-true, ltb-false, lt-ltb, le-ltb, cases_eq, cases_order}
 use Rattle.std.proofs.lemmas.List.Sums.{sum_by-cons}
-use Rattle.layout.specs.Format.{FitRows, uint_in}
+use Rattle.layout.specs.Format.{FitRows, after_row, uint_in}
 use Rattle.layout.specs.Laws.{wide8, wide32, in_range, in_range_fits, listed_fits}
 use Rattle.layout.specs.Ranges.{version}
 use Rattle.layout.specs.Sizes.{AtMost, KeysAscend, least_key, few_rows, length-ascending, at_most_ascending, at_most_mapped, at_most_pair, at_most_guarded, at_most_uint_in}
@@ -39,13 +39,13 @@ at_most_vector = at_most_ascending w8 255 component principal_of 0 96 5 wide8 co
 
 -- ---- what stands after a component
 
-rows_behind : (b d : Option Component) (v : List Component) → ((p : ℕ) → is_above b p ≡ true → is_above d p ≡ true) → FitRows component b v → FitRows component d v
+rows_following : (b d : Option Component) (v : List Component) → ((p : ℕ) → is_above b p ≡ true → is_above d p ≡ true) → FitRows (after_row component) b v → FitRows (after_row component) d v
 unfolding FitRows
-rows_behind b d [] above fits = tt
-rows_behind b d (c ∷ cs) above fits = (((fits.0.0.0, above c.principal fits.0.0.1), fits.0.1), fits.1)
+rows_following b d [] above fits = tt
+rows_following b d (c ∷ cs) above fits = (((fits.0.0.0, above c.principal fits.0.0.1), fits.0.1), fits.1)
 
 -- a principal that isn't above the one before isn't listed
-version_of-absent : (c : Component) (cs : List Component) (p : ℕ) → p ≤ c.principal → FitRows component (Some c) cs → version_of p cs ≡ 0
+version_of-absent : (c : Component) (cs : List Component) (p : ℕ) → p ≤ c.principal → FitRows (after_row component) (Some c) cs → version_of p cs ≡ 0
 unfolding FitRows
 version_of-absent c [] p le fits = refl
 version_of-absent c (d ∷ ds) p le fits =
@@ -54,7 +54,7 @@ version_of-absent c (d ∷ ds) p le fits =
 
 -- ---- raising
 
-fits_raised : (b : Option Component) (p : ℕ) (v : List Component) → is_above b p ≡ true → p < 96 → version_of p v < 4294967295 → FitRows component b v → FitRows component b (raised p v)
+fits_raised : (b : Option Component) (p : ℕ) (v : List Component) → is_above b p ≡ true → p < 96 → version_of p v < 4294967295 → FitRows (after_row component) b v → FitRows (after_row component) b (raised p v)
 unfolding FitRows
 fits_raised b p [] above small room fits =
     (((in_range_fits w8 0 95 p (omega arith) (omega arith) (omega arith), above), in_range_fits w32 1 4294967295 1 (omega arith) (omega arith) (omega arith)), tt)
@@ -63,7 +63,7 @@ fits_raised b p (c ∷ cs) above small room fits =
       | inl e ↦ (
           let room' = rw (eq-eqb c.principal p e) at room in
           let next : version.Fits (suc c.version) = in_range_fits w32 1 4294967295 (suc c.version) (omega arith) (omega arith) (omega arith) in
-          rw (eq-eqb c.principal p e) ((fits.0.0, next), rows_behind (Some c) (Some (record c { version = suc c.version })) cs (λ q h. h) fits.1))
+          rw (eq-eqb c.principal p e) ((fits.0.0, next), rows_following (Some c) (Some (record c { version = suc c.version })) cs (λ q h. h) fits.1))
       | inr t ↦ elim t [
         | inl l ↦ (
             let room' = rw (ne_eqb c.principal p (λ e. omega arith)) at room in
@@ -79,7 +79,7 @@ vector_raised p v small room fits =
     let all = fits_raised None p v refl small room fits.1.1 in
     listed_fits w8 255 component (raised p v) (omega arith) (omega (arith, few_rows component principal_of 0 96 components_ascend None (raised p v) all (omega arith))) all
 
-version_in_raised : (b : Option Component) (p q : ℕ) (v : List Component) → FitRows component b v → version_of q (raised p v) ≡ version_of q v + (if p == q then 1 else 0)
+version_in_raised : (b : Option Component) (p q : ℕ) (v : List Component) → FitRows (after_row component) b v → version_of q (raised p v) ≡ version_of q v + (if p == q then 1 else 0)
 unfolding FitRows
 version_in_raised b p q [] fits = omega arith
 version_in_raised b p q (c ∷ cs) fits =
@@ -180,7 +180,7 @@ pub stands : (p n : ℕ) (v : List Component) → version_at v (place p v) p ≡
 stands p n [] h = absurd cc
 stands p n (c ∷ cs) h = stands_step p n c cs (stands p n cs) (nat_lt c.principal p) refl h
 
-free_step : (p : ℕ) (c : Component) (cs : List Component) → FitRows component (Some c) cs → (version_at cs (place p cs) p ≡ None → IsFree p cs (place p cs)) → (t : Bool) → nat_lt c.principal p ≡ t → version_at (c ∷ cs) (place p (c ∷ cs)) p ≡ None
+free_step : (p : ℕ) (c : Component) (cs : List Component) → FitRows (after_row component) (Some c) cs → (version_at cs (place p cs) p ≡ None → IsFree p cs (place p cs)) → (t : Bool) → nat_lt c.principal p ≡ t → version_at (c ∷ cs) (place p (c ∷ cs)) p ≡ None
     → IsFree p (c ∷ cs) (place p (c ∷ cs))
 free_step p c cs fits later true less h =
     let lt = ltb-true c.principal p less in
@@ -203,10 +203,10 @@ free_step p c cs fits later false less h =
       }
     ]
 
-free_behind : (b : Option Component) (p : ℕ) (v : List Component) → FitRows component b v → version_at v (place p v) p ≡ None → IsFree p v (place p v)
+free_following : (b : Option Component) (p : ℕ) (v : List Component) → FitRows (after_row component) b v → version_at v (place p v) p ≡ None → IsFree p v (place p v)
 unfolding FitRows
-free_behind b p [] fits h = record { inside = omega arith; version = refl; raises = refl }
-free_behind b p (c ∷ cs) fits h = free_step p c cs fits.1 (free_behind (Some c) p cs fits.1) (nat_lt c.principal p) refl h
+free_following b p [] fits h = record { inside = omega arith; version = refl; raises = refl }
+free_following b p (c ∷ cs) fits h = free_step p c cs fits.1 (free_following (Some c) p cs fits.1) (nat_lt c.principal p) refl h
 
 pub is_free : (p : ℕ) (v : List Component) → vector.Fits v → version_at v (place p v) p ≡ None → IsFree p v (place p v)
-is_free p v fits h = free_behind None p v fits.1.1 h
+is_free p v fits h = free_following None p v fits.1.1 h

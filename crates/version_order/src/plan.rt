@@ -1,6 +1,7 @@
 //! Plans of operations.
 
-ghost use Rattle.std.specs.Prelude.{◌≡◌, ◌++◌, Option, OnOk, IfOk, [], length, ◌≤◌};
+ghost use Rattle.std.specs.Prelude.{◌≡◌, ◌<◌, ◌++◌, Option, OnOk, OnErr, IfOk, [], ◌∷◌, length, ◌≤◌};
+ghost use Rattle.std.specs.List.{All};
 ghost use Rattle.std.specs.Option.{option_copied};
 ghost use Rattle.layout.specs.Format.{Reads};
 ghost use Rattle.version_order.specs.Plan.{entry};
@@ -113,6 +114,18 @@ impl<A: Allocator> Entries<A> {
         ensures { result ≡ entries.items }
     {
         Entries { rows: entries }
+    }
+
+    /// Adds the entry of a user above the others.
+    pub fn push(&mut self, entry: Entry) -> Result<(), Memory>
+        requires above { All (λ e. e.user < entry.user) self.old }
+        ensures ok { OnOk result (self.new ≡ self.old ++ entry ∷ []) }
+        ensures err { OnErr result (self.new ≡ self.old) }
+    {
+        let _range = (entry.user.get(), entry.number.get());
+        let _plan = entry.plan.as_bytes();
+        self.rows.push(entry)?;
+        Ok(())
     }
 
     /// The entries, ascending by user.

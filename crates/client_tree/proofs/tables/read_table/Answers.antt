@@ -1,13 +1,18 @@
-use Rattle.std.proofs.Common.{◌≡◌, ◌<◌, ◌∙◌, List, [], ◌∷◌, ◌++◌, Some, length, take, get_or, sym, ap, subst}
+use Rattle.std.proofs.Common.{◌≡◌, ℕ, ◌<◌, ◌∙◌, List, [], ◌∷◌, ◌++◌, Some, length, take, get_or, sym, ap, subst}
 use Rattle.std.proofs.lemmas.List.{take_all}
 use Rattle.std.proofs.lemmas.List.Elements.{All-nil}
 use Rattle.std.proofs.lemmas.Result.{err_from_is_err_and}
-use Rattle.itable.specs.Root.{chunk_at}
+use Rattle.itable.specs.Chunk.{chunk_number}
+use Rattle.itable.specs.Root.{chunk_at, number_of}
+use Rattle.std.specs.Ordering.{nat_cmp}
+use Rattle.layout.specs.Ascending.{row_at}
+use Rattle.std.specs.Prelude.{◌==◌, if◌then◌else◌}
+use Rattle.update_cert.specs.Blocks.{told_by}
 use Rattle.std.specs.List.{All}
 use Rattle.itable.specs.declared.root.ListedChunk.{ListedChunk}
-use Rattle.itable.specs.ITable.{ITable, listings}
+use Rattle.itable.specs.ITable.{ITable, digest_at, digest_in, listings}
 use Rattle.client_tree.specs.Tables.{pairs_over}
-use Rattle.client_tree.proofs.TableLaws.{IsTaken, below, found, handle_is, lacks_chunk, no_pairs, nothing_lacks, pairs_next, spelled, take_next, taken_next}
+use Rattle.client_tree.proofs.TableLaws.{IsTaken, all_told, below, found, handle_is, lacks_chunk, no_pairs, nothing_lacks, pairs_next, spelled, take_next, taken_next, told_next}
 use Rattle.client_tree.proofs.tables.read_table.Goals as goal
 
 pub returns-in_err-chunk-clause-missing : goal.returns-in_err-chunk-clause-missing
@@ -27,6 +32,7 @@ loop-listed-init g c = record {
   principal = ap (λ (t : ITable). t.principal) c.empty-table.ensures.same;
   listed = c.empty-table.ensures.listed;
   pairs = no_pairs (g.B.Blocks.held c.args.blocks.now) ∙ ap (λ (t : ITable). Some t.pairs) (sym c.empty-table.ensures.same);
+  told = λ i. ap (λ (t : ITable). Some (digest_at t i)) (sym c.empty-table.ensures.same);
   taken = All-nil (IsTaken (g.B.Blocks.held c.args.blocks.now) c.args.principal);
 }
 
@@ -43,6 +49,15 @@ loop-listed-preserved g c =
       principal = ap (λ (t : ITable). t.principal) c.in_ok-load.ensures.pairs ∙ inv.principal;
       listed = c.in_ok-load.ensures.listed ∙ ap (λ (cs : List ListedChunk). cs ++ record { number = c.in_ok-chunk.chunk.number; digest = item.digest } ∷ []) inv.listed ∙ ap (λ (x : ListedChunk). take k items ++ x ∷ []) is ∙ sym (take_next items k item c.loop-listed-test.true c.listed-item.is);
       pairs = pairs_next held items k item c.in_ok-chunk.chunk c.loop-listed.table.pairs c.loop-listed-test.true c.listed-item.is chunk.found inv.pairs ∙ ap (λ (t : ITable). Some t.pairs) (sym c.in_ok-load.ensures.pairs);
+      told = λ i.
+          let r = c.in_ok-root.root in
+          let same : items ≡ r.chunks = c.chunks-listed-items.ensures in
+          let inside : k < length r.chunks = subst (λ (cs : List ListedChunk). k < length cs) same c.loop-listed-test.true in
+          let at : item ≡ get_or r.chunks k item = subst (λ (cs : List ListedChunk). item ≡ get_or cs k item) same c.listed-item.is in
+          let lesser : All (λ x. x.number < item.number) (take k items) =
+          subst (λ (cs : List ListedChunk). All (λ x. x.number < item.number) (take k cs)) (sym same) (subst (λ (y : ListedChunk). All (λ x. x.number < y.number) (take k r.chunks)) (sym at) (below r c.in_ok-root.ensures.fits k item inside)) in
+          told_next held i items k item c.in_ok-chunk.chunk c.loop-listed.table c.load.new.self c.loop-listed-test.true c.listed-item.is lesser chunk.found
+          (c.in_ok-load.ensures.digests i ∙ ap (λ (n : ℕ). if chunk_number i == n then digest_in c.in_ok-chunk.chunk.pairs i else digest_at c.loop-listed.table i) chunk.number) (inv.told i);
       taken = taken_next held c.args.principal items k item c.loop-listed-test.true c.listed-item.is chunk.taken inv.taken;
     }
 
@@ -66,8 +81,17 @@ returns-clause-read g c =
       taken = nothing_lacks held c.args.principal c.args.handle r root.found root.taken taken;
     }
 
-pub load-requires-clause-behind : goal.load-requires-clause-behind
-load-requires-clause-behind g c =
+pub returns-clause-told : goal.returns-clause-told
+returns-clause-told g c = λ i.
+    let r = c.in_ok-root.root in
+    let root = c.in_ok-root.ensures in
+    let items : c.chunks-listed-items.result.now ≡ r.chunks = c.chunks-listed-items.ensures in
+    let all : take c.loop-listed.listed-index c.chunks-listed-items.result.now ≡ r.chunks = take_all c.loop-listed.listed-index c.chunks-listed-items.result.now c.loop-listed-test.false ∙ items in
+    let told = subst (λ (cs : List ListedChunk). told_by (g.B.Blocks.held c.args.blocks.now) i (row_at nat_cmp number_of cs (chunk_number i)) ≡ Some (digest_at c.loop-listed.table i)) all (c.loop-listed.invariant.told i) in
+    all_told (g.B.Blocks.held c.args.blocks.now) c.args.principal c.args.handle r c.loop-listed.table i root.found root.principal told
+
+pub load-requires-clause-follows : goal.load-requires-clause-follows
+load-requires-clause-follows g c =
     let r = c.in_ok-root.root in
     let k = c.loop-listed.listed-index in
     let item = c.listed-item.result in

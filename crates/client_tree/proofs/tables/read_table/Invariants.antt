@@ -1,6 +1,11 @@
-use Rattle.std.proofs.Common.{◌≡◌, Some, take}
+use Rattle.std.proofs.Common.{◌≡◌, ℕ, Some, take}
+use Rattle.std.specs.Ordering.{nat_cmp}
+use Rattle.layout.specs.Ascending.{row_at}
+use Rattle.itable.specs.Chunk.{chunk_number}
+use Rattle.itable.specs.Root.{number_of}
+use Rattle.update_cert.specs.Blocks.{told_by}
 use Rattle.std.specs.List.{All}
-use Rattle.itable.specs.ITable.{listings}
+use Rattle.itable.specs.ITable.{digest_at, listings}
 use Rattle.client_tree.specs.Tables.{pairs_over}
 use Rattle.client_tree.proofs.TableLaws.{IsTaken}
 use Rattle.client_tree.proofs.tables.read_table.Given as goal
@@ -10,5 +15,6 @@ invariant-loop-listed g l = record {
   principal : l.table.principal ≡ l.fn.principal;
   listed : listings l.table ≡ take l.listed-index l.listed-items;
   pairs : pairs_over (g.B.Blocks.held l.blocks) (take l.listed-index l.listed-items) ≡ Some l.table.pairs;
+  told : (i : ℕ) → told_by (g.B.Blocks.held l.blocks) i (row_at nat_cmp number_of (take l.listed-index l.listed-items) (chunk_number i)) ≡ Some (digest_at l.table i);
   taken : All (IsTaken (g.B.Blocks.held l.blocks) l.fn.principal) (take l.listed-index l.listed-items);
 }

@@ -10,16 +10,16 @@ use Rattle.client_tree.proofs.tree.stored.Goals as goal
 
 pub returns-clause-texts : goal.returns-clause-texts
 returns-clause-texts g c =
-    let t = c.args.settled.table in
+    let t = c.args.laid.table in
     let listed = c.args.listed.now in
-    let before = map vec_items c.args.settled.texts.items in
+    let before = map vec_items c.args.laid.texts.items in
     let made = c.in_ok-new_handle.new_handle in
     let is = c.in_ok-new_handle.ensures.handle in
     elim c.if-ne.branch [
       | then-ne+in_ok-of_table+in_ok-append w ↦
           let other : bytes_eq made c.args.handle ≡ false = not-true _ (sym w.if-ne.ensures) in
           let more = w.in_ok-of_table.ensures.texts ∙ ap (new_texts listed) c.in_ok-new_handle.ensures.same in
-          let all = ap (map vec_items) w.in_ok-append.ensures.items ∙ map-append vec_items c.args.settled.texts.items w.in_ok-of_table.of_table.items ∙ ap (λ (rest : List (List ℕ)). before ++ rest) more in
+          let all = ap (map vec_items) w.in_ok-append.ensures.items ∙ map-append vec_items c.args.laid.texts.items w.in_ok-of_table.of_table.items ∙ ap (λ (rest : List (List ℕ)). before ++ rest) more in
           rw w.texts-is (other_table before (map vec_items w.append.new.self.items) listed t c.args.handle made is other all)
       | else-ne w ↦
           let same : bytes_eq made c.args.handle ≡ true = not-false _ (sym w.if-ne.ensures) in

@@ -7,8 +7,7 @@ use Rattle.std.specs.List.{slice_get}
 use Rattle.pending_list.specs.Reply.{PendingItem}
 use Rattle.reply_rules.specs.Lists.{lists_of}
 use Rattle.client_verify.specs.FirstBroken.{Known, own_last, own_pending, super_signature}
-use Rattle.client_verify.proofs.Judging.{something_pending, pending_length, something_stands, rules_left, broken_first, each_ok}
-use Rattle.client_verify.proofs.Sole.{sole_lists}
+use Rattle.client_verify.proofs.Judging.{something_pending, pending_length, something_stands, rules_left, broken_first, lists_ascend}
 use Rattle.client_verify.proofs.verdict.first_broken.Goals as goal
 
 pub unreachable-requires : goal.unreachable-requires
@@ -30,11 +29,13 @@ returns-clause-first g c =
     let last : own_last c.args.user (option_copied c.args.last) c.args.reply.now ≡ true = cc (c.in_ok-own_last.ensures) in
     let signed : super_signature c.args.pinned.now c.args.reply.now ≡ true = cc (c.in_ok-super_signature.ensures) in
     let left = rules_left known c.args.reply.now (sym c.lists_hold.ensures ∙ c.if-not-lists_hold.false) last waits signed in
-    each_ok c.broken.result _ _ (λ answer told. broken_first c.args.pinned.now (lists_of c.args.reply.now) answer (something_pending c.args.reply.now c.args.declared.now waits) told ∙ sym left)
-    (subst (λ (table : Table). IfOk c.broken.result (λ answer. IfSome (lists_of c.args.reply.now) (λ x. answer ≡ broken table x))) c.genesis.ensures c.broken.ensures)
+    let told = subst (λ (table : Table). IfSome (lists_of c.args.reply.now) (λ x. c.in_ok-first.first ≡ broken table x)) c.genesis-table.ensures.same c.in_ok-first.ensures in
+    broken_first c.args.pinned.now (lists_of c.args.reply.now) c.in_ok-first.first (something_pending c.args.reply.now c.args.declared.now waits) told ∙ sym left
 
-pub returns-clause-sole : goal.returns-clause-sole
-returns-clause-sole g c =
+pub returns-clause-lists : goal.returns-clause-lists
+returns-clause-lists g c = λ none.
     let waits : own_pending c.args.declared.now c.args.reply.now ≡ true = cc (c.in_ok-own_pending.ensures) in
-    each_ok c.broken.result _ _ (λ answer told none. sole_lists c.args.pinned.now (lists_of c.args.reply.now) answer (something_pending c.args.reply.now c.args.declared.now waits) told none)
-    (subst (λ (table : Table). IfOk c.broken.result (λ answer. IfSome (lists_of c.args.reply.now) (λ x. answer ≡ broken table x))) c.genesis.ensures c.broken.ensures)
+    something_pending c.args.reply.now c.args.declared.now waits
+
+pub returns-clause-ascending : goal.returns-clause-ascending
+returns-clause-ascending g c = λ none. lists_ascend c.args.reply.now (sym c.lists_hold.ensures ∙ c.if-not-lists_hold.false)

@@ -1,6 +1,6 @@
 use Rattle.std.proofs.Common.{◌≡◌, true}
 use Rattle.std.specs.List.{list_all}
-use Rattle.reply_rules.specs.Groups.{groups_below}
+use Rattle.pending_list.specs.Groups.{groups_below}
 use Rattle.reply_rules.specs.Rules.{group_complete}
 use Rattle.reply_rules.proofs.records.groups_complete.Given as goal
 

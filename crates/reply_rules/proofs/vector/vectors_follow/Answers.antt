@@ -3,7 +3,7 @@ use Rattle.std.specs.Prelude.{◌&&◌}
 use Rattle.version_order.specs.Plan.{Plan}
 use Rattle.version_order.specs.declared.vector.Component.{Component}
 use Rattle.version_order.specs.Vector.{raised, raised_all}
-use Rattle.reply_rules.specs.Groups.{raised_groups}
+use Rattle.pending_list.specs.Groups.{raised_groups}
 use Rattle.reply_rules.specs.Rules.{follow, same_vector, next_vector}
 use Rattle.reply_rules.proofs.VectorLaws.{next_follows}
 use Rattle.reply_rules.proofs.vector.vectors_follow.Goals as goal

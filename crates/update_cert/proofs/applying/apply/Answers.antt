@@ -2,7 +2,9 @@ use Rattle.std.proofs.Common.{◌≡◌, ◌+◌, ℕ, List, [], ◌∷◌, leng
 use Rattle.std.proofs.lemmas.List.{length-take, take_all}
 use Rattle.std.specs.Vec.{vec_items}
 use Rattle.update_cert.specs.Change.{Change}
-use Rattle.update_cert.specs.World.{after, void_of, void_from}
+use Rattle.layout.specs.Types.{Digest}
+use Rattle.update_cert.specs.World.{after, void_from}
+use Rattle.update_cert.specs.Reading.{after_read, void_of_read}
 use Rattle.update_cert.specs.Part.{IsPartOf, slot_at}
 use Rattle.update_cert.specs.Slots.{slot_after}
 use Rattle.update_cert.specs.Asked.{LacksAskedFor}
@@ -21,13 +23,13 @@ loop-place-init g c = record {
   slots = λ reads actor agrees of one i. refl;
 }
 
-pub returns-in_err-follow-clause-missing : goal.returns-in_err-follow-clause-missing
-returns-in_err-follow-clause-missing g c = λ actor of one.
+pub returns-in_err-apply_change-clause-missing : goal.returns-in_err-apply_change-clause-missing
+returns-in_err-apply_change-clause-missing g c = λ actor of one.
     let blocks = g.B.Blocks.held c.args.blocks.now in
     let inv = c.loop-place.invariant in
     let cs = c.args.cert.now.changes in
-    let e = c.in_err-follow.field-0.0 in
-    let missing = c.in_err-follow.ensures.missing in
+    let e = c.in_err-apply_change.field-0.0 in
+    let missing = c.in_err-apply_change.ensures.missing actor (of ∙ sym c.user-user.ensures.same) (ap actor.member inv.principal ∙ one) in
     let inside = rw c.changes-change-items.ensures at c.loop-place-test.true in
     let at = rw c.changes-change-items.ensures at c.change-item.is in
     let lacks : LacksAskedFor blocks actor cs c.args.part e = lacks_met blocks actor c.args.part c.loop-place.part cs c.loop-place.place c.change-item.result e inv.principal missing.0 inside at (λ reads agrees. inv.slots reads actor agrees of one) missing.1 in
@@ -38,11 +40,11 @@ loop-place-preserved g c =
     let inv = c.loop-place.invariant in
     let first = c.args.part in
     let part = c.loop-place.part in
-    let new = c.follow.new.self in
+    let new = c.apply_change.new.self in
     let cs = c.args.cert.now.changes in
     let k = c.loop-place.place in
     let change = c.change-item.result in
-    let done = c.in_ok-follow.ensures in
+    let done = c.in_ok-apply_change.ensures in
     let inside = rw c.changes-change-items.ensures at c.loop-place-test.true in
     let at = rw c.changes-change-items.ensures at c.change-item.is in
     let front = take_next cs k change inside at in
@@ -51,15 +53,15 @@ loop-place-preserved g c =
       principal = done.principal ∙ inv.principal;
       part = λ reads tree actor agrees is of one.
           part_next reads actor (take k cs) (take (k + 1) cs) change new tree front
-          (done.part reads (after reads actor (take k cs) tree) actor agrees (inv.part reads tree actor agrees is of one) (of ∙ sym c.user-user.ensures.same) (ap actor.member inv.principal ∙ one));
+          (done.part reads (after_read reads actor (take k cs) tree) actor agrees (inv.part reads tree actor agrees is of one) (of ∙ sym c.user-user.ensures.same) (ap actor.member inv.principal ∙ one));
       voids = λ reads tree actor agrees is of one.
-          let told = done.void reads (after reads actor (take k cs) tree) actor agrees (inv.part reads tree actor agrees is of one) (of ∙ sym c.user-user.ensures.same) (ap actor.member inv.principal ∙ one) in
-          voids_next reads actor first.table.principal k (take k cs) (take (k + 1) cs) change tree c.loop-place.numbers.items c.if-branch.numbers.items c.in_ok-follow.field-0 front long
-          (told ∙ ap (λ (p : ℕ). is_void_of actor p change (after reads actor (take k cs) tree)) inv.principal)
+          let told = done.void reads (after_read reads actor (take k cs) tree) actor agrees (inv.part reads tree actor agrees is of one) (of ∙ sym c.user-user.ensures.same) (ap actor.member inv.principal ∙ one) in
+          voids_next reads actor first.table.principal k (take k cs) (take (k + 1) cs) change tree c.loop-place.numbers.items c.if-branch.numbers.items c.in_ok-apply_change.field-0 front long
+          (told ∙ ap (λ (p : ℕ). is_void_of actor p change (after_read reads actor (take k cs) tree)) inv.principal)
           (inv.voids reads tree actor agrees is of one)
           (elim c.if-branch.branch [
-            | then-branch+in_ok-push w ↦ pushed c.loop-place.numbers.items c.if-branch.numbers.items (k + 1) c.in_ok-follow.field-0 w.if-branch.true (ap vec_items w.numbers-is ∙ w.in_ok-push.ensures.items)
-            | else-branch w ↦ not_pushed c.loop-place.numbers.items c.if-branch.numbers.items (k + 1) c.in_ok-follow.field-0 w.if-branch.false (ap vec_items w.numbers-is)
+            | then-branch+in_ok-push w ↦ pushed c.loop-place.numbers.items c.if-branch.numbers.items (k + 1) c.in_ok-apply_change.field-0 w.if-branch.true (ap vec_items w.numbers-is ∙ w.in_ok-push.ensures.items)
+            | else-branch w ↦ not_pushed c.loop-place.numbers.items c.if-branch.numbers.items (k + 1) c.in_ok-apply_change.field-0 w.if-branch.false (ap vec_items w.numbers-is)
           ]);
       slots = λ reads actor agrees of one i.
           let p = first.table.principal in
@@ -73,18 +75,18 @@ returns-clause-part g c = λ reads tree actor agrees is of one.
     let cs = c.args.cert.now.changes in
     let past = rw c.changes-change-items.ensures at c.loop-place-test.false in
     let all = take_all c.loop-place.place cs past in
-    subst (λ (xs : List Change). IsPartOf reads c.loop-place.part (after reads actor xs tree)) all (c.loop-place.invariant.part reads tree actor agrees is of one)
+    subst (λ (xs : List (Change Digest)). IsPartOf reads c.loop-place.part (after_read reads actor xs tree)) all (c.loop-place.invariant.part reads tree actor agrees is of one)
 
 pub returns-clause-voids : goal.returns-clause-voids
 returns-clause-voids g c = λ reads tree actor agrees is of one.
     let cs = c.args.cert.now.changes in
     let past = rw c.changes-change-items.ensures at c.loop-place-test.false in
     let all = take_all c.loop-place.place cs past in
-    subst (λ (xs : List Change). c.loop-place.numbers.items ≡ void_of reads actor c.args.part.table.principal xs tree) all (c.loop-place.invariant.voids reads tree actor agrees is of one)
+    subst (λ (xs : List (Change Digest)). c.loop-place.numbers.items ≡ void_of_read reads actor c.args.part.table.principal xs tree) all (c.loop-place.invariant.voids reads tree actor agrees is of one)
 
 pub returns-clause-slots : goal.returns-clause-slots
 returns-clause-slots g c = λ reads actor agrees of one i.
     let cs = c.args.cert.now.changes in
     let past = rw c.changes-change-items.ensures at c.loop-place-test.false in
     let all = take_all c.loop-place.place cs past in
-    subst (λ (xs : List Change). slot_at c.loop-place.part i ≡ slot_after reads actor c.args.part.table.principal i xs (slot_at c.args.part i)) all (c.loop-place.invariant.slots reads actor agrees of one i)
+    subst (λ (xs : List (Change Digest)). slot_at c.loop-place.part i ≡ slot_after reads actor c.args.part.table.principal i xs (slot_at c.args.part i)) all (c.loop-place.invariant.slots reads actor agrees of one i)

@@ -1,5 +1,6 @@
 use Rattle.std.proofs.Common.{◌≡◌, ℕ, List, take}
-use Rattle.update_cert.specs.World.{Content, Actor, Tree, after, void_of}
+use Rattle.update_cert.specs.World.{Actor, Tree}
+use Rattle.update_cert.specs.Reading.{Reading, after_read, void_of_read}
 use Rattle.update_cert.specs.Blocks.{Agrees}
 use Rattle.update_cert.specs.Part.{IsPartOf, slot_at}
 use Rattle.update_cert.specs.Slots.{slot_after}
@@ -8,10 +9,10 @@ use Rattle.update_cert.proofs.applying.apply.Given as goal
 abbrev pub invariant-loop-place : goal.invariant-loop-place
 invariant-loop-place g l = record {
   principal : l.part.table.principal ≡ l.fn.part.table.principal;
-  part : (reads : List ℕ → Content) (tree : Tree) (actor : Actor) → Agrees (g.B.Blocks.held l.blocks) reads → IsPartOf reads l.fn.part tree → actor.user ≡ l.cert.user → actor.member l.fn.part.table.principal ≡ l.is_member
-      → IsPartOf reads l.part (after reads actor (take l.place l.cert.changes) tree);
-  voids : (reads : List ℕ → Content) (tree : Tree) (actor : Actor) → Agrees (g.B.Blocks.held l.blocks) reads → IsPartOf reads l.fn.part tree → actor.user ≡ l.cert.user → actor.member l.fn.part.table.principal ≡ l.is_member
-      → l.numbers.items ≡ void_of reads actor l.fn.part.table.principal (take l.place l.cert.changes) tree;
-  slots : (reads : List ℕ → Content) (actor : Actor) → Agrees (g.B.Blocks.held l.blocks) reads → actor.user ≡ l.cert.user → actor.member l.fn.part.table.principal ≡ l.is_member
+  part : (reads : Reading) (tree : Tree) (actor : Actor) → Agrees (g.B.Blocks.held l.blocks) reads → IsPartOf reads l.fn.part tree → actor.user ≡ l.cert.user → actor.member l.fn.part.table.principal ≡ l.is_member
+      → IsPartOf reads l.part (after_read reads actor (take l.place l.cert.changes) tree);
+  voids : (reads : Reading) (tree : Tree) (actor : Actor) → Agrees (g.B.Blocks.held l.blocks) reads → IsPartOf reads l.fn.part tree → actor.user ≡ l.cert.user → actor.member l.fn.part.table.principal ≡ l.is_member
+      → l.numbers.items ≡ void_of_read reads actor l.fn.part.table.principal (take l.place l.cert.changes) tree;
+  slots : (reads : Reading) (actor : Actor) → Agrees (g.B.Blocks.held l.blocks) reads → actor.user ≡ l.cert.user → actor.member l.fn.part.table.principal ≡ l.is_member
       → (i : ℕ) → slot_at l.part i ≡ slot_after reads actor l.fn.part.table.principal i (take l.place l.cert.changes) (slot_at l.fn.part i);
 }

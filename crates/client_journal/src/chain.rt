@@ -1,0 +1,164 @@
+//! The records of a file, as they are found.
+
+ghost use Rattle.std.specs.Prelude.{◌≡◌, ◌+◌, ◌-◌, ◌^◌, ◌<◌, ◌≤◌, ◌==◌, ◌++◌, List, Option, length, drop, get_or, IfOk, IfSome, IfNone, OnOk, IsErrOf, None};
+ghost use Rattle.leaf_ledger.specs.Device.{Leaves, Throughout};
+ghost use Rattle.client_journal.specs.Places.{part, Reaches, Ends, IsReady};
+ghost use Rattle.client_journal.specs.Records.{Record, spelled, record_at, records_of, IsKept};
+
+use crate::error::JournalError;
+use crate::kind::Kind;
+use crate::phase::Phase;
+use crate::record::{HEADER_SIZE, read_header};
+use leaf_ledger::{Device, Extent, write_through};
+
+/// A gate that is open: a record stands after it.
+pub(crate) const OPEN: u8 = 1;
+
+/// A gate that is closed.
+pub(crate) const CLOSED: u8 = 0;
+
+/// Where the records of a file end.
+#[derive(Clone, Copy, Debug)]
+pub(crate) struct End {
+    /// Where the first gate stands that isn't open.
+    pub(crate) gate: usize,
+    /// Where the texts of the last records lie.
+    pub(crate) phase: Phase,
+}
+
+/// Whether the gate there is open.
+fn is_open<D: Device>(device: &mut D, gate: usize) -> Result<bool, JournalError>
+    requires { gate < length (D.history device.old).now.text }
+    ensures open { IfOk result (λ yes. yes ≡ (get_or (D.history device.old).now.text gate 0 == 1)) }
+    ensures same { D.history device.new ≡ D.history device.old }
+    ensures damaged { IsErrOf result JournalError.Damaged → ⊥ }
+    ensures memory { IsErrOf result JournalError.Memory → ⊥ }
+    ensures later { D.fault_count device.old ≤ D.fault_count device.new }
+    ensures device { IsErrOf result JournalError.Device → D.fault_count device.new < 2 ^ 64 - 1
+        → D.fault_count device.old < D.fault_count device.new }
+{
+    let mut byte = [0];
+    device.read(gate, &mut byte)?;
+    Ok(byte[0] == OPEN)
+}
+
+/// The kind of the record that stands there, and where its text lies.
+fn record_after<D: Device>(
+    device: &mut D,
+    at: usize,
+    size: usize,
+) -> Result<(Kind, Extent), JournalError>
+    requires size { size ≡ length (D.history device.old).now.text }
+    requires inside { at ≤ size }
+    requires bounded { size < 2 ^ 63 }
+    ensures place { IfOk result (λ r. (r.1.at ≡ at + 5) × (r.1.at + r.1.size < size) × (r.1.size < 2 ^ 32)) }
+    ensures spelled { IfOk result (λ r. drop at (D.history device.old).now.text
+        ≡ spelled (record { kind = r.0; text = part r.1 (D.history device.old).now.text }) ++ drop (r.1.at + r.1.size) (D.history device.old).now.text) }
+    ensures damaged { IsErrOf result JournalError.Damaged → record_at (drop at (D.history device.old).now.text) ≡ None }
+    ensures same { D.history device.new ≡ D.history device.old }
+    ensures memory { IsErrOf result JournalError.Memory → ⊥ }
+    ensures later { D.fault_count device.old ≤ D.fault_count device.new }
+    ensures device { IsErrOf result JournalError.Device → D.fault_count device.new < 2 ^ 64 - 1
+        → D.fault_count device.old < D.fault_count device.new }
+{
+    if size - at <= HEADER_SIZE {
+        return Err(JournalError::Damaged);
+    }
+    let mut bytes = [0; 5];
+    device.read(at, &mut bytes)?;
+    let Some((kind, length)) = read_header(&bytes) else {
+        return Err(JournalError::Damaged);
+    };
+    if size - at - HEADER_SIZE <= length {
+        return Err(JournalError::Damaged);
+    }
+    Ok((
+        kind,
+        Extent {
+            at: at + HEADER_SIZE,
+            size: length,
+        },
+    ))
+}
+
+/// One record further, if the gate is open.
+fn advance<D: Device>(device: &mut D, size: usize, end: End) -> Result<Option<End>, JournalError>
+    requires size { size ≡ length (D.history device.old).now.text }
+    requires long { 1 < size }
+    requires bounded { size < 2 ^ 63 }
+    requires reaches { Reaches (D.history device.old).now.text end.gate end.phase }
+    ensures further { IfOk result (λ next. IfSome next (λ next. (end.gate < next.gate) × Reaches (D.history device.old).now.text next.gate next.phase)) }
+    ensures ended { IfOk result (λ next. IfNone next (Ends (D.history device.old).now.text end.gate end.phase)) }
+    ensures damaged { IsErrOf result JournalError.Damaged → records_of (D.history device.old).now.text ≡ None }
+    ensures same { D.history device.new ≡ D.history device.old }
+    ensures memory { IsErrOf result JournalError.Memory → ⊥ }
+    ensures later { D.fault_count device.old ≤ D.fault_count device.new }
+    ensures device { IsErrOf result JournalError.Device → D.fault_count device.new < 2 ^ 64 - 1
+        → D.fault_count device.old < D.fault_count device.new }
+{
+    if !is_open(device, end.gate)? {
+        return Ok(None);
+    }
+    match record_after(device, end.gate + 1, size) {
+        Ok((kind, text)) => match end.phase.after(kind, text) {
+            Some(phase) => Ok(Some(End {
+                gate: text.at + text.size,
+                phase,
+            })),
+            None => Err(JournalError::Damaged),
+        },
+        Err(error) => Err(error),
+    }
+}
+
+/// Where the records of a file end, from one gate on.
+fn walk<D: Device>(device: &mut D, size: usize) -> Result<End, JournalError>
+    requires size { size ≡ length (D.history device.old).now.text }
+    requires long { 1 < size }
+    requires bounded { size < 2 ^ 63 }
+    ensures ends { IfOk result (λ end. Ends (D.history device.old).now.text end.gate end.phase) }
+    ensures damaged { IsErrOf result JournalError.Damaged → records_of (D.history device.old).now.text ≡ None }
+    ensures same { D.history device.new ≡ D.history device.old }
+    ensures memory { IsErrOf result JournalError.Memory → ⊥ }
+    ensures later { D.fault_count device.old ≤ D.fault_count device.new }
+    ensures device { IsErrOf result JournalError.Device → D.fault_count device.new < 2 ^ 64 - 1
+        → D.fault_count device.old < D.fault_count device.new }
+{
+    let mut end = End {
+        gate: 0,
+        phase: Phase::Idle,
+    };
+    loop {
+        match advance(device, size, end) {
+            Ok(Some(next)) => end = next,
+            Ok(None) => return Ok(end),
+            Err(error) => return Err(error),
+        }
+    }
+}
+
+/// Where the records of the file end, which is made where it has at most one byte. The device is synced before anything
+/// is read, so that what is told here stays.
+pub(crate) fn find_end<D: Device>(device: &mut D) -> Result<End, JournalError>
+    ensures ready { IfOk result (λ end. IsReady (D.history device.new).now end.gate end.phase) }
+    ensures records { OnOk result (records_of (D.history device.new).now.text ≡ records_of (D.history device.old).now.text) }
+    ensures kept { IsKept (D.history device.old) (D.history device.new) }
+    ensures any_moment { (rs : Option (List Record)) → records_of (D.history device.old).now.text ≡ rs
+        → Leaves (λ left. records_of left ≡ rs) (D.history device.old).now → Throughout (λ left. records_of left ≡ rs) (D.history device.old) (D.history device.new) }
+    ensures damaged { IsErrOf result JournalError.Damaged → records_of (D.history device.old).now.text ≡ None }
+    ensures memory { IsErrOf result JournalError.Memory → ⊥ }
+    ensures later { D.fault_count device.old ≤ D.fault_count device.new }
+    ensures device { IsErrOf result JournalError.Device → D.fault_count device.new < 2 ^ 64 - 1
+        → D.fault_count device.old < D.fault_count device.new }
+{
+    device.sync()?;
+    let size = device.len()?;
+    if size <= 1 {
+        write_through(device, 0, &[CLOSED])?;
+        return Ok(End {
+            gate: 0,
+            phase: Phase::Idle,
+        });
+    }
+    walk(device, size)
+}

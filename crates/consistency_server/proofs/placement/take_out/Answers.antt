@@ -1,0 +1,7 @@
+-- The closure tests an operation.
+use Rattle.std.proofs.Common.{rules}
+use Rattle.std.proofs.lemmas.Fn.{filter_same}
+use Rattle.consistency_server.proofs.placement.take_out.Goals as goal
+
+pub returns : goal.returns
+returns g c = filter_same _ _ _ (λ x b f' called. search rules) _ _ c.retain.ensures.filtered

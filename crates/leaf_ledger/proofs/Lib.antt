@@ -1,0 +1,6 @@
+mod Files
+mod Lives
+mod Marked
+mod Parts
+mod Replays
+mod Taken

@@ -1,0 +1,35 @@
+-- A write of which a part was done.
+use Rattle.std.proofs.Common.{◌≡◌, ◌⊎◌, inl, inr, ℕ, ◌+◌, ◌-◌, ◌<◌, ◌≤◌, Result, Ok, Err, OnOk, OnErr, List, [], ◌∷◌, ◌++◌, length, get_or, take, drop, ◌∙◌, ap, arith}
+use Rattle.std.proofs.lemmas.List.{length-append, length-take-le, length-drop, get_or_append_left, get_or-take, get_or-append_right, get_or-drop}
+use Rattle.leaf_ledger.specs.Device.{History, Torn, extent, written, wrote, WroteSome}
+
+module _ (text bytes : List ℕ) (at n : ℕ) (fits : at ≤ length text) (part : length bytes ≤ n) where
+  front : length (take at text) ≡ at
+  front = length-take-le at text fits
+
+  both : length (take at text ++ bytes) ≡ at + length bytes
+  both = omega (arith, front, length-append (take at text) bytes)
+
+  pub length-written : length (written at bytes text) ≡ at + length bytes + (length text - (at + length bytes))
+  length-written = omega (arith, both, length-append (take at text ++ bytes) (drop (at + length bytes) text), length-drop (at + length bytes) text)
+
+  same_outside : (i : ℕ) → i < length text → (i < at) ⊎ (at + n ≤ i) → get_or (written at bytes text) i 0 ≡ get_or text i 0
+  same_outside i below (inl before) =
+      get_or_append_left (take at text ++ bytes) (drop (at + length bytes) text) 0 i (omega (arith, both, before))
+      ∙ get_or_append_left (take at text) bytes 0 i (omega (arith, front, before))
+      ∙ get_or-take at text i 0 before
+  same_outside i below (inr after) =
+      get_or-append_right (take at text ++ bytes) (drop (at + length bytes) text) (at + length bytes) i 0 both (omega (arith, after, part))
+      ∙ get_or-drop (at + length bytes) text (i - (at + length bytes)) 0
+      ∙ (let there : at + length bytes + (i - (at + length bytes)) ≡ i = omega (arith, after, part) in ap (λ (k : ℕ). get_or text k 0) there)
+
+  pub torn_part : Torn text (extent at n ∷ []) (written at bytes text)
+  torn_part = record {
+    no_shorter = omega (arith, length-written, fits);
+    no_longer = omega (arith, length-written, fits, part);
+    outside = λ i below outside. same_outside i below outside.0;
+  }
+
+pub part_written : {X E : Type 0} (r : Result X E) (old new : History) (at n : ℕ) (bytes : List ℕ) → at ≤ length old.now.text → length bytes ≤ n → OnOk r (new ≡ wrote at n (written at bytes old.now.text) old) → OnErr r (new ≡ old) → WroteSome at n old new
+part_written (Ok x) old new at n bytes fits part ok err = inr (written at bytes old.now.text, torn_part old.now.text bytes at n fits part, ok)
+part_written (Err e) old new at n bytes fits part ok err = inl err

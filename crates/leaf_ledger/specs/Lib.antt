@@ -1,0 +1,6 @@
+pub mod Device
+pub mod Ledger
+pub mod Life
+pub mod Moments
+pub mod Recording
+pub mod Writes

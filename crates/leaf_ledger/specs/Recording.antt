@@ -1,0 +1,20 @@
+-- The history of a text in memory, by its calls.
+use Rattle.std.specs.Prelude.{ℕ, List, [], ◌∷◌}
+use Rattle.leaf_ledger.specs.Device.{History, wrote, written, synced}
+use Rattle.leaf_ledger.specs.declared.device_call.DeviceCall.{DeviceCall}
+use Rattle.leaf_ledger.specs.declared.device_call.DeviceCall.TheVariants as call
+
+-- the history after one call more
+abbrev pub after_call : {A : Type 0} → DeviceCall A → History → History
+after_call (call.Write extent bytes) h = wrote extent.at extent.size (written extent.at bytes.items h.now.text) h
+after_call call.Sync h = synced h
+
+-- the history after these calls, the first of them first
+abbrev pub replayed : {A : Type 0} → History → List (DeviceCall A) → History
+replayed h [] = h
+replayed h (c ∷ calls) = replayed (after_call c h) calls
+
+-- a device in memory as its callers see it
+pub record MemoryState : Type 0 where
+  pub history : History
+  pub faults : ℕ

@@ -1,0 +1,64 @@
+//! A device over a real file beside one in memory.
+
+use crate::{Device, DeviceError, FileDevice, MemoryDevice};
+use std::alloc::Global;
+use std::fs;
+use std::process::Abort;
+
+const FOLDER: &str = "leaf_ledger_file_test";
+
+const PATH: &str = "leaf_ledger_file_test/device";
+
+/// A call that a number draws, after one that asks for the length.
+fn draw<D: Device>(
+    device: &mut D,
+    drawn: u64,
+    buffer: &mut [u8; 32],
+) -> Result<usize, DeviceError> {
+    let size = device.len()?;
+    let at = (drawn >> 32) as usize % (size + 1);
+    let count = (drawn >> 8) as usize % 32;
+    match drawn % 4 {
+        0 => device.write_at(at, &buffer[..count])?,
+        1 => device.sync()?,
+        2 => device.read(at, &mut buffer[..count.min(size - at)])?,
+        _ => {}
+    }
+    Ok(size)
+}
+
+/// Has a file and memory carry out the same calls, drawn by numbers, and compares what they answer.
+fn run_both(rt: &impl Abort, file: &mut FileDevice<Global>, memory: &mut MemoryDevice<Global>) {
+    let mut seed: u64 = 1;
+    for turn in 0..1000 {
+        seed = seed
+            .wrapping_mul(6364136223846793005)
+            .wrapping_add(1442695040888963407);
+        let mut of_file = [seed.to_le_bytes()[3]; 32];
+        let mut of_memory = of_file;
+        let first = draw(file, seed >> 7, &mut of_file).ok();
+        let second = draw(memory, seed >> 7, &mut of_memory).ok();
+        assert!(rt;
+            first.is_some() && first == second && of_file == of_memory,
+            "turn {turn}"
+        );
+    }
+}
+
+#[test]
+fn a_file_does_what_memory_does(rt: HostRuntime) {
+    let alloc = rt.alloc();
+    let _ = fs::remove_dir_all(&rt, FOLDER);
+    fs::create_dir(&rt, FOLDER).expect(&rt, "the folder is made");
+    let mut file = FileDevice::open(&rt, alloc, FOLDER, PATH).expect(&rt, "the file is made");
+    let mut memory = MemoryDevice::new(alloc, Vec::new(alloc)).expect(&rt, "there is memory");
+    run_both(&rt, &mut file, &mut memory);
+    assert!(rt; file.faults() == 0 && memory.text().len() > 100);
+    // Opened again it holds the same.
+    let mut again = FileDevice::open(&rt, alloc, FOLDER, PATH).expect(&rt, "the file is opened");
+    assert!(rt; again.text() == memory.text());
+    // What another writes to it is a fault.
+    fs::write(&rt, PATH, b"other".as_slice()).expect(&rt, "it is written");
+    assert!(rt; again.len().is_err() && again.faults() == 1);
+    let _ = fs::remove_dir_all(&rt, FOLDER);
+}

@@ -1,0 +1,56 @@
+//! The file of a ledger, as it is made and read.
+
+ghost use Rattle.std.specs.Prelude.{◌≡◌, ◌≢◌, ◌-◌, ◌^◌, ◌<◌, ◌≤◌, ◌++◌, length, IfOk, OnOk, IsErrOf};
+ghost use Rattle.leaf_ledger.specs.Device.{at_rest, HasCause};
+ghost use Rattle.leaf_ledger.specs.Ledger.{UsedAsBefore, IsForeign, IsKept};
+
+use crate::device::{Device, DeviceError};
+use crate::error::LedgerError;
+use crate::ledger::MARKS_AT;
+
+/// How long the file is: the key, and a byte a leaf.
+const FILE_SIZE: usize = 1080;
+
+/// Writes the file where there is none.
+fn make<D: Device>(device: &mut D, key: &[u8], marks: &[u8]) -> Result<(), DeviceError>
+    requires { length (D.history device.old).now.text ≡ 0 }
+    ensures ok { OnOk result ((D.history device.new).now ≡ at_rest (key.now ++ marks.now)) }
+    ensures cause { HasCause (D.fault_count device.old) (D.fault_count device.new) result }
+{
+    device.write_at(0, key)?;
+    device.write_at(key.len(), marks)?;
+    device.sync()?;
+    Ok(())
+}
+
+/// The marks in the file of a key, which is made where there is none.
+pub(crate) fn load<D: Device>(device: &mut D, key: &[u8; 56]) -> Result<[u8; 1024], LedgerError>
+    ensures at_rest { IfOk result (λ marks. (D.history device.new).now ≡ at_rest (key.now ++ marks)) }
+    ensures used { OnOk result (UsedAsBefore (D.history device.old).now.text (D.history device.new).now.text) }
+    // All that it does to a file that is there is to sync it.
+    ensures kept { IsKept (D.history device.old) (D.history device.new) }
+    ensures foreign { IsErrOf result LedgerError.Foreign → IsForeign key.now (D.history device.old).now.text }
+    ensures own { OnOk result (IsForeign key.now (D.history device.old).now.text → ⊥) }
+    ensures no_leaf { IsErrOf result LedgerError.NoLeaf → ⊥ }
+    ensures later { D.fault_count device.old ≤ D.fault_count device.new }
+    ensures device { IsErrOf result LedgerError.Device → D.fault_count device.new < 2 ^ 64 - 1
+        → D.fault_count device.old < D.fault_count device.new }
+{
+    device.sync()?;
+    let size = device.len()?;
+    let mut marks = [0; 1024];
+    if size == 0 {
+        make(device, key, &marks)?;
+        return Ok(marks);
+    }
+    if size != FILE_SIZE {
+        return Err(LedgerError::Foreign);
+    }
+    let mut found = [0; 56];
+    device.read(0, &mut found)?;
+    if found != *key {
+        return Err(LedgerError::Foreign);
+    }
+    device.read(MARKS_AT, &mut marks)?;
+    Ok(marks)
+}
