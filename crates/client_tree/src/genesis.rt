@@ -1,10 +1,12 @@
 //! The i-tables at the beginning.
 
-ghost use Rattle.std.specs.Prelude.{◌≡◌, ◌∷◌, [], IfOk, length};
+ghost use Rattle.std.specs.Prelude.{◌≡◌, ◌∷◌, [], IfOk, length, map};
+ghost use Rattle.std.specs.Vec.{vec_items};
 ghost use Rattle.itable.specs.declared.inode.Kind.TheVariants as kind;
-ghost use Rattle.client_verify.specs.Genesis.{table_text, digest_of, table_inode, root_inode, first_pairs, first_table, first_handle, first_blocks};
+ghost use Rattle.client_tree.specs.Genesis.{table_text, inode_digest, table_inode, root_inode, first_pairs, first_table, first_table_texts, first_handle, common_texts, first_blocks};
+ghost use Rattle.client_tree.specs.Held.{keeping_all};
 
-use client_tree::Held;
+use crate::held::Held;
 use directory::Directory;
 use itable::{ITable, Inode};
 use layout::{Digest, INumber, Memory, Principal, Text, User, Writer, digest};
@@ -24,8 +26,8 @@ fn table_text<A: Allocator + Copy>(alloc: A, key: &[u8; 56]) -> Result<Vec<u8, A
 }
 
 /// The digest of an i-node's text.
-fn digest_of<A: Allocator + Copy>(alloc: A, inode: &Inode<A>) -> Result<Digest, Memory>
-    ensures { IfOk result (λ digest. digest ≡ digest_of inode.now) }
+fn inode_digest<A: Allocator + Copy>(alloc: A, inode: &Inode<A>) -> Result<Digest, Memory>
+    ensures { IfOk result (λ digest. digest ≡ inode_digest inode.now) }
 {
     let text = inode.text(alloc)?;
     Ok(digest(&text))
@@ -49,17 +51,17 @@ fn root_inode<A: Allocator + Copy>(alloc: A) -> Result<Inode<A>, Memory>
 }
 
 /// The digest of the i-node of the empty directory.
-pub(crate) fn root_digest<A: Allocator + Copy>(alloc: A) -> Result<Digest, Memory>
-    ensures { IfOk result (λ digest. digest ≡ digest_of root_inode) }
+pub fn root_digest<A: Allocator + Copy>(alloc: A) -> Result<Digest, Memory>
+    ensures { IfOk result (λ digest. digest ≡ inode_digest root_inode) }
 {
-    digest_of(alloc, &root_inode(alloc)?)
+    inode_digest(alloc, &root_inode(alloc)?)
 }
 
 /// What user 0 has: the table and the root directory.
 fn superusers_table<A: Allocator + Copy>(alloc: A, key: &[u8; 56]) -> Result<ITable<A>, Memory>
     ensures { IfOk result (λ table. table ≡ record { principal = 0; pairs = first_pairs key.now }) }
 {
-    let table_inode = digest_of(alloc, &table_inode(alloc, key)?)?;
+    let table_inode = inode_digest(alloc, &table_inode(alloc, key)?)?;
     let root_inode = root_digest(alloc)?;
     let mut table = ITable::empty(alloc, Principal::from(User::superuser()));
     table.set(INumber::table(), table_inode)?;
@@ -67,47 +69,67 @@ fn superusers_table<A: Allocator + Copy>(alloc: A, key: &[u8; 56]) -> Result<ITa
     Ok(table)
 }
 
-/// The i-table of a user at the beginning, where user 0 has this key.
+/// The i-table of a principal at the beginning, where user 0 has this key.
 fn first_table<A: Allocator + Copy>(
     alloc: A,
-    user: User,
+    principal: Principal,
     key: &[u8; 56],
 ) -> Result<ITable<A>, Memory>
-    ensures { IfOk result (λ table. table ≡ first_table user key.now) }
+    ensures { IfOk result (λ table. table ≡ first_table principal key.now) }
 {
-    if user == User::superuser() {
+    if principal.get() == 0 {
         superusers_table(alloc, key)
     } else {
-        Ok(ITable::empty(alloc, Principal::from(user)))
+        Ok(ITable::empty(alloc, principal))
     }
 }
 
-/// The handle of a user's i-table at the beginning, where user 0 has this key.
+/// The handle of a principal's i-table at the beginning, where user 0 has this key.
 pub(crate) fn first_handle<A: Allocator + Copy>(
     alloc: A,
-    user: User,
+    principal: Principal,
     key: &[u8; 56],
 ) -> Result<Digest, Memory>
-    ensures { IfOk result (λ handle. handle ≡ first_handle user key.now) }
+    ensures { IfOk result (λ handle. handle ≡ first_handle principal key.now) }
 {
-    let mut table = first_table(alloc, user, key)?;
+    let mut table = first_table(alloc, principal, key)?;
     table.handle(alloc)
 }
 
-/// The blocks of the beginning that each client of a user holds, where user 0 has this key.
-pub(crate) fn first_blocks<A: Allocator + Copy>(
+/// The texts by which a principal's i-table is stored at the beginning.
+fn first_table_texts<A: Allocator + Copy>(
     alloc: A,
-    user: User,
     key: &[u8; 56],
-) -> Result<Held<A>, Memory>
-    ensures { IfOk result (λ blocks. blocks ≡ first_blocks user key.now) }
+    principal: Principal,
+) -> Result<Vec<Vec<u8, A>, A>, Memory>
+    ensures { IfOk result (λ texts. map vec_items texts.items ≡ first_table_texts key.now principal) }
+{
+    let mut table = first_table(alloc, principal, key)?;
+    table.new_texts(alloc, &[])
+}
+
+/// The table of principals of the beginning with its i-node, and the empty directory with its.
+fn common_blocks<A: Allocator + Copy>(alloc: A, key: &[u8; 56]) -> Result<Held<A>, Memory>
+    ensures { IfOk result (λ blocks. blocks ≡ keeping_all [] (common_texts key.now)) }
 {
     let mut blocks = Held::empty(alloc);
     blocks.keep(table_text(alloc, key)?)?;
     blocks.keep(table_inode(alloc, key)?.text(alloc)?)?;
     blocks.keep(Directory::empty(alloc).text(alloc)?)?;
     blocks.keep(root_inode(alloc)?.text(alloc)?)?;
-    let mut table = first_table(alloc, user, key)?;
-    blocks.keep_all(table.new_texts(alloc, &[])?)?;
+    Ok(blocks)
+}
+
+/// The blocks of the beginning that each client holds, where user 0 has this key. The error is Memory.
+pub fn first_blocks<A: Allocator + Copy>(alloc: A, key: &[u8; 56]) -> Result<Held<A>, Memory>
+    ensures { IfOk result (λ blocks. blocks ≡ first_blocks key.now) }
+{
+    let mut blocks = common_blocks(alloc, key)?;
+    for number in 0..96 {
+        let Some(principal) = Principal::new(number) else {
+            unreachable!()
+        };
+        blocks.keep_all(first_table_texts(alloc, key, principal)?)?;
+    }
     Ok(blocks)
 }
