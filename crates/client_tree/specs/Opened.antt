@@ -2,11 +2,11 @@
 -- that come after it.
 use Rattle.std.specs.Prelude.{◌≡◌, ◌⊎◌, ℕ, false, List, [], ◌∷◌, ◌++◌, Option, Some, filter}
 use Rattle.layout.specs.Types.{Digest, INumber, Principal}
-use Rattle.itable.specs.ITable.{ITable}
+use Rattle.itable.specs.ITable.{ITable, digest_at}
 use Rattle.itable.specs.declared.inode.Kind.{Kind}
 use Rattle.principals.specs.Table.{Table}
 use Rattle.update_cert.specs.Reading.{Reading}
-use Rattle.update_cert.specs.Blocks.{Blocks, Agrees}
+use Rattle.update_cert.specs.Blocks.{Blocks, Agrees, inode_told}
 use Rattle.update_cert.specs.Part.{Part, Slot, Laid, IsPartOf, part_of, slot_at}
 use Rattle.update_cert.specs.Slots.{slot_after}
 use Rattle.update_cert.specs.Spot.{lacks}
@@ -31,10 +31,11 @@ pub record IsPartAfter (blocks : Blocks) (t : Table) (items : List PendingItem) 
 abbrev pub items_on : View → Principal → List PendingItem
 items_on x p = filter (comes_after x p) x.others ++ x.own ∷ []
 
--- The part of this principal: the i-table that its handle names, as the blocks spell it, after these operations; so it is
--- that of the view's tree.
+-- The part of this principal: the i-table that its handle names, as the blocks spell it and tell each digest of it, after
+-- these operations; so it is that of the view's tree.
 pub record IsOpened (blocks : Blocks) (x : View) (p : Principal) (before : ITable) (part : Part) : Type 0 where
   pub read : IsRead blocks p (handle_of x p) before
+  pub told : (i : INumber) → inode_told blocks p (handle_of x p) i ≡ Some (digest_at before i)
   pub after : IsPartAfter blocks x.table (items_on x p) (part_of before) part
   pub stands : (reads : Reading) (users : Table) → Agrees blocks reads → IsPartOf reads part (tree reads users x)
 

@@ -87,6 +87,10 @@ tree_before reads users x p i = after_items reads x.table (filter (comes_after x
 abbrev pub tree : Reading → Table → View → Tree
 tree reads users x = after_read reads (actor_of x.table x.own) x.own.cert.changes (tree_before reads users x)
 
+-- what is read there: at the place of the table of principals the file of its text, which user 0's i-table has there
+abbrev pub shown : Reading → Table → View → Tree
+shown reads users x p i = if is_table p i then option_map reads.content (reads.inode p (handle_of x p) i) else tree reads users x p i
+
 -- the numbers of the own changes that have no effect
 abbrev pub lost : Reading → Table → View → List ℕ
 lost reads users x = void_read reads (actor_of x.table x.own) x.own.cert.changes (tree_before reads users x)

@@ -1,11 +1,11 @@
 //! A principal's part of the tree of a view, opened.
 
-ghost use Rattle.std.specs.Prelude.{◌≡◌, ◌++◌, ◌∷◌, [], List, IfOk, IfErr, filter};
-ghost use Rattle.itable.specs.ITable.{ITable as ITableModel};
+ghost use Rattle.std.specs.Prelude.{◌≡◌, ◌++◌, ◌∷◌, [], ℕ, List, Some, IfOk, IfErr, filter};
+ghost use Rattle.itable.specs.ITable.{ITable as ITableModel, digest_at};
 ghost use Rattle.principals.specs.Table.{Table as Principals};
 ghost use Rattle.update_cert.specs.World.{Tree};
 ghost use Rattle.update_cert.specs.Reading.{Reading, after_read, void_of_read};
-ghost use Rattle.update_cert.specs.Blocks.{Agrees};
+ghost use Rattle.update_cert.specs.Blocks.{Agrees, inode_told};
 ghost use Rattle.update_cert.specs.Part.{Part as PartModel, IsPartOf, part_of};
 ghost use Rattle.update_cert.specs.Asked.{Lacks, LacksAskedFor};
 ghost use Rattle.pending_list.specs.Reply.{PendingItem as Item};
@@ -95,6 +95,7 @@ impl<'a, A: Allocator + Copy> View<'a, A> {
         principal: Principal,
     ) -> Result<Earlier<A>, ApplyError>
         ensures read { IfOk result (λ earlier. IsRead (B.held blocks.now) principal (handle_of self.now principal) earlier.before) }
+        ensures told { IfOk result (λ earlier. (i : ℕ) → inode_told (B.held blocks.now) principal (handle_of self.now principal) i ≡ Some (digest_at earlier.before i)) }
         ensures after { IfOk result (λ earlier. IsPartAfter (B.held blocks.now) self.now.table (filter (comes_after self.now principal) self.now.others) (part_of earlier.before) earlier.part) }
         ensures stands { (reads : Reading) (users : Principals) → Agrees (B.held blocks.now) reads
             → IfOk result (λ earlier. IsPartOf reads earlier.part (tree_before reads users self.now)) }

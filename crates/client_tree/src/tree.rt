@@ -1,14 +1,13 @@
 //! What the own operation makes of the tree of a view.
 
-ghost use Rattle.std.specs.Prelude.{◌≡◌, ◌++◌, IfOk, IfErr, OnOk, false, map};
+ghost use Rattle.std.specs.Prelude.{◌≡◌, ◌++◌, IfOk, IfErr, OnOk, map};
 ghost use Rattle.std.specs.Vec.{vec_items};
 ghost use Rattle.itable.specs.ITable.{IsTable, handle_of as table_handle};
 ghost use Rattle.principals.specs.Table.{Table as Principals};
 ghost use Rattle.update_cert.specs.Reading.{Reading, void_of_read};
 ghost use Rattle.update_cert.specs.Blocks.{Agrees, Blocks as Held};
 ghost use Rattle.update_cert.specs.Asked.{Lacks};
-ghost use Rattle.update_cert.specs.World.{is_table};
-ghost use Rattle.client_tree.specs.View.{View as ViewModel, actor_of, tree, tree_before, written};
+ghost use Rattle.client_tree.specs.View.{View as ViewModel, actor_of, shown, tree_before, written};
 ghost use Rattle.client_tree.specs.Opened.{HasLooked, IsLooked, IsOpened, IsReached};
 ghost use Rattle.client_tree.specs.Tree.{IsOutcome, IsStored, IsWanted, table_texts};
 ghost use Rattle.client_tree.specs.Seen.{content_seen};
@@ -199,10 +198,9 @@ impl<'a, A: Allocator + Copy> View<'a, A> {
         principal: Principal,
         i_number: INumber,
     ) -> Result<Seen<A>, ApplyError>
-        // Whatever stands for the digests of which no block tells. At the place of the table of principals stands the file of
-        // its text.
-        ensures seen { (reads : Reading) (users : Principals) → Agrees (B.held blocks.now) reads → is_table principal i_number ≡ false
-            → IfOk result (λ s. content_seen s ≡ tree reads users self.now principal i_number) }
+        // Whatever stands for the digests of which no block tells.
+        ensures seen { (reads : Reading) (users : Principals) → Agrees (B.held blocks.now) reads
+            → IfOk result (λ s. content_seen s ≡ shown reads users self.now principal i_number) }
         // Each block of what stands there is what its place takes.
         ensures taken { OnOk result (HasLooked (B.held blocks.now) self.now principal i_number) }
         ensures missing { IfErr result (Lacks (B.held blocks.now) (IsLooked (B.held blocks.now) self.now principal i_number)) }

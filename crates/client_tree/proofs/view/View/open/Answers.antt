@@ -36,6 +36,7 @@ returns-clause-opened g c =
     let after = c.in_ok-applied.ensures.after before done of_table in
     record {
       read = earlier.read;
+      told = earlier.told;
       after = subst (λ (i : PendingItem). IsPartAfter held x.table (done ++ i ∷ []) before part) c.own.ensures (subst (λ (t : Table). IsPartAfter held t (done ++ c.own.result.now ∷ []) before part) c.table.ensures after);
       stands = λ reads users agrees.
           let tree = tree_before reads users x in
