@@ -3,7 +3,7 @@ use Rattle.std.specs.Result.{is_ok}
 use Rattle.std.specs.Ordering.{nat_cmp}
 use Rattle.layout.specs.Ascending.{Stands, IsFree}
 use Rattle.pending_list.specs.Reply.{user_of}
-use Rattle.client_verify.proofs.lists.put.Goals as goal
+use Rattle.client_verify.proofs.lists.with_own.Goals as goal
 
 pub returns-in-Ok : goal.returns-in-Ok
 returns-in-Ok g c =
