@@ -80,5 +80,5 @@ abbrev pub IsForeign : Key → Bytes → Type 0
 IsForeign key file = (length file ≢ 0) × ((length file ≢ size_of_file) ⊎ (take size_of_key file ≢ key))
 
 -- a file that is there is synced, at most
-abbrev pub KeepsFile : History → History → Type 0
-KeepsFile old new = length old.now.text ≢ 0 → IsAtMostSynced old new
+abbrev pub KeepsLedger : History → History → Type 0
+KeepsLedger old new = length old.now.text ≢ 0 → IsAtMostSynced old new

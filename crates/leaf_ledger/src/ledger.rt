@@ -2,7 +2,7 @@
 
 ghost use Rattle.std.specs.Prelude.{◌≡◌, ◌≢◌, ◌+◌, ◌-◌, ◌≤◌, true, false, IfErr, IfOk, OnOk, OnErr, IsErrOf, None};
 ghost use Rattle.leaf_ledger.specs.Device.{at_rest, Throughout, HasRisen};
-ghost use Rattle.leaf_ledger.specs.Ledger.{LeafNumber, with_mark, UsedWith, UsedWithOrWithout, UsedAsBefore, IsLeastFree, IsFull, IsFileOf, IsForeign, KeepsFile};
+ghost use Rattle.leaf_ledger.specs.Ledger.{LeafNumber, with_mark, UsedWith, UsedWithOrWithout, UsedAsBefore, IsLeastFree, IsFull, IsFileOf, IsForeign, KeepsLedger};
 ghost use Rattle.leaf_ledger.specs.Life.{Call, handed_by};
 
 use crate::device::{Device, write_through};
@@ -56,8 +56,8 @@ impl<D: Device> Ledger<D> {
         // A file that is there keeps its used leaves, and a new one has none.
         ensures used { IfOk result (λ ledger. UsedAsBefore (D.history device).now.text ledger.file.now.text) }
         // All that it does to a file that is there is to sync it.
-        ensures kept { IfOk result (λ ledger. KeepsFile (D.history device) ledger.file) }
-        ensures kept_err { IfErr result (λ e. KeepsFile (D.history device) (D.history e.1)) }
+        ensures kept { IfOk result (λ ledger. KeepsLedger (D.history device) ledger.file) }
+        ensures kept_err { IfErr result (λ e. KeepsLedger (D.history device) (D.history e.1)) }
         // A step of the file's life, of which `no_leaf_twice` speaks.
         ensures step { IfOk result (λ ledger. Call None (D.history device) ledger.file) }
         ensures step_err { IfErr result (λ e. Call None (D.history device) (D.history e.1)) }

@@ -2,7 +2,7 @@
 
 ghost use Rattle.std.specs.Prelude.{◌≡◌, ◌≢◌, ◌-◌, ◌^◌, ◌<◌, ◌≤◌, ◌++◌, length, IfOk, OnOk, IsErrOf};
 ghost use Rattle.leaf_ledger.specs.Device.{at_rest, HasCause, HasRisen};
-ghost use Rattle.leaf_ledger.specs.Ledger.{UsedAsBefore, IsForeign, KeepsFile};
+ghost use Rattle.leaf_ledger.specs.Ledger.{UsedAsBefore, IsForeign, KeepsLedger};
 
 use crate::device::{Device, DeviceError};
 use crate::error::LedgerError;
@@ -28,7 +28,7 @@ pub(crate) fn load<D: Device>(device: &mut D, key: &[u8; 56]) -> Result<[u8; 102
     ensures at_rest { IfOk result (λ marks. (D.history device.new).now ≡ at_rest (key.now ++ marks)) }
     ensures used { OnOk result (UsedAsBefore (D.history device.old).now.text (D.history device.new).now.text) }
     // All that it does to a file that is there is to sync it.
-    ensures kept { KeepsFile (D.history device.old) (D.history device.new) }
+    ensures kept { KeepsLedger (D.history device.old) (D.history device.new) }
     ensures foreign { IsErrOf result LedgerError.Foreign → IsForeign key.now (D.history device.old).now.text }
     ensures own { OnOk result (IsForeign key.now (D.history device.old).now.text → ⊥) }
     ensures no_leaf { IsErrOf result LedgerError.NoLeaf → ⊥ }
