@@ -4,7 +4,7 @@ ghost use Rattle.std.specs.Prelude.{◌≡◌, ◌≢◌, ◌-◌, ◌^◌, ◌<
 ghost use Rattle.leaf_ledger.specs.Device.{at_rest, HasCause, HasRisen};
 ghost use Rattle.leaf_ledger.specs.Ledger.{UsedAsBefore, IsForeign, KeepsLedger};
 
-use crate::device::{Device, DeviceError};
+use crate::device::{Device, DeviceError, write_through};
 use crate::error::LedgerError;
 use crate::ledger::MARKS_AT;
 
@@ -18,8 +18,7 @@ fn make<D: Device>(device: &mut D, key: &[u8], marks: &[u8]) -> Result<(), Devic
     ensures cause { HasCause (D.fault_count device.old) (D.fault_count device.new) result }
 {
     device.write_at(0, key)?;
-    device.write_at(key.len(), marks)?;
-    device.sync()?;
+    write_through(device, key.len(), marks)?;
     Ok(())
 }
 
