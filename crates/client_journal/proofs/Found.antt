@@ -2,12 +2,12 @@
 use Rattle.std.proofs.Common.{◌≡◌, ◌⊎◌, inl, inr, ℕ, zero, suc, ◌+◌, ◌<◌, ◌≤◌, ◌^◌, List, [], ◌∷◌, ◌++◌, length, take, drop, get_or, Option, Some, None, refl, sym, ◌∙◌, ap, subst, arith}
 use Rattle.std.specs.Int.{w32, from_be_bytes}
 use Rattle.std.proofs.lemmas.Bool.{cases_eq, cases_lt}
-use Rattle.std.proofs.lemmas.List.{get_or-drop, get_or-take, get_or_past, drop-take, length-append, length-drop, length-take}
+use Rattle.std.proofs.lemmas.List.{get_or-drop, get_or-take, get_or_past, drop-take, length-drop, length-take}
 use Rattle.layout.specs.Format.{IsBytes}
 use Rattle.layout.specs.Laws.{wide32}
-use Rattle.client_journal.specs.Records.{Record, State, Idle, next_state, state_of, kind_of, header, spelled, chain, length_told, AllShort, IsShort, Tells, IsDamaged}
+use Rattle.client_journal.specs.Records.{Record, State, Idle, next_state, state_of, kind_of, spelled, chain, length_told, AllShort, IsShort, Tells, IsDamaged}
 use Rattle.client_journal.specs.declared.kind.Kind.{Kind}
-use Rattle.client_journal.proofs.Headers.{header_so, other_kind, length-spelled, spells}
+use Rattle.client_journal.proofs.Headers.{header_so, other_kind, spells}
 use Rattle.client_journal.proofs.Chains.{state-push, short-push, chain-push}
 
 bytes_after : (n : ℕ) (bytes : List ℕ) → IsBytes bytes → IsBytes (drop n bytes)
@@ -100,15 +100,15 @@ module _ (file : List ℕ) (long : 1 < length file) (rs : List Record) (state : 
   opened = elim (cases_lt (5 + length_told bytes) (length bytes)) [
     | inl whole ↦ kinds (kind_of (get_or (take 5 bytes) 0 0)) refl whole
     | inr early ↦ inr (record {
-        there = long;
-        records = rs;
-        bytes = bytes;
-        split = here.split;
-        short = here.short;
-        state = state;
-        in_turn = here.in_turn;
-        wrong = inr (inr early);
-      })
+      there = long;
+      records = rs;
+      bytes = bytes;
+      split = here.split;
+      short = here.short;
+      state = state;
+      in_turn = here.in_turn;
+      wrong = inr (inr early);
+    })
   ]
 
 gated : (file : List ℕ) → 1 < length file → (rs : List Record) (state : State) (gate : ℕ) (bytes : List ℕ) → Rest file rs state (gate ∷ bytes) → Again file rs (suc (length bytes)) → Outcome file

@@ -1,5 +1,5 @@
 -- What a record begins with, and a record at the front of bytes.
-use Rattle.std.proofs.Common.{◌≡◌, ℕ, ◌+◌, ◌<◌, ◌≤◌, ◌^◌, List, [], ◌∷◌, ◌++◌, length, take, drop, get_or, false, eqb, inl, inr, Some, None, refl, sym, ◌∙◌, ap, arith, take-append-drop}
+use Rattle.std.proofs.Common.{◌≡◌, ℕ, ◌+◌, ◌<◌, ◌^◌, List, [], ◌∷◌, ◌++◌, length, take, drop, get_or, false, eqb, inl, inr, Some, None, refl, sym, ◌∙◌, ap, arith, take-append-drop}
 use Rattle.std.specs.Int.{w32, to_be_bytes, from_be_bytes}
 use Rattle.std.proofs.lemmas.Nat.{be_bytes_4, from_be_bytes-to_be_bytes_4}
 use Rattle.std.proofs.lemmas.Bool.{cases_eq, ne_eqb}
@@ -59,9 +59,9 @@ kinds_same Structure Structure is = refl
 pub header_same : (k l : Kind) (m n : ℕ) → m < 2 ^ 32 → n < 2 ^ 32 → header k m ≡ header l n → (k ≡ l) × (m ≡ n)
 unfolding header
 header_same k l m n small small' is = (
-    kinds_same k l (ap (λ (bytes : List ℕ). get_or bytes 0 0) is),
-    sym (from_be_bytes-to_be_bytes_4 m small) ∙ ap (λ (bytes : List ℕ). from_be_bytes w32 (drop 1 bytes)) is ∙ from_be_bytes-to_be_bytes_4 n small',
-  )
+  kinds_same k l (ap (λ (bytes : List ℕ). get_or bytes 0 0) is),
+  sym (from_be_bytes-to_be_bytes_4 m small) ∙ ap (λ (bytes : List ℕ). from_be_bytes w32 (drop 1 bytes)) is ∙ from_be_bytes-to_be_bytes_4 n small',
+)
 
 pub length-spelled : (r : Record) → length (spelled r) ≡ 5 + length r.text
 length-spelled r = omega (arith, length-append (header r.kind (length r.text)) r.text, length-header r.kind (length r.text))

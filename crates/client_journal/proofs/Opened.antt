@@ -1,7 +1,7 @@
 -- Opening a journal: of a new one the gate is written, any other is synced.
-use Rattle.std.proofs.Common.{◌≡◌, ◌⊎◌, inl, inr, ℕ, ◌≤◌, ◌<◌, List, [], ◌∷◌, length, refl, sym, ◌∙◌, ap, subst, arith}
+use Rattle.std.proofs.Common.{◌≡◌, inl, inr, ℕ, ◌≤◌, List, [], ◌∷◌, length, refl, sym, ◌∙◌, ap, subst, arith}
 use Rattle.std.proofs.lemmas.List.{drop_all}
-use Rattle.leaf_ledger.specs.Device.{Disk, History, MayLeave, Torn, Leaves, Throughout, extent, at_rest, written, wrote_bytes, WroteSome, synced}
+use Rattle.leaf_ledger.specs.Device.{Disk, History, Torn, Leaves, Throughout, extent, at_rest, written, wrote_bytes, WroteSome, synced}
 use Rattle.leaf_ledger.specs.Moments.{rests, stayed, one_more, along, weakened, some_put, some_text, all_put}
 use Rattle.client_journal.specs.Records.{Record, Tells, IsNew, MayBeLeft}
 use Rattle.client_journal.specs.Places.{Ends, IsReady}

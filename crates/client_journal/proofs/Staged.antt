@@ -4,7 +4,7 @@ use Rattle.std.proofs.lemmas.Bool.{cases_eq}
 use Rattle.std.proofs.lemmas.List.{append_assoc, take_at, set_at, length-append}
 use Rattle.leaf_ledger.specs.Device.{Torn, extent, written}
 use Rattle.leaf_ledger.specs.Writes.{written_one, torn_one}
-use Rattle.client_journal.specs.Records.{Record, State, Idle, next_state, state_of, spelled, chain, Tells, BeginsWith, TellsWithOrWithout, AllShort, IsShort}
+use Rattle.client_journal.specs.Records.{Record, State, Idle, next_state, state_of, spelled, chain, Tells, TellsWithOrWithout, AllShort, IsShort}
 use Rattle.client_journal.specs.Places.{KeepsFront}
 use Rattle.client_journal.proofs.Chains.{state-push, short-push, chain-push}
 

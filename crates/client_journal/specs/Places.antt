@@ -1,6 +1,6 @@
 -- Nobody has to believe this file: an aid of private contracts.
 -- Where the texts of the last records lie in a journal's file.
-use Rattle.std.specs.Prelude.{◌≡◌, ◌≢◌, ℕ, ◌+◌, ◌<◌, ◌≤◌, List, ◌++◌, length, take, drop, get_or, Some, option_map, IfSome, ◌^◌}
+use Rattle.std.specs.Prelude.{◌≡◌, ◌≢◌, ℕ, ◌+◌, ◌<◌, ◌≤◌, List, ◌++◌, length, take, drop, get_or, Some, option_map, IfSome}
 use Rattle.layout.specs.Types.{Bytes}
 use Rattle.leaf_ledger.specs.Device.{Disk, end_of_files, at_rest}
 use Rattle.leaf_ledger.specs.declared.extent.Extent.{Extent}

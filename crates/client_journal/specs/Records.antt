@@ -124,8 +124,8 @@ length_told bytes = from_be_bytes w32 (take 4 (drop 1 bytes))
 abbrev pub EndsEarly : Bytes → Type 0
 EndsEarly bytes = length bytes ≤ size_of_header + length_told bytes
 
--- The file is damaged: after some records an open gate stands before another kind, before a record out of turn, or where
--- the file ends before the next gate.
+-- The file is damaged: after some records an open gate stands before another kind, before a record out of turn, or
+-- where the file ends before the next gate.
 pub record IsDamaged (file : Bytes) : Type 0 where
   pub there : 1 < length file
   pub records : List Record
@@ -158,8 +158,8 @@ TellsWithOrWithout records r file = Tells records file ⊎ Tells (records ++ r �
 abbrev pub KeepsJournal : History → History → Type 0
 KeepsJournal old new = 1 < length old.now.text → IsAtMostSynced old new
 
--- What a crash may leave while a journal is opened: what it could leave before, what a read gave, or, of a new journal, a
--- new journal.
+-- What a crash may leave while a journal is opened: what it could leave before, what a read gave, or, of a new journal,
+-- a new journal.
 abbrev pub MayBeLeft : History → Bytes → Type 0
 MayBeLeft old left = MayLeave old.now left ⊎ ((left ≡ old.now.text) ⊎ (IsNew old.now.text × IsNew left))
 

@@ -51,10 +51,11 @@ fn record_after<D: Device>(
     requires size { size ≡ length (D.history device.old).now.text }
     requires inside { at ≤ size }
     requires bounded { size < end_of_files }
-    ensures place { IfOk result (λ r. (r.1.at ≡ at + size_of_header) × (r.1.at + r.1.size < size) × (r.1.size < 2 ^ 32)) }
+    ensures place { IfOk result (λ r. (r.1.at ≡ at + size_of_header) × (r.1.at + r.1.size < size)
+        × (r.1.size < 2 ^ 32)) }
     ensures spelled { IfOk result (λ r. drop at (D.history device.old).now.text
         ≡ spelled (record { kind = r.0; text = part r.1 (D.history device.old).now.text })
-            ++ drop (r.1.at + r.1.size) (D.history device.old).now.text) }
+        ++ drop (r.1.at + r.1.size) (D.history device.old).now.text) }
     ensures damaged { IsErrOf result JournalError.Damaged → IsOtherKind (drop at (D.history device.old).now.text)
         ⊎ EndsEarly (drop at (D.history device.old).now.text) }
     ensures same { D.history device.new ≡ D.history device.old }

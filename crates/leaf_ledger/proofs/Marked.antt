@@ -1,5 +1,5 @@
 -- What marking a leaf does to a ledger's file, also where a crash cuts it short.
-use Rattle.std.proofs.Common.{◌≡◌, ◌≢◌, ◌⊎◌, inl, inr, ℕ, ◌+◌, ◌-◌, ◌<◌, Bool, true, false, not, ◌||◌, ◌==◌, nat_eq, List, [], ◌∷◌, ◌++◌, length, get_or, set, refl, sym, ◌∙◌, ap, subst, arith}
+use Rattle.std.proofs.Common.{◌≡◌, ◌≢◌, ◌⊎◌, inl, inr, ℕ, ◌+◌, ◌-◌, ◌<◌, Bool, true, false, not, ◌||◌, ◌==◌, nat_eq, List, [], ◌∷◌, ◌++◌, length, get_or, set, refl, sym, ◌∙◌, ap, arith}
 use Rattle.std.proofs.lemmas.Bool.{cases_eq, cases_lt}
 use Rattle.std.proofs.lemmas.Bool.Decides.{nat_tests}
 use Rattle.std.proofs.lemmas.List.{set-append_right, get_or_past, get_or-append-add, get_or-set_same, get_or-set_other, length-append}
@@ -92,6 +92,6 @@ used_with key marks n size below = with_leaf (key ++ marks) (key ++ set marks n 
 -- a torn mark leaves a file of the same key
 pub torn_own : (key file left : List ℕ) (n : ℕ) → IsFileOf key file → 56 + n < length file → Torn file (extent (56 + n) 1 ∷ []) left → IsFileOf key left
 torn_own key file left n own below torn = (
-    omega (arith, own.0, below, torn.no_shorter, torn.no_longer),
-    torn_front file left 56 (extent (56 + n) 1 ∷ []) (omega arith, tt) (omega (arith, own.0)) torn ∙ own.1,
-  )
+  omega (arith, own.0, below, torn.no_shorter, torn.no_longer),
+  torn_front file left 56 (extent (56 + n) 1 ∷ []) (omega arith, tt) (omega (arith, own.0)) torn ∙ own.1,
+)

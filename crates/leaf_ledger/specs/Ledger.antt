@@ -1,5 +1,5 @@
 -- What the file of a ledger says: 56 bytes of key, and a byte a leaf.
-use Rattle.std.specs.Prelude.{◌≡◌, ◌≢◌, ◌⊎◌, ℕ, ◌+◌, ◌<◌, ◌≤◌, Bool, true, false, not, ◌||◌, ◌==◌, nat_eq, List, length, take, get_or, set}
+use Rattle.std.specs.Prelude.{◌≡◌, ◌≢◌, ◌⊎◌, ℕ, ◌+◌, ◌<◌, ◌≤◌, Bool, true, false, not, ◌||◌, ◌==◌, nat_eq, length, take, get_or, set}
 use Rattle.layout.specs.Types.{Bytes, Key}
 use Rattle.leaf_ledger.specs.Device.{History, IsAtMostSynced}
 

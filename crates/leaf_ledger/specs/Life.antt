@@ -1,5 +1,5 @@
 -- The life of a ledger's file: calls, and crashes between and inside them.
-use Rattle.std.specs.Prelude.{◌≡◌, ◌⊎◌, ℕ, true, false, Option, Some, None, IfSome, List, [], ◌∷◌, ◌++◌, Result, Ok, Err}
+use Rattle.std.specs.Prelude.{◌≡◌, ◌⊎◌, true, false, Option, Some, None, IfSome, List, [], ◌∷◌, ◌++◌, Result, Ok, Err}
 use Rattle.layout.specs.Types.{Bytes}
 use Rattle.lms_sign.specs.Keys.{KeyLeaf}
 use Rattle.leaf_ledger.specs.Device.{Disk, History, MayLeave, Leaves, Throughout, moments, started}

@@ -38,8 +38,13 @@ impl<D: Device> Model for Ledger<D> {
 
     ghost Value = { LedgerState };
 
-    ghost view = { λ l. record { key = l.key; file = D.history l.device; faults = D.fault_count l.device;
-        outstanding = l.outstanding; usable = l.usable } };
+    ghost view = { λ l. record {
+      key = l.key;
+      file = D.history l.device;
+      faults = D.fault_count l.device;
+      outstanding = l.outstanding;
+      usable = l.usable;
+    } };
 
     ghost invariant = { λ l. IsLedger l.key l.marks l.next l.outstanding
         (l.usable ≡ true → (D.history l.device).now ≡ at_rest (l.key ++ l.marks)) };
@@ -65,7 +70,8 @@ impl<D: Device> Ledger<D> {
             → IsForeign key.now (D.history device).now.text) }
         ensures own { IfOk result (λ _. IsForeign key.now (D.history device).now.text → ⊥) }
         ensures no_leaf { IfErr result (λ e. e.0 ≢ LedgerError.NoLeaf) }
-        ensures device { IfErr result (λ e. e.0 ≡ LedgerError.Device → HasRisen (D.fault_count device) (D.fault_count e.1)) }
+        ensures device { IfErr result (λ e. e.0 ≡ LedgerError.Device
+            → HasRisen (D.fault_count device) (D.fault_count e.1)) }
         ensures later { IfOk result (λ ledger. D.fault_count device ≤ ledger.faults) }
         ensures later_err { IfErr result (λ e. D.fault_count device ≤ D.fault_count e.1) }
     {
@@ -89,7 +95,8 @@ impl<D: Device> Ledger<D> {
         ensures leaf { IfOk result (λ leaf. IsLeastFree self.old.file.now.text leaf.number) }
         ensures key { IfOk result (λ leaf. leaf.key ≡ self.old.key) }
         // The file has its mark, and else is as it was; a crash leaves just this.
-        ensures marked { IfOk result (λ leaf. self.new.file.now ≡ at_rest (with_mark leaf.number self.old.file.now.text)) }
+        ensures marked { IfOk result (λ leaf. self.new.file.now
+            ≡ at_rest (with_mark leaf.number self.old.file.now.text)) }
         ensures used { IfOk result (λ leaf. UsedWith leaf.number self.old.file.now.text self.new.file.now.text) }
         // While it runs, a crash leaves the leaves used as before or with the new one.
         ensures any_moment { (leaf : LeafNumber) → IsLeastFree self.old.file.now.text leaf

@@ -32,7 +32,8 @@ pub(crate) fn load<D: Device>(device: &mut D, key: &[u8; 56]) -> Result<[u8; 102
     ensures own { OnOk result (IsForeign key.now (D.history device.old).now.text → ⊥) }
     ensures no_leaf { IsErrOf result LedgerError.NoLeaf → ⊥ }
     ensures later { D.fault_count device.old ≤ D.fault_count device.new }
-    ensures device { IsErrOf result LedgerError.Device → HasRisen (D.fault_count device.old) (D.fault_count device.new) }
+    ensures device { IsErrOf result LedgerError.Device
+        → HasRisen (D.fault_count device.old) (D.fault_count device.new) }
 {
     device.sync()?;
     let size = device.len()?;

@@ -148,7 +148,10 @@ fn each_call_of_a_later_open_fails(rt: HostRuntime) -> Result<(), Fail> {
             "call {failing}"
         );
         let (_, _) = session(crashed(alloc, device, Left::New)?, &key, 1, &mut numbers);
-        assert!(rt; numbers.as_slice() == [0, 1, 2, 3].as_slice(), "call {failing}");
+        assert!(rt;
+            numbers.as_slice() == [0, 1, 2, 3].as_slice(),
+            "call {failing}"
+        );
     }
     Ok(())
 }

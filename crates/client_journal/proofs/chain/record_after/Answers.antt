@@ -1,4 +1,4 @@
-use Rattle.std.proofs.Common.{◌≡◌, ◌<◌, ℕ, List, take, drop, length, get_or, inl, inr, sym, ◌∙◌, ap, arith, length-drop}
+use Rattle.std.proofs.Common.{◌≡◌, ℕ, List, drop, get_or, inl, inr, sym, ◌∙◌, ap, arith, length-drop}
 use Rattle.client_journal.specs.Records.{kind_of, length_told}
 use Rattle.client_journal.proofs.Headers.{other_kind, tells_length, spells}
 use Rattle.client_journal.proofs.chain.record_after.Goals as goal

@@ -1,4 +1,4 @@
-use Rattle.std.proofs.Common.{◌≡◌, ◌∷◌, [], ◌++◌, ◌<◌, ◌+◌, ◌^◌, List, length, Some, true, sym, ◌∙◌, ap, subst, arith, inl, inr}
+use Rattle.std.proofs.Common.{◌≡◌, ◌∷◌, [], ◌++◌, ◌<◌, ◌+◌, ◌^◌, List, length, true, sym, ◌∙◌, ap, subst, arith, inl, inr}
 use Rattle.leaf_ledger.specs.Device.{Throughout, extent, at_rest, written}
 use Rattle.client_journal.specs.Records.{JournalFile, Record, State, may_come, spelled, chain, Tells, TellsWithOrWithout, MayCome}
 use Rattle.client_journal.specs.Places.{part, state_at}
