@@ -94,6 +94,12 @@ module _ (file : List ℕ) (gate : ℕ) (at : Phase) (reaches : Reaches file gat
 pub told_is : (file : List ℕ) (gate : ℕ) (at : Phase) → Ends file gate at → TellsState (state_at file at) file
 told_is file gate at ends = record { records = ends.reaches.records; tells = ended file gate at ends.reaches ends.shut; leads = ends.reaches.state }
 
+-- a state without records has no places
+pub no_places : (file : List ℕ) (p : Phase) → Idle ≡ state_at file p → p ≡ phase.Idle
+no_places file phase.Idle is = refl
+no_places file (phase.Declared last certificate) is = absurd (cc is)
+no_places file (phase.Signed structure) is = absurd (cc is)
+
 -- and it tells no other
 pub told_once : (file : List ℕ) (gate : ℕ) (at : Phase) (state : State) → Ends file gate at → TellsState state file → state ≡ state_at file at
 told_once file gate at state ends told =

@@ -3,7 +3,7 @@
 ghost use Rattle.std.specs.Prelude.{◌≡◌, ◌≢◌, ◌≤◌, List, [], ◌∷◌, ◌++◌, true, false, IfOk, IfErr, OnOk, OnErr, IsErrOf};
 ghost use Rattle.leaf_ledger.specs.Device.{at_rest, written, Leaves, Throughout, HasRisen};
 ghost use Rattle.client_journal.specs.Told.{state_of_held};
-ghost use Rattle.client_journal.specs.Records.{Record as PureRecord, closed_gate, chain, Tells, TellsState, TellsWithOrWithout, IsShort, IsNew, IsDamaged, MayCome, MayBeLeft, KeepsJournal};
+ghost use Rattle.client_journal.specs.Records.{Record as PureRecord, Idle, closed_gate, chain, Tells, TellsState, TellsWithOrWithout, IsShort, IsNew, IsDamaged, MayCome, MayBeLeft, KeepsJournal};
 
 use crate::chain::{End, OPEN, find_end};
 use crate::error::JournalError;
@@ -127,6 +127,8 @@ impl<D: Device> Journal<D> {
         ensures same { self.new.file ≡ self.old.file }
         ensures usable { OnOk result (self.new.usable ≡ true) }
         ensures memory { IsErrOf result JournalError.Memory → self.new.usable ≡ true }
+        // Where there is no record nothing grows.
+        ensures idle { IsErrOf result JournalError.Memory → TellsState Idle self.old.file.now.text → ⊥ }
         ensures ours { IsErrOf result JournalError.Damaged → ⊥ }
         ensures later { self.old.faults ≤ self.new.faults }
         ensures device { IsErrOf result JournalError.Device → (self.new.usable ≡ false)

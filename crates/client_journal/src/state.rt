@@ -50,6 +50,8 @@ pub(crate) fn read_state<D: Device, A: Allocator + Copy>(
     ensures state { IfOk result (λ state. state_of_held state ≡ state_at (D.history device.old).now.text phase) }
     ensures same { D.history device.new ≡ D.history device.old }
     ensures damaged { IsErrOf result JournalError.Damaged → ⊥ }
+    // Where there is no record nothing grows.
+    ensures idle { IsErrOf result JournalError.Memory → phase ≡ Phase.Idle → ⊥ }
     ensures later { D.fault_count device.old ≤ D.fault_count device.new }
     ensures device { IsErrOf result JournalError.Device
         → HasRisen (D.fault_count device.old) (D.fault_count device.new) }
