@@ -223,28 +223,6 @@ fn records_outlive_crashes(rt: HostRuntime) -> Result<(), Fail> {
     Ok(())
 }
 
-/// How many calls an open makes of a file with the records, and how many `state` makes then.
-const LATER_CALLS: u64 = 2 + 3 * 2 + 1 + 2;
-
-#[test]
-fn each_call_of_a_later_open_fails(rt: HostRuntime) -> Result<(), Fail> {
-    let alloc = rt.alloc();
-    for failing in 0..=LATER_CALLS {
-        let (_, mut device) = appended(MemoryDevice::new(alloc, Vec::new(alloc))?, 0);
-        device.fail_after(failing);
-        let (told, device) = read_file(alloc, device);
-        let wanted = if failing < LATER_CALLS {
-            Told::Nothing
-        } else {
-            TOLD[3]
-        };
-        assert!(rt; told == wanted, "call {failing}: {told:?}");
-        let (again, _) = read_file(alloc, crashed(alloc, device, Left::New)?);
-        assert!(rt; again == TOLD[3], "call {failing}: {again:?}");
-    }
-    Ok(())
-}
-
 #[test]
 fn crashes_leave_records(rt: HostRuntime) -> Result<(), Fail> {
     let alloc = rt.alloc();
