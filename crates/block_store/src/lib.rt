@@ -9,6 +9,8 @@ mod error;
 mod pass;
 mod shelf;
 mod store;
+#[cfg(test)]
+mod tests;
 
 pub use error::StoreError;
 pub use pass::BlockPass;
