@@ -19,6 +19,7 @@ static KEY: [u8; 56] = [7; 56];
 static ROOT_OF_1: &[u8] = b"STR1\x01\0";
 
 /// A reply, and the table of principals.
+#[derive(Drop)]
 struct Shown {
     reply: Reply<Global>,
     table: Table<Global>,
