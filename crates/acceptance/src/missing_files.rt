@@ -86,13 +86,7 @@ fn wants_file(rt: &impl Host, shown: &Shown, held: &mut Held<Global>) {
 }
 
 /// What stands at an i-number of a principal.
-fn see(
-    rt: &impl Host,
-    shown: &Shown,
-    held: &Held<Global>,
-    user: u8,
-    number: u16,
-) -> Seen<Global> {
+fn see(rt: &impl Host, shown: &Shown, held: &Held<Global>, user: u8, number: u16) -> Seen<Global> {
     let seen = view(rt, shown).look(rt.alloc(), held, principal(rt, user), i_number(rt, number));
     seen.expect(rt, "no block is missing")
 }

@@ -54,10 +54,10 @@ in_written : (x : View) (c : Change Digest) → c.principal < 96 → list_any (t
 in_written x c high touched may =
     let v = table_version x.own.plan in
     among x.own.cert.user c.principal (raised_groups x.table x.own) (c.principal == x.own.cert.user) (nat_le 64 c.principal && acts_for x.table x.own c.principal) refl may (λ of.
-        let parts = and_parts (nat_le 64 c.principal) (acts_for x.table x.own c.principal) of in
-        let low : 64 ≤ c.principal = leb-true 64 c.principal parts.0 in
-        let member = (and_parts (nat_le 64 c.principal) (is_member x.table c.principal x.own.cert.user v) parts.1).1 in
-        has_group (raises_at x.table v x.own.cert) 32 c.principal low (omega (arith, high)) ∙ rw (touched, member) refl)
+    let parts = and_parts (nat_le 64 c.principal) (acts_for x.table x.own c.principal) of in
+    let low : 64 ≤ c.principal = leb-true 64 c.principal parts.0 in
+    let member = (and_parts (nat_le 64 c.principal) (is_member x.table c.principal x.own.cert.user v) parts.1).1 in
+    has_group (raises_at x.table v x.own.cert) 32 c.principal low (omega (arith, high)) ∙ rw (touched, member) refl)
 
 lists_map : (p : Principal) (vs : List PartVoids) → lists p vs ≡ list_any (λ q. q == p) (map (λ v. v.principal) vs)
 lists_map p [] = refl

@@ -48,9 +48,7 @@ fn structure_of<A: Allocator>(
 ) -> Option<&Signed<Structure<A>>>
     ensures { option_copied result ≡ structure_of principal structures.now }
 {
-    structures
-        .iter()
-        .find(|structure| structure.value.plan().user().get() == principal.get())
+    structures.iter().find(|structure| structure.value.plan().user().get() == principal.get())
 }
 
 /// The record of a group, if there is one.

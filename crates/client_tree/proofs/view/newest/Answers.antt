@@ -17,6 +17,7 @@ loop-left-preserved g c =
     let more : c.loop-left.left - 1 + 1 ≡ c.loop-left.left = omega (arith, some) in
     let z = c.index-structures-left.result in
     let best : c.loop-left.best ≡ newest c.args.group (drop (c.loop-left.left - 1 + 1) zs) = c.loop-left.invariant.1 ∙ ap (λ (k : ℕ). newest c.args.group (drop k zs)) (sym more) in
-    let written = ap (λ (r : Option GroupRecord). newer r c.loop-left.best) (c.copied.ensures ∙ c.record_of-written.ensures ∙ ap (record_of c.args.group) (c.as_slice.ensures.same ∙ c.groups.ensures)) in
-    (omega (arith, inside),
-     c.newer-best.ensures ∙ written ∙ ap (λ (y : Signed Structure). newer (record_of c.args.group y.value.groups) c.loop-left.best) (sym c.index-structures-left.is) ∙ newest_before c.args.group (c.loop-left.left - 1) zs z c.loop-left.best (omega (arith, inside, some)) c.index-structures-left.is best)
+    let written = ap (λ (r : Option GroupRecord). newer r c.loop-left.best) (c.copied.ensures ∙ c.record_of-written.ensures ∙ ap (record_of c.args.group) (c.as_slice.ensures.same ∙ c.groups.ensures)) in (
+      omega (arith, inside),
+      c.newer-best.ensures ∙ written ∙ ap (λ (y : Signed Structure). newer (record_of c.args.group y.value.groups) c.loop-left.best) (sym c.index-structures-left.is) ∙ newest_before c.args.group (c.loop-left.left - 1) zs z c.loop-left.best (omega (arith, inside, some)) c.index-structures-left.is best,
+    )
