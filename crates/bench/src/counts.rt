@@ -1,9 +1,10 @@
 //! How many compressions of SHA-256 keys and signatures need, in blocks of 64 bytes.
 
 use layout::Hasher;
+use lms_sign::SIGNATURE_SIZE;
 
-/// A key: for each of 1,024 leaves the starts of 67 chains, 15 steps each, a text of 2,166 bytes and one of 54; for each
-/// of the other 1,023 nodes a text of 86 bytes.
+/// A key: for each of 1,024 leaves the starts of 67 chains, 15 steps each, a text of 2,166 bytes and one of 54; for
+/// each of the other 1,023 nodes a text of 86 bytes.
 pub(crate) const KEY: u32 = 1024 * (67 * 16 + 34 + 1) + 1023 * 2;
 
 /// A verification above the values: the leaf's key, its node, and the ten nodes above.
@@ -23,7 +24,7 @@ pub(crate) struct Counts {
 }
 
 /// The digest of a text that was signed.
-fn text_digest(id: &[u8; 16], signature: &[u8; 2508], text: &[u8]) -> [u8; 32] {
+fn text_digest(id: &[u8; 16], signature: &[u8; SIGNATURE_SIZE], text: &[u8]) -> [u8; 32] {
     let mut hasher = Hasher::new();
     hasher.update(id);
     hasher.update(&signature[..4]);
@@ -44,7 +45,7 @@ fn digit_sum(digest: &[u8; 32]) -> u32 {
 }
 
 /// What this signature took, and what checking it takes. A text has at most a megabyte.
-pub(crate) fn of_signature(id: &[u8; 16], signature: &[u8; 2508], text: &[u8]) -> Counts {
+pub(crate) fn of_signature(id: &[u8; 16], signature: &[u8; SIGNATURE_SIZE], text: &[u8]) -> Counts {
     let size = text.len().min(1 << 20) as u32 + 54;
     let digest = (size + 9).div_ceil(64);
     let steps = digit_sum(&text_digest(id, signature, text)).min(CHAINS * STEPS);

@@ -1,5 +1,6 @@
 //! How long things take, for people: `bench lms` keys, signatures and verifications, `bench itable` an i-table of 4,095
-//! digests, `bench directory` a directory of 1,024 entries, `bench look` looks at files. With no word it does nothing.
+//! digests, `bench directory` a directory of 1,024 entries, `bench look` looks at files, `bench operation` a client's
+//! operations. With no word it does nothing.
 #![tactic(auto)]
 
 mod counts;
@@ -7,6 +8,7 @@ mod directories;
 mod i_tables;
 mod lms;
 mod looks;
+mod operations;
 mod time;
 
 use anyhow::Result;
@@ -19,6 +21,7 @@ fn report(rt: &HostRuntime, word: &str) -> Result<()> {
         "itable" => i_tables::report(rt),
         "directory" => directories::report(rt),
         "look" => looks::report(rt),
+        "operation" => operations::report(rt),
         _ => Ok(()),
     }
 }

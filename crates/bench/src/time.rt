@@ -8,7 +8,8 @@ use std::time::{Duration, Instant};
 /// How many blocks are compressed to time one.
 const BLOCKS: u32 = 1 << 18;
 
-/// The seconds of a piece of work, the compressions that it needs, and the seconds of one compression in the same round.
+/// The seconds of a piece of work, the compressions that it needs, and the seconds of one compression in the same
+/// round.
 #[derive(Clone, Copy)]
 pub(crate) struct Time {
     pub(crate) seconds: f64,
@@ -20,6 +21,15 @@ impl Time {
     pub(crate) fn new(time: Duration, compressions: u32, unit: f64) -> Time {
         Time {
             seconds: time.as_secs_f64(),
+            compressions,
+            unit,
+        }
+    }
+
+    /// The time from one moment to a later one, both since the same start.
+    pub(crate) fn between(from: Duration, to: Duration, compressions: u32, unit: f64) -> Time {
+        Time {
+            seconds: to.as_secs_f64() - from.as_secs_f64(),
             compressions,
             unit,
         }

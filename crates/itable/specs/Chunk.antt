@@ -3,6 +3,7 @@
 use Rattle.std.specs.Prelude.{ℕ, ◌/◌, ◌==◌, List, Option, codes}
 use Rattle.std.specs.Int.{w8}
 use Rattle.std.specs.Ordering.{nat_cmp}
+use Rattle.layout.specs.Types.{INumber}
 use Rattle.layout.specs.Format.{Format, RowAfter, uint_in, raw, pair, guarded, followed, headed, mapped, listed}
 use Rattle.layout.specs.Laws.{Lawful, laws}
 use Rattle.layout.specs.Ranges.{i_number}
@@ -16,18 +17,19 @@ pub record Chunk : Type 0 where
   pub pairs : List Pair
 
 -- which chunk an i-number is in
-abbrev pub chunk_number : ℕ → ℕ
+abbrev pub chunk_number : INumber → ℕ
 chunk_number i = i / 64
 
 -- the key by which pairs ascend
-abbrev pub i_number_of : Pair → ℕ
+abbrev pub i_number_of : Pair → INumber
 i_number_of p = p.i_number
 
 -- a pair in a chunk: another chunk's i-number is out of range
 abbrev pub pair_row : ℕ → RowAfter Pair
 pair_row number before =
     mapped (λ p. record { i_number = p.0; digest = p.1 }) (λ p. (p.i_number, p.digest))
-    (pair (guarded (guarded i_number (λ i. chunk_number i == number) Range) (above nat_cmp i_number_of before) Order) (raw 32))
+    (pair (guarded (guarded i_number (λ i. chunk_number i == number) Range) (above nat_cmp i_number_of before) Order)
+    (raw 32))
 
 -- a chunk has at least one pair
 abbrev pub chunk : Format Chunk

@@ -142,7 +142,7 @@ impl<A: Allocator> Inode<A> {
 
     /// The i-node of a file.
     pub fn of_file(alloc: A, file: &[u8]) -> Result<Inode<A>, Memory>
-        requires { length file.now ≤ 4194304 }
+        requires { length file.now ≤ FILE_SIZE }
         ensures { IfOk result (λ inode. inode ≡ inode_of file.now) }
     {
         Inode::over(alloc, Kind::File, file)
@@ -151,7 +151,7 @@ impl<A: Allocator> Inode<A> {
     /// The i-node of the text of a directory.
     pub fn of_directory(alloc: A, text: &[u8]) -> Result<Inode<A>, Memory>
         requires low { 6 ≤ length text.now }
-        requires high { length text.now ≤ 265222 }
+        requires high { length text.now ≤ DIRECTORY_SIZE }
         ensures { IfOk result (λ inode. inode ≡ inode_over kinds.Directory text.now) }
     {
         Inode::over(alloc, Kind::Directory, text)
@@ -160,7 +160,7 @@ impl<A: Allocator> Inode<A> {
     /// The i-node over bytes that are a file, or the text of a directory.
     pub(crate) fn over(alloc: A, kind: Kind, bytes: &[u8]) -> Result<Inode<A>, Memory>
         requires fits { (size_format kind).Fits (length bytes.now) }
-        requires few { length bytes.now ≤ 4194304 }
+        requires few { length bytes.now ≤ FILE_SIZE }
         ensures { IfOk result (λ inode. inode ≡ inode_over kind bytes.now) }
     {
         let size = bytes.len() as u32;

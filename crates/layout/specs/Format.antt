@@ -1,6 +1,8 @@
 -- Formats: for a type of values its spelling as bytes, and reading with the first fault.
 -- The faults stand in docs/FORMATS.md.
-use Rattle.std.specs.Prelude.{◌≡◌, ℕ, zero, suc, ◌<◌, ◌^◌, Bool, true, ◌&&◌, List, [], ◌∷◌, ◌++◌, length, take, drop, slice_index, Option, Some, None, Result, Ok, Err, nat_lt, nat_le, nat_eq, ◌==◌, IsSomeAnd, if◌then◌else◌}
+use Rattle.std.specs.Prelude.{◌≡◌, ℕ, zero, suc, ◌<◌, ◌^◌, Bool, true, ◌&&◌, List, [], ◌∷◌, ◌++◌, length, take, drop}
+use Rattle.std.specs.Prelude.{slice_index, Option, Some, None, Result, Ok, Err, nat_lt, nat_le, nat_eq, ◌==◌, IsSomeAnd}
+use Rattle.std.specs.Prelude.{if◌then◌else◌}
 use Rattle.std.specs.Int.{Width, byte_len, from_be_bytes, to_be_bytes}
 use Rattle.std.specs.List.{starts_with}
 use Rattle.std.specs.Option.{option_map_or}
@@ -58,7 +60,9 @@ abbrev pub uint : Width → Format ℕ
 uint w = record {
   spell = be w;
   onto = λ old n. old ++ be w n;
-  read = λ bytes. if nat_lt (length bytes) (byte_len w) then Err Short else Ok (from_be_bytes w (take (byte_len w) bytes), drop (byte_len w) bytes);
+  read = λ bytes.
+      if nat_lt (length bytes) (byte_len w) then Err Short
+      else Ok (from_be_bytes w (take (byte_len w) bytes), drop (byte_len w) bytes);
   Fits = λ n. n < 256 ^ byte_len w;
 }
 
@@ -76,7 +80,10 @@ abbrev pub tagged : List ℕ → Format (Unit {0})
 tagged tag = record {
   spell = λ _. tag;
   onto = λ old _. old ++ tag;
-  read = λ bytes. if nat_lt (length bytes) (length tag) then Err Short else if starts_with nat_eq bytes tag then Ok (tt, drop (length tag) bytes) else Err BadTag;
+  read = λ bytes.
+      if nat_lt (length bytes) (length tag) then Err Short
+      else if starts_with nat_eq bytes tag then Ok (tt, drop (length tag) bytes)
+      else Err BadTag;
   Fits = λ _. Unit {0};
 }
 
@@ -137,7 +144,8 @@ after_row row = record { row = row; next = λ _ x. Some x }
 
 unfoldable pub read_rows : {S A : Type 0} → Rows S A → ℕ → S → List ℕ → Answer (List A)
 read_rows rows zero state bytes = Ok ([], bytes)
-read_rows rows (suc n) state bytes = (rows.row state).read bytes >>= λ x. read_rows rows n (rows.next state x.0) x.1 >>= λ xs. Ok (x.0 ∷ xs.0, xs.1)
+read_rows rows (suc n) state bytes =
+    (rows.row state).read bytes >>= λ x. read_rows rows n (rows.next state x.0) x.1 >>= λ xs. Ok (x.0 ∷ xs.0, xs.1)
 
 unfoldable pub spell_rows : {S A : Type 0} → Rows S A → S → List A → List ℕ
 spell_rows rows state [] = []

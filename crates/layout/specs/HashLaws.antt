@@ -27,7 +27,9 @@ word_bytes n (suc (suc (suc (suc i)))) = omega arith
 words_are_bytes : (words : List ℕ) (n : ℕ) → IsBytes (digest_bytes words n)
 unfolding digest_bytes
 words_are_bytes words zero = λ i. omega arith
-words_are_bytes words (suc n) = bytes_joined (digest_bytes words n) (to_be_bytes w32 (slice_index words n)) (words_are_bytes words n) (word_bytes (slice_index words n))
+words_are_bytes words (suc n) =
+    bytes_joined (digest_bytes words n) (to_be_bytes w32 (slice_index words n)) (words_are_bytes words n)
+    (word_bytes (slice_index words n))
 
 hash_is_bytes : (bytes : List ℕ) → IsBytes (hash bytes)
 unfolding hash sha256

@@ -3,24 +3,25 @@
 use Rattle.std.specs.Prelude.{ℕ}
 use Rattle.std.specs.Int.{w8, w16, w32}
 use Rattle.layout.specs.Format.{Format, uint_in}
+use Rattle.layout.specs.Types.{User, Group, Principal, Version, INumber}
 
 -- a user; user 0 is the superuser
-abbrev pub user : Format ℕ
+abbrev pub user : Format User
 user = uint_in w8 0 63
 
-abbrev pub group : Format ℕ
+abbrev pub group : Format Group
 group = uint_in w8 64 95
 
 -- a user or a group
-abbrev pub principal : Format ℕ
+abbrev pub principal : Format Principal
 principal = uint_in w8 0 95
 
 -- a number of an operation or of a group's state: they run from 1
-abbrev pub version : Format ℕ
+abbrev pub version : Format Version
 version = uint_in w32 1 4294967295
 
 -- the number of a file or directory among those of its principal
-abbrev pub i_number : Format ℕ
+abbrev pub i_number : Format INumber
 i_number = uint_in w16 1 4095
 
 -- how many bytes a text inside another has

@@ -17,7 +17,7 @@ mod writer;
 pub use digests::{Digest, are_bytes};
 pub use error::{Memory, ReadError};
 pub use hashing::{Hasher, digest};
-pub use ranges::{Group, INumber, Principal, User, Version};
+pub use ranges::{GROUP_COUNT, Group, INumber, LAST_VERSION, Principal, USER_COUNT, User, Version};
 pub use reader::Reader;
 pub use rows::{RowFormat, RowState, read_rows, read_rows_into, write_rows};
 pub use text::{Text, read_nested, write_nested};

@@ -12,6 +12,15 @@ use crate::writer::Writer;
 use std::alloc::Allocator;
 use std::marker::Model;
 
+/// How many users there are at most. The groups' numbers follow theirs.
+pub const USER_COUNT: u8 = 64;
+
+/// How many groups there are.
+pub const GROUP_COUNT: u8 = 32;
+
+/// The greatest version.
+pub const LAST_VERSION: u32 = u32::MAX;
+
 /// A user, 0 to 63. User 0 is the superuser.
 #[derive(Clone, Copy, Debug, PartialEq, Eq, PartialOrd, Ord, Hash)]
 pub struct User(u8);
@@ -190,7 +199,7 @@ impl Version {
 
     /// The one after it, if it isn't the last one.
     pub fn next(self) -> Option<Version>
-        ensures { MatchOption result (self ≡ 4294967295) (λ next. next ≡ self + 1) }
+        ensures { MatchOption result (self ≡ LAST_VERSION) (λ next. next ≡ self + 1) }
     {
         let number = self.0.checked_add(1)?;
         Some(Version(number))

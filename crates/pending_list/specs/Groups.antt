@@ -3,6 +3,7 @@ use Rattle.std.proofs.Common.{◌≡◌, add-one, refl}
 use Rattle.std.specs.Prelude.{ℕ, zero, suc, ◌+◌, ◌-◌, List, [], ◌∷◌, ◌++◌, Bool, ◌&&◌, filter, if◌then◌else◌, ◌==◌}
 use Rattle.std.specs.List.{list_any}
 use Rattle.layout.specs.Types.{Group, Version}
+use Rattle.layout.specs.declared.ranges.TheConstants.{USER_COUNT, GROUP_COUNT}
 use Rattle.version_order.specs.Vector.{version_of}
 use Rattle.version_order.specs.Plan.{Plan}
 use Rattle.update_cert.specs.Change.{Change}
@@ -11,21 +12,21 @@ use Rattle.pending_list.specs.Reply.{PendingItem}
 use Rattle.principals.specs.Table.{Table, is_member}
 
 -- the n groups from 64 on, ascending
-unfoldable pub groups_below : ℕ → List ℕ
+unfoldable pub groups_below : ℕ → List Group
 groups_below zero = []
-groups_below (suc n) = groups_below n ++ (n + 64) ∷ []
+groups_below (suc n) = groups_below n ++ (n + USER_COUNT) ∷ []
 
 pub none_below : groups_below 0 ≡ []
 unfolding groups_below
 none_below = refl
 
-pub one_more : (n : ℕ) → groups_below (n + 1) ≡ groups_below n ++ (n + 64) ∷ []
+pub one_more : (n : ℕ) → groups_below (n + 1) ≡ groups_below n ++ (n + USER_COUNT) ∷ []
 unfolding groups_below
 one_more n = rw add-one refl
 
 -- the groups, 64 to 95
-abbrev pub groups : List ℕ
-groups = groups_below 32
+abbrev pub groups : List Group
+groups = groups_below GROUP_COUNT
 
 -- the change is of the group; the target of a Link doesn't count
 abbrev pub touches : {C : Type 0} → Group → Change C → Bool

@@ -5,7 +5,7 @@ ghost use Rattle.std.specs.List.{list_any};
 ghost use Rattle.pending_list.specs.Groups.{touches, raises_at, groups_at, table_version, raised_groups, raises};
 
 use crate::reply::PendingItem;
-use layout::{Group, Memory, Principal, User};
+use layout::{GROUP_COUNT, Group, Memory, Principal, USER_COUNT, User};
 use principals::Table;
 use std::alloc::Allocator;
 use update_cert::{Cert, Change};
@@ -38,8 +38,8 @@ pub fn table_version<A: Allocator>(plan: &Plan<A>) -> u32
     }
 }
 
-/// The groups that a certificate raises, ascending, where membership is judged at this version of the table. The error is
-/// Memory.
+/// The groups that a certificate raises, ascending, where membership is judged at this version of the table. The error
+/// is Memory.
 pub fn groups_at<A: Allocator + Copy>(
     alloc: A,
     table: &Table<A>,
@@ -49,8 +49,8 @@ pub fn groups_at<A: Allocator + Copy>(
     ensures { IfOk result (λ groups. groups.items ≡ groups_at table.now version cert.now) }
 {
     let mut raised = Vec::new(alloc);
-    for n in 0..32 {
-        let Some(group) = Group::new(64 + n) else {
+    for n in 0..GROUP_COUNT {
+        let Some(group) = Group::new(USER_COUNT + n) else {
             unreachable!()
         };
         if raises_at(table, version, cert, group) {

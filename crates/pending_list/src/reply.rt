@@ -18,8 +18,8 @@ use version_order::{PLAN_SIZE, Plan, STRUCTURE_SIZE, Structure};
 /// How many structures a reply has at most, and how many pending operations.
 pub const MOST_ROWS: usize = 64;
 
-/// How many bytes the text of a reply has at most: the tag; the structures and the pending operations after their counts,
-/// each text after its size, and each signature.
+/// How many bytes the text of a reply has at most: the tag; the structures and the pending operations after their
+/// counts, each text after its size, and each signature.
 pub const REPLY_SIZE: usize = 4
     + (1 + MOST_ROWS * ((2 + STRUCTURE_SIZE) + SIGNATURE_SIZE))
     + (1 + MOST_ROWS * ((2 + CERT_SIZE) + SIGNATURE_SIZE + (2 + PLAN_SIZE)));
@@ -38,7 +38,8 @@ impl<A: Allocator> Model for PendingItem<A> {
 
     ghost view = { λ i. record { cert = i.cert.value; signature = i.cert.signature; plan = i.plan } };
 
-    ghost invariant = { λ i. pending_item.Fits (record { cert = i.cert.value; signature = i.cert.signature; plan = i.plan }) };
+    ghost invariant = { λ i. pending_item.Fits
+        (record { cert = i.cert.value; signature = i.cert.signature; plan = i.plan }) };
 }
 
 impl<A: Allocator> PendingItem<A> {
@@ -179,9 +180,9 @@ impl<A: Allocator + Copy> Text<A> for Reply<A> {
 
     fn read_fields(alloc: A, reader: &mut Reader<'_>) -> Result<Reply<A>, ReadError> {
         reader.tag(b"SRL1")?;
-        let count = reader.u8_in(0, 64)?;
+        let count = reader.u8_in(0, MOST_ROWS as u8)?;
         let structures = read_rows(alloc, reader, &StructureRows, usize::from(count))?;
-        let pending_count = reader.u8_in(0, 64)?;
+        let pending_count = reader.u8_in(0, MOST_ROWS as u8)?;
         let pending = read_rows(alloc, reader, &PendingRows, usize::from(pending_count))?;
         Ok(Reply {
             structures,
@@ -223,8 +224,8 @@ impl<A: Allocator> Reply<A> {
         structures: Vec<Signed<Structure<A>>, A>,
         pending: Vec<PendingItem<A>, A>,
     ) -> Reply<A>
-        requires few_structures { vec_len structures ≤ 64 }
-        requires few_pending { vec_len pending ≤ 64 }
+        requires few_structures { vec_len structures ≤ MOST_ROWS }
+        requires few_pending { vec_len pending ≤ MOST_ROWS }
         ensures { result ≡ record { structures = structures.items; pending = pending.items } }
     {
         structures_fit(&structures);
@@ -272,9 +273,10 @@ fn write_lists<A: Allocator + Copy>(
     structures: &[Signed<Structure<A>>],
     pending: &[PendingItem<A>],
 ) -> Result<(), Memory>
-    requires few_structures { length structures.now ≤ 64 }
-    requires few_pending { length pending.now ≤ 64 }
-    ensures ok { OnOk result (writer.new ≡ reply.onto writer.old (record { structures = structures.now; pending = pending.now })) }
+    requires few_structures { length structures.now ≤ MOST_ROWS }
+    requires few_pending { length pending.now ≤ MOST_ROWS }
+    ensures ok { OnOk result (writer.new ≡ reply.onto writer.old
+        (record { structures = structures.now; pending = pending.now })) }
     ensures front { OnErr result (BeginsWith writer.new writer.old) }
 {
     writer.tag(b"SRL1")?;
@@ -317,9 +319,10 @@ impl<A: Allocator + Copy> Reply<A> {
         others: &[H],
         own: &PendingItem<A>,
     ) -> Result<Vec<u8, A>, Memory>
-        requires few_structures { length structures.now ≤ 64 }
-        requires few_others { length others.now < 64 }
-        ensures text { IfOk result (λ text. text.items ≡ reply.spell (record { structures = structures.now; pending = map H.item others.now ++ own.now ∷ [] })) }
+        requires few_structures { length structures.now ≤ MOST_ROWS }
+        requires few_others { length others.now < MOST_ROWS }
+        ensures text { IfOk result (λ text. text.items ≡ reply.spell
+            (record { structures = structures.now; pending = map H.item others.now ++ own.now ∷ [] })) }
         ensures size { IfOk result (λ text. length text.items ≤ REPLY_SIZE) }
     {
         structures_fit(structures);

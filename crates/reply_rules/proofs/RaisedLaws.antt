@@ -21,7 +21,8 @@ version_most p [] each = omega arith
 version_most p (c ∷ cs) each =
     let most : c.version ≤ 4294967295 = (in_range w32 1 4294967295 c.version (All-head IsComponent c cs each).1).1 in
     let later = version_most p cs (All-tail IsComponent c cs each) in
-    elim (is_eq (nat_cmp c.principal p)) as (λ t. option_map_or (λ (d : Component). d.version) (cond t (Some c) (row_at nat_cmp principal_of cs p)) 0 ≤ 4294967295) [
+    elim (is_eq (nat_cmp c.principal p)) as (λ t. option_map_or (λ (d : Component). d.version)
+    (cond t (Some c) (row_at nat_cmp principal_of cs p)) 0 ≤ 4294967295) [
       | true ↦ most
       | false ↦ later
     ]

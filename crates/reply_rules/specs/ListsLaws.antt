@@ -11,11 +11,16 @@ split_last-append [] x = refl
 split_last-append (y ∷ xs) x = rw (split_last-append xs x) refl
 
 -- the lists of a reply whose pending list ends with this item
-pub lists_are : (r : Reply) (others : List PendingItem) (own : PendingItem) → r.pending ≡ others ++ own ∷ [] → lists_of r ≡ Some (record { structures = r.structures; others = others; own = own })
+pub lists_are : (r : Reply) (others : List PendingItem) (own : PendingItem) → r.pending ≡ others ++ own ∷ []
+    → lists_of r ≡ Some (record { structures = r.structures; others = others; own = own })
 lists_are r others own e =
-    ap (λ (is : List PendingItem). option_map (λ s. record { structures = r.structures; others = s.0; own = s.1 }) (split_last is)) e
-    ∙ ap (option_map (λ s. record { structures = r.structures; others = s.0; own = s.1 })) (split_last-append others own)
+    ap (λ (is : List PendingItem). option_map (λ s. record { structures = r.structures; others = s.0; own = s.1 })
+    (split_last is)) e
+    ∙ ap (option_map (λ s. record { structures = r.structures; others = s.0; own = s.1 }))
+    (split_last-append others own)
 
 -- nothing is pending where there are no lists
 pub no_lists : (r : Reply) → r.pending ≡ [] → lists_of r ≡ None
-no_lists r e = ap (λ (is : List PendingItem). option_map (λ s. record { structures = r.structures; others = s.0; own = s.1 }) (split_last is)) e
+no_lists r e =
+    ap (λ (is : List PendingItem). option_map (λ s. record { structures = r.structures; others = s.0; own = s.1 })
+    (split_last is)) e

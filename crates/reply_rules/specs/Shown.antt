@@ -2,6 +2,7 @@
 -- Entries as the code compares them: by the entries of plans, which are made once.
 use Rattle.std.specs.Prelude.{ℕ, zero, suc, List, [], ◌∷◌, Option, Bool, ◌&&◌, ◌||◌, not, if◌then◌else◌, ◌==◌}
 use Rattle.std.specs.List.{list_all}
+use Rattle.layout.specs.Types.{User}
 use Rattle.version_order.specs.declared.plan.Entry.{Entry}
 use Rattle.version_order.specs.Plan.{Plan}
 use Rattle.version_order.specs.Structure.{Structure}
@@ -12,7 +13,8 @@ use Rattle.reply_rules.specs.Rules.{lists_entry, left_of, within, top_entries, o
 
 -- A plan of this user and with these entries shows what it has to, where those left of them without those before are
 -- these: told by the entries of top, top's own, those that wait, and those before.
-abbrev pub shows_left : List Entry → List Entry → List Entry → List Entry → List Entry → Option (List Entry) → List Entry → ℕ → Bool
+abbrev pub shows_left : List Entry → List Entry → List Entry → List Entry → List Entry → Option (List Entry)
+    → List Entry → User → Bool
 shows_left top own waiting before left rest es user =
     list_all (lists_entry es) before
     && (list_all (λ e. lists_entry top e || lists_entry own e) left

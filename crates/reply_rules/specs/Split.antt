@@ -14,7 +14,8 @@ place_above d [] = zero
 place_above d (i ∷ is) = if nat_lt d (depth i.plan) then zero else suc (place_above d is)
 
 -- these are the pending items of the lists, those of them that aren't above and those that are, and top
-pub record IsSplit (x : Lists) (pending waiting above : List PendingItem) (top : Option (Signed Structure)) : Type 0 where
+pub record IsSplit (x : Lists) (pending waiting above : List PendingItem) (top : Option (Signed Structure))
+    : Type 0 where
   pub all : pending ≡ items x
   pub before : waiting ≡ items_waiting x
   pub after : above ≡ items_above x

@@ -4,12 +4,14 @@ ghost use Rattle.std.specs.Prelude.{◌≡◌, ◌<◌, ◌==◌, map};
 ghost use Rattle.std.specs.List.{list_all, list_any};
 ghost use Rattle.std.specs.Option.{option_copied};
 ghost use Rattle.version_order.specs.Vector.{version_of};
+ghost use Rattle.layout.specs.declared.ranges.TheConstants.{USER_COUNT};
 ghost use Rattle.reply_rules.specs.Lists.{number_of};
-ghost use Rattle.reply_rules.specs.Rules.{is_numbered, is_next, pending_next, waits, top_vector, counts_at, top_counts, numbers};
+ghost use Rattle.reply_rules.specs.Rules.{is_numbered, is_next, pending_next, waits, top_vector, counts_at, top_counts};
+ghost use Rattle.reply_rules.specs.Rules.{numbers};
 
 use crate::lists::pending_user;
 use crate::reply_lists::Lists;
-use layout::Principal;
+use layout::{Principal, USER_COUNT};
 use pending_list::{PendingItem, Signed};
 use std::alloc::Allocator;
 use version_order::{Plan, Structure};
@@ -92,7 +94,7 @@ fn waits<A: Allocator>(lists: &Lists<'_, A>, user: u8) -> bool
 
 /// Top's version of a user, 0 where there is no structure.
 fn top_version<A: Allocator>(lists: &Lists<'_, A>, user: u8) -> u32
-    requires { user < 64 }
+    requires { user < USER_COUNT }
     ensures { result ≡ version_of user (top_vector lists.now) }
 {
     match (lists.top(), Principal::new(user)) {
@@ -103,7 +105,7 @@ fn top_version<A: Allocator>(lists: &Lists<'_, A>, user: u8) -> u32
 
 /// Whether top has seen as many operations of the user as its structure and a pending plan that isn't above say.
 fn counts_at<A: Allocator>(lists: &Lists<'_, A>, user: u8) -> bool
-    requires { user < 64 }
+    requires { user < USER_COUNT }
     ensures { result ≡ counts_at lists.now user }
 {
     let seen = u64::from(number_of(lists, user)) + u64::from(waits(lists, user));
@@ -114,7 +116,7 @@ fn counts_at<A: Allocator>(lists: &Lists<'_, A>, user: u8) -> bool
 fn top_counts<A: Allocator>(lists: &Lists<'_, A>) -> bool
     ensures { result ≡ top_counts lists.now }
 {
-    for user in 0..64 {
+    for user in 0..USER_COUNT {
         if !counts_at(lists, user) {
             return false;
         }

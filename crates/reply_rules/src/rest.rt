@@ -45,7 +45,8 @@ fn left_list(known: &[Entry], entries: &[Entry], entry: &Entry) -> bool
 
 /// Whether each that is left is one of the first or of the second ones.
 fn left_are_of_either(known: &[Entry], entries: &[Entry], first: &[Entry], second: &[Entry]) -> bool
-    ensures { result ≡ list_all (λ e. lists_entry known.now e || (lists_entry first.now e || lists_entry second.now e)) entries.now }
+    ensures { result
+        ≡ list_all (λ e. lists_entry known.now e || (lists_entry first.now e || lists_entry second.now e)) entries.now }
 {
     entries.iter().all(|entry| {
         lists_entry(known, entry) || (lists_entry(first, entry) || lists_entry(second, entry))

@@ -25,11 +25,11 @@ pub enum Rule {
 }
 
 impl Rule {
-    ghost use Rattle.reply_rules.specs.Number.{number_of};
+    ghost use Rattle.reply_rules.specs.Number.{rule_number};
 
     /// Its number, from 1 to 15.
     pub fn number(self) -> u8
-        ensures { result ≡ number_of self }
+        ensures { result ≡ rule_number self }
     {
         self as u8
     }

@@ -2,8 +2,10 @@
 
 ghost use Rattle.std.specs.Prelude.{◌≡◌, ◌++◌, IfOk, map, true, false};
 ghost use Rattle.std.specs.List.{list_all};
+ghost use Rattle.layout.specs.declared.ranges.TheConstants.{LAST_VERSION};
 ghost use Rattle.version_order.specs.Vector.{version_of, raised, raised_all, vector as vector_format};
-ghost use Rattle.reply_rules.specs.Rules.{in_order, any_two, all_in_order, own_above, top_vector, same_vector, vectors_follow, vector};
+ghost use Rattle.reply_rules.specs.Rules.{in_order, any_two, all_in_order, own_above, top_vector, same_vector};
+ghost use Rattle.reply_rules.specs.Rules.{vectors_follow, vector};
 
 use crate::reply_lists::Lists;
 use layout::{Group, Memory, Principal};
@@ -49,7 +51,8 @@ fn orders_all<A: Allocator>(
     structures: &[Signed<Structure<A>>],
     pending: &[PendingItem<A>],
 ) -> bool
-    ensures { result ≡ list_all (in_order plan.now) (map (λ z. z.value.plan) structures.now ++ map (λ i. i.plan) pending.now) }
+    ensures { result
+        ≡ list_all (in_order plan.now) (map (λ z. z.value.plan) structures.now ++ map (λ i. i.plan) pending.now) }
 {
     orders_structures(plan, structures) && orders_pending(plan, pending)
 }
@@ -108,7 +111,7 @@ fn top_vector<A: Allocator + Copy>(alloc: A, lists: &Lists<'_, A>) -> Result<Vec
 /// Adds one to the version of a principal, and tells whether it could grow.
 fn raise<A: Allocator>(next: &mut Vector<A>, principal: Principal) -> Result<bool, Memory>
     ensures raised { IfOk result (λ grows. grows ≡ true → next.new ≡ raised principal next.old) }
-    ensures last { IfOk result (λ grows. grows ≡ false → version_of principal next.old ≡ 4294967295) }
+    ensures last { IfOk result (λ grows. grows ≡ false → version_of principal next.old ≡ LAST_VERSION) }
     ensures fits { vector_format.Fits next.old }
 {
     let _fits = next.components();
@@ -126,7 +129,8 @@ fn follows<A: Allocator>(
     groups: &[Group],
     next: &mut Vector<A>,
 ) -> Result<bool, Memory>
-    ensures follows { IfOk result (λ follows. follows ≡ same_vector plan.now.vector (raised_all groups.now (raised plan.now.user next.old))) }
+    ensures follows { IfOk result (λ follows. follows ≡ same_vector plan.now.vector
+        (raised_all groups.now (raised plan.now.user next.old))) }
     ensures next { IfOk result (λ follows. follows ≡ true → next.new ≡ plan.now.vector) }
 {
     let _fits = plan.vector().components();

@@ -1,5 +1,6 @@
 -- Components as rows that ascend, and what raising does.
-use Rattle.std.proofs.Common.{◌≡◌, ℕ, ◌+◌, ◌<◌, List, [], Option, Some, None, Result, Ok, Err, refl, sym, ap, subst, ◌∙◌, cond, inl, inr, arith}
+use Rattle.std.proofs.Common.{◌≡◌, ℕ, ◌+◌, ◌<◌, List, [], Option, Some, None, Result, Ok, Err, refl, sym, ap, subst}
+use Rattle.std.proofs.Common.{◌∙◌, cond, inl, inr, arith}
 use Rattle.std.specs.Prelude.{◌==◌, if◌then◌else◌, OnOk, OnErr}
 use Rattle.std.specs.Int.{w8, w32}
 use Rattle.std.specs.List.{All}
@@ -13,7 +14,8 @@ use Rattle.layout.specs.Ranges.{principal, version}
 use Rattle.layout.specs.Sizes.{few_rows}
 use Rattle.layout.specs.Ascending.{Ascends, row_at}
 use Rattle.layout.specs.AscendingKeys.{key_test}
-use Rattle.layout.specs.AscendingLaws.{Ordered, ascends_from_fits, fits_from_ascends, ascends_with_row, all_with_row, row_at-with_row}
+use Rattle.layout.specs.AscendingLaws.{Ordered, ascends_from_fits, fits_from_ascends, ascends_with_row, all_with_row}
+use Rattle.layout.specs.AscendingLaws.{row_at-with_row}
 use Rattle.version_order.specs.declared.vector.Component.{Component}
 use Rattle.version_order.specs.Vector.{principal_of, component, vector, components_ascend, version_of, raised}
 
@@ -36,7 +38,8 @@ listed_of v fits = ascends_from_fits nat_cmp principal_of nat_cmp_total componen
 
 pub is_vector : (v : List Component) → Listed v → vector.Fits v
 is_vector v listed =
-    let rows = fits_from_ascends nat_cmp principal_of nat_cmp_total component IsComponent ordered None v listed.0 listed.1 in
+    let rows = fits_from_ascends nat_cmp principal_of nat_cmp_total component IsComponent ordered None v listed.0
+    listed.1 in
     let few = few_rows component principal_of 0 96 components_ascend None v rows (omega arith) in
     listed_fits w8 255 component v (omega arith) (omega (arith, few)) rows
 
@@ -44,7 +47,8 @@ pub none_is_vector : (v : List Component) → v ≡ [] → vector.Fits v
 unfolding Ascends
 none_is_vector v e = subst vector.Fits (sym e) (is_vector [] (All-nil IsComponent, tt))
 
-pub vector_raised : (p : ℕ) (v : List Component) → p < 96 → version_of p v < 4294967295 → vector.Fits v → vector.Fits (raised p v)
+pub vector_raised : (p : ℕ) (v : List Component) → p < 96 → version_of p v < 4294967295 → vector.Fits v
+    → vector.Fits (raised p v)
 vector_raised p v small room fits =
     let old = listed_of v fits in
     let new : Component = record { principal = p; version = version_of p v + 1 } in
@@ -58,11 +62,14 @@ vector_raised p v small room fits =
     )
 
 -- raising adds one at the principal, and nothing elsewhere
-pub version_of-raised : (p q : ℕ) (v : List Component) → version_of q (raised p v) ≡ version_of q v + (if p == q then 1 else 0)
+pub version_of-raised : (p q : ℕ) (v : List Component)
+    → version_of q (raised p v) ≡ version_of q v + (if p == q then 1 else 0)
 version_of-raised p q v =
     let new : Component = record { principal = p; version = version_of p v + 1 } in
-    ap (λ (o : Option Component). option_map_or (λ c. c.version) o 0) (row_at-with_row nat_cmp principal_of nat_cmp_total v new q)
-    ∙ ap (λ t. option_map_or (λ (c : Component). c.version) (cond t (Some new) (row_at nat_cmp principal_of v q)) 0) (key_test p q)
+    ap (λ (o : Option Component). option_map_or (λ c. c.version) o 0)
+    (row_at-with_row nat_cmp principal_of nat_cmp_total v new q)
+    ∙ ap (λ t. option_map_or (λ (c : Component). c.version) (cond t (Some new) (row_at nat_cmp principal_of v q)) 0)
+    (key_test p q)
     ∙ elim (cases_eq p q) [
       | inl e ↦ rw (eq-eqb p q e, ← e) refl
       | inr other ↦ rw (ne_eqb p q other) (omega arith)

@@ -1,5 +1,6 @@
 -- Two vectors that are gone over side by side.
-use Rattle.std.proofs.Common.{◌≡◌, ℕ, ◌<◌, ◌≤◌, Bool, true, false, List, [], ◌∷◌, length, Option, Some, None, refl, sym, ap, ◌∙◌, arith}
+use Rattle.std.proofs.Common.{◌≡◌, ℕ, ◌<◌, ◌≤◌, Bool, true, false, List, [], ◌∷◌, length, Option, Some, None, refl, sym}
+use Rattle.std.proofs.Common.{ap, ◌∙◌, arith}
 use Rattle.std.specs.Prelude.{◌&&◌, ◌==◌, nat_le, nat_lt}
 use Rattle.std.specs.Int.{w32}
 use Rattle.std.specs.Option.{option_map_or}
@@ -32,13 +33,16 @@ same : (d : Component) (q : ℕ) → d.principal ≡ q → is_eq (nat_cmp d.prin
 same d q e = grind (arith, nat_tests)
 
 -- a component below all of the first isn't asked for
-unseen : (d : Component) (ds w : List Component) → Ascends nat_cmp principal_of (Some d) w → is_below w (d ∷ ds) ≡ is_below w ds
+unseen : (d : Component) (ds w : List Component) → Ascends nat_cmp principal_of (Some d) w
+    → is_below w (d ∷ ds) ≡ is_below w ds
 unfolding Ascends
 unseen d ds [] up = refl
 unseen d ds (c ∷ cs) up =
     let later = unseen d ds cs (ascends_earlier nat_cmp principal_of nat_cmp_total (Some d) c cs up.0 up.1) in
-    let version : version_of c.principal (d ∷ ds) ≡ version_of c.principal ds = rw (apart d c.principal (lt_from_less d.principal c.principal up.0)) refl in
-    ap (λ n. nat_le c.version n && is_below cs (d ∷ ds)) version ∙ ap (λ b. nat_le c.version (version_of c.principal ds) && b) later
+    let version : version_of c.principal (d ∷ ds) ≡ version_of c.principal ds = rw
+    (apart d c.principal (lt_from_less d.principal c.principal up.0)) refl in
+    ap (λ n. nat_le c.version n && is_below cs (d ∷ ds)) version
+    ∙ ap (λ b. nat_le c.version (version_of c.principal ds) && b) later
 
 -- the second's first has a lesser principal
 pub skipped : (c : Component) (cs : List Component) (d : Component) (ds : List Component)
@@ -48,7 +52,8 @@ pub skipped : (c : Component) (cs : List Component) (d : Component) (ds : List C
 unfolding Ascends
 skipped c cs d ds listed lt = unseen d ds (c ∷ cs) (less_from_lt d.principal c.principal lt, listed.1.1)
 
-after_same : (c d : Component) (cs : List Component) → c.principal ≡ d.principal → Ascends nat_cmp principal_of (Some c) cs → Ascends nat_cmp principal_of (Some d) cs
+after_same : (c d : Component) (cs : List Component) → c.principal ≡ d.principal
+    → Ascends nat_cmp principal_of (Some c) cs → Ascends nat_cmp principal_of (Some d) cs
 unfolding Ascends
 after_same c d [] e up = tt
 after_same c d (x ∷ xs) e up = (rw (← e) up.0, up.1)
@@ -75,7 +80,8 @@ missed c cs d ds listed others lt =
     let here : is_eq (nat_cmp d.principal c.principal) ≡ false = grind (arith, nat_tests) in
     let passed : is_lt (nat_cmp d.principal c.principal) ≡ false = grind (arith, nat_tests) in
     let none = none_following nat_cmp principal_of nat_cmp_total d ds c.principal others.1.1 passed in
-    let version : version_of c.principal (d ∷ ds) ≡ 0 = rw here (ap (λ (o : Option Component). option_map_or (λ (x : Component). x.version) o 0) none) in
+    let version : version_of c.principal (d ∷ ds) ≡ 0 = rw here
+    (ap (λ (o : Option Component). option_map_or (λ (x : Component). x.version) o 0) none) in
     let more = positive c (All-head IsComponent c cs listed.0) in
     let less : nat_le c.version 0 ≡ false = grind (arith, nat_tests) in
     ap (λ n. nat_le c.version n && is_below cs (d ∷ ds)) version ∙ ap (λ b. b && is_below cs (d ∷ ds)) less

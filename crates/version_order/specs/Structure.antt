@@ -8,7 +8,8 @@ use Rattle.std.specs.Ordering.{nat_cmp}
 use Rattle.layout.specs.Types.{Digest, Handle, Group}
 use Rattle.layout.specs.Format.{Format, RowAfter, uint_in, raw, pair, headed, guarded, mapped, listed, nested}
 use Rattle.layout.specs.Laws.{Lawful, laws, in_range, wide8, wide16, wide32}
-use Rattle.layout.specs.Sizes.{AtMost, KeysAscend, at_most_ascending, at_most_headed, at_most_mapped, at_most_pair, at_most_guarded, at_most_uint_in, at_most_raw, at_most_nested, nested_fits}
+use Rattle.layout.specs.Sizes.{AtMost, KeysAscend, at_most_ascending, at_most_headed, at_most_mapped, at_most_pair}
+use Rattle.layout.specs.Sizes.{at_most_guarded, at_most_uint_in, at_most_raw, at_most_nested, nested_fits}
 use Rattle.layout.specs.Ranges.{group, version, size}
 use Rattle.layout.specs.Ascending.{above}
 use Rattle.layout.specs.AscendingKeys.{keys_ascend}
@@ -30,8 +31,10 @@ group_of r = r.group
 
 abbrev pub group_record : RowAfter GroupRecord
 group_record before =
-    mapped (λ p. record { group = p.0; version = p.1.0; table = p.1.1.0; handle = p.1.1.1 }) (λ r. (r.group, (r.version, (r.table, r.handle))))
-    (pair (guarded group (above nat_cmp group_of before) Order) (pair version (pair (uint_in w32 0 4294967295) (raw 32))))
+    mapped (λ p. record { group = p.0; version = p.1.0; table = p.1.1.0; handle = p.1.1.1 })
+    (λ r. (r.group, (r.version, (r.table, r.handle))))
+    (pair (guarded group (above nat_cmp group_of before) Order)
+    (pair version (pair (uint_in w32 0 4294967295) (raw 32))))
 
 abbrev pub group_records : Format (List GroupRecord)
 group_records = listed (uint_in w8 0 255) group_record
@@ -61,15 +64,18 @@ records_ascend = keys_ascend group_record group_of 64 96 (λ b r fits.
 at_most_group_record : (b : Option GroupRecord) → AtMost (group_record b) 41
 at_most_group_record b =
     at_most_mapped _ _ _ 41 (at_most_pair _ _ 1 40 (at_most_guarded _ _ _ 1 (at_most_uint_in w8 64 95 wide8))
-    (at_most_pair _ _ 4 36 (at_most_uint_in w32 1 4294967295 wide32) (at_most_pair _ _ 4 32 (at_most_uint_in w32 0 4294967295 wide32) (at_most_raw 32))))
+    (at_most_pair _ _ 4 36 (at_most_uint_in w32 1 4294967295 wide32)
+    (at_most_pair _ _ 4 32 (at_most_uint_in w32 0 4294967295 wide32) (at_most_raw 32))))
 
 at_most_group_records : AtMost group_records 1313
-at_most_group_records = at_most_ascending w8 255 group_record group_of 64 32 41 wide8 records_ascend at_most_group_record
+at_most_group_records =
+    at_most_ascending w8 255 group_record group_of 64 32 41 wide8 records_ascend at_most_group_record
 
 pub at_most_structure : AtMost structure STRUCTURE_SIZE
 at_most_structure =
     at_most_headed (codes "SVS1") _ 4238
-    (at_most_mapped _ _ _ 4238 (at_most_pair _ _ 2893 1345 (at_most_nested w16 0 65535 plan 2891 wide16 at_most_plan) (at_most_pair _ _ 32 1313 (at_most_raw 32) at_most_group_records)))
+    (at_most_mapped _ _ _ 4238 (at_most_pair _ _ 2893 1345 (at_most_nested w16 0 65535 plan 2891 wide16 at_most_plan)
+    (at_most_pair _ _ 32 1313 (at_most_raw 32) at_most_group_records)))
 
 -- a plan can stand inside a structure
 pub nested_plan : (p : Plan) → plan.Fits p → (nested size plan).Fits p

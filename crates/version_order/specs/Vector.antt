@@ -12,7 +12,9 @@ use Rattle.layout.specs.Laws.{Lawful, laws, in_range, wide8, wide32}
 use Rattle.layout.specs.Ranges.{principal, version}
 use Rattle.layout.specs.Ascending.{above, row_at, with_row}
 use Rattle.layout.specs.AscendingKeys.{keys_ascend}
-use Rattle.layout.specs.Sizes.{AtMost, KeysAscend, at_most_ascending, at_most_mapped, at_most_pair, at_most_guarded, at_most_uint_in}
+use Rattle.layout.specs.Sizes.{AtMost, KeysAscend, at_most_ascending, at_most_mapped, at_most_pair, at_most_guarded}
+use Rattle.layout.specs.Sizes.{at_most_uint_in}
+use Rattle.layout.specs.declared.ranges.TheConstants.{USER_COUNT, LAST_VERSION}
 use Rattle.layout.specs.declared.error.ReadError.TheVariants.{Order}
 use Rattle.version_order.specs.declared.vector.Component.{Component}
 
@@ -50,11 +52,11 @@ raised_all (p ∷ ps) v = raised_all ps (raised p v)
 -- no version would pass the last one
 abbrev pub can_raise_all : List Principal → List Component → Bool
 can_raise_all [] v = true
-can_raise_all (p ∷ ps) v = nat_lt (version_of p v) 4294967295 && can_raise_all ps (raised p v)
+can_raise_all (p ∷ ps) v = nat_lt (version_of p v) LAST_VERSION && can_raise_all ps (raised p v)
 
 -- what a component adds to the depth: its version, where it is a user's
 abbrev pub user_version : Component → ℕ
-user_version c = if nat_lt c.principal 64 then c.version else 0
+user_version c = if nat_lt c.principal USER_COUNT then c.version else 0
 
 -- the sum over users
 abbrev pub depth : List Component → ℕ
@@ -74,7 +76,8 @@ components_ascend = keys_ascend component principal_of 0 96 (λ b c fits.
 at_most_component : (b : Option Component) → AtMost (component b) 5
 at_most_component b =
     at_most_mapped _ _ _ 5
-    (at_most_pair _ _ 1 4 (at_most_guarded _ _ _ 1 (at_most_uint_in w8 0 95 wide8)) (at_most_uint_in w32 1 4294967295 wide32))
+    (at_most_pair _ _ 1 4 (at_most_guarded _ _ _ 1 (at_most_uint_in w8 0 95 wide8))
+    (at_most_uint_in w32 1 4294967295 wide32))
 
 pub at_most_vector : AtMost vector 481
 at_most_vector = at_most_ascending w8 255 component principal_of 0 96 5 wide8 components_ascend at_most_component

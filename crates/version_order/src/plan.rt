@@ -152,9 +152,22 @@ impl<A: Allocator> Model for Plan<A> {
 
     ghost Value = { Plan };
 
-    ghost view = { λ p. record { user = p.user; number = p.number; certificate = p.certificate; vector = p.vector; entries = p.entries } };
+    ghost view = { λ p. record {
+      user = p.user;
+      number = p.number;
+      certificate = p.certificate;
+      vector = p.vector;
+      entries = p.entries;
+    } };
 
-    ghost invariant = { λ p. plan.Fits (record { user = p.user; number = p.number; certificate = p.certificate; vector = p.vector; entries = p.entries }) };
+    ghost invariant = { λ p. plan.Fits (record {
+      user = p.user;
+      number = p.number;
+      certificate = p.certificate;
+      vector
+          = p.vector;
+      entries = p.entries;
+    }) };
 }
 
 impl<A: Allocator> Plan<A> {
@@ -168,7 +181,14 @@ impl<A: Allocator> Plan<A> {
         vector: Vector<A>,
         entries: Entries<A>,
     ) -> Plan<A>
-        ensures { result ≡ record { user = user; number = number; certificate = certificate; vector = vector; entries = entries } }
+        ensures { result ≡ record {
+          user = user;
+          number = number;
+          certificate = certificate;
+          vector = vector;
+          entries
+              = entries;
+        } }
     {
         let _user = user.get();
         let _number = number.get();

@@ -1,15 +1,19 @@
 //! Vectors of versions.
 
-ghost use Rattle.std.specs.Prelude.{◌≡◌, ◌≢◌, ◌==◌, ℕ, if◌then◌else◌, IfErr, ◌<◌, ◌≤◌, ◌↔◌, ◌+◌, ◌++◌, Option, OnOk, OnErr, IfOk, IsTrue, MatchResult, [], length};
+ghost use Rattle.std.specs.Prelude.{◌≡◌, ◌≢◌, ◌==◌, ℕ, if◌then◌else◌, IfErr, ◌<◌, ◌≤◌, ◌↔◌, ◌+◌, ◌++◌, Option, OnOk};
+ghost use Rattle.std.specs.Prelude.{OnErr, IfOk, IsTrue, MatchResult, [], length};
 ghost use Rattle.std.specs.Option.{option_copied};
 ghost use Rattle.layout.specs.Format.{Reads};
 ghost use Rattle.std.specs.Ordering.{nat_cmp};
+ghost use Rattle.layout.specs.declared.ranges.TheConstants.{LAST_VERSION};
 ghost use Rattle.layout.specs.Ascending.{Stands, IsFree};
-ghost use Rattle.version_order.specs.Vector.{principal_of, vector, component, version_of, raised, depth, user_version, is_below};
+ghost use Rattle.version_order.specs.Vector.{principal_of, vector, component, version_of, raised, depth, user_version};
+ghost use Rattle.version_order.specs.Vector.{is_below};
 
 use crate::error::PlanError;
 use layout::{
-    Memory, Principal, ReadError, Reader, RowFormat, Text, Version, Writer, read_rows, write_rows,
+    Memory, Principal, ReadError, Reader, RowFormat, Text, USER_COUNT, Version, Writer, read_rows,
+    write_rows,
 };
 use std::alloc::Allocator;
 use std::marker::Model;
@@ -92,9 +96,9 @@ impl Component {
     /// What it adds to the depth.
     fn user_version(&self) -> u64
         ensures same { result ≡ user_version self.now }
-        ensures range { result ≤ 4294967295 }
+        ensures range { result ≤ LAST_VERSION }
     {
-        if self.principal.get() < 64 {
+        if self.principal.get() < USER_COUNT {
             u64::from(self.version.get())
         } else {
             0
@@ -116,7 +120,8 @@ fn depth_of(components: &[Component]) -> u64
 /// Where a principal stands, or where it would stand.
 fn find(components: &[Component], principal: Principal) -> Result<usize, usize>
     requires { vector.Fits components.now }
-    ensures { MatchResult result (Stands nat_cmp principal_of components.now principal) (IsFree nat_cmp principal_of components.now principal) }
+    ensures { MatchResult result (Stands nat_cmp principal_of components.now principal)
+        (IsFree nat_cmp principal_of components.now principal) }
 {
     components.binary_search_by_key(&principal.get(), |component| component.principal.get())
 }
@@ -164,8 +169,8 @@ fn raise<A: Allocator>(
 ) -> Result<(), PlanError>
     requires { vector.Fits components.old.items }
     ensures ok { OnOk result (components.new.items ≡ raised principal components.old.items) }
-    ensures within { OnOk result (version_of principal components.old.items < 4294967295) }
-    ensures limit { (result ≡ Err PlanError.Limit) ↔ (version_of principal components.old.items ≡ 4294967295) }
+    ensures within { OnOk result (version_of principal components.old.items < LAST_VERSION) }
+    ensures limit { (result ≡ Err PlanError.Limit) ↔ (version_of principal components.old.items ≡ LAST_VERSION) }
     ensures no_memory { 0 < version_of principal components.old.items → IfErr result (λ e. e ≢ PlanError.Memory) }
     ensures err { OnErr result (components.new.items ≡ components.old.items) }
 {
@@ -226,10 +231,11 @@ impl<A: Allocator> Vector<A> {
     /// Adds one to the version of a principal. After an error the vector is as before.
     pub fn raise(&mut self, principal: Principal) -> Result<(), PlanError>
         ensures ok { OnOk result (self.new ≡ raised principal self.old) }
-        ensures within { OnOk result (version_of principal self.old < 4294967295) }
-        ensures limit { (result ≡ Err PlanError.Limit) ↔ (version_of principal self.old ≡ 4294967295) }
+        ensures within { OnOk result (version_of principal self.old < LAST_VERSION) }
+        ensures limit { (result ≡ Err PlanError.Limit) ↔ (version_of principal self.old ≡ LAST_VERSION) }
         // The principal has one more, and each other what it had.
-        ensures versions { OnOk result ((p : ℕ) → version_of p self.new ≡ version_of p self.old + (if principal == p then 1 else 0)) }
+        ensures versions { OnOk result ((p : ℕ)
+            → version_of p self.new ≡ version_of p self.old + (if principal == p then 1 else 0)) }
         // One that is listed takes no memory.
         ensures no_memory { 0 < version_of principal self.old → IfErr result (λ e. e ≢ PlanError.Memory) }
         ensures err { OnErr result (self.new ≡ self.old) }

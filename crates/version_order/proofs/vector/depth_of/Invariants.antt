@@ -4,4 +4,8 @@ use Rattle.version_order.proofs.vector.depth_of.Given as goal
 
 abbrev pub invariant-loop-component : goal.invariant-loop-component
 invariant-loop-component l =
-    record { so_far : l.sum ≡ depth (take l.component-index l.components); bound : l.sum ≤ 4294967295 * l.component-index }
+    record {
+      so_far : l.sum ≡ depth (take l.component-index l.components);
+      bound : l.sum ≤ 4294967295 *
+          l.component-index;
+    }

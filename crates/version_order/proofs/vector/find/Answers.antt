@@ -13,4 +13,5 @@ returns c =
     let facts = c.binary_search_by_key.ensures in
     let by_number = facts.position principal_of (answers_always _ _ _ (λ f a r g called. search rules)) in
     let at = rw c.get.ensures.same at by_number in
-    searched nat_cmp principal_of nat_cmp_total c.args.components.now (listed_of c.args.components.now c.requires).1 c.args.principal _ facts.bound at
+    searched nat_cmp principal_of nat_cmp_total c.args.components.now (listed_of c.args.components.now c.requires).1
+    c.args.principal _ facts.bound at
