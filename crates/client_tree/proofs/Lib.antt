@@ -1,9 +1,5 @@
 pub mod HeldLaws
-pub mod Firsts
-pub mod TableLaws
-pub mod LookLaws
-pub mod ViewLaws
-pub mod OpenedLaws
-pub mod TreeLaws
-pub mod WrittenLaws
 pub mod LostLaws
+pub mod TableLaws
+pub mod TreeLaws
+pub mod LookLaws

@@ -1,8 +1,5 @@
 pub mod Held
-pub mod Genesis
 pub mod Tables
-pub mod View
-pub mod Opened
-pub mod Tree
 pub mod Lost
+pub mod Tree
 pub mod Seen

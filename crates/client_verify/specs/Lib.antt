@@ -1,3 +1,4 @@
+pub mod Genesis
 pub mod FirstBroken
 pub mod State
 pub mod Judged

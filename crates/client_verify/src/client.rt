@@ -1,6 +1,6 @@
 //! The client.
 
-ghost use Rattle.std.specs.Prelude.{◌≡◌, ◌≢◌, ◌+◌, ◌<◌, ◌≤◌, Some, IfOk, IfErr, IsErrOf, IfSome, IsOk, OnOk, OnErr, IsSome, IsSomeAnd, IsTrue, ◌↔◌, true, false, length, map};
+ghost use Rattle.std.specs.Prelude.{◌≡◌, ◌≢◌, ◌+◌, ◌<◌, ◌≤◌, Some, IfOk, IfErr, IsErrOf, IfSome, IsOk, OnOk, OnErr, IsSome, IsSomeAnd, IsTrue, ◌↔◌, true, length, map};
 ghost use Rattle.std.specs.Option.{option_copied, option_map};
 ghost use Rattle.std.specs.Vec.{vec_items};
 ghost use Rattle.principals.specs.Table.{genesis};
@@ -11,16 +11,17 @@ ghost use Rattle.client_verify.specs.Laid.{are_laid};
 use crate::asked::Asked;
 use crate::checking::check;
 use crate::error::ClientError;
-use crate::growing::{Shown, Written, show, show_with, write, write_with};
-use crate::lists::{Lists, with_own};
+use crate::genesis::first_blocks;
+use crate::growing::{Grown, Sight, grow, grow_with, see, see_with};
+use crate::lists::Lists;
 use crate::look::Look;
 use crate::phase::Phase;
 use crate::signing::{Sealed, seal};
 use crate::step::Step;
 use crate::structure::{SignedOver, sign_over};
 use crate::verdict::judge;
-use crate::view::{AcceptedView, Checked, Looking, Ready};
-use client_tree::{Held, Seen, Stored, first_blocks};
+use crate::view::{Checked, Looking, Ready, View};
+use client_tree::{Held, Outcome, Seen};
 use layout::{Digest, INumber, Memory, Principal, Text, User, Version};
 use lms_sign::{LEAF_COUNT, PrivateKey, PublicKey};
 use pending_list::{Signed, digest_of_last};
@@ -47,7 +48,7 @@ pub struct Client<A: Allocator> {
     blocks: Held<A>,
     checked: Option<Checked<A>>,
     accepted: Option<Ready<A>>,
-    view: Option<AcceptedView<A>>,
+    view: Option<View<A>>,
 }
 
 impl<A: Allocator> Model for Client<A> {
@@ -78,12 +79,14 @@ impl<A: Allocator> Model for Client<A> {
 impl<A: Allocator + Copy> Client<A> {
     ghost use Rattle.std.specs.Prelude.{ℕ, List};
     ghost use Rattle.itable.specs.File.{NoneCollide};
-    ghost use Rattle.update_cert.specs.World.{genesis as first_tree, File, is_table};
+    ghost use Rattle.principals.specs.Table.{genesis as first_users};
+    ghost use Rattle.update_cert.specs.World.{genesis as first_tree, File};
     ghost use Rattle.update_cert.specs.Reading.{Reading};
     ghost use Rattle.itable.specs.ITable.{digest_at};
     ghost use Rattle.update_cert.specs.Blocks.{Agrees};
     ghost use Rattle.client_tree.specs.Held.{held};
-    ghost use Rattle.client_tree.specs.Genesis.{first_table, first_texts, table_text};
+    ghost use Rattle.client_tree.specs.Tree.{tree_of};
+    ghost use Rattle.client_verify.specs.Genesis.{first_table, first_texts, table_text};
     ghost use Rattle.client_verify.specs.State.{initial};
 
     /// A client of this user before its first operation. User 0's public key is known to every client. Memory is wanted for
@@ -95,16 +98,16 @@ impl<A: Allocator + Copy> Client<A> {
         pinned: PublicKey,
     ) -> Result<Client<A>, Memory>
         ensures state { IfOk result (λ client. client ≡ initial user key.seed key.id pinned) }
-        // What the i-tables of the beginning have is the tree of the beginning, unless two texts of it have one digest.
-        ensures genesis { IfOk result (λ client. NoneCollide (first_texts pinned) (first_texts pinned)
+        // What it has is the user's part of the tree of the beginning, unless two texts of the beginning have one digest.
+        ensures genesis { IfOk result (λ client. NoneCollide (first_texts user pinned) (first_texts user pinned)
             → (reads : Reading) → Agrees (held client.blocks) reads
-            → (p i : ℕ) → is_table p i ≡ false → option_map reads.content (digest_at (first_table p pinned) i) ≡ first_tree pinned p i) }
+            → (i : ℕ) → tree_of reads (first_users pinned) (first_table user pinned) user i ≡ first_tree pinned user i) }
         // The table of principals lies in its text, a file.
-        ensures table_file { IfOk result (λ client. NoneCollide (first_texts pinned) (first_texts pinned)
+        ensures table_file { IfOk result (λ client. NoneCollide (first_texts user pinned) (first_texts user pinned)
             → (reads : Reading) → Agrees (held client.blocks) reads
-            → option_map reads.content (digest_at (first_table 0 pinned) 1) ≡ Some (File (table_text pinned))) }
+            → user ≡ 0 → option_map reads.content (digest_at (first_table user pinned) 1) ≡ Some (File (table_text pinned))) }
     {
-        let blocks = first_blocks(alloc, pinned.as_bytes())?;
+        let blocks = first_blocks(alloc, user, pinned.as_bytes())?;
         Ok(Client {
             alloc,
             user,
@@ -203,10 +206,10 @@ impl<A: Allocator + Copy> Client<A> {
     /// The numbers, from 1 and ascending, of the changes of the own operation that had no effect in the accepted view.
     pub fn lost(&self) -> &[u8]
         requires { IsSome self.now.view }
-        ensures { IsSomeAnd self.now.view (λ v. v.lost ≡ result.now) }
+        ensures { IsSomeAnd self.now.view (λ v. v.tree.lost ≡ result.now) }
     {
         match &self.view {
-            Some(view) => &view.lost,
+            Some(view) => view.tree.lost(),
             None => &[],
         }
     }
@@ -247,9 +250,9 @@ fn told<A: Allocator>(seen: Seen<A>) -> Look<A>
 
 impl<A: Allocator + Copy> Client<A> {
     ghost use Rattle.client_tree.specs.Held.{held};
-    ghost use Rattle.client_verify.specs.State.{block_breaks, declared, committed, next_cert, sent, signed_over, view_over};
+    ghost use Rattle.client_verify.specs.State.{block_breaks, declared, committed, next_cert, sent, signed_over, last_handle};
     ghost use Rattle.client_verify.specs.Judged.{Goes, Judged, Handed};
-    ghost use Rattle.client_verify.specs.Grown.{IsAnswer, IsWritten};
+    ghost use Rattle.client_verify.specs.Grown.{IsGrown, IsSight};
     ghost use Rattle.client_verify.specs.Looked.{Looked, Given};
 
     /// The number of the next operation, where a leaf is left.
@@ -315,29 +318,21 @@ impl<A: Allocator + Copy> Client<A> {
     }
 
     /// Goes on with a reply whose lists break no rule: a block is asked for, or the reply is accepted.
-    fn go(&mut self, lists: Lists<A>, written: Written<A>) -> Step<A>
-        requires { IsWritten (held self.old.blocks) (view_over self.old.pinned lists) written }
+    fn go(&mut self, lists: Lists<A>, grown: Grown<A>) -> Step<A>
+        requires { IsGrown (held self.old.blocks) (last_handle self.old) lists.own.cert grown }
         ensures { Goes self.old lists result self.new }
     {
-        match written {
-            Written::Lacks(asked) => {
+        match grown {
+            Grown::Lacks(asked) => {
                 let digest = asked.digest;
                 self.checked = Some(Checked { lists, asked });
                 self.accepted = None;
                 Step::Need(digest)
             }
-            Written::Part(part, lost) => {
-                let Stored {
-                    principal: _,
-                    handle,
-                    texts,
-                } = part;
+            Grown::Stands(outcome) => {
+                let Outcome { tree, texts } = outcome;
                 self.checked = None;
-                self.accepted = Some(Ready {
-                    lists,
-                    handle,
-                    lost,
-                });
+                self.accepted = Some(Ready { lists, tree });
                 Step::Store(texts)
             }
         }
@@ -364,11 +359,18 @@ impl<A: Allocator + Copy> Client<A> {
             Err(rule) => return Ok(Step::Broken(rule)),
         };
         // Its last pending certificate is the own one.
-        let Some(lists) = Lists::of(reply) else {
+        let Some(lists) = Lists::of(reply)? else {
             unreachable!()
         };
-        let written = write(self.alloc, &self.pinned, &lists, &self.blocks)?;
-        Ok(self.go(lists, written))
+        let grown = grow(
+            self.alloc,
+            self.user,
+            &self.pinned,
+            self.last.as_ref(),
+            lists.own().cert(),
+            &self.blocks,
+        )?;
+        Ok(self.go(lists, grown))
     }
 
     /// Takes the block that the reply under check asks for, or its absence. Only want of memory is an error.
@@ -389,10 +391,12 @@ impl<A: Allocator + Copy> Client<A> {
             Ok(text) => text,
             Err(rule) => return Ok(Step::Broken(rule)),
         };
-        let written = write_with(
+        let grown = grow_with(
             self.alloc,
+            self.user,
             &self.pinned,
-            &checked.lists,
+            self.last.as_ref(),
+            checked.lists.own().cert(),
             &self.blocks,
             digest,
             text,
@@ -402,7 +406,7 @@ impl<A: Allocator + Copy> Client<A> {
         let Some(checked) = self.checked.take() else {
             unreachable!()
         };
-        Ok(self.go(checked.lists, written))
+        Ok(self.go(checked.lists, grown))
     }
 
     /// Signs the structure over the accepted reply, and gives it as it is sent. From here on the view is accepted. It
@@ -418,18 +422,17 @@ impl<A: Allocator + Copy> Client<A> {
         if self.leaf >= LEAF_COUNT {
             return Err(ClientError::NoLeaf);
         }
-        let Some(ready) = &self.accepted else {
-            unreachable!()
+        let over = match &self.accepted {
+            Some(ready) => sign_over(
+                self.alloc,
+                &self.key,
+                self.leaf,
+                ready.tree.handle(),
+                self.last.as_ref(),
+                ready.lists.own().plan(),
+            )?,
+            None => unreachable!(),
         };
-        let copies = ready.lists.copies(self.alloc)?;
-        let over = sign_over(
-            self.alloc,
-            &self.key,
-            self.leaf,
-            ready.handle,
-            self.last.as_ref(),
-            ready.lists.own().plan(),
-        )?;
         let Some(ready) = self.accepted.take() else {
             unreachable!()
         };
@@ -444,10 +447,9 @@ impl<A: Allocator + Copy> Client<A> {
         self.phase = Phase::Signed;
         self.text = kept;
         self.checked = None;
-        self.view = Some(AcceptedView {
-            lists: ready.lists,
-            structures: with_own(copies, shown),
-            lost: ready.lost,
+        self.view = Some(View {
+            structures: ready.lists.with_own(shown),
+            tree: ready.tree,
             looking: None,
         });
         Ok(sent)
@@ -461,31 +463,24 @@ impl<A: Allocator + Copy> Client<A> {
         ensures only_memory { IfErr result (λ e. e ≡ ClientError.Memory) }
         ensures err { OnErr result (self.new ≡ self.old) }
     {
-        let Some(view) = &self.view else {
-            unreachable!()
+        let sight = match &self.view {
+            Some(view) => see(self.alloc, &view.tree, principal, i_number, &self.blocks)?,
+            None => unreachable!(),
         };
-        let shown = show(
-            self.alloc,
-            &self.pinned,
-            &view.lists,
-            principal,
-            i_number,
-            &self.blocks,
-        )?;
-        Ok(self.answer(principal, i_number, shown))
+        Ok(self.show(principal, i_number, sight))
     }
 
     /// Goes on with a look: a block is asked for, or it is over.
-    fn answer(&mut self, principal: Principal, i_number: INumber, shown: Shown<A>) -> Look<A>
+    fn show(&mut self, principal: Principal, i_number: INumber, sight: Sight<A>) -> Look<A>
         requires view { IsSome self.old.view }
-        requires shown { IfSome self.old.view (λ v. IsAnswer (held self.old.blocks) (view_over self.old.pinned v.lists) principal i_number shown) }
+        requires sight { IfSome self.old.view (λ v. IsSight (held self.old.blocks) v.tree.table principal i_number sight) }
         ensures { IfSome self.old.view (λ v. Looked self.old v principal i_number result self.new) }
     {
         let Some(view) = &mut self.view else {
             unreachable!()
         };
-        match shown {
-            Shown::Lacks(asked) => {
+        match sight {
+            Sight::Lacks(asked) => {
                 let digest = asked.digest;
                 view.looking = Some(Looking {
                     principal,
@@ -494,7 +489,7 @@ impl<A: Allocator + Copy> Client<A> {
                 });
                 Look::Need(digest)
             }
-            Shown::Sees(seen) => {
+            Sight::Sees(seen) => {
                 view.looking = None;
                 told(seen)
             }
@@ -522,10 +517,9 @@ impl<A: Allocator + Copy> Client<A> {
             Ok(text) => text,
             Err(rule) => return Ok(Look::Broken(rule)),
         };
-        let shown = show_with(
+        let sight = see_with(
             self.alloc,
-            &self.pinned,
-            &view.lists,
+            &view.tree,
             looking.principal,
             looking.i_number,
             &self.blocks,
@@ -534,7 +528,7 @@ impl<A: Allocator + Copy> Client<A> {
         )?;
         let copy = Vec::from_slice(self.alloc, text)?;
         self.blocks.keep_as(digest, copy)?;
-        Ok(self.answer(looking.principal, looking.i_number, shown))
+        Ok(self.show(looking.principal, looking.i_number, sight))
     }
 
     /// Takes the server's answer to the structure: with status 0 the operation is over, and any other changes nothing.

@@ -6,6 +6,7 @@ mod asked;
 mod checking;
 mod client;
 mod error;
+mod genesis;
 mod growing;
 mod laid;
 mod lists;

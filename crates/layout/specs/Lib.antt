@@ -1,5 +1,4 @@
 pub mod Ascending
-pub mod AscendingKeys
 pub mod AscendingLaws
 pub mod Format
 pub mod Fronts

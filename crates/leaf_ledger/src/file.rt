@@ -28,9 +28,9 @@ pub struct FileDevice<A: Allocator> {
 }
 
 impl<A: Allocator> Model for FileDevice<A> {
-    ghost use Rattle.leaf_ledger.specs.Recording.{FileState};
+    ghost use Rattle.leaf_ledger.specs.Recording.{MemoryState};
 
-    ghost Value = { FileState };
+    ghost Value = { MemoryState };
 
     ghost view = { λ f. record { history = f.kept; faults = f.faults } };
 }

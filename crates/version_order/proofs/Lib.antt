@@ -1,2 +1,0 @@
-pub mod Raising
-pub mod SideBySide

@@ -1,3 +1,4 @@
 pub mod Vector
+pub mod VectorLaws
 pub mod Plan
 pub mod Structure
