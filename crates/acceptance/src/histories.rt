@@ -92,7 +92,8 @@ const NEXT_HANDLE: [u8; 32] = *b"\
     \x74\xa0\x47\xd5\x5f\xa7\x14\xb9\x2f\x2f\x8d\x61\xd4\xcf\xd7\xd8";
 
 static FOUR: [Operation; 4] = [
-    // A look at the file asks for nothing, since the client laid it out, and one at the directory for its two texts.
+    // A look at the file asks for nothing, since the client laid it out, and one at the directory neither, since the client
+    // has its entries from the change.
     Operation {
         deeds: FIRST,
         asked: &[],
@@ -108,13 +109,13 @@ static FOUR: [Operation; 4] = [
             Sight {
                 number: 2,
                 seen: Seen::DirectoryOfF,
-                asked: &[OF_F_INODE, OF_F],
+                asked: &[],
             },
         ],
     },
     Operation {
         deeds: SECOND,
-        asked: &[ROOT, CHUNK],
+        asked: &[ROOT, CHUNK, OF_F_INODE, OF_F],
         stored: &[NEXT_CHUNK, NEXT_ROOT],
         lost: &[1, 3, 4],
         handle: NEXT_HANDLE,
@@ -333,6 +334,7 @@ fn broken_reply_before_the_blocks(rt: HostRuntime) {
 fn another_look_in_the_place_of_one(rt: HostRuntime) {
     let mut world = new_world(&rt, true);
     let _texts = operate(&rt, &mut world, of_deeds(&rt, FIRST));
+    let _none = operate(&rt, &mut world, of_deeds(&rt, &[]));
     let look = look_at(&rt, &mut world, 2);
     check(&rt, matches!(look, Look::Need(_)), "a block is asked for");
     check(&rt, world.client.looking(), "the look is under way");

@@ -2,13 +2,17 @@
 
 use crate::time::{Time, compress, share};
 use anyhow::{Result, anyhow};
-use client_tree::{Held, Seen, Tree};
+use client_tree::{Held, Seen, View, read_table};
 use itable::{ITable, Laid, lay_file};
 use layout::{Digest, INumber, Principal, User, Version, digest};
+use lms_sign::PublicKey;
+use pending_list::{PendingItem, Signature, Signed};
+use principals::Table;
 use std::alloc::Global;
 use std::rt::Clock;
 use std::time::Instant;
 use update_cert::{ApplyError, Blocks, Cert};
+use version_order::{Entries, GroupRecords, Plan, Structure, Vector};
 
 /// The least of so many rounds counts, each in compressions of its own round.
 const ROUNDS: u32 = 3;
@@ -68,25 +72,99 @@ fn hand(
     Ok(())
 }
 
-/// The tree of a handle.
-fn tree_of(alloc: Global, store: &Held<Global>, handle: Digest) -> Result<Tree<Global>> {
+/// A key of user 0's, under which nothing is signed.
+fn key() -> Result<PublicKey> {
+    let mut bytes = [0; 56];
+    bytes[3] = 6;
+    bytes[7] = 3;
+    PublicKey::from_bytes(bytes).ok_or(anyhow!("no key"))
+}
+
+/// A plan of user 0's, of no certificate.
+fn plan_of(alloc: Global) -> Plan<Global> {
+    Plan::new(
+        User::superuser(),
+        Version::first(),
+        Digest::from_bytes([0; 32]),
+        Vector::new(alloc),
+        Entries::new(alloc),
+    )
+}
+
+/// What nobody signed.
+fn unsigned<T>(value: T) -> Signed<T> {
+    Signed {
+        value,
+        signature: Signature::from_bytes([0; 2508]),
+    }
+}
+
+/// What a reply shows: a structure, the own operation, which has no changes, and the table of principals.
+#[derive(Drop)]
+struct Shown {
+    structures: Vec<Signed<Structure<Global>>>,
+    own: PendingItem<Global>,
+    table: Table<Global>,
+    key: PublicKey,
+}
+
+/// What shows user 0's structure with this handle.
+fn shown_of(alloc: Global, handle: Digest) -> Result<Shown> {
+    let structure = Structure::new(plan_of(alloc), handle, GroupRecords::new(alloc));
+    let mut structures = Vec::new(alloc);
+    structures.push(unsigned(structure))?;
     let cert = Cert::new(
         User::superuser(),
         Version::first(),
         Digest::from_bytes([0; 32]),
         Vec::new(alloc),
     );
-    Ok(Tree::of(alloc, handle, &cert, store)?.tree)
+    let own = PendingItem::new(unsigned(cert), plan_of(alloc));
+    let key = key()?;
+    let table = Table::genesis(alloc, key);
+    Ok(Shown {
+        structures,
+        own,
+        table,
+        key,
+    })
+}
+
+/// The view of it.
+fn view(shown: &Shown) -> View<'_, Global> {
+    View::new(
+        shown.key.as_bytes(),
+        &shown.table,
+        &shown.structures,
+        &[],
+        &shown.own,
+    )
+}
+
+/// The blocks of the i-table of this handle, which are held before the look.
+fn table_blocks(alloc: Global, store: &Held<Global>, handle: Digest) -> Result<Held<Global>> {
+    let mut held = Held::empty(alloc);
+    for _ in 0..u32::MAX {
+        match read_table(alloc, &held, owner(), handle) {
+            Ok(_) => break,
+            Err(error) => hand(alloc, store, &mut held, wanted(error)?)?,
+        }
+    }
+    Ok(held)
 }
 
 /// Looks until no block of the file is missing: its size.
-fn look(alloc: Global, tree: &Tree<Global>, store: &Held<Global>) -> Result<usize> {
-    let mut held = Held::empty(alloc);
+fn look(
+    alloc: Global,
+    shown: &Shown,
+    held: &mut Held<Global>,
+    store: &Held<Global>,
+) -> Result<usize> {
     for _ in 0..u32::MAX {
-        match tree.look(alloc, &held, owner(), INumber::table()) {
+        match view(shown).look(alloc, held, owner(), INumber::table()) {
             Ok(Seen::File(bytes)) => return Ok(bytes.len()),
             Ok(_) => break,
-            Err(error) => hand(alloc, store, &mut held, wanted(error)?)?,
+            Err(error) => hand(alloc, store, held, wanted(error)?)?,
         }
     }
     Ok(0)
@@ -96,9 +174,10 @@ fn measure(rt: &HostRuntime, blocks: u32) -> Result<(Time, usize)> {
     let alloc = rt.alloc();
     let (unit, _digest) = compress(rt)?;
     let (store, handle) = store_of(alloc, blocks)?;
-    let tree = tree_of(alloc, &store, handle)?;
+    let shown = shown_of(alloc, handle)?;
+    let mut held = table_blocks(alloc, &store, handle)?;
     let start = Instant::now(rt)?;
-    let size = look(alloc, &tree, &store)?;
+    let size = look(alloc, &shown, &mut held, &store)?;
     let needed = blocks.saturating_mul(BLOCK);
     Ok((Time::new(start.elapsed(rt)?, needed, unit), size))
 }

@@ -4,14 +4,14 @@ use Rattle.std.proofs.lemmas.List.{append_assoc, append-nil, take_at, drop_at, t
 use Rattle.leaf_ledger.specs.Device.{Disk, History, Torn, Throughout, extent, at_rest, written, wrote_bytes, WroteSome, synced}
 use Rattle.leaf_ledger.specs.Moments.{along, weakened, some_put, all_put}
 use Rattle.leaf_ledger.specs.declared.extent.Extent.{Extent}
-use Rattle.client_journal.specs.Records.{Record, State, Idle, Declared, Signed, next_state, may_come, header, spelled, chain, records_of, TellsWithOrWithout, IsShort}
+use Rattle.client_journal.specs.Records.{Record, State, Idle, Declared, Signed, next_state, may_come, header, spelled, chain, Tells, TellsWithOrWithout, IsShort}
 use Rattle.client_journal.specs.Places.{part, state_at, IsBelow, AreBelow, Reaches, Ends, IsReady, KeepsFront}
 use Rattle.client_journal.specs.declared.phase.Phase.{Phase}
 use Rattle.client_journal.specs.declared.phase.Phase.TheVariants as phase
 use Rattle.client_journal.specs.declared.kind.Kind.{Kind}
 use Rattle.client_journal.specs.declared.kind.Kind.TheVariants.{Certificate, Structure}
 use Rattle.client_journal.proofs.Headers.{length-header, length-spelled}
-use Rattle.client_journal.proofs.Chains.{state-push, short-push, chain-push}
+use Rattle.client_journal.proofs.Chains.{state-push, short-push, chain-push, one_telling}
 use Rattle.client_journal.proofs.Reached.{below_later, split, ended}
 use Rattle.client_journal.proofs.Staged.{more, kept_front, tells_staged, after_is, torn_gate, tells_after}
 
@@ -31,7 +31,7 @@ state_same a b end (phase.Declared (Some structure) certificate) below same =
 state_same a b end (phase.Signed structure) below same = ap (λ (l : List ℕ). Signed l) (part_same a b end structure below same)
 
 -- a record that may come isn't out of turn
-pub not_out : (s : State) (kind : Kind) (text : List ℕ) → may_come kind (Some s) ≡ true → next_state s kind text ≡ None → ⊥
+pub not_out : (s : State) (kind : Kind) (text : List ℕ) → may_come kind s ≡ true → next_state s kind text ≡ None → ⊥
 not_out Idle Certificate text may out = absurd (cc out)
 not_out Idle Structure text may out = absurd (cc may)
 not_out (Declared last certificate) Certificate text may out = absurd (cc may)
@@ -111,20 +111,20 @@ module _ (old : History) (gate : ℕ) (at : Phase) (ready : IsReady old.now gate
   P = TellsWithOrWithout rs r
 
   -- these are the records before
-  pub told_before : records_of file ≡ Some rs
+  pub told_before : Tells rs file
   told_before = ended file gate at reaches ready.ends.shut
 
   -- and so they are whatever they are called
-  pub at_any : (X : List Record → Type 0) → X rs → (l : List Record) → records_of old.now.text ≡ Some l → X l
-  at_any X here l tells = let same : Some rs ≡ Some l = sym told_before ∙ tells in let one : rs ≡ l = cc in subst X one here
+  pub at_any : (X : List Record → Type 0) → X rs → (l : List Record) → Tells l old.now.text → X l
+  at_any X here l tells = subst X (one_telling file rs l told_before tells) here
 
-  pub kept : (l : List ℕ) → KeepsFront (gate + 1) file l → records_of l ≡ Some rs
+  pub kept : (l : List ℕ) → KeepsFront (gate + 1) file l → Tells rs l
   kept = kept_front file rs state gate g tail parts reaches.size ready.ends.shut reaches.state reaches.short
 
   pub first : (mid : History) → Throughout (KeepsFront (gate + 1) file) old mid → Throughout (TellsWithOrWithout rs r) old mid
   first mid all = weakened (KeepsFront (gate + 1) file) P old mid (λ l same. inl (kept l same)) all
 
-  pub told_after : records_of new_file ≡ Some (rs ++ r ∷ [])
+  pub told_after : Tells (rs ++ r ∷ []) new_file
   told_after = tells_after file rs state gate g tail parts reaches.size ready.ends.shut reaches.state reaches.short r (state_at new_file next) in_turn small
 
   -- after the sync
@@ -148,8 +148,25 @@ module _ (old : History) (gate : ℕ) (at : Phase) (ready : IsReady old.now gate
       pub new_disk : new.now ≡ at_rest new_file
       new_disk = ap (λ (h : History). h.now) is ∙ ap (λ (d : Disk). at_rest (written gate (1 ∷ []) d.text)) rest
 
-      pub appended : records_of new.now.text ≡ Some (rs ++ r ∷ [])
-      appended = ap (λ (d : Disk). records_of d.text) new_disk ∙ told_after
+      pub appended : Tells (rs ++ r ∷ []) new.now.text
+      appended = subst (λ (d : Disk). Tells (rs ++ r ∷ []) d.text) (sym new_disk) told_after
+
+      -- the records and a closed gate, over what stood there
+      pub laid : new.now.text ≡ written 0 (chain (rs ++ r ∷ []) ++ 0 ∷ []) file
+      unfolding more
+      laid =
+          ap (λ (d : Disk). d.text) new_disk
+          ∙ new_is
+          ∙ sym (chain-push rs r (0 ∷ left))
+          ∙ sym (append_assoc (chain (rs ++ r ∷ [])) (0 ∷ []) left)
+          ∙ ap (λ (l : List ℕ). (chain (rs ++ r ∷ []) ++ 0 ∷ []) ++ l) behind
+        where
+          size : gate + 1 + length (spelled r ++ 0 ∷ []) ≡ 0 + length (chain (rs ++ r ∷ []) ++ 0 ∷ [])
+          size =
+              omega (arith, reaches.size, ap length (chain-push rs r (0 ∷ [])), length-append (chain rs) (1 ∷ (spelled r ++ 0 ∷ [])))
+
+          behind : left ≡ drop (0 + length (chain (rs ++ r ∷ []) ++ 0 ∷ [])) file
+          behind = ap (λ (k : ℕ). drop k file) size
 
       pub done : Throughout (TellsWithOrWithout rs r) old new
       done =
@@ -165,7 +182,7 @@ module _ (old : History) (gate : ℕ) (at : Phase) (ready : IsReady old.now gate
 
           size : length (chain (rs ++ r ∷ [])) ≡ end
           size =
-              omega (arith, ap length (sym (append-nil (chain (rs ++ r ∷ []))) ∙ chain-push rs r []), length-append (chain rs) (1 ∷ (spelled r ++ [])), append-nil (spelled r), ap length (append-nil (spelled r)), length-spelled r, reaches.size)
+              omega (arith, ap length (sym (append-nil (chain (rs ++ r ∷ []))) ∙ chain-push rs r []), length-append (chain rs) (1 ∷ (spelled r ++ [])), ap length (append-nil (spelled r)), length-spelled r, reaches.size)
 
           after : drop end new_file ≡ 0 ∷ left
           after = ap (λ (l : List ℕ). drop end l) records_is ∙ drop_at (chain (rs ++ r ∷ [])) (0 ∷ left) end size

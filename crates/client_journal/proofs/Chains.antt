@@ -1,43 +1,9 @@
--- The records of a chain are those that were chained.
-use Rattle.std.proofs.Common.{◌≡◌, ◌≢◌, ℕ, zero, suc, ◌+◌, ◌-◌, ◌<◌, ◌≤◌, List, [], ◌∷◌, ◌++◌, length, true, false, eqb, leb, inl, inr, Option, Some, None, option_map, refl, sym, ◌∙◌, ap, arith}
+-- Chains of records: one more, those at the front, and that a file tells one list.
+use Rattle.std.proofs.Common.{◌≡◌, ◌≢◌, ℕ, ◌+◌, ◌<◌, ◌≤◌, List, [], ◌∷◌, ◌++◌, length, get_or, drop, inl, inr, ◌⊎◌, Option, Some, None, refl, sym, ◌∙◌, ap, subst, arith}
 use Rattle.std.specs.Option.{option_and_then}
-use Rattle.std.proofs.lemmas.Bool.{cases_lt, ne_eqb, lt-leb, le-leb}
 use Rattle.std.proofs.lemmas.List.{append-nil, append_assoc, length-append}
-use Rattle.client_journal.specs.Records.{Record, State, Idle, next_state, state_after, state_of, spelled, chain, record_at, records_from, records_of, AllShort, IsShort}
-use Rattle.client_journal.proofs.Headers.{record_again}
-
-same_option : {A : Type 0} (o : Option A) → o ≡ option_map (λ x. x) o
-same_option None = refl
-same_option (Some x) = refl
-
-prepended : (r : Record) (rs : List Record) (o : Option (List Record)) → option_map (λ more. r ∷ more) (option_map (λ more. rs ++ more) o) ≡ option_map (λ more. (r ∷ rs) ++ more) o
-prepended r rs None = refl
-prepended r rs (Some more) = refl
-
--- in the state to which a record leads, if it is in turn
-with_state : (r : Record) (rs : List Record) (t : State) (o : Option State) (f : State → Option (List Record)) (all : Option (List Record)) → option_and_then (λ next. state_after next rs) o ≡ Some t
-    → ((u : State) → state_after u rs ≡ Some t → f u ≡ all) → option_and_then (λ next. option_map (λ l. r ∷ l) (f next)) o ≡ option_map (λ l. r ∷ l) all
-with_state r rs t None f all is each = absurd (cc is)
-with_state r rs t (Some u) f all is each = ap (λ (o : Option (List Record)). option_map (λ l. r ∷ l) o) (each u is)
-
--- after the records of a chain those that follow are read on
-pub records_chain : (rs : List Record) (s t : State) (n m : ℕ) (rest : List ℕ) → m ≡ length rs + n → state_after s rs ≡ Some t → AllShort rs → 0 < length rest
-    → records_from m s (chain rs ++ rest) ≡ option_map (λ more. rs ++ more) (records_from n t rest)
-records_chain [] s t n m rest is state short more =
-    let same : s ≡ t = cc in
-    let all : m ≡ n = omega (arith, is) in
-    ap (λ (k : ℕ). records_from k s rest) all ∙ ap (λ (u : State). records_from n u rest) same ∙ same_option (records_from n t rest)
-records_chain (r ∷ rs) s t n zero rest is state short more = absurd (omega (arith, is))
-records_chain (r ∷ rs) s t n (suc m) rest is state short more =
-    ap (λ (o : Option (Record × List ℕ)). option_and_then (λ x. option_and_then (λ next. option_map (λ l. x.0 ∷ l) (records_from m next x.1)) (next_state s x.0.kind x.0.text)) o) at_front
-    ∙ with_state r rs t (next_state s r.kind r.text) (λ u. records_from m u (chain rs ++ rest)) (option_map (λ l. rs ++ l) (records_from n t rest)) state
-    (λ u after. records_chain rs u t n m rest (omega (arith, is)) after short.1 more)
-    ∙ prepended r rs (records_from n t rest)
-  where
-    at_front : record_at ((spelled r ++ chain rs) ++ rest) ≡ Some (r, chain rs ++ rest)
-    at_front =
-        ap record_at (append_assoc (spelled r) (chain rs) rest)
-        ∙ record_again r short.0 (chain rs ++ rest) (omega (arith, length-append (chain rs) rest, more))
+use Rattle.client_journal.specs.Records.{Record, State, Idle, next_state, state_after, state_of, spelled, chain, AllShort, IsShort, length_told, BeginsWith, Tells, IsDamaged, IsOtherKind, IsOutOfTurn, EndsEarly}
+use Rattle.client_journal.proofs.Headers.{length-spelled, one_record, no_other_kind, record_tells_length}
 
 pushed : (o : Option State) (f g : State → Option State) (t u : State) → option_and_then f o ≡ Some t → ((v : State) → f v ≡ Some t → g v ≡ Some u) → option_and_then g o ≡ Some u
 pushed None f g t u is each = absurd (cc is)
@@ -65,42 +31,82 @@ pub no_longer : (rs : List Record) → length rs ≤ length (chain rs)
 no_longer [] = omega arith
 no_longer (r ∷ rs) = omega (arith, no_longer rs, length-append (spelled r) (chain rs))
 
--- nothing stands after a gate that isn't open
-shut_here : (n gate : ℕ) (t : State) (rest : List ℕ) → 0 < n → gate ≢ 1 → records_from n t (gate ∷ rest) ≡ Some []
-shut_here zero gate t rest some shut = absurd (omega arith)
-shut_here (suc n) gate t rest some shut = let test : eqb gate 1 ≡ false = ne_eqb gate 1 shut in rw test refl
+-- a new journal has no records
+pub none_new : (file : List ℕ) (rs : List Record) → BeginsWith rs file → length file ≤ 1 → rs ≡ []
+none_new file rs begins few = none rs (omega (arith, no_longer rs, ap length begins.split, length-append (chain rs) (begins.gate ∷ begins.rest), few))
+  where
+    none : (l : List Record) → length l ≡ 0 → l ≡ []
+    none [] is = refl
+    none (r ∷ l) is = absurd (omega (arith, is))
 
-no_records : (rs : List Record) → length rs ≡ 0 → [] ≡ rs
-no_records [] none = refl
-no_records (r ∷ rs) none = absurd (omega arith)
+pub in_new : (file : List ℕ) (rs : List Record) → Tells rs file → length file ≤ 1 → rs ≡ []
+in_new file rs (inl none) few = none.1
+in_new file rs (inr begins) few = none_new file rs begins few
 
--- how long a file with these records is
-pub length-file : (rs : List Record) (rest : List ℕ) → length rs + length rest ≤ length (chain rs ++ rest)
-length-file rs rest = omega (arith, no_longer rs, length-append (chain rs) rest)
+-- records up to a gate that isn't open begin with any records that stand at the front
+from_front : (rs front : List Record) (gate : ℕ) (rest tail : List ℕ) → gate ≢ 1 → AllShort rs → AllShort front → chain rs ++ gate ∷ rest ≡ chain front ++ tail
+    → (more : List Record) × (rs ≡ front ++ more) × (tail ≡ chain more ++ gate ∷ rest) × AllShort more
+from_front rs [] gate rest tail shut short short' is = (rs, refl, sym is, short)
+from_front [] (r ∷ front) gate rest tail shut short short' is = absurd (shut (ap (λ (l : List ℕ). get_or l 0 0) is))
+from_front (r ∷ rs) (s ∷ front) gate rest tail shut short short' is =
+    let behind : spelled r ++ (chain rs ++ gate ∷ rest) ≡ spelled s ++ (chain front ++ tail) =
+    sym (append_assoc (spelled r) (chain rs) (gate ∷ rest)) ∙ ap (λ (l : List ℕ). drop 1 l) is ∙ append_assoc (spelled s) (chain front) tail in
+    let one = one_record r s (chain rs ++ gate ∷ rest) (chain front ++ tail) short.0 short'.0 behind in
+    let all = from_front rs front gate rest tail shut short.1 short'.1 one.1 in
+    (all.0, ap (λ (x : Record). x ∷ rs) one.0 ∙ ap (λ (l : List Record). s ∷ l) all.1, all.2, all.3)
 
--- a gate that isn't open ends the records
-module _ (rs : List Record) (t : State) (gate : ℕ) (rest : List ℕ) (shut : gate ≢ 1) (state : state_of rs ≡ Some t) (short : AllShort rs) where
-  abbrev file : List ℕ
-  file = chain rs ++ gate ∷ rest
+pub one_telling : (file : List ℕ) (a b : List Record) → Tells a file → Tells b file → a ≡ b
+one_telling file a b (inl none) tells = none.1 ∙ sym (in_new file b tells none.0)
+one_telling file a b (inr begins) (inl none) = none_new file a begins none.0 ∙ sym none.1
+one_telling file a b (inr x) (inr y) =
+    let all = from_front a b x.gate x.rest (y.gate ∷ y.rest) x.shut x.short y.short (sym x.split ∙ y.split) in
+    all.1 ∙ ends all.0 all.2
+  where
+    ends : (more : List Record) → y.gate ∷ y.rest ≡ chain more ++ x.gate ∷ x.rest → b ++ more ≡ b
+    ends [] is = append-nil b
+    ends (r ∷ more) is = absurd (y.shut (ap (λ (l : List ℕ). get_or l 0 0) is))
 
-  abbrev left : ℕ
-  left = length file - length rs
+both_steps : (o : Option State) (f g : State → Option State) (s t : State) → option_and_then f o ≡ Some s → option_and_then g o ≡ Some t → ((u : State) → f u ≡ Some s → g u ≡ Some t → ⊥) → ⊥
+both_steps None f g s t a b each = absurd (cc a)
+both_steps (Some u) f g s t a b each = each u a b
 
-  some_left : 0 < left
-  some_left = omega (arith, length-file rs (gate ∷ rest))
+-- in a chain that is in turn no record is out of turn
+all_in_turn : (from s t : State) (front : List Record) (r : Record) (more : List Record) → state_after from front ≡ Some s → state_after from (front ++ r ∷ more) ≡ Some t → next_state s r.kind r.text ≡ None → ⊥
+all_in_turn from s t [] r more before after out =
+    let same : from ≡ s = cc in
+    let none : next_state from r.kind r.text ≡ None = ap (λ (x : State). next_state x r.kind r.text) same ∙ out in
+    let two : None ≡ Some t = sym (ap (λ (o : Option State). option_and_then (λ next. state_after next more) o) none) ∙ after in absurd (cc two)
+all_in_turn from s t (x ∷ front) r more before after out =
+    both_steps (next_state from x.kind x.text) (λ u. state_after u front) (λ u. state_after u (front ++ r ∷ more)) s t before after (λ u b a. all_in_turn u s t front r more b a out)
 
-  read_all : records_from (length file) Idle file ≡ Some rs
-  read_all =
-      records_chain rs Idle t left (length file) (gate ∷ rest) (omega (arith, length-file rs (gate ∷ rest))) state short (omega arith)
-      ∙ ap (λ (o : Option (List Record)). option_map (λ l. rs ++ l) o) (shut_here left gate t rest some_left shut)
-      ∙ ap (λ (l : List Record). Some l) (append-nil rs)
+pub not_both : (file : List ℕ) (rs : List Record) → Tells rs file → IsDamaged file → ⊥
+not_both file rs (inl none) damaged = absurd (omega (arith, none.0, damaged.there))
+not_both file rs (inr begins) damaged =
+    let all = from_front rs damaged.records begins.gate begins.rest (1 ∷ damaged.bytes) begins.shut begins.short damaged.short (sym begins.split ∙ damaged.split) in
+    ends all.0 all.1 all.2 all.3
+  where
+    ends : (more : List Record) → rs ≡ damaged.records ++ more → 1 ∷ damaged.bytes ≡ chain more ++ begins.gate ∷ begins.rest → AllShort more → ⊥
+    ends [] all is short = begins.shut (sym (ap (λ (l : List ℕ). get_or l 0 0) is))
+    ends (r ∷ more) all is short = wrong damaged.wrong
+      where
+        after : List ℕ
+        after = chain more ++ begins.gate ∷ begins.rest
 
-  pub shut_after : records_of (chain rs ++ gate ∷ rest) ≡ Some rs
-  unfolding records_of
-  shut_after = elim (cases_lt 1 (length file)) [
-    | inl more ↦ let test : leb (length file) 1 ≡ false = lt-leb _ _ more in rw test read_all
-    | inr few ↦
-        let test : leb (length file) 1 ≡ true = le-leb _ _ few in
-        let none : length rs ≡ 0 = omega (arith, length-file rs (gate ∷ rest), few) in
-        rw test (ap (λ (l : List Record). Some l) (no_records rs none))
-  ]
+        bytes : damaged.bytes ≡ spelled r ++ after
+        bytes = ap (λ (l : List ℕ). drop 1 l) is ∙ append_assoc (spelled r) (chain more) (begins.gate ∷ begins.rest)
+
+        some : 0 < length after
+        some = omega (arith, length-append (chain more) (begins.gate ∷ begins.rest))
+
+        turn : state_of (damaged.records ++ r ∷ more) ≡ Some begins.state
+        turn = ap state_of (sym all) ∙ begins.in_turn
+
+        wrong : IsOtherKind damaged.bytes ⊎ (IsOutOfTurn damaged.state damaged.bytes ⊎ EndsEarly damaged.bytes) → ⊥
+        wrong (inl other) = no_other_kind r after (subst (λ (l : List ℕ). IsOtherKind l) bytes other)
+        wrong (inr (inl out)) =
+            let same = one_record r out.0 after out.1 short.0 out.3 (sym bytes ∙ out.2) in
+            all_in_turn Idle damaged.state begins.state damaged.records r more damaged.in_turn turn (ap (λ (x : Record). next_state damaged.state x.kind x.text) same.0 ∙ out.4)
+        wrong (inr (inr early)) =
+            let size : length damaged.bytes ≡ 5 + length r.text + length after = omega (arith, ap length bytes, length-append (spelled r) after, length-spelled r) in
+            let told = ap length_told bytes ∙ record_tells_length r after short.0 in
+            absurd (omega (arith, early, size, told, some))

@@ -1,12 +1,10 @@
 -- What a record begins with, and a record at the front of bytes.
-use Rattle.std.proofs.Common.{◌≡◌, ℕ, ◌+◌, ◌<◌, ◌≤◌, ◌^◌, List, [], ◌∷◌, ◌++◌, length, take, drop, get_or, true, false, ltb, eqb, inl, inr, Option, Some, None, option_map, refl, sym, ◌∙◌, ap, arith, take-append-drop}
+use Rattle.std.proofs.Common.{◌≡◌, ℕ, ◌+◌, ◌<◌, ◌^◌, List, [], ◌∷◌, ◌++◌, length, take, drop, get_or, false, eqb, inl, inr, Some, None, refl, sym, ◌∙◌, ap, arith, take-append-drop}
 use Rattle.std.specs.Int.{w32, to_be_bytes, from_be_bytes}
 use Rattle.std.proofs.lemmas.Nat.{be_bytes_4, from_be_bytes-to_be_bytes_4}
-use Rattle.std.proofs.lemmas.Bool.{lt-ltb, le-ltb, cases_eq, ne_eqb}
-use Rattle.std.specs.Option.{option_and_then}
-use Rattle.std.specs.Prelude.{nat_lt, if◌then◌else◌}
-use Rattle.std.proofs.lemmas.List.{append_assoc, take_at, drop_at, drop-drop, length-append, length-take, length-drop, get_or-drop}
-use Rattle.client_journal.specs.Records.{Record, kind_of, number_of, header, header_of, record_at, spelled, IsShort}
+use Rattle.std.proofs.lemmas.Bool.{cases_eq, ne_eqb}
+use Rattle.std.proofs.lemmas.List.{append_assoc, take_at, drop_at, drop-drop, drop-take, length-append, length-take, length-drop, get_or-drop}
+use Rattle.client_journal.specs.Records.{Record, kind_of, number_of, header, spelled, length_told, IsOtherKind, IsShort}
 use Rattle.client_journal.specs.declared.kind.Kind.{Kind}
 use Rattle.client_journal.specs.declared.kind.Kind.TheVariants.{Certificate, Structure}
 
@@ -38,10 +36,6 @@ kind_takes n kind is = elim (cases_eq n 1) [
 pub cells : (bytes : List ℕ) → length bytes ≡ 5 → get_or bytes 1 0 ∷ get_or bytes 2 0 ∷ get_or bytes 3 0 ∷ get_or bytes 4 0 ∷ [] ≡ drop 1 bytes
 cells bytes size = ap (λ (l : List ℕ). drop 1 l) (five bytes size)
 
-pub reads : (bytes : List ℕ) (o : Option Kind) → kind_of (get_or bytes 0 0) ≡ o → option_map (λ kind. (kind, from_be_bytes w32 (drop 1 bytes))) o ≡ header_of bytes
-unfolding header_of
-reads bytes o is = ap (λ (o : Option Kind). option_map (λ kind. (kind, from_be_bytes w32 (drop 1 bytes))) o) (sym is)
-
 pub header_so : (bytes : List ℕ) (kind : Kind) (n : ℕ) → length bytes ≡ 5 → ((i : ℕ) → get_or bytes i 0 < 256) → kind_of (get_or bytes 0 0) ≡ Some kind → n ≡ from_be_bytes w32 (drop 1 bytes) → bytes ≡ header kind n
 unfolding header
 header_so bytes kind n size fits is number =
@@ -51,62 +45,90 @@ header_so bytes kind n size fits is number =
     ∙ ap (λ (l : List ℕ). get_or bytes 0 0 ∷ l) (cells bytes size ∙ sym rest)
     ∙ ap (λ (k : ℕ). k ∷ to_be_bytes w32 n) (kind_takes (get_or bytes 0 0) kind is)
 
-kind_and_size : (o : Option Kind) (m : ℕ) (kind : Kind) (n : ℕ) → option_map {U = Kind × ℕ} (λ k. (k, m)) o ≡ Some (kind, n) → (o ≡ Some kind) × (n ≡ m)
-kind_and_size None m kind n is = absurd (cc is)
-kind_and_size (Some k) m kind n is =
-    let pairs : ◌≡◌ {A = Kind × ℕ} (k, m) (kind, n) = cc in (ap (λ (p : Kind × ℕ). Some p.0) pairs, sym (ap (λ (p : Kind × ℕ). p.1) pairs))
-
--- five bytes that are read as a header are that header
-pub header_takes : (bytes : List ℕ) (kind : Kind) (n : ℕ) → length bytes ≡ 5 → ((i : ℕ) → get_or bytes i 0 < 256) → header_of bytes ≡ Some (kind, n) → bytes ≡ header kind n
-unfolding header_of
-header_takes bytes kind n size fits is =
-    let both = kind_and_size (kind_of (get_or bytes 0 0)) (from_be_bytes w32 (drop 1 bytes)) kind n is in
-    header_so bytes kind n size fits both.0 both.1
-
 pub length-header : (kind : Kind) (n : ℕ) → length (header kind n) ≡ 5
 unfolding header
 length-header kind n = refl
 
-pub header_again : (kind : Kind) (n : ℕ) → n < 2 ^ 32 → header_of (header kind n) ≡ Some (kind, n)
-unfolding header header_of
-header_again Certificate n small = ap (λ (m : ℕ). Some (Certificate, m)) (from_be_bytes-to_be_bytes_4 n small)
-header_again Structure n small = ap (λ (m : ℕ). Some (Structure, m)) (from_be_bytes-to_be_bytes_4 n small)
+kinds_same : (k l : Kind) → number_of k ≡ number_of l → k ≡ l
+kinds_same Certificate Certificate is = refl
+kinds_same Certificate Structure is = absurd (omega (arith, is))
+kinds_same Structure Certificate is = absurd (omega (arith, is))
+kinds_same Structure Structure is = refl
+
+-- a header says which kind and which length it is of
+pub header_same : (k l : Kind) (m n : ℕ) → m < 2 ^ 32 → n < 2 ^ 32 → header k m ≡ header l n → (k ≡ l) × (m ≡ n)
+unfolding header
+header_same k l m n small small' is = (
+  kinds_same k l (ap (λ (bytes : List ℕ). get_or bytes 0 0) is),
+  sym (from_be_bytes-to_be_bytes_4 m small) ∙ ap (λ (bytes : List ℕ). from_be_bytes w32 (drop 1 bytes)) is ∙ from_be_bytes-to_be_bytes_4 n small',
+)
 
 pub length-spelled : (r : Record) → length (spelled r) ≡ 5 + length r.text
 length-spelled r = omega (arith, length-append (header r.kind (length r.text)) r.text, length-header r.kind (length r.text))
 
-module _ (r : Record) (short : IsShort r) (rest : List ℕ) (more : 0 < length rest) where
-  whole : spelled r ++ rest ≡ header r.kind (length r.text) ++ (r.text ++ rest)
-  whole = append_assoc (header r.kind (length r.text)) r.text rest
+whole : (r : Record) (rest : List ℕ) → spelled r ++ rest ≡ header r.kind (length r.text) ++ (r.text ++ rest)
+whole r rest = append_assoc (header r.kind (length r.text)) r.text rest
 
-  front : take 5 (spelled r ++ rest) ≡ header r.kind (length r.text)
-  front = ap (λ (l : List ℕ). take 5 l) whole ∙ take_at (header r.kind (length r.text)) (r.text ++ rest) 5 (length-header r.kind (length r.text))
+-- what begins with two records begins with one
+pub one_record : (r s : Record) (a b : List ℕ) → IsShort r → IsShort s → spelled r ++ a ≡ spelled s ++ b → (r ≡ s) × (a ≡ b)
+one_record r s a b short short' is = (ap (λ (k : Kind). named k r.text) kinds.0 ∙ ap (λ (t : List ℕ). named s.kind t) texts, rests)
+  where
+    named : Kind → List ℕ → Record
+    named kind text = record { kind = kind; text = text }
 
-  text : take (length r.text) (drop 5 (spelled r ++ rest)) ≡ r.text
-  text =
-      ap (λ (l : List ℕ). take (length r.text) (drop 5 l)) whole
-      ∙ ap (λ (l : List ℕ). take (length r.text) l) (drop_at (header r.kind (length r.text)) (r.text ++ rest) 5 (length-header r.kind (length r.text)))
-      ∙ take_at r.text rest (length r.text) refl
+    both : header r.kind (length r.text) ++ (r.text ++ a) ≡ header s.kind (length s.text) ++ (s.text ++ b)
+    both = sym (whole r a) ∙ is ∙ whole s b
 
-  left : drop (5 + length r.text) (spelled r ++ rest) ≡ rest
-  left = drop_at (spelled r) rest (5 + length r.text) (length-spelled r)
+    kinds : (r.kind ≡ s.kind) × (length r.text ≡ length s.text)
+    kinds =
+        header_same r.kind s.kind (length r.text) (length s.text) short short'
+        (sym (take_at (header r.kind (length r.text)) (r.text ++ a) 5 (length-header r.kind (length r.text)))
+        ∙ ap (λ (l : List ℕ). take 5 l) both
+        ∙ take_at (header s.kind (length s.text)) (s.text ++ b) 5 (length-header s.kind (length s.text)))
 
-  -- what is spelled is read, where a gate follows
-  pub record_again : record_at (spelled r ++ rest) ≡ Some (r, rest)
-  unfolding record_at
-  record_again =
-      let test : ltb (5 + length r.text) (length (spelled r ++ rest)) ≡ true = lt-ltb _ _ (omega (arith, length-append (spelled r) rest, length-spelled r, more)) in
-      rw (front, header_again r.kind (length r.text) short, test, text, left) refl
+    behind : r.text ++ a ≡ s.text ++ b
+    behind =
+        sym (drop_at (header r.kind (length r.text)) (r.text ++ a) 5 (length-header r.kind (length r.text)))
+        ∙ ap (λ (l : List ℕ). drop 5 l) both
+        ∙ drop_at (header s.kind (length s.text)) (s.text ++ b) 5 (length-header s.kind (length s.text))
 
--- bytes that end before the next gate
-too_short : (o : Option (Kind × ℕ)) (bytes : List ℕ) → ((h : Kind × ℕ) → o ≡ Some h → length bytes ≤ 5 + h.1)
-    → option_and_then {U = Record × List ℕ} (λ h. if nat_lt (5 + h.1) (length bytes) then Some (record { kind = h.0; text = take h.1 (drop 5 bytes) }, drop (5 + h.1) bytes) else None) o ≡ None
-too_short None bytes short = refl
-too_short (Some h) bytes short = let test : ltb (5 + h.1) (length bytes) ≡ false = le-ltb _ _ (short h refl) in rw test refl
+    texts : r.text ≡ s.text
+    texts =
+        sym (take_at r.text a (length s.text) kinds.1)
+        ∙ ap (λ (l : List ℕ). take (length s.text) l) behind
+        ∙ take_at s.text b (length s.text) refl
 
-pub no_record : (bytes : List ℕ) → ((h : Kind × ℕ) → header_of (take 5 bytes) ≡ Some h → length bytes ≤ 5 + h.1) → record_at bytes ≡ None
-unfolding record_at
-no_record bytes short = too_short (header_of (take 5 bytes)) bytes short
+    rests : a ≡ b
+    rests =
+        sym (drop_at r.text a (length s.text) kinds.1)
+        ∙ ap (λ (l : List ℕ). drop (length s.text) l) behind
+        ∙ drop_at s.text b (length s.text) refl
+
+-- a record's kind is no other
+pub no_other_kind : (r : Record) (rest : List ℕ) → IsOtherKind (spelled r ++ rest) → ⊥
+unfolding header
+no_other_kind r rest other = known r.kind other
+  where
+    known : (k : Kind) → kind_of (number_of k) ≡ None → ⊥
+    known Certificate is = absurd (cc is)
+    known Structure is = absurd (cc is)
+
+-- a header tells the length of its text
+pub tells_length : (k : Kind) (n : ℕ) (bytes : List ℕ) → n < 2 ^ 32 → take 5 bytes ≡ header k n → length_told bytes ≡ n
+unfolding header length_told
+tells_length k n bytes small is =
+    ap (λ (l : List ℕ). from_be_bytes w32 l) (sym (drop-take 1 4 bytes) ∙ ap (λ (l : List ℕ). drop 1 l) is)
+    ∙ from_be_bytes-to_be_bytes_4 n small
+
+pub record_tells_length : (r : Record) (rest : List ℕ) → IsShort r → length_told (spelled r ++ rest) ≡ length r.text
+record_tells_length r rest short =
+    tells_length r.kind (length r.text) (spelled r ++ rest) short
+    (ap (λ (l : List ℕ). take 5 l) (whole r rest) ∙ take_at (header r.kind (length r.text)) (r.text ++ rest) 5 (length-header r.kind (length r.text)))
+
+-- another number at the front
+pub other_kind : (bytes : List ℕ) → 0 < length bytes → kind_of (get_or (take 5 bytes) 0 0) ≡ None → IsOtherKind bytes
+other_kind [] some is = absurd (omega (arith, some))
+other_kind (number ∷ bytes) some is = is
 
 -- bytes that begin with a header, and have as many after it
 pub spells : (text : List ℕ) (at n : ℕ) (kind : Kind) → at + 5 + n < length text → take 5 (drop at text) ≡ header kind n

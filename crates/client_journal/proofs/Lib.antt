@@ -1,8 +1,8 @@
 mod Appended
 mod Chains
+mod Found
 mod Fronts
 mod Headers
 mod Opened
 mod Reached
 mod Staged
-mod Takes

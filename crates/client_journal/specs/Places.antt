@@ -1,19 +1,19 @@
 -- Nobody has to believe this file: an aid of private contracts.
 -- Where the texts of the last records lie in a journal's file.
--- Nobody has to believe what stands here: it is how the journal keeps its state.
-use Rattle.std.specs.Prelude.{◌≡◌, ◌≢◌, ℕ, ◌+◌, ◌<◌, ◌≤◌, List, ◌++◌, length, take, drop, get_or, Some, option_map, IfSome, ◌^◌}
-use Rattle.leaf_ledger.specs.Device.{Disk, at_rest}
+use Rattle.std.specs.Prelude.{◌≡◌, ◌≢◌, ℕ, ◌+◌, ◌<◌, ◌≤◌, List, ◌++◌, length, take, drop, get_or, Some, option_map, IfSome}
+use Rattle.layout.specs.Types.{Bytes}
+use Rattle.leaf_ledger.specs.Device.{Disk, end_of_files, at_rest}
 use Rattle.leaf_ledger.specs.declared.extent.Extent.{Extent}
-use Rattle.client_journal.specs.Records.{Record, State, Idle, Declared, Signed, state_of, chain, AllShort}
+use Rattle.client_journal.specs.Records.{Record, State, open_gate, Idle, Declared, Signed, state_of, chain, AllShort}
 use Rattle.client_journal.specs.declared.phase.Phase.{Phase}
 use Rattle.client_journal.specs.declared.phase.Phase.TheVariants as phase
 
 -- the bytes of an extent
-abbrev pub part : Extent → List ℕ → List ℕ
+abbrev pub part : Extent → Bytes → Bytes
 part e file = take e.size (drop e.at file)
 
 -- the state whose texts lie there
-abbrev pub state_at : List ℕ → Phase → State
+abbrev pub state_at : Bytes → Phase → State
 state_at file phase.Idle = Idle
 state_at file (phase.Declared last certificate) = Declared (option_map (λ e. part e file) last) (part certificate file)
 state_at file (phase.Signed structure) = Signed (part structure file)
@@ -29,7 +29,7 @@ AreBelow end (phase.Declared last certificate) = IfSome last (IsBelow end) × Is
 AreBelow end (phase.Signed structure) = IsBelow end structure
 
 -- up to a gate, the file is a chain of records, with the state whose texts lie there
-pub record Reaches (file : List ℕ) (gate : ℕ) (phase : Phase) : Type 0 where
+pub record Reaches (file : Bytes) (gate : ℕ) (phase : Phase) : Type 0 where
   pub records : List Record
   pub split : file ≡ chain records ++ drop gate file
   pub size : length (chain records) ≡ gate
@@ -39,16 +39,16 @@ pub record Reaches (file : List ℕ) (gate : ℕ) (phase : Phase) : Type 0 where
   pub below : AreBelow gate phase
 
 -- and there the records end: the gate isn't open
-pub record Ends (file : List ℕ) (gate : ℕ) (phase : Phase) : Type 0 where
+pub record Ends (file : Bytes) (gate : ℕ) (phase : Phase) : Type 0 where
   pub reaches : Reaches file gate phase
-  pub shut : get_or file gate 0 ≢ 1
+  pub shut : get_or file gate 0 ≢ open_gate
 
 -- what stands in a file at rest, which may be as long as a file can be
 pub record IsReady (disk : Disk) (gate : ℕ) (phase : Phase) : Type 0 where
   pub rest : disk ≡ at_rest disk.text
   pub ends : Ends disk.text gate phase
-  pub bounded : gate + 1 < 2 ^ 63
+  pub bounded : gate + 1 < end_of_files
 
 -- the bytes before a place are the same
-abbrev pub KeepsFront : ℕ → List ℕ → List ℕ → Type 0
+abbrev pub KeepsFront : ℕ → Bytes → Bytes → Type 0
 KeepsFront n old new = take n new ≡ take n old

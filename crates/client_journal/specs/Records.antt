@@ -1,25 +1,28 @@
 -- Records of a journal, the state that they tell, and the file that has them.
 -- The bytes stand in docs/FORMATS.md.
-use Rattle.std.specs.Prelude.{◌≡◌, ◌≢◌, ◌⊎◌, ℕ, zero, suc, ◌+◌, ◌<◌, ◌^◌, Bool, true, false, List, [], ◌∷◌, ◌++◌, length, take, drop, get_or, Option, Some, None, option_map, nat_lt, nat_le, ◌==◌, if◌then◌else◌}
+use Rattle.std.specs.Prelude.{◌≡◌, ◌≢◌, ◌⊎◌, ℕ, ◌+◌, ◌<◌, ◌≤◌, ◌^◌, Bool, true, false, List, [], ◌∷◌, ◌++◌, length, take, drop, Option, Some, None, ◌==◌, if◌then◌else◌}
 use Rattle.std.specs.Int.{w32, to_be_bytes, from_be_bytes}
 use Rattle.std.specs.Option.{option_and_then}
-use Rattle.leaf_ledger.specs.Device.{History, synced}
+use Rattle.layout.specs.Types.{Bytes}
+use Rattle.leaf_ledger.specs.Device.{History, MayLeave, IsAtMostSynced}
 use Rattle.client_journal.specs.declared.kind.Kind.{Kind}
 use Rattle.client_journal.specs.declared.kind.Kind.TheVariants.{Certificate, Structure}
 
+-- a signed text, and what it is
 pub record Record : Type 0 where
   pub kind : Kind
-  pub text : List ℕ
+  pub text : Bytes
 
--- what records tell: nothing yet; that a certificate was signed, after this structure if there is one; that a structure was
+-- what records tell: nothing yet; that a certificate was signed, after this structure if there is one; that a structure
+-- was
 pub data State : Type 0 where
   Idle : State
-  Declared : Option (List ℕ) → List ℕ → State
-  Signed : List ℕ → State
+  Declared : Option Bytes → Bytes → State
+  Signed : Bytes → State
 
 -- the state after a record of this kind and text: a certificate follows nothing or a structure, and a structure follows
 -- a certificate, else the record is out of turn
-abbrev pub next_state : State → Kind → List ℕ → Option State
+abbrev pub next_state : State → Kind → Bytes → Option State
 next_state Idle Certificate text = Some (Declared None text)
 next_state Idle Structure text = None
 next_state (Declared last certificate) Certificate text = None
@@ -35,7 +38,22 @@ state_after state (r ∷ rs) = option_and_then (λ next. state_after next rs) (n
 abbrev pub state_of : List Record → Option State
 state_of rs = state_after Idle rs
 
+-- whether a record of this kind may come next in this state
+abbrev pub may_come : Kind → State → Bool
+may_come Certificate Idle = true
+may_come Certificate (Declared last certificate) = false
+may_come Certificate (Signed structure) = true
+may_come Structure Idle = false
+may_come Structure (Declared last certificate) = true
+may_come Structure (Signed structure) = false
+
 -- ---- the file
+
+abbrev pub open_gate : ℕ
+open_gate = 1
+
+abbrev pub closed_gate : ℕ
+closed_gate = 0
 
 abbrev pub number_of : Kind → ℕ
 number_of Certificate = 1
@@ -45,16 +63,19 @@ abbrev pub kind_of : ℕ → Option Kind
 kind_of n = if n == 1 then Some Certificate else if n == 2 then Some Structure else None
 
 -- the kind of a record and the length of its text
-unfoldable pub header : Kind → ℕ → List ℕ
+unfoldable pub header : Kind → ℕ → Bytes
 header kind size = number_of kind ∷ to_be_bytes w32 size
 
-abbrev pub spelled : Record → List ℕ
+abbrev pub size_of_header : ℕ
+size_of_header = 5
+
+abbrev pub spelled : Record → Bytes
 spelled r = header r.kind (length r.text) ++ r.text
 
 -- records, each after an open gate
-abbrev pub chain : List Record → List ℕ
+abbrev pub chain : List Record → Bytes
 chain [] = []
-chain (r ∷ rs) = 1 ∷ (spelled r ++ chain rs)
+chain (r ∷ rs) = open_gate ∷ (spelled r ++ chain rs)
 
 -- the length of the text has four bytes
 abbrev pub IsShort : Record → Type 0
@@ -64,61 +85,83 @@ abbrev pub AllShort : List Record → Type 0
 AllShort [] = Unit {0}
 AllShort (r ∷ rs) = IsShort r × AllShort rs
 
--- The file is these records, none of them out of turn from this state on, each after an open gate; then comes a gate that
--- isn't open, and whatever stands after it doesn't count.
-pub record IsChained (from : State) (rs : List Record) (file : List ℕ) : Type 0 where
+-- ---- what a file tells
+
+-- The file begins with these records, none of them out of turn, each after an open gate; then comes a gate that isn't
+-- open, and whatever stands after it doesn't count.
+pub record BeginsWith (records : List Record) (file : Bytes) : Type 0 where
   pub gate : ℕ
-  pub rest : List ℕ
-  pub split : file ≡ chain rs ++ gate ∷ rest
-  pub shut : gate ≢ 1
+  pub rest : Bytes
+  pub split : file ≡ chain records ++ gate ∷ rest
+  pub shut : gate ≢ open_gate
+  pub short : AllShort records
   pub state : State
-  pub in_turn : state_after from rs ≡ Some state
+  pub in_turn : state_of records ≡ Some state
 
--- the kind and the length that five bytes are, if there is such a kind
-unfoldable pub header_of : List ℕ → Option (Kind × ℕ)
-header_of bytes = option_map (λ kind. (kind, from_be_bytes w32 (drop 1 bytes))) (kind_of (get_or bytes 0 0))
+-- a file of at most one byte is a new journal
+abbrev pub IsNew : Bytes → Type 0
+IsNew file = length file ≤ 1
 
--- the record at the front of bytes, and the bytes after it, from the next gate on: none where the kind is another, or
--- where the bytes end before the next gate
-unfoldable pub record_at : List ℕ → Option (Record × List ℕ)
-record_at bytes =
-    option_and_then
-    (λ h. if nat_lt (5 + h.1) (length bytes) then Some (record { kind = h.0; text = take h.1 (drop 5 bytes) }, drop (5 + h.1) bytes) else None)
-    (header_of (take 5 bytes))
+-- these are the records of the file
+abbrev pub Tells : List Record → Bytes → Type 0
+Tells records file = (IsNew file × (records ≡ [])) ⊎ BeginsWith records file
 
--- The records from a gate on, in this state: those up to the first gate that isn't open, and none at all where the file
--- is damaged there: an open gate stands before another kind, before a record out of turn, or where the file ends before
--- the next gate. There are at most n of them, and no more than there are bytes.
-abbrev pub records_from : ℕ → State → List ℕ → Option (List Record)
-records_from zero state file = None
-records_from (suc n) state [] = None
-records_from (suc n) state (gate ∷ file) =
-    if gate == 1
-    then option_and_then (λ r. option_and_then (λ next. option_map (λ rs. r.0 ∷ rs) (records_from n next r.1)) (next_state state r.0.kind r.0.text)) (record_at file)
-    else Some []
+-- another kind stands there
+abbrev pub IsOtherKind : Bytes → Type 0
+IsOtherKind [] = ⊥
+IsOtherKind (number ∷ bytes) = kind_of number ≡ None
 
--- the records of a file, none at all where it is damaged: a file of at most one byte is a new journal
-unfoldable pub records_of : List ℕ → Option (List Record)
-records_of file = if nat_le (length file) 1 then Some [] else records_from (length file) Idle file
+-- a record stands there that is out of turn in this state
+abbrev pub IsOutOfTurn : State → Bytes → Type 0
+IsOutOfTurn state bytes = (r : Record) × (rest : Bytes) × (bytes ≡ spelled r ++ rest) × IsShort r
+    × (next_state state r.kind r.text ≡ None)
 
--- the state that a file tells
-abbrev pub told : List ℕ → Option State
-told file = option_and_then state_of (records_of file)
+-- the length that a header tells
+unfoldable pub length_told : Bytes → ℕ
+length_told bytes = from_be_bytes w32 (take 4 (drop 1 bytes))
+
+-- these bytes from a header on end before the gate that comes after the text
+abbrev pub EndsEarly : Bytes → Type 0
+EndsEarly bytes = length bytes ≤ size_of_header + length_told bytes
+
+-- The file is damaged: after some records an open gate stands before another kind, before a record out of turn, or
+-- where the file ends before the next gate.
+pub record IsDamaged (file : Bytes) : Type 0 where
+  pub there : 1 < length file
+  pub records : List Record
+  pub bytes : Bytes
+  pub split : file ≡ chain records ++ open_gate ∷ bytes
+  pub short : AllShort records
+  pub state : State
+  pub in_turn : state_of records ≡ Some state
+  pub wrong : IsOtherKind bytes ⊎ (IsOutOfTurn state bytes ⊎ EndsEarly bytes)
+
+-- the file tells records that lead to this state
+pub record TellsState (state : State) (file : Bytes) : Type 0 where
+  pub records : List Record
+  pub tells : Tells records file
+  pub leads : state_of records ≡ Some state
+
+-- a record of this kind may come after those of the file
+pub record MayCome (kind : Kind) (file : Bytes) : Type 0 where
+  pub state : State
+  pub tells : TellsState state file
+  pub may : may_come kind state ≡ true
 
 -- the records are these, or these and one more
-abbrev pub TellsWithOrWithout : List Record → Record → List ℕ → Type 0
-TellsWithOrWithout rs r file = (records_of file ≡ Some rs) ⊎ (records_of file ≡ Some (rs ++ r ∷ []))
+abbrev pub TellsWithOrWithout : List Record → Record → Bytes → Type 0
+TellsWithOrWithout records r file = Tells records file ⊎ Tells (records ++ r ∷ []) file
 
--- whether a record of this kind may come next
-abbrev pub may_come : Kind → Option State → Bool
-may_come Certificate (Some Idle) = true
-may_come Certificate (Some (Signed structure)) = true
-may_come Structure (Some (Declared last certificate)) = true
-may_come kind state = false
+-- ---- opening
 
--- all that happened to a file of more than one byte is a sync
-abbrev pub IsKept : History → History → Type 0
-IsKept old new = 1 < length old.now.text → (new ≡ old) ⊎ (new ≡ synced old)
+-- a file of more than one byte is synced, at most
+abbrev pub KeepsJournal : History → History → Type 0
+KeepsJournal old new = 1 < length old.now.text → IsAtMostSynced old new
+
+-- What a crash may leave while a journal is opened: what it could leave before, what a read gave, or, of a new journal,
+-- a new journal.
+abbrev pub MayBeLeft : History → Bytes → Type 0
+MayBeLeft old left = MayLeave old.now left ⊎ ((left ≡ old.now.text) ⊎ (IsNew old.now.text × IsNew left))
 
 -- a journal as its callers see it
 pub record JournalFile : Type 0 where

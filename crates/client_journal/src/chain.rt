@@ -1,9 +1,9 @@
 //! The records of a file, as they are found.
 
-ghost use Rattle.std.specs.Prelude.{◌≡◌, ◌+◌, ◌-◌, ◌^◌, ◌<◌, ◌≤◌, ◌==◌, ◌++◌, List, Option, length, drop, get_or, IfOk, IfSome, IfNone, OnOk, IsErrOf, None};
-ghost use Rattle.leaf_ledger.specs.Device.{Leaves, Throughout};
+ghost use Rattle.std.specs.Prelude.{◌≡◌, ◌⊎◌, ◌+◌, ◌^◌, ◌<◌, ◌≤◌, ◌==◌, ◌++◌, ◌∷◌, [], List, length, drop, get_or, IfOk, IfSome, IfNone, OnOk, OnErr, IsErrOf};
+ghost use Rattle.leaf_ledger.specs.Device.{end_of_files, Throughout, HasRisen};
 ghost use Rattle.client_journal.specs.Places.{part, Reaches, Ends, IsReady};
-ghost use Rattle.client_journal.specs.Records.{Record, spelled, record_at, records_of, IsKept};
+ghost use Rattle.client_journal.specs.Records.{Record, open_gate, closed_gate, size_of_header, spelled, Tells, IsNew, IsOtherKind, EndsEarly, IsDamaged, KeepsJournal, MayBeLeft};
 
 use crate::error::JournalError;
 use crate::kind::Kind;
@@ -29,13 +29,13 @@ pub(crate) struct End {
 /// Whether the gate there is open.
 fn is_open<D: Device>(device: &mut D, gate: usize) -> Result<bool, JournalError>
     requires { gate < length (D.history device.old).now.text }
-    ensures open { IfOk result (λ yes. yes ≡ (get_or (D.history device.old).now.text gate 0 == 1)) }
+    ensures open { IfOk result (λ yes. yes ≡ (get_or (D.history device.old).now.text gate 0 == open_gate)) }
     ensures same { D.history device.new ≡ D.history device.old }
     ensures damaged { IsErrOf result JournalError.Damaged → ⊥ }
     ensures memory { IsErrOf result JournalError.Memory → ⊥ }
     ensures later { D.fault_count device.old ≤ D.fault_count device.new }
-    ensures device { IsErrOf result JournalError.Device → D.fault_count device.new < 2 ^ 64 - 1
-        → D.fault_count device.old < D.fault_count device.new }
+    ensures device { IsErrOf result JournalError.Device
+        → HasRisen (D.fault_count device.old) (D.fault_count device.new) }
 {
     let mut byte = [0];
     device.read(gate, &mut byte)?;
@@ -50,16 +50,19 @@ fn record_after<D: Device>(
 ) -> Result<(Kind, Extent), JournalError>
     requires size { size ≡ length (D.history device.old).now.text }
     requires inside { at ≤ size }
-    requires bounded { size < 2 ^ 63 }
-    ensures place { IfOk result (λ r. (r.1.at ≡ at + 5) × (r.1.at + r.1.size < size) × (r.1.size < 2 ^ 32)) }
+    requires bounded { size < end_of_files }
+    ensures place { IfOk result (λ r. (r.1.at ≡ at + size_of_header) × (r.1.at + r.1.size < size)
+        × (r.1.size < 2 ^ 32)) }
     ensures spelled { IfOk result (λ r. drop at (D.history device.old).now.text
-        ≡ spelled (record { kind = r.0; text = part r.1 (D.history device.old).now.text }) ++ drop (r.1.at + r.1.size) (D.history device.old).now.text) }
-    ensures damaged { IsErrOf result JournalError.Damaged → record_at (drop at (D.history device.old).now.text) ≡ None }
+        ≡ spelled (record { kind = r.0; text = part r.1 (D.history device.old).now.text })
+        ++ drop (r.1.at + r.1.size) (D.history device.old).now.text) }
+    ensures damaged { IsErrOf result JournalError.Damaged → IsOtherKind (drop at (D.history device.old).now.text)
+        ⊎ EndsEarly (drop at (D.history device.old).now.text) }
     ensures same { D.history device.new ≡ D.history device.old }
     ensures memory { IsErrOf result JournalError.Memory → ⊥ }
     ensures later { D.fault_count device.old ≤ D.fault_count device.new }
-    ensures device { IsErrOf result JournalError.Device → D.fault_count device.new < 2 ^ 64 - 1
-        → D.fault_count device.old < D.fault_count device.new }
+    ensures device { IsErrOf result JournalError.Device
+        → HasRisen (D.fault_count device.old) (D.fault_count device.new) }
 {
     if size - at <= HEADER_SIZE {
         return Err(JournalError::Damaged);
@@ -85,16 +88,18 @@ fn record_after<D: Device>(
 fn advance<D: Device>(device: &mut D, size: usize, end: End) -> Result<Option<End>, JournalError>
     requires size { size ≡ length (D.history device.old).now.text }
     requires long { 1 < size }
-    requires bounded { size < 2 ^ 63 }
+    requires bounded { size < end_of_files }
     requires reaches { Reaches (D.history device.old).now.text end.gate end.phase }
-    ensures further { IfOk result (λ next. IfSome next (λ next. (end.gate < next.gate) × Reaches (D.history device.old).now.text next.gate next.phase)) }
-    ensures ended { IfOk result (λ next. IfNone next (Ends (D.history device.old).now.text end.gate end.phase)) }
-    ensures damaged { IsErrOf result JournalError.Damaged → records_of (D.history device.old).now.text ≡ None }
+    ensures further { IfOk result (λ next. IfSome next (λ next. (end.gate < next.gate)
+        × Reaches (D.history device.old).now.text next.gate next.phase)) }
+    ensures ended { IfOk result (λ next. IfNone next
+        (Ends (D.history device.old).now.text end.gate end.phase)) }
+    ensures damaged { IsErrOf result JournalError.Damaged → IsDamaged (D.history device.old).now.text }
     ensures same { D.history device.new ≡ D.history device.old }
     ensures memory { IsErrOf result JournalError.Memory → ⊥ }
     ensures later { D.fault_count device.old ≤ D.fault_count device.new }
-    ensures device { IsErrOf result JournalError.Device → D.fault_count device.new < 2 ^ 64 - 1
-        → D.fault_count device.old < D.fault_count device.new }
+    ensures device { IsErrOf result JournalError.Device
+        → HasRisen (D.fault_count device.old) (D.fault_count device.new) }
 {
     if !is_open(device, end.gate)? {
         return Ok(None);
@@ -115,14 +120,14 @@ fn advance<D: Device>(device: &mut D, size: usize, end: End) -> Result<Option<En
 fn walk<D: Device>(device: &mut D, size: usize) -> Result<End, JournalError>
     requires size { size ≡ length (D.history device.old).now.text }
     requires long { 1 < size }
-    requires bounded { size < 2 ^ 63 }
+    requires bounded { size < end_of_files }
     ensures ends { IfOk result (λ end. Ends (D.history device.old).now.text end.gate end.phase) }
-    ensures damaged { IsErrOf result JournalError.Damaged → records_of (D.history device.old).now.text ≡ None }
+    ensures damaged { IsErrOf result JournalError.Damaged → IsDamaged (D.history device.old).now.text }
     ensures same { D.history device.new ≡ D.history device.old }
     ensures memory { IsErrOf result JournalError.Memory → ⊥ }
     ensures later { D.fault_count device.old ≤ D.fault_count device.new }
-    ensures device { IsErrOf result JournalError.Device → D.fault_count device.new < 2 ^ 64 - 1
-        → D.fault_count device.old < D.fault_count device.new }
+    ensures device { IsErrOf result JournalError.Device
+        → HasRisen (D.fault_count device.old) (D.fault_count device.new) }
 {
     let mut end = End {
         gate: 0,
@@ -141,15 +146,18 @@ fn walk<D: Device>(device: &mut D, size: usize) -> Result<End, JournalError>
 /// is read, so that what is told here stays.
 pub(crate) fn find_end<D: Device>(device: &mut D) -> Result<End, JournalError>
     ensures ready { IfOk result (λ end. IsReady (D.history device.new).now end.gate end.phase) }
-    ensures records { OnOk result (records_of (D.history device.new).now.text ≡ records_of (D.history device.old).now.text) }
-    ensures kept { IsKept (D.history device.old) (D.history device.new) }
-    ensures any_moment { (rs : Option (List Record)) → records_of (D.history device.old).now.text ≡ rs
-        → Leaves (λ left. records_of left ≡ rs) (D.history device.old).now → Throughout (λ left. records_of left ≡ rs) (D.history device.old) (D.history device.new) }
-    ensures damaged { IsErrOf result JournalError.Damaged → records_of (D.history device.old).now.text ≡ None }
+    ensures tells { OnOk result ((rs : List Record) → Tells rs (D.history device.new).now.text
+        → Tells rs (D.history device.old).now.text) }
+    ensures kept { KeepsJournal (D.history device.old) (D.history device.new) }
+    ensures new { OnOk result (IsNew (D.history device.old).now.text
+        → (D.history device.new).now.text ≡ closed_gate ∷ []) }
+    ensures new_err { OnErr result (IsNew (D.history device.old).now.text → IsNew (D.history device.new).now.text) }
+    ensures left { Throughout (MayBeLeft (D.history device.old)) (D.history device.old) (D.history device.new) }
+    ensures damaged { IsErrOf result JournalError.Damaged → IsDamaged (D.history device.old).now.text }
     ensures memory { IsErrOf result JournalError.Memory → ⊥ }
     ensures later { D.fault_count device.old ≤ D.fault_count device.new }
-    ensures device { IsErrOf result JournalError.Device → D.fault_count device.new < 2 ^ 64 - 1
-        → D.fault_count device.old < D.fault_count device.new }
+    ensures device { IsErrOf result JournalError.Device
+        → HasRisen (D.fault_count device.old) (D.fault_count device.new) }
 {
     device.sync()?;
     let size = device.len()?;

@@ -1,9 +1,9 @@
 //! Journals.
 
-ghost use Rattle.std.specs.Prelude.{◌≡◌, ◌≢◌, ◌+◌, ◌-◌, ◌^◌, ◌<◌, ◌≤◌, List, [], ◌∷◌, ◌++◌, true, false, length, Some, None, IsSome, IfOk, IfErr, OnOk, OnErr, IsErrOf, Option};
-ghost use Rattle.leaf_ledger.specs.Device.{at_rest, Leaves, Throughout};
+ghost use Rattle.std.specs.Prelude.{◌≡◌, ◌≢◌, ◌≤◌, List, [], ◌∷◌, ◌++◌, true, false, IfOk, IfErr, OnOk, OnErr, IsErrOf};
+ghost use Rattle.leaf_ledger.specs.Device.{at_rest, written, Leaves, Throughout, HasRisen};
 ghost use Rattle.client_journal.specs.Told.{state_of_held};
-ghost use Rattle.client_journal.specs.Records.{Record as PureRecord, records_of, told, may_come, TellsWithOrWithout, IsKept};
+ghost use Rattle.client_journal.specs.Records.{Record as PureRecord, Idle, closed_gate, chain, Tells, TellsState, TellsWithOrWithout, IsShort, IsNew, IsDamaged, MayCome, MayBeLeft, KeepsJournal};
 
 use crate::chain::{End, OPEN, find_end};
 use crate::error::JournalError;
@@ -41,21 +41,31 @@ impl<D: Device> Journal<D> {
     pub fn open(device: D) -> Result<Journal<D>, (JournalError, D)>
         ensures usable { IfOk result (λ journal. journal.usable ≡ true) }
         ensures at_rest { IfOk result (λ journal. journal.file.now ≡ at_rest journal.file.now.text) }
-        // The file tells what it told.
-        ensures records { IfOk result (λ journal. records_of journal.file.now.text ≡ records_of (D.history device).now.text) }
-        ensures sound { IfOk result (λ journal. IsSome (told journal.file.now.text)) }
-        ensures damaged { IfErr result (λ e. e.0 ≡ JournalError.Damaged → records_of (D.history device).now.text ≡ None) }
-        // All that it does to a file that is there is to sync it, before it reads.
-        ensures kept { IfOk result (λ journal. IsKept (D.history device) journal.file) }
-        ensures kept_err { IfErr result (λ e. IsKept (D.history device) (D.history e.1)) }
-        // Where each crash before it left what tells these records, so does each crash while it runs.
-        ensures any_moment { IfOk result (λ journal. (rs : Option (List PureRecord)) → records_of (D.history device).now.text ≡ rs
-            → Leaves (λ left. records_of left ≡ rs) (D.history device).now → Throughout (λ left. records_of left ≡ rs) (D.history device) journal.file) }
-        ensures any_moment_err { IfErr result (λ e. (rs : Option (List PureRecord)) → records_of (D.history device).now.text ≡ rs
-            → Leaves (λ left. records_of left ≡ rs) (D.history device).now → Throughout (λ left. records_of left ≡ rs) (D.history device) (D.history e.1)) }
+        // The file told these records, and tells them still.
+        ensures records { IfOk result (λ journal. (rs : List PureRecord)
+            × Tells rs (D.history device).now.text × Tells rs journal.file.now.text) }
+        ensures damaged { IfErr result (λ e. e.0 ≡ JournalError.Damaged → IsDamaged (D.history device).now.text) }
+        // All that it does to a file of more than one byte is to sync it, before it reads.
+        ensures kept { IfOk result (λ journal. KeepsJournal (D.history device) journal.file) }
+        ensures kept_err { IfErr result (λ e. KeepsJournal (D.history device) (D.history e.1)) }
+        // Of a file of at most one byte it makes a journal whose gate is closed.
+        ensures new { IfOk result (λ journal. IsNew (D.history device).now.text
+            → journal.file.now.text ≡ closed_gate ∷ []) }
+        ensures new_err { IfErr result (λ e. IsNew (D.history device).now.text → IsNew (D.history e.1).now.text) }
+        ensures left { IfOk result (λ journal.
+            Throughout (MayBeLeft (D.history device)) (D.history device) journal.file) }
+        ensures left_err { IfErr result (λ e.
+            Throughout (MayBeLeft (D.history device)) (D.history device) (D.history e.1)) }
+        // So where each crash before it left what tells these records, each crash while it runs does.
+        ensures any_moment { IfOk result (λ journal. (rs : List PureRecord) → Tells rs (D.history device).now.text
+            → Leaves (Tells rs) (D.history device).now → Throughout (Tells rs) (D.history device) journal.file) }
+        ensures any_moment_err { IfErr result (λ e. (rs : List PureRecord) → Tells rs (D.history device).now.text
+            → Leaves (Tells rs) (D.history device).now → Throughout (Tells rs) (D.history device) (D.history e.1)) }
         ensures no_memory { IfErr result (λ e. e.0 ≢ JournalError.Memory) }
-        ensures device { IfErr result (λ e. e.0 ≡ JournalError.Device → D.fault_count e.1 < 2 ^ 64 - 1
-            → D.fault_count device < D.fault_count e.1) }
+        ensures device { IfErr result (λ e. e.0 ≡ JournalError.Device
+            → HasRisen (D.fault_count device) (D.fault_count e.1)) }
+        ensures later { IfOk result (λ journal. D.fault_count device ≤ journal.faults) }
+        ensures later_err { IfErr result (λ e. D.fault_count device ≤ D.fault_count e.1) }
     {
         let mut device = device;
         match find_end(&mut device) {
@@ -71,22 +81,25 @@ impl<D: Device> Journal<D> {
     /// Adds a record. From Ok on it is there, whatever crash comes. It takes no memory.
     pub fn append(&mut self, added: Record<'_>) -> Result<(), JournalError>
         requires usable { self.old.usable ≡ true }
-        requires turn { may_come added.kind (told self.old.file.now.text) ≡ true }
-        requires short { length added.text < 2 ^ 32 }
+        requires turn { MayCome added.kind self.old.file.now.text }
+        requires short { IsShort added }
         // While it runs, a crash leaves the records before, with the new one or without.
-        ensures any_moment { (rs : List PureRecord) → records_of self.old.file.now.text ≡ Some rs
+        ensures any_moment { (rs : List PureRecord) → Tells rs self.old.file.now.text
             → Throughout (TellsWithOrWithout rs added.entry) self.old.file self.new.file }
-        ensures appended { OnOk result ((rs : List PureRecord) → records_of self.old.file.now.text ≡ Some rs
-            → records_of self.new.file.now.text ≡ Some (rs ++ added.entry ∷ [])) }
+        ensures appended { OnOk result ((rs : List PureRecord) → Tells rs self.old.file.now.text
+            → Tells (rs ++ added.entry ∷ []) self.new.file.now.text) }
+        // From its beginning on the file has these records and a closed gate, over what stood there.
+        ensures file { OnOk result ((rs : List PureRecord) → Tells rs self.old.file.now.text → self.new.file.now.text
+            ≡ written 0 (chain (rs ++ added.entry ∷ []) ++ closed_gate ∷ []) self.old.file.now.text) }
         ensures at_rest { OnOk result (self.new.file.now ≡ at_rest self.new.file.now.text) }
         // What a read gives, too, whatever is answered.
-        ensures reads { (rs : List PureRecord) → records_of self.old.file.now.text ≡ Some rs
+        ensures reads { (rs : List PureRecord) → Tells rs self.old.file.now.text
             → TellsWithOrWithout rs added.entry self.new.file.now.text }
         ensures usable { OnOk result (self.new.usable ≡ true) }
         ensures usable_err { OnErr result (self.new.usable ≡ false) }
         ensures ours { OnErr result (IsErrOf result JournalError.Device) }
         ensures later { self.old.faults ≤ self.new.faults }
-        ensures device { IsErrOf result JournalError.Device → self.new.faults < 2 ^ 64 - 1 → self.old.faults < self.new.faults }
+        ensures device { IsErrOf result JournalError.Device → HasRisen self.old.faults self.new.faults }
     {
         let End { gate, phase } = self.end;
         let text = Extent {
@@ -110,14 +123,16 @@ impl<D: Device> Journal<D> {
     /// What the records tell.
     pub fn state<A: Allocator + Copy>(&mut self, alloc: A) -> Result<JournalState<A>, JournalError>
         requires { self.old.usable ≡ true }
-        ensures state { IfOk result (λ state. told self.old.file.now.text ≡ Some (state_of_held state)) }
+        ensures state { IfOk result (λ state. TellsState (state_of_held state) self.old.file.now.text) }
         ensures same { self.new.file ≡ self.old.file }
         ensures usable { OnOk result (self.new.usable ≡ true) }
         ensures memory { IsErrOf result JournalError.Memory → self.new.usable ≡ true }
+        // Where there is no record nothing grows.
+        ensures idle { IsErrOf result JournalError.Memory → TellsState Idle self.old.file.now.text → ⊥ }
         ensures ours { IsErrOf result JournalError.Damaged → ⊥ }
         ensures later { self.old.faults ≤ self.new.faults }
         ensures device { IsErrOf result JournalError.Device → (self.new.usable ≡ false)
-            × (self.new.faults < 2 ^ 64 - 1 → self.old.faults < self.new.faults) }
+            × HasRisen self.old.faults self.new.faults }
     {
         match read_state(alloc, &mut self.device, self.end.phase) {
             Ok(state) => Ok(state),
@@ -132,7 +147,7 @@ impl<D: Device> Journal<D> {
     /// The kind of the record that comes next.
     pub fn next(&self) -> Kind
         requires { self.now.usable ≡ true }
-        ensures { may_come result (told self.now.file.now.text) ≡ true }
+        ensures { MayCome result self.now.file.now.text }
     {
         self.end.phase.next()
     }

@@ -1,13 +1,16 @@
 //! Laws of journals, for the proofs of callers: functions that do nothing.
 
-ghost use Rattle.std.specs.Prelude.{◌≡◌, ◌<◌, ℕ, List, length, Some};
+ghost use Rattle.std.specs.Prelude.{◌≡◌, ◌⊎◌, List};
+ghost use Rattle.layout.specs.Types.{Bytes};
 ghost use Rattle.layout.specs.Format.{IsBytes};
-ghost use Rattle.client_journal.specs.Records.{Record, Idle, AllShort, IsChained, records_of};
+ghost use Rattle.client_journal.specs.Records.{Record, Tells, IsDamaged};
 
-/// What a file of more than one byte tells is what was chained in it.
-pub fn records_are_chained()
-    // Records that were chained are read, whatever stands after the first gate that isn't open.
-    ensures again { (file : List ℕ) (rs : List Record) → AllShort rs → IsChained Idle rs file → records_of file ≡ Some rs }
-    // And what is read was chained.
-    ensures takes { (file : List ℕ) (rs : List Record) → IsBytes file → 1 < length file → records_of file ≡ Some rs → IsChained Idle rs file }
+/// Each file tells one list of records, or is damaged.
+pub fn files_tell_or_are_damaged()
+    // Each tells records, or is damaged,
+    ensures either { (file : Bytes) → IsBytes file → ((rs : List Record) × Tells rs file) ⊎ IsDamaged file }
+    // none is both,
+    ensures not_both { (file : Bytes) (rs : List Record) → Tells rs file → IsDamaged file → ⊥ }
+    // and none tells two lists.
+    ensures one { (file : Bytes) (some others : List Record) → Tells some file → Tells others file → some ≡ others }
 {}

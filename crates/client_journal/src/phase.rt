@@ -1,6 +1,7 @@
 //! Where the texts of a journal's state lie in its file.
 
-ghost use Rattle.std.specs.Prelude.{◌≡◌, ℕ, List, IfSome, IfNone, Some, None, true};
+ghost use Rattle.std.specs.Prelude.{◌≡◌, ℕ, IfSome, IfNone, Some, None, true};
+ghost use Rattle.layout.specs.Types.{Bytes};
 ghost use Rattle.client_journal.specs.Places.{part, state_at, IsBelow, AreBelow};
 ghost use Rattle.client_journal.specs.Records.{next_state, may_come};
 
@@ -21,9 +22,12 @@ pub(crate) enum Phase {
 impl Phase {
     /// The state after one record more, whose text lies there, unless it is out of turn.
     pub(crate) fn after(self, kind: Kind, text: Extent) -> Option<Phase>
-        ensures next { IfSome result (λ phase. (file : List ℕ) → next_state (state_at file self) kind (part text file) ≡ Some (state_at file phase)) }
-        ensures out_of_turn { IfNone result ((file : List ℕ) → next_state (state_at file self) kind (part text file) ≡ None) }
-        ensures below { IfSome result (λ phase. (end : ℕ) → AreBelow end self → IsBelow end text → AreBelow end phase) }
+        ensures next { IfSome result (λ phase. (file : Bytes)
+            → next_state (state_at file self) kind (part text file) ≡ Some (state_at file phase)) }
+        ensures out_of_turn { IfNone result ((file : Bytes)
+            → next_state (state_at file self) kind (part text file) ≡ None) }
+        ensures below { IfSome result (λ phase. (end : ℕ)
+            → AreBelow end self → IsBelow end text → AreBelow end phase) }
     {
         match (self, kind) {
             (Phase::Idle, Kind::Certificate) => Some(Phase::Declared(None, text)),
@@ -31,13 +35,14 @@ impl Phase {
                 Some(Phase::Declared(Some(structure), text))
             }
             (Phase::Declared(_, _), Kind::Structure) => Some(Phase::Signed(text)),
-            _ => None,
+            (Phase::Idle | Phase::Signed(_), Kind::Structure)
+            | (Phase::Declared(_, _), Kind::Certificate) => None,
         }
     }
 
     /// The kind of the record that comes next.
     pub(crate) fn next(self) -> Kind
-        ensures { (file : List ℕ) → may_come result (Some (state_at file self)) ≡ true }
+        ensures { (file : Bytes) → may_come result (state_at file self) ≡ true }
     {
         match self {
             Phase::Idle | Phase::Signed(_) => Kind::Certificate,

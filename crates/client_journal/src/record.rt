@@ -1,7 +1,7 @@
 //! Records, and the bytes that they begin with.
 
-ghost use Rattle.std.specs.Prelude.{◌≡◌, ◌<◌, ◌^◌, IfSome};
-ghost use Rattle.client_journal.specs.Records.{header, header_of};
+ghost use Rattle.std.specs.Prelude.{◌≡◌, ◌<◌, ◌^◌, IfSome, IfNone, None, get_or};
+ghost use Rattle.client_journal.specs.Records.{header, kind_of};
 
 use crate::kind::Kind;
 use std::marker::Model;
@@ -34,9 +34,9 @@ pub(crate) fn header(kind: Kind, size: u32) -> [u8; 5]
 
 /// The kind and the length that a record begins with.
 pub(crate) fn read_header(bytes: &[u8; 5]) -> Option<(Kind, usize)>
-    ensures read { result ≡ header_of bytes.now }
-    ensures again { IfSome result (λ h. bytes.now ≡ header h.0 h.1) }
+    ensures header { IfSome result (λ h. bytes.now ≡ header h.0 h.1) }
     ensures small { IfSome result (λ h. h.1 < 2 ^ 32) }
+    ensures other_kind { IfNone result (kind_of (get_or bytes.now 0 0) ≡ None) }
 {
     let [number, a, b, c, d] = *bytes;
     let size = u32::from_be_bytes([a, b, c, d]);

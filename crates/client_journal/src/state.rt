@@ -1,6 +1,7 @@
 //! The state that a journal tells, with its texts.
 
-ghost use Rattle.std.specs.Prelude.{◌≡◌, ◌-◌, ◌^◌, ◌<◌, ◌≤◌, length, IfOk, IsErrOf};
+ghost use Rattle.std.specs.Prelude.{◌≡◌, ◌≤◌, length, IfOk, IsErrOf};
+ghost use Rattle.leaf_ledger.specs.Device.{HasRisen};
 ghost use Rattle.client_journal.specs.Places.{part, state_at, AreBelow, IsBelow};
 ghost use Rattle.client_journal.specs.Told.{state_of_held};
 
@@ -31,8 +32,8 @@ fn read_part<D: Device, A: Allocator + Copy>(
     ensures same { D.history device.new ≡ D.history device.old }
     ensures damaged { IsErrOf result JournalError.Damaged → ⊥ }
     ensures later { D.fault_count device.old ≤ D.fault_count device.new }
-    ensures device { IsErrOf result JournalError.Device → D.fault_count device.new < 2 ^ 64 - 1
-        → D.fault_count device.old < D.fault_count device.new }
+    ensures device { IsErrOf result JournalError.Device
+        → HasRisen (D.fault_count device.old) (D.fault_count device.new) }
 {
     let mut text = Vec::from_elem(alloc, 0, place.size)?;
     device.read(place.at, &mut text)?;
@@ -49,9 +50,11 @@ pub(crate) fn read_state<D: Device, A: Allocator + Copy>(
     ensures state { IfOk result (λ state. state_of_held state ≡ state_at (D.history device.old).now.text phase) }
     ensures same { D.history device.new ≡ D.history device.old }
     ensures damaged { IsErrOf result JournalError.Damaged → ⊥ }
+    // Where there is no record nothing grows.
+    ensures idle { IsErrOf result JournalError.Memory → phase ≡ Phase.Idle → ⊥ }
     ensures later { D.fault_count device.old ≤ D.fault_count device.new }
-    ensures device { IsErrOf result JournalError.Device → D.fault_count device.new < 2 ^ 64 - 1
-        → D.fault_count device.old < D.fault_count device.new }
+    ensures device { IsErrOf result JournalError.Device
+        → HasRisen (D.fault_count device.old) (D.fault_count device.new) }
 {
     match phase {
         Phase::Idle => Ok(JournalState::Idle),

@@ -1,5 +1,7 @@
 //! Journals on devices in memory: files and what they tell, and each call failing in turn, with crashes.
 
+ghost use Rattle.std.specs.Prelude.{◌<◌, length};
+
 use crate::{Journal, JournalError, JournalState, Kind, Record};
 use leaf_ledger::MemoryDevice;
 use std::alloc::Global;
@@ -263,6 +265,23 @@ fn gate_left(alloc: Global, gate: u8) -> Result<Told, Fail> {
     Ok(found)
 }
 
+/// Opens a journal, appends a record of this kind where it is its turn, and closes it.
+fn appended_once(
+    device: MemoryDevice<Global>,
+    kind: Kind,
+    text: &[u8],
+) -> Result<MemoryDevice<Global>, Fail>
+    requires { length text.now < 4294967296 }
+{
+    let Ok(mut journal) = Journal::open(device) else {
+        return Err(Fail::new("it wasn't opened"));
+    };
+    if journal.usable() && journal.next() == kind {
+        let _ = journal.append(Record { kind, text });
+    }
+    Ok(journal.close())
+}
+
 #[test]
 fn gates_and_sizes(rt: HostRuntime) -> Result<(), Fail> {
     let alloc = rt.alloc();
@@ -270,29 +289,10 @@ fn gates_and_sizes(rt: HostRuntime) -> Result<(), Fail> {
         assert!(rt; gate_left(alloc, gate)? == wanted, "gate {gate}");
     }
     // A signed certificate without changes, and the structure after it.
-    let certificate = [5; 2550];
-    let structure = [6; 2595];
     let device = MemoryDevice::new(alloc, Vec::new(alloc))?;
-    let Ok(mut journal) = Journal::open(device) else {
-        return Err(Fail::new("it wasn't opened"));
-    };
-    if journal.usable() && journal.next() == Kind::Certificate {
-        let _ = journal.append(Record {
-            kind: Kind::Certificate,
-            text: &certificate,
-        });
-    }
-    let device = journal.close();
+    let device = appended_once(device, Kind::Certificate, &[5; 2550])?;
     assert_eq!(rt; device.text().len(), 2557);
-    let Ok(mut journal) = Journal::open(device) else {
-        return Err(Fail::new("it wasn't opened again"));
-    };
-    if journal.usable() && journal.next() == Kind::Structure {
-        let _ = journal.append(Record {
-            kind: Kind::Structure,
-            text: &structure,
-        });
-    }
-    assert_eq!(rt; journal.close().text().len(), 5158);
+    let device = appended_once(device, Kind::Structure, &[6; 2595])?;
+    assert_eq!(rt; device.text().len(), 5158);
     Ok(())
 }

@@ -1,5 +1,9 @@
 pub mod HeldLaws
-pub mod LostLaws
+pub mod Firsts
 pub mod TableLaws
-pub mod TreeLaws
 pub mod LookLaws
+pub mod ViewLaws
+pub mod OpenedLaws
+pub mod TreeLaws
+pub mod WrittenLaws
+pub mod LostLaws

@@ -1,15 +1,20 @@
 -- Nobody has to believe this file: an aid of private contracts.
--- The changes that a user loses who acts alone: each that is another principal's, and the own ones without effect.
-use Rattle.std.specs.Prelude.{ℕ, ◌+◌, ◌==◌, Bool, ◌||◌, not, List, [], ◌∷◌, if◌then◌else◌}
+-- The changes of the own operation that are lost: each of a part that it can't change, and those without effect.
+use Rattle.std.specs.Prelude.{ℕ, ◌+◌, ◌==◌, Bool, ◌&&◌, not, List, [], ◌∷◌, if◌then◌else◌}
 use Rattle.std.specs.List.{list_any}
 use Rattle.layout.specs.Types.{Principal}
 use Rattle.update_cert.specs.Change.{Change}
 
--- the change of this number is another principal's, or its number is among these
-abbrev pub is_lost : {C : Type 0} → ℕ → Principal → List ℕ → Change C → Bool
-is_lost n p voids c = not (c.principal == p) || list_any (λ v. v == n) voids
+-- the numbers of the changes of a part's principal that have no effect
+pub record PartVoids : Type 0 where
+  pub principal : Principal
+  pub numbers : List ℕ
 
--- the numbers of those changes, counted from this one
-abbrev pub lost_from : {C : Type 0} → ℕ → Principal → List ℕ → List (Change C) → List ℕ
-lost_from n p voids [] = []
-lost_from n p voids (c ∷ cs) = if is_lost n p voids c then n ∷ lost_from (n + 1) p voids cs else lost_from (n + 1) p voids cs
+-- the change of this number is of the part's principal, and isn't among those
+abbrev pub counts : {C : Type 0} → ℕ → Change C → PartVoids → Bool
+counts n c v = (v.principal == c.principal) && not (list_any (λ m. m == n) v.numbers)
+
+-- the numbers of the changes that count for none of these parts, counted from this one
+abbrev pub lost_from : {C : Type 0} → ℕ → List PartVoids → List (Change C) → List ℕ
+lost_from n vs [] = []
+lost_from n vs (c ∷ cs) = if list_any (counts n c) vs then lost_from (n + 1) vs cs else n ∷ lost_from (n + 1) vs cs

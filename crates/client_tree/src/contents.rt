@@ -1,10 +1,13 @@
 //! What stands at an i-number, read from the blocks that are held.
 
-ghost use Rattle.std.specs.Prelude.{◌≡◌, ℕ, List, Some, IfOk, IfErr, OnOk};
-ghost use Rattle.itable.specs.ITable.{ITable, digest_at};
+ghost use Rattle.std.specs.Prelude.{◌≡◌, ℕ, List, Some, IfOk, IfErr, OnOk, false};
+ghost use Rattle.layout.specs.Types.{Digest as DigestBytes};
 ghost use Rattle.update_cert.specs.Reading.{Reading};
 ghost use Rattle.update_cert.specs.Blocks.{Agrees};
-ghost use Rattle.client_tree.specs.Tree.{HasLooked, LacksLooked};
+ghost use Rattle.update_cert.specs.Asked.{Lacks};
+ghost use Rattle.update_cert.specs.Spot.{lacks};
+ghost use Rattle.update_cert.specs.declared.spot.Spot.{Spot};
+ghost use Rattle.client_tree.specs.Opened.{IsOfInode};
 ghost use Rattle.client_tree.specs.Seen.{content_seen};
 
 use directory::Directory;
@@ -33,9 +36,9 @@ pub(crate) fn read_content<A: Allocator + Copy, B: Blocks>(
     digest: Digest,
 ) -> Result<Seen<A>, ApplyError>
     ensures seen { (reads : Reading) → Agrees (B.held blocks.now) reads → IfOk result (λ s. content_seen s ≡ Some (reads.content digest)) }
-    // Whichever table has the digest there.
-    ensures taken { (t : ITable) → digest_at t i_number ≡ Some digest → OnOk result (HasLooked (B.held blocks.now) t principal i_number) }
-    ensures missing { (t : ITable) → t.principal ≡ principal → digest_at t i_number ≡ Some digest → IfErr result (LacksLooked (B.held blocks.now) t principal i_number) }
+    // Each of its blocks is what its place takes.
+    ensures taken { OnOk result ((block : DigestBytes) (s : Spot) → IsOfInode (B.held blocks.now) principal i_number digest block s → lacks (B.held blocks.now) block s ≡ false) }
+    ensures missing { IfErr result (Lacks (B.held blocks.now) (IsOfInode (B.held blocks.now) principal i_number digest)) }
 {
     let inode = read_inode(alloc, blocks, principal, i_number, digest)?;
     match inode.kind() {

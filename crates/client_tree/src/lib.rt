@@ -1,14 +1,19 @@
-//! What a client reads of an accepted reply from the blocks that it holds: the i-table that a handle names, the tree
-//! after the own operation, and what stands there.
+//! What a client reads of a reply from the blocks that it holds: on which handle each principal's part stands, what the
+//! pending operations make of it, what the own one makes of the tree, and what stands there.
 #![tactic(auto)]
 
 mod contents;
+mod genesis;
 mod held;
 mod lost;
+mod opened;
 mod tables;
 mod tree;
+mod view;
 
 pub use contents::Seen;
+pub use genesis::{first_blocks, root_digest};
 pub use held::{Held, With};
 pub use tables::read_table;
-pub use tree::{Outcome, Tree};
+pub use tree::{Outcome, Stored};
+pub use view::View;

@@ -20,16 +20,14 @@ use Rattle.itable.specs.ITable.{digest_in}
 use Rattle.itable.proofs.Blocks.{next_block, no_block}
 use Rattle.itable.proofs.FileLaws.{file_fits, inode_fits}
 use Rattle.directory.specs.Directory.{directory, lawful_directory}
-use Rattle.principals.specs.Table.{genesis as first_users}
 use Rattle.itable.specs.ITable.{digest_at}
 use Rattle.update_cert.specs.World.{Content, File, Directory, Principals, genesis, is_table, is_root}
 use Rattle.update_cert.specs.Reading.{Reading}
 use Rattle.update_cert.specs.Blocks.{Agrees, Blocks, directory_over, file_over, if_of_size, joined, of_size}
 use Rattle.update_cert.proofs.Contents.{directory_is, file_is, inode_held}
 use Rattle.client_tree.specs.Held.{Block, held, keeping, keeping_all}
-use Rattle.client_tree.specs.Tree.{tree_of}
 use Rattle.client_tree.proofs.HeldLaws.{with_new, with_none, with_old}
-use Rattle.client_verify.specs.Genesis.{digest_of, first_blocks, first_pairs, first_table, first_texts, root_inode, table_inode, table_text}
+use Rattle.client_tree.specs.Genesis.{inode_digest, common_texts, first_blocks, first_pairs, first_table, first_texts, root_inode, table_inode, table_text}
 
 -- ---- what is held
 
@@ -93,10 +91,10 @@ none_among : (texts : List (List ℕ)) → AreAmong texts []
 unfolding held
 none_among texts d x is = absurd cc
 
-pub held_at_first : (user : ℕ) (key : List ℕ) → NoneCollide (first_texts user key) (first_texts user key) → (text : List ℕ) → Contains (first_texts user key) text → held (first_blocks user key) (hash text) ≡ Some text
+pub held_at_first : (key : List ℕ) → NoneCollide (first_texts key) (first_texts key) → (text : List ℕ) → Contains (first_texts key) text → held (first_blocks key) (hash text) ≡ Some text
 unfolding first_blocks
-held_at_first user key apart text inside =
-    all_kept (first_texts user key) (first_texts user key) [] apart (λ x at. at) (none_among (first_texts user key)) text inside
+held_at_first key apart text inside =
+    all_kept (first_texts key) (first_texts key) [] apart (λ x at. at) (none_among (first_texts key)) text inside
 
 -- ---- what it is of
 
@@ -111,13 +109,13 @@ alone_joined blocks bytes is = rw is (ap (λ (all : List ℕ). Some all) (append
 over_one : (blocks : Blocks) (bytes : List ℕ) → 0 < length bytes → length bytes ≤ 4096 → blocks (hash bytes) ≡ Some bytes → joined blocks (map hash (blocks_of bytes)) ≡ Some bytes
 over_one blocks bytes some few is = ap (λ (bs : List (List ℕ)). joined blocks (map hash bs)) (one_block bytes some few) ∙ alone_joined blocks bytes is
 
-table_is : (blocks : Blocks) (reads : Reading) (key : List ℕ) → length (table_text key) ≡ 68 → Agrees blocks reads → blocks (hash (table_text key)) ≡ Some (table_text key) → blocks (digest_of (table_inode key)) ≡ Some (inode.spell (table_inode key))
-    → Some (File (table_text key)) ≡ Some (reads.content (digest_of (table_inode key)))
+table_is : (blocks : Blocks) (reads : Reading) (key : List ℕ) → length (table_text key) ≡ 68 → Agrees blocks reads → blocks (hash (table_text key)) ≡ Some (table_text key) → blocks (inode_digest (table_inode key)) ≡ Some (inode.spell (table_inode key))
+    → Some (File (table_text key)) ≡ Some (reads.content (inode_digest (table_inode key)))
 table_is blocks reads key size agrees text is =
     let bytes = table_text key in
     let n = table_inode key in
     let over : file_over blocks n ≡ Some bytes = ap (option_and_then (if_of_size n.size)) (over_one blocks bytes (omega (arith, size)) (omega (arith, size)) text) ∙ rw (eq-eqb (length bytes) (length bytes) refl) refl in
-    ap (λ (content : Content). Some content) (sym (file_is blocks reads (digest_of n) bytes n agrees (inode_held blocks n (file_fits bytes (omega (arith, size))) is) refl over))
+    ap (λ (content : Content). Some content) (sym (file_is blocks reads (inode_digest n) bytes n agrees (inode_held blocks n (file_fits bytes (omega (arith, size))) is) refl over))
 
 empty_size : length (directory.spell []) ≡ 6
 unfolding be spell_rows
@@ -132,13 +130,13 @@ root_fits =
     let size = empty_size in
     inode_fits kind.Directory (directory.spell []) (in_range_fits w32 6 265222 (length (directory.spell [])) (omega (arith, size)) (omega (arith, size)) (omega (arith, size))) (omega (arith, size))
 
-root_is : (blocks : Blocks) (reads : Reading) → Agrees blocks reads → blocks (hash (directory.spell [])) ≡ Some (directory.spell []) → blocks (digest_of root_inode) ≡ Some (inode.spell root_inode) → Some (Directory []) ≡ Some (reads.content (digest_of root_inode))
+root_is : (blocks : Blocks) (reads : Reading) → Agrees blocks reads → blocks (hash (directory.spell [])) ≡ Some (directory.spell []) → blocks (inode_digest root_inode) ≡ Some (inode.spell root_inode) → Some (Directory []) ≡ Some (reads.content (inode_digest root_inode))
 root_is blocks reads agrees text is =
     let size = empty_size in
     let over : directory_over blocks root_inode ≡ Some [] =
     ap (option_and_then (of_size root_inode.size)) (over_one blocks (directory.spell []) (omega (arith, size)) (omega (arith, size)) text)
     ∙ rw (eq-eqb (length (directory.spell [])) (length (directory.spell [])) refl) (ap result_ok (whole_again directory lawful_directory [] empty_fits)) in
-    ap (λ (content : Content). Some content) (sym (directory_is blocks reads (digest_of root_inode) root_inode [] agrees (inode_held blocks root_inode root_fits is) refl over))
+    ap (λ (content : Content). Some content) (sym (directory_is blocks reads (inode_digest root_inode) root_inode [] agrees (inode_held blocks root_inode root_fits is) refl over))
 
 -- ---- the tree
 
@@ -149,7 +147,7 @@ not_one : (i : ℕ) → (i == 1) ≡ false → i ≡ 1 → ⊥
 not_one i other one = let clash = sym other ∙ eq-eqb i 1 one in absurd cc
 
 -- what user 0 has, beside the table
-pairs_stand : (reads : Reading) (key : List ℕ) (i : ℕ) → (i == 1) ≡ false → Some (Directory []) ≡ Some (reads.content (digest_of root_inode)) → option_map reads.content (digest_in (first_pairs key) i) ≡ (if i == 2 then Some (Directory []) else None)
+pairs_stand : (reads : Reading) (key : List ℕ) (i : ℕ) → (i == 1) ≡ false → Some (Directory []) ≡ Some (reads.content (inode_digest root_inode)) → option_map reads.content (digest_in (first_pairs key) i) ≡ (if i == 2 then Some (Directory []) else None)
 pairs_stand reads key i other root =
     elim (cases_eq i 2) [
       | inl two ↦ rw two (sym root)
@@ -157,7 +155,7 @@ pairs_stand reads key i other root =
     ]
 
 -- what a user has, who is user 0 or isn't
-part_stands : (reads : Reading) (key : List ℕ) (i : ℕ) (first : Bool) → (first && (i == 1)) ≡ false → Some (Directory []) ≡ Some (reads.content (digest_of root_inode))
+part_stands : (reads : Reading) (key : List ℕ) (i : ℕ) (first : Bool) → (first && (i == 1)) ≡ false → Some (Directory []) ≡ Some (reads.content (inode_digest root_inode))
     → option_map reads.content (digest_in (if first then first_pairs key else []) i) ≡ (if first && (i == 2) then Some (Directory []) else None)
 part_stands reads key i true place root = pairs_stand reads key i place root
 part_stands reads key i false place root = refl
@@ -166,22 +164,25 @@ pub length-table_text : (key : List ℕ) → length key ≡ 56 → length (table
 unfolding table_text be
 length-table_text key size = omega (arith, size, length-append key (be w16 0))
 
-abbrev Apart : ℕ → List ℕ → Type 0
-Apart user key = NoneCollide (first_texts user key) (first_texts user key)
+abbrev Apart : List ℕ → Type 0
+Apart key = NoneCollide (first_texts key) (first_texts key)
 
-pub has_table : (user : ℕ) (key : List ℕ) (blocks : List Block) → length key ≡ 56 → blocks ≡ first_blocks user key → Apart user key → (reads : Reading) → Agrees (held blocks) reads → user ≡ 0 → option_map reads.content (digest_at (first_table user key) 1) ≡ Some (File (table_text key))
-has_table user key blocks size is apart reads agrees first =
-    let of_first : Agrees (held (first_blocks user key)) reads = subst (λ (bs : List Block). Agrees (held bs) reads) is agrees in
-    let there = held_at_first user key apart in
-    rw first (sym (table_is (held (first_blocks user key)) reads key (length-table_text key size) of_first (there (table_text key) (0, omega arith, refl)) (there (inode.spell (table_inode key)) (1, omega arith, refl))))
+-- the texts that stand first among those of the beginning
+common : (key : List ℕ) → Contains (first_texts key) (table_text key) × Contains (first_texts key) (inode.spell (table_inode key)) × Contains (first_texts key) (directory.spell []) × Contains (first_texts key) (inode.spell root_inode)
+unfolding common_texts
+common key = ((0, omega arith, refl), (1, omega arith, refl), (2, omega arith, refl), (3, omega arith, refl))
 
-genesis_step : (reads : Reading) (user : ℕ) (key : List ℕ) (i : ℕ) (t : Bool) → is_table user i ≡ t → Some (Directory []) ≡ Some (reads.content (digest_of root_inode)) → tree_of reads (first_users key) (first_table user key) user i ≡ genesis key user i
-genesis_step reads user key i true place root = rw place refl
-genesis_step reads user key i false place root = rw (place, eq-eqb user user refl) (part_stands reads key i (user == 0) place root)
+pub has_table : (key : List ℕ) (blocks : List Block) → length key ≡ 56 → blocks ≡ first_blocks key → Apart key → (reads : Reading) → Agrees (held blocks) reads → option_map reads.content (digest_at (first_table 0 key) 1) ≡ Some (File (table_text key))
+has_table key blocks size is apart reads agrees =
+    let of_first : Agrees (held (first_blocks key)) reads = subst (λ (bs : List Block). Agrees (held bs) reads) is agrees in
+    let there = held_at_first key apart in
+    let texts = common key in
+    sym (table_is (held (first_blocks key)) reads key (length-table_text key size) of_first (there (table_text key) texts.0) (there (inode.spell (table_inode key)) texts.1))
 
-pub has_genesis : (user : ℕ) (key : List ℕ) (blocks : List Block) → blocks ≡ first_blocks user key → Apart user key → (reads : Reading) → Agrees (held blocks) reads → (i : ℕ) → tree_of reads (first_users key) (first_table user key) user i ≡ genesis key user i
-has_genesis user key blocks is apart reads agrees i =
-    let of_first : Agrees (held (first_blocks user key)) reads = subst (λ (bs : List Block). Agrees (held bs) reads) is agrees in
-    let there = held_at_first user key apart in
-    let root = root_is (held (first_blocks user key)) reads of_first (there (directory.spell []) (2, omega arith, refl)) (there (inode.spell root_inode) (3, omega arith, refl)) in
-    genesis_step reads user key i (is_table user i) refl root
+pub has_genesis : (key : List ℕ) (blocks : List Block) → blocks ≡ first_blocks key → Apart key → (reads : Reading) → Agrees (held blocks) reads → (p i : ℕ) → is_table p i ≡ false → option_map reads.content (digest_at (first_table p key) i) ≡ genesis key p i
+has_genesis key blocks is apart reads agrees p i place =
+    let of_first : Agrees (held (first_blocks key)) reads = subst (λ (bs : List Block). Agrees (held bs) reads) is agrees in
+    let there = held_at_first key apart in
+    let texts = common key in
+    let root = root_is (held (first_blocks key)) reads of_first (there (directory.spell []) texts.2) (there (inode.spell root_inode) texts.3) in
+    rw place (part_stands reads key i (p == 0) place root)

@@ -1,6 +1,6 @@
 pub mod Judging
 pub mod ListsLaws
 pub mod Steps
-pub mod Firsts
 pub mod LaidLaws
 pub mod GenesisLaws
+pub mod GrowingLaws

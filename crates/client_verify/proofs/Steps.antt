@@ -9,11 +9,11 @@ use Rattle.client_verify.specs.declared.step.Step.TheVariants as step
 use Rattle.client_verify.specs.declared.look.Look.{Look}
 use Rattle.client_verify.specs.declared.look.Look.TheVariants as look
 use Rattle.client_verify.specs.FirstBroken.{first_broken}
-use Rattle.client_verify.specs.State.{State, Checked, View, known, lists_in, block_breaks, holding}
+use Rattle.client_verify.specs.State.{State, AcceptedView, Checked, known, lists_in, view_over, block_breaks, holding}
 use Rattle.client_verify.specs.Judged.{Goes, Judged, Handed}
 use Rattle.client_verify.specs.Looked.{Looked, Given}
-use Rattle.client_verify.specs.Grown.{IsSight}
-use Rattle.client_verify.specs.declared.growing.Sight.{Sight}
+use Rattle.client_verify.specs.Grown.{IsAnswer}
+use Rattle.client_verify.specs.declared.growing.Shown.{Shown}
 
 some_one : {A : Type 0} (o : Option A) (a : A) (P : A → Type 0) → o ≡ Some a → P a → IsSomeAnd o P
 some_one {A} o a P is holds = subst (λ (x : Option A). IsSomeAnd x P) (sym is) holds
@@ -44,7 +44,7 @@ handed_goes old k block text (step.Need d) new none is goes = (none, some_one bl
 handed_goes old k block text (step.Store texts) new none is goes = (none, some_one block text _ is goes)
 handed_goes old k block text (step.Broken rule) new none is goes = absurd goes
 
-pub given_looked : {A : Type 0} (old : State) (v : View) (l : Looking) (block : Option (List ℕ)) (text : List ℕ) (s : Look A) (new : State) → block_breaks (held old.blocks) l.asked block ≡ None → block ≡ Some text → Looked (holding old text) v l.principal l.i_number s new → Given old v l block s new
+pub given_looked : {A : Type 0} (old : State) (v : AcceptedView) (l : Looking) (block : Option (List ℕ)) (text : List ℕ) (s : Look A) (new : State) → block_breaks (held old.blocks) l.asked block ≡ None → block ≡ Some text → Looked (holding old text) v l.principal l.i_number s new → Given old v l block s new
 given_looked old v l block text (look.Need d) new none is looked = (none, some_one block text _ is looked)
 given_looked old v l block text (look.File bytes) new none is looked = (none, some_one block text _ is looked)
 given_looked old v l block text (look.Dir entries) new none is looked = (none, some_one block text _ is looked)
@@ -52,14 +52,15 @@ given_looked old v l block text look.None new none is looked = (none, some_one b
 given_looked old v l block text (look.Broken rule) new none is looked = absurd looked
 
 -- what was told of a look with one block more that was kept, is told of the look that was under way
-pub given_from : {A : Type 0} (inner old : State) (v : View) (l : Looking) (blocks : List Block) (block : Option (List ℕ)) (text : List ℕ) (s : Look A) (new : State) → inner ≡ old → blocks ≡ keeping old.blocks text → old.view ≡ Some v
+pub given_from : {A : Type 0} (inner old : State) (v : AcceptedView) (l : Looking) (blocks : List Block) (block : Option (List ℕ)) (text : List ℕ) (s : Look A) (new : State) → inner ≡ old → blocks ≡ keeping old.blocks text → old.view ≡ Some v
     → block_breaks (held old.blocks) l.asked block ≡ None → block ≡ Some text → IfSome inner.view (λ w. Looked (record inner { blocks = blocks }) w l.principal l.i_number s new) → Given old v l block s new
 given_from {A} inner old v l blocks block text s new is kept there none given looked =
     let of_old : IfSome old.view (λ w. Looked {A = A} (record old { blocks = blocks }) w l.principal l.i_number s new) = subst (λ (x : State). IfSome x.view (λ w. Looked {A = A} (record x { blocks = blocks }) w l.principal l.i_number s new)) is looked in
-    let of_view : Looked {A = A} (record old { blocks = blocks }) v l.principal l.i_number s new = subst (λ (o : Option View). IfSome o (λ w. Looked {A = A} (record old { blocks = blocks }) w l.principal l.i_number s new)) there of_old in
+    let of_view : Looked {A = A} (record old { blocks = blocks }) v l.principal l.i_number s new = subst (λ (o : Option AcceptedView). IfSome o (λ w. Looked {A = A} (record old { blocks = blocks }) w l.principal l.i_number s new)) there of_old in
     given_looked old v l block text s new none given (subst (λ (b : List Block). Looked {A = A} (record old { blocks = b }) v l.principal l.i_number s new) kept of_view)
 
--- what is seen by blocks in a view is seen by the same blocks in the same view
-pub seen_there : {A : Type 0} (before blocks : List Block) (inside v : View) (p i : ℕ) (s : Sight A) → before ≡ blocks → inside ≡ v → IsSight (held before) inside.tree.table p i s → IsSight (held blocks) v.tree.table p i s
-seen_there {A} before blocks inside v p i s same is seen =
-    subst (λ (bs : List Block). IsSight {A = A} (held bs) v.tree.table p i s) same (subst (λ (w : View). IsSight {A = A} (held before) w.tree.table p i s) is seen)
+-- what is shown by blocks in a view is shown by the same blocks in the same view
+pub shown_there : {A : Type 0} (before blocks : List Block) (key same_key : List ℕ) (inside v : AcceptedView) (p i : ℕ) (s : Shown A) → before ≡ blocks → key ≡ same_key → inside ≡ v → IsAnswer (held before) (view_over key inside.lists) p i s → IsAnswer (held blocks) (view_over same_key v.lists) p i s
+shown_there {A} before blocks key same_key inside v p i s same pinned is shown =
+    subst (λ (bs : List Block). IsAnswer {A = A} (held bs) (view_over same_key v.lists) p i s) same
+    (subst (λ (k : List ℕ). IsAnswer {A = A} (held before) (view_over k v.lists) p i s) pinned (subst (λ (w : AcceptedView). IsAnswer {A = A} (held before) (view_over key w.lists) p i s) is shown))

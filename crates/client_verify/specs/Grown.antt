@@ -1,30 +1,32 @@
 -- Nobody has to believe this file: an aid of private contracts.
--- What a tree, or what stands in it, comes to by the blocks that are held.
-use Rattle.std.specs.Prelude.{◌≡◌, ℕ, List, Some, None, true, map}
-use Rattle.std.specs.Vec.{vec_items}
-use Rattle.itable.specs.ITable.{ITable}
-use Rattle.update_cert.specs.Cert.{Cert}
+-- What the own operation makes, or what stands at an i-number, comes to by the blocks that are held.
+use Rattle.std.specs.Prelude.{◌≡◌, List, [], ◌∷◌, Some, None, true}
+use Rattle.layout.specs.Types.{INumber, Principal}
+use Rattle.principals.specs.Table.{Table}
 use Rattle.update_cert.specs.World.{Content, File, Directory}
 use Rattle.update_cert.specs.Reading.{Reading}
 use Rattle.update_cert.specs.Blocks.{Blocks, Agrees}
 use Rattle.update_cert.specs.Spot.{lacks}
-use Rattle.client_tree.specs.Tree.{HasLooked, IsOutcome, IsReached, IsLooked, shown_by}
+use Rattle.client_tree.specs.View.{View, shown}
+use Rattle.client_tree.specs.Opened.{HasLooked, IsLooked}
+use Rattle.client_tree.specs.Tree.{IsOutcome, IsWanted}
 use Rattle.client_tree.specs.Seen.{content_seen}
 use Rattle.client_tree.specs.declared.contents.Seen.{Seen}
 use Rattle.client_verify.specs.declared.look.Look.{Look}
 use Rattle.client_verify.specs.declared.look.Look.TheVariants as look
-use Rattle.client_verify.specs.declared.growing.Grown.{Grown}
-use Rattle.client_verify.specs.declared.growing.Grown.TheVariants as grown
-use Rattle.client_verify.specs.declared.growing.Sight.{Sight}
-use Rattle.client_verify.specs.declared.growing.Sight.TheVariants as sight
+use Rattle.client_verify.specs.declared.growing.Written.{Written}
+use Rattle.client_verify.specs.declared.growing.Written.TheVariants as written
+use Rattle.client_verify.specs.declared.growing.Shown.{Shown}
+use Rattle.client_verify.specs.declared.growing.Shown.TheVariants as answer
 
-abbrev pub IsGrown : {A : Type 0} → Blocks → List ℕ → Cert → Grown A → Type 0
-IsGrown blocks handle c (grown.Lacks a) = IsReached blocks handle c a.digest a.spot × (lacks blocks a.digest a.spot ≡ true)
-IsGrown blocks handle c (grown.Stands o) = IsOutcome blocks handle c o.tree (map vec_items o.texts.items)
+abbrev pub IsWritten : {A : Type 0} → Blocks → View → Written A → Type 0
+IsWritten blocks x (written.Lacks a) = IsWanted blocks x a.digest a.spot × (lacks blocks a.digest a.spot ≡ true)
+IsWritten blocks x (written.Part part lost) = IsOutcome blocks x (part ∷ []) lost.items
 
-abbrev pub IsSight : {A : Type 0} → Blocks → ITable → ℕ → ℕ → Sight A → Type 0
-IsSight blocks t p i (sight.Lacks a) = IsLooked blocks t p i a.digest a.spot × (lacks blocks a.digest a.spot ≡ true)
-IsSight blocks t p i (sight.Sees seen) = HasLooked blocks t p i × ((reads : Reading) → Agrees blocks reads → content_seen seen ≡ shown_by reads t p i)
+abbrev pub IsAnswer : {A : Type 0} → Blocks → View → Principal → INumber → Shown A → Type 0
+IsAnswer blocks x p i (answer.Lacks a) = IsLooked blocks x p i a.digest a.spot × (lacks blocks a.digest a.spot ≡ true)
+IsAnswer blocks x p i (answer.Sees seen) =
+    HasLooked blocks x p i × ((reads : Reading) (users : Table) → Agrees blocks reads → content_seen seen ≡ shown reads users x p i)
 
 -- what is seen is told as it is
 abbrev pub IsTold : {A : Type 0} → Seen A → Look A → Type 0

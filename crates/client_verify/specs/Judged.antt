@@ -1,26 +1,27 @@
 -- What a client makes of a reply, and of the blocks that it asks for.
-use Rattle.std.specs.Prelude.{◌≡◌, ℕ, List, Option, Some, None, IsSomeAnd, true, map}
+use Rattle.std.specs.Prelude.{◌≡◌, ℕ, List, [], ◌∷◌, Option, Some, None, IsSomeAnd, true, map}
 use Rattle.std.specs.Vec.{vec_items}
 use Rattle.update_cert.specs.Spot.{lacks}
 use Rattle.reply_rules.specs.Lists.{Lists}
 use Rattle.client_tree.specs.Held.{held}
-use Rattle.client_tree.specs.Tree.{OwnTree, IsOutcome, IsReached}
+use Rattle.client_tree.specs.Tree.{IsOutcome, IsWanted, Stored}
 use Rattle.client_verify.specs.declared.asked.Asked.{Asked}
 use Rattle.client_verify.specs.declared.step.Step.{Step}
 use Rattle.client_verify.specs.declared.step.Step.TheVariants.{Need, Store, Broken}
 use Rattle.client_verify.specs.FirstBroken.{first_broken}
-use Rattle.client_verify.specs.State.{State, Checked, known, lists_in, last_handle, block_breaks, holding}
+use Rattle.client_verify.specs.State.{State, Checked, known, lists_in, view_over, block_breaks, holding}
 
 -- Where these lists break no rule: a block is asked for that tells what the operation makes, and of which no text is held
--- that its spot takes; or, once none is wanted any more, the reply is accepted with the tree after the operation, and
--- the new texts are handed out.
+-- that its spot takes; or, once none is wanted any more, the reply is accepted, and the new texts of the own part are
+-- handed out. By the table of the beginning no group is raised, so that no other part is written.
 abbrev pub Goes : {A : Type 0} → State → Lists → Step A → State → Type 0
 Goes s x (Need digest) new =
     (a : Asked) × (a.digest ≡ digest) × (new ≡ record s { checked = Some (record { lists = x; asked = a }); accepted = None })
-    × IsReached (held s.blocks) (last_handle s) x.own.cert digest a.spot × (lacks (held s.blocks) digest a.spot ≡ true)
+    × IsWanted (held s.blocks) (view_over s.pinned x) digest a.spot × (lacks (held s.blocks) digest a.spot ≡ true)
 Goes s x (Store texts) new =
-    (t : OwnTree) × (new ≡ record s { checked = None; accepted = Some (record { lists = x; tree = t }) })
-    × IsOutcome (held s.blocks) (last_handle s) x.own.cert t (map vec_items texts.items)
+    (part : Stored) × (lost : List ℕ)
+    × (new ≡ record s { checked = None; accepted = Some (record { lists = x; handle = part.handle; lost = lost }) })
+    × IsOutcome (held s.blocks) (view_over s.pinned x) (part ∷ []) lost × (map vec_items texts.items ≡ part.texts)
 Goes s x (Broken rule) new = ⊥
 
 -- A reply: Broken with the first broken rule, and then the client is as before; else it goes on.

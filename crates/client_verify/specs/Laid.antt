@@ -8,7 +8,7 @@ use Rattle.update_cert.specs.Change.{Action, Make, Put, Remove, Link, Unlink, Ad
 use Rattle.update_cert.specs.Blocks.{Blocks, inode_at}
 use Rattle.update_cert.specs.Spot.{is_of_file, size_of_block}
 use Rattle.client_tree.specs.Held.{held, keeping_all}
-use Rattle.client_verify.specs.Genesis.{digest_of, root_inode}
+use Rattle.client_tree.specs.Genesis.{inode_digest, root_inode}
 
 -- these blocks of a file of this size, the first of which is at this place, are there, and each has its size
 unfoldable pub are_blocks_laid : Blocks → ℕ → ℕ → List Digest → Bool
@@ -21,7 +21,7 @@ is_file_laid blocks digest = option_map_or (λ n. is_of_file n.kind && are_block
 
 -- what is made is a file that was laid out, or the empty directory; what is put is a file that was laid out
 abbrev pub is_laid : Blocks → Action Digest → Bool
-is_laid blocks (Make inode) = is_file_laid blocks inode || bytes_eq inode (digest_of root_inode)
+is_laid blocks (Make inode) = is_file_laid blocks inode || bytes_eq inode (inode_digest root_inode)
 is_laid blocks (Put inode) = is_file_laid blocks inode
 is_laid blocks Remove = true
 is_laid blocks (Link entry) = true

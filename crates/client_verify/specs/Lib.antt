@@ -1,4 +1,3 @@
-pub mod Genesis
 pub mod FirstBroken
 pub mod State
 pub mod Judged

@@ -1,39 +1,42 @@
 -- What a client sees in its accepted view.
 use Rattle.std.specs.Prelude.{◌≡◌, ℕ, List, Option, Some, None, IsSomeAnd, true}
+use Rattle.layout.specs.Types.{INumber, Principal}
 use Rattle.update_cert.specs.World.{Content, File, Directory}
 use Rattle.update_cert.specs.Reading.{Reading}
 use Rattle.update_cert.specs.Blocks.{Agrees}
 use Rattle.update_cert.specs.Spot.{lacks}
 use Rattle.client_tree.specs.Held.{held}
-use Rattle.client_tree.specs.Tree.{HasLooked, IsLooked, shown_by}
+use Rattle.client_tree.specs.Opened.{HasLooked, IsLooked}
+use Rattle.client_tree.specs.View.{shown}
+use Rattle.principals.specs.Table.{Table}
 use Rattle.client_verify.specs.declared.asked.Asked.{Asked}
 use Rattle.client_verify.specs.declared.view.Looking.{Looking}
 use Rattle.client_verify.specs.declared.look.Look.{Look}
 use Rattle.client_verify.specs.declared.look.Look.TheVariants as look
-use Rattle.client_verify.specs.State.{State, View, block_breaks, holding}
+use Rattle.client_verify.specs.State.{State, AcceptedView, view_over, block_breaks, holding}
 
 -- nothing of what stands there is missing, and the answer is what stands there in the tree of the view, whatever stands
--- for the digests of which no block tells
-abbrev pub Stands : State → View → ℕ → ℕ → Option Content → State → Type 0
-Stands s v p i content new =
+-- for the digests of which no block tells, and whatever the table of principals is that user 0's handle names
+abbrev pub IsShown : State → AcceptedView → Principal → INumber → Option Content → State → Type 0
+IsShown s v p i content new =
     (new ≡ record s { view = Some (record v { looking = None }) })
-    × HasLooked (held s.blocks) v.tree.table p i
-    × ((reads : Reading) → Agrees (held s.blocks) reads → content ≡ shown_by reads v.tree.table p i)
+    × HasLooked (held s.blocks) (view_over s.pinned v.lists) p i
+    × ((reads : Reading) (users : Table) → Agrees (held s.blocks) reads → content ≡ shown reads users (view_over s.pinned v.lists) p i)
 
 -- A look: a block of what stands there is asked for, of which no text is held that its spot takes; or, once none is
 -- wanted any more, what stands there is told.
-abbrev pub Looked : {A : Type 0} → State → View → ℕ → ℕ → Look A → State → Type 0
+abbrev pub Looked : {A : Type 0} → State → AcceptedView → Principal → INumber → Look A → State → Type 0
 Looked s v p i (look.Need digest) new =
     (a : Asked) × (a.digest ≡ digest) × (new ≡ record s { view = Some (record v { looking = Some (record { principal = p; i_number = i; asked = a }) }) })
-    × IsLooked (held s.blocks) v.tree.table p i digest a.spot × (lacks (held s.blocks) digest a.spot ≡ true)
-Looked s v p i (look.File bytes) new = Stands s v p i (Some (File bytes.items)) new
-Looked s v p i (look.Dir entries) new = Stands s v p i (Some (Directory entries)) new
-Looked s v p i look.None new = Stands s v p i None new
+    × IsLooked (held s.blocks) (view_over s.pinned v.lists) p i digest a.spot × (lacks (held s.blocks) digest a.spot ≡ true)
+Looked s v p i (look.File bytes) new = IsShown s v p i (Some (File bytes.items)) new
+Looked s v p i (look.Dir entries) new = IsShown s v p i (Some (Directory entries)) new
+Looked s v p i look.None new = IsShown s v p i None new
 Looked s v p i (look.Broken rule) new = ⊥
 
 -- The block that a look asks for, or its absence: Broken where it isn't that block, and then the client is as before;
 -- else it is held, and the look goes on.
-abbrev pub Given : {A : Type 0} → State → View → Looking → Option (List ℕ) → Look A → State → Type 0
+abbrev pub Given : {A : Type 0} → State → AcceptedView → Looking → Option (List ℕ) → Look A → State → Type 0
 Given old v l block (look.Broken rule) new = (block_breaks (held old.blocks) l.asked block ≡ Some rule) × (new ≡ old)
 Given old v l block answer new =
     (block_breaks (held old.blocks) l.asked block ≡ None) × IsSomeAnd block (λ text. Looked (holding old text) v l.principal l.i_number answer new)

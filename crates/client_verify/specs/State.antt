@@ -6,18 +6,19 @@ use Rattle.std.specs.Ordering.{nat_cmp}
 use Rattle.layout.specs.Ascending.{with_row}
 use Rattle.layout.specs.Format.{whole}
 use Rattle.layout.specs.Hash.{hash}
-use Rattle.layout.specs.Types.{Digest}
+use Rattle.layout.specs.Types.{Digest, Handle, Key}
 use Rattle.lms_sign.specs.Signature.{signature_of}
 use Rattle.version_order.specs.declared.structure.GroupRecord.{GroupRecord}
 use Rattle.version_order.specs.Plan.{Plan}
 use Rattle.version_order.specs.Structure.{Structure, structure}
-use Rattle.itable.specs.ITable.{handle_of}
 use Rattle.update_cert.specs.Change.{Change}
 use Rattle.update_cert.specs.Cert.{Cert, cert}
 use Rattle.update_cert.specs.Blocks.{Blocks}
 use Rattle.update_cert.specs.Spot.{takes}
 use Rattle.client_tree.specs.Held.{Block, keeping, keeping_all}
-use Rattle.client_tree.specs.Tree.{OwnTree}
+use Rattle.client_tree.specs.Genesis.{first_blocks}
+use Rattle.client_tree.specs.View.{View}
+use Rattle.principals.specs.Table.{genesis}
 use Rattle.pending_list.specs.declared.signed.Signed.{Signed}
 use Rattle.pending_list.specs.Signed.{signed}
 use Rattle.pending_list.specs.Reply.{digest_of_last, reply, user_of}
@@ -32,7 +33,6 @@ use Rattle.client_verify.specs.declared.phase.Phase.{Phase}
 use Rattle.client_verify.specs.declared.phase.Phase.TheVariants as phase
 use Rattle.client_verify.specs.declared.asked.Asked.{Asked}
 use Rattle.client_verify.specs.declared.view.Looking.{Looking}
-use Rattle.client_verify.specs.Genesis.{first_blocks, first_handle}
 use Rattle.client_verify.specs.FirstBroken.{Known}
 
 -- a reply that breaks none of the rules on lists, of which a block is asked for
@@ -40,15 +40,18 @@ pub record Checked : Type 0 where
   pub lists : Lists
   pub asked : Asked
 
--- a reply that breaks no rule, and the tree after the own operation
+-- a reply that breaks no rule, the handle of the own part after the own operation, and the changes that it loses
 pub record Ready : Type 0 where
   pub lists : Lists
-  pub tree : OwnTree
+  pub handle : Handle
+  pub lost : List ℕ
 
--- an accepted view: the structures that it was signed over, with the own new one in its user's place, and the tree
-pub record View : Type 0 where
+-- an accepted view: the lists of the reply that it was signed over, its structures with the own new one in its user's
+-- place, and the changes that the own operation lost
+pub record AcceptedView : Type 0 where
+  pub lists : Lists
   pub structures : List (Signed Structure)
-  pub tree : OwnTree
+  pub lost : List ℕ
   pub looking : Option Looking
 
 pub record State : Type 0 where
@@ -74,7 +77,7 @@ pub record State : Type 0 where
   -- the accepted reply, which isn't signed yet
   pub accepted : Option Ready
   -- the view that was accepted last
-  pub view : Option View
+  pub view : Option AcceptedView
 
 abbrev pub known : State → Known
 known s = record { user = s.user; pinned = s.pinned; last = s.last; declared = s.text }
@@ -91,7 +94,7 @@ initial user seed id pinned = record {
   last = None;
   phase = phase.Idle;
   text = [];
-  blocks = first_blocks user pinned;
+  blocks = first_blocks pinned;
   checked = None;
   accepted = None;
   view = None;
@@ -131,18 +134,16 @@ block_breaks blocks a None = Some rule.Block
 block_breaks blocks a (Some block) =
     if bytes_eq (hash block) a.digest then (if takes blocks a.spot block then None else Some rule.Content) else Some rule.Block
 
+-- The lists of a reply as a view, whose tree is read. The table of principals is that of the beginning, since no operation
+-- changes it yet.
+abbrev pub view_over : Key → Lists → View
+view_over key x = record { key = key; table = genesis key; structures = x.structures; others = x.others; own = x.own }
+
 -- the state with one block more
 abbrev pub holding : State → List ℕ → State
 holding s block = record s { blocks = keeping s.blocks block }
 
 -- ---- signing
-
--- the handle of a user's i-table that was signed last, at the beginning that of the beginning
-abbrev pub handle_after : ℕ → List ℕ → Option (Signed Structure) → List ℕ
-handle_after user pinned last = option_map_or (λ z. z.value.handle) last (first_handle user pinned)
-
-abbrev pub last_handle : State → List ℕ
-last_handle s = handle_after s.user s.pinned s.last
 
 -- the records of groups, which are carried on
 abbrev pub groups : Option (Signed Structure) → List GroupRecord
@@ -153,7 +154,7 @@ abbrev pub structure_over : List ℕ → Option (Signed Structure) → Plan → 
 structure_over handle last plan = record { plan = plan; handle = handle; groups = groups last }
 
 abbrev pub next_structure : State → Ready → Structure
-next_structure s r = structure_over (handle_of r.tree.table) s.last r.lists.own.plan
+next_structure s r = structure_over r.handle s.last r.lists.own.plan
 
 -- a structure with its signature by this leaf
 abbrev pub signed_by : List ℕ → List ℕ → ℕ → Structure → Signed Structure
@@ -167,8 +168,8 @@ abbrev pub with_own : Signed Structure → List (Signed Structure) → List (Sig
 with_own z zs = with_row nat_cmp user_of zs z
 
 -- the view of an accepted reply
-abbrev pub view_of : State → Ready → View
-view_of s r = record { structures = with_own (signed_structure s r) r.lists.structures; tree = r.tree; looking = None }
+abbrev pub view_of : State → Ready → AcceptedView
+view_of s r = record { lists = r.lists; structures = with_own (signed_structure s r) r.lists.structures; lost = r.lost; looking = None }
 
 -- the state after the structure over an accepted reply is signed
 abbrev pub signed_over : State → Ready → State

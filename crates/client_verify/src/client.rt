@@ -1,6 +1,6 @@
 //! The client.
 
-ghost use Rattle.std.specs.Prelude.{◌≡◌, ◌≢◌, ◌+◌, ◌<◌, ◌≤◌, Some, IfOk, IfErr, IsErrOf, IfSome, IsOk, OnOk, OnErr, IsSome, IsSomeAnd, IsTrue, ◌↔◌, true, length, map};
+ghost use Rattle.std.specs.Prelude.{◌≡◌, ◌≢◌, ◌+◌, ◌<◌, ◌≤◌, Some, IfOk, IfErr, IsErrOf, IfSome, IsOk, OnOk, OnErr, IsSome, IsSomeAnd, IsTrue, ◌↔◌, true, false, length, map};
 ghost use Rattle.std.specs.Option.{option_copied, option_map};
 ghost use Rattle.std.specs.Vec.{vec_items};
 ghost use Rattle.principals.specs.Table.{genesis};
@@ -11,17 +11,16 @@ ghost use Rattle.client_verify.specs.Laid.{are_laid};
 use crate::asked::Asked;
 use crate::checking::check;
 use crate::error::ClientError;
-use crate::genesis::first_blocks;
-use crate::growing::{Grown, Sight, grow, grow_with, see, see_with};
-use crate::lists::Lists;
+use crate::growing::{Shown, Written, show, show_with, write, write_with};
+use crate::lists::{Lists, with_own};
 use crate::look::Look;
 use crate::phase::Phase;
 use crate::signing::{Sealed, seal};
 use crate::step::Step;
 use crate::structure::{SignedOver, sign_over};
 use crate::verdict::judge;
-use crate::view::{Checked, Looking, Ready, View};
-use client_tree::{Held, Outcome, Seen};
+use crate::view::{AcceptedView, Checked, Looking, Ready};
+use client_tree::{Held, Seen, Stored, first_blocks};
 use layout::{Digest, INumber, Memory, Principal, Text, User, Version};
 use lms_sign::{LEAF_COUNT, PrivateKey, PublicKey};
 use pending_list::{Signed, digest_of_last};
@@ -48,7 +47,7 @@ pub struct Client<A: Allocator> {
     blocks: Held<A>,
     checked: Option<Checked<A>>,
     accepted: Option<Ready<A>>,
-    view: Option<View<A>>,
+    view: Option<AcceptedView<A>>,
 }
 
 impl<A: Allocator> Model for Client<A> {
@@ -79,14 +78,12 @@ impl<A: Allocator> Model for Client<A> {
 impl<A: Allocator + Copy> Client<A> {
     ghost use Rattle.std.specs.Prelude.{ℕ, List};
     ghost use Rattle.itable.specs.File.{NoneCollide};
-    ghost use Rattle.principals.specs.Table.{genesis as first_users};
-    ghost use Rattle.update_cert.specs.World.{genesis as first_tree, File};
+    ghost use Rattle.update_cert.specs.World.{genesis as first_tree, File, is_table};
     ghost use Rattle.update_cert.specs.Reading.{Reading};
     ghost use Rattle.itable.specs.ITable.{digest_at};
     ghost use Rattle.update_cert.specs.Blocks.{Agrees};
     ghost use Rattle.client_tree.specs.Held.{held};
-    ghost use Rattle.client_tree.specs.Tree.{tree_of};
-    ghost use Rattle.client_verify.specs.Genesis.{first_table, first_texts, table_text};
+    ghost use Rattle.client_tree.specs.Genesis.{first_table, first_texts, table_text};
     ghost use Rattle.client_verify.specs.State.{initial};
 
     /// A client of this user before its first operation. User 0's public key is known to every client. Memory is wanted for
@@ -98,16 +95,16 @@ impl<A: Allocator + Copy> Client<A> {
         pinned: PublicKey,
     ) -> Result<Client<A>, Memory>
         ensures state { IfOk result (λ client. client ≡ initial user key.seed key.id pinned) }
-        // What it has is the user's part of the tree of the beginning, unless two texts of the beginning have one digest.
-        ensures genesis { IfOk result (λ client. NoneCollide (first_texts user pinned) (first_texts user pinned)
+        // What the i-tables of the beginning have is the tree of the beginning, unless two texts of it have one digest.
+        ensures genesis { IfOk result (λ client. NoneCollide (first_texts pinned) (first_texts pinned)
             → (reads : Reading) → Agrees (held client.blocks) reads
-            → (i : ℕ) → tree_of reads (first_users pinned) (first_table user pinned) user i ≡ first_tree pinned user i) }
+            → (p i : ℕ) → is_table p i ≡ false → option_map reads.content (digest_at (first_table p pinned) i) ≡ first_tree pinned p i) }
         // The table of principals lies in its text, a file.
-        ensures table_file { IfOk result (λ client. NoneCollide (first_texts user pinned) (first_texts user pinned)
+        ensures table_file { IfOk result (λ client. NoneCollide (first_texts pinned) (first_texts pinned)
             → (reads : Reading) → Agrees (held client.blocks) reads
-            → user ≡ 0 → option_map reads.content (digest_at (first_table user pinned) 1) ≡ Some (File (table_text pinned))) }
+            → option_map reads.content (digest_at (first_table 0 pinned) 1) ≡ Some (File (table_text pinned))) }
     {
-        let blocks = first_blocks(alloc, user, pinned.as_bytes())?;
+        let blocks = first_blocks(alloc, pinned.as_bytes())?;
         Ok(Client {
             alloc,
             user,
@@ -206,10 +203,10 @@ impl<A: Allocator + Copy> Client<A> {
     /// The numbers, from 1 and ascending, of the changes of the own operation that had no effect in the accepted view.
     pub fn lost(&self) -> &[u8]
         requires { IsSome self.now.view }
-        ensures { IsSomeAnd self.now.view (λ v. v.tree.lost ≡ result.now) }
+        ensures { IsSomeAnd self.now.view (λ v. v.lost ≡ result.now) }
     {
         match &self.view {
-            Some(view) => view.tree.lost(),
+            Some(view) => &view.lost,
             None => &[],
         }
     }
@@ -250,9 +247,9 @@ fn told<A: Allocator>(seen: Seen<A>) -> Look<A>
 
 impl<A: Allocator + Copy> Client<A> {
     ghost use Rattle.client_tree.specs.Held.{held};
-    ghost use Rattle.client_verify.specs.State.{block_breaks, declared, committed, next_cert, sent, signed_over, last_handle};
+    ghost use Rattle.client_verify.specs.State.{block_breaks, declared, committed, next_cert, sent, signed_over, view_over};
     ghost use Rattle.client_verify.specs.Judged.{Goes, Judged, Handed};
-    ghost use Rattle.client_verify.specs.Grown.{IsGrown, IsSight};
+    ghost use Rattle.client_verify.specs.Grown.{IsAnswer, IsWritten};
     ghost use Rattle.client_verify.specs.Looked.{Looked, Given};
 
     /// The number of the next operation, where a leaf is left.
@@ -318,21 +315,29 @@ impl<A: Allocator + Copy> Client<A> {
     }
 
     /// Goes on with a reply whose lists break no rule: a block is asked for, or the reply is accepted.
-    fn go(&mut self, lists: Lists<A>, grown: Grown<A>) -> Step<A>
-        requires { IsGrown (held self.old.blocks) (last_handle self.old) lists.own.cert grown }
+    fn go(&mut self, lists: Lists<A>, written: Written<A>) -> Step<A>
+        requires { IsWritten (held self.old.blocks) (view_over self.old.pinned lists) written }
         ensures { Goes self.old lists result self.new }
     {
-        match grown {
-            Grown::Lacks(asked) => {
+        match written {
+            Written::Lacks(asked) => {
                 let digest = asked.digest;
                 self.checked = Some(Checked { lists, asked });
                 self.accepted = None;
                 Step::Need(digest)
             }
-            Grown::Stands(outcome) => {
-                let Outcome { tree, texts } = outcome;
+            Written::Part(part, lost) => {
+                let Stored {
+                    principal: _,
+                    handle,
+                    texts,
+                } = part;
                 self.checked = None;
-                self.accepted = Some(Ready { lists, tree });
+                self.accepted = Some(Ready {
+                    lists,
+                    handle,
+                    lost,
+                });
                 Step::Store(texts)
             }
         }
@@ -359,18 +364,11 @@ impl<A: Allocator + Copy> Client<A> {
             Err(rule) => return Ok(Step::Broken(rule)),
         };
         // Its last pending certificate is the own one.
-        let Some(lists) = Lists::of(reply)? else {
+        let Some(lists) = Lists::of(reply) else {
             unreachable!()
         };
-        let grown = grow(
-            self.alloc,
-            self.user,
-            &self.pinned,
-            self.last.as_ref(),
-            lists.own().cert(),
-            &self.blocks,
-        )?;
-        Ok(self.go(lists, grown))
+        let written = write(self.alloc, &self.pinned, &lists, &self.blocks)?;
+        Ok(self.go(lists, written))
     }
 
     /// Takes the block that the reply under check asks for, or its absence. Only want of memory is an error.
@@ -391,12 +389,10 @@ impl<A: Allocator + Copy> Client<A> {
             Ok(text) => text,
             Err(rule) => return Ok(Step::Broken(rule)),
         };
-        let grown = grow_with(
+        let written = write_with(
             self.alloc,
-            self.user,
             &self.pinned,
-            self.last.as_ref(),
-            checked.lists.own().cert(),
+            &checked.lists,
             &self.blocks,
             digest,
             text,
@@ -406,7 +402,7 @@ impl<A: Allocator + Copy> Client<A> {
         let Some(checked) = self.checked.take() else {
             unreachable!()
         };
-        Ok(self.go(checked.lists, grown))
+        Ok(self.go(checked.lists, written))
     }
 
     /// Signs the structure over the accepted reply, and gives it as it is sent. From here on the view is accepted. It
@@ -422,17 +418,18 @@ impl<A: Allocator + Copy> Client<A> {
         if self.leaf >= LEAF_COUNT {
             return Err(ClientError::NoLeaf);
         }
-        let over = match &self.accepted {
-            Some(ready) => sign_over(
-                self.alloc,
-                &self.key,
-                self.leaf,
-                ready.tree.handle(),
-                self.last.as_ref(),
-                ready.lists.own().plan(),
-            )?,
-            None => unreachable!(),
+        let Some(ready) = &self.accepted else {
+            unreachable!()
         };
+        let copies = ready.lists.copies(self.alloc)?;
+        let over = sign_over(
+            self.alloc,
+            &self.key,
+            self.leaf,
+            ready.handle,
+            self.last.as_ref(),
+            ready.lists.own().plan(),
+        )?;
         let Some(ready) = self.accepted.take() else {
             unreachable!()
         };
@@ -447,9 +444,10 @@ impl<A: Allocator + Copy> Client<A> {
         self.phase = Phase::Signed;
         self.text = kept;
         self.checked = None;
-        self.view = Some(View {
-            structures: ready.lists.with_own(shown),
-            tree: ready.tree,
+        self.view = Some(AcceptedView {
+            lists: ready.lists,
+            structures: with_own(copies, shown),
+            lost: ready.lost,
             looking: None,
         });
         Ok(sent)
@@ -463,24 +461,31 @@ impl<A: Allocator + Copy> Client<A> {
         ensures only_memory { IfErr result (λ e. e ≡ ClientError.Memory) }
         ensures err { OnErr result (self.new ≡ self.old) }
     {
-        let sight = match &self.view {
-            Some(view) => see(self.alloc, &view.tree, principal, i_number, &self.blocks)?,
-            None => unreachable!(),
+        let Some(view) = &self.view else {
+            unreachable!()
         };
-        Ok(self.show(principal, i_number, sight))
+        let shown = show(
+            self.alloc,
+            &self.pinned,
+            &view.lists,
+            principal,
+            i_number,
+            &self.blocks,
+        )?;
+        Ok(self.answer(principal, i_number, shown))
     }
 
     /// Goes on with a look: a block is asked for, or it is over.
-    fn show(&mut self, principal: Principal, i_number: INumber, sight: Sight<A>) -> Look<A>
+    fn answer(&mut self, principal: Principal, i_number: INumber, shown: Shown<A>) -> Look<A>
         requires view { IsSome self.old.view }
-        requires sight { IfSome self.old.view (λ v. IsSight (held self.old.blocks) v.tree.table principal i_number sight) }
+        requires shown { IfSome self.old.view (λ v. IsAnswer (held self.old.blocks) (view_over self.old.pinned v.lists) principal i_number shown) }
         ensures { IfSome self.old.view (λ v. Looked self.old v principal i_number result self.new) }
     {
         let Some(view) = &mut self.view else {
             unreachable!()
         };
-        match sight {
-            Sight::Lacks(asked) => {
+        match shown {
+            Shown::Lacks(asked) => {
                 let digest = asked.digest;
                 view.looking = Some(Looking {
                     principal,
@@ -489,7 +494,7 @@ impl<A: Allocator + Copy> Client<A> {
                 });
                 Look::Need(digest)
             }
-            Sight::Sees(seen) => {
+            Shown::Sees(seen) => {
                 view.looking = None;
                 told(seen)
             }
@@ -517,9 +522,10 @@ impl<A: Allocator + Copy> Client<A> {
             Ok(text) => text,
             Err(rule) => return Ok(Look::Broken(rule)),
         };
-        let sight = see_with(
+        let shown = show_with(
             self.alloc,
-            &view.tree,
+            &self.pinned,
+            &view.lists,
             looking.principal,
             looking.i_number,
             &self.blocks,
@@ -528,7 +534,7 @@ impl<A: Allocator + Copy> Client<A> {
         )?;
         let copy = Vec::from_slice(self.alloc, text)?;
         self.blocks.keep_as(digest, copy)?;
-        Ok(self.show(looking.principal, looking.i_number, sight))
+        Ok(self.answer(looking.principal, looking.i_number, shown))
     }
 
     /// Takes the server's answer to the structure: with status 0 the operation is over, and any other changes nothing.

@@ -1,51 +1,34 @@
-//! The tree after the own operation, as far as the blocks that are held tell it.
+//! What the own operation makes of the tree, and what stands there, as far as the blocks that are held tell it.
 
-ghost use Rattle.std.specs.Prelude.{◌≡◌, IfOk, map, true};
-ghost use Rattle.std.specs.Option.{option_copied};
-ghost use Rattle.std.specs.Vec.{vec_items};
+ghost use Rattle.std.specs.Prelude.{◌≡◌, [], IfOk};
+ghost use Rattle.pending_list.specs.Groups.{raised_groups};
 ghost use Rattle.update_cert.specs.declared.error.ApplyError.TheVariants as apply_error;
 ghost use Rattle.layout.specs.Hash.{hash};
 ghost use Rattle.client_tree.specs.Held.{held, keeping};
-ghost use Rattle.client_verify.specs.State.{handle_after};
-ghost use Rattle.client_verify.specs.Grown.{IsGrown, IsSight};
+ghost use Rattle.client_verify.specs.State.{view_over};
+ghost use Rattle.client_verify.specs.Grown.{IsAnswer, IsWritten};
 
 use crate::asked::Asked;
-use crate::genesis::first_handle;
-use client_tree::{Held, Outcome, Seen, Tree, With};
-use layout::{Digest, INumber, Memory, Principal, User};
+use crate::lists::Lists;
+use client_tree::{Held, Seen, Stored, View, With};
+use layout::{Digest, INumber, Memory, Principal};
 use lms_sign::PublicKey;
-use pending_list::Signed;
+use principals::Table;
 use std::alloc::Allocator;
-use update_cert::{ApplyError, Blocks, Cert};
-use version_order::Structure;
+use update_cert::{ApplyError, Blocks};
 
-/// The tree after an operation, or the block that is wanted to tell it.
+/// The own part after the own operation with the changes that it loses, or the block that is wanted to tell it.
 #[derive(Drop)]
-pub(crate) enum Grown<A: Allocator> {
+pub(crate) enum Written<A: Allocator> {
     Lacks(Asked),
-    Stands(Outcome<A>),
+    Part(Stored<A>, Vec<u8, A>),
 }
 
 /// What stands at an i-number, or the block that is wanted to tell it.
 #[derive(Drop)]
-pub(crate) enum Sight<A: Allocator> {
+pub(crate) enum Shown<A: Allocator> {
     Lacks(Asked),
     Sees(Seen<A>),
-}
-
-/// The handle of a user's i-table that was signed last, at the beginning that of the beginning.
-fn handle_before<A: Allocator + Copy>(
-    alloc: A,
-    user: User,
-    pinned: &PublicKey,
-    last: Option<&Signed<Structure<A>>>,
-) -> Result<Digest, Memory>
-    ensures { IfOk result (λ handle. handle ≡ handle_after user pinned.now (option_copied last.entry)) }
-{
-    match last {
-        Some(last) => Ok(last.value.handle()),
-        None => first_handle(alloc, user, pinned.as_bytes()),
-    }
 }
 
 /// The block that is missing.
@@ -58,71 +41,104 @@ fn wanted(error: ApplyError) -> Result<Asked, Memory>
     }
 }
 
-/// The tree after the operation of a certificate, whose user signed this structure last.
-pub(crate) fn grow<A: Allocator + Copy, B: Blocks>(
+/// What the own operation makes of the tree of a view, where it raises no group.
+fn write_in<A: Allocator + Copy, B: Blocks>(
     alloc: A,
-    user: User,
-    pinned: &PublicKey,
-    last: Option<&Signed<Structure<A>>>,
-    cert: &Cert<A>,
+    view: &View<'_, A>,
     blocks: &B,
-) -> Result<Grown<A>, Memory>
-    ensures { IfOk result (λ grown. IsGrown (B.held blocks.now) (handle_after user pinned.now (option_copied last.entry)) cert.now grown) }
+) -> Result<Written<A>, Memory>
+    requires { raised_groups view.now.table view.now.own ≡ [] }
+    ensures { IfOk result (λ written. IsWritten (B.held blocks.now) view.now written) }
 {
-    let handle = handle_before(alloc, user, pinned, last)?;
-    match Tree::of(alloc, handle, cert, blocks) {
-        Ok(outcome) => Ok(Grown::Stands(outcome)),
-        Err(error) => Ok(Grown::Lacks(wanted(error)?)),
+    match view.outcome(alloc, blocks) {
+        Ok(outcome) => {
+            let mut parts = outcome.parts;
+            // The own part, and no other.
+            let Some(own) = parts.pop() else {
+                unreachable!()
+            };
+            Ok(Written::Part(own, outcome.lost))
+        }
+        Err(error) => Ok(Written::Lacks(wanted(error)?)),
     }
 }
 
-/// What stands at an i-number of a principal in a tree.
-pub(crate) fn see<A: Allocator + Copy, B: Blocks>(
+/// What the own operation makes of the tree of these lists.
+pub(crate) fn write<A: Allocator + Copy, B: Blocks>(
     alloc: A,
-    tree: &Tree<A>,
+    pinned: &PublicKey,
+    lists: &Lists<A>,
+    blocks: &B,
+) -> Result<Written<A>, Memory>
+    ensures { IfOk result (λ written. IsWritten (B.held blocks.now) (view_over pinned.now lists.now) written) }
+{
+    let table = Table::genesis(alloc, *pinned);
+    let view = lists.view(pinned.as_bytes(), &table);
+    write_in(alloc, &view, blocks)
+}
+
+/// What stands at an i-number of a principal in the tree of a view.
+fn show_in<A: Allocator + Copy, B: Blocks>(
+    alloc: A,
+    view: &View<'_, A>,
     principal: Principal,
     i_number: INumber,
     blocks: &B,
-) -> Result<Sight<A>, Memory>
-    ensures { IfOk result (λ sight. IsSight (B.held blocks.now) tree.now.table principal i_number sight) }
+) -> Result<Shown<A>, Memory>
+    ensures { IfOk result (λ shown. IsAnswer (B.held blocks.now) view.now principal i_number shown) }
 {
-    match tree.look(alloc, blocks, principal, i_number) {
-        Ok(seen) => Ok(Sight::Sees(seen)),
-        Err(error) => Ok(Sight::Lacks(wanted(error)?)),
+    match view.look(alloc, blocks, principal, i_number) {
+        Ok(seen) => Ok(Shown::Sees(seen)),
+        Err(error) => Ok(Shown::Lacks(wanted(error)?)),
     }
 }
 
-/// The same, where one block more is held, whose digest was computed.
-pub(crate) fn grow_with<A: Allocator + Copy>(
+/// What stands at an i-number of a principal in the tree of these lists.
+pub(crate) fn show<A: Allocator + Copy, B: Blocks>(
     alloc: A,
-    user: User,
     pinned: &PublicKey,
-    last: Option<&Signed<Structure<A>>>,
-    cert: &Cert<A>,
+    lists: &Lists<A>,
+    principal: Principal,
+    i_number: INumber,
+    blocks: &B,
+) -> Result<Shown<A>, Memory>
+    ensures { IfOk result (λ shown. IsAnswer (B.held blocks.now) (view_over pinned.now lists.now) principal i_number shown) }
+{
+    let table = Table::genesis(alloc, *pinned);
+    let view = lists.view(pinned.as_bytes(), &table);
+    show_in(alloc, &view, principal, i_number, blocks)
+}
+
+/// The same as `write`, where one block more is held, whose digest was computed.
+pub(crate) fn write_with<A: Allocator + Copy>(
+    alloc: A,
+    pinned: &PublicKey,
+    lists: &Lists<A>,
     blocks: &Held<A>,
     digest: Digest,
     text: &[u8],
-) -> Result<Grown<A>, Memory>
+) -> Result<Written<A>, Memory>
     requires { digest ≡ hash text.now }
-    ensures { IfOk result (λ grown. IsGrown (held (keeping blocks.now text.now)) (handle_after user pinned.now (option_copied last.entry)) cert.now grown) }
+    ensures { IfOk result (λ written. IsWritten (held (keeping blocks.now text.now)) (view_over pinned.now lists.now) written) }
 {
     let with = With::new(blocks, digest, text);
-    grow(alloc, user, pinned, last, cert, &with)
+    write(alloc, pinned, lists, &with)
 }
 
-/// The same, where one block more is held, whose digest was computed.
-pub(crate) fn see_with<A: Allocator + Copy>(
+/// The same as `show`, where one block more is held, whose digest was computed.
+pub(crate) fn show_with<A: Allocator + Copy>(
     alloc: A,
-    tree: &Tree<A>,
+    pinned: &PublicKey,
+    lists: &Lists<A>,
     principal: Principal,
     i_number: INumber,
     blocks: &Held<A>,
     digest: Digest,
     text: &[u8],
-) -> Result<Sight<A>, Memory>
+) -> Result<Shown<A>, Memory>
     requires { digest ≡ hash text.now }
-    ensures { IfOk result (λ sight. IsSight (held (keeping blocks.now text.now)) tree.now.table principal i_number sight) }
+    ensures { IfOk result (λ shown. IsAnswer (held (keeping blocks.now text.now)) (view_over pinned.now lists.now) principal i_number shown) }
 {
     let with = With::new(blocks, digest, text);
-    see(alloc, tree, principal, i_number, &with)
+    show(alloc, pinned, lists, principal, i_number, &with)
 }

@@ -7,11 +7,10 @@ ghost use Rattle.std.specs.Vec.{vec_items};
 ghost use Rattle.client_tree.specs.Held.{held};
 ghost use Rattle.update_cert.specs.Change.{action_of};
 ghost use Rattle.update_cert.specs.Spot.{size_of_block};
-ghost use Rattle.client_verify.specs.Genesis.{digest_of, root_inode};
+ghost use Rattle.client_tree.specs.Genesis.{inode_digest, root_inode};
 ghost use Rattle.client_verify.specs.Laid.{are_blocks_laid, are_laid, is_file_laid, is_laid};
 
-use crate::genesis::root_digest;
-use client_tree::Held;
+use client_tree::{Held, root_digest};
 use itable::{Inode, Kind};
 use layout::{Digest, Memory, ReadError, Text};
 use std::alloc::Allocator;

@@ -6,7 +6,6 @@ mod asked;
 mod checking;
 mod client;
 mod error;
-mod genesis;
 mod growing;
 mod laid;
 mod lists;

@@ -1,14 +1,16 @@
 //! The lists of a reply that breaks none of the rules on lists.
 
-ghost use Rattle.std.specs.Prelude.{◌≡◌, ◌<◌, None, MatchResult, true, vec_len, vec_capacity};
+ghost use Rattle.std.specs.Prelude.{◌≡◌, ◌<◌, None, IfOk, OnOk, MatchResult, true, vec_len, vec_capacity};
 ghost use Rattle.std.specs.Ordering.{nat_cmp};
 ghost use Rattle.layout.specs.Ascending.{Ascends, Stands, IsFree};
 ghost use Rattle.pending_list.specs.Reply.{user_of};
 ghost use Rattle.reply_rules.specs.Rules.{structures_ascend};
 ghost use Rattle.client_verify.specs.State.{with_own};
 
+use client_tree::View;
 use layout::{Memory, User};
 use pending_list::{PendingItem, Reply, Signed};
+use principals::Table;
 use std::alloc::Allocator;
 use std::marker::Model;
 use version_order::Structure;
@@ -23,7 +25,7 @@ pub(crate) struct Lists<A: Allocator> {
 }
 
 impl<A: Allocator> Model for Lists<A> {
-    ghost use Rattle.std.specs.Prelude.{None, ◌<◌, vec_len, vec_capacity};
+    ghost use Rattle.std.specs.Prelude.{None};
     ghost use Rattle.std.specs.Ordering.{nat_cmp};
     ghost use Rattle.layout.specs.Ascending.{Ascends};
     ghost use Rattle.pending_list.specs.Reply.{user_of};
@@ -33,29 +35,24 @@ impl<A: Allocator> Model for Lists<A> {
 
     ghost view = { λ a. record { structures = a.structures.items; others = a.others.items; own = a.own } };
 
-    // There is room for the own structure.
-    ghost invariant = { λ a. Ascends nat_cmp user_of None a.structures.items × (vec_len a.structures < vec_capacity a.structures) };
+    ghost invariant = { λ a. Ascends nat_cmp user_of None a.structures.items };
 }
 
 impl<A: Allocator> Lists<A> {
-    ghost use Rattle.std.specs.Prelude.{IfOk};
     ghost use Rattle.reply_rules.specs.Lists.{lists_of};
 
-    /// The lists of a reply, with room for one structure more. None where nothing is pending.
-    pub(crate) fn of(reply: Reply<A>) -> Result<Option<Lists<A>>, Memory>
+    /// The lists of a reply. None where nothing is pending.
+    pub(crate) fn of(reply: Reply<A>) -> Option<Lists<A>>
         requires { structures_ascend reply ≡ true }
-        ensures { IfOk result (λ lists. lists ≡ lists_of reply) }
+        ensures { result ≡ lists_of reply }
     {
-        let (mut structures, mut pending) = reply.into_parts();
-        let Some(own) = pending.pop() else {
-            return Ok(None);
-        };
-        structures.reserve(1)?;
-        Ok(Some(Lists {
+        let (structures, mut pending) = reply.into_parts();
+        let own = pending.pop()?;
+        Some(Lists {
             structures,
             others: pending,
             own,
-        }))
+        })
     }
 
     /// The own item, which is the last pending one.
@@ -65,11 +62,31 @@ impl<A: Allocator> Lists<A> {
         &self.own
     }
 
-    /// The structures, with this one in its user's place.
-    pub(crate) fn with_own(self, own: Signed<Structure<A>>) -> Vec<Signed<Structure<A>>, A>
-        ensures { result.items ≡ with_own own self.structures }
+    /// The view of these lists, with user 0's key and this table of principals.
+    pub(crate) fn view<'a>(&'a self, key: &'a [u8; 56], table: &'a Table<A>) -> View<'a, A>
+        ensures { result ≡ record { key = key.now; table = table.now; structures = self.now.structures; others = self.now.others; own = self.now.own } }
     {
-        put(self.structures, own)
+        View::new(key, table, &self.structures, &self.others, &self.own)
+    }
+}
+
+impl<A: Allocator + Copy> Lists<A> {
+    /// A copy of the structures, with room for one more.
+    pub(crate) fn copies(&self, alloc: A) -> Result<Vec<Signed<Structure<A>>, A>, Memory>
+        ensures same { IfOk result (λ copies. copies.items ≡ self.now.structures) }
+        ensures room { IfOk result (λ copies. vec_len copies < vec_capacity copies) }
+        ensures ascending { OnOk result (Ascends nat_cmp user_of None self.now.structures) }
+    {
+        let mut copies = Vec::new(alloc);
+        for shown in &self.structures {
+            let value = shown.value.copy(alloc)?;
+            copies.push(Signed {
+                value,
+                signature: shown.signature,
+            })?;
+        }
+        copies.reserve(1)?;
+        Ok(copies)
     }
 }
 
@@ -82,7 +99,7 @@ fn find<A: Allocator>(structures: &[Signed<Structure<A>>], user: User) -> Result
 }
 
 /// The structures with this one in its user's place.
-fn put<A: Allocator>(
+pub(crate) fn with_own<A: Allocator>(
     structures: Vec<Signed<Structure<A>>, A>,
     own: Signed<Structure<A>>,
 ) -> Vec<Signed<Structure<A>>, A>

@@ -2,8 +2,7 @@
 
 use crate::asked::Asked;
 use crate::lists::Lists;
-use client_tree::Tree;
-use layout::{INumber, Principal};
+use layout::{Digest, INumber, Principal};
 use pending_list::Signed;
 use std::alloc::Allocator;
 use std::marker::Model;
@@ -24,11 +23,12 @@ impl<A: Allocator> Model for Checked<A> {
     ghost view = { λ c. record { lists = c.lists; asked = c.asked } };
 }
 
-/// A reply that breaks no rule, and the tree after the own operation.
+/// A reply that breaks no rule, the handle of the own part after the own operation, and the changes that it loses.
 #[derive(Drop)]
 pub(crate) struct Ready<A: Allocator> {
     pub(crate) lists: Lists<A>,
-    pub(crate) tree: Tree<A>,
+    pub(crate) handle: Digest,
+    pub(crate) lost: Vec<u8, A>,
 }
 
 impl<A: Allocator> Model for Ready<A> {
@@ -36,7 +36,7 @@ impl<A: Allocator> Model for Ready<A> {
 
     ghost Value = { Ready };
 
-    ghost view = { λ r. record { lists = r.lists; tree = r.tree } };
+    ghost view = { λ r. record { lists = r.lists; handle = r.handle; lost = r.lost.items } };
 }
 
 /// A look that is under way: at what, and the block that is asked for.
@@ -47,18 +47,20 @@ pub(crate) struct Looking {
     pub(crate) asked: Asked,
 }
 
-/// The accepted view: its structures, with the own one in its user's place, and its tree.
+/// The accepted view: the lists of its reply, its structures with the own new one in its user's place, and the changes that
+/// the own operation lost.
 #[derive(Drop)]
-pub(crate) struct View<A: Allocator> {
+pub(crate) struct AcceptedView<A: Allocator> {
+    pub(crate) lists: Lists<A>,
     pub(crate) structures: Vec<Signed<Structure<A>>, A>,
-    pub(crate) tree: Tree<A>,
+    pub(crate) lost: Vec<u8, A>,
     pub(crate) looking: Option<Looking>,
 }
 
-impl<A: Allocator> Model for View<A> {
-    ghost use Rattle.client_verify.specs.State.{View};
+impl<A: Allocator> Model for AcceptedView<A> {
+    ghost use Rattle.client_verify.specs.State.{AcceptedView};
 
-    ghost Value = { View };
+    ghost Value = { AcceptedView };
 
-    ghost view = { λ v. record { structures = v.structures.items; tree = v.tree; looking = v.looking } };
+    ghost view = { λ v. record { lists = v.lists; structures = v.structures.items; lost = v.lost.items; looking = v.looking } };
 }

@@ -197,7 +197,7 @@ module _ {T K : Type 0} (cmp : K → K → Ordering) (key : T → K) (total : Is
   past a b q Greater e h less = turned q b Less (total.trans q a b (turned a q Greater e) less)
 
   -- no key at or below a row stands after it
-  none_following : (x : T) (xs : List T) (q : K) → Ascends cmp key (Some x) xs → is_lt (cmp (key x) q) ≡ false → row_at cmp key xs q ≡ None
+  pub none_following : (x : T) (xs : List T) (q : K) → Ascends cmp key (Some x) xs → is_lt (cmp (key x) q) ≡ false → row_at cmp key xs q ≡ None
   unfolding Ascends
   none_following x [] q up h = refl
   none_following x (y ∷ ys) q up h =

@@ -1,4 +1,5 @@
 pub mod Ascending
+pub mod AscendingKeys
 pub mod AscendingLaws
 pub mod Format
 pub mod Fronts

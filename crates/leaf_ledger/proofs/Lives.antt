@@ -3,7 +3,7 @@ use Rattle.std.proofs.Common.{◌≡◌, ◌≢◌, ◌⊎◌, inl, inr, ℕ, Bo
 use Rattle.std.specs.List.{IsDistinct, AllByRecursion}
 use Rattle.std.proofs.lemmas.List.{append_cancel_right, get_or_past}
 use Rattle.leaf_ledger.specs.Device.{Disk, History, MayLeave, Leaves, EachLeaves, Throughout, at_rest, moments, started, synced}
-use Rattle.leaf_ledger.specs.Ledger.{is_used, UsedWith, UsedWithOrWithout, IsKept, IsLeastFree, IsFull}
+use Rattle.leaf_ledger.specs.Ledger.{is_used, UsedWith, UsedWithOrWithout, KeepsLedger, IsLeastFree, IsFull}
 use Rattle.leaf_ledger.specs.Life.{IsSure, Call, OneLeaves, LeftDuring, Event, Called, Crashed, IsLife, handed_out}
 use Rattle.leaf_ledger.specs.Moments.{rests, stayed, one_more, at_end, weakened}
 use Rattle.leaf_ledger.proofs.Marked.{other_leaf, same_leaf}
@@ -86,7 +86,7 @@ none_used file leaf used none =
     let two : false ≡ true = sym (ap (λ (x : ℕ). not (x == 0)) past) ∙ used in absurd (cc two)
 
 -- a call that at most syncs a file that is there
-pub kept_call : (old new : History) → IsKept old new → Call None old new
+pub kept_call : (old new : History) → KeepsLedger old new → Call None old new
 kept_call old new kept = record { fresh = tt; sure = tt; keeps = λ leaf sure. from leaf sure (kept (none_used old.now.text leaf sure.0)) }
   where
     from : (leaf : ℕ) → IsSure old leaf → (new ≡ old) ⊎ (new ≡ synced old) → IsSure new leaf × Throughout (λ left. is_used left leaf ≡ true) old new

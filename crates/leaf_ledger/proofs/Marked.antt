@@ -1,12 +1,11 @@
 -- What marking a leaf does to a ledger's file, also where a crash cuts it short.
-use Rattle.std.proofs.Common.{◌≡◌, ◌≢◌, ◌⊎◌, inl, inr, ℕ, ◌+◌, ◌-◌, ◌<◌, Bool, true, false, not, ◌||◌, ◌==◌, nat_eq, List, [], ◌∷◌, ◌++◌, length, get_or, set, refl, sym, ◌∙◌, ap, subst, arith}
+use Rattle.std.proofs.Common.{◌≡◌, ◌≢◌, ◌⊎◌, inl, inr, ℕ, ◌+◌, ◌-◌, ◌<◌, Bool, true, false, not, ◌||◌, ◌==◌, nat_eq, List, [], ◌∷◌, ◌++◌, length, get_or, set, refl, sym, ◌∙◌, ap, arith}
 use Rattle.std.proofs.lemmas.Bool.{cases_eq, cases_lt}
 use Rattle.std.proofs.lemmas.Bool.Decides.{nat_tests}
 use Rattle.std.proofs.lemmas.List.{set-append_right, get_or_past, get_or-append-add, get_or-set_same, get_or-set_other, length-append}
-use Rattle.leaf_ledger.specs.Device.{Disk, History, Torn, Throughout, extent, at_rest, wrote, written, WroteSome, synced}
-use Rattle.leaf_ledger.specs.Ledger.{is_used, UsedWith, UsedWithOrWithout, IsLeastFree}
-use Rattle.leaf_ledger.specs.Moments.{some_put, all_put}
-use Rattle.leaf_ledger.specs.Writes.{written_one}
+use Rattle.leaf_ledger.specs.Device.{Torn, extent, written}
+use Rattle.leaf_ledger.specs.Ledger.{is_used, UsedWith, UsedWithOrWithout, IsLeastFree, IsFileOf}
+use Rattle.leaf_ledger.specs.Writes.{written_one, torn_front}
 
 either : (b : Bool) → (b ≡ true) ⊎ (b ≡ false)
 either true = inl refl
@@ -90,20 +89,9 @@ used_with key marks n size below = with_leaf (key ++ marks) (key ++ set marks n 
     others : (m : ℕ) → m ≢ n → is_used (key ++ set marks n 1) m ≡ is_used (key ++ marks) m
     others m apart = used_at key (set marks n 1) size m ∙ ap (λ (x : ℕ). not (x == 0)) (get_or-set_other marks n m 1 0 apart) ∙ sym (used_at key marks size m)
 
--- from a device at rest
-module _ (old : History) (file : List ℕ) (rest : old.now ≡ at_rest file) (n : ℕ) (below : 56 + n < length file) (free : is_used file n ≡ false) where
-  torn : (left : List ℕ) → Torn file (extent (56 + n) 1 ∷ []) left → UsedWithOrWithout n file left
-  torn left = torn_mark file left n below free
-
-  pub some_marked : (new : History) → WroteSome (56 + n) 1 old new → Throughout (UsedWithOrWithout n file) old new
-  some_marked = some_put (UsedWithOrWithout n file) old file rest (56 + n) 1 (inl (λ m. refl)) torn
-
-  -- what a read then gives
-  pub some_read : (new : History) → WroteSome (56 + n) 1 old new → UsedWithOrWithout n file new.now.text
-  some_read new (inl none) = subst (λ (f : List ℕ). UsedWithOrWithout n file f) (sym (ap (λ (h : History). h.now.text) none ∙ ap (λ (d : Disk). d.text) rest)) (inl (λ m. refl))
-  some_read new (inr some) =
-      subst (λ (f : List ℕ). UsedWithOrWithout n file f) (sym (ap (λ (h : History). h.now.text) some.2))
-      (torn some.0 (subst (λ (d : Disk). Torn d.text (extent (56 + n) 1 ∷ []) some.0) rest some.1))
-
-  pub all_marked : (new : History) (text : List ℕ) → new ≡ synced (wrote (56 + n) 1 text old) → UsedWith n file text → Throughout (UsedWithOrWithout n file) old new
-  all_marked new text is with = all_put (UsedWithOrWithout n file) old file rest (56 + n) 1 (inl (λ m. refl)) torn new text is (inr with)
+-- a torn mark leaves a file of the same key
+pub torn_own : (key file left : List ℕ) (n : ℕ) → IsFileOf key file → 56 + n < length file → Torn file (extent (56 + n) 1 ∷ []) left → IsFileOf key left
+torn_own key file left n own below torn = (
+  omega (arith, own.0, below, torn.no_shorter, torn.no_longer),
+  torn_front file left 56 (extent (56 + n) 1 ∷ []) (omega arith, tt) (omega (arith, own.0)) torn ∙ own.1,
+)

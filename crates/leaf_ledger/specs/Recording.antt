@@ -1,5 +1,5 @@
 -- The history of a text in memory, by its calls.
-use Rattle.std.specs.Prelude.{ℕ, List, [], ◌∷◌}
+use Rattle.std.specs.Prelude.{ℕ, Option, List, [], ◌∷◌}
 use Rattle.leaf_ledger.specs.Device.{History, wrote, written, synced}
 use Rattle.leaf_ledger.specs.declared.device_call.DeviceCall.{DeviceCall}
 use Rattle.leaf_ledger.specs.declared.device_call.DeviceCall.TheVariants as call
@@ -14,7 +14,13 @@ abbrev pub replayed : {A : Type 0} → History → List (DeviceCall A) → Histo
 replayed h [] = h
 replayed h (c ∷ calls) = replayed (after_call c h) calls
 
--- a device in memory as its callers see it
+-- a device in memory as its callers see it: also how many calls go well before the one that fails, if one will
 pub record MemoryState : Type 0 where
+  pub history : History
+  pub faults : ℕ
+  pub calls_left : Option ℕ
+
+-- a device over a file as its callers see it
+pub record FileState : Type 0 where
   pub history : History
   pub faults : ℕ

@@ -1,7 +1,7 @@
 //! Devices: what holds the bytes of a file, and may fail or crash.
 
 ghost use Rattle.std.specs.Prelude.{◌≡◌, ◌+◌, ◌^◌, ◌<◌, ◌≤◌, ℕ, length, take, drop, IfOk, OnOk, OnErr};
-ghost use Rattle.leaf_ledger.specs.Device.{History, wrote_bytes, WroteSome, synced, HasCause};
+ghost use Rattle.leaf_ledger.specs.Device.{History, end_of_files, wrote_bytes, WroteSome, synced, HasCause};
 
 use thiserror::Error;
 
@@ -28,7 +28,7 @@ pub trait Device {
     /// How many bytes a read gives.
     fn len(&mut self) -> Result<usize, DeviceError>
         ensures size { IfOk result (λ size. size ≡ length (history self.old).now.text) }
-        ensures bounded { IfOk result (λ size. size < 2 ^ 63) }
+        ensures bounded { IfOk result (λ size. size < end_of_files) }
         ensures same { history self.new ≡ history self.old }
         ensures cause { HasCause (fault_count self.old) (fault_count self.new) result };
 
@@ -43,7 +43,7 @@ pub trait Device {
     fn write_at(&mut self, at: usize, bytes: &[u8]) -> Result<(), DeviceError>
         requires { at ≤ length (history self.old).now.text }
         ensures ok { OnOk result (history self.new ≡ wrote_bytes at bytes.now (history self.old)) }
-        ensures bounded { OnOk result (at + length bytes.now < 2 ^ 63) }
+        ensures bounded { OnOk result (at + length bytes.now < end_of_files) }
         ensures err { OnErr result (WroteSome at (length bytes.now) (history self.old) (history self.new)) }
         ensures cause { HasCause (fault_count self.old) (fault_count self.new) result };
 
@@ -58,7 +58,7 @@ pub trait Device {
 pub fn write_through<D: Device>(device: &mut D, at: usize, bytes: &[u8]) -> Result<(), DeviceError>
     requires { at ≤ length (D.history device.old).now.text }
     ensures ok { OnOk result (D.history device.new ≡ synced (wrote_bytes at bytes.now (D.history device.old))) }
-    ensures bounded { OnOk result (at + length bytes.now < 2 ^ 63) }
+    ensures bounded { OnOk result (at + length bytes.now < end_of_files) }
     ensures err { OnErr result (WroteSome at (length bytes.now) (D.history device.old) (D.history device.new)) }
     ensures cause { HasCause (D.fault_count device.old) (D.fault_count device.new) result }
 {

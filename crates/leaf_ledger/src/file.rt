@@ -28,9 +28,9 @@ pub struct FileDevice<A: Allocator> {
 }
 
 impl<A: Allocator> Model for FileDevice<A> {
-    ghost use Rattle.leaf_ledger.specs.Recording.{MemoryState};
+    ghost use Rattle.leaf_ledger.specs.Recording.{FileState};
 
-    ghost Value = { MemoryState };
+    ghost Value = { FileState };
 
     ghost view = { λ f. record { history = f.kept; faults = f.faults } };
 }

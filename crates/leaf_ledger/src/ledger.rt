@@ -1,8 +1,8 @@
 //! Ledgers.
 
-ghost use Rattle.std.specs.Prelude.{◌≡◌, ◌≢◌, ◌+◌, ◌-◌, ◌^◌, ◌<◌, ℕ, true, false, IfErr, IfOk, OnOk, OnErr, IsErrOf, None};
-ghost use Rattle.leaf_ledger.specs.Device.{at_rest, Throughout};
-ghost use Rattle.leaf_ledger.specs.Ledger.{UsedWith, UsedWithOrWithout, UsedAsBefore, IsLeastFree, IsFull, IsFileOf, IsForeign, IsKept};
+ghost use Rattle.std.specs.Prelude.{◌≡◌, ◌≢◌, ◌+◌, ◌-◌, ◌≤◌, true, false, IfErr, IfOk, OnOk, OnErr, IsErrOf, None};
+ghost use Rattle.leaf_ledger.specs.Device.{at_rest, Throughout, HasRisen};
+ghost use Rattle.leaf_ledger.specs.Ledger.{LeafNumber, with_mark, UsedWith, UsedWithOrWithout, UsedAsBefore, IsLeastFree, IsFull, IsFileOf, IsForeign, KeepsLedger};
 ghost use Rattle.leaf_ledger.specs.Life.{Call, handed_by};
 
 use crate::device::{Device, write_through};
@@ -38,9 +38,16 @@ impl<D: Device> Model for Ledger<D> {
 
     ghost Value = { LedgerState };
 
-    ghost view = { λ l. record { key = l.key; file = D.history l.device; faults = D.fault_count l.device; outstanding = l.outstanding; usable = l.usable } };
+    ghost view = { λ l. record {
+      key = l.key;
+      file = D.history l.device;
+      faults = D.fault_count l.device;
+      outstanding = l.outstanding;
+      usable = l.usable;
+    } };
 
-    ghost invariant = { λ l. IsLedger l.key l.marks l.next l.outstanding (l.usable ≡ true → (D.history l.device).now ≡ at_rest (l.key ++ l.marks)) };
+    ghost invariant = { λ l. IsLedger l.key l.marks l.next l.outstanding
+        (l.usable ≡ true → (D.history l.device).now ≡ at_rest (l.key ++ l.marks)) };
 }
 
 impl<D: Device> Ledger<D> {
@@ -54,16 +61,19 @@ impl<D: Device> Ledger<D> {
         // A file that is there keeps its used leaves, and a new one has none.
         ensures used { IfOk result (λ ledger. UsedAsBefore (D.history device).now.text ledger.file.now.text) }
         // All that it does to a file that is there is to sync it.
-        ensures kept { IfOk result (λ ledger. IsKept (D.history device) ledger.file) }
-        ensures kept_err { IfErr result (λ e. IsKept (D.history device) (D.history e.1)) }
+        ensures kept { IfOk result (λ ledger. KeepsLedger (D.history device) ledger.file) }
+        ensures kept_err { IfErr result (λ e. KeepsLedger (D.history device) (D.history e.1)) }
         // A step of the file's life, of which `no_leaf_twice` speaks.
         ensures step { IfOk result (λ ledger. Call None (D.history device) ledger.file) }
         ensures step_err { IfErr result (λ e. Call None (D.history device) (D.history e.1)) }
-        ensures foreign { IfErr result (λ e. e.0 ≡ LedgerError.Foreign → IsForeign key.now (D.history device).now.text) }
+        ensures foreign { IfErr result (λ e. e.0 ≡ LedgerError.Foreign
+            → IsForeign key.now (D.history device).now.text) }
         ensures own { IfOk result (λ _. IsForeign key.now (D.history device).now.text → ⊥) }
         ensures no_leaf { IfErr result (λ e. e.0 ≢ LedgerError.NoLeaf) }
-        ensures device { IfErr result (λ e. e.0 ≡ LedgerError.Device → D.fault_count e.1 < 2 ^ 64 - 1
-            → D.fault_count device < D.fault_count e.1) }
+        ensures device { IfErr result (λ e. e.0 ≡ LedgerError.Device
+            → HasRisen (D.fault_count device) (D.fault_count e.1)) }
+        ensures later { IfOk result (λ ledger. D.fault_count device ≤ ledger.faults) }
+        ensures later_err { IfErr result (λ e. D.fault_count device ≤ D.fault_count e.1) }
     {
         let mut device = device;
         match load(&mut device, key.as_bytes()) {
@@ -84,20 +94,26 @@ impl<D: Device> Ledger<D> {
         requires { self.old.usable ≡ true }
         ensures leaf { IfOk result (λ leaf. IsLeastFree self.old.file.now.text leaf.number) }
         ensures key { IfOk result (λ leaf. leaf.key ≡ self.old.key) }
-        ensures marked { IfOk result (λ leaf. UsedWith leaf.number self.old.file.now.text self.new.file.now.text) }
-        ensures at_rest { IfOk result (λ _. self.new.file.now ≡ at_rest self.new.file.now.text) }
+        // The file has its mark, and else is as it was; a crash leaves just this.
+        ensures marked { IfOk result (λ leaf. self.new.file.now
+            ≡ at_rest (with_mark leaf.number self.old.file.now.text)) }
+        ensures used { IfOk result (λ leaf. UsedWith leaf.number self.old.file.now.text self.new.file.now.text) }
         // While it runs, a crash leaves the leaves used as before or with the new one.
-        ensures any_moment { (leaf : ℕ) → IsLeastFree self.old.file.now.text leaf
+        ensures any_moment { (leaf : LeafNumber) → IsLeastFree self.old.file.now.text leaf
             → Throughout (UsedWithOrWithout leaf self.old.file.now.text) self.old.file self.new.file }
+        // And all the while it leaves a file of this key.
+        ensures own_file { Throughout (IsFileOf self.old.key) self.old.file self.new.file }
         // Where the device fails, a read gives the leaves used as before or with the new one, too.
-        ensures reads { OnErr result ((leaf : ℕ) → IsLeastFree self.old.file.now.text leaf
+        ensures reads { OnErr result ((leaf : LeafNumber) → IsLeastFree self.old.file.now.text leaf
             → UsedWithOrWithout leaf self.old.file.now.text self.new.file.now.text) }
+        ensures reads_own { IsFileOf self.old.key self.new.file.now.text }
         // A step of the file's life, of which `no_leaf_twice` speaks.
         ensures step { Call (handed_by result) self.old.file self.new.file }
         ensures no_leaf { IsErrOf result LedgerError.NoLeaf → IsFull self.old.file.now.text × (self.new ≡ self.old) }
         ensures full { IsFull self.old.file.now.text → IsErrOf result LedgerError.NoLeaf }
         ensures device { IsErrOf result LedgerError.Device → (self.new.usable ≡ false)
-            × (self.new.faults < 2 ^ 64 - 1 → self.old.faults < self.new.faults) }
+            × HasRisen self.old.faults self.new.faults }
+        ensures later { self.old.faults ≤ self.new.faults }
         ensures ours { IsErrOf result LedgerError.Foreign → ⊥ }
         ensures usable { OnOk result (self.new.usable ≡ true) }
         ensures outstanding { OnOk result (self.new.outstanding ≡ self.old.outstanding + 1) }

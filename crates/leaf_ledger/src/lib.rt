@@ -1,5 +1,5 @@
-//! The ledger of a key's leaves: each leaf is marked in a file before it is handed out, so that none is handed out twice,
-//! whatever crash comes.
+//! The ledger of a key's leaves: each leaf is marked in a file before it is handed out, so that none is handed out
+//! twice, whatever crash comes.
 //!
 //! A `Device` holds the bytes of a file (specs/Device.antt says what its calls do and what a crash may leave), and a
 //! `Ledger` stands on one. `MemoryDevice` is a device in memory whose calls fail and which crashes as it is told,

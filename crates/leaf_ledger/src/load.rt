@@ -1,10 +1,10 @@
 //! The file of a ledger, as it is made and read.
 
 ghost use Rattle.std.specs.Prelude.{◌≡◌, ◌≢◌, ◌-◌, ◌^◌, ◌<◌, ◌≤◌, ◌++◌, length, IfOk, OnOk, IsErrOf};
-ghost use Rattle.leaf_ledger.specs.Device.{at_rest, HasCause};
-ghost use Rattle.leaf_ledger.specs.Ledger.{UsedAsBefore, IsForeign, IsKept};
+ghost use Rattle.leaf_ledger.specs.Device.{at_rest, HasCause, HasRisen};
+ghost use Rattle.leaf_ledger.specs.Ledger.{UsedAsBefore, IsForeign, KeepsLedger};
 
-use crate::device::{Device, DeviceError};
+use crate::device::{Device, DeviceError, write_through};
 use crate::error::LedgerError;
 use crate::ledger::MARKS_AT;
 
@@ -18,8 +18,7 @@ fn make<D: Device>(device: &mut D, key: &[u8], marks: &[u8]) -> Result<(), Devic
     ensures cause { HasCause (D.fault_count device.old) (D.fault_count device.new) result }
 {
     device.write_at(0, key)?;
-    device.write_at(key.len(), marks)?;
-    device.sync()?;
+    write_through(device, key.len(), marks)?;
     Ok(())
 }
 
@@ -28,13 +27,13 @@ pub(crate) fn load<D: Device>(device: &mut D, key: &[u8; 56]) -> Result<[u8; 102
     ensures at_rest { IfOk result (λ marks. (D.history device.new).now ≡ at_rest (key.now ++ marks)) }
     ensures used { OnOk result (UsedAsBefore (D.history device.old).now.text (D.history device.new).now.text) }
     // All that it does to a file that is there is to sync it.
-    ensures kept { IsKept (D.history device.old) (D.history device.new) }
+    ensures kept { KeepsLedger (D.history device.old) (D.history device.new) }
     ensures foreign { IsErrOf result LedgerError.Foreign → IsForeign key.now (D.history device.old).now.text }
     ensures own { OnOk result (IsForeign key.now (D.history device.old).now.text → ⊥) }
     ensures no_leaf { IsErrOf result LedgerError.NoLeaf → ⊥ }
     ensures later { D.fault_count device.old ≤ D.fault_count device.new }
-    ensures device { IsErrOf result LedgerError.Device → D.fault_count device.new < 2 ^ 64 - 1
-        → D.fault_count device.old < D.fault_count device.new }
+    ensures device { IsErrOf result LedgerError.Device
+        → HasRisen (D.fault_count device.old) (D.fault_count device.new) }
 {
     device.sync()?;
     let size = device.len()?;

@@ -1,6 +1,6 @@
 //! A device in memory: a call of it can be made to fail, and a crash leaves what is chosen among what it may leave.
 
-ghost use Rattle.std.specs.Prelude.{◌≡◌, IfOk, IfErr};
+ghost use Rattle.std.specs.Prelude.{◌≡◌, Some, None, IfOk, IfErr};
 ghost use Rattle.leaf_ledger.specs.Device.{started, MayLeave};
 ghost use Rattle.leaf_ledger.specs.declared.memory.CrashError.TheVariants as crash_error;
 
@@ -39,13 +39,14 @@ impl<A: Allocator> Model for MemoryDevice<A> {
 
     ghost Value = { MemoryState };
 
-    ghost view = { λ m. record { history = m.recording; faults = m.faults } };
+    ghost view = { λ m. record { history = m.recording; faults = m.faults; calls_left = m.calls_left } };
 }
 
 impl<A: Allocator + Copy> MemoryDevice<A> {
     /// A device that holds a text.
     pub fn new(alloc: A, text: Vec<u8, A>) -> Result<MemoryDevice<A>, Memory>
-        ensures { IfOk result (λ device. device ≡ record { history = started text.items; faults = 0 }) }
+        ensures { IfOk result (λ device. device
+            ≡ record { history = started text.items; faults = 0; calls_left = None }) }
     {
         Ok(MemoryDevice {
             alloc,
@@ -57,7 +58,7 @@ impl<A: Allocator + Copy> MemoryDevice<A> {
 
     /// Lets the call fail that comes after so many.
     pub fn fail_after(&mut self, calls: u64)
-        ensures { self.new ≡ self.old }
+        ensures { self.new ≡ record self.old { calls_left = Some calls } }
     {
         self.calls_left = Some(calls);
     }
@@ -86,8 +87,10 @@ impl<A: Allocator + Copy> MemoryDevice<A> {
     /// The device after a crash that left this text.
     pub fn crash(self, left: Vec<u8, A>) -> Result<MemoryDevice<A>, (CrashError, MemoryDevice<A>)>
         ensures may { IfOk result (λ _. MayLeave self.history.now left.items) }
-        ensures left { IfOk result (λ device. device ≡ record { history = started left.items; faults = self.faults }) }
-        ensures impossible { IfErr result (λ e. e.0 ≡ crash_error.Impossible → MayLeave self.history.now left.items → ⊥) }
+        ensures left { IfOk result (λ device. device
+            ≡ record { history = started left.items; faults = self.faults; calls_left = None }) }
+        ensures impossible { IfErr result (λ e. e.0 ≡ crash_error.Impossible
+            → MayLeave self.history.now left.items → ⊥) }
         ensures same { IfErr result (λ e. e.1 ≡ self) }
     {
         if !self.recording.may_leave(&left) {

@@ -88,7 +88,8 @@ impl<A: Allocator> Model for Recording<A> {
 
     ghost view = { λ r. replayed (started r.first.items) r.calls.items };
 
-    ghost invariant = { λ r. (replayed (started r.first.items) r.calls.items).now ≡ record { text = r.text.items; settled = r.settled.items; unsynced = r.unsynced.items } };
+    ghost invariant = { λ r. (replayed (started r.first.items) r.calls.items).now
+        ≡ record { text = r.text.items; settled = r.settled.items; unsynced = r.unsynced.items } };
 }
 
 impl<A: Allocator + Copy> Recording<A> {

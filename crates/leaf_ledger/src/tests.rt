@@ -95,6 +95,9 @@ fn ascend(numbers: &[u32]) -> bool {
 /// How many calls a first open makes, and three takes after it.
 const CALLS: u64 = 5 + 3 * 2;
 
+/// How many calls an open makes of a file that is there.
+const LATER_OPEN_CALLS: u64 = 4;
+
 #[test]
 fn no_leaf_comes_twice(rt: HostRuntime) -> Result<(), Fail> {
     let alloc = rt.alloc();
@@ -124,6 +127,31 @@ fn no_leaf_comes_twice(rt: HostRuntime) -> Result<(), Fail> {
             let (_, _) = session(device, &key, 1, &mut numbers);
             assert!(rt; ascend(&numbers), "call {failing}, left {left:?}");
         }
+    }
+    Ok(())
+}
+
+#[test]
+fn each_call_of_a_later_open_fails(rt: HostRuntime) -> Result<(), Fail> {
+    let alloc = rt.alloc();
+    let Some(key) = key(1) else {
+        return Err(Fail::new("no key"));
+    };
+    for failing in 0..=LATER_OPEN_CALLS {
+        let mut numbers = Vec::new(alloc);
+        let device = MemoryDevice::new(alloc, Vec::new(alloc))?;
+        let (_, mut device) = session(device, &key, 3, &mut numbers);
+        device.fail_after(failing);
+        let (refused, device) = session(device, &key, 0, &mut numbers);
+        assert!(rt;
+            refused == (failing < LATER_OPEN_CALLS).then_some(LedgerError::Device),
+            "call {failing}"
+        );
+        let (_, _) = session(crashed(alloc, device, Left::New)?, &key, 1, &mut numbers);
+        assert!(rt;
+            numbers.as_slice() == [0, 1, 2, 3].as_slice(),
+            "call {failing}"
+        );
     }
     Ok(())
 }

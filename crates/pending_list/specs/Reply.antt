@@ -12,7 +12,7 @@ use Rattle.layout.specs.Ranges.{size}
 use Rattle.version_order.specs.declared.vector.Component.{Component}
 use Rattle.version_order.specs.Vector.{depth}
 use Rattle.version_order.specs.Plan.{Plan, plan, lawful_plan, at_most_plan}
-use Rattle.version_order.specs.Structure.{Structure, structure, digest_of, lawful_structure, at_most_structure}
+use Rattle.version_order.specs.Structure.{Structure, structure, digest_of_structure, lawful_structure, at_most_structure}
 use Rattle.update_cert.specs.Cert.{Cert, cert, lawful_cert, at_most_cert}
 use Rattle.pending_list.specs.declared.reply.TheConstants.{REPLY_SIZE}
 use Rattle.pending_list.specs.declared.signed.Signed.{Signed}
@@ -92,7 +92,7 @@ reply_fits r few_structures few_pending structures pending = (
 
 -- the digest of a user's last structure, 32 zeros where it has none
 abbrev pub digest_of_last : Option (Signed Structure) → List ℕ
-digest_of_last last = option_map_or (λ s. digest_of s.value) last (replicate 32 0)
+digest_of_last last = option_map_or (λ s. digest_of_structure s.value) last (replicate 32 0)
 
 -- ---- the top
 

@@ -10,7 +10,7 @@ use Rattle.std.proofs.lemmas.Slice.Eq.{bytes_eq-Decides}
 use Rattle.version_order.specs.declared.vector.Component.{Component}
 use Rattle.version_order.specs.declared.plan.Entry.{Entry}
 use Rattle.version_order.specs.declared.structure.GroupRecord.{GroupRecord}
-use Rattle.version_order.specs.Plan.{Plan, entry_of, digest_of}
+use Rattle.version_order.specs.Plan.{Plan, entry_of, digest_of_plan}
 use Rattle.version_order.specs.Structure.{Structure}
 use Rattle.layout.specs.Types.{Digest}
 use Rattle.update_cert.specs.Change.{Change, Remove}
@@ -78,8 +78,8 @@ good = with one_1 zero_2 one_2
 
 -- ---- digests: those of one plan are equal, and plans of other users or numbers aren't compared by them
 
-same_digest : (p : Plan) → bytes_eq (digest_of p) (digest_of p) ≡ true
-same_digest p = (bytes_eq-Decides (digest_of p) (digest_of p)).1 refl
+same_digest : (p : Plan) → bytes_eq (digest_of_plan p) (digest_of_plan p) ≡ true
+same_digest p = (bytes_eq-Decides (digest_of_plan p) (digest_of_plan p)).1 refl
 
 -- ---- unknown user
 

@@ -9,6 +9,8 @@ use Rattle.layout.specs.Types.{Digest, INumber}
 use Rattle.principals.specs.Table.{Table}
 use Rattle.update_cert.specs.World.{Content, Directory, Principals, Tree, is_table}
 use Rattle.update_cert.specs.Reading.{Reading}
+use Rattle.update_cert.specs.declared.part.Slot.{Slot as Held}
+use Rattle.update_cert.specs.declared.part.Slot.TheVariants as held
 
 -- the entries of a directory at an i-number that changed, which the i-table's digest there doesn't tell any more
 pub record Open : Type 0 where
@@ -31,6 +33,11 @@ opened_at part i = option_map (λ o. o.entries) (row_at nat_cmp number_of part.o
 pub data Slot : Type 0 where
   Laid : Digest → Slot
   Changed : Digest → List Entry → Slot
+
+-- a slot in memory
+abbrev pub slot_in : {A : Type 0} → Held A → Slot
+slot_in (held.Laid digest) = Laid digest
+slot_in (held.Changed digest entries) = Changed digest entries
 
 -- the slot of a digest, where these entries are open or none are
 abbrev pub slot_of : Option (List Entry) → Digest → Slot

@@ -17,6 +17,6 @@ pub use blocks::{Blocks, some_reading_agrees};
 pub use cert::{CERT_SIZE, Cert, MOST_CHANGES};
 pub use change::{Action, CHANGE_SIZE, Change};
 pub use error::ApplyError;
-pub use part::{LaidPart, Part};
+pub use part::{LaidPart, Part, Slot};
 pub use reading::{read_directory, read_file, read_inode};
 pub use spot::{Spot, size_of_block};

@@ -52,6 +52,13 @@ impl<A: Allocator> Open<A> {
         &self.directory
     }
 
+    /// The directory, taken out.
+    pub(crate) fn into_directory(self) -> Directory<A>
+        ensures { result ≡ self.entries }
+    {
+        self.directory
+    }
+
     /// Takes the entry of this name out, if there is one.
     pub(crate) fn unlink(&mut self, name: &[u8]) -> bool
         ensures had { result ≡ has_name name.now (Some (Listed self.old.entries)) }

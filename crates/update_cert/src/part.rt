@@ -11,7 +11,7 @@ ghost use Rattle.update_cert.specs.Change.{Make, Put, Remove, Link, Unlink};
 ghost use Rattle.update_cert.specs.World.{Actor, Tree, after_change, is_file, is_removable, is_root as is_root_of};
 ghost use Rattle.update_cert.specs.Reading.{Reading, read_change};
 ghost use Rattle.update_cert.specs.Blocks.{Agrees, inode_at as inode_of};
-ghost use Rattle.update_cert.specs.Part.{Changed, IsPart, IsPartOf, number_of, opened_at as entries_at, part_of, slot_at, stands_at};
+ghost use Rattle.update_cert.specs.Part.{Changed, IsPart, IsPartOf, number_of, opened_at as entries_at, part_of, slot_at, slot_in, stands_at};
 ghost use Rattle.update_cert.specs.Acts.{Acts, LacksAt, LacksBy, LacksFor, change_at, is_void_of, listed};
 ghost use Rattle.update_cert.specs.Slots.{IsReadBack, changed_texts, has_digest, laid_under, slot_after, slot_after_change, slot_changes, slot_digest};
 
@@ -399,6 +399,32 @@ impl<A: Allocator + Copy> Part<A> {
         }
         let effect = self.change(alloc, blocks, user, is_member, change)?;
         Ok(!effect)
+    }
+}
+
+/// What a part has at an i-number.
+#[derive(Drop)]
+pub enum Slot<A: Allocator> {
+    /// What the i-node of this digest is of.
+    Laid(Digest),
+    /// A directory that changed: the digest under which it was laid, and the directory now.
+    Changed(Digest, Directory<A>),
+}
+
+impl<A: Allocator> Part<A> {
+    /// What it has at an i-number, if anything stands there. The part is gone then. It takes no memory.
+    pub fn into_slot(self, i_number: INumber) -> Option<Slot<A>>
+        ensures { option_map slot_in result ≡ slot_at self i_number }
+    {
+        let digest = self.table.get(i_number)?;
+        let mut opened = self.opened;
+        match find(&opened, i_number) {
+            Ok(place) => {
+                let open = opened.remove(place);
+                Some(Slot::Changed(digest, open.into_directory()))
+            }
+            Err(_) => Some(Slot::Laid(digest)),
+        }
     }
 }
 

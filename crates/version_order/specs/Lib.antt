@@ -1,4 +1,3 @@
 pub mod Vector
-pub mod VectorLaws
 pub mod Plan
 pub mod Structure

@@ -1,14 +1,17 @@
 -- Version structures: `SVS1`, the plan of an operation, the handle of the user's own i-table after it, and a record
 -- for each group of which the user wrote a state, ascending by group.
 -- The bytes stand in docs/FORMATS.md.
-use Rattle.std.proofs.Common.{◌≡◌, ◌≤◌, arith}
-use Rattle.std.specs.Prelude.{ℕ, Bool, true, List, Option, Some, None, nat_lt, codes}
+use Rattle.std.proofs.Common.{arith}
+use Rattle.std.specs.Prelude.{List, Option, codes}
 use Rattle.std.specs.Int.{w8, w16, w32}
-use Rattle.std.proofs.lemmas.Bool.{ltb-true}
+use Rattle.std.specs.Ordering.{nat_cmp}
+use Rattle.layout.specs.Types.{Digest, Handle, Group}
 use Rattle.layout.specs.Format.{Format, RowAfter, uint_in, raw, pair, headed, guarded, mapped, listed, nested}
 use Rattle.layout.specs.Laws.{Lawful, laws, in_range, wide8, wide16, wide32}
-use Rattle.layout.specs.Sizes.{AtMost, KeysAscend, least_key, at_most_ascending, at_most_headed, at_most_mapped, at_most_pair, at_most_guarded, at_most_uint_in, at_most_raw, at_most_nested, nested_fits}
+use Rattle.layout.specs.Sizes.{AtMost, KeysAscend, at_most_ascending, at_most_headed, at_most_mapped, at_most_pair, at_most_guarded, at_most_uint_in, at_most_raw, at_most_nested, nested_fits}
 use Rattle.layout.specs.Ranges.{group, version, size}
+use Rattle.layout.specs.Ascending.{above}
+use Rattle.layout.specs.AscendingKeys.{keys_ascend}
 use Rattle.layout.specs.Hash.{hash}
 use Rattle.layout.specs.declared.error.ReadError.TheVariants.{Order}
 use Rattle.version_order.specs.declared.structure.TheConstants.{STRUCTURE_SIZE}
@@ -18,18 +21,17 @@ use Rattle.version_order.specs.Plan.{Plan, plan, lawful_plan, at_most_plan}
 -- a version structure without where it lies in memory
 pub record Structure : Type 0 where
   pub plan : Plan
-  pub handle : List ℕ
+  pub handle : Handle
   pub groups : List GroupRecord
 
--- the group stands above the one of the record before, if there is one
-abbrev pub is_above : Option GroupRecord → ℕ → Bool
-is_above None g = true
-is_above (Some before) g = nat_lt before.group g
+-- the key by which records ascend
+abbrev pub group_of : GroupRecord → Group
+group_of r = r.group
 
 abbrev pub group_record : RowAfter GroupRecord
 group_record before =
     mapped (λ p. record { group = p.0; version = p.1.0; table = p.1.1.0; handle = p.1.1.1 }) (λ r. (r.group, (r.version, (r.table, r.handle))))
-    (pair (guarded group (is_above before) Order) (pair version (pair (uint_in w32 0 4294967295) (raw 32))))
+    (pair (guarded group (above nat_cmp group_of before) Order) (pair version (pair (uint_in w32 0 4294967295) (raw 32))))
 
 abbrev pub group_records : Format (List GroupRecord)
 group_records = listed (uint_in w8 0 255) group_record
@@ -51,16 +53,10 @@ lawful_structure = search (laws, lawful_plan, lawful_group_records) depth 9
 
 -- ---- sizes
 
-above_least : (b : Option GroupRecord) (g : ℕ) → is_above b g ≡ true → 64 ≤ g → least_key (λ r. r.group) 64 b ≤ g
-above_least None g h low = low
-above_least (Some before) g h low = ltb-true before.group g h
-
-records_ascend : KeysAscend group_record (λ r. r.group) 64 96
-records_ascend = record {
-  holds = λ b r fits.
-      let range = in_range w8 64 95 r.group fits.0.0 in
-      (above_least b r.group fits.0.1 range.0, omega (arith, range.1));
-}
+records_ascend : KeysAscend group_record group_of 64 96
+records_ascend = keys_ascend group_record group_of 64 96 (λ b r fits.
+    let range = in_range w8 64 95 r.group fits.0.0 in
+    (fits.0.1, (range.0, omega (arith, range.1))))
 
 at_most_group_record : (b : Option GroupRecord) → AtMost (group_record b) 41
 at_most_group_record b =
@@ -68,7 +64,7 @@ at_most_group_record b =
     (at_most_pair _ _ 4 36 (at_most_uint_in w32 1 4294967295 wide32) (at_most_pair _ _ 4 32 (at_most_uint_in w32 0 4294967295 wide32) (at_most_raw 32))))
 
 at_most_group_records : AtMost group_records 1313
-at_most_group_records = at_most_ascending w8 255 group_record (λ r. r.group) 64 32 41 wide8 records_ascend at_most_group_record
+at_most_group_records = at_most_ascending w8 255 group_record group_of 64 32 41 wide8 records_ascend at_most_group_record
 
 pub at_most_structure : AtMost structure STRUCTURE_SIZE
 at_most_structure =
@@ -80,5 +76,5 @@ pub nested_plan : (p : Plan) → plan.Fits p → (nested size plan).Fits p
 nested_plan = nested_fits w16 65535 plan 2891 at_most_plan (omega arith) (omega arith)
 
 -- the digest of a structure is that of its text, without signature
-abbrev pub digest_of : Structure → List ℕ
-digest_of s = hash (structure.spell s)
+abbrev pub digest_of_structure : Structure → Digest
+digest_of_structure s = hash (structure.spell s)

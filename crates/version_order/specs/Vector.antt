@@ -1,23 +1,29 @@
 -- Vectors: a version for each principal that has one, ascending by principal. One that isn't listed has version 0.
 -- The bytes stand in docs/FORMATS.md.
-use Rattle.std.specs.Prelude.{ℕ, suc, ◌==◌, Bool, true, List, [], ◌∷◌, Option, Some, None, ◌&&◌, option_and_then, nat_lt, nat_le, sum_by, if◌then◌else◌}
-use Rattle.std.specs.Int.{w8}
-use Rattle.std.specs.List.{list_all, slice_get}
+use Rattle.std.proofs.Common.{arith}
+use Rattle.std.specs.Prelude.{ℕ, ◌+◌, Bool, true, List, [], ◌∷◌, Option, ◌&&◌, nat_lt, nat_le, sum_by, if◌then◌else◌}
+use Rattle.std.specs.Int.{w8, w32}
+use Rattle.std.specs.List.{list_all}
+use Rattle.std.specs.Option.{option_map_or}
+use Rattle.std.specs.Ordering.{nat_cmp}
+use Rattle.layout.specs.Types.{Principal, Version}
 use Rattle.layout.specs.Format.{Format, RowAfter, uint_in, pair, guarded, mapped, listed}
-use Rattle.layout.specs.Laws.{Lawful, laws}
+use Rattle.layout.specs.Laws.{Lawful, laws, in_range, wide8, wide32}
 use Rattle.layout.specs.Ranges.{principal, version}
+use Rattle.layout.specs.Ascending.{above, row_at, with_row}
+use Rattle.layout.specs.AscendingKeys.{keys_ascend}
+use Rattle.layout.specs.Sizes.{AtMost, KeysAscend, at_most_ascending, at_most_mapped, at_most_pair, at_most_guarded, at_most_uint_in}
 use Rattle.layout.specs.declared.error.ReadError.TheVariants.{Order}
 use Rattle.version_order.specs.declared.vector.Component.{Component}
 
--- the principal stands above the one of the row before, if there is one
-abbrev pub is_above : Option Component → ℕ → Bool
-is_above None p = true
-is_above (Some before) p = nat_lt before.principal p
+-- the key by which components ascend
+abbrev pub principal_of : Component → Principal
+principal_of c = c.principal
 
 abbrev pub component : RowAfter Component
 component before =
     mapped (λ p. record { principal = p.0; version = p.1 }) (λ c. (c.principal, c.version))
-    (pair (guarded principal (is_above before) Order) version)
+    (pair (guarded principal (above nat_cmp principal_of before) Order) version)
 
 abbrev pub vector : Format (List Component)
 vector = listed (uint_in w8 0 255) component
@@ -29,25 +35,20 @@ pub lawful_vector : Lawful vector
 lawful_vector = search (laws, lawful_component)
 
 -- the version of a principal
-abbrev pub version_of : ℕ → List Component → ℕ
-version_of p [] = 0
-version_of p (c ∷ cs) = if c.principal == p then c.version else version_of p cs
+abbrev pub version_of : Principal → List Component → Version
+version_of p v = option_map_or (λ c. c.version) (row_at nat_cmp principal_of v p) 0
 
 -- the vector with one more at a principal
-abbrev pub raised : ℕ → List Component → List Component
-raised p [] = record { principal = p; version = 1 } ∷ []
-raised p (c ∷ cs) =
-    if c.principal == p then record c { version = suc c.version } ∷ cs
-    else if nat_lt p c.principal then record { principal = p; version = 1 } ∷ c ∷ cs
-    else c ∷ raised p cs
+abbrev pub raised : Principal → List Component → List Component
+raised p v = with_row nat_cmp principal_of v (record { principal = p; version = version_of p v + 1 })
 
 -- the vector with one more at each of these principals
-abbrev pub raised_all : List ℕ → List Component → List Component
+abbrev pub raised_all : List Principal → List Component → List Component
 raised_all [] v = v
 raised_all (p ∷ ps) v = raised_all ps (raised p v)
 
 -- no version would pass the last one
-abbrev pub can_raise_all : List ℕ → List Component → Bool
+abbrev pub can_raise_all : List Principal → List Component → Bool
 can_raise_all [] v = true
 can_raise_all (p ∷ ps) v = nat_lt (version_of p v) 4294967295 && can_raise_all ps (raised p v)
 
@@ -63,11 +64,17 @@ depth v = sum_by user_version v
 abbrev pub is_below : List Component → List Component → Bool
 is_below v w = list_all (λ c. nat_le c.version (version_of c.principal w)) v
 
--- how many components stand before a principal
-abbrev pub place : ℕ → List Component → ℕ
-place p [] = 0
-place p (c ∷ cs) = if nat_lt c.principal p then suc (place p cs) else 0
+-- ---- sizes
 
--- the version of the component at a place, if it is the principal's
-abbrev pub version_at : List Component → ℕ → ℕ → Option ℕ
-version_at v i p = option_and_then (λ c. if c.principal == p then Some c.version else None) (slice_get v i)
+pub components_ascend : KeysAscend component principal_of 0 96
+components_ascend = keys_ascend component principal_of 0 96 (λ b c fits.
+    let range = in_range w8 0 95 c.principal fits.0.0 in
+    (fits.0.1, (omega arith, omega (arith, range.1))))
+
+at_most_component : (b : Option Component) → AtMost (component b) 5
+at_most_component b =
+    at_most_mapped _ _ _ 5
+    (at_most_pair _ _ 1 4 (at_most_guarded _ _ _ 1 (at_most_uint_in w8 0 95 wide8)) (at_most_uint_in w32 1 4294967295 wide32))
+
+pub at_most_vector : AtMost vector 481
+at_most_vector = at_most_ascending w8 255 component principal_of 0 96 5 wide8 components_ascend at_most_component

@@ -259,7 +259,7 @@ impl<A: Allocator + Copy> Entries<A> {
 }
 
 impl<A: Allocator + Copy> Plan<A> {
-    ghost use Rattle.version_order.specs.Plan.{digest_of, entry_of};
+    ghost use Rattle.version_order.specs.Plan.{digest_of_plan, entry_of};
 
     /// A plan like this one.
     pub fn copy(&self, alloc: A) -> Result<Plan<A>, Memory>
@@ -272,7 +272,7 @@ impl<A: Allocator + Copy> Plan<A> {
 
     /// The digest of its text.
     pub fn digest(&self, alloc: A) -> Result<Digest, Memory>
-        ensures { IfOk result (λ digest. digest ≡ digest_of self.now) }
+        ensures { IfOk result (λ digest. digest ≡ digest_of_plan self.now) }
     {
         let text = self.text(alloc)?;
         Ok(digest(&text))

@@ -226,7 +226,7 @@ impl<A: Allocator + Copy> GroupRecords<A> {
 }
 
 impl<A: Allocator + Copy> Structure<A> {
-    ghost use Rattle.version_order.specs.Structure.{digest_of};
+    ghost use Rattle.version_order.specs.Structure.{digest_of_structure};
 
     /// A structure like this one.
     pub fn copy(&self, alloc: A) -> Result<Structure<A>, Memory>
@@ -239,7 +239,7 @@ impl<A: Allocator + Copy> Structure<A> {
 
     /// The digest of its text, without signature.
     pub fn digest(&self, alloc: A) -> Result<Digest, Memory>
-        ensures { IfOk result (λ digest. digest ≡ digest_of self.now) }
+        ensures { IfOk result (λ digest. digest ≡ digest_of_structure self.now) }
     {
         let text = self.text(alloc)?;
         Ok(digest(&text))

@@ -3,8 +3,9 @@
 ghost use Rattle.std.specs.Prelude.{◌≡◌, ◌≢◌, ◌==◌, ℕ, if◌then◌else◌, IfErr, ◌<◌, ◌≤◌, ◌↔◌, ◌+◌, ◌++◌, Option, OnOk, OnErr, IfOk, IsTrue, MatchResult, [], length};
 ghost use Rattle.std.specs.Option.{option_copied};
 ghost use Rattle.layout.specs.Format.{Reads};
-ghost use Rattle.version_order.specs.VectorLaws.{Stands, IsFree};
-ghost use Rattle.version_order.specs.Vector.{vector, component, version_of, raised, place, version_at, depth, user_version, is_below};
+ghost use Rattle.std.specs.Ordering.{nat_cmp};
+ghost use Rattle.layout.specs.Ascending.{Stands, IsFree};
+ghost use Rattle.version_order.specs.Vector.{principal_of, vector, component, version_of, raised, depth, user_version, is_below};
 
 use crate::error::PlanError;
 use layout::{
@@ -101,17 +102,6 @@ impl Component {
     }
 }
 
-fn version_in(components: &[Component], principal: Principal) -> u32
-    ensures { result ≡ version_of principal components.now }
-{
-    for component in components {
-        if component.principal == principal {
-            return component.version.get();
-        }
-    }
-    0
-}
-
 fn depth_of(components: &[Component]) -> u64
     requires { length components.now < 256 }
     ensures { result ≡ depth components.now }
@@ -123,44 +113,51 @@ fn depth_of(components: &[Component]) -> u64
     sum
 }
 
-/// How many components stand before the principal.
-fn place_of(components: &[Component], principal: Principal) -> usize
-    ensures same { result ≡ place principal components.now }
-    ensures inside { result ≤ length components.now }
-{
-    let mut before = 0;
-    for component in components {
-        if component.principal.get() >= principal.get() {
-            return before;
-        }
-        before += 1;
-    }
-    before
-}
-
-/// The version at a place, if it is the principal's.
-fn version_at(components: &[Component], place: usize, principal: Principal) -> Option<Version>
-    ensures { result ≡ version_at components.now place principal }
-{
-    match components.get(place) {
-        Some(component) if component.principal == principal => Some(component.version),
-        _ => None,
-    }
-}
-
-/// Where the principal stands and its version, or where it would stand.
-fn find(components: &[Component], principal: Principal) -> Result<(usize, Version), usize>
+/// Where a principal stands, or where it would stand.
+fn find(components: &[Component], principal: Principal) -> Result<usize, usize>
     requires { vector.Fits components.now }
-    ensures { MatchResult result (λ found. Stands principal components.now found.0 found.1) (IsFree principal components.now) }
+    ensures { MatchResult result (Stands nat_cmp principal_of components.now principal) (IsFree nat_cmp principal_of components.now principal) }
 {
-    let place = place_of(components, principal);
-    match version_at(components, place, principal) {
-        Some(version) => Ok((place, version)),
-        None => Err(place),
+    components.binary_search_by_key(&principal.get(), |component| component.principal.get())
+}
+
+fn version_in(components: &[Component], principal: Principal) -> u32
+    requires { vector.Fits components.now }
+    ensures { result ≡ version_of principal components.now }
+{
+    match find(components, principal) {
+        Ok(place) => components[place].version.get(),
+        Err(_) => 0,
     }
 }
 
-#[tactic(auto, using(crate::specs::VectorLaws::raising))]
+/// Whether none of the first components is greater than the second's: it goes over both lists once.
+fn none_greater(first: &[Component], second: &[Component]) -> bool
+    requires first { vector.Fits first.now }
+    requires second { vector.Fits second.now }
+    ensures { result ≡ is_below first.now second.now }
+{
+    let mut left = first;
+    for other in second {
+        let Some((own, after)) = left.split_first() else {
+            return true;
+        };
+        let (own_number, other_number) = (own.principal.get(), other.principal.get());
+        if own_number < other_number {
+            // The second has version 0 there.
+            return false;
+        }
+        if own_number == other_number {
+            if own.version.get() > other.version.get() {
+                return false;
+            }
+            left = after;
+        }
+    }
+    left.is_empty()
+}
+
+/// Adds one to the version of a principal. After an error the components are as before.
 fn raise<A: Allocator>(
     components: &mut Vec<Component, A>,
     principal: Principal,
@@ -169,13 +166,12 @@ fn raise<A: Allocator>(
     ensures ok { OnOk result (components.new.items ≡ raised principal components.old.items) }
     ensures within { OnOk result (version_of principal components.old.items < 4294967295) }
     ensures limit { (result ≡ Err PlanError.Limit) ↔ (version_of principal components.old.items ≡ 4294967295) }
-    ensures versions { OnOk result ((p : ℕ) → version_of p components.new.items ≡ version_of p components.old.items + (if principal == p then 1 else 0)) }
     ensures no_memory { 0 < version_of principal components.old.items → IfErr result (λ e. e ≢ PlanError.Memory) }
     ensures err { OnErr result (components.new.items ≡ components.old.items) }
 {
     match find(components, principal) {
-        Ok((place, version)) => {
-            let Some(version) = version.next() else {
+        Ok(place) => {
+            let Some(version) = components[place].version.next() else {
                 return Err(PlanError::Limit);
             };
             components[place] = Component { principal, version };
@@ -224,9 +220,7 @@ impl<A: Allocator> Vector<A> {
     pub fn is_below(&self, other: &Vector<A>) -> bool
         ensures { result ≡ is_below self.now other.now }
     {
-        self.components
-            .iter()
-            .all(|own| own.version.get() <= other.version_of(own.principal))
+        none_greater(&self.components, &other.components)
     }
 
     /// Adds one to the version of a principal. After an error the vector is as before.

@@ -2,7 +2,7 @@
 
 ghost use Rattle.layout.specs.declared.error.ReadError.TheVariants as read_error;
 ghost use Rattle.std.specs.Prelude.{◌≢◌, IfErr, ◌≡◌, ◌<◌, List, ℕ, ◌∷◌, Ok, IfOk, Some, true, length, option_map};
-ghost use Rattle.layout.specs.Format.{Gives, whole};
+ghost use Rattle.layout.specs.Format.{Gives, IsBytes, ReadsAs, whole};
 ghost use Rattle.wire.specs.Frame.{frame, request, reply_body, request_of, may_carry, reply_of};
 
 use crate::kinds::{RequestKind, Status};
@@ -70,13 +70,22 @@ pub fn body_of(bytes: &[u8]) -> Result<&[u8], ReadError>
     whole_body(bytes)
 }
 
+/// The body of the frame that a text begins with. After an error the reader may have read its length.
+pub(crate) fn first_body<'a>(reader: &mut Reader<'a>) -> Result<&'a [u8], ReadError>
+    ensures reads { ReadsAs (λ x. x.now) result reader.new (frame.read reader.old) }
+    ensures bytes { IsBytes reader.old }
+    ensures no_memory { IfErr result (λ e. e ≢ read_error.Memory) }
+{
+    let size = reader.u32_in(1, BODY_LIMIT)?;
+    reader.bytes(size as usize)
+}
+
 fn whole_body(bytes: &[u8]) -> Result<&[u8], ReadError>
     ensures gives { Gives (λ x. x.now) result (whole frame bytes.now) }
     ensures no_memory { IfErr result (λ e. e ≢ read_error.Memory) }
 {
     let mut reader = Reader::new(bytes);
-    let size = reader.u32_in(1, BODY_LIMIT)?;
-    let body = reader.bytes(size as usize)?;
+    let body = first_body(&mut reader)?;
     if !reader.is_empty() {
         return Err(ReadError::Trailing);
     }

@@ -3,6 +3,12 @@
 
 mod frames;
 mod kinds;
+mod laws;
+mod stream;
+#[cfg(test)]
+mod tests;
 
 pub use frames::{BODY_LIMIT, body_of, reply_frame, reply_of, request_frame, request_of};
 pub use kinds::{RequestKind, Status};
+pub use laws::streams_are_cut_anyhow;
+pub use stream::{FrameError, Frames};

@@ -1,12 +1,11 @@
-use Rattle.std.proofs.Common.{◌≡◌, ◌+◌, ◌++◌, ◌<◌, ◌^◌, ℕ, None, length, drop, get_or, sym, ◌∙◌, ap, subst, arith, length-drop, length-take}
+use Rattle.std.proofs.Common.{◌≡◌, ◌⊎◌, inl, inr, ◌+◌, ◌++◌, ◌<◌, ◌^◌, ℕ, length, drop, get_or, sym, ◌∙◌, subst, arith, length-take}
 use Rattle.std.proofs.lemmas.Bool.{eqb-true}
 use Rattle.leaf_ledger.specs.Device.{History}
 use Rattle.leaf_ledger.specs.declared.extent.Extent.{Extent}
-use Rattle.client_journal.specs.Records.{Record, spelled, record_at}
+use Rattle.client_journal.specs.Records.{Record, spelled, IsOtherKind, EndsEarly}
 use Rattle.client_journal.specs.Places.{part}
 use Rattle.client_journal.specs.declared.kind.Kind.{Kind}
-use Rattle.client_journal.proofs.Headers.{record_again}
-use Rattle.client_journal.proofs.Reached.{same_error, below_later, no_record, no_turn, further}
+use Rattle.client_journal.proofs.Reached.{same_error, below_later, damaged, further}
 use Rattle.client_journal.proofs.chain.advance.Goals as goal
 
 -- what was read of a device that stayed as it was
@@ -16,14 +15,18 @@ spelled_before : (old new : History) (at : ℕ) (kind : Kind) (text : Extent) �
 spelled_before old new at kind text same is =
     subst (λ (h : History). drop at h.now.text ≡ spelled (record { kind = kind; text = part text h.now.text }) ++ drop (text.at + text.size) h.now.text) same is
 
+no_record : {A B C : Type 0} → A ⊎ B → A ⊎ (C ⊎ B)
+no_record (inl other) = inl other
+no_record (inr early) = inr (inr early)
+
 pub returns-in-Err-clause-damaged : goal.returns-in-Err-clause-damaged
 returns-in-Err-clause-damaged g c e =
     let old = g.D.Device.history c.args.device.now in
     let gate = c.args.end.gate in
     let same = c.in_ok-is_open.ensures.same in
     let is_open = eqb-true (get_or old.now.text gate 0) 1 (sym c.in_ok-is_open.ensures.open ∙ c.if-not-branch.false) in
-    no_record old.now.text gate c.args.end.phase c.requires.reaches (omega (arith, c.requires.size, c.requires.long)) is_open
-    (subst (λ (h : History). record_at (drop (gate + 1) h.now.text) ≡ None) same (c.in-Err.ensures.damaged (same_error c.in-Err.error _ e)))
+    damaged old.now.text gate c.args.end.phase c.requires.reaches (omega (arith, c.requires.size, c.requires.long)) is_open
+    (no_record (subst (λ (h : History). IsOtherKind (drop (gate + 1) h.now.text) ⊎ EndsEarly (drop (gate + 1) h.now.text)) same (c.in-Err.ensures.damaged (same_error c.in-Err.error _ e))))
 
 pub returns-in-Some-clause-further : goal.returns-in-Some-clause-further
 returns-in-Some-clause-further g c =
@@ -52,6 +55,5 @@ returns-in-None-clause-damaged g c e =
     let spells = spelled_before old new (gate + 1) c.in-Ok.kind text c.in_ok-is_open.ensures.same c.in-Ok.ensures.spelled in
     let r : Record = record { kind = c.in-Ok.kind; text = part text old.now.text } in
     let short : length r.text < 2 ^ 32 = omega (arith, length-take text.size (drop text.at old.now.text), place.2) in
-    let more : 0 < length (drop end old.now.text) = omega (arith, length-drop end old.now.text, place.1, c.requires.size) in
-    no_turn old.now.text gate c.args.end.phase c.requires.reaches (omega (arith, c.requires.size, c.requires.long)) is_open r (drop end old.now.text)
-    (ap record_at spells ∙ record_again r short (drop end old.now.text) more) (c.in-None.ensures.out_of_turn old.now.text)
+    damaged old.now.text gate c.args.end.phase c.requires.reaches (omega (arith, c.requires.size, c.requires.long)) is_open
+    (inr (inl (r, drop end old.now.text, spells, short, c.in-None.ensures.out_of_turn old.now.text)))

@@ -3,7 +3,7 @@ use Rattle.update_cert.specs.World.{Content}
 use Rattle.itable.specs.declared.inode.Kind.{Kind}
 use Rattle.itable.specs.declared.inode.Kind.TheVariants as kinds
 use Rattle.update_cert.specs.Asked.{HasBlocks}
-use Rattle.client_tree.proofs.LookLaws.{has_looked}
+use Rattle.client_tree.proofs.LookLaws.{all_taken}
 use Rattle.update_cert.proofs.Contents.{file_is, directory_is}
 use Rattle.client_tree.proofs.contents.read_content.Goals as goal
 
@@ -20,17 +20,17 @@ returns-clause-seen g c = λ reads agrees.
     ap (λ (content : Content). Some content) (sym (directory_is (g.B.Blocks.held c.args.blocks.now) reads c.args.digest n c.in_ok-directory-in-Directory.directory agrees c.in_ok-inode.ensures.found of_directory c.in_ok-directory-in-Directory.ensures.found))
 
 pub returns-in-File-clause-taken : goal.returns-in-File-clause-taken
-returns-in-File-clause-taken g c = λ t at.
+returns-in-File-clause-taken g c =
     let held = g.B.Blocks.held c.args.blocks.now in
     let n = c.in_ok-inode.inode in
     let of_file : n.kind ≡ kinds.File = search rules in
-    has_looked held t c.args.principal c.args.i_number c.args.digest n at c.in_ok-inode.ensures.found c.in_ok-inode.ensures.taken
+    all_taken held c.args.principal c.args.i_number c.args.digest n c.in_ok-inode.ensures.found c.in_ok-inode.ensures.taken
     (subst (λ (k : Kind). HasBlocks held k c.args.digest) (sym of_file) c.in_ok-bytes-in-File.ensures.taken)
 
 pub returns-clause-taken : goal.returns-clause-taken
-returns-clause-taken g c = λ t at.
+returns-clause-taken g c =
     let held = g.B.Blocks.held c.args.blocks.now in
     let n = c.in_ok-inode.inode in
     let of_directory : n.kind ≡ kinds.Directory = search rules in
-    has_looked held t c.args.principal c.args.i_number c.args.digest n at c.in_ok-inode.ensures.found c.in_ok-inode.ensures.taken
+    all_taken held c.args.principal c.args.i_number c.args.digest n c.in_ok-inode.ensures.found c.in_ok-inode.ensures.taken
     (subst (λ (k : Kind). HasBlocks held k c.args.digest) (sym of_directory) c.in_ok-directory-in-Directory.ensures.taken)

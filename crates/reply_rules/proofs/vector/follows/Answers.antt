@@ -17,7 +17,7 @@ returns-then-not-branch-clause-follows g c =
     let fits : vector.Fits own = subst (λ (v : List Component). vector.Fits v) c.vector.ensures c.components-fits.ensures.fits in
     let user : c.from.result ≡ u = cc in
     let last : version_of u w ≡ 4294967295 = subst (λ (p : ℕ). version_of p w ≡ 4294967295) user (c.in_ok-raise.ensures.last c.if-not-branch.true) in
-    sym (too_great own w u c.args.groups.now fits c.in_ok-raise.ensures.fits last)
+    sym (too_great own w u c.args.groups.now fits last)
 
 pub returns-then-not-branch-2-clause-follows : goal.returns-then-not-branch-2-clause-follows
 returns-then-not-branch-2-clause-follows g c =
@@ -29,7 +29,7 @@ returns-then-not-branch-2-clause-follows g c =
     let fits : vector.Fits own = subst (λ (v : List Component). vector.Fits v) c.vector.ensures c.components-fits.ensures.fits in
     let group : c.from-in-loop-group.result ≡ h = cc in
     let last : version_of h v ≡ 4294967295 = subst (λ (p : ℕ). version_of p v ≡ 4294967295) group (c.in_ok-raise-2.ensures.last c.if-not-branch-2.true) in
-    sym (ap (same_vector own) (sym c.loop-group.invariant ∙ next_raised v gs k h c.loop-group-test.true c.group-item.is) ∙ too_great own v h (drop (k + 1) gs) fits c.in_ok-raise-2.ensures.fits last)
+    sym (ap (same_vector own) (sym c.loop-group.invariant ∙ next_raised v gs k h c.loop-group-test.true c.group-item.is) ∙ too_great own v h (drop (k + 1) gs) fits last)
 
 pub returns-clause-follows : goal.returns-clause-follows
 returns-clause-follows g c =

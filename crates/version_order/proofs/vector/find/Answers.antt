@@ -1,13 +1,16 @@
-use Rattle.std.proofs.Common.{◌∙◌, sym}
-use Rattle.version_order.specs.VectorLaws.{stands, is_free}
+use Rattle.std.proofs.Common.{rules}
+use Rattle.std.specs.Ordering.{nat_cmp}
+use Rattle.std.proofs.lemmas.Cmp.{nat_cmp_total}
+use Rattle.std.proofs.lemmas.List.Sorted.{answers_always}
+use Rattle.layout.specs.AscendingLaws.{searched}
+use Rattle.version_order.specs.Vector.{principal_of}
+use Rattle.version_order.proofs.Raising.{listed_of}
 use Rattle.version_order.proofs.vector.find.Goals as goal
 
-pub returns-in-Some : goal.returns-in-Some
-returns-in-Some c =
-    let at = rw c.place_of-place.ensures.same at (sym c.version_at.ensures ∙ c.in-Some.is) in
-    rw c.place_of-place.ensures.same (stands c.args.principal c.in-Some.version c.args.components.now at)
-
-pub returns-in-None : goal.returns-in-None
-returns-in-None c =
-    let at = rw c.place_of-place.ensures.same at (sym c.version_at.ensures ∙ c.in-None.is) in
-    rw c.place_of-place.ensures.same (is_free c.args.principal c.args.components.now c.requires at)
+-- the closure gives a component's principal
+pub returns : goal.returns
+returns c =
+    let facts = c.binary_search_by_key.ensures in
+    let by_number = facts.position principal_of (answers_always _ _ _ (λ f a r g called. search rules)) in
+    let at = rw c.get.ensures.same at by_number in
+    searched nat_cmp principal_of nat_cmp_total c.args.components.now (listed_of c.args.components.now c.requires).1 c.args.principal _ facts.bound at

@@ -1,10 +1,10 @@
-use Rattle.std.proofs.Common.{◌≡◌, ◌∷◌, [], ◌++◌, ◌<◌, ◌+◌, ◌^◌, List, length, Some, true, sym, ◌∙◌, ap, subst, arith, inl, inr}
+use Rattle.std.proofs.Common.{◌≡◌, ◌∷◌, [], ◌++◌, ◌<◌, ◌+◌, ◌^◌, List, length, true, sym, ◌∙◌, ap, subst, arith, inl, inr}
 use Rattle.leaf_ledger.specs.Device.{Throughout, extent, at_rest, written}
-use Rattle.client_journal.specs.Records.{JournalFile, Record, may_come, told, spelled, records_of, TellsWithOrWithout}
+use Rattle.client_journal.specs.Records.{JournalFile, Record, State, may_come, spelled, chain, Tells, TellsWithOrWithout, MayCome}
 use Rattle.client_journal.specs.Places.{part, state_at}
 use Rattle.client_journal.proofs.Headers.{length-spelled}
-use Rattle.client_journal.proofs.Reached.{told_is}
-use Rattle.client_journal.proofs.Appended.{not_out, at_any, kept, first, gate_failed, gate_read, appended, done, new_ready}
+use Rattle.client_journal.proofs.Reached.{told_once}
+use Rattle.client_journal.proofs.Appended.{not_out, at_any, kept, first, gate_failed, gate_read, appended, laid, done, new_ready}
 use Rattle.client_journal.proofs.journal.Journal.append.Goals as goal
 
 pub unreachable-requires : goal.unreachable-requires
@@ -13,10 +13,10 @@ unreachable-requires g c =
     let usable = ap (λ (j : JournalFile). j.usable) c.self.view_is ∙ c.requires.usable in
     let ready = c.self.invariant usable in
     let file = (g.D.Device.history s.device).now.text in
-    let turn = subst (λ (j : JournalFile). may_come c.args.added.kind (told j.file.now.text) ≡ true) (sym c.self.view_is) c.requires.turn in
-    let may = ap (λ o. may_come c.args.added.kind o) (sym (told_is file s.end.gate s.end.phase ready.ends)) ∙ turn in
+    let turn = subst (λ (j : JournalFile). MayCome c.args.added.kind j.file.now.text) (sym c.self.view_is) c.requires.turn in
     let state = state_at file s.end.phase in
-    not_out state c.added.inside.kind (part (extent (s.end.gate + 1 + 5) (length c.added.inside.text.now)) file) (subst (λ (x : Record). may_come x.kind (Some state) ≡ true) (sym c.added.view_is) may)
+    let may = subst (λ (x : State). may_come c.args.added.kind x ≡ true) (told_once file s.end.gate s.end.phase turn.state ready.ends turn.tells) turn.may in
+    not_out state c.added.inside.kind (part (extent (s.end.gate + 1 + 5) (length c.added.inside.text.now)) file) (subst (λ (x : Record). may_come x.kind state ≡ true) (sym c.added.view_is) may)
     (c.in_default.ensures.out_of_turn file)
 
 pub returns-in_err-stage-clause-any_moment : goal.returns-in_err-stage-clause-any_moment
@@ -28,8 +28,8 @@ returns-in_err-stage-clause-any_moment g c =
     let r : Record = record { kind = c.added.inside.kind; text = c.added.inside.text.now } in
     let small = subst (λ (x : Record). length x.text < 2 ^ 32) (sym c.added.view_is) c.requires.short in
     let new = g.D.Device.history c.stage.new.device in
-    subst (λ (j : JournalFile). (rs : List Record) → records_of j.file.now.text ≡ Some rs → Throughout (TellsWithOrWithout rs c.args.added) j.file new) c.self.view_is
-    (subst (λ (x : Record). (rs : List Record) → records_of old.now.text ≡ Some rs → Throughout (TellsWithOrWithout rs x) old new) c.added.view_is
+    subst (λ (j : JournalFile). (rs : List Record) → Tells rs j.file.now.text → Throughout (TellsWithOrWithout rs c.args.added) j.file new) c.self.view_is
+    (subst (λ (x : Record). (rs : List Record) → Tells rs old.now.text → Throughout (TellsWithOrWithout rs x) old new) c.added.view_is
     (at_any old s.end.gate s.end.phase ready r c.in-Some.phase small c.in-Some.ensures.next c.in-Some.ensures.below (λ rs. Throughout (TellsWithOrWithout rs r) old new) (first old s.end.gate s.end.phase ready r c.in-Some.phase small c.in-Some.ensures.next c.in-Some.ensures.below new c.in_err-stage.ensures.any_moment)))
 
 pub returns-in_err-stage-clause-reads : goal.returns-in_err-stage-clause-reads
@@ -41,8 +41,8 @@ returns-in_err-stage-clause-reads g c =
     let r : Record = record { kind = c.added.inside.kind; text = c.added.inside.text.now } in
     let small = subst (λ (x : Record). length x.text < 2 ^ 32) (sym c.added.view_is) c.requires.short in
     let new = g.D.Device.history c.stage.new.device in
-    subst (λ (j : JournalFile). (rs : List Record) → records_of j.file.now.text ≡ Some rs → TellsWithOrWithout rs c.args.added new.now.text) c.self.view_is
-    (subst (λ (x : Record). (rs : List Record) → records_of old.now.text ≡ Some rs → TellsWithOrWithout rs x new.now.text) c.added.view_is
+    subst (λ (j : JournalFile). (rs : List Record) → Tells rs j.file.now.text → TellsWithOrWithout rs c.args.added new.now.text) c.self.view_is
+    (subst (λ (x : Record). (rs : List Record) → Tells rs old.now.text → TellsWithOrWithout rs x new.now.text) c.added.view_is
     (at_any old s.end.gate s.end.phase ready r c.in-Some.phase small c.in-Some.ensures.next c.in-Some.ensures.below (λ rs. TellsWithOrWithout rs r new.now.text) (inl (kept old s.end.gate s.end.phase ready r c.in-Some.phase small c.in-Some.ensures.next c.in-Some.ensures.below new.now.text c.in_err-stage.ensures.reads))))
 
 pub returns-in_err-write_through-clause-any_moment : goal.returns-in_err-write_through-clause-any_moment
@@ -55,8 +55,8 @@ returns-in_err-write_through-clause-any_moment g c =
     let small = subst (λ (x : Record). length x.text < 2 ^ 32) (sym c.added.view_is) c.requires.short in
     let staged = c.in_ok-stage.ensures.ok ∙ ap (λ (x : Record). at_rest (written (s.end.gate + 1) (spelled x ++ 0 ∷ []) old.now.text)) (sym c.added.view_is) in
     let new = g.D.Device.history c.write_through.new.device in
-    subst (λ (j : JournalFile). (rs : List Record) → records_of j.file.now.text ≡ Some rs → Throughout (TellsWithOrWithout rs c.args.added) j.file new) c.self.view_is
-    (subst (λ (x : Record). (rs : List Record) → records_of old.now.text ≡ Some rs → Throughout (TellsWithOrWithout rs x) old new) c.added.view_is
+    subst (λ (j : JournalFile). (rs : List Record) → Tells rs j.file.now.text → Throughout (TellsWithOrWithout rs c.args.added) j.file new) c.self.view_is
+    (subst (λ (x : Record). (rs : List Record) → Tells rs old.now.text → Throughout (TellsWithOrWithout rs x) old new) c.added.view_is
     (at_any old s.end.gate s.end.phase ready r c.in-Some.phase small c.in-Some.ensures.next c.in-Some.ensures.below (λ rs. Throughout (TellsWithOrWithout rs r) old new) (gate_failed old s.end.gate s.end.phase ready r c.in-Some.phase small c.in-Some.ensures.next c.in-Some.ensures.below (g.D.Device.history c.stage.new.device) c.in_ok-stage.ensures.any_moment staged new c.in_err-write_through.ensures.err)))
 
 pub returns-in_err-write_through-clause-reads : goal.returns-in_err-write_through-clause-reads
@@ -69,8 +69,8 @@ returns-in_err-write_through-clause-reads g c =
     let small = subst (λ (x : Record). length x.text < 2 ^ 32) (sym c.added.view_is) c.requires.short in
     let staged = c.in_ok-stage.ensures.ok ∙ ap (λ (x : Record). at_rest (written (s.end.gate + 1) (spelled x ++ 0 ∷ []) old.now.text)) (sym c.added.view_is) in
     let new = g.D.Device.history c.write_through.new.device in
-    subst (λ (j : JournalFile). (rs : List Record) → records_of j.file.now.text ≡ Some rs → TellsWithOrWithout rs c.args.added new.now.text) c.self.view_is
-    (subst (λ (x : Record). (rs : List Record) → records_of old.now.text ≡ Some rs → TellsWithOrWithout rs x new.now.text) c.added.view_is
+    subst (λ (j : JournalFile). (rs : List Record) → Tells rs j.file.now.text → TellsWithOrWithout rs c.args.added new.now.text) c.self.view_is
+    (subst (λ (x : Record). (rs : List Record) → Tells rs old.now.text → TellsWithOrWithout rs x new.now.text) c.added.view_is
     (at_any old s.end.gate s.end.phase ready r c.in-Some.phase small c.in-Some.ensures.next c.in-Some.ensures.below (λ rs. TellsWithOrWithout rs r new.now.text) (gate_read old s.end.gate s.end.phase ready r c.in-Some.phase small c.in-Some.ensures.next c.in-Some.ensures.below (g.D.Device.history c.stage.new.device) c.in_ok-stage.ensures.any_moment staged new c.in_err-write_through.ensures.err)))
 
 pub returns-clause-any_moment : goal.returns-clause-any_moment
@@ -83,8 +83,8 @@ returns-clause-any_moment g c =
     let small = subst (λ (x : Record). length x.text < 2 ^ 32) (sym c.added.view_is) c.requires.short in
     let staged = c.in_ok-stage.ensures.ok ∙ ap (λ (x : Record). at_rest (written (s.end.gate + 1) (spelled x ++ 0 ∷ []) old.now.text)) (sym c.added.view_is) in
     let new = g.D.Device.history c.write_through.new.device in
-    subst (λ (j : JournalFile). (rs : List Record) → records_of j.file.now.text ≡ Some rs → Throughout (TellsWithOrWithout rs c.args.added) j.file new) c.self.view_is
-    (subst (λ (x : Record). (rs : List Record) → records_of old.now.text ≡ Some rs → Throughout (TellsWithOrWithout rs x) old new) c.added.view_is
+    subst (λ (j : JournalFile). (rs : List Record) → Tells rs j.file.now.text → Throughout (TellsWithOrWithout rs c.args.added) j.file new) c.self.view_is
+    (subst (λ (x : Record). (rs : List Record) → Tells rs old.now.text → Throughout (TellsWithOrWithout rs x) old new) c.added.view_is
     (at_any old s.end.gate s.end.phase ready r c.in-Some.phase small c.in-Some.ensures.next c.in-Some.ensures.below (λ rs. Throughout (TellsWithOrWithout rs r) old new) (done old s.end.gate s.end.phase ready r c.in-Some.phase small c.in-Some.ensures.next c.in-Some.ensures.below (g.D.Device.history c.stage.new.device) c.in_ok-stage.ensures.any_moment staged new c.in_ok-write_through.ensures.ok)))
 
 pub returns-clause-reads : goal.returns-clause-reads
@@ -97,8 +97,8 @@ returns-clause-reads g c =
     let small = subst (λ (x : Record). length x.text < 2 ^ 32) (sym c.added.view_is) c.requires.short in
     let staged = c.in_ok-stage.ensures.ok ∙ ap (λ (x : Record). at_rest (written (s.end.gate + 1) (spelled x ++ 0 ∷ []) old.now.text)) (sym c.added.view_is) in
     let new = g.D.Device.history c.write_through.new.device in
-    subst (λ (j : JournalFile). (rs : List Record) → records_of j.file.now.text ≡ Some rs → TellsWithOrWithout rs c.args.added new.now.text) c.self.view_is
-    (subst (λ (x : Record). (rs : List Record) → records_of old.now.text ≡ Some rs → TellsWithOrWithout rs x new.now.text) c.added.view_is
+    subst (λ (j : JournalFile). (rs : List Record) → Tells rs j.file.now.text → TellsWithOrWithout rs c.args.added new.now.text) c.self.view_is
+    (subst (λ (x : Record). (rs : List Record) → Tells rs old.now.text → TellsWithOrWithout rs x new.now.text) c.added.view_is
     (at_any old s.end.gate s.end.phase ready r c.in-Some.phase small c.in-Some.ensures.next c.in-Some.ensures.below (λ rs. TellsWithOrWithout rs r new.now.text) (inr (appended old s.end.gate s.end.phase ready r c.in-Some.phase small c.in-Some.ensures.next c.in-Some.ensures.below (g.D.Device.history c.stage.new.device) c.in_ok-stage.ensures.any_moment staged new c.in_ok-write_through.ensures.ok))))
 
 pub returns-clause-appended : goal.returns-clause-appended
@@ -111,9 +111,23 @@ returns-clause-appended g c =
     let small = subst (λ (x : Record). length x.text < 2 ^ 32) (sym c.added.view_is) c.requires.short in
     let staged = c.in_ok-stage.ensures.ok ∙ ap (λ (x : Record). at_rest (written (s.end.gate + 1) (spelled x ++ 0 ∷ []) old.now.text)) (sym c.added.view_is) in
     let new = g.D.Device.history c.write_through.new.device in
-    subst (λ (j : JournalFile). (rs : List Record) → records_of j.file.now.text ≡ Some rs → records_of new.now.text ≡ Some (rs ++ c.args.added ∷ [])) c.self.view_is
-    (subst (λ (x : Record). (rs : List Record) → records_of old.now.text ≡ Some rs → records_of new.now.text ≡ Some (rs ++ x ∷ [])) c.added.view_is
-    (at_any old s.end.gate s.end.phase ready r c.in-Some.phase small c.in-Some.ensures.next c.in-Some.ensures.below (λ rs. records_of new.now.text ≡ Some (rs ++ r ∷ [])) (appended old s.end.gate s.end.phase ready r c.in-Some.phase small c.in-Some.ensures.next c.in-Some.ensures.below (g.D.Device.history c.stage.new.device) c.in_ok-stage.ensures.any_moment staged new c.in_ok-write_through.ensures.ok)))
+    subst (λ (j : JournalFile). (rs : List Record) → Tells rs j.file.now.text → Tells (rs ++ c.args.added ∷ []) new.now.text) c.self.view_is
+    (subst (λ (x : Record). (rs : List Record) → Tells rs old.now.text → Tells (rs ++ x ∷ []) new.now.text) c.added.view_is
+    (at_any old s.end.gate s.end.phase ready r c.in-Some.phase small c.in-Some.ensures.next c.in-Some.ensures.below (λ rs. Tells (rs ++ r ∷ []) new.now.text) (appended old s.end.gate s.end.phase ready r c.in-Some.phase small c.in-Some.ensures.next c.in-Some.ensures.below (g.D.Device.history c.stage.new.device) c.in_ok-stage.ensures.any_moment staged new c.in_ok-write_through.ensures.ok)))
+
+pub returns-clause-file : goal.returns-clause-file
+returns-clause-file g c =
+    let s = c.self.inside in
+    let usable = ap (λ (j : JournalFile). j.usable) c.self.view_is ∙ c.requires.usable in
+    let ready = c.self.invariant usable in
+    let old = g.D.Device.history s.device in
+    let r : Record = record { kind = c.added.inside.kind; text = c.added.inside.text.now } in
+    let small = subst (λ (x : Record). length x.text < 2 ^ 32) (sym c.added.view_is) c.requires.short in
+    let staged = c.in_ok-stage.ensures.ok ∙ ap (λ (x : Record). at_rest (written (s.end.gate + 1) (spelled x ++ 0 ∷ []) old.now.text)) (sym c.added.view_is) in
+    let new = g.D.Device.history c.write_through.new.device in
+    subst (λ (j : JournalFile). (rs : List Record) → Tells rs j.file.now.text → new.now.text ≡ written 0 (chain (rs ++ c.args.added ∷ []) ++ 0 ∷ []) j.file.now.text) c.self.view_is
+    (subst (λ (x : Record). (rs : List Record) → Tells rs old.now.text → new.now.text ≡ written 0 (chain (rs ++ x ∷ []) ++ 0 ∷ []) old.now.text) c.added.view_is
+    (at_any old s.end.gate s.end.phase ready r c.in-Some.phase small c.in-Some.ensures.next c.in-Some.ensures.below (λ rs. new.now.text ≡ written 0 (chain (rs ++ r ∷ []) ++ 0 ∷ []) old.now.text) (laid old s.end.gate s.end.phase ready r c.in-Some.phase small c.in-Some.ensures.next c.in-Some.ensures.below (g.D.Device.history c.stage.new.device) c.in_ok-stage.ensures.any_moment staged new c.in_ok-write_through.ensures.ok)))
 
 pub invariant_of-self-2 : goal.invariant_of-self-2
 invariant_of-self-2 g c _ =

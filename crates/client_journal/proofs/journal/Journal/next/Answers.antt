@@ -1,5 +1,6 @@
-use Rattle.std.proofs.Common.{◌≡◌, true, Option, ◌∙◌, ap, subst}
-use Rattle.client_journal.specs.Records.{JournalFile, State, may_come, told}
+use Rattle.std.proofs.Common.{◌∙◌, ap, subst}
+use Rattle.client_journal.specs.Records.{JournalFile, MayCome}
+use Rattle.client_journal.specs.Places.{state_at}
 use Rattle.client_journal.proofs.Reached.{told_is}
 use Rattle.client_journal.proofs.journal.Journal.next.Goals as goal
 
@@ -8,5 +9,5 @@ returns g c =
     let s = c.self.inside in
     let usable = ap (λ (j : JournalFile). j.usable) c.self.view_is ∙ c.requires in
     let file = (g.D.Device.history s.device).now.text in
-    subst (λ (j : JournalFile). may_come c.next.result (told j.file.now.text) ≡ true) c.self.view_is
-    (ap (λ (o : Option State). may_come c.next.result o) (told_is file s.end.gate s.end.phase (c.self.invariant usable).ends) ∙ c.next.ensures file)
+    subst (λ (j : JournalFile). MayCome c.next.result j.file.now.text) c.self.view_is
+    (record { state = state_at file s.end.phase; tells = told_is file s.end.gate s.end.phase (c.self.invariant usable).ends; may = c.next.ensures file })

@@ -1,9 +1,9 @@
-use Rattle.std.proofs.Common.{◌≡◌, Some, None, sym, ap, ◌∙◌, rules}
+use Rattle.std.proofs.Common.{◌≡◌, Some, None, refl, sym, ap, ◌∙◌, rules}
 use Rattle.std.specs.Option.{option_copied}
 use Rattle.client_tree.specs.Held.{held, keeping}
-use Rattle.client_verify.specs.Grown.{IsSight}
-use Rattle.client_verify.specs.State.{View, block_breaks}
-use Rattle.client_verify.proofs.Steps.{given_from, if_some, seen_there}
+use Rattle.client_verify.specs.Grown.{IsAnswer}
+use Rattle.client_verify.specs.State.{block_breaks, view_over}
+use Rattle.client_verify.proofs.Steps.{given_from, if_some, shown_there}
 use Rattle.client_verify.proofs.client.Client.give.Goals as goal
 
 pub returns-clause-given : goal.returns-clause-given
@@ -16,13 +16,13 @@ returns-clause-given g c =
     let kept : c.keep_as.new.self ≡ keeping old.blocks c.in-Ok.text.now = search rules in
     let there : old.view ≡ Some v = search rules in
     let under_way : v.looking ≡ Some l = search rules in
-    if_some old.view v _ there (if_some v.looking l _ under_way (given_from _ old v l c.keep_as.new.self (option_copied c.args.block) c.in-Ok.text.now c.show.result c.show.new.self c.self.view_is kept there none is c.show.ensures))
+    if_some old.view v _ there (if_some v.looking l _ under_way (given_from _ old v l c.keep_as.new.self (option_copied c.args.block) c.in-Ok.text.now c.answer.result c.answer.new.self c.self.view_is kept there none is c.answer.ensures))
 
-pub show-requires-clause-sight : goal.show-requires-clause-sight
-show-requires-clause-sight g c =
+pub answer-requires-clause-shown : goal.answer-requires-clause-shown
+answer-requires-clause-shown g c =
     let v = c.in-Some.view in
     let l = c.in-Some-looking.looking in
     let there : c.self.inside.view ≡ Some v = search rules in
     let kept : c.keep_as.new.self ≡ keeping c.self.inside.blocks c.in-Ok.text.now = search rules in
-    if_some c.self.inside.view v (λ w. IsSight (held c.keep_as.new.self) w.tree.table l.principal l.i_number c.in_ok-sight.sight) there
-    (seen_there (keeping c.self.inside.blocks c.in-Ok.text.now) c.keep_as.new.self _ v l.principal l.i_number c.in_ok-sight.sight (sym kept) c.view.view_is c.in_ok-sight.ensures)
+    if_some c.self.inside.view v (λ w. IsAnswer (held c.keep_as.new.self) (view_over c.self.inside.pinned w.lists) l.principal l.i_number c.in_ok-shown.shown) there
+    (shown_there (keeping c.self.inside.blocks c.in-Ok.text.now) c.keep_as.new.self c.self.inside.pinned c.self.inside.pinned _ v l.principal l.i_number c.in_ok-shown.shown (sym kept) refl c.view.view_is c.in_ok-shown.ensures)

@@ -14,10 +14,8 @@ returns-clause-judged g c =
     let old = c.args.self.now in
     let none : first_broken (known old) c.args.text.now ≡ None = search rules in
     let read : whole reply c.args.text.now ≡ Ok c.in-Ok.reply = search rules in
-    let lists : lists_in c.args.text.now ≡ Some c.in-Some.lists = ap (λ r. option_and_then lists_of (result_ok r)) read ∙ sym c.in_ok-lists.ensures ∙ c.in-Some.is in
+    let lists : lists_in c.args.text.now ≡ Some c.in-Some.lists = ap (λ r. option_and_then lists_of (result_ok r)) read ∙ sym c.of.ensures ∙ c.in-Some.is in
     judged_goes old c.args.text.now c.in-Some.lists c.go.result c.go.new.self none lists c.go.ensures
 
 pub go-requires : goal.go-requires
-go-requires g c =
-    let same : c.cert.result.now ≡ c.in-Some.lists.own.cert = c.cert.ensures.same ∙ ap (λ i. i.cert) c.own.ensures in
-    rw (← c.self.view_is) (rw (same, c.as_ref-2.ensures.value) at c.in_ok-grown.ensures)
+go-requires g c = rw (← c.self.view_is) c.in_ok-written.ensures

@@ -1,8 +1,9 @@
-use Rattle.std.proofs.Common.{ℕ, refl, sym, ◌∙◌, ap, subst, arith, inr, Some, None}
+use Rattle.std.proofs.Common.{◌≡◌, List, ℕ, refl, sym, ◌∙◌, ap, subst, arith, inr, Some, None}
 use Rattle.std.proofs.lemmas.List.{length-set}
-use Rattle.leaf_ledger.specs.Ledger.{LedgerState, UsedWith, IsLeastFree}
+use Rattle.leaf_ledger.specs.Device.{Throughout, at_rest}
+use Rattle.leaf_ledger.specs.Ledger.{LedgerState, with_mark, UsedWith, IsLeastFree, IsFileOf}
 use Rattle.leaf_ledger.specs.Life.{Call}
-use Rattle.leaf_ledger.proofs.Taken.{all_before, all_set, is_least, failed, failed_read, rests_after, with_it, done}
+use Rattle.leaf_ledger.proofs.Taken.{all_before, all_set, is_least, failed, failed_read, rests_after, with_it, done, has_mark, done_own, read_own, failed_own, failed_read_own, still_own, still_read_own, all_full}
 use Rattle.leaf_ledger.proofs.Lives.{call_of, not_full, sure_after}
 use Rattle.leaf_ledger.proofs.ledger.Ledger.take.Goals as goal
 
@@ -49,8 +50,8 @@ returns-clause-leaf g c =
     subst (λ (n : ℕ). IsLeastFree c.args.self.now.file.now.text n) (sym c.issue.ensures.number) (is_least s.key s.marks c.in-Some.number i.key_size i.size found.1 found.2 (all_before s.marks s.next c.in-Some.number i.used found.3)
     c.args.self.now.file (g.D.Device.history s.device) (ap (λ (l : LedgerState). l.file) c.self.view_is) (i.at_rest usable))
 
-pub returns-clause-marked : goal.returns-clause-marked
-returns-clause-marked g c =
+pub returns-clause-used : goal.returns-clause-used
+returns-clause-used g c =
     let s = c.self.inside in
     let i = c.self.invariant in
     let found = c.in-Some.ensures.found in
@@ -127,3 +128,80 @@ returns-clause-full g c full =
     let same = ap (λ (l : LedgerState). l.file) c.self.view_is in
     let least = is_least s.key s.marks n i.key_size i.size found.1 found.2 front old mid same (i.at_rest usable) in
     absurd (not_full old.now.text n least full)
+
+pub returns-clause-marked : goal.returns-clause-marked
+returns-clause-marked g c =
+    let s = c.self.inside in
+    let i = c.self.invariant in
+    let found = c.in-Some.ensures.found in
+    let usable = ap (λ (l : LedgerState). l.usable) c.self.view_is ∙ c.requires in
+    subst (λ (n : ℕ). (g.D.Device.history c.write_through.new.device).now ≡ at_rest (with_mark n c.args.self.now.file.now.text)) (sym c.issue.ensures.number)
+    (has_mark s.key s.marks c.in-Some.number i.key_size i.size found.1 found.2 (all_before s.marks s.next c.in-Some.number i.used found.3)
+    c.args.self.now.file (g.D.Device.history s.device) (ap (λ (l : LedgerState). l.file) c.self.view_is) (i.at_rest usable) (g.D.Device.history c.write_through.new.device) c.in_default-write_through.ensures.ok)
+
+pub returns-clause-own_file : goal.returns-clause-own_file
+returns-clause-own_file g c =
+    let s = c.self.inside in
+    let i = c.self.invariant in
+    let found = c.in-Some.ensures.found in
+    let usable = ap (λ (l : LedgerState). l.usable) c.self.view_is ∙ c.requires in
+    subst (λ (k : List ℕ). Throughout (IsFileOf k) c.args.self.now.file (g.D.Device.history c.write_through.new.device)) (ap (λ (l : LedgerState). l.key) c.self.view_is)
+    (done_own s.key s.marks c.in-Some.number i.key_size i.size found.1 found.2 (all_before s.marks s.next c.in-Some.number i.used found.3)
+    c.args.self.now.file (g.D.Device.history s.device) (ap (λ (l : LedgerState). l.file) c.self.view_is) (i.at_rest usable) (g.D.Device.history c.write_through.new.device) c.in_default-write_through.ensures.ok)
+
+pub returns-clause-reads_own : goal.returns-clause-reads_own
+returns-clause-reads_own g c =
+    let s = c.self.inside in
+    let i = c.self.invariant in
+    let found = c.in-Some.ensures.found in
+    let usable = ap (λ (l : LedgerState). l.usable) c.self.view_is ∙ c.requires in
+    subst (λ (k : List ℕ). IsFileOf k (g.D.Device.history c.write_through.new.device).now.text) (ap (λ (l : LedgerState). l.key) c.self.view_is)
+    (read_own s.key s.marks c.in-Some.number i.key_size i.size found.1 found.2 (all_before s.marks s.next c.in-Some.number i.used found.3)
+    c.args.self.now.file (g.D.Device.history s.device) (ap (λ (l : LedgerState). l.file) c.self.view_is) (i.at_rest usable) (g.D.Device.history c.write_through.new.device) c.in_default-write_through.ensures.ok)
+
+pub returns-in-Err-clause-own_file : goal.returns-in-Err-clause-own_file
+returns-in-Err-clause-own_file g c =
+    let s = c.self.inside in
+    let i = c.self.invariant in
+    let found = c.in-Some.ensures.found in
+    let usable = ap (λ (l : LedgerState). l.usable) c.self.view_is ∙ c.requires in
+    subst (λ (k : List ℕ). Throughout (IsFileOf k) c.args.self.now.file (g.D.Device.history c.write_through.new.device)) (ap (λ (l : LedgerState). l.key) c.self.view_is)
+    (failed_own s.key s.marks c.in-Some.number i.key_size i.size found.1 found.2 (all_before s.marks s.next c.in-Some.number i.used found.3)
+    c.args.self.now.file (g.D.Device.history s.device) (ap (λ (l : LedgerState). l.file) c.self.view_is) (i.at_rest usable) (g.D.Device.history c.write_through.new.device) c.in-Err.ensures.err)
+
+pub returns-in-Err-clause-reads_own : goal.returns-in-Err-clause-reads_own
+returns-in-Err-clause-reads_own g c =
+    let s = c.self.inside in
+    let i = c.self.invariant in
+    let found = c.in-Some.ensures.found in
+    let usable = ap (λ (l : LedgerState). l.usable) c.self.view_is ∙ c.requires in
+    subst (λ (k : List ℕ). IsFileOf k (g.D.Device.history c.write_through.new.device).now.text) (ap (λ (l : LedgerState). l.key) c.self.view_is)
+    (failed_read_own s.key s.marks c.in-Some.number i.key_size i.size found.1 found.2 (all_before s.marks s.next c.in-Some.number i.used found.3)
+    c.args.self.now.file (g.D.Device.history s.device) (ap (λ (l : LedgerState). l.file) c.self.view_is) (i.at_rest usable) (g.D.Device.history c.write_through.new.device) c.in-Err.ensures.err)
+
+pub returns-in_default-clause-own_file : goal.returns-in_default-clause-own_file
+returns-in_default-clause-own_file g c =
+    let s = c.self.inside in
+    let i = c.self.invariant in
+    let usable = ap (λ (l : LedgerState). l.usable) c.self.view_is ∙ c.requires in
+    let old = c.args.self.now.file in
+    let rest = sym (ap (λ (l : LedgerState). l.file.now) c.self.view_is) ∙ i.at_rest usable in
+    subst (λ (k : List ℕ). Throughout (IsFileOf k) old old) (ap (λ (l : LedgerState). l.key) c.self.view_is) (still_own s.key s.marks i.key_size i.size old rest)
+
+pub returns-in_default-clause-reads_own : goal.returns-in_default-clause-reads_own
+returns-in_default-clause-reads_own g c =
+    let s = c.self.inside in
+    let i = c.self.invariant in
+    let usable = ap (λ (l : LedgerState). l.usable) c.self.view_is ∙ c.requires in
+    let old = c.args.self.now.file in
+    let rest = sym (ap (λ (l : LedgerState). l.file.now) c.self.view_is) ∙ i.at_rest usable in
+    subst (λ (k : List ℕ). IsFileOf k old.now.text) (ap (λ (l : LedgerState). l.key) c.self.view_is) (still_read_own s.key s.marks i.key_size i.size old rest)
+
+pub returns-in_default-clause-no_leaf : goal.returns-in_default-clause-no_leaf
+returns-in_default-clause-no_leaf g c _ =
+    let s = c.self.inside in
+    let i = c.self.invariant in
+    let usable = ap (λ (l : LedgerState). l.usable) c.self.view_is ∙ c.requires in
+    let old = c.args.self.now.file in
+    let rest = sym (ap (λ (l : LedgerState). l.file.now) c.self.view_is) ∙ i.at_rest usable in
+    (all_full s.key s.marks i.key_size i.size old rest s.next i.used c.in_default.ensures.none, refl)

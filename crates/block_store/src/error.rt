@@ -1,0 +1,26 @@
+//! Why a block isn't stored or fetched.
+
+ghost use Rattle.std.specs.Prelude.{◌≡◌};
+ghost use Rattle.block_store.specs.declared.error.StoreError.TheVariants as store_error;
+
+use layout::Memory;
+use thiserror::Error;
+
+/// Why a block isn't stored or fetched.
+#[derive(Debug, Drop, Error, PartialEq, Eq)]
+pub enum StoreError {
+    /// The block has more than 32,779 bytes.
+    #[error("the block is too large")]
+    TooLarge,
+    /// Memory ran out.
+    #[error("out of memory")]
+    Memory,
+}
+
+impl From<Memory> for StoreError {
+    ghost from_gives = { λ _ e. e ≡ store_error.Memory };
+
+    fn from(_e: Memory) -> StoreError {
+        StoreError::Memory
+    }
+}

@@ -1,0 +1,71 @@
+use Rattle.std.proofs.Common.{◌≡◌, ◌<◌, ◌+◌, ◌++◌, ℕ, List, [], ◌∷◌, Some, length, take, drop, true, false, sym, ap, subst, ◌∙◌}
+use Rattle.std.proofs.lemmas.List.{take_all}
+use Rattle.std.specs.Prelude.{filter, slice_index_or}
+use Rattle.update_cert.specs.Part.{IsPartOf, Part, part_of}
+use Rattle.principals.specs.Table.{Table}
+use Rattle.update_cert.specs.World.{Tree}
+use Rattle.update_cert.specs.Reading.{after_read}
+use Rattle.update_cert.specs.Asked.{Lacks, LacksAskedFor}
+use Rattle.pending_list.specs.Reply.{PendingItem}
+use Rattle.client_tree.specs.View.{actor_of, after_items, comes_after}
+use Rattle.client_tree.specs.Opened.{IsPartAfter, IsReached}
+use Rattle.client_tree.proofs.OpenedLaws.{filter_next, handed_on, in_turn, no_items, of_item, tree_after}
+use Rattle.client_tree.proofs.view.View.after_others.Goals.{then-comes_after+in_ok-applied, else-comes_after}
+use Rattle.client_tree.proofs.view.View.after_others.Goals as goal
+
+pub loop-item-init : goal.loop-item-init
+unfolding after_items
+loop-item-init g c = record {
+  after = no_items (g.B.Blocks.held c.args.blocks.now) c.args.self.now.table c.args.part;
+  stands = λ reads tree agrees is. is;
+}
+
+pub returns-in_err-applied-clause-missing : goal.returns-in_err-applied-clause-missing
+returns-in_err-applied-clause-missing g c = λ before read is.
+    let held = g.B.Blocks.held c.args.blocks.now in
+    let x = c.args.self.now in
+    let p = c.args.principal in
+    let k = c.loop-item.item-index in
+    let item = c.item-item.result in
+    let inside : k < length x.others = rw c.others-item-items.ensures at c.loop-item-test.true in
+    let at : item ≡ slice_index_or x.others k item = rw c.others-item-items.ensures at c.item-item.is in
+    let comes : comes_after x p item ≡ true = sym c.comes_after.ensures ∙ c.if-comes_after.true in
+    let after = subst (λ (q : Part). IsPartAfter held x.table (filter (comes_after x p) (take k x.others)) q c.loop-item.after) is c.loop-item.invariant.after in
+    let turn = in_turn (comes_after x p) x.others k item x.own inside at comes in
+    handed_on c.from_residual.result c.in_err-applied.field-0.0 (Lacks held (IsReached held x p)) c.from_residual.ensures.1
+    (of_item held x p before c.loop-item.after (filter (comes_after x p) (take k x.others)) (filter (comes_after x p) (drop (k + 1) x.others) ++ x.own ∷ []) item c.in_err-applied.field-0.0 read turn after
+    (subst (λ (t : Table). LacksAskedFor held (actor_of t item) item.cert.changes c.loop-item.after c.in_err-applied.field-0.0) c.table.ensures c.in_err-applied.ensures.missing))
+
+pub loop-item-preserved : goal.loop-item-preserved
+loop-item-preserved g c =
+    let held = g.B.Blocks.held c.args.blocks.now in
+    let x = c.args.self.now in
+    let p = c.args.principal in
+    let k = c.loop-item.item-index in
+    let item = c.item-item.result in
+    let inv = c.loop-item.invariant in
+    let done = filter (comes_after x p) (take k x.others) in
+    let inside : k < length x.others = rw c.others-item-items.ensures at c.loop-item-test.true in
+    let at : item ≡ slice_index_or x.others k item = rw c.others-item-items.ensures at c.item-item.is in
+    elim c.if-comes_after.branch [
+      | then-comes_after+in_ok-applied w ↦
+          let comes : comes_after x p item ≡ true = sym c.comes_after.ensures ∙ w.if-comes_after.true in
+          let next : filter (comes_after x p) (take (k + 1) x.others) ≡ done ++ item ∷ [] = filter_next (comes_after x p) x.others k item true inside at comes in
+          rw (next, w.after-is) (record {
+            after = subst (λ (t : Table). IsPartAfter held t (done ++ item ∷ []) c.args.part w.in_ok-applied.applied.part) w.table.ensures (w.in_ok-applied.ensures.after c.args.part done (subst (λ (t : Table). IsPartAfter held t done c.args.part c.loop-item.after) (sym w.table.ensures) inv.after));
+            stands = λ reads tree agrees is.
+                rw (tree_after reads x.table done item tree) (subst (λ (t : Table). IsPartOf reads w.in_ok-applied.applied.part (after_read reads (actor_of t item) item.cert.changes (after_items reads x.table done tree))) w.table.ensures
+                (w.in_ok-applied.ensures.part reads (after_items reads x.table done tree) agrees (inv.stands reads tree agrees is)));
+          })
+      | else-comes_after w ↦
+          let stays : comes_after x p item ≡ false = sym c.comes_after.ensures ∙ w.if-comes_after.false in
+          let next : filter (comes_after x p) (take (k + 1) x.others) ≡ done = filter_next (comes_after x p) x.others k item false inside at stays in
+          rw (next, w.after-is) inv
+    ]
+
+pub returns-clause-stands : goal.returns-clause-stands
+returns-clause-stands g c = λ reads tree agrees is.
+    let x = c.args.self.now in
+    let past = rw c.others-item-items.ensures at c.loop-item-test.false in
+    let all : take c.loop-item.item-index x.others ≡ x.others = take_all c.loop-item.item-index x.others past in
+    subst (λ (xs : List PendingItem). IsPartOf reads c.loop-item.after (after_items reads x.table (filter (comes_after x c.args.principal) xs) tree)) all (c.loop-item.invariant.stands reads tree agrees is)

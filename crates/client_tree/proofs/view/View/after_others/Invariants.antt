@@ -1,0 +1,16 @@
+use Rattle.std.proofs.Common.{take}
+use Rattle.std.specs.Prelude.{filter}
+use Rattle.update_cert.specs.World.{Tree}
+use Rattle.update_cert.specs.Reading.{Reading}
+use Rattle.update_cert.specs.Blocks.{Agrees}
+use Rattle.update_cert.specs.Part.{IsPartOf}
+use Rattle.client_tree.specs.View.{after_items, comes_after}
+use Rattle.client_tree.specs.Opened.{IsPartAfter}
+use Rattle.client_tree.proofs.view.View.after_others.Given as goal
+
+abbrev pub invariant-loop-item : goal.invariant-loop-item
+invariant-loop-item g l = record {
+  after : IsPartAfter (g.B.Blocks.held l.blocks) l.fn.self.table (filter (comes_after l.fn.self l.fn.principal) (take l.item-index l.fn.self.others)) l.fn.part l.after;
+  stands : (reads : Reading) (tree : Tree) → Agrees (g.B.Blocks.held l.blocks) reads → IsPartOf reads l.fn.part tree
+      → IsPartOf reads l.after (after_items reads l.fn.self.table (filter (comes_after l.fn.self l.fn.principal) (take l.item-index l.fn.self.others)) tree);
+}

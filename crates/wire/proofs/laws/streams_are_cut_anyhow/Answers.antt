@@ -1,0 +1,8 @@
+use Rattle.wire.proofs.Streams.{stream_in_frames, cut_anyhow}
+use Rattle.wire.proofs.laws.streams_are_cut_anyhow.Goals as goal
+
+pub returns-clause-stream : goal.returns-clause-stream
+returns-clause-stream c = stream_in_frames
+
+pub returns-clause-same : goal.returns-clause-same
+returns-clause-same c = cut_anyhow
