@@ -28,8 +28,8 @@ least_above key low (Some before) k from up = lt_from_less (key before) k up
 -- rows that stand above one another, and whose keys lie between these
 pub keys_ascend : {T : Type 0} (row : RowAfter T) (key : T → ℕ) (low limit : ℕ)
     → ((b : Option T) (x : T)
-      → (row b).Fits x
-      → (above nat_cmp key b (key x) ≡ true) × ((low ≤ key x) × (key x < limit)))
+    → (row b).Fits x
+    → (above nat_cmp key b (key x) ≡ true) × ((low ≤ key x) × (key x < limit)))
     → KeysAscend row key low limit
 keys_ascend row key low limit each = record {
   holds = λ b x fits.
