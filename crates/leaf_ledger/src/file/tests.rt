@@ -1,8 +1,11 @@
 //! A device over a real file beside one in memory.
 
-use crate::{Device, DeviceError, FileDevice, MemoryDevice};
+use super::FileDevice;
+use crate::device::{Device, DeviceError};
+use crate::memory::MemoryDevice;
+use crate::recording::Recording;
 use std::alloc::Global;
-use std::fs;
+use std::fs::{self, File};
 use std::process::Abort;
 
 const FOLDER: &str = "leaf_ledger_file_test";
@@ -60,5 +63,23 @@ fn a_file_does_what_memory_does(rt: HostRuntime) {
     // What another writes to it is a fault.
     fs::write(&rt, PATH, b"other".as_slice()).expect(&rt, "it is written");
     assert!(rt; again.len().is_err() && again.faults() == 1);
+    // A folder that can't be synced.
+    assert!(rt; FileDevice::open(&rt, alloc, "/proc", PATH).is_err());
     let _ = fs::remove_dir_all(&rt, FOLDER);
+}
+
+/// The system's null device takes every write, and can't be synced.
+#[test]
+fn what_the_system_does_not_sync_is_not_synced(rt: HostRuntime) {
+    let alloc = rt.alloc();
+    assert!(rt; FileDevice::open(&rt, alloc, "/dev", "/dev/null").is_err());
+    let file = File::open(&rt, "/dev/null").expect(&rt, "it is opened");
+    let kept = Recording::new(alloc, Vec::new(alloc)).expect(&rt, "there is memory");
+    let mut device = FileDevice {
+        file,
+        kept,
+        faults: 0,
+    };
+    assert!(rt; device.len().is_ok_and(|size| size == 0));
+    assert!(rt; device.sync().is_err() && device.faults() == 1);
 }
