@@ -207,12 +207,7 @@ fn leaf_after(alloc: Global, key: &PublicKey, outcome: usize) -> Result<Vec<u32>
     let mut device = MemoryDevice::new(alloc, Vec::new(alloc))?;
     device.fail_after(6);
     let (_, device) = session(device, key, 1, &mut numbers);
-    let (_, _) = session(
-        crashed(alloc, device, outcome)?,
-        key,
-        1,
-        &mut numbers,
-    );
+    let (_, _) = session(crashed(alloc, device, outcome)?, key, 1, &mut numbers);
     Ok(numbers)
 }
 

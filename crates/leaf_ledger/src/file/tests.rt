@@ -60,9 +60,14 @@ fn a_file_does_what_memory_does(rt: HostRuntime) {
     // Opened again it holds the same.
     let mut again = FileDevice::open(&rt, alloc, FOLDER, PATH).expect(&rt, "the file is opened");
     assert!(rt; again.text() == memory.text());
-    // What another writes to it is a fault.
+    // What another writes to it is a fault: other bytes where they are read, and another length.
+    let size = again.text().len();
+    let other = Vec::from_elem(alloc, 0x5a, size).expect(&rt, "there is memory");
+    fs::write(&rt, PATH, other.as_slice()).expect(&rt, "it is written");
+    let mut found = [0; 8];
+    assert!(rt; again.read(0, &mut found[..size.min(8)]).is_err() && again.faults() == 1);
     fs::write(&rt, PATH, b"other".as_slice()).expect(&rt, "it is written");
-    assert!(rt; again.len().is_err() && again.faults() == 1);
+    assert!(rt; again.len().is_err() && again.faults() == 2);
     // A folder that can't be synced.
     assert!(rt; FileDevice::open(&rt, alloc, "/proc", PATH).is_err());
     let _ = fs::remove_dir_all(&rt, FOLDER);
