@@ -364,3 +364,17 @@ fn gates_and_sizes(rt: HostRuntime) -> Result<(), Fail> {
     assert_eq!(rt; device.text().len(), 5158);
     Ok(())
 }
+
+static ERRORS: [(JournalError, &str); 3] = [
+    (JournalError::Device, "the device failed"),
+    (JournalError::Memory, "out of memory"),
+    (JournalError::Damaged, "the journal is damaged"),
+];
+
+#[test]
+fn errors_print(rt: HostRuntime) {
+    for (error, text) in &ERRORS {
+        let printed = format!(in rt.alloc(); "{error}").expect(&rt, "memory");
+        assert!(rt; printed.as_str() == *text, "{text}");
+    }
+}

@@ -1,6 +1,6 @@
 //! Ledgers on devices in memory whose calls fail in turn, and which crash.
 
-use crate::{CrashError, Device, Ledger, LedgerError, MemoryDevice};
+use crate::{CrashError, Device, DeviceError, Ledger, LedgerError, MemoryDevice};
 use lms_sign::{PublicKey, burn};
 use std::alloc::Global;
 use std::test::Fail;
@@ -146,15 +146,16 @@ fn no_leaf_comes_twice(rt: HostRuntime) -> Result<(), Fail> {
             );
             let device = crashed(alloc, device, outcome)?;
             let (again, device) = session(device, &key, 3, &mut numbers);
-            // Only a file that was never whole is refused, and no leaf came from it.
+            // Only a file that was never whole is refused, or has marks by chance; no leaf came from it.
             assert!(rt;
-                again.is_none() || (again == Some(LedgerError::Foreign) && failing < 5),
+                again.is_none() || failing < 5,
                 "call {failing}, outcome {outcome}"
             );
             let (_, _) = session(device, &key, 1, &mut numbers);
-            // At most one leaf was lost.
+            assert!(rt; ascend(&numbers), "call {failing}, outcome {outcome}");
+            // Of any other at most one leaf is lost.
             assert!(rt;
-                ascend(&numbers) && numbers.last().is_none_or(|last| *last as u64 <= taken + 4),
+                failing < 5 || numbers.last().is_some_and(|last| *last as u64 <= taken + 4),
                 "call {failing}, outcome {outcome}"
             );
         }
@@ -278,4 +279,31 @@ fn a_device_crashes_only_as_it_may(rt: HostRuntime) -> Result<(), Fail> {
     };
     assert!(rt; device.text() == b"abxyz".as_slice());
     Ok(())
+}
+
+static LEDGER_ERRORS: [(LedgerError, &str); 3] = [
+    (LedgerError::NoLeaf, "no leaf is free"),
+    (LedgerError::Device, "the device failed"),
+    (LedgerError::Foreign, "the file is no ledger of this key"),
+];
+
+static CRASH_ERRORS: [(CrashError, &str); 2] = [
+    (CrashError::Impossible, "no crash leaves this"),
+    (CrashError::Memory, "out of memory"),
+];
+
+#[test]
+fn errors_print(rt: HostRuntime) {
+    let alloc = rt.alloc();
+    for (error, text) in &LEDGER_ERRORS {
+        let printed = format!(in alloc; "{error}").expect(&rt, "memory");
+        assert!(rt; printed.as_str() == *text, "{text}");
+    }
+    for (error, text) in &CRASH_ERRORS {
+        let printed = format!(in alloc; "{error}").expect(&rt, "memory");
+        assert!(rt; printed.as_str() == *text, "{text}");
+    }
+    let error = DeviceError;
+    let printed = format!(in alloc; "{error}").expect(&rt, "memory");
+    assert!(rt; printed.as_str() == "the device failed");
 }
