@@ -127,8 +127,8 @@ fn is_due(calls_left: &mut Option<u64>) -> bool
     }
 }
 
-/// Each call does what the trait says, and is counted: the one that is to fail fails. A length and a read fail else only
-/// where the text has no length that a device can tell.
+/// Each call does what the trait says, and is counted: the one that is to fail fails. Else a length fails only where a
+/// device can't tell it, and a read never.
 impl<A: Allocator + Copy> Device for MemoryDevice<A> {
     ghost use Rattle.std.specs.Prelude.{◌≡◌, ◌+◌, ◌<◌, ◌≤◌, length, take, drop, true, false, IfOk, OnOk, OnErr, IsErr};
     ghost use Rattle.leaf_ledger.specs.Device.{end_of_files, wrote_bytes, WroteSome, synced, HasCause};
