@@ -3,6 +3,7 @@ mod Chains
 mod Found
 mod Fronts
 mod Headers
+mod Lives
 mod Opened
 mod Reached
 mod Staged

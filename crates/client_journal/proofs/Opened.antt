@@ -1,7 +1,7 @@
 -- Opening a journal: of a new one the gate is written, any other is synced.
 use Rattle.std.proofs.Common.{◌≡◌, inl, inr, ℕ, ◌≤◌, List, [], ◌∷◌, length, refl, sym, ◌∙◌, ap, subst, arith}
 use Rattle.std.proofs.lemmas.List.{drop_all}
-use Rattle.leaf_ledger.specs.Device.{Disk, History, Torn, Leaves, Throughout, extent, at_rest, written, wrote_bytes, WroteSome, synced}
+use Rattle.leaf_ledger.specs.Device.{Disk, History, Torn, Leaves, Throughout, extent, at_rest, written, wrote_bytes, WroteSome, synced, IsAtMostSynced}
 use Rattle.leaf_ledger.specs.Moments.{rests, stayed, one_more, along, weakened, some_put, some_text, all_put}
 use Rattle.client_journal.specs.Records.{Record, Tells, IsNew, MayBeLeft}
 use Rattle.client_journal.specs.Places.{Ends, IsReady}
@@ -27,6 +27,14 @@ module _ (old : History) where
   synced_once new is =
       subst (λ (h : History). Throughout P old h) (sym is)
       (one_more P old old (at_rest old.now.text) (stayed P old (λ left may. inl may)) (rests P (at_rest old.now.text) old.now.text refl (inr (inl refl))))
+
+  pub at_most_synced : (new : History) → IsAtMostSynced old new → Throughout (MayBeLeft old) old new
+  at_most_synced new (inl same) = as_it_was new same
+  at_most_synced new (inr after) = synced_once new after
+
+  pub still_new : (new : History) → IsAtMostSynced old new → IsNew old.now.text → IsNew new.now.text
+  still_new new (inl same) few = subst (λ (h : History). IsNew h.now.text) (sym same) few
+  still_new new (inr after) few = subst (λ (h : History). IsNew h.now.text) (sym after) few
 
   -- the gate of a new journal is written
   module _ (few : length old.now.text ≤ 1) (mid : History) (is : mid ≡ synced old) where

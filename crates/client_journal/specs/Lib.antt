@@ -1,3 +1,4 @@
+pub mod Life
 pub mod Places
 pub mod Records
 pub mod Told

@@ -1,7 +1,7 @@
 //! The records of a file, as they are found.
 
 ghost use Rattle.std.specs.Prelude.{◌≡◌, ◌⊎◌, ◌+◌, ◌^◌, ◌<◌, ◌≤◌, ◌==◌, ◌++◌, ◌∷◌, [], List, length, drop, get_or, IfOk, IfSome, IfNone, OnOk, OnErr, IsErrOf};
-ghost use Rattle.leaf_ledger.specs.Device.{end_of_files, Throughout, HasRisen};
+ghost use Rattle.leaf_ledger.specs.Device.{end_of_files, synced, IsAtMostSynced, Throughout, HasRisen, HasCause};
 ghost use Rattle.client_journal.specs.Places.{part, Reaches, Ends, IsReady};
 ghost use Rattle.client_journal.specs.Records.{Record, open_gate, closed_gate, size_of_header, spelled, Tells, IsNew, IsOtherKind, EndsEarly, IsDamaged, KeepsJournal, MayBeLeft};
 
@@ -9,7 +9,7 @@ use crate::error::JournalError;
 use crate::kind::Kind;
 use crate::phase::Phase;
 use crate::record::{HEADER_SIZE, read_header};
-use leaf_ledger::{Device, Extent, write_through};
+use leaf_ledger::{Device, DeviceError, Extent, write_through};
 
 /// A gate that is open: a record stands after it.
 pub(crate) const OPEN: u8 = 1;
@@ -142,6 +142,19 @@ fn walk<D: Device>(device: &mut D, size: usize) -> Result<End, JournalError>
     }
 }
 
+/// Syncs, and tells how long the file is.
+fn synced_size<D: Device>(device: &mut D) -> Result<usize, DeviceError>
+    ensures synced { OnOk result (D.history device.new ≡ synced (D.history device.old)) }
+    ensures size { IfOk result (λ size. size ≡ length (D.history device.old).now.text) }
+    ensures bounded { IfOk result (λ size. size < end_of_files) }
+    ensures err { OnErr result (IsAtMostSynced (D.history device.old) (D.history device.new)) }
+    ensures cause { HasCause (D.fault_count device.old) (D.fault_count device.new) result }
+{
+    device.sync()?;
+    let size = device.len()?;
+    Ok(size)
+}
+
 /// Where the records of the file end, which is made where it has at most one byte. The device is synced before anything
 /// is read, so that what is told here stays.
 pub(crate) fn find_end<D: Device>(device: &mut D) -> Result<End, JournalError>
@@ -159,8 +172,7 @@ pub(crate) fn find_end<D: Device>(device: &mut D) -> Result<End, JournalError>
     ensures device { IsErrOf result JournalError.Device
         → HasRisen (D.fault_count device.old) (D.fault_count device.new) }
 {
-    device.sync()?;
-    let size = device.len()?;
+    let size = synced_size(device)?;
     if size <= 1 {
         write_through(device, 0, &[CLOSED])?;
         return Ok(End {

@@ -4,6 +4,7 @@ ghost use Rattle.std.specs.Prelude.{◌≡◌, ◌≢◌, ◌≤◌, List, [], �
 ghost use Rattle.leaf_ledger.specs.Device.{at_rest, written, Leaves, Throughout, HasRisen};
 ghost use Rattle.client_journal.specs.Told.{state_of_held};
 ghost use Rattle.client_journal.specs.Records.{Record as PureRecord, Idle, closed_gate, chain, Tells, TellsState, TellsWithOrWithout, IsShort, IsNew, IsDamaged, MayCome, MayBeLeft, KeepsJournal};
+ghost use Rattle.client_journal.specs.Life.{Nothing, Call, addition_of};
 
 use crate::chain::{End, OPEN, find_end};
 use crate::error::JournalError;
@@ -61,6 +62,9 @@ impl<D: Device> Journal<D> {
             → Leaves (Tells rs) (D.history device).now → Throughout (Tells rs) (D.history device) journal.file) }
         ensures any_moment_err { IfErr result (λ e. (rs : List PureRecord) → Tells rs (D.history device).now.text
             → Leaves (Tells rs) (D.history device).now → Throughout (Tells rs) (D.history device) (D.history e.1)) }
+        // A step of the file's life, of which `records_stay` speaks.
+        ensures step { IfOk result (λ journal. Call Nothing (D.history device) journal.file) }
+        ensures step_err { IfErr result (λ e. Call Nothing (D.history device) (D.history e.1)) }
         ensures no_memory { IfErr result (λ e. e.0 ≢ JournalError.Memory) }
         ensures device { IfErr result (λ e. e.0 ≡ JournalError.Device
             → HasRisen (D.fault_count device) (D.fault_count e.1)) }
@@ -95,6 +99,8 @@ impl<D: Device> Journal<D> {
         // What a read gives, too, whatever is answered.
         ensures reads { (rs : List PureRecord) → Tells rs self.old.file.now.text
             → TellsWithOrWithout rs added.entry self.new.file.now.text }
+        // A step of the file's life, of which `records_stay` speaks.
+        ensures step { Call (addition_of added.entry result) self.old.file self.new.file }
         ensures usable { OnOk result (self.new.usable ≡ true) }
         ensures usable_err { OnErr result (self.new.usable ≡ false) }
         ensures ours { OnErr result (IsErrOf result JournalError.Device) }
@@ -125,6 +131,7 @@ impl<D: Device> Journal<D> {
         requires { self.old.usable ≡ true }
         ensures state { IfOk result (λ state. TellsState (state_of_held state) self.old.file.now.text) }
         ensures same { self.new.file ≡ self.old.file }
+        ensures step { Call Nothing self.old.file self.new.file }
         ensures usable { OnOk result (self.new.usable ≡ true) }
         ensures memory { IsErrOf result JournalError.Memory → self.new.usable ≡ true }
         // Where there is no record nothing grows.
@@ -163,6 +170,7 @@ impl<D: Device> Journal<D> {
     pub fn close(self) -> D
         ensures file { D.history result ≡ self.file }
         ensures faults { D.fault_count result ≡ self.faults }
+        ensures step { Call Nothing self.file (D.history result) }
     {
         let Journal {
             device,

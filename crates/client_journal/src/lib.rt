@@ -20,6 +20,6 @@ mod tests;
 pub use error::JournalError;
 pub use journal::Journal;
 pub use kind::Kind;
-pub use laws::files_tell_or_are_damaged;
+pub use laws::{files_tell_or_are_damaged, records_stay};
 pub use record::Record;
 pub use state::JournalState;

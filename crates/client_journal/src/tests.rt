@@ -154,7 +154,7 @@ fn appended(device: MemoryDevice<Global>, from: usize) -> (Option<usize>, Memory
     (well.then_some(count), journal.close())
 }
 
-/// What a crash leaves of the bytes that were written since the last sync.
+/// What a crash leaves of an extent that was written since the last sync.
 #[derive(Clone, Copy, Debug)]
 enum Left {
     Old,
@@ -162,7 +162,7 @@ enum Left {
     Filled(u8),
 }
 
-const LEFT: [Left; 6] = [
+static LEFT: [Left; 6] = [
     Left::Old,
     Left::New,
     Left::Filled(0),
@@ -171,24 +171,49 @@ const LEFT: [Left; 6] = [
     Left::Filled(0xff),
 ];
 
-/// The device after a crash that left this.
+/// In how many ways a crash leaves three extents.
+const OUTCOMES: usize = 216;
+
+/// How many bytes a crash leaves. The digits of the outcome, to base 6, say how each extent is left; what lies past the
+/// old end is cut short where the last extents are left old.
+fn size_left(device: &MemoryDevice<Global>, outcome: usize) -> usize {
+    let mut size = device.settled().len();
+    let mut ways = outcome;
+    for extent in device.unsynced() {
+        if ways % 6 != 0 {
+            size = size.max(extent.at.saturating_add(extent.size));
+        }
+        ways /= 6;
+    }
+    size
+}
+
+/// The byte at a place that a crash leaves.
+fn byte_left(device: &MemoryDevice<Global>, outcome: usize, i: usize) -> u8 {
+    let mut byte = device.settled().get(i).copied().unwrap_or(0);
+    let mut ways = outcome;
+    for extent in device.unsynced() {
+        if extent.at <= i && i - extent.at < extent.size {
+            match LEFT[ways % 6] {
+                Left::Old => {}
+                Left::New => byte = device.text().get(i).copied().unwrap_or(0),
+                Left::Filled(filler) => byte = filler,
+            }
+        }
+        ways /= 6;
+    }
+    byte
+}
+
+/// The device after a crash with this outcome.
 fn crashed(
     alloc: Global,
     device: MemoryDevice<Global>,
-    left: Left,
+    outcome: usize,
 ) -> Result<MemoryDevice<Global>, Fail> {
-    let mut text = match left {
-        Left::Old => Vec::from_slice(alloc, device.settled())?,
-        _ => Vec::from_slice(alloc, device.text())?,
-    };
-    if let Left::Filled(byte) = left {
-        for extent in device.unsynced() {
-            for (i, x) in text.iter_mut().enumerate() {
-                if extent.at <= i && i - extent.at < extent.size {
-                    *x = byte;
-                }
-            }
-        }
+    let mut text = Vec::new(alloc);
+    for i in 0..size_left(&device, outcome) {
+        text.push(byte_left(&device, outcome, i))?;
     }
     match device.crash(text) {
         Ok(device) => Ok(device),
@@ -196,72 +221,114 @@ fn crashed(
     }
 }
 
+/// How many calls a new journal makes for three records.
+const CALLS: u64 = OPEN_CALLS + 3 * APPEND_CALLS;
+
+/// How many records were answered Ok before the call that failed.
+fn answered_before(failing: u64) -> usize {
+    (failing.saturating_sub(OPEN_CALLS) / APPEND_CALLS) as usize
+}
+
+/// A new device to which records are appended until a call fails. Tells how many there are then, if none failed.
+fn after_appends(
+    alloc: Global,
+    failing: u64,
+) -> Result<(Option<usize>, MemoryDevice<Global>), Fail> {
+    let mut device = MemoryDevice::new(alloc, Vec::new(alloc))?;
+    device.fail_after(failing);
+    Ok(appended(device, 0))
+}
+
+/// How many calls an open makes of a file with three records, and `state` then.
+const LATER_CALLS: u64 = 2 + 3 * 2 + 1 + 2;
+
+/// Appends records until a call fails, reads them, where another call may fail, and again after a crash. What was told
+/// by the first reading and by the second.
+fn read_twice(
+    alloc: Global,
+    failing: u64,
+    later: u64,
+    outcome: usize,
+) -> Result<(Told, Told), Fail> {
+    let (_, mut device) = after_appends(alloc, failing)?;
+    device.fail_after(later);
+    let (first, device) = read_file(alloc, device);
+    let (second, _) = read_file(alloc, crashed(alloc, device, outcome)?);
+    Ok((first, second))
+}
+
 #[test]
-fn records_outlive_crashes(rt: HostRuntime) -> Result<(), Fail> {
+fn each_call_of_a_later_open_fails(rt: HostRuntime) -> Result<(), Fail> {
     let alloc = rt.alloc();
-    let calls = OPEN_CALLS + 3 * APPEND_CALLS;
-    for failing in 0..=calls {
-        // How many records were answered Ok before the call that fails.
-        let before = (failing.saturating_sub(OPEN_CALLS) / APPEND_CALLS) as usize;
-        for left in LEFT {
-            let mut device = MemoryDevice::new(alloc, Vec::new(alloc))?;
-            device.fail_after(failing);
-            let (well, mut device) = appended(device, 0);
-            device.fail_after(u64::MAX);
-            assert!(rt; well == (failing == calls).then_some(3), "call {failing}");
-            // Opened again, and then after a crash: the second finds what the first told.
-            let (again, device) = read_file(alloc, device);
-            let (then, _) = read_file(alloc, crashed(alloc, device, left)?);
-            assert!(rt;
-                then == again,
-                "call {failing}, left {left:?}: {again:?}, {then:?}"
-            );
-            assert!(rt;
-                TOLD.iter().skip(before).take(2).any(|told| *told == again),
-                "call {failing}: {again:?}"
-            );
+    for failing in 0..=CALLS {
+        let before = answered_before(failing);
+        for later in 0..=LATER_CALLS {
+            for outcome in 0..OUTCOMES {
+                let (first, second) = read_twice(alloc, failing, later, outcome)?;
+                // The second reading finds what the first told, if that met no fault.
+                assert!(rt;
+                    first == second || (first == Told::Nothing && later < LATER_CALLS),
+                    "calls {failing}, {later}, outcome {outcome}: {first:?}, {second:?}"
+                );
+                assert!(rt;
+                    TOLD.iter().skip(before).take(2).any(|told| *told == second),
+                    "calls {failing}, {later}, outcome {outcome}: {second:?}"
+                );
+            }
         }
     }
     Ok(())
+}
+
+/// How many records there are after a crash with this outcome, and the device.
+fn count_after(
+    alloc: Global,
+    failing: u64,
+    outcome: usize,
+) -> Result<(Option<usize>, MemoryDevice<Global>), Fail> {
+    let (_, device) = after_appends(alloc, failing)?;
+    let (found, device) = read_file(alloc, crashed(alloc, device, outcome)?);
+    Ok((TOLD.iter().position(|told| *told == found), device))
 }
 
 #[test]
 fn crashes_leave_records(rt: HostRuntime) -> Result<(), Fail> {
     let alloc = rt.alloc();
-    let calls = OPEN_CALLS + 3 * APPEND_CALLS;
-    for failing in 0..=calls {
-        let before = (failing.saturating_sub(OPEN_CALLS) / APPEND_CALLS) as usize;
-        for left in LEFT {
-            let mut device = MemoryDevice::new(alloc, Vec::new(alloc))?;
-            device.fail_after(failing);
-            let (_, device) = appended(device, 0);
-            let (found, device) = read_file(alloc, crashed(alloc, device, left)?);
-            let count = match TOLD.iter().position(|told| *told == found) {
-                Some(count) => count,
-                None => return Err(Fail::new(format_args!(
-                    "call {failing}, left {left:?}: {found:?}"
-                ))),
-            };
+    for failing in 0..=CALLS {
+        let before = answered_before(failing);
+        for outcome in 0..OUTCOMES {
+            let (count, device) = count_after(alloc, failing, outcome)?;
+            let count = count.expect(&rt, "it tells records");
             assert!(rt;
-                count == before || count == before + 1,
-                "call {failing}, left {left:?}: {found:?}"
+                count == before || count == before.saturating_add(1),
+                "call {failing}, outcome {outcome}: {count}"
             );
             // It goes on from there.
             let (well, device) = appended(device, count);
-            assert!(rt; well == Some(3), "call {failing}, left {left:?}");
             let (last, _) = read_file(alloc, device);
-            assert!(rt; last == TOLD[3], "call {failing}, left {left:?}: {last:?}");
+            assert!(rt;
+                well == Some(3) && last == TOLD[3],
+                "call {failing}, outcome {outcome}: {last:?}"
+            );
         }
     }
     Ok(())
 }
 
-/// What the journal tells after a crash that left this byte in the place of the gate, once it was opened and not synced.
-fn gate_left(alloc: Global, gate: u8) -> Result<Told, Fail> {
-    let mut device = MemoryDevice::new(alloc, Vec::new(alloc))?;
-    device.fail_after(OPEN_CALLS + 5);
-    let (_, device) = appended(device, 0);
-    let (found, _) = read_file(alloc, crashed(alloc, device, Left::Filled(gate))?);
+#[test]
+fn a_failed_call_is_answered(rt: HostRuntime) -> Result<(), Fail> {
+    let alloc = rt.alloc();
+    for failing in 0..=CALLS {
+        let (well, _) = after_appends(alloc, failing)?;
+        assert!(rt; well == (failing == CALLS).then_some(3), "call {failing}");
+    }
+    Ok(())
+}
+
+/// What the journal tells after a crash that left the gate so, once it was opened and not synced.
+fn gate_left(alloc: Global, outcome: usize) -> Result<Told, Fail> {
+    let (_, device) = after_appends(alloc, OPEN_CALLS + 5)?;
+    let (found, _) = read_file(alloc, crashed(alloc, device, outcome)?);
     Ok(found)
 }
 
@@ -285,8 +352,9 @@ fn appended_once(
 #[test]
 fn gates_and_sizes(rt: HostRuntime) -> Result<(), Fail> {
     let alloc = rt.alloc();
-    for (gate, wanted) in [(0, TOLD[0]), (1, TOLD[1]), (0x7f, TOLD[0])] {
-        assert!(rt; gate_left(alloc, gate)? == wanted, "gate {gate}");
+    // A gate left 00, 01 and 7f.
+    for (outcome, wanted) in [(2, TOLD[0]), (3, TOLD[1]), (4, TOLD[0])] {
+        assert!(rt; gate_left(alloc, outcome)? == wanted, "outcome {outcome}");
     }
     // A signed certificate without changes, and the structure after it.
     let device = MemoryDevice::new(alloc, Vec::new(alloc))?;
@@ -295,4 +363,18 @@ fn gates_and_sizes(rt: HostRuntime) -> Result<(), Fail> {
     let device = appended_once(device, Kind::Structure, &[6; 2595])?;
     assert_eq!(rt; device.text().len(), 5158);
     Ok(())
+}
+
+static ERRORS: [(JournalError, &str); 3] = [
+    (JournalError::Device, "the device failed"),
+    (JournalError::Memory, "out of memory"),
+    (JournalError::Damaged, "the journal is damaged"),
+];
+
+#[test]
+fn errors_print(rt: HostRuntime) {
+    for (error, text) in &ERRORS {
+        let printed = format!(in rt.alloc(); "{error}").expect(&rt, "memory");
+        assert!(rt; printed.as_str() == *text, "{text}");
+    }
 }

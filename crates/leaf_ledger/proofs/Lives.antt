@@ -1,28 +1,12 @@
 -- What is surely used stays so through a whole life, so no leaf is handed out twice.
 use Rattle.std.proofs.Common.{◌≡◌, ◌≢◌, ◌⊎◌, inl, inr, ℕ, Bool, true, false, ◌||◌, nat_eq, IfSome, Option, Some, None, List, [], ◌∷◌, length, get_or, not, ◌==◌, ◌+◌, refl, sym, ◌∙◌, ap, subst, arith}
 use Rattle.std.specs.List.{IsDistinct, AllByRecursion}
-use Rattle.std.proofs.lemmas.List.{append_cancel_right, get_or_past}
-use Rattle.leaf_ledger.specs.Device.{Disk, History, MayLeave, Leaves, EachLeaves, Throughout, at_rest, moments, started, synced}
+use Rattle.std.proofs.lemmas.List.{get_or_past}
+use Rattle.leaf_ledger.specs.Device.{Disk, History, Leaves, Throughout, at_rest, started, synced}
 use Rattle.leaf_ledger.specs.Ledger.{is_used, UsedWith, UsedWithOrWithout, KeepsLedger, IsLeastFree, IsFull}
-use Rattle.leaf_ledger.specs.Life.{IsSure, Call, OneLeaves, LeftDuring, Event, Called, Crashed, IsLife, handed_out}
-use Rattle.leaf_ledger.specs.Moments.{rests, stayed, one_more, at_end, weakened}
+use Rattle.leaf_ledger.specs.Life.{IsSure, Call, Event, Called, Crashed, IsLife, handed_out}
+use Rattle.leaf_ledger.specs.Moments.{rests, stayed, one_more, at_end, weakened, left_has}
 use Rattle.leaf_ledger.proofs.Marked.{other_leaf, same_leaf}
-
--- one of the moments, each of which leaves what has P
-one_has : (P : List ℕ → Type 0) (disks : List Disk) (left : List ℕ) → EachLeaves P disks → OneLeaves disks left → P left
-one_has P [] left each none = absurd none
-one_has P (disk ∷ disks) left each (inl here) = each.0 left here
-one_has P (disk ∷ disks) left each (inr there) = one_has P disks left each.1 there
-
-pub left_has : (P : List ℕ → Type 0) (old new : History) (left : List ℕ) → Throughout P old new → LeftDuring old new left → P left
-left_has P old new left all during = found during.some
-  where
-    same : all.since ≡ during.since
-    same = append_cancel_right all.since during.since (moments old) (sym all.goes_on ∙ during.goes_on)
-
-    found : MayLeave old.now left ⊎ OneLeaves during.since left → P left
-    found (inl start) = all.at_start left start
-    found (inr later) = one_has P during.since left (subst (λ (ds : List Disk). EachLeaves P ds) same all.each) later
 
 -- after a crash that left it used
 sure_again : (left : List ℕ) (leaf : ℕ) → is_used left leaf ≡ true → IsSure (started left) leaf

@@ -101,6 +101,17 @@ pub record Throughout (P : Bytes → Type 0) (old new : History) : Type 0 where
   pub at_start : Leaves P old.now
   pub each : EachLeaves P since
 
+-- a crash at one of these moments may leave this
+abbrev pub OneLeaves : List Disk → Bytes → Type 0
+OneLeaves [] left = ⊥
+OneLeaves (disk ∷ disks) left = MayLeave disk left ⊎ OneLeaves disks left
+
+-- a crash at some moment from the old one to the new one, both among them, may leave this
+pub record LeftDuring (old new : History) (left : Bytes) : Type 0 where
+  pub since : List Disk
+  pub goes_on : moments new ≡ since ++ moments old
+  pub some : MayLeave old.now left ⊎ OneLeaves since left
+
 -- the greatest count of faults, at which it stays
 abbrev pub last_count : ℕ
 last_count = 2 ^ 64 - 1

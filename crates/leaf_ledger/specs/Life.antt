@@ -1,8 +1,8 @@
 -- The life of a ledger's file: calls, and crashes between and inside them.
-use Rattle.std.specs.Prelude.{◌≡◌, ◌⊎◌, true, false, Option, Some, None, IfSome, List, [], ◌∷◌, ◌++◌, Result, Ok, Err}
+use Rattle.std.specs.Prelude.{◌≡◌, true, false, Option, Some, None, IfSome, List, [], ◌∷◌, Result, Ok, Err}
 use Rattle.layout.specs.Types.{Bytes}
 use Rattle.lms_sign.specs.Keys.{KeyLeaf}
-use Rattle.leaf_ledger.specs.Device.{Disk, History, MayLeave, Leaves, Throughout, moments, started}
+use Rattle.leaf_ledger.specs.Device.{History, Leaves, Throughout, LeftDuring, started}
 use Rattle.leaf_ledger.specs.Ledger.{LeafNumber, is_used}
 
 -- a read says that the leaf is used, and so does whatever a crash leaves
@@ -21,17 +21,6 @@ pub record Call (handed : Option LeafNumber) (old new : History) : Type 0 where
 abbrev pub handed_by : {E : Type 0} → Result KeyLeaf E → Option LeafNumber
 handed_by (Ok leaf) = Some leaf.number
 handed_by (Err e) = None
-
--- a crash at one of these moments may leave this
-abbrev pub OneLeaves : List Disk → Bytes → Type 0
-OneLeaves [] left = ⊥
-OneLeaves (disk ∷ disks) left = MayLeave disk left ⊎ OneLeaves disks left
-
--- a crash at some moment from the old one to the new one, both among them, may leave this
-pub record LeftDuring (old new : History) (left : Bytes) : Type 0 where
-  pub since : List Disk
-  pub goes_on : moments new ≡ since ++ moments old
-  pub some : MayLeave old.now left ⊎ OneLeaves since left
 
 -- a call that returned, with the leaf that it handed out, or a call that a crash cut short, with what the crash left
 pub data Event : Type 0 where

@@ -1,9 +1,9 @@
 -- Nobody has to believe this file: laws, which are proved.
 -- What a crash leaves throughout a run of device calls: laws for the proofs of those who call a device.
-use Rattle.std.proofs.Common.{◌≡◌, ℕ, List, [], ◌∷◌, ◌++◌, length, refl, sym, ◌∙◌, ap, subst, arith, inl, inr}
-use Rattle.std.proofs.lemmas.List.{append_assoc, ext_get_or}
+use Rattle.std.proofs.Common.{◌≡◌, ◌⊎◌, ℕ, List, [], ◌∷◌, ◌++◌, length, refl, sym, ◌∙◌, ap, subst, arith, inl, inr}
+use Rattle.std.proofs.lemmas.List.{append_assoc, append_cancel_right, ext_get_or}
 use Rattle.layout.specs.Types.{Bytes}
-use Rattle.leaf_ledger.specs.Device.{Disk, History, Torn, MayLeave, Leaves, EachLeaves, Throughout, WroteSome, extent, at_rest, moments, wrote, synced}
+use Rattle.leaf_ledger.specs.Device.{Disk, History, Torn, MayLeave, Leaves, EachLeaves, Throughout, OneLeaves, LeftDuring, WroteSome, extent, at_rest, moments, wrote, synced}
 
 -- a crash leaves a device at rest as it is
 pub rest_only : (file left : Bytes) → MayLeave (at_rest file) left → left ≡ file
@@ -47,6 +47,22 @@ at_end P old new all = from all.since all.goes_on all.each
     from : (since : List Disk) → moments new ≡ since ++ moments old → EachLeaves P since → Leaves P new.now
     from [] is each = let same : new.now ≡ old.now = cc in subst (λ (d : Disk). Leaves P d) (sym same) all.at_start
     from (d ∷ since) is each = let same : new.now ≡ d = cc in subst (λ (d : Disk). Leaves P d) (sym same) each.0
+
+-- one of the moments, each of which leaves what has P
+one_has : (P : Bytes → Type 0) (disks : List Disk) (left : Bytes) → EachLeaves P disks → OneLeaves disks left → P left
+one_has P [] left each none = absurd none
+one_has P (disk ∷ disks) left each (inl here) = each.0 left here
+one_has P (disk ∷ disks) left each (inr there) = one_has P disks left each.1 there
+
+pub left_has : (P : Bytes → Type 0) (old new : History) (left : Bytes) → Throughout P old new → LeftDuring old new left → P left
+left_has P old new left all during = found during.some
+  where
+    same : all.since ≡ during.since
+    same = append_cancel_right all.since during.since (moments old) (sym all.goes_on ∙ during.goes_on)
+
+    found : MayLeave old.now left ⊎ OneLeaves during.since left → P left
+    found (inl start) = all.at_start left start
+    found (inr later) = one_has P during.since left (subst (λ (ds : List Disk). EachLeaves P ds) same all.each) later
 
 weaker : (P Q : Bytes → Type 0) (disks : List Disk) → ((c : Bytes) → P c → Q c) → EachLeaves P disks → EachLeaves Q disks
 weaker P Q [] leads each = tt

@@ -1,5 +1,5 @@
 -- The history of a text in memory, by its calls.
-use Rattle.std.specs.Prelude.{ℕ, Option, List, [], ◌∷◌}
+use Rattle.std.specs.Prelude.{ℕ, zero, suc, Bool, true, false, Option, Some, None, List, [], ◌∷◌}
 use Rattle.leaf_ledger.specs.Device.{History, wrote, written, synced}
 use Rattle.leaf_ledger.specs.declared.device_call.DeviceCall.{DeviceCall}
 use Rattle.leaf_ledger.specs.declared.device_call.DeviceCall.TheVariants as call
@@ -19,6 +19,18 @@ pub record MemoryState : Type 0 where
   pub history : History
   pub faults : ℕ
   pub calls_left : Option ℕ
+
+-- whether the next call is the one that fails
+abbrev pub fails_next : Option ℕ → Bool
+fails_next None = false
+fails_next (Some zero) = true
+fails_next (Some (suc n)) = false
+
+-- how many calls go well after it: once one has failed, no other is to fail
+abbrev pub one_call_less : Option ℕ → Option ℕ
+one_call_less None = None
+one_call_less (Some zero) = None
+one_call_less (Some (suc n)) = Some n
 
 -- a device over a file as its callers see it
 pub record FileState : Type 0 where

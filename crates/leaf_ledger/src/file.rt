@@ -16,6 +16,9 @@ use std::io::{self, Read};
 use std::marker::Model;
 use std::os::unix::fs::FileExt;
 
+#[cfg(test)]
+mod tests;
+
 /// A device over a file of the system, which nobody else may write to.
 ///
 /// After a write that failed the file may hold another part of it than what is kept: each call that meets the difference

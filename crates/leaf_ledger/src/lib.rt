@@ -12,8 +12,6 @@ mod error;
 mod extent;
 mod fault;
 mod file;
-#[cfg(test)]
-mod file_tests;
 mod laws;
 mod ledger;
 mod load;

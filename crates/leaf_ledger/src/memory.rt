@@ -2,6 +2,7 @@
 
 ghost use Rattle.std.specs.Prelude.{◌≡◌, Some, None, IfOk, IfErr};
 ghost use Rattle.leaf_ledger.specs.Device.{started, MayLeave};
+ghost use Rattle.leaf_ledger.specs.Recording.{fails_next, one_call_less};
 ghost use Rattle.leaf_ledger.specs.declared.memory.CrashError.TheVariants as crash_error;
 
 use crate::device::{Device, DeviceError};
@@ -109,7 +110,10 @@ impl<A: Allocator + Copy> MemoryDevice<A> {
 }
 
 /// Counts a call, and tells whether it fails.
-fn is_due(calls_left: &mut Option<u64>) -> bool {
+fn is_due(calls_left: &mut Option<u64>) -> bool
+    ensures counted { calls_left.new ≡ one_call_less calls_left.old }
+    ensures due { result ≡ fails_next calls_left.old }
+{
     match *calls_left {
         None => false,
         Some(0) => {
@@ -123,7 +127,13 @@ fn is_due(calls_left: &mut Option<u64>) -> bool {
     }
 }
 
+/// Each call does what the trait says, and is counted: the one that is to fail fails. Else a length fails only where a
+/// device can't tell it, and a read never.
 impl<A: Allocator + Copy> Device for MemoryDevice<A> {
+    ghost use Rattle.std.specs.Prelude.{◌≡◌, ◌+◌, ◌<◌, ◌≤◌, length, take, drop, true, false, IfOk, OnOk, OnErr, IsErr};
+    ghost use Rattle.leaf_ledger.specs.Device.{end_of_files, wrote_bytes, WroteSome, synced, HasCause};
+    ghost use Rattle.leaf_ledger.specs.Recording.{fails_next, one_call_less};
+
     ghost history = { λ m. m.history };
 
     ghost fault_count = { λ m. m.faults };
@@ -132,7 +142,16 @@ impl<A: Allocator + Copy> Device for MemoryDevice<A> {
         self.faults
     }
 
-    fn len(&mut self) -> Result<usize, DeviceError> {
+    fn len(&mut self) -> Result<usize, DeviceError>
+        ensures size { IfOk result (λ size. size ≡ length self.old.history.now.text) }
+        ensures bounded { IfOk result (λ size. size < end_of_files) }
+        ensures same { self.new.history ≡ self.old.history }
+        ensures cause { HasCause self.old.faults self.new.faults result }
+        ensures counted { self.new.calls_left ≡ one_call_less self.old.calls_left }
+        ensures due { fails_next self.old.calls_left ≡ true → IsErr result }
+        ensures well { fails_next self.old.calls_left ≡ false → IsErr result
+            → end_of_files ≤ length self.old.history.now.text }
+    {
         let size = self.recording.text().len();
         if is_due(&mut self.calls_left) || size >= END {
             return Err(fault(&mut self.faults));
@@ -140,7 +159,15 @@ impl<A: Allocator + Copy> Device for MemoryDevice<A> {
         Ok(size)
     }
 
-    fn read(&mut self, at: usize, out: &mut [u8]) -> Result<(), DeviceError> {
+    fn read(&mut self, at: usize, out: &mut [u8]) -> Result<(), DeviceError>
+        requires { at + length out.old ≤ length self.old.history.now.text }
+        ensures bytes { OnOk result (out.new ≡ take (length out.old) (drop at self.old.history.now.text)) }
+        ensures same { self.new.history ≡ self.old.history }
+        ensures cause { HasCause self.old.faults self.new.faults result }
+        ensures counted { self.new.calls_left ≡ one_call_less self.old.calls_left }
+        ensures due { fails_next self.old.calls_left ≡ true → IsErr result }
+        ensures well { fails_next self.old.calls_left ≡ false → IsErr result → ⊥ }
+    {
         if is_due(&mut self.calls_left) {
             return Err(fault(&mut self.faults));
         }
@@ -150,7 +177,15 @@ impl<A: Allocator + Copy> Device for MemoryDevice<A> {
     }
 
     /// A write that fails does half of its bytes.
-    fn write_at(&mut self, at: usize, bytes: &[u8]) -> Result<(), DeviceError> {
+    fn write_at(&mut self, at: usize, bytes: &[u8]) -> Result<(), DeviceError>
+        requires { at ≤ length self.old.history.now.text }
+        ensures ok { OnOk result (self.new.history ≡ wrote_bytes at bytes.now self.old.history) }
+        ensures bounded { OnOk result (at + length bytes.now < end_of_files) }
+        ensures err { OnErr result (WroteSome at (length bytes.now) self.old.history self.new.history) }
+        ensures cause { HasCause self.old.faults self.new.faults result }
+        ensures counted { self.new.calls_left ≡ one_call_less self.old.calls_left }
+        ensures due { fails_next self.old.calls_left ≡ true → IsErr result }
+    {
         let size = bytes.len();
         if is_due(&mut self.calls_left) {
             let _ = self.recording.write(at, &bytes[..size / 2], size);
@@ -165,7 +200,13 @@ impl<A: Allocator + Copy> Device for MemoryDevice<A> {
         }
     }
 
-    fn sync(&mut self) -> Result<(), DeviceError> {
+    fn sync(&mut self) -> Result<(), DeviceError>
+        ensures ok { OnOk result (self.new.history ≡ synced self.old.history) }
+        ensures err { OnErr result (self.new.history ≡ self.old.history) }
+        ensures cause { HasCause self.old.faults self.new.faults result }
+        ensures counted { self.new.calls_left ≡ one_call_less self.old.calls_left }
+        ensures due { fails_next self.old.calls_left ≡ true → IsErr result }
+    {
         if is_due(&mut self.calls_left) {
             return Err(fault(&mut self.faults));
         }

@@ -1,11 +1,11 @@
 //! Ledgers on devices in memory whose calls fail in turn, and which crash.
 
-use crate::{CrashError, Device, Ledger, LedgerError, MemoryDevice};
+use crate::{CrashError, Device, DeviceError, Ledger, LedgerError, MemoryDevice};
 use lms_sign::{PublicKey, burn};
 use std::alloc::Global;
 use std::test::Fail;
 
-/// What a crash leaves of the bytes that were written since the last sync.
+/// What a crash leaves of an extent that was written since the last sync.
 #[derive(Clone, Copy, Debug)]
 enum Left {
     Old,
@@ -13,7 +13,7 @@ enum Left {
     Filled(u8),
 }
 
-const LEFT: [Left; 6] = [
+static LEFT: [Left; 6] = [
     Left::Old,
     Left::New,
     Left::Filled(0),
@@ -22,6 +22,9 @@ const LEFT: [Left; 6] = [
     Left::Filled(0xff),
 ];
 
+/// In how many ways a crash leaves two extents.
+const OUTCOMES: usize = 36;
+
 /// The public key whose identifier and root are this byte.
 fn key(byte: u8) -> Option<PublicKey> {
     let mut bytes = [byte; 56];
@@ -29,31 +32,47 @@ fn key(byte: u8) -> Option<PublicKey> {
     PublicKey::from_bytes(bytes)
 }
 
-/// The text that a crash leaves.
-fn left_of(alloc: Global, device: &MemoryDevice<Global>, left: Left) -> Result<Vec<u8>, Fail> {
-    let byte = match left {
-        Left::Old => return Ok(device.settled().to_vec(alloc)?),
-        Left::New => return Ok(device.text().to_vec(alloc)?),
-        Left::Filled(byte) => byte,
-    };
-    let mut text = device.text().to_vec(alloc)?;
+/// How many bytes a crash leaves. The digits of the outcome, to base 6, say how each extent is left; what lies past the
+/// old end is cut short where the last extents are left old.
+fn size_left(device: &MemoryDevice<Global>, outcome: usize) -> usize {
+    let mut size = device.settled().len();
+    let mut ways = outcome;
     for extent in device.unsynced() {
-        for (i, x) in text.iter_mut().enumerate() {
-            if extent.at <= i && i - extent.at < extent.size {
-                *x = byte;
-            }
+        if ways % 6 != 0 {
+            size = size.max(extent.at.saturating_add(extent.size));
         }
+        ways /= 6;
     }
-    Ok(text)
+    size
 }
 
-/// The device after a crash that left this.
+/// The byte at a place that a crash leaves.
+fn byte_left(device: &MemoryDevice<Global>, outcome: usize, i: usize) -> u8 {
+    let mut byte = device.settled().get(i).copied().unwrap_or(0);
+    let mut ways = outcome;
+    for extent in device.unsynced() {
+        if extent.at <= i && i - extent.at < extent.size {
+            match LEFT[ways % 6] {
+                Left::Old => {}
+                Left::New => byte = device.text().get(i).copied().unwrap_or(0),
+                Left::Filled(filler) => byte = filler,
+            }
+        }
+        ways /= 6;
+    }
+    byte
+}
+
+/// The device after a crash with this outcome.
 fn crashed(
     alloc: Global,
     device: MemoryDevice<Global>,
-    left: Left,
+    outcome: usize,
 ) -> Result<MemoryDevice<Global>, Fail> {
-    let text = left_of(alloc, &device, left)?;
+    let mut text = Vec::new(alloc);
+    for i in 0..size_left(&device, outcome) {
+        text.push(byte_left(&device, outcome, i))?;
+    }
     match device.crash(text) {
         Ok(device) => Ok(device),
         Err((error, _)) => Err(Fail::new(error)),
@@ -98,77 +117,98 @@ const CALLS: u64 = 5 + 3 * 2;
 /// How many calls an open makes of a file that is there.
 const LATER_OPEN_CALLS: u64 = 4;
 
+/// A device on which the ledger of a key was opened and three leaves were taken, until a call failed. Tells what was
+/// refused, too.
+fn after_takes(
+    alloc: Global,
+    key: &PublicKey,
+    failing: u64,
+    numbers: &mut Vec<u32>,
+) -> Result<(Option<LedgerError>, MemoryDevice<Global>), Fail> {
+    let mut device = MemoryDevice::new(alloc, Vec::new(alloc))?;
+    device.fail_after(failing);
+    Ok(session(device, key, 3, numbers))
+}
+
 #[test]
 fn no_leaf_comes_twice(rt: HostRuntime) -> Result<(), Fail> {
     let alloc = rt.alloc();
-    let Some(key) = key(1) else {
-        return Err(Fail::new("no key"));
-    };
+    let key = key(1).expect(&rt, "a key");
     for failing in 0..=CALLS {
-        for left in LEFT {
+        for outcome in 0..OUTCOMES {
             let mut numbers = Vec::new(alloc);
-            let mut device = MemoryDevice::new(alloc, Vec::new(alloc))?;
-            device.fail_after(failing);
-            let (refused, device) = session(device, &key, 3, &mut numbers);
+            let (refused, device) = after_takes(alloc, &key, failing, &mut numbers)?;
+            let taken = failing.saturating_sub(5) / 2;
             assert!(rt;
-                refused == (failing < CALLS).then_some(LedgerError::Device),
+                refused == (failing < CALLS).then_some(LedgerError::Device)
+                    && numbers.len() as u64 == taken,
                 "call {failing}"
             );
+            let device = crashed(alloc, device, outcome)?;
+            let (again, device) = session(device, &key, 3, &mut numbers);
+            // Only a file that was never whole is refused, or has marks by chance; no leaf came from it.
             assert!(rt;
-                numbers.len() as u64 == failing.saturating_sub(5) / 2,
-                "call {failing}"
-            );
-            let (again, device) = session(crashed(alloc, device, left)?, &key, 3, &mut numbers);
-            // Only a file that was never whole is refused, and no leaf came from it.
-            assert!(rt;
-                again.is_none() || (again == Some(LedgerError::Foreign) && failing < 5),
-                "call {failing}, left {left:?}"
+                again.is_none() || failing < 5,
+                "call {failing}, outcome {outcome}"
             );
             let (_, _) = session(device, &key, 1, &mut numbers);
-            assert!(rt; ascend(&numbers), "call {failing}, left {left:?}");
+            assert!(rt; ascend(&numbers), "call {failing}, outcome {outcome}");
+            // Of any other at most one leaf is lost.
+            assert!(rt;
+                failing < 5 || numbers.last().is_some_and(|last| *last as u64 <= taken + 4),
+                "call {failing}, outcome {outcome}"
+            );
         }
     }
     Ok(())
 }
 
+/// Takes leaves until a call fails, opens the ledger again, where another call may fail, and once more after a crash.
+/// Tells what the second open was refused.
+fn opened_thrice(
+    alloc: Global,
+    key: &PublicKey,
+    calls: (u64, u64),
+    outcome: usize,
+    numbers: &mut Vec<u32>,
+) -> Result<Option<LedgerError>, Fail> {
+    let (_, mut device) = after_takes(alloc, key, calls.0, numbers)?;
+    device.fail_after(calls.1);
+    let (refused, device) = session(device, key, 0, numbers);
+    let (_, _) = session(crashed(alloc, device, outcome)?, key, 1, numbers);
+    Ok(refused)
+}
+
 #[test]
 fn each_call_of_a_later_open_fails(rt: HostRuntime) -> Result<(), Fail> {
     let alloc = rt.alloc();
-    let Some(key) = key(1) else {
-        return Err(Fail::new("no key"));
-    };
-    for failing in 0..=LATER_OPEN_CALLS {
-        let mut numbers = Vec::new(alloc);
-        let device = MemoryDevice::new(alloc, Vec::new(alloc))?;
-        let (_, mut device) = session(device, &key, 3, &mut numbers);
-        device.fail_after(failing);
-        let (refused, device) = session(device, &key, 0, &mut numbers);
-        assert!(rt;
-            refused == (failing < LATER_OPEN_CALLS).then_some(LedgerError::Device),
-            "call {failing}"
-        );
-        let (_, _) = session(crashed(alloc, device, Left::New)?, &key, 1, &mut numbers);
-        assert!(rt;
-            numbers.as_slice() == [0, 1, 2, 3].as_slice(),
-            "call {failing}"
-        );
+    let key = key(1).expect(&rt, "a key");
+    for failing in 0..=CALLS {
+        for later in 0..=LATER_OPEN_CALLS {
+            for outcome in 0..OUTCOMES {
+                let mut numbers = Vec::new(alloc);
+                let calls = (failing, later);
+                let refused = opened_thrice(alloc, &key, calls, outcome, &mut numbers)?;
+                // A file that was never whole may be refused, or made.
+                let well = refused == (later < LATER_OPEN_CALLS).then_some(LedgerError::Device)
+                    && numbers.len() as u64 == failing.saturating_sub(5) / 2 + 1;
+                assert!(rt;
+                    ascend(&numbers) && (well || failing < 5),
+                    "calls {calls:?}, outcome {outcome}"
+                );
+            }
+        }
     }
     Ok(())
 }
 
-/// The leaf that comes after a crash that left this byte in the place of the first leaf's mark, which was written and
-/// not synced.
-fn leaf_after(alloc: Global, key: &PublicKey, mark: u8) -> Result<Vec<u32>, Fail> {
+/// The leaf that comes after a crash that left the first leaf's mark so, which was written and not synced.
+fn leaf_after(alloc: Global, key: &PublicKey, outcome: usize) -> Result<Vec<u32>, Fail> {
     let mut numbers = Vec::new(alloc);
     let mut device = MemoryDevice::new(alloc, Vec::new(alloc))?;
     device.fail_after(6);
     let (_, device) = session(device, key, 1, &mut numbers);
-    let (_, _) = session(
-        crashed(alloc, device, Left::Filled(mark))?,
-        key,
-        1,
-        &mut numbers,
-    );
+    let (_, _) = session(crashed(alloc, device, outcome)?, key, 1, &mut numbers);
     Ok(numbers)
 }
 
@@ -178,10 +218,11 @@ fn marks_that_a_crash_left(rt: HostRuntime) -> Result<(), Fail> {
     let Some(key) = key(1) else {
         return Err(Fail::new("no key"));
     };
-    for (mark, leaf) in [(0, 0), (1, 1), (0x7f, 1)] {
+    // Left 00, 01 and 7f.
+    for (outcome, leaf) in [(2, 0), (3, 1), (4, 1)] {
         assert!(rt;
-            leaf_after(alloc, &key, mark)?.as_slice() == [leaf].as_slice(),
-            "{mark}"
+            leaf_after(alloc, &key, outcome)?.as_slice() == [leaf].as_slice(),
+            "outcome {outcome}"
         );
     }
     Ok(())
@@ -238,4 +279,31 @@ fn a_device_crashes_only_as_it_may(rt: HostRuntime) -> Result<(), Fail> {
     };
     assert!(rt; device.text() == b"abxyz".as_slice());
     Ok(())
+}
+
+static LEDGER_ERRORS: [(LedgerError, &str); 3] = [
+    (LedgerError::NoLeaf, "no leaf is free"),
+    (LedgerError::Device, "the device failed"),
+    (LedgerError::Foreign, "the file is no ledger of this key"),
+];
+
+static CRASH_ERRORS: [(CrashError, &str); 2] = [
+    (CrashError::Impossible, "no crash leaves this"),
+    (CrashError::Memory, "out of memory"),
+];
+
+#[test]
+fn errors_print(rt: HostRuntime) {
+    let alloc = rt.alloc();
+    for (error, text) in &LEDGER_ERRORS {
+        let printed = format!(in alloc; "{error}").expect(&rt, "memory");
+        assert!(rt; printed.as_str() == *text, "{text}");
+    }
+    for (error, text) in &CRASH_ERRORS {
+        let printed = format!(in alloc; "{error}").expect(&rt, "memory");
+        assert!(rt; printed.as_str() == *text, "{text}");
+    }
+    let error = DeviceError;
+    let printed = format!(in alloc; "{error}").expect(&rt, "memory");
+    assert!(rt; printed.as_str() == "the device failed");
 }

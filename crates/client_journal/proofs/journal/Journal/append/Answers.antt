@@ -1,10 +1,12 @@
 use Rattle.std.proofs.Common.{◌≡◌, ◌∷◌, [], ◌++◌, ◌<◌, ◌+◌, ◌^◌, List, length, true, sym, ◌∙◌, ap, subst, arith, inl, inr}
+use Rattle.std.proofs.lemmas.Result.{err_from_is_err_and}
 use Rattle.leaf_ledger.specs.Device.{Throughout, extent, at_rest, written}
 use Rattle.client_journal.specs.Records.{JournalFile, Record, State, may_come, spelled, chain, Tells, TellsWithOrWithout, MayCome}
 use Rattle.client_journal.specs.Places.{part, state_at}
 use Rattle.client_journal.proofs.Headers.{length-spelled}
 use Rattle.client_journal.proofs.Reached.{told_once}
-use Rattle.client_journal.proofs.Appended.{not_out, at_any, kept, first, gate_failed, gate_read, appended, laid, done, new_ready}
+use Rattle.client_journal.proofs.Appended.{not_out, at_any, kept, first, gate_failed, gate_read, appended, laid, done, new_ready, new_disk}
+use Rattle.client_journal.proofs.Lives.{tried, refused, answered}
 use Rattle.client_journal.proofs.journal.Journal.append.Goals as goal
 
 pub unreachable-requires : goal.unreachable-requires
@@ -139,3 +141,28 @@ invariant_of-self-2 g c _ =
     let small = subst (λ (x : Record). length x.text < 2 ^ 32) (sym c.added.view_is) c.requires.short in
     let staged = c.in_ok-stage.ensures.ok ∙ ap (λ (x : Record). at_rest (written (s.end.gate + 1) (spelled x ++ 0 ∷ []) old.now.text)) (sym c.added.view_is) in
     new_ready old s.end.gate s.end.phase ready r c.in-Some.phase small c.in-Some.ensures.next c.in-Some.ensures.below (g.D.Device.history c.stage.new.device) c.in_ok-stage.ensures.any_moment staged (g.D.Device.history c.write_through.new.device) c.in_ok-write_through.ensures.ok (omega (arith, c.in_ok-stage.ensures.bounded, length-spelled r, ap (λ (x : Record). length (spelled x)) c.added.view_is))
+
+pub returns-in_err-stage-clause-step : goal.returns-in_err-stage-clause-step
+returns-in_err-stage-clause-step g c =
+    let e = err_from_is_err_and c.from_residual.result c.from_residual.ensures.1 in
+    refused c.from_residual.result e.0 e.1 c.args.self.now.file (g.D.Device.history c.stage.new.device) c.args.added
+    (tried c.args.self.now.file (g.D.Device.history c.stage.new.device) c.args.added (returns-in_err-stage-clause-any_moment g c) (returns-in_err-stage-clause-reads g c))
+
+pub returns-in_err-write_through-clause-step : goal.returns-in_err-write_through-clause-step
+returns-in_err-write_through-clause-step g c =
+    let e = err_from_is_err_and c.from_residual-in_err-write_through.result c.from_residual-in_err-write_through.ensures.1 in
+    refused c.from_residual-in_err-write_through.result e.0 e.1 c.args.self.now.file (g.D.Device.history c.write_through.new.device) c.args.added
+    (tried c.args.self.now.file (g.D.Device.history c.write_through.new.device) c.args.added (returns-in_err-write_through-clause-any_moment g c) (returns-in_err-write_through-clause-reads g c))
+
+pub returns-clause-step : goal.returns-clause-step
+returns-clause-step g c =
+    let s = c.self.inside in
+    let usable = ap (λ (j : JournalFile). j.usable) c.self.view_is ∙ c.requires.usable in
+    let ready = c.self.invariant usable in
+    let old = g.D.Device.history s.device in
+    let r : Record = record { kind = c.added.inside.kind; text = c.added.inside.text.now } in
+    let small = subst (λ (x : Record). length x.text < 2 ^ 32) (sym c.added.view_is) c.requires.short in
+    let staged = c.in_ok-stage.ensures.ok ∙ ap (λ (x : Record). at_rest (written (s.end.gate + 1) (spelled x ++ 0 ∷ []) old.now.text)) (sym c.added.view_is) in
+    let new = g.D.Device.history c.write_through.new.device in
+    let rest = new_disk old s.end.gate s.end.phase ready r c.in-Some.phase small c.in-Some.ensures.next c.in-Some.ensures.below (g.D.Device.history c.stage.new.device) c.in_ok-stage.ensures.any_moment staged new c.in_ok-write_through.ensures.ok in
+    answered c.args.self.now.file new c.args.added (returns-clause-any_moment g c) _ rest (returns-clause-appended g c)

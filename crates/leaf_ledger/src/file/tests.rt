@@ -1,8 +1,11 @@
 //! A device over a real file beside one in memory.
 
-use crate::{Device, DeviceError, FileDevice, MemoryDevice};
+use super::FileDevice;
+use crate::device::{Device, DeviceError};
+use crate::memory::MemoryDevice;
+use crate::recording::Recording;
 use std::alloc::Global;
-use std::fs;
+use std::fs::{self, File};
 use std::process::Abort;
 
 const FOLDER: &str = "leaf_ledger_file_test";
@@ -57,8 +60,31 @@ fn a_file_does_what_memory_does(rt: HostRuntime) {
     // Opened again it holds the same.
     let mut again = FileDevice::open(&rt, alloc, FOLDER, PATH).expect(&rt, "the file is opened");
     assert!(rt; again.text() == memory.text());
-    // What another writes to it is a fault.
+    // What another writes to it is a fault: other bytes where they are read, and another length.
+    let size = again.text().len();
+    let other = Vec::from_elem(alloc, 0x5a, size).expect(&rt, "there is memory");
+    fs::write(&rt, PATH, other.as_slice()).expect(&rt, "it is written");
+    let mut found = [0; 8];
+    assert!(rt; again.read(0, &mut found[..size.min(8)]).is_err() && again.faults() == 1);
     fs::write(&rt, PATH, b"other".as_slice()).expect(&rt, "it is written");
-    assert!(rt; again.len().is_err() && again.faults() == 1);
+    assert!(rt; again.len().is_err() && again.faults() == 2);
+    // A folder that can't be synced.
+    assert!(rt; FileDevice::open(&rt, alloc, "/proc", PATH).is_err());
     let _ = fs::remove_dir_all(&rt, FOLDER);
+}
+
+/// The system's null device takes every write, and can't be synced.
+#[test]
+fn what_the_system_does_not_sync_is_not_synced(rt: HostRuntime) {
+    let alloc = rt.alloc();
+    assert!(rt; FileDevice::open(&rt, alloc, "/dev", "/dev/null").is_err());
+    let file = File::open(&rt, "/dev/null").expect(&rt, "it is opened");
+    let kept = Recording::new(alloc, Vec::new(alloc)).expect(&rt, "there is memory");
+    let mut device = FileDevice {
+        file,
+        kept,
+        faults: 0,
+    };
+    assert!(rt; device.len().is_ok_and(|size| size == 0));
+    assert!(rt; device.sync().is_err() && device.faults() == 1);
 }
