@@ -163,3 +163,15 @@ stops pinned told answered waiting e whole start so = record {
   whole = whole;
   counts = so.counts;
 }
+
+-- ---- what a step found
+
+pub went_on : (pinned : Key) (start now : Standing) {X : Type 0} (r : Result X Ended) (x : X) → r ≡ Ok x → Steps pinned start r now → Conversing pinned start now
+went_on pinned start now r x is steps = subst (λ o. Steps pinned start o now) is steps
+
+pub ended_as : (pinned : Key) (start now : Standing) {X : Type 0} (r : Result X Ended) (e : Ended) → r ≡ Err e → Steps pinned start r now → Conversed pinned start.told now.told start.answered now.answered e
+ended_as pinned start now r e is steps = subst (λ o. Steps pinned start o now) is steps
+
+-- nothing was read
+pub never_begun : (pinned : Key) (told : Option Told) (answered : ℕ) → Conversed pinned told told answered answered ended.Memory
+never_begun pinned told answered = stops pinned told answered [] ended.Memory {Unit {0}} tt (standing told answered []) (starts pinned told answered [] refl)
