@@ -151,7 +151,7 @@ reads pinned told told' answered waiting waiting' (Err e) ok (piece, read, none)
 }
 
 -- it ends where it stands
-pub stops : (pinned : Key) (told : Option Told) (answered : ℕ) (waiting : Bytes) (e : Ended) {X : Type 0} → EndsWith e waiting [] → GoesOn pinned (standing told answered waiting) {X} (Err e) (standing told answered waiting)
+pub stops : (pinned : Key) (told : Option Told) (answered : ℕ) (waiting : Bytes) (e : Ended) {X : Type 0} → EndsWith e waiting [] → GoesOn pinned (standing told answered waiting) {X = X} (Err e) (standing told answered waiting)
 stops pinned told answered waiting e whole start so = record {
   exchanges = so.exchanges;
   left = waiting;
@@ -174,4 +174,4 @@ ended_as pinned start now r e is steps = subst (λ o. Steps pinned start o now) 
 
 -- nothing was read
 pub never_begun : (pinned : Key) (told : Option Told) (answered : ℕ) → Conversed pinned told told answered answered ended.Memory
-never_begun pinned told answered = stops pinned told answered [] ended.Memory {Unit {0}} tt (standing told answered []) (starts pinned told answered [] refl)
+never_begun pinned told answered = stops pinned told answered [] ended.Memory {X = Unit {0}} tt (standing told answered []) (starts pinned told answered [] refl)
