@@ -1,6 +1,6 @@
 -- An exchange more, and how a conversation ends.
 use Rattle.std.proofs.Common.{arith, ◌≡◌, ◌≢◌, ◌⊎◌, ◌+◌, ℕ, zero, suc, List, [], ◌∷◌, ◌++◌, Option, Some, None, Result, Ok, Err, refl, sym, ap, ◌∙◌, append_assoc, subst, inl, inr}
-use Rattle.std.specs.Prelude.{map, OnOk, IfErr, OnErr}
+use Rattle.std.specs.Prelude.{map, OnOk, IfErr, OnErr, IfSome, IfNone}
 use Rattle.std.specs.List.{All}
 use Rattle.std.proofs.lemmas.List.{append-nil}
 use Rattle.std.proofs.lemmas.List.Elements.{All-append}
@@ -150,9 +150,27 @@ reads pinned told told' answered waiting waiting' (Err e) ok (piece, read, none)
   counts = so.counts;
 }
 
+-- where it was tried in vain to take a frame, which left what waits as it was
+pub reads_on : (pinned : Key) (told told' : Option Told) (answered : ℕ) (was waiting waiting' : Bytes) {X : Type 0} (result : Result X Ended)
+    → waiting ≡ was
+    → OnOk result ((piece : Bytes) × (told' ≡ goes_on piece [] told) × (waiting' ≡ waiting ++ piece))
+    → OnErr result ((piece : Bytes) × (told' ≡ goes_on piece [] told) × (result ≡ Err ended.End → piece ≡ []))
+    → IfErr result (λ e. e ≢ ended.Length)
+    → (¬ BeginsFrame was) × (¬ BeginsAtFault was)
+    → GoesOn pinned (standing told answered was) result (standing told' answered waiting')
+reads_on pinned told told' answered was waiting waiting' result same ok broke kind all =
+    subst (λ w. GoesOn pinned (standing told answered w) result (standing told' answered waiting')) same
+    (reads pinned told told' answered waiting waiting' result ok broke kind (subst (λ w. (¬ BeginsFrame w) × (¬ BeginsAtFault w)) (sym same) all))
+
+pub some_holds : {X : Type 0} (P : X → Type 0) (o : Option X) (x : X) → o ≡ Some x → IfSome o P → P x
+some_holds {X} P o x is holds = subst (λ (o : Option X). IfSome o P) is holds
+
+pub none_holds : {X : Type 0} (P : Type 0) (o : Option X) → o ≡ None → IfNone o P → P
+none_holds {X} P o is holds = subst (λ (o : Option X). IfNone o P) is holds
+
 -- it ends where it stands
-pub stops : (pinned : Key) (told : Option Told) (answered : ℕ) (waiting : Bytes) (e : Ended) {X : Type 0} → EndsWith e waiting [] → GoesOn pinned (standing told answered waiting) {X = X} (Err e) (standing told answered waiting)
-stops pinned told answered waiting e whole start so = record {
+pub stops : (pinned : Key) (told : Option Told) (answered : ℕ) (waiting : Bytes) (e : Ended) (X : Type 0) → EndsWith e waiting [] → GoesOn pinned (standing told answered waiting) {X = X} (Err e) (standing told answered waiting)
+stops pinned told answered waiting e X whole start so = record {
   exchanges = so.exchanges;
   left = waiting;
   written = replies so.exchanges;
@@ -174,4 +192,4 @@ ended_as pinned start now r e is steps = subst (λ o. Steps pinned start o now) 
 
 -- nothing was read
 pub never_begun : (pinned : Key) (told : Option Told) (answered : ℕ) → Conversed pinned told told answered answered ended.Memory
-never_begun pinned told answered = stops pinned told answered [] ended.Memory {X = Unit {0}} tt (standing told answered []) (starts pinned told answered [] refl)
+never_begun pinned told answered = stops pinned told answered [] ended.Memory (Unit {0}) tt (standing told answered []) (starts pinned told answered [] refl)
