@@ -54,3 +54,8 @@ logged_of (e ∷ es) call = call ∷ []
 
 abbrev pub logged : Ordered → Call → List Call
 logged server call = logged_of (happened (outcome_after server call)) call
+
+-- what a history leaves in the log: its calls that placed or committed, the oldest first
+unfoldable pub log_of : Key → List Call → List Call
+log_of pinned [] = []
+log_of pinned (call ∷ earlier) = log_of pinned earlier ++ logged (record { pinned = pinned; history = earlier }) call

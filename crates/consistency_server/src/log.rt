@@ -1,6 +1,6 @@
 //! Where the events go that the server made: what it placed and committed, for whoever keeps them.
 
-ghost use Rattle.std.specs.Prelude.{◌≡◌, ◌==◌, [], ◌∷◌, ◌++◌, OnOk, OnErr, IfOk, is_err, length};
+ghost use Rattle.std.specs.Prelude.{◌≡◌, ◌==◌, [], ◌∷◌, ◌++◌, OnOk, OnErr, IfOk, IsTrue, length};
 
 use crate::call::Call;
 use layout::Memory;
@@ -20,14 +20,15 @@ pub trait Log<E> {
     /// What was pushed, the oldest first.
     ghost pushed: { Self → List E };
 
-    ghost is_full: { Self → Bool };
+    /// It may turn an event away. A log that another thread empties can't know whether it will: who pushes sees only what
+    /// it pushed.
+    ghost may_be_full: { Self → Bool };
 
     /// Takes an event after the others. It takes no memory.
     fn try_push(&mut self, event: E) -> Result<(), LogFull>
         ensures ok { OnOk result (pushed self.new ≡ pushed self.old ++ event ∷ []) }
-        ensures full { is_err result ≡ is_full self.old }
-        ensures err { OnErr result (pushed self.new ≡ pushed self.old) }
-        ensures still_full { OnErr result (is_full self.new ≡ is_full self.old) };
+        ensures full { OnErr result (IsTrue (may_be_full self.old)) }
+        ensures err { OnErr result (pushed self.new ≡ pushed self.old) };
 }
 
 /// How many events a log in memory takes.
@@ -70,7 +71,7 @@ impl<A: Allocator> MemoryLog<A> {
 impl<A: Allocator> Log<Call<A>> for MemoryLog<A> {
     ghost pushed = { λ log. log };
 
-    ghost is_full = { λ log. length log == 1024 };
+    ghost may_be_full = { λ log. length log == 1024 };
 
     fn try_push(&mut self, event: Call<A>) -> Result<(), LogFull> {
         if self.events.len() == LOG_ROOM {

@@ -48,7 +48,7 @@ fn carry_out<A: Allocator + Copy, G: Log<Call<A>>>(
     ensures state_err { OnErr result (state.new ≡ state.old) }
     ensures history_err { OnErr result (history.new.items ≡ history.old.items) }
     ensures log_err { OnErr result (G.pushed log.new ≡ G.pushed log.old) }
-    ensures busy { result ≡ Err Refusal.Busy → IsTrue (G.is_full log.old) }
+    ensures busy { result ≡ Err Refusal.Busy → IsTrue (G.may_be_full log.old) }
     ensures busy_event { result ≡ Err Refusal.Busy → logged_by judged (record { kind = kind; text = text.now }) ≢ [] }
 {
     let alloc = *history.allocator();
@@ -96,7 +96,7 @@ impl<A: Allocator + Copy> Ordered<A> {
             → self.new ≡ record self.old { history = update_of text.now ∷ self.old.history } }
         ensures log { IsServed result.status
             → G.pushed log.new ≡ G.pushed log.old ++ logged self.old (update_of text.now) }
-        ensures busy { result.status ≡ status.Busy → IsTrue (G.is_full log.old) }
+        ensures busy { result.status ≡ status.Busy → IsTrue (G.may_be_full log.old) }
         // It would have gone to the log.
         ensures busy_event { result.status ≡ status.Busy → logged self.old (update_of text.now) ≢ [] }
         ensures bare { IsTurnedAway result.status → result.payload ≡ [] }
@@ -114,7 +114,7 @@ impl<A: Allocator + Copy> Ordered<A> {
             → self.new ≡ record self.old { history = commit_of text.now ∷ self.old.history } }
         ensures log { IsServed result.status
             → G.pushed log.new ≡ G.pushed log.old ++ logged self.old (commit_of text.now) }
-        ensures busy { result.status ≡ status.Busy → IsTrue (G.is_full log.old) }
+        ensures busy { result.status ≡ status.Busy → IsTrue (G.may_be_full log.old) }
         // It would have gone to the log.
         ensures busy_event { result.status ≡ status.Busy → logged self.old (commit_of text.now) ≢ [] }
         ensures bare { IsTurnedAway result.status → result.payload ≡ [] }
@@ -132,7 +132,7 @@ impl<A: Allocator + Copy> Ordered<A> {
             → self.new ≡ record self.old { history = call_of kind text.now ∷ self.old.history } }
         ensures log { IsServed result.status
             → G.pushed log.new ≡ G.pushed log.old ++ logged self.old (call_of kind text.now) }
-        ensures busy { result.status ≡ status.Busy → IsTrue (G.is_full log.old) }
+        ensures busy { result.status ≡ status.Busy → IsTrue (G.may_be_full log.old) }
         ensures busy_event { result.status ≡ status.Busy → logged self.old (call_of kind text.now) ≢ [] }
         ensures bare { IsTurnedAway result.status → result.payload ≡ [] }
         ensures same { IsTurnedAway result.status → self.new ≡ self.old }
@@ -161,7 +161,7 @@ impl<A: Allocator + Copy> Ordered<A> {
         ensures served { IfOk result (λ answer. IsServed answer.status) }
         ensures same { OnErr result (self.new ≡ self.old) }
         ensures log_same { OnErr result (G.pushed log.new ≡ G.pushed log.old) }
-        ensures busy { result ≡ Err Refusal.Busy → IsTrue (G.is_full log.old) }
+        ensures busy { result ≡ Err Refusal.Busy → IsTrue (G.may_be_full log.old) }
         ensures busy_event { result ≡ Err Refusal.Busy → logged self.old (call_of kind text.now) ≢ [] }
     {
         let alloc = *self.history.allocator();

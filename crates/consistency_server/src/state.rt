@@ -103,7 +103,7 @@ impl<A: Allocator> State<A> {
         ensures log { OnOk result (G.pushed log.new ≡ G.pushed log.old ++ call ∷ []) }
         ensures state_err { OnErr result (self.new ≡ self.old) }
         ensures log_err { OnErr result (G.pushed log.new ≡ G.pushed log.old) }
-        ensures busy { result ≡ Err Refusal.Busy → IsTrue (G.is_full log.old) }
+        ensures busy { result ≡ Err Refusal.Busy → IsTrue (G.may_be_full log.old) }
     {
         self.structures.reserve(1)?;
         self.pending.reserve(1)?;

@@ -1,0 +1,195 @@
+-- An exchange more, and how a conversation ends.
+use Rattle.std.proofs.Common.{arith, ◌≡◌, ◌≢◌, ◌⊎◌, ◌+◌, ℕ, zero, suc, List, [], ◌∷◌, ◌++◌, Option, Some, None, Result, Ok, Err, refl, sym, ap, ◌∙◌, append_assoc, subst, inl, inr}
+use Rattle.std.specs.Prelude.{map, OnOk, IfErr, OnErr, IfSome, IfNone}
+use Rattle.std.specs.List.{All}
+use Rattle.std.proofs.lemmas.List.{append-nil}
+use Rattle.std.proofs.lemmas.List.Elements.{All-append}
+use Rattle.layout.specs.Types.{Bytes, Key}
+use Rattle.wire.specs.Frame.{frame, request_of, reply_body}
+use Rattle.wire.specs.Stream.{frames_of, IsFrameThen, BeginsFrame, BeginsAtFault}
+use Rattle.consistency_server.specs.Answers.{Answer}
+use Rattle.server_workers.specs.declared.connection.Ended.{Ended}
+use Rattle.server_workers.specs.declared.connection.Ended.TheVariants as ended
+use Rattle.server_workers.specs.Conversation.{Exchange, IsExchange, RepliesToBody, count_in, requests, replies, counted, Told, goes_on, EndsWith, Conversed}
+use Rattle.server_workers.specs.Conversing.{Standing, Conversing, Steps, GoesOn}
+
+-- ---- what a connection tells
+
+told_none : (o : Option Told) → o ≡ goes_on [] [] o
+told_none None = refl
+told_none (Some t) = ap (λ r. Some (record { read = r; written = t.written })) (sym (append-nil t.read)) ∙ ap (λ w. Some (record { read = t.read ++ []; written = w })) (sym (append-nil t.written))
+
+told_both : (o : Option Told) (r s w v : Bytes) → goes_on s v (goes_on r w o) ≡ goes_on (r ++ s) (w ++ v) o
+told_both None r s w v = refl
+told_both (Some t) r s w v = ap (λ x. Some (record { read = x; written = (t.written ++ w) ++ v })) (append_assoc t.read r s) ∙ ap (λ x. Some (record { read = t.read ++ (r ++ s); written = x })) (append_assoc t.written w v)
+
+-- from the start, in two steps
+two_steps : (start now now' : Option Told) (r s w v x y : Bytes) → now ≡ goes_on r w start → now' ≡ goes_on s v now → r ++ s ≡ x → w ++ v ≡ y → now' ≡ goes_on x y start
+two_steps start now now' r s w v x y one two reads writes =
+    two ∙ ap (goes_on s v) one ∙ told_both start r s w v ∙ ap (λ l. goes_on l (w ++ v) start) reads ∙ ap (λ l. goes_on x l start) writes
+
+-- ---- an exchange more
+
+frames_snoc : (bodies : List Bytes) (body : Bytes) → frames_of (bodies ++ body ∷ []) ≡ frames_of bodies ++ frame.spell body
+frames_snoc [] body = append-nil (frame.spell body)
+frames_snoc (b ∷ bs) body = ap (λ l. frame.spell b ++ l) (frames_snoc bs body) ∙ sym (append_assoc (frame.spell b) (frames_of bs) (frame.spell body))
+
+map_snoc : (f : Exchange → Bytes) (es : List Exchange) (e : Exchange) → map f (es ++ e ∷ []) ≡ map f es ++ f e ∷ []
+map_snoc f [] e = refl
+map_snoc f (x ∷ xs) e = ap (λ l. f x ∷ l) (map_snoc f xs e)
+
+requests_snoc : (es : List Exchange) (e : Exchange) → requests (es ++ e ∷ []) ≡ requests es ++ frame.spell e.request
+requests_snoc es e = ap frames_of (map_snoc (λ x. x.request) es e) ∙ frames_snoc (map (λ x. x.request) es) e.request
+
+abbrev body_of : Exchange → Bytes
+body_of e = reply_body e.reply.status e.reply.payload
+
+replies_snoc : (es : List Exchange) (e : Exchange) → replies (es ++ e ∷ []) ≡ replies es ++ frame.spell (body_of e)
+replies_snoc es e = ap frames_of (map_snoc body_of es e) ∙ frames_snoc (map body_of es) (body_of e)
+
+counted_snoc : (es : List Exchange) (e : Exchange) → counted (es ++ e ∷ []) ≡ counted es + count_in (request_of e.request) e.reply.status
+unfolding counted
+counted_snoc [] e = omega arith
+counted_snoc (x ∷ xs) e = let h = counted_snoc xs e in omega (arith, h)
+
+all_one : (P : Exchange → Type 0) (e : Exchange) → P e → All P (e ∷ [])
+all_one P e one zero d few = one
+all_one P e one (suc k) d few = absurd (omega (arith, few))
+
+all_snoc : (P : Exchange → Type 0) (es : List Exchange) (e : Exchange) → All P es → P e → All P (es ++ e ∷ [])
+all_snoc P es e all one = All-append P es (e ∷ []) all (all_one P e one)
+
+-- ---- steps
+
+abbrev standing : Option Told → ℕ → Bytes → Standing
+standing told answered waiting = record { told = told; answered = answered; waiting = waiting }
+
+-- before the first byte
+pub starts : (pinned : Key) (told : Option Told) (answered : ℕ) (waiting : Bytes) → waiting ≡ [] → Conversing pinned (standing told answered []) (standing told answered waiting)
+unfolding counted
+starts pinned told answered waiting none = record { exchanges = []; allowed = λ k d few. absurd (omega (arith, few)); told = told_none told ∙ ap (λ l. goes_on l [] told) (sym none); counts = omega arith }
+
+-- the reply to the next frame
+abbrev pub IsReplied : Key → Bytes → Answer → Type 0
+IsReplied pinned request reply = RepliesToBody pinned (request_of request) reply
+
+broken_ends : (e : Ended) (left unwritten : Bytes) → (e ≡ ended.Fault) ⊎ (e ≡ ended.Memory) → EndsWith e left unwritten
+broken_ends ended.End left unwritten kind = absurd (elim kind [ inl k ↦ cc | inr k ↦ cc ])
+broken_ends ended.Length left unwritten kind = absurd (elim kind [ inl k ↦ cc | inr k ↦ cc ])
+broken_ends ended.Fault left unwritten kind = tt
+broken_ends ended.Memory left unwritten kind = tt
+
+pub replied : (pinned : Key) (told told' : Option Told) (answered answered' : ℕ) (waiting rest request : Bytes) (reply : Answer) {X : Type 0} (result : Result X Ended)
+    → IsFrameThen request rest waiting → IsReplied pinned request reply → answered' ≡ answered + count_in (request_of request) reply.status
+    → OnOk result (told' ≡ goes_on [] (frame.spell (reply_body reply.status reply.payload)) told)
+    → IfErr result (λ _. (part after : Bytes) × (told' ≡ goes_on [] part told) × (frame.spell (reply_body reply.status reply.payload) ≡ part ++ after))
+    → IfErr result (λ e. (e ≡ ended.Fault) ⊎ (e ≡ ended.Memory))
+    → GoesOn pinned (standing told answered waiting) result (standing told' answered' rest)
+replied pinned told told' answered answered' waiting rest request reply (Ok x) next allowed counts wrote broke kind start so =
+    let e : Exchange = record { request = request; reply = reply } in
+    record {
+      exchanges = so.exchanges ++ e ∷ [];
+      allowed = all_snoc (IsExchange pinned) so.exchanges e so.allowed (record { fits = next.0; replies = allowed });
+      told = two_steps start.told told told' (requests so.exchanges ++ waiting) [] (replies so.exchanges) (frame.spell (body_of e)) _ _ so.told wrote
+          (append-nil (requests so.exchanges ++ waiting) ∙ ap (λ l. requests so.exchanges ++ l) next.1 ∙ sym (append_assoc (requests so.exchanges) (frame.spell request) rest) ∙ ap (λ l. l ++ rest) (sym (requests_snoc so.exchanges e)))
+          (sym (replies_snoc so.exchanges e));
+      counts = let h = counted_snoc so.exchanges e in let c = so.counts in omega (arith, h, c, counts);
+    }
+replied pinned told told' answered answered' waiting rest request reply (Err broken) next allowed counts wrote (part, after, wrote_part, cut) kind start so =
+    let e : Exchange = record { request = request; reply = reply } in
+    record {
+      exchanges = so.exchanges ++ e ∷ [];
+      left = rest;
+      written = replies so.exchanges ++ part;
+      unwritten = after;
+      allowed = all_snoc (IsExchange pinned) so.exchanges e so.allowed (record { fits = next.0; replies = allowed });
+      told = two_steps start.told told told' (requests so.exchanges ++ waiting) [] (replies so.exchanges) part _ _ so.told wrote_part
+          (append-nil (requests so.exchanges ++ waiting) ∙ ap (λ l. requests so.exchanges ++ l) next.1 ∙ sym (append_assoc (requests so.exchanges) (frame.spell request) rest) ∙ ap (λ l. l ++ rest) (sym (requests_snoc so.exchanges e)))
+          refl;
+      in_order = replies_snoc so.exchanges e ∙ ap (λ l. replies so.exchanges ++ l) cut ∙ sym (append_assoc (replies so.exchanges) part after);
+      whole = broken_ends broken rest after kind;
+      counts = let h = counted_snoc so.exchanges e in let c = so.counts in omega (arith, h, c, counts);
+    }
+
+-- what is read is behind what waits
+read_behind : (es : List Exchange) (waiting piece : Bytes) → (requests es ++ waiting) ++ piece ≡ requests es ++ (waiting ++ piece)
+read_behind es waiting piece = append_assoc (requests es) waiting piece
+
+at_end : (e : Ended) (waiting piece : Bytes) → (e ≡ ended.End → piece ≡ []) → e ≢ ended.Length → (¬ BeginsFrame waiting) × (¬ BeginsAtFault waiting) → EndsWith e (waiting ++ piece) []
+at_end ended.End waiting piece none other all =
+    let is : waiting ≡ waiting ++ piece = sym (append-nil waiting) ∙ ap (λ l. waiting ++ l) (sym (none refl)) in
+    (refl, subst (λ l. ¬ BeginsFrame l) is all.0, subst (λ l. ¬ BeginsAtFault l) is all.1)
+at_end ended.Length waiting piece none other all = absurd (other refl)
+at_end ended.Fault waiting piece none other all = tt
+at_end ended.Memory waiting piece none other all = tt
+
+-- the next frame isn't whole: more is read
+pub reads : (pinned : Key) (told told' : Option Told) (answered : ℕ) (waiting waiting' : Bytes) {X : Type 0} (result : Result X Ended)
+    → OnOk result ((piece : Bytes) × (told' ≡ goes_on piece [] told) × (waiting' ≡ waiting ++ piece))
+    → OnErr result ((piece : Bytes) × (told' ≡ goes_on piece [] told) × (result ≡ Err ended.End → piece ≡ []))
+    → IfErr result (λ e. e ≢ ended.Length)
+    → (¬ BeginsFrame waiting) × (¬ BeginsAtFault waiting)
+    → GoesOn pinned (standing told answered waiting) result (standing told' answered waiting')
+reads pinned told told' answered waiting waiting' (Ok x) (piece, read, more) broke kind all start so = record {
+  exchanges = so.exchanges;
+  allowed = so.allowed;
+  told = two_steps start.told told told' (requests so.exchanges ++ waiting) piece (replies so.exchanges) [] _ _ so.told read
+      (read_behind so.exchanges waiting piece ∙ ap (λ l. requests so.exchanges ++ l) (sym more)) (append-nil (replies so.exchanges));
+  counts = so.counts;
+}
+reads pinned told told' answered waiting waiting' (Err e) ok (piece, read, none) kind all start so = record {
+  exchanges = so.exchanges;
+  left = waiting ++ piece;
+  written = replies so.exchanges;
+  unwritten = [];
+  allowed = so.allowed;
+  told = two_steps start.told told told' (requests so.exchanges ++ waiting) piece (replies so.exchanges) [] _ _ so.told read
+      (read_behind so.exchanges waiting piece) (append-nil (replies so.exchanges));
+  in_order = sym (append-nil (replies so.exchanges));
+  whole = at_end e waiting piece (λ is. none (ap (λ f. Err f) is)) kind all;
+  counts = so.counts;
+}
+
+-- where it was tried in vain to take a frame, which left what waits as it was
+pub reads_on : (pinned : Key) (told told' : Option Told) (answered : ℕ) (was waiting waiting' : Bytes) {X : Type 0} (result : Result X Ended)
+    → waiting ≡ was
+    → OnOk result ((piece : Bytes) × (told' ≡ goes_on piece [] told) × (waiting' ≡ waiting ++ piece))
+    → OnErr result ((piece : Bytes) × (told' ≡ goes_on piece [] told) × (result ≡ Err ended.End → piece ≡ []))
+    → IfErr result (λ e. e ≢ ended.Length)
+    → (¬ BeginsFrame was) × (¬ BeginsAtFault was)
+    → GoesOn pinned (standing told answered was) result (standing told' answered waiting')
+reads_on pinned told told' answered was waiting waiting' result same ok broke kind all =
+    subst (λ w. GoesOn pinned (standing told answered w) result (standing told' answered waiting')) same
+    (reads pinned told told' answered waiting waiting' result ok broke kind (subst (λ w. (¬ BeginsFrame w) × (¬ BeginsAtFault w)) (sym same) all))
+
+pub some_holds : {X : Type 0} (P : X → Type 0) (o : Option X) (x : X) → o ≡ Some x → IfSome o P → P x
+some_holds {X} P o x is holds = subst (λ (o : Option X). IfSome o P) is holds
+
+pub none_holds : {X : Type 0} (P : Type 0) (o : Option X) → o ≡ None → IfNone o P → P
+none_holds {X} P o is holds = subst (λ (o : Option X). IfNone o P) is holds
+
+-- it ends where it stands
+pub stops : (pinned : Key) (told : Option Told) (answered : ℕ) (waiting : Bytes) (e : Ended) (X : Type 0) → EndsWith e waiting [] → GoesOn pinned (standing told answered waiting) {X = X} (Err e) (standing told answered waiting)
+stops pinned told answered waiting e X whole start so = record {
+  exchanges = so.exchanges;
+  left = waiting;
+  written = replies so.exchanges;
+  unwritten = [];
+  allowed = so.allowed;
+  told = so.told;
+  in_order = sym (append-nil (replies so.exchanges));
+  whole = whole;
+  counts = so.counts;
+}
+
+-- ---- what a step found
+
+pub went_on : (pinned : Key) (start now : Standing) {X : Type 0} (r : Result X Ended) (x : X) → r ≡ Ok x → Steps pinned start r now → Conversing pinned start now
+went_on pinned start now r x is steps = subst (λ o. Steps pinned start o now) is steps
+
+pub ended_as : (pinned : Key) (start now : Standing) {X : Type 0} (r : Result X Ended) (e : Ended) → r ≡ Err e → Steps pinned start r now → Conversed pinned start.told now.told start.answered now.answered e
+ended_as pinned start now r e is steps = subst (λ o. Steps pinned start o now) is steps
+
+-- nothing was read
+pub never_begun : (pinned : Key) (told : Option Told) (answered : ℕ) → Conversed pinned told told answered answered ended.Memory
+never_begun pinned told answered = stops pinned told answered [] ended.Memory (Unit {0}) tt (standing told answered []) (starts pinned told answered [] refl)

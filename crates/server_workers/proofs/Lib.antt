@@ -1,0 +1,4 @@
+pub mod Carrying
+pub mod Conversations
+pub mod Relays
+pub mod Written

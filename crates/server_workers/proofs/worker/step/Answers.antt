@@ -1,0 +1,14 @@
+-- Each step of a conversation.
+use Rattle.std.proofs.Common.{List, ℕ, sym, subst}
+use Rattle.wire.specs.Stream.{IsFrameThen}
+use Rattle.server_workers.proofs.Conversations.{replied, reads_on, some_holds, none_holds}
+use Rattle.server_workers.proofs.worker.step.Goals as goal
+
+pub returns-in-Ok-Some-clause-goes_on : goal.returns-in-Ok-Some-clause-goes_on
+returns-in-Ok-Some-clause-goes_on g c =
+    let next = subst (λ (b : List ℕ). IsFrameThen b c.next_frame.new.self c.args.frames.now) (sym c.deref.ensures.value) (some_holds _ _ _ c.in-Ok-Some.field-0-is c.in-Ok-Some.ensures.frame) in
+    replied _ _ _ _ _ _ _ _ _ _ next c.reply_to-reply.ensures.replies c.reply_to-reply.ensures.counted c.answer.ensures.ok c.answer.ensures.err c.answer.ensures.broken
+
+pub returns-in-Ok-None-clause-goes_on : goal.returns-in-Ok-None-clause-goes_on
+returns-in-Ok-None-clause-goes_on g c = 
+    reads_on _ _ _ _ _ _ _ _ (none_holds _ _ c.in-Ok-None.field-0-is c.in-Ok-None.ensures.none_same) c.read_on.ensures.ok c.read_on.ensures.err c.read_on.ensures.kind (none_holds _ _ c.in-Ok-None.field-0-is c.in-Ok-None.ensures.none)

@@ -1,0 +1,6 @@
+pub mod Conversation
+pub mod Conversing
+pub mod Counting
+pub mod Flushing
+pub mod Records
+pub mod Relay

@@ -1,0 +1,163 @@
+//! The end of the commit log that pops, and the writer of its records.
+
+ghost use Rattle.std.specs.Prelude.{◌≡◌, [], true, false};
+ghost use Rattle.crossbeam_queue.specs.Passes.{IsPassOf};
+ghost use Rattle.server_workers.specs.Relay.{hand, hand_of};
+ghost use Rattle.server_workers.specs.Flushing.{IsFlushed};
+
+use crate::event_queue::{EventPass, EventQueue, Roles, Room, Takes};
+use crate::writing::write_record;
+use std::io::Write;
+use std::marker::{Model, PhantomData};
+use std::sync::Wait;
+use std::sync::atomic::{AtomicBool, Ordering};
+use std::thread;
+
+/// Takes events from the log and writes their records. Contracts see what its pass knows, and whether a write failed. What
+/// was written is always the records of what was taken, or after a failed write a beginning of them.
+#[derive(Drop)]
+pub(crate) struct Flusher<'a, B: Room, R: Wait, W: Write + Drop> {
+    rt: &'a R,
+    queue: &'a EventQueue,
+    pass: EventPass,
+    writer: W,
+    failed: bool,
+    room: PhantomData<B>,
+}
+
+impl<'a, B: Room, R: Wait, W: Write + Drop> Model for Flusher<'a, B, R, W> {
+    ghost use Rattle.std.specs.Prelude.{◌≡◌, true};
+    ghost use Rattle.crossbeam_queue.specs.Passes.{IsPassOf};
+    ghost use Rattle.server_workers.specs.Relay.{hand_of};
+    ghost use Rattle.server_workers.specs.Flushing.{Flushing, Wrote};
+
+    ghost Value = { Flushing };
+
+    ghost view = { λ f. record { hand = hand_of f.pass; failed = f.failed } };
+
+    ghost invariant = { λ f. IsPassOf f.queue.now f.pass × (f.pass.table_id ≡ B.queue) × ((hand_of f.pass).pops ≡ true) × Wrote f.failed B.before (W.contents f.writer) (hand_of f.pass).got };
+}
+
+/// What is left of a flusher.
+pub(crate) struct Flushed<W> {
+    pub(crate) writer: W,
+    pub(crate) flushed: bool,
+}
+
+impl<'a, B: Room, R: Wait, W: Write + Drop> Flusher<'a, B, R, W> {
+    /// Nothing was taken yet.
+    pub(crate) fn new(
+        rt: &'a R,
+        queue: &'a EventQueue,
+        pass: EventPass,
+        writer: W,
+    ) -> Flusher<'a, B, R, W>
+        requires queue { IsPassOf queue.now pass × (pass.table_id ≡ B.queue) }
+        requires empty { hand_of pass ≡ hand false true [] [] }
+        requires before { W.contents writer ≡ B.before }
+    {
+        Flusher {
+            rt,
+            queue,
+            pass,
+            writer,
+            failed: false,
+            room: PhantomData,
+        }
+    }
+
+    /// Takes an event and writes its record. False where the log was empty or a write failed.
+    fn step(&mut self) -> bool
+        ensures same { (self.new.hand.pushes ≡ self.old.hand.pushes) × (self.new.hand.sent ≡ self.old.hand.sent) }
+        ensures all { result ≡ false → self.new.failed ≡ false → self.new.hand.pushes ≡ true → self.new.hand.sent ≡ self.new.hand.got }
+    {
+        let Flusher {
+            rt,
+            queue,
+            pass,
+            writer,
+            failed,
+            room: _,
+        } = self;
+        if *failed {
+            return false;
+        }
+        let Some(event) = queue.pop_as::<Takes, R>(*rt, pass) else {
+            return false;
+        };
+        match write_record(writer, &event) {
+            Ok(()) => true,
+            Err(_) => {
+                *failed = true;
+                false
+            }
+        }
+    }
+
+    /// Takes what the log has, until it is empty or a write fails.
+    pub(crate) fn flush(&mut self)
+        ensures same { (self.new.hand.pushes ≡ self.old.hand.pushes) × (self.new.hand.sent ≡ self.old.hand.sent) }
+        ensures all { self.new.failed ≡ false → self.new.hand.pushes ≡ true → self.new.hand.sent ≡ self.new.hand.got }
+    {
+        let rt = self.rt;
+        for _ in rt.forever() {
+            if !self.step() {
+                return;
+            }
+        }
+        unreachable!()
+    }
+
+    /// Flushes again and again, and once more when the workers have ended.
+    pub(crate) fn run(self, ended: &AtomicBool) -> Flusher<'a, B, R, W> {
+        let mut flusher = self;
+        let rt = flusher.rt;
+        for _ in rt.forever() {
+            let last = ended.load(Ordering::SeqCst);
+            flusher.flush();
+            if last || flusher.failed {
+                return flusher;
+            }
+            thread::yield_now();
+        }
+        unreachable!()
+    }
+
+    /// The last flush, by who holds both ends.
+    pub(crate) fn finish(self, pushing: EventPass) -> Flushed<W>
+        requires queue { (pushing.table_id ≡ B.queue) × (pushing.me.1 ≡ []) }
+        requires pushes { (hand_of pushing).pushes ≡ true }
+        ensures { IsFlushed result.flushed B.before (W.contents result.writer) (hand_of pushing).sent }
+    {
+        let Flusher {
+            rt,
+            queue,
+            mut pass,
+            writer,
+            failed,
+            room,
+        } = self;
+        queue.absorb::<Roles>(&mut pass, pushing);
+        let mut whole: Flusher<'a, B, R, W> = Flusher {
+            rt,
+            queue,
+            pass,
+            writer,
+            failed,
+            room,
+        };
+        whole.flush();
+        let Flusher {
+            queue,
+            mut pass,
+            writer,
+            failed,
+            ..
+        } = whole;
+        queue.learn_as::<Takes>(&mut pass);
+        Flushed {
+            writer,
+            flushed: !failed,
+        }
+    }
+}

@@ -1,0 +1,15 @@
+//! The gate before the one order.
+
+/// What each UPDATE and each COMMIT passes before any lock is taken. A test holds calls up in it.
+pub trait Gate {
+    /// Lets a call pass. Calls are numbered from 1 over all workers; after the last number of a `u64` comes 0.
+    fn pass(&self, call: u64);
+}
+
+/// A gate that holds nobody up.
+#[derive(Clone, Copy, Debug)]
+pub struct OpenGate;
+
+impl Gate for OpenGate {
+    fn pass(&self, _call: u64) {}
+}

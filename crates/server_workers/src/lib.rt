@@ -1,0 +1,23 @@
+//! The server's workers: a connection each, one order of calls under a lock, and a log of what it placed and committed.
+#![tactic(auto)]
+
+mod connection;
+mod event_queue;
+mod flusher;
+mod gate;
+mod locked;
+mod queue_log;
+mod reply;
+mod server;
+mod shared;
+mod tally;
+mod worker;
+mod writing;
+
+pub use connection::{Connection, ConnectionFault, Ended};
+pub use event_queue::Room;
+pub use gate::{Gate, OpenGate};
+pub use server::{Served, serve};
+pub use shared::Shared;
+pub use tally::Tally;
+pub use worker::converse;

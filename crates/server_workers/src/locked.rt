@@ -1,0 +1,155 @@
+//! What lies under the lock.
+
+ghost use Rattle.std.specs.Prelude.{◌≡◌, [], ◌∷◌, ◌+◌, ◌<◌, true, false, length, leb, IsTrue};
+ghost use Rattle.consistency_server.specs.History.{call_of, answer_of, log_of, IsServed, IsTurnedAway};
+ghost use Rattle.wire.specs.declared.kinds.Status.TheVariants as status;
+ghost use Rattle.server_workers.specs.Relay.{hand, hand_of};
+ghost use Rattle.server_workers.specs.Counting.{is_counted, count_of};
+
+use crate::event_queue::{EventPass, Room};
+use crate::queue_log::QueueLog;
+use crate::tally::Tally;
+use consistency_server::{Answer, Call, CallKind, Log, Ordered};
+use std::alloc::Global;
+use std::marker::Model;
+use std::sync::Wait;
+use std::sync::ledger::{Book, Ledger};
+use wire::Status;
+
+/// The one order of calls, the end of the log that pushes, and the book of the tallies. Contracts see the order. Whenever
+/// the lock is got, the log was pushed what the history leaves in it, and as many calls were counted as it has.
+#[derive(Drop)]
+pub struct Locked<'a, B: Room, L: Ledger, R: Wait> {
+    ordered: Ordered<Global>,
+    log: QueueLog<'a, B, R>,
+    calls: Book<L>,
+}
+
+impl<'a, B: Room, L: Ledger, R: Wait> Model for Locked<'a, B, L, R> {
+    ghost use Rattle.std.specs.Prelude.{◌≡◌, length};
+    ghost use Rattle.consistency_server.specs.History.{Ordered, log_of};
+
+    ghost Value = { Ordered };
+
+    ghost view = { λ l. l.ordered };
+
+    ghost invariant = { λ l. (l.ordered.pinned ≡ B.pinned) × (l.log ≡ log_of B.pinned l.ordered.history) × (l.calls.total ≡ length l.ordered.history) };
+}
+
+/// The call was answered otherwise than busy or out of memory.
+pub(crate) fn is_counted(status: Status) -> bool
+    ensures { result ≡ is_counted status }
+{
+    !matches!(status, Status::Busy | Status::Memory)
+}
+
+/// Carries out a call of either kind, over a log that was pushed what the history leaves in it.
+fn carry_out<G: Log<Call<Global>>>(
+    ordered: &mut Ordered<Global>,
+    log: &mut G,
+    kind: CallKind,
+    text: &[u8],
+) -> Answer<Global>
+    requires { G.pushed log.old ≡ log_of ordered.old.pinned ordered.old.history }
+    ensures answer { is_counted result.status ≡ true
+        → result ≡ answer_of ordered.old.pinned ordered.old.history (call_of kind text.now) }
+    ensures history { is_counted result.status ≡ true
+        → ordered.new ≡ record ordered.old { history = call_of kind text.now ∷ ordered.old.history } }
+    ensures same { is_counted result.status ≡ false → ordered.new ≡ ordered.old }
+    ensures bare { is_counted result.status ≡ false → result.payload ≡ [] }
+    ensures log { G.pushed log.new ≡ log_of ordered.new.pinned ordered.new.history }
+    ensures busy { result.status ≡ status.Busy → IsTrue (G.may_be_full log.old) }
+{
+    match kind {
+        CallKind::Update => ordered.update(log, text),
+        CallKind::Commit => ordered.commit(log, text),
+    }
+}
+
+/// How many calls the history has.
+fn call_count(ordered: &Ordered<Global>) -> usize
+    ensures { result ≡ length ordered.now.history }
+{
+    ordered.history().len()
+}
+
+impl<'a, B: Room, L: Ledger, R: Wait> Locked<'a, B, L, R> {
+    /// Before the first call.
+    pub(crate) fn new(
+        ordered: Ordered<Global>,
+        log: QueueLog<'a, B, R>,
+        calls: Book<L>,
+    ) -> Locked<'a, B, L, R>
+        requires { (ordered ≡ record { pinned = B.pinned; history = [] }) × (log ≡ []) × (calls.total ≡ 0) }
+        ensures { result ≡ record { pinned = B.pinned; history = [] } }
+    {
+        Locked {
+            ordered,
+            log,
+            calls,
+        }
+    }
+
+    /// Carries out a call, and counts it where it is answered otherwise than busy or out of memory.
+    pub(crate) fn call(
+        &mut self,
+        mine: &mut Tally<L>,
+        kind: CallKind,
+        text: &[u8],
+    ) -> Answer<Global>
+        requires { 0 < mine.old.share.parts }
+        ensures answer { is_counted result.status ≡ true
+            → result ≡ answer_of B.pinned self.old.history (call_of kind text.now) }
+        ensures history { is_counted result.status ≡ true
+            → self.new ≡ record self.old { history = call_of kind text.now ∷ self.old.history } }
+        ensures same { is_counted result.status ≡ false → self.new ≡ self.old }
+        ensures bare { is_counted result.status ≡ false → result.payload ≡ [] }
+        ensures busy { result.status ≡ status.Busy → IsTrue (leb 1024 (length (log_of B.pinned self.old.history))) }
+        ensures counted { mine.new.answered ≡ mine.old.answered + count_of result.status }
+        ensures parts { mine.new.share.parts ≡ mine.old.share.parts }
+    {
+        let Locked {
+            ordered,
+            log,
+            calls,
+        } = self;
+        let Tally { answered, share } = mine;
+        let answer = carry_out(ordered, log, kind, text);
+        if is_counted(answer.status()) {
+            calls.add(share, 1);
+            calls.audit(share);
+            let _calls = call_count(ordered);
+            *answered += 1;
+        }
+        answer
+    }
+
+    /// Puts a tally to the others.
+    pub(crate) fn collect(&mut self, all: &mut Tally<L>, one: Tally<L>)
+        ensures same { self.new ≡ self.old }
+        ensures parts { all.new.share.parts ≡ all.old.share.parts + one.share.parts }
+    {
+        let Tally { answered, share } = one;
+        all.share.merge(share);
+        self.calls.audit(&mut all.share);
+        let _calls = call_count(&self.ordered);
+        all.answered += answered;
+    }
+
+    /// When all workers have ended: the history has as many calls as they answered.
+    pub(crate) fn close(self, all: &mut Tally<L>) -> (Ordered<Global>, EventPass)
+        requires { all.old.share.parts ≡ L.parts }
+        ensures pinned { result.0.pinned ≡ B.pinned }
+        ensures counted { length result.0.history ≡ all.new.answered }
+        ensures queue { (result.1.table_id ≡ B.queue) × (result.1.me.1 ≡ []) }
+        ensures log { hand_of result.1 ≡ hand true false (log_of B.pinned result.0.history) [] }
+    {
+        let Locked {
+            ordered,
+            log,
+            mut calls,
+        } = self;
+        calls.audit(&mut all.share);
+        (ordered, log.into_pass())
+    }
+}

@@ -1,0 +1,72 @@
+//! What a request is answered.
+
+ghost use Rattle.std.specs.Prelude.{◌≡◌, ◌<◌, length, IfOk};
+ghost use Rattle.wire.specs.Frame.{frame, reply_body};
+ghost use Rattle.server_workers.specs.Conversation.{bare, ok};
+
+use consistency_server::Answer;
+use layout::Memory;
+use std::alloc::Global;
+use std::marker::Model;
+use wire::{Status, reply_frame};
+
+/// A status, and what comes with `Ok`: no more bytes than a frame takes.
+#[derive(Drop)]
+pub(crate) struct Reply {
+    status: Status,
+    payload: Vec<u8>,
+}
+
+impl Model for Reply {
+    ghost use Rattle.std.specs.Prelude.{◌≡◌, ◌<◌, true, length};
+    ghost use Rattle.wire.specs.Frame.{may_carry};
+    ghost use Rattle.consistency_server.specs.Answers.{Answer};
+
+    ghost Value = { Answer };
+
+    ghost view = { λ r. record { status = r.status; payload = r.payload.items } };
+
+    ghost invariant = { λ r. (may_carry r.status r.payload.items ≡ true) × (length r.payload.items < 2097152) };
+}
+
+impl Reply {
+    /// A status with nothing behind it.
+    pub(crate) fn bare(alloc: Global, status: Status) -> Reply
+        ensures { result ≡ bare status }
+    {
+        Reply {
+            status,
+            payload: Vec::new(alloc),
+        }
+    }
+
+    /// `Ok`, with what comes with it.
+    pub(crate) fn ok(payload: Vec<u8>) -> Reply
+        requires { length payload.items < 2097152 }
+        ensures { result ≡ ok payload.items }
+    {
+        Reply {
+            status: Status::Ok,
+            payload,
+        }
+    }
+
+    /// The answer to a call.
+    pub(crate) fn of(answer: Answer<Global>) -> Reply
+        ensures { result ≡ answer }
+    {
+        let status = answer.status();
+        let _payload = answer.payload();
+        Reply {
+            status,
+            payload: answer.into_payload(),
+        }
+    }
+
+    /// Its frame.
+    pub(crate) fn frame(&self, alloc: Global) -> Result<Vec<u8>, Memory>
+        ensures { IfOk result (λ bytes. bytes.items ≡ frame.spell (reply_body self.now.status self.now.payload)) }
+    {
+        reply_frame(alloc, self.status, &self.payload)
+    }
+}

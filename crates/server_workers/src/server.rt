@@ -1,0 +1,272 @@
+//! The server: a worker for each connection, and a flusher beside them.
+
+ghost use Rattle.std.specs.Prelude.{◌≡◌, ◌+◌, ◌<◌, ◌≤◌, [], true, false, length, IfOk, vec_len, vec_capacity};
+ghost use Rattle.std.specs.Iterator.{IsFinite};
+ghost use Rattle.crossbeam_queue.specs.Passes.{IsPassOf, ruled_capacity};
+ghost use Rattle.consistency_server.specs.History.{log_of};
+ghost use Rattle.server_workers.specs.Relay.{hand, hand_of};
+ghost use Rattle.server_workers.specs.Flushing.{IsFlushed};
+
+use crate::connection::Connection;
+use crate::event_queue::{EventPass, EventQueue, LOG_ROOM, Roles, Room};
+use crate::flusher::{Flushed, Flusher};
+use crate::gate::Gate;
+use crate::locked::Locked;
+use crate::queue_log::QueueLog;
+use crate::shared::Shared;
+use crate::tally::{Part, Tally};
+use crate::worker::work;
+use block_store::Store;
+use consistency_server::Ordered;
+use layout::Memory;
+use lms_sign::PublicKey;
+use std::alloc::Global;
+use std::io::Write;
+use std::marker::Brand;
+use std::sync::atomic::{AtomicBool, AtomicU64, Ordering};
+use std::sync::ledger::{Blank, Ledger};
+use std::sync::{Mutex, Wait};
+use std::thread;
+use std::thread::{JoinHandle, Scope, Threads};
+
+/// What is left of a server.
+#[derive(Drop)]
+pub struct Served<W> {
+    /// The one order of calls.
+    pub ordered: Ordered<Global>,
+    /// How many UPDATE and COMMIT calls the workers answered otherwise than busy or out of memory.
+    pub answered: u64,
+    /// The connections for which no thread could be started, and which were dropped unread.
+    pub unserved: usize,
+    /// The records of all events were written.
+    pub flushed: bool,
+    pub writer: W,
+}
+
+/// A worker, unless no thread could be started for it: then its connection is dropped unread.
+fn work_unless<G: Gate, C: Connection, B: Room, L: Ledger, R: Wait>(
+    rt: &R,
+    turned_away: &AtomicBool,
+    connection: C,
+    shared: &Shared<'_, B, L, R>,
+    gate: &G,
+    part: Part<L>,
+) -> Part<L> {
+    if turned_away.load(Ordering::SeqCst) {
+        return part;
+    }
+    work(rt, connection, shared, gate, part)
+}
+
+/// A flag for each worker.
+fn flags(alloc: Global, count: usize) -> Result<Vec<AtomicBool>, Memory>
+    ensures { IfOk result (λ v. vec_len v ≡ count) }
+{
+    let mut all = Vec::new(alloc);
+    for _i in 0..count {
+        all.push(AtomicBool::new(false))?;
+    }
+    Ok(all)
+}
+
+/// Starts a worker for each connection, of at most as many as there are flags, and waits for them all. The number is that
+/// of the connections for which no thread could be started.
+fn gather<
+    's,
+    'a: 's,
+    E,
+    G: Gate + Sync,
+    C: Connection + Send + 's,
+    I: Iterator<Item = C> + Drop,
+    B: Room + Send + Sync + 's,
+    L: Ledger + Send + Sync + 's,
+    R: Threads + Wait + Sync,
+>(
+    rt: &'s R,
+    scope: &'s Scope<'s, E>,
+    shared: &'s Shared<'a, B, L, R>,
+    gate: &'s G,
+    connections: I,
+    turned: &'s [AtomicBool],
+    stock: Tally<L>,
+    running: Vec<JoinHandle<Part<L>>>,
+) -> (Tally<L>, usize)
+    requires can { I.can_next connections × IsFinite (I.remaining connections) }
+    requires parts { (length turned.now + 1 ≡ L.parts) × (stock.share.parts ≡ L.parts) }
+    requires room { (vec_len running ≡ 0) × (length turned.now ≤ vec_capacity running) }
+    ensures { result.0.share.parts ≡ L.parts }
+{
+    let mut connections = connections;
+    let mut all = stock;
+    let mut running = running;
+    let mut unserved = 0;
+    for k in 0..turned.len() {
+        let turn = &turned[k];
+        let Some(connection) = connections.next() else {
+            break;
+        };
+        let part = all.split();
+        match scope.spawn(move || work_unless(rt, turn, connection, shared, gate, part)) {
+            Ok(handle) => running.push_reserved(handle),
+            Err(refused) => {
+                turn.store(true, Ordering::SeqCst);
+                unserved += 1;
+                let one = (refused.value)().tally();
+                shared.locked.lock(rt).collect(&mut all, one);
+            }
+        }
+    }
+    for handle in running {
+        let one = handle.join(rt).tally();
+        shared.locked.lock(rt).collect(&mut all, one);
+    }
+    (all, unserved)
+}
+
+/// Runs a worker for each connection to its end, and puts the tallies together.
+fn serve_all<
+    G: Gate + Sync,
+    C: Connection + Send,
+    I: Iterator<Item = C> + Drop,
+    B: Room + Send + Sync,
+    L: Ledger + Send + Sync,
+    R: Threads + Wait + Sync,
+>(
+    rt: &R,
+    shared: &Shared<'_, B, L, R>,
+    gate: &G,
+    connections: I,
+    turned: &[AtomicBool],
+    stock: Tally<L>,
+    running: Vec<JoinHandle<Part<L>>>,
+) -> (Tally<L>, usize)
+    requires can { I.can_next connections × IsFinite (I.remaining connections) }
+    requires parts { (length turned.now + 1 ≡ L.parts) × (stock.share.parts ≡ L.parts) }
+    requires room { (vec_len running ≡ 0) × (length turned.now ≤ vec_capacity running) }
+    ensures { result.0.share.parts ≡ L.parts }
+{
+    thread::scope(
+        thread::scope_env(),
+        rt,
+        move |scope| -> (Tally<L>, usize)
+            requires { I.can_next connections × IsFinite (I.remaining connections) × (length turned.now + 1 ≡ L.parts) × (stock.share.parts ≡ L.parts) × (vec_len running ≡ 0) × (length turned.now ≤ vec_capacity running) }
+            ensures { result.0.share.parts ≡ L.parts }
+        { gather(rt, scope, shared, gate, connections, turned, stock, running) },
+    )
+}
+
+/// The server over one queue and one ledger, which `B` and `L` name.
+fn serve_in<
+    G: Gate + Sync,
+    C: Connection + Send,
+    I: Iterator<Item = C> + Drop,
+    W: Write + Drop + Send,
+    B: Room + Send + Sync,
+    L: Ledger + Send + Sync,
+    R: Threads + Wait + Sync,
+>(
+    rt: &R,
+    alloc: Global,
+    gate: &G,
+    queue: &EventQueue,
+    pass: EventPass,
+    blank: Blank,
+    connections: I,
+    most: usize,
+    store: &Store<Global>,
+    pinned: PublicKey,
+    writer: W,
+) -> Result<Served<W>, Memory>
+    requires can { I.can_next connections × IsFinite (I.remaining connections) }
+    requires queue { IsPassOf queue.now pass × (pass.table_id ≡ B.queue) × (ruled_capacity queue.now ≡ 1024) }
+    requires first { hand_of pass ≡ hand true true [] [] }
+    requires room { (W.contents writer ≡ B.before) × (pinned ≡ B.pinned) }
+    requires name { blank.name ≡ L.name }
+    requires parts { (blank.parts ≡ L.parts) × (blank.parts ≡ most + 1) }
+    ensures pinned { IfOk result (λ s. s.ordered.pinned ≡ B.pinned) }
+    ensures counted { IfOk result (λ s. length s.ordered.history ≡ s.answered) }
+    ensures flushed { IfOk result (λ s. IsFlushed s.flushed B.before (W.contents s.writer) (log_of B.pinned s.ordered.history)) }
+{
+    let running = Vec::with_capacity(alloc, most)?;
+    let turned = flags(alloc, most)?;
+    let turned = turned.as_slice();
+    let mut pushing = pass;
+    let popping = queue.another::<Roles>(&mut pushing);
+    let (calls, share) = blank.open::<L>();
+    let stock = Tally::new(share);
+    let log = QueueLog::<'_, B, R>::new(rt, queue, pushing);
+    let shared = Shared {
+        alloc,
+        locked: Mutex::new(Locked::new(Ordered::genesis(alloc, pinned), log, calls)),
+        store,
+        calls: AtomicU64::new(0),
+    };
+    let flusher = Flusher::<'_, B, R, W>::new(rt, queue, popping, writer);
+    let ended = AtomicBool::new(false);
+    let workers = &shared;
+    let flag = &ended;
+    let (flusher, (mut all, unserved)) = thread::join(
+        rt,
+        move || flusher.run(flag),
+        move || -> (Tally<L>, usize)
+            requires { I.can_next connections × IsFinite (I.remaining connections) × (length turned.now + 1 ≡ L.parts) × (stock.share.parts ≡ L.parts) × (vec_len running ≡ 0) × (length turned.now ≤ vec_capacity running) }
+            ensures { result.0.share.parts ≡ L.parts }
+        {
+            let all = serve_all(rt, workers, gate, connections, turned, stock, running);
+            flag.store(true, Ordering::SeqCst);
+            all
+        },
+    );
+    let Shared { locked, .. } = shared;
+    let (ordered, pushing) = locked.into_inner().close(&mut all);
+    let Flushed { writer, flushed } = flusher.finish(pushing);
+    Ok(Served {
+        ordered,
+        answered: all.answered(),
+        unserved,
+        flushed,
+        writer,
+    })
+}
+
+/// Serves at most `most` connections, a worker each, which starts at once, beside a flusher that writes the log. `pinned` is
+/// the key of user 0.
+pub fn serve<
+    G: Gate + Sync,
+    C: Connection + Send,
+    I: Iterator<Item = C> + Drop,
+    W: Write + Drop + Send,
+    R: Threads + Wait + Sync,
+>(
+    rt: &R,
+    alloc: Global,
+    gate: &G,
+    connections: I,
+    most: u32,
+    store: &Store<Global>,
+    pinned: PublicKey,
+    writer: W,
+) -> Result<Served<W>, Memory>
+    requires { I.can_next connections × IsFinite (I.remaining connections) }
+    ensures pinned { IfOk result (λ s. s.ordered.pinned ≡ pinned) }
+    // The workers carried out what they answered.
+    ensures counted { IfOk result (λ s. length s.ordered.history ≡ s.answered) }
+    // What was taken from the log begins its events, and what was written is the records of it.
+    ensures flushed { IfOk result (λ s. IsFlushed s.flushed (W.contents writer) (W.contents s.writer) (log_of pinned s.ordered.history)) }
+{
+    let (queue, pass) = EventQueue::ruled(alloc, LOG_ROOM)?;
+    let blank = Blank::new(most as u64 + 1);
+    serve_in::<G, C, I, W, Brand, Brand, R>(
+        rt,
+        alloc,
+        gate,
+        &queue,
+        pass,
+        blank,
+        connections,
+        most as usize,
+        store,
+        pinned,
+        writer,
+    )
+}

@@ -1,0 +1,103 @@
+//! What the workers share, and what it answers to a request.
+
+ghost use Rattle.std.specs.Prelude.{◌≡◌, ◌+◌, ◌<◌};
+ghost use Rattle.wire.specs.Frame.{request_of};
+ghost use Rattle.consistency_server.specs.History.{call_of};
+ghost use Rattle.server_workers.specs.Counting.{count_of};
+ghost use Rattle.server_workers.specs.Conversation.{RepliesToCall, RepliesToPut, RepliesToGet, RepliesToBody, count_in};
+
+use crate::event_queue::Room;
+use crate::gate::Gate;
+use crate::locked::Locked;
+use crate::reply::Reply;
+use crate::tally::Tally;
+use block_store::{Store, StoreError};
+use consistency_server::CallKind;
+use layout::Digest;
+use std::alloc::Global;
+use std::sync::atomic::{AtomicU64, Ordering};
+use std::sync::ledger::Ledger;
+use std::sync::{Mutex, Wait};
+use wire::{RequestKind, Status, request_of};
+
+/// The one order of calls under its lock, the blocks under theirs, and how many calls there were.
+#[derive(Drop)]
+pub struct Shared<'a, B: Room, L: Ledger, R: Wait> {
+    pub(crate) alloc: Global,
+    pub(crate) locked: Mutex<Locked<'a, B, L, R>>,
+    pub(crate) store: &'a Store<Global>,
+    pub(crate) calls: AtomicU64,
+}
+
+impl<'a, B: Room, L: Ledger, R: Wait> Shared<'a, B, L, R> {
+    /// The reply to the body of a request's frame.
+    pub(crate) fn reply_to<G: Gate>(
+        &self,
+        rt: &R,
+        gate: &G,
+        tally: &mut Tally<L>,
+        body: &[u8],
+    ) -> Reply
+        requires { 0 < tally.old.share.parts }
+        ensures replies { RepliesToBody B.pinned (request_of body.now) result }
+        ensures counted { tally.new.answered ≡ tally.old.answered + count_in (request_of body.now) result.status }
+        ensures parts { tally.new.share.parts ≡ tally.old.share.parts }
+    {
+        let Some((kind, payload)) = request_of(body) else {
+            return Reply::bare(self.alloc, Status::Form);
+        };
+        match kind {
+            RequestKind::Update => self.call(rt, gate, tally, CallKind::Update, payload),
+            RequestKind::Commit => self.call(rt, gate, tally, CallKind::Commit, payload),
+            RequestKind::Put => self.put(rt, payload),
+            RequestKind::Get => self.get(rt, payload),
+        }
+    }
+
+    /// Carries out a call under the lock, which is let go before anything is done with the answer.
+    fn call<G: Gate>(
+        &self,
+        rt: &R,
+        gate: &G,
+        tally: &mut Tally<L>,
+        kind: CallKind,
+        text: &[u8],
+    ) -> Reply
+        requires { 0 < tally.old.share.parts }
+        ensures replies { RepliesToCall B.pinned (call_of kind text.now) result }
+        ensures counted { tally.new.answered ≡ tally.old.answered + count_of result.status }
+        ensures parts { tally.new.share.parts ≡ tally.old.share.parts }
+    {
+        gate.pass(self.calls.fetch_add(1, Ordering::SeqCst).wrapping_add(1));
+        let answer = self.locked.lock(rt).call(tally, kind, text);
+        Reply::of(answer)
+    }
+
+    /// Stores a block.
+    fn put(&self, rt: &R, block: &[u8]) -> Reply
+        ensures { RepliesToPut block.now result }
+    {
+        match self.store.put(rt, block) {
+            Ok(pass) => match Vec::from_slice(self.alloc, pass.digest().as_bytes()) {
+                Ok(digest) => Reply::ok(digest),
+                Err(_) => Reply::bare(self.alloc, Status::Memory),
+            },
+            Err(StoreError::TooLarge) => Reply::bare(self.alloc, Status::TooLarge),
+            Err(StoreError::Memory) => Reply::bare(self.alloc, Status::Memory),
+        }
+    }
+
+    /// Finds the block of a digest.
+    fn get(&self, rt: &R, digest: &[u8]) -> Reply
+        ensures { RepliesToGet digest.now result }
+    {
+        let Ok(digest) = <[u8; 32]>::try_from(digest) else {
+            return Reply::bare(self.alloc, Status::Form);
+        };
+        match self.store.fetch(rt, Digest::from_bytes(digest)) {
+            Ok(Some(block)) => Reply::ok(block),
+            Ok(None) => Reply::bare(self.alloc, Status::Absent),
+            Err(_) => Reply::bare(self.alloc, Status::Memory),
+        }
+    }
+}

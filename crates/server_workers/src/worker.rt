@@ -1,0 +1,151 @@
+//! The worker of one connection.
+
+ghost use Rattle.std.specs.Prelude.{◌≡◌, ◌≢◌, ◌⊎◌, ◌+◌, ◌<◌, ◌++◌, ◌∷◌, [], List, ℕ, OnOk, IfErr, OnErr, Err, true, length};
+ghost use Rattle.leaf_ledger.specs.Device.{HasRisen};
+ghost use Rattle.wire.specs.Frame.{frame, reply_body};
+ghost use Rattle.server_workers.specs.declared.connection.Ended.TheVariants as ended;
+ghost use Rattle.server_workers.specs.Conversation.{Conversed, goes_on};
+ghost use Rattle.server_workers.specs.Conversing.{GoesOn, IsCaused};
+
+use crate::connection::{Connection, ConnectionFault, Ended};
+use crate::event_queue::Room;
+use crate::gate::Gate;
+use crate::reply::Reply;
+use crate::shared::Shared;
+use crate::tally::{Part, Tally};
+use layout::Memory;
+use std::alloc::Global;
+use std::sync::Wait;
+use std::sync::ledger::Ledger;
+use wire::{FrameError, Frames};
+
+/// How many bytes a worker reads at a time.
+const READ_SIZE: usize = 16_384;
+
+impl From<Memory> for Ended {
+    ghost from_gives = { λ _ e. e ≡ ended.Memory };
+
+    fn from(_e: Memory) -> Ended {
+        Ended::Memory
+    }
+}
+
+impl From<ConnectionFault> for Ended {
+    ghost from_gives = { λ _ e. e ≡ ended.Fault };
+
+    fn from(_e: ConnectionFault) -> Ended {
+        Ended::Fault
+    }
+}
+
+/// Writes the frame of a reply.
+fn answer<C: Connection>(alloc: Global, connection: &mut C, reply: &Reply) -> Result<(), Ended>
+    ensures ok { OnOk result (C.told connection.new ≡ goes_on [] (frame.spell (reply_body reply.now.status reply.now.payload)) (C.told connection.old)) }
+    ensures err { IfErr result (λ _. (part rest : List ℕ) × (C.told connection.new ≡ goes_on [] part (C.told connection.old)) × (frame.spell (reply_body reply.now.status reply.now.payload) ≡ part ++ rest)) }
+    ensures broken { IfErr result (λ e. (e ≡ ended.Fault) ⊎ (e ≡ ended.Memory)) }
+    ensures cause { IsCaused (C.fault_count connection.old) (C.fault_count connection.new) result }
+{
+    let bytes = reply.frame(alloc)?;
+    connection.write(&bytes)?;
+    Ok(())
+}
+
+/// Reads on.
+fn read_on<C: Connection>(
+    connection: &mut C,
+    frames: &mut Frames<Global>,
+    buffer: &mut [u8],
+) -> Result<(), Ended>
+    requires { 0 < length buffer.old }
+    ensures ok { OnOk result ((piece : List ℕ) × (C.told connection.new ≡ goes_on piece [] (C.told connection.old)) × (frames.new ≡ frames.old ++ piece)) }
+    ensures err { OnErr result ((piece : List ℕ) × (C.told connection.new ≡ goes_on piece [] (C.told connection.old)) × (result ≡ Err ended.End → piece ≡ [])) }
+    ensures kind { IfErr result (λ e. e ≢ ended.Length) }
+    ensures end { result ≡ Err ended.End → C.is_at_end connection.new ≡ true }
+    ensures cause { IsCaused (C.fault_count connection.old) (C.fault_count connection.new) result }
+{
+    let count = connection.read(buffer)?;
+    if count == 0 {
+        return Err(Ended::End);
+    }
+    frames.feed(&buffer[..count])?;
+    Ok(())
+}
+
+/// Replies to the next frame, or reads on where it isn't whole.
+fn step<G: Gate, C: Connection, B: Room, L: Ledger, R: Wait>(
+    rt: &R,
+    connection: &mut C,
+    shared: &Shared<'_, B, L, R>,
+    gate: &G,
+    tally: &mut Tally<L>,
+    frames: &mut Frames<Global>,
+    buffer: &mut [u8],
+) -> Result<(), Ended>
+    requires part { 0 < tally.old.share.parts }
+    requires room { 0 < length buffer.old }
+    ensures goes_on { GoesOn B.pinned (record { told = C.told connection.old; answered = tally.old.answered; waiting = frames.old })
+        result (record { told = C.told connection.new; answered = tally.new.answered; waiting = frames.new }) }
+    ensures end { result ≡ Err ended.End → C.is_at_end connection.new ≡ true }
+    ensures cause { IsCaused (C.fault_count connection.old) (C.fault_count connection.new) result }
+    ensures parts { tally.new.share.parts ≡ tally.old.share.parts }
+{
+    match frames.next_frame() {
+        Ok(Some(request)) => {
+            let reply = shared.reply_to(rt, gate, tally, &request);
+            answer(shared.alloc, connection, &reply)
+        }
+        Ok(None) => read_on(connection, frames, buffer),
+        Err(FrameError::Length) => Err(Ended::Length),
+        Err(FrameError::Memory) => Err(Ended::Memory),
+    }
+}
+
+/// Replies to the requests of a connection, up to its end or fault, or to a length at fault.
+pub fn converse<G: Gate, C: Connection, B: Room, L: Ledger, R: Wait>(
+    rt: &R,
+    connection: &mut C,
+    shared: &Shared<'_, B, L, R>,
+    gate: &G,
+    tally: &mut Tally<L>,
+) -> Ended
+    requires { 0 < tally.old.share.parts }
+    ensures conversed { Conversed B.pinned (C.told connection.old) (C.told connection.new) tally.old.answered tally.new.answered result }
+    // It was read to its end.
+    ensures end { result ≡ ended.End → C.is_at_end connection.new ≡ true }
+    // It did fail.
+    ensures fault { result ≡ ended.Fault → HasRisen (C.fault_count connection.old) (C.fault_count connection.new) }
+    ensures parts { tally.new.share.parts ≡ tally.old.share.parts }
+{
+    let Ok(mut buffer) = vec![in shared.alloc; 0u8; READ_SIZE] else {
+        return Ended::Memory;
+    };
+    let mut frames = Frames::new(shared.alloc);
+    for _ in rt.forever() {
+        let stepped = step(
+            rt,
+            connection,
+            shared,
+            gate,
+            tally,
+            &mut frames,
+            &mut buffer,
+        );
+        if let Err(ended) = stepped {
+            return ended;
+        }
+    }
+    unreachable!()
+}
+
+/// A worker's whole work.
+pub(crate) fn work<G: Gate, C: Connection, B: Room, L: Ledger, R: Wait>(
+    rt: &R,
+    mut connection: C,
+    shared: &Shared<'_, B, L, R>,
+    gate: &G,
+    part: Part<L>,
+) -> Part<L> {
+    let mut tally = part.tally();
+    let _ended = converse(rt, &mut connection, shared, gate, &mut tally);
+    Part::of(tally)
+}

@@ -1,0 +1,92 @@
+//! The server of a file system: it keeps the one order of operations and the blocks, and serves its clients over TCP.
+#![tactic(auto)]
+
+mod accepted;
+mod socket;
+
+use accepted::Accepted;
+use block_store::Store;
+use clap::{Arg, ArgAction, Command, value_parser};
+use lms_sign::{KEY_SIZE, PublicKey};
+use server_workers::{OpenGate, serve};
+use std::alloc::Global;
+use std::env;
+use std::fs::File;
+use std::io::Read;
+use std::net::TcpListener;
+use std::process::ExitCode;
+use thiserror::Error;
+
+/// The status where the words are at fault.
+const WORDS: u8 = 5;
+
+/// What goes wrong past the words, beside the system's own faults.
+#[derive(Debug, Drop, Error)]
+enum Fault {
+    #[error("the file of the superuser's key isn't a public key")]
+    Key,
+    #[error("the log wasn't written to its end")]
+    Log,
+}
+
+/// A required option with a value.
+fn option<'a>(alloc: Global, name: &'a str, value: &'a str) -> Arg<'a> {
+    Arg::new(alloc, name)
+        .long(name)
+        .value_name(value)
+        .required(true)
+        .action(ArgAction::Set)
+}
+
+/// The public key in a file of 56 bytes.
+fn read_key(rt: &HostRuntime, name: &str) -> anyhow::Result<PublicKey> {
+    let mut file = File::open(rt, name)?;
+    let mut bytes = [0; KEY_SIZE];
+    file.read_exact(&mut bytes)?;
+    if file.read(&mut [0])? != 0 {
+        return Err(Fault::Key.into());
+    }
+    Ok(PublicKey::from_bytes(bytes).ok_or(Fault::Key)?)
+}
+
+/// Serves the connections that the words ask for.
+fn run(rt: &HostRuntime) -> anyhow::Result<ExitCode> {
+    let alloc = rt.alloc();
+    let words: Vec<String> = env::args(rt)?.collect(alloc)?;
+    let command = Command::new(alloc, "sundrd")
+        .about("Serves the clients of a file system that needn't trust it")
+        .arg(option(alloc, "listen", "ADDR"))?
+        .arg(option(alloc, "super", "FILE"))?
+        .arg(option(alloc, "log", "FILE"))?
+        .arg(option(alloc, "connections", "N").value_parser(value_parser!(u32)))?;
+    let matches = match command.try_get_matches_from(words.as_slice()) {
+        Ok(matches) => matches,
+        Err(fault) => {
+            fault.print(rt)?;
+            let status = if fault.exit_code() == 0 { 0 } else { WORDS };
+            return Ok(ExitCode::from(status));
+        }
+    };
+    let most = matches.get_one::<u32>("connections").unwrap_or(0);
+    let pinned = read_key(rt, matches.get_str("super").unwrap_or(""))?;
+    let log = File::create(rt, matches.get_str("log").unwrap_or(""))?;
+    let listener = TcpListener::bind(rt, matches.get_str("listen").unwrap_or(""))?;
+    println!(rt; "listening {}", listener.local_addr()?)?;
+    let store = Store::new(alloc);
+    let connections = Accepted::new(&listener, most);
+    let served = serve(rt, alloc, &OpenGate, connections, most, &store, pinned, log)?;
+    if !served.flushed {
+        return Err(Fault::Log.into());
+    }
+    Ok(ExitCode::SUCCESS)
+}
+
+fn main(rt: HostRuntime) -> ExitCode {
+    match run(&rt) {
+        Ok(status) => status,
+        Err(error) => {
+            let _ = eprintln!(rt; "sundrd: {error}");
+            ExitCode::FAILURE
+        }
+    }
+}

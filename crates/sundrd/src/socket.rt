@@ -1,0 +1,64 @@
+//! The connection of a client over TCP.
+
+ghost use Rattle.std.specs.Prelude.{◌≤◌, None};
+ghost use Rattle.leaf_ledger.specs.Device.{HasRisen};
+
+use server_workers::{Connection, ConnectionFault};
+use std::io::{Read, Write};
+use std::net::TcpStream;
+
+/// Counts a fault.
+fn fault(faults: &mut u64) -> ConnectionFault
+    ensures later { faults.old ≤ faults.new }
+    ensures rose { HasRisen faults.old faults.new }
+{
+    *faults = faults.saturating_add(1);
+    ConnectionFault
+}
+
+/// A client's stream. It doesn't tell its bytes: no clause says what a socket holds or delivers.
+#[derive(Drop)]
+pub struct Socket {
+    stream: TcpStream,
+    ended: bool,
+    faults: u64,
+}
+
+impl Socket {
+    pub fn new(stream: TcpStream) -> Socket {
+        Socket {
+            stream,
+            ended: false,
+            faults: 0,
+        }
+    }
+}
+
+impl Connection for Socket {
+    ghost told = { λ _. None };
+
+    ghost is_at_end = { λ s. s.ended };
+
+    ghost fault_count = { λ s. s.faults };
+
+    fn read(&mut self, buffer: &mut [u8]) -> Result<usize, ConnectionFault> {
+        match self.stream.read(buffer) {
+            Ok(count) => {
+                self.ended = count == 0;
+                Ok(count)
+            }
+            Err(_) => Err(fault(&mut self.faults)),
+        }
+    }
+
+    fn write(&mut self, bytes: &[u8]) -> Result<(), ConnectionFault> {
+        match self.stream.write_all(bytes) {
+            Ok(()) => Ok(()),
+            Err(_) => Err(fault(&mut self.faults)),
+        }
+    }
+
+    fn faults(&self) -> u64 {
+        self.faults
+    }
+}
