@@ -15,7 +15,9 @@ use Rattle.itable.specs.declared.inode.Kind.TheVariants as kind
 use Rattle.update_cert.specs.Asked.{Lacks, IsInode, IsBlock, asks, needs_inode, needs_entries}
 use Rattle.update_cert.specs.Slots.{slot_becomes}
 use Rattle.update_cert.specs.declared.error.ApplyError.{ApplyError}
+use Rattle.update_cert.specs.declared.error.ApplyError.TheVariants as error
 use Rattle.update_cert.specs.declared.spot.Spot.{Spot}
+use Rattle.update_cert.specs.declared.spot.Spot.TheVariants as spot
 
 -- an action at an i-number of the part's principal
 abbrev pub change_at : Part → INumber → Action Digest → Change Digest
@@ -61,3 +63,12 @@ LacksBy blocks actor part c e = Lacks blocks (λ digest s. (asks actor c ≡ tru
 -- a text of the size of the i-node's block at this place is held under this digest
 abbrev pub IsSized : Blocks → Inode → ℕ → Digest → Type 0
 IsSized blocks n k digest = option_map_or (λ bytes. length bytes == size_of_block n.size k) (blocks digest) false ≡ true
+
+-- where the file is the table of principals, the place of its block is one of the table
+abbrev pub table_spot : Spot → Spot
+table_spot (spot.File inode k) = spot.Table inode k
+table_spot other = other
+
+abbrev pub as_table : ApplyError → ApplyError
+as_table (error.Missing digest s) = error.Missing digest (table_spot s)
+as_table error.Memory = error.Memory

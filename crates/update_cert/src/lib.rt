@@ -18,5 +18,5 @@ pub use cert::{CERT_SIZE, Cert, MOST_CHANGES};
 pub use change::{Action, CHANGE_SIZE, Change};
 pub use error::ApplyError;
 pub use part::{LaidPart, Part, Slot};
-pub use reading::{read_directory, read_file, read_inode};
+pub use reading::{read_directory, read_file, read_inode, read_principals};
 pub use spot::{Spot, size_of_block};
