@@ -6,7 +6,7 @@ use Rattle.std.proofs.lemmas.List.{append-nil}
 use Rattle.std.proofs.Math.Seq.{take-suc}
 use Rattle.update_cert.specs.Change.{Change}
 use Rattle.layout.specs.Types.{Digest}
-use Rattle.update_cert.specs.World.{Actor, Tree, after_change, after, void_from, is_of, void_of}
+use Rattle.update_cert.specs.World.{Actor, Tree, after_change, after, void_from, is_of}
 use Rattle.update_cert.specs.Reading.{Reading, read_change, read_changes, after_read, void_of_read}
 use Rattle.update_cert.proofs.ActLaws.{effect_read}
 use Rattle.update_cert.specs.Slots.{slot_after_change, slot_after}

@@ -1,7 +1,7 @@
 -- Changes: what an operation does at an i-number of a principal.
 -- The bytes stand in docs/FORMATS.md.
 use Rattle.std.proofs.Common.{refl, sym, ap, ◌∙◌, arith}
-use Rattle.std.specs.Prelude.{◌≡◌, ℕ, zero, suc, List, Option, Some, None}
+use Rattle.std.specs.Prelude.{◌≡◌, ℕ, zero, suc, Option, Some, None}
 use Rattle.std.specs.Int.{w8, w16}
 use Rattle.layout.specs.Format.{Format, uint_in, raw, pair, nothing, variant, sized, mapped}
 use Rattle.layout.specs.Laws.{Lawful, laws, in_range, lawful_sized, lawful_variant, variant_is, wide8, wide16}

@@ -1,12 +1,10 @@
-use Rattle.std.proofs.Common.{◌≡◌, Some, ◌+◌, ◌-◌, ◌<◌, length, refl, sym, ap, ◌∙◌, arith}
-use Rattle.std.specs.Option.{option_and_then}
+use Rattle.std.proofs.Common.{◌≡◌, Some, ◌+◌, ◌-◌, ◌<◌, length, refl, sym, ◌∙◌, arith}
 use Rattle.std.specs.Result.{result_ok}
 use Rattle.layout.specs.Format.{whole}
 use Rattle.principals.specs.TableText.{table}
 use Rattle.itable.specs.declared.inode.Kind.TheVariants as kinds
-use Rattle.update_cert.specs.Blocks.{of_size}
 use Rattle.update_cert.proofs.TakenLaws.{principals_taken}
-use Rattle.update_cert.proofs.ReadingLaws.{is_block, front_joined, table_lacks_last, table_file, table_inode, text_read, few_blocks, some_block_of}
+use Rattle.update_cert.proofs.ReadingLaws.{is_block, front_joined, table_lacks_last, table_inode, text_read, few_blocks, some_block_of}
 use Rattle.update_cert.proofs.reading.read_table.Goals as goal
 
 pub overflow_sub-end : goal.overflow_sub-end

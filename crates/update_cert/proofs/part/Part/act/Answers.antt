@@ -1,9 +1,8 @@
 use Rattle.std.proofs.Common.{sym, ap, ◌∙◌, subst}
 use Rattle.layout.specs.Types.{Digest}
-use Rattle.update_cert.specs.Change.{Change, Make, Put, Remove, Link, Unlink, action_of}
+use Rattle.update_cert.specs.Change.{Change, Make, action_of}
 use Rattle.update_cert.specs.Acts.{Acts}
 use Rattle.update_cert.proofs.ActLaws.{is_change}
-use Rattle.update_cert.proofs.AskedLaws.{each_for}
 use Rattle.update_cert.proofs.part.Part.act.Goals as goal
 
 pub returns-in_ok-make-in-Make-clause-acts : goal.returns-in_ok-make-in-Make-clause-acts
