@@ -18,6 +18,9 @@ use std::marker::Model;
 /// How many rows of members a table has at most.
 pub(crate) const MOST_ROWS: usize = 65535;
 
+/// How many bytes the text of a table has at most: the tag, the users after their count, and the rows after theirs.
+pub const TABLE_SIZE: usize = 4 + (1 + 255 * (1 + 4 + 56)) + (2 + MOST_ROWS * (1 + 1 + 4 + 4));
+
 /// A user and its key.
 #[derive(Clone, Copy, Debug)]
 pub struct Listing {
@@ -224,6 +227,14 @@ impl<A: Allocator> Table<A> {
         ensures { result ≡ is_member_now self.now group user }
     {
         self.marks[slot(group, user)]
+    }
+
+    /// That its text isn't longer than `TABLE_SIZE`: it does nothing.
+    pub fn text_fits(&self)
+        ensures { length (table_format.spell self.now) ≤ TABLE_SIZE }
+    {
+        // It is as its type keeps it.
+        let _rows = self.rows.len();
     }
 
     /// Where the last row begins, 0 where there is none.
