@@ -15,11 +15,19 @@ use Rattle.itable.specs.declared.root.ListedChunk.{ListedChunk}
 use Rattle.itable.specs.Chunk.{Chunk, chunk, chunk_number}
 use Rattle.itable.specs.Root.{Root, root, chunk_at, number_of}
 use Rattle.itable.specs.ITable.{ITable, digest_at, digest_in, i_number_of}
-use Rattle.update_cert.specs.Blocks.{Blocks, chunk_held, inode_told, root_at, told_by}
+use Rattle.update_cert.specs.Blocks.{Agrees, Blocks, chunk_held, inode_told, root_at, told_by}
 use Rattle.update_cert.specs.Spot.{lacks, takes, takes_chunk, takes_root}
 use Rattle.update_cert.specs.declared.spot.Spot.{Spot}
 use Rattle.update_cert.specs.declared.spot.Spot.TheVariants as spot
-use Rattle.client_tree.specs.Tables.{IsOfTable, IsRead}
+use Rattle.update_cert.specs.declared.error.ApplyError.{ApplyError}
+use Rattle.update_cert.specs.declared.error.ApplyError.TheVariants as error
+use Rattle.update_cert.specs.World.{Content, File}
+use Rattle.update_cert.specs.Reading.{Reading}
+use Rattle.update_cert.specs.Asked.{HasPrincipals, IsOfPrincipals, Lacks}
+use Rattle.principals.specs.Table.{Table}
+use Rattle.principals.specs.TableText.{table}
+use Rattle.client_tree.specs.Tables.{IsOfTable, IsRead, LacksOfTable, table_at}
+use Rattle.client_tree.specs.Principals.{IsNamed, IsOfNamed}
 
 -- ---- the row of a key
 
@@ -89,3 +97,37 @@ has_table blocks handle t is told =
     (d, same_some (sym told ∙ told_here))
 where same_some : {a b : Option Digest} → Some a ≡ Some b → a ≡ b
       same_some e = cc
+
+-- ---- the table that a handle names
+
+one_table : (a b : ITable) (read : Option ITable) → read ≡ Some a → read ≡ Some b → a ≡ b
+one_table a b read first second = let both : Some a ≡ Some b = sym first ∙ second in cc
+
+one_digest : (a b : Digest) (found : Option Digest) → found ≡ Some a → found ≡ Some b → a ≡ b
+one_digest a b found first second = let both : Some a ≡ Some b = sym first ∙ second in cc
+
+nothing_lacks : (blocks : Blocks) (handle : Handle) (before : ITable) (inode : Digest) → IsRead blocks 0 handle before → digest_at before 1 ≡ Some inode → HasPrincipals blocks inode
+    → (digest : Digest) (s : Spot) → IsOfNamed blocks handle digest s → lacks blocks digest s ≡ false
+nothing_lacks blocks handle before inode is at has digest s (inl of) = is.taken digest s of
+nothing_lacks blocks handle before inode is at has digest s (inr (other, found, read, there, of)) =
+    let same : other ≡ before = one_table other before (table_at blocks handle) read.spelled is.spelled in
+    let node : found ≡ inode = one_digest found inode (digest_at before 1) (subst (λ (t : ITable). digest_at t 1 ≡ Some found) same there) at in
+    has digest s (subst (λ (d : Digest). IsOfPrincipals blocks d digest s) node of)
+
+pub named_is : (blocks : Blocks) (handle : Handle) (before : ITable) (inode : Digest) (users : Table) → IsRead blocks 0 handle before → inode_told blocks 0 handle 1 ≡ Some (digest_at before 1) → digest_at before 1 ≡ Some inode
+    → table.Fits users → ((reads : Reading) → Agrees blocks reads → reads.content inode ≡ File (table.spell users)) → HasPrincipals blocks inode → IsNamed blocks handle users
+named_is blocks handle before inode users is told at fits content has = record {
+  fits = fits;
+  file = λ reads agrees. ap (option_map reads.content) (agrees.inodes 0 handle 1 (digest_at before 1) told ∙ at) ∙ ap (λ (c : Content). Some c) (content reads agrees);
+  taken = nothing_lacks blocks handle before inode is at has;
+}
+
+-- ---- what is missing of it
+
+pub lacks_table : (blocks : Blocks) (handle : Handle) (e : ApplyError) → LacksOfTable blocks 0 handle e → Lacks blocks (IsOfNamed blocks handle) e
+lacks_table blocks handle (error.Missing digest s) (is, none) = (inl is, none)
+lacks_table blocks handle error.Memory none = tt
+
+pub lacks_users : (blocks : Blocks) (handle : Handle) (before : ITable) (inode : Digest) (e : ApplyError) → IsRead blocks 0 handle before → digest_at before 1 ≡ Some inode → Lacks blocks (IsOfPrincipals blocks inode) e → Lacks blocks (IsOfNamed blocks handle) e
+lacks_users blocks handle before inode (error.Missing digest s) read at (is, none) = (inr (before, inode, read, at, is), none)
+lacks_users blocks handle before inode error.Memory read at none = tt

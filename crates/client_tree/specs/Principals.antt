@@ -7,7 +7,7 @@ use Rattle.itable.specs.ITable.{ITable, digest_at}
 use Rattle.principals.specs.Table.{Table}
 use Rattle.principals.specs.TableText.{table}
 use Rattle.update_cert.specs.World.{File, Principals}
-use Rattle.update_cert.specs.Reading.{Reading, void_table_read}
+use Rattle.update_cert.specs.Reading.{Reading, void_of_table_read}
 use Rattle.update_cert.specs.Blocks.{Blocks, Agrees}
 use Rattle.update_cert.specs.Asked.{IsOfPrincipals}
 use Rattle.update_cert.specs.Spot.{lacks}
@@ -34,4 +34,4 @@ pub record IsNamed (blocks : Blocks) (handle : Handle) (users : Table) : Type 0 
 -- have no effect.
 pub record IsPending (users : Table) (x : View) (numbers : List ℕ) : Type 0 where
   pub after : (reads : Reading) → tree reads users x 0 1 ≡ Some (Principals x.table)
-  pub void : (reads : Reading) → numbers ≡ void_table_read reads (actor_of x.table x.own) x.own.cert.changes (tree_before reads users x)
+  pub void : (reads : Reading) → numbers ≡ void_of_table_read reads (actor_of x.table x.own) x.own.cert.changes (tree_before reads users x)

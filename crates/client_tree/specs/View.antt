@@ -64,6 +64,10 @@ comes_after x p i =
     then i.cert.user == p
     else raises x.table p i && nat_lt (option_map_or (λ r. r.version) (newest p x.structures) 0) (version_of p i.plan.vector)
 
+-- the operation is user 0's, and so comes after the table of principals that user 0's handle names
+abbrev pub is_superusers : PendingItem → Bool
+is_superusers i = i.cert.user == 0
+
 -- a group of which the operation's user is a member, where membership is judged at its table version
 abbrev pub acts_for : Table → PendingItem → Group → Bool
 acts_for t i g = nat_le 64 g && is_member t g i.cert.user (table_version i.plan)
