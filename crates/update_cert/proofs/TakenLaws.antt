@@ -1,6 +1,6 @@
 -- The blocks that were read are what their places take.
-use Rattle.std.proofs.Common.{◌≡◌, ℕ, ◌+◌, ◌<◌, ◌≤◌, Bool, true, false, List, [], ◌∷◌, ◌++◌, length, take, Option, Some, None, Result, Ok, Err, refl, sym, ap, subst, ◌∙◌, inl, inr, arith}
-use Rattle.std.specs.Prelude.{not, ◌&&◌, ◌||◌, ◌==◌, is_some, IsSome, IsSomeAnd, OnOk, nat_lt, slice_get, slice_index_or, if◌then◌else◌}
+use Rattle.std.proofs.Common.{◌≡◌, ℕ, ◌+◌, ◌<◌, ◌≤◌, true, false, List, ◌++◌, length, take, Option, Some, None, Result, Ok, Err, refl, sym, ap, subst, ◌∙◌, inl, inr, arith}
+use Rattle.std.specs.Prelude.{not, ◌||◌, ◌==◌, is_some, IsSome, IsSomeAnd, OnOk, nat_lt, slice_get, slice_index_or}
 use Rattle.std.proofs.lemmas.Bool.{cases_lt, eq-eqb}
 use Rattle.std.proofs.lemmas.Bool.Decides.{nat_tests}
 use Rattle.std.proofs.lemmas.Option.{get_or_from_slice_get, slice_get_read, slice_get_within}
@@ -12,9 +12,9 @@ use Rattle.itable.specs.declared.inode.Kind.{Kind}
 use Rattle.itable.specs.declared.inode.Kind.TheVariants as kinds
 use Rattle.directory.specs.Directory.{Entry, directory}
 use Rattle.update_cert.specs.Blocks.{Blocks, inode_at, joined, of_size}
-use Rattle.update_cert.specs.Asked.{HasBlocks, IsBlock}
+use Rattle.update_cert.specs.Asked.{HasBlocks}
 use Rattle.update_cert.specs.Acts.{IsSized}
-use Rattle.update_cert.specs.Spot.{takes, is_of_file, completes, size_of_block, spot_of, lacks}
+use Rattle.update_cert.specs.Spot.{takes, completes, size_of_block, spot_of, lacks}
 use Rattle.update_cert.specs.declared.error.ApplyError.{ApplyError}
 use Rattle.update_cert.specs.declared.spot.Spot.{Spot}
 use Rattle.update_cert.proofs.ReadingLaws.{block_taken, count_is, front_and_last, joined_last, taken_by, with_last}
