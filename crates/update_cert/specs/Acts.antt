@@ -6,7 +6,7 @@ use Rattle.itable.specs.Inode.{Inode}
 use Rattle.directory.specs.Directory.{Entry}
 use Rattle.update_cert.specs.Change.{Action, Change}
 use Rattle.layout.specs.Types.{Digest, INumber, Principal, User}
-use Rattle.update_cert.specs.World.{Content, File, Directory, Principals, Actor, Tree, fits, has_effect}
+use Rattle.update_cert.specs.World.{Content, File, Directory, Principals, Actor, Tree, fits, has_effect, is_of}
 use Rattle.update_cert.specs.Reading.{Reading}
 use Rattle.update_cert.specs.Blocks.{Blocks}
 use Rattle.update_cert.specs.Spot.{size_of_block}
@@ -29,9 +29,9 @@ pub record Acts (reads : Reading) (user : User) (c : Change Digest) (old new : P
   pub is_fit : fitted ≡ fits user c (stands_at reads old c.i_number)
   pub slots : (i : ℕ) → slot_at new i ≡ (if fitted && (c.i_number == i) then slot_becomes reads c.action (slot_at old i) else slot_at old i)
 
--- the change is one of this principal that has no effect on the tree
+-- the change is done in this principal's part, and has no effect on the tree
 abbrev pub is_void_of : {C : Type 0} → Actor → Principal → Change C → Tree → Bool
-is_void_of actor p c tree = (c.principal == p) && not (has_effect actor c (tree c.principal c.i_number))
+is_void_of actor p c tree = is_of p c && not (has_effect actor c (tree c.principal c.i_number))
 
 -- the entries, if a directory stands there
 abbrev pub listed : Option Content → Option (List Entry)
