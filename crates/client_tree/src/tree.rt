@@ -1,15 +1,20 @@
 //! What the own operation makes of the tree of a view.
 
-ghost use Rattle.std.specs.Prelude.{◌≡◌, ◌++◌, IfOk, IfErr, OnOk, map};
+ghost use Rattle.std.specs.Prelude.{◌≡◌, ◌==◌, ◌++◌, ℕ, Some, false, IfOk, IfErr, OnOk, map, if◌then◌else◌};
 ghost use Rattle.std.specs.Vec.{vec_items};
-ghost use Rattle.itable.specs.ITable.{IsTable, handle_of as table_handle};
+ghost use Rattle.itable.specs.File.{blocks_of, inode_of};
+ghost use Rattle.itable.specs.Inode.{inode};
+ghost use Rattle.itable.specs.ITable.{IsTable, digest_at, handle_of as table_handle};
 ghost use Rattle.principals.specs.Table.{Table as Principals};
+ghost use Rattle.principals.specs.TableText.{table as table_format};
+ghost use Rattle.update_cert.specs.World.{is_table};
 ghost use Rattle.update_cert.specs.Reading.{Reading, void_of_read};
 ghost use Rattle.update_cert.specs.Blocks.{Agrees, Blocks as Held};
 ghost use Rattle.update_cert.specs.Asked.{Lacks};
 ghost use Rattle.client_tree.specs.View.{View as ViewModel, actor_of, shown, tree_before, written};
 ghost use Rattle.client_tree.specs.Opened.{HasLooked, IsLooked, IsOpened, IsReached};
-ghost use Rattle.client_tree.specs.Tree.{IsOutcome, IsStored, IsWanted, table_texts};
+ghost use Rattle.client_tree.specs.Principals.{IsPending};
+ghost use Rattle.client_tree.specs.Tree.{IsOutcome, IsStored, IsWanted, principals_digest, principals_texts, table_texts};
 ghost use Rattle.client_tree.specs.Seen.{content_seen};
 
 use crate::contents::{Seen, read_content};

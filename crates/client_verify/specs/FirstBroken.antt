@@ -1,21 +1,26 @@
 -- The first broken rule of a reply: the least whose test doesn't hold.
 -- The rules stand in docs/RULES.md.
-use Rattle.std.specs.Prelude.{ℕ, ◌-◌, List, [], ◌∷◌, Option, Some, None, Result, Ok, Err, Bool, true, false, ◌&&◌, ◌||◌, ◌==◌, not, length, find}
+use Rattle.std.specs.Prelude.{◌≡◌, ℕ, ◌-◌, List, [], ◌∷◌, Option, Some, None, Result, Ok, Err, Bool, true, false, ◌&&◌, ◌||◌, ◌==◌, not, length, find}
 use Rattle.std.specs.List.{list_all, slice_get}
-use Rattle.std.specs.Option.{option_map, option_map_or}
+use Rattle.std.specs.Option.{option_and_then, option_map, option_map_or}
+use Rattle.std.specs.Result.{result_ok}
 use Rattle.std.specs.Str.{bytes_eq}
 use Rattle.layout.specs.declared.error.ReadError.{ReadError}
 use Rattle.layout.specs.Format.{whole}
+use Rattle.layout.specs.Types.{Bytes, Key, User}
 use Rattle.lms_sign.specs.Signature.{valid}
 use Rattle.version_order.specs.Structure.{Structure, structure}
 use Rattle.update_cert.specs.Cert.{cert}
 use Rattle.pending_list.specs.declared.signed.Signed.{Signed}
 use Rattle.pending_list.specs.Signed.{signed}
 use Rattle.pending_list.specs.Reply.{PendingItem, Reply, reply}
-use Rattle.principals.specs.Table.{genesis}
-use Rattle.reply_rules.specs.Lists.{Lists, lists_of}
-use Rattle.reply_rules.specs.Rules.{lists}
-use Rattle.reply_rules.specs.Broken.{least, rules_of}
+use Rattle.principals.specs.Table.{Table, key_of}
+use Rattle.update_cert.specs.Blocks.{Blocks}
+use Rattle.client_tree.specs.View.{View, handle_in}
+use Rattle.client_tree.specs.Principals.{IsNamed, IsPending}
+use Rattle.reply_rules.specs.Lists.{Lists, items, lists_of}
+use Rattle.reply_rules.specs.Rules.{lists, unknown_user}
+use Rattle.reply_rules.specs.Broken.{later_rules, least}
 use Rattle.reply_rules.specs.declared.rule.Rule.{Rule}
 use Rattle.reply_rules.specs.declared.rule.Rule.TheVariants as rule
 
@@ -114,14 +119,17 @@ abbrev pub ByTable : Blocks → Key → Lists → Option Rule → Type 0
 ByTable blocks key x None = (t : Table) (void : List ℕ) → IsRead blocks key x t void → lists_break t x ≡ None
 ByTable blocks key x (Some rule) = (t : Table) × (void : List ℕ) × IsRead blocks key x t void × (lists_break t x ≡ Some rule)
 
+-- the lists of the bytes of a reply
+abbrev pub lists_in : Bytes → Option Lists
+lists_in text = option_and_then lists_of (result_ok (whole reply text))
+
 -- what is broken first, or what is told after it
 abbrev pub OrElse : Option Rule → (Option Rule → Type 0) → Option Rule → Type 0
 OrElse None Later found = Later found
 OrElse (Some rule) Later found = found ≡ Some rule
 
--- The first broken rule of the bytes of a reply, of the block that was handed in last, which breaks this rule or none, and
--- of the lists by the blocks that are held then: the rules on the reply itself come first, then those on the block, and
--- those on the lists once the table of principals can be read.
-abbrev pub IsFirstBroken : Known → List ℕ → Option Rule → Blocks → Option Rule → Type 0
-IsFirstBroken k text block blocks found =
-    OrElse (reply_breaks k text) (OrElse block (λ rule. (x : Lists) → lists_in text ≡ Some x → ByTable blocks k.pinned x rule)) found
+-- The first broken rule of a reply and of the block that was handed in last: of the bytes, which break this rule or none
+-- of those on the reply itself; of the block, which breaks this one or none; and of the lists, by the blocks that are
+-- held then, once the table of principals can be read from them.
+abbrev pub IsFirstBroken : Option Rule → Option Rule → Blocks → Key → Lists → Option Rule → Type 0
+IsFirstBroken reply block blocks key x found = OrElse reply (OrElse block (ByTable blocks key x)) found

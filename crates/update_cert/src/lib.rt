@@ -22,5 +22,5 @@ pub use error::ApplyError;
 pub use laws::{table_in_trees, voids_in_turn};
 pub use part::{LaidPart, Part, Slot};
 pub use reading::{read_directory, read_file, read_inode, read_principals};
-pub use spot::{Spot, size_of_block};
+pub use spot::{Spot, is_table, size_of_block};
 pub use tables::{apply_table, table_after};

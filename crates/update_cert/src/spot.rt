@@ -30,7 +30,7 @@ pub enum Spot {
 }
 
 /// Whether the table of principals stands there.
-pub(crate) fn is_table(principal: Principal, i_number: INumber) -> bool
+pub fn is_table(principal: Principal, i_number: INumber) -> bool
     ensures { result ≡ ((principal == 0) && (i_number == 1)) }
 {
     principal.get() == 0 && i_number.get() == 1
