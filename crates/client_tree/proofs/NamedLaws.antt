@@ -14,7 +14,7 @@ use Rattle.itable.specs.declared.chunk.Pair.{Pair}
 use Rattle.itable.specs.declared.root.ListedChunk.{ListedChunk}
 use Rattle.itable.specs.Chunk.{Chunk, chunk, chunk_number}
 use Rattle.itable.specs.Root.{Root, root, chunk_at, number_of}
-use Rattle.itable.specs.ITable.{ITable, digest_at, digest_in, i_number_of}
+use Rattle.itable.specs.ITable.{ITable, digest_at, digest_in}
 use Rattle.update_cert.specs.Blocks.{Agrees, Blocks, chunk_held, inode_told, root_at, told_by}
 use Rattle.update_cert.specs.Spot.{lacks, takes, takes_chunk, takes_root}
 use Rattle.update_cert.specs.declared.spot.Spot.{Spot}
@@ -46,12 +46,13 @@ has_row key (x ∷ xs) n some = row_step x (row_at nat_cmp key xs n) (key x) n (
 
 -- ---- what a place takes
 
+held_so : (b : Bool) → not b ≡ false → b ≡ true
+held_so true is = refl
+held_so false is = absurd cc
+
 held_text : (blocks : Blocks) (s : Spot) (held : Option (List ℕ)) → not (option_map_or (takes blocks s) held false) ≡ false → (text : List ℕ) × (held ≡ Some text) × (takes blocks s text ≡ true)
 held_text blocks s None is = absurd cc
 held_text blocks s (Some text) is = (text, refl, held_so (takes blocks s text) is)
-where held_so : (b : Bool) → not b ≡ false → b ≡ true
-      held_so true is = refl
-      held_so false is = absurd cc
 
 some_taken : {T : Type 0} (test : T → Bool) (found : Option T) → option_map_or test found false ≡ true → (x : T) × (found ≡ Some x) × (test x ≡ true)
 some_taken test None is = absurd cc
@@ -82,8 +83,11 @@ chunk_has blocks digest there =
     let read = chunk_taken blocks held.0 held.2 in
     let x = read.0 in
     let parts = and_parts (x.number == 0) (list_any (λ p. p.i_number == 1) x.pairs) read.2 in
-    let p = has_row i_number_of x.pairs 1 parts.1 in
+    let p = has_row (λ (y : Pair). y.i_number) x.pairs 1 parts.1 in
     (x, p.0.digest, ap (option_and_then (λ text. result_ok (whole chunk text))) held.1 ∙ read.1, ap (option_map (λ (y : Pair). y.digest)) p.1)
+
+same_some : (a b : Option Digest) → Some a ≡ Some b → a ≡ b
+same_some a b e = cc
 
 -- user 0's i-table has an i-node at 1
 pub has_table : (blocks : Blocks) (handle : Handle) (t : ITable) → IsRead blocks 0 handle t → inode_told blocks 0 handle 1 ≡ Some (digest_at t 1) → (d : Digest) × (digest_at t 1 ≡ Some d)
@@ -94,9 +98,7 @@ has_table blocks handle t is told =
     subst (λ (o : Option Root). IsSomeAnd o (λ y. option_map (λ z. z.digest) (chunk_at y 0) ≡ Some c.digest)) (sym held) (ap (option_map (λ (z : ListedChunk). z.digest)) at) in
     let (x, d, chunk_is, digest_is) = chunk_has blocks c.digest (is.taken c.digest (spot.Chunk 0 0) (refl, (there, listed))) in
     let told_here : inode_told blocks 0 handle 1 ≡ Some (Some d) = rw held (rw (eq-eqb r.principal 0 of) (rw at (rw chunk_is (ap (λ (o : Option Digest). Some o) digest_is)))) in
-    (d, same_some (sym told ∙ told_here))
-where same_some : {a b : Option Digest} → Some a ≡ Some b → a ≡ b
-      same_some e = cc
+    (d, same_some (digest_at t 1) (Some d) (sym told ∙ told_here))
 
 -- ---- the table that a handle names
 

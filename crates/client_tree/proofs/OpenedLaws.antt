@@ -22,7 +22,7 @@ use Rattle.update_cert.proofs.ActLaws.{has_table_after}
 use Rattle.std.proofs.Math.Seq.{take-suc}
 use Rattle.pending_list.specs.Reply.{PendingItem}
 use Rattle.client_tree.specs.Tables.{IsOfTable, IsRead, LacksOfTable}
-use Rattle.client_tree.specs.View.{View, actor_of, after_items, comes_after, handle_of, named, tree, tree_before}
+use Rattle.client_tree.specs.View.{View, actor_of, after_items, comes_after, handle_of, is_superusers, named, tree, tree_before}
 use Rattle.client_tree.specs.Opened.{IsAskedByItem, IsOpened, IsPartAfter, IsReached, items_on, slot_after_items}
 
 -- ---- one operation more
@@ -127,3 +127,10 @@ of_item blocks x p before part earlier later item e read turn after lacks =
 pub handed_on : {X : Type 0} (r : Result X ApplyError) (v : ApplyError) (P : ApplyError → Type 0) → IsErrAnd r (λ e. e ≡ v) → P v → IfErr r P
 handed_on (Ok x) v P is holds = tt
 handed_on (Err e) v P is holds = subst P (sym is) holds
+
+-- ---- the table of principals
+
+-- user 0's operations come after the handle of its part
+pub superusers : (x : View) (items : List PendingItem) → filter (comes_after x 0) items ≡ filter is_superusers items
+unfolding comes_after
+superusers x items = refl

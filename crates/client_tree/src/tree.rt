@@ -27,7 +27,7 @@ use pending_list::raised_groups;
 use principals::Table;
 use std::alloc::Allocator;
 use std::marker::Model;
-use update_cert::{ApplyError, Blocks, LaidPart, Slot, Voids, is_table};
+use update_cert::{ApplyError, Blocks, LaidPart, Slot, Voids, has_digest, is_table};
 
 /// A principal's part, as it is stored.
 #[derive(Drop)]
@@ -150,7 +150,7 @@ fn with_principals<A: Allocator + Copy>(
     } = laid;
     let Laid { inode, mut blocks } = lay_principals(alloc, users)?;
     let digest = digest(&inode);
-    if before.get(INumber::table()) != Some(digest) {
+    if !has_digest(before, INumber::table(), digest) {
         texts.append(&mut blocks)?;
         texts.push(inode)?;
     }

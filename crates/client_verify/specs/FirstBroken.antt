@@ -1,6 +1,6 @@
 -- The first broken rule of a reply: the least whose test doesn't hold.
 -- The rules stand in docs/RULES.md.
-use Rattle.std.specs.Prelude.{◌≡◌, ℕ, ◌-◌, List, [], ◌∷◌, Option, Some, None, Result, Ok, Err, Bool, true, false, ◌&&◌, ◌||◌, ◌==◌, not, length, find}
+use Rattle.std.specs.Prelude.{◌≡◌, ℕ, ◌-◌, List, [], ◌∷◌, Option, Some, None, Result, Ok, Err, Bool, true, false, ◌&&◌, ◌||◌, ◌==◌, not, length, find, IsSomeAnd}
 use Rattle.std.specs.List.{list_all, slice_get}
 use Rattle.std.specs.Option.{option_and_then, option_map, option_map_or}
 use Rattle.std.specs.Result.{result_ok}
@@ -119,17 +119,17 @@ abbrev pub ByTable : Blocks → Key → Lists → Option Rule → Type 0
 ByTable blocks key x None = (t : Table) (void : List ℕ) → IsRead blocks key x t void → lists_break t x ≡ None
 ByTable blocks key x (Some rule) = (t : Table) × (void : List ℕ) × IsRead blocks key x t void × (lists_break t x ≡ Some rule)
 
--- the lists of the bytes of a reply
+-- the reply that the bytes spell, if they spell one, and its lists
+abbrev pub reply_in : Bytes → Option Reply
+reply_in text = result_ok (whole reply text)
+
 abbrev pub lists_in : Bytes → Option Lists
-lists_in text = option_and_then lists_of (result_ok (whole reply text))
+lists_in text = option_and_then lists_of (reply_in text)
 
--- what is broken first, or what is told after it
-abbrev pub OrElse : Option Rule → (Option Rule → Type 0) → Option Rule → Type 0
-OrElse None Later found = Later found
-OrElse (Some rule) Later found = found ≡ Some rule
-
--- The first broken rule of a reply and of the block that was handed in last: of the bytes, which break this rule or none
--- of those on the reply itself; of the block, which breaks this one or none; and of the lists, by the blocks that are
--- held then, once the table of principals can be read from them.
-abbrev pub IsFirstBroken : Option Rule → Option Rule → Blocks → Key → Lists → Option Rule → Type 0
-IsFirstBroken reply block blocks key x found = OrElse reply (OrElse block (ByTable blocks key x)) found
+-- The first broken rule of a reply and of the block that was handed in last is this one: of the bytes, which break this
+-- rule or none of those on the reply itself; of the block, which breaks this one or none; and of the lists, if there are
+-- any, by the blocks that are held then, once the table of principals can be read from them.
+abbrev pub IsFirstBroken : Option Rule → Option Rule → Blocks → Key → Option Lists → Rule → Type 0
+IsFirstBroken (Some first) block blocks key x rule = first ≡ rule
+IsFirstBroken None (Some first) blocks key x rule = first ≡ rule
+IsFirstBroken None None blocks key x rule = IsSomeAnd x (λ y. ByTable blocks key y (Some rule))

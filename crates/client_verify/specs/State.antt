@@ -34,21 +34,26 @@ use Rattle.client_verify.specs.declared.view.Stage.{Stage as Held}
 use Rattle.client_verify.specs.declared.view.Stage.TheVariants as stage
 use Rattle.client_verify.specs.FirstBroken.{Known}
 
+-- lists that break no rule by this table of principals, of which the own changes with these numbers have no effect
+pub record Good : Type 0 where
+  pub lists : Lists
+  pub table : Table
+  pub void : List ℕ
+
 -- A reply that breaks none of the rules on itself, of which a block is asked for: one of the table of principals; or,
--- once that is read and the lists break no rule by it, one that tells what the own operation makes. The own changes of the
--- table with these numbers have no effect.
+-- once that is read and the lists break no rule by it, one that tells what the own operation makes.
 pub data Checked : Type 0 where
   Reading : Reply → Asked → Checked
-  Writing : Lists → Table → List ℕ → Asked → Checked
+  Writing : Good → Asked → Checked
 
 abbrev pub asked_of : Checked → Asked
 asked_of (Reading r a) = a
-asked_of (Writing x t void a) = a
+asked_of (Writing x a) = a
 
 -- a reply under check in memory
 abbrev pub checked_in : {A : Type 0} → Held A → Checked
 checked_in (stage.Reading r a) = Reading r a
-checked_in (stage.Writing x t a) = Writing x t.table t.voids a
+checked_in (stage.Writing x a) = Writing x a
 
 -- a reply that breaks no rule by this table, the handle of the own part after the own operation, the records of the groups
 -- that it raises, and the changes that it loses
@@ -147,6 +152,10 @@ block_breaks blocks a (Some block) =
 -- the state with one block more
 abbrev pub holding : State → List ℕ → State
 holding s block = record s { blocks = keeping s.blocks block }
+
+-- the blocks with this one, if there is one
+abbrev pub blocks_with : State → Option (List ℕ) → List Block
+blocks_with s block = option_map_or (keeping s.blocks) block s.blocks
 
 -- ---- signing
 

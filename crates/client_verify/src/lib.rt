@@ -3,6 +3,7 @@
 #![tactic(auto)]
 
 mod asked;
+mod by_table;
 mod checking;
 mod client;
 mod error;

@@ -20,7 +20,7 @@ pub use cert::{CERT_SIZE, Cert, MOST_CHANGES};
 pub use change::{Action, CHANGE_SIZE, Change, Deed, TableChange};
 pub use error::ApplyError;
 pub use laws::{table_in_trees, voids_in_turn};
-pub use part::{LaidPart, Part, Slot};
+pub use part::{LaidPart, Part, Slot, has_digest};
 pub use reading::{read_directory, read_file, read_inode, read_principals};
 pub use spot::{Spot, is_table, size_of_block};
 pub use tables::{apply_table, table_after};

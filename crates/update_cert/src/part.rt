@@ -442,7 +442,7 @@ pub struct LaidPart<A: Allocator> {
 }
 
 /// Whether an i-table has this digest at an i-number.
-fn has_digest<A: Allocator>(table: &ITable<A>, i_number: INumber, digest: Digest) -> bool
+pub fn has_digest<A: Allocator>(table: &ITable<A>, i_number: INumber, digest: Digest) -> bool
     ensures { result ≡ has_digest table.now i_number digest }
 {
     match table.get(i_number) {

@@ -13,7 +13,7 @@ loop-place-preserved g c =
     let k = c.loop-place.place in
     let change = c.index-changes-place.result in
     let old = c.loop-place.lost.items in
-    elim c.if-not-has_effect.branch [
+    elim c.if-not-is_kept.branch [
       | then-not-is_kept+in_ok-push w ↦
           rw w.lost-is (lost_next vs table old w.push.new.self.items (lost_from 1 vs table cs) cs k change false c.loop-place-test.true c.index-changes-place.is (sym c.is_kept.ensures ∙ w.if-not-is_kept.true) w.in_ok-push.ensures.items c.loop-place.invariant)
       | else-not-is_kept w ↦

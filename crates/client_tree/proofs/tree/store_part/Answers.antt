@@ -1,5 +1,6 @@
-use Rattle.std.proofs.Common.{◌≡◌, ◌++◌, ℕ, List, map, sym, ap, subst, ◌∙◌, append_assoc}
+use Rattle.std.proofs.Common.{◌≡◌, ◌++◌, ℕ, List, Some, map, sym, ap, subst, ◌∙◌, append_assoc}
 use Rattle.std.specs.Vec.{vec_items}
+use Rattle.itable.specs.ITable.{digest_at}
 use Rattle.principals.specs.Table.{Table}
 use Rattle.update_cert.specs.Slots.{changed_texts}
 use Rattle.client_tree.specs.Tree.{principals_digest, principals_texts, table_texts}

@@ -4,7 +4,7 @@ use Rattle.principals.specs.Table.{Table}
 use Rattle.update_cert.specs.World.{Principals, Tree}
 use Rattle.update_cert.specs.Reading.{Reading}
 use Rattle.client_tree.specs.View.{after_items, is_superusers}
-use Rattle.client_tree.proofs.principals.after_others.Given as goal
+use Rattle.client_tree.proofs.named.after_others.Given as goal
 
 abbrev pub invariant-loop-item : goal.invariant-loop-item
 invariant-loop-item g l =
