@@ -1,5 +1,5 @@
 -- A client as a machine: its state, and what each call makes of it.
-use Rattle.std.specs.Prelude.{ℕ, ◌+◌, List, [], ◌++◌, Option, Some, None}
+use Rattle.std.specs.Prelude.{ℕ, ◌+◌, List, [], ◌++◌, fold, Option, Some, None}
 use Rattle.std.specs.Option.{option_map_or, option_and_then}
 use Rattle.std.specs.Result.{result_ok}
 use Rattle.std.specs.Ordering.{nat_cmp}
@@ -10,7 +10,7 @@ use Rattle.layout.specs.Types.{Digest, Handle, Key}
 use Rattle.lms_sign.specs.Signature.{signature_of}
 use Rattle.version_order.specs.declared.structure.GroupRecord.{GroupRecord}
 use Rattle.version_order.specs.Plan.{Plan}
-use Rattle.version_order.specs.Structure.{Structure, structure}
+use Rattle.version_order.specs.Structure.{Structure, structure, group_of}
 use Rattle.update_cert.specs.Change.{Change}
 use Rattle.update_cert.specs.Cert.{Cert, cert}
 use Rattle.update_cert.specs.Blocks.{Blocks}
@@ -145,16 +145,21 @@ holding s block = record s { blocks = keeping s.blocks block }
 
 -- ---- signing
 
--- the records of groups, which are carried on
+-- the records of groups of the structure that was signed last
 abbrev pub groups : Option (Signed Structure) → List GroupRecord
 groups last = option_map_or (λ z. z.value.groups) last []
 
--- the structure over a plan, with this handle, after the one that was signed last
-abbrev pub structure_over : List ℕ → Option (Signed Structure) → Plan → Structure
-structure_over handle last plan = record { plan = plan; handle = handle; groups = groups last }
+-- the old records with each of the new ones in its group's place, in turn
+abbrev pub with_records : List GroupRecord → List GroupRecord → List GroupRecord
+with_records old new = fold (with_row nat_cmp group_of) old new
 
+-- the structure over a plan, with this handle and these new records of groups, after the one that was signed last
+abbrev pub structure_over : Handle → List GroupRecord → Option (Signed Structure) → Plan → Structure
+structure_over handle records last plan = record { plan = plan; handle = handle; groups = with_records (groups last) records }
+
+-- no operation writes the state of a group yet
 abbrev pub next_structure : State → Ready → Structure
-next_structure s r = structure_over r.handle s.last r.lists.own.plan
+next_structure s r = structure_over r.handle [] s.last r.lists.own.plan
 
 -- a structure with its signature by this leaf
 abbrev pub signed_by : List ℕ → List ℕ → ℕ → Structure → Signed Structure

@@ -427,6 +427,7 @@ impl<A: Allocator + Copy> Client<A> {
             &self.key,
             self.leaf,
             ready.handle,
+            &[],
             self.last.as_ref(),
             ready.lists.own().plan(),
         )?;
