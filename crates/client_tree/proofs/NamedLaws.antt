@@ -1,6 +1,6 @@
 -- User 0's i-table has an i-node at its i-number 1, where its root and its chunks are what their places take.
-use Rattle.std.proofs.Common.{◌≡◌, ℕ, Bool, true, false, List, [], ◌∷◌, Option, Some, None, refl, sym, ap, subst, ◌∙◌, ◌⊎◌, inl, inr, arith}
-use Rattle.std.specs.Prelude.{◌==◌, ◌&&◌, ◌||◌, not, IsSomeAnd, if◌then◌else◌}
+use Rattle.std.proofs.Common.{◌≡◌, ℕ, Bool, true, false, List, [], ◌∷◌, Option, Some, None, Result, Ok, Err, refl, sym, ap, subst, ◌∙◌, ◌⊎◌, inl, inr, arith}
+use Rattle.std.specs.Prelude.{◌==◌, ◌&&◌, ◌||◌, not, IfOk, IsSomeAnd, OnOk, if◌then◌else◌}
 use Rattle.std.specs.List.{list_any}
 use Rattle.std.specs.Option.{option_and_then, option_map, option_map_or}
 use Rattle.std.specs.Ordering.{nat_cmp, is_eq}
@@ -133,3 +133,9 @@ lacks_table blocks handle error.Memory none = tt
 pub lacks_users : (blocks : Blocks) (handle : Handle) (before : ITable) (inode : Digest) (e : ApplyError) → IsRead blocks 0 handle before → digest_at before 1 ≡ Some inode → Lacks blocks (IsOfPrincipals blocks inode) e → Lacks blocks (IsOfNamed blocks handle) e
 lacks_users blocks handle before inode (error.Missing digest s) read at (is, none) = (inr (before, inode, read, at, is), none)
 lacks_users blocks handle before inode error.Memory read at none = tt
+
+-- what was read is named so
+pub named_read : {E : Type 0} (blocks : Blocks) (handle : Handle) (before : ITable) (inode : Digest) (r : Result Table E) → IsRead blocks 0 handle before → inode_told blocks 0 handle 1 ≡ Some (digest_at before 1) → digest_at before 1 ≡ Some inode
+    → IfOk r table.Fits → ((reads : Reading) → Agrees blocks reads → IfOk r (λ t. reads.content inode ≡ File (table.spell t))) → OnOk r (HasPrincipals blocks inode) → IfOk r (IsNamed blocks handle)
+named_read blocks handle before inode (Ok users) is told at fits content has = named_is blocks handle before inode users is told at fits content has
+named_read blocks handle before inode (Err e) is told at fits content has = tt

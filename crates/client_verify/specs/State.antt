@@ -1,5 +1,5 @@
 -- A client as a machine: its state, and what each call makes of it.
-use Rattle.std.specs.Prelude.{ℕ, ◌+◌, List, [], ◌∷◌, ◌++◌, Option, Some, None}
+use Rattle.std.specs.Prelude.{ℕ, ◌+◌, List, [], ◌∷◌, ◌++◌, fold, Option, Some, None}
 use Rattle.std.specs.Option.{option_map_or}
 use Rattle.std.specs.Ordering.{nat_cmp}
 use Rattle.layout.specs.Ascending.{with_row}
@@ -159,14 +159,13 @@ blocks_with s block = option_map_or (keeping s.blocks) block s.blocks
 
 -- ---- signing
 
--- the records of groups, which are carried on
+-- the records of groups of the structure that was signed last
 abbrev pub groups : Option (Signed Structure) → List GroupRecord
 groups last = option_map_or (λ z. z.value.groups) last []
 
--- the records with each of these in its group's place, in turn
-unfoldable pub with_records : List GroupRecord → List GroupRecord → List GroupRecord
-with_records old [] = old
-with_records old (r ∷ rs) = with_records (with_row nat_cmp group_of old r) rs
+-- the old records with each of the new ones in its group's place, in turn
+abbrev pub with_records : List GroupRecord → List GroupRecord → List GroupRecord
+with_records old new = fold (with_row nat_cmp group_of) old new
 
 -- the structure over a plan, with this handle and these new records of groups, after the one that was signed last
 abbrev pub structure_over : Handle → List GroupRecord → Option (Signed Structure) → Plan → Structure
