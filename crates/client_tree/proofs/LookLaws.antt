@@ -1,8 +1,7 @@
 -- What is read of an i-node is what its places take.
-use Rattle.std.proofs.Common.{◌≡◌, ℕ, Bool, true, false, ◌&&◌, List, [], ◌∷◌, Option, Some, None, Result, Ok, Err, refl, sym, ap, subst, ◌∙◌, inl, inr}
-use Rattle.std.specs.Prelude.{◌==◌, if◌then◌else◌, IsSome, IsSomeAnd, OnOk, slice_get, take}
+use Rattle.std.proofs.Common.{◌≡◌, ℕ, false, List, Option, Some, Result, Ok, Err, sym, ap, subst, ◌∙◌, inl, inr}
+use Rattle.std.specs.Prelude.{IsSome, IsSomeAnd, OnOk, slice_get, take}
 use Rattle.std.specs.Option.{option_map}
-use Rattle.std.proofs.lemmas.Bool.{and_parts, eqb-true}
 use Rattle.layout.specs.Types.{Digest, INumber, Principal}
 use Rattle.itable.specs.Inode.{Inode}
 use Rattle.itable.specs.declared.inode.Kind.{Kind}
@@ -11,17 +10,14 @@ use Rattle.update_cert.specs.Asked.{HasBlocks, IsBlock}
 use Rattle.update_cert.specs.Spot.{lacks}
 use Rattle.update_cert.specs.declared.spot.Spot.{Spot}
 use Rattle.update_cert.specs.declared.spot.Spot.TheVariants as spot
-use Rattle.itable.specs.ITable.{ITable, digest_at}
+use Rattle.itable.specs.ITable.{ITable}
 use Rattle.principals.specs.Table.{Table}
-use Rattle.update_cert.specs.Change.{Change}
-use Rattle.update_cert.specs.World.{Actor, is_table}
+use Rattle.update_cert.specs.World.{is_table}
 use Rattle.update_cert.specs.Reading.{Reading}
 use Rattle.update_cert.specs.Blocks.{Agrees}
-use Rattle.update_cert.specs.Part.{Laid, Part, Slot, content_of, part_of, slot_at, slot_of}
-use Rattle.update_cert.specs.Slots.{slot_after, slot_after_change, slot_changes}
-use Rattle.pending_list.specs.Reply.{PendingItem}
-use Rattle.client_tree.specs.View.{View, actor_of, handle_of, shown, tree}
-use Rattle.client_tree.specs.Opened.{HasLooked, IsOfInode, IsOpened, items_on, slot_after_items}
+use Rattle.update_cert.specs.Part.{Laid, Part, Slot, content_of, slot_at}
+use Rattle.client_tree.specs.View.{View, shown, tree}
+use Rattle.client_tree.specs.Opened.{HasLooked, IsOfInode, IsOpened}
 
 -- a block of an i-node is one of its kind's
 of_kind : (blocks : Blocks) (inode : Digest) (n : Inode) (kind : Kind) (digest : Digest) (s : Spot) → inode_at blocks inode ≡ Some n → IsBlock blocks kind inode digest s → n.kind ≡ kind

@@ -2,12 +2,12 @@
 use Rattle.std.proofs.Common.{◌≡◌, ℕ, suc, ◌+◌, ◌<◌, ◌≤◌, Bool, true, false, List, [], ◌∷◌, ◌++◌, Option, length, drop, refl, sym, ap, ◌∙◌, arith, append_assoc, add-one, drop-cons}
 use Rattle.std.specs.Prelude.{◌==◌, ◌&&◌, ◌||◌, not, slice_index_or, if◌then◌else◌}
 use Rattle.std.specs.List.{All, list_any}
-use Rattle.std.proofs.lemmas.Bool.{cases_eq, eq-eqb, eqb-true, ne_eqb}
+use Rattle.std.proofs.lemmas.Bool.{eq-eqb, eqb-true, ne_eqb}
 use Rattle.std.proofs.lemmas.List.{append-nil, drop_all}
 use Rattle.std.proofs.lemmas.List.Elements.{All-cons, All-head, All-nil, All-tail, All-weaker}
 use Rattle.layout.specs.Types.{Digest, Principal}
 use Rattle.update_cert.specs.Change.{Change}
-use Rattle.update_cert.specs.World.{Actor, Content, Tree, after_change, fits, has_effect, is_of, is_of_table, permitted, void_from}
+use Rattle.update_cert.specs.World.{Actor, Content, Tree, after_change, has_effect, is_of, is_of_table, permitted, void_from}
 use Rattle.update_cert.specs.Reading.{Reading, read_change, read_changes, void_read, void_of_read, void_of_table_read}
 use Rattle.client_tree.specs.Lost.{PartVoids, counts, is_kept, lost_from}
 

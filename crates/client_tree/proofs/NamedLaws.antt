@@ -1,6 +1,6 @@
 -- User 0's i-table has an i-node at its i-number 1, where its root and its chunks are what their places take.
-use Rattle.std.proofs.Common.{◌≡◌, ℕ, Bool, true, false, List, [], ◌∷◌, Option, Some, None, Result, Ok, Err, refl, sym, ap, subst, ◌∙◌, ◌⊎◌, inl, inr, arith}
-use Rattle.std.specs.Prelude.{◌==◌, ◌&&◌, ◌||◌, not, IfOk, IsSomeAnd, OnOk, if◌then◌else◌}
+use Rattle.std.proofs.Common.{◌≡◌, ℕ, Bool, true, false, List, [], ◌∷◌, Option, Some, None, Result, Ok, Err, refl, sym, ap, subst, ◌∙◌, inl, inr, arith}
+use Rattle.std.specs.Prelude.{◌==◌, ◌||◌, not, IfOk, IsSomeAnd, OnOk, if◌then◌else◌}
 use Rattle.std.specs.List.{list_any}
 use Rattle.std.specs.Option.{option_and_then, option_map, option_map_or}
 use Rattle.std.specs.Ordering.{nat_cmp, is_eq}
@@ -12,10 +12,10 @@ use Rattle.layout.specs.Format.{whole}
 use Rattle.layout.specs.Types.{Digest, Handle}
 use Rattle.itable.specs.declared.chunk.Pair.{Pair}
 use Rattle.itable.specs.declared.root.ListedChunk.{ListedChunk}
-use Rattle.itable.specs.Chunk.{Chunk, chunk, chunk_number}
+use Rattle.itable.specs.Chunk.{Chunk, chunk}
 use Rattle.itable.specs.Root.{Root, root, chunk_at, number_of}
 use Rattle.itable.specs.ITable.{ITable, digest_at, digest_in}
-use Rattle.update_cert.specs.Blocks.{Agrees, Blocks, chunk_held, inode_told, root_at, told_by}
+use Rattle.update_cert.specs.Blocks.{Agrees, Blocks, chunk_held, inode_told, root_at}
 use Rattle.update_cert.specs.Spot.{lacks, takes, takes_chunk, takes_root}
 use Rattle.update_cert.specs.declared.spot.Spot.{Spot}
 use Rattle.update_cert.specs.declared.spot.Spot.TheVariants as spot
@@ -26,7 +26,7 @@ use Rattle.update_cert.specs.Reading.{Reading}
 use Rattle.update_cert.specs.Asked.{HasPrincipals, IsOfPrincipals, Lacks}
 use Rattle.principals.specs.Table.{Table}
 use Rattle.principals.specs.TableText.{table}
-use Rattle.client_tree.specs.Tables.{IsOfTable, IsRead, LacksOfTable, table_at}
+use Rattle.client_tree.specs.Tables.{IsRead, LacksOfTable, table_at}
 use Rattle.client_tree.specs.Principals.{IsNamed, IsOfNamed}
 
 -- ---- the row of a key
@@ -86,6 +86,9 @@ chunk_has blocks digest there =
     let p = has_row (λ (y : Pair). y.i_number) x.pairs 1 parts.1 in
     (x, p.0.digest, ap (option_and_then (λ text. result_ok (whole chunk text))) held.1 ∙ read.1, ap (option_map (λ (y : Pair). y.digest)) p.1)
 
+told_here : (blocks : Blocks) (handle : Handle) (r : Root) (c : ListedChunk) (x : Chunk) (d : Digest) → root_at blocks handle ≡ Some r → r.principal ≡ 0 → chunk_at r 0 ≡ Some c → chunk_held blocks c.digest ≡ Some x → digest_in x.pairs 1 ≡ Some d → inode_told blocks 0 handle 1 ≡ Some (Some d)
+told_here blocks handle r c x d held of at chunk_is digest_is = rw held (rw (eq-eqb r.principal 0 of) (rw at (rw chunk_is (ap (λ (o : Option Digest). Some o) digest_is))))
+
 same_some : (a b : Option Digest) → Some a ≡ Some b → a ≡ b
 same_some a b e = cc
 
@@ -96,9 +99,9 @@ has_table blocks handle t is told =
     let (r, c, held, of, at) = root_has blocks handle there in
     let listed : IsSomeAnd (root_at blocks handle) (λ y. option_map (λ z. z.digest) (chunk_at y 0) ≡ Some c.digest) =
     subst (λ (o : Option Root). IsSomeAnd o (λ y. option_map (λ z. z.digest) (chunk_at y 0) ≡ Some c.digest)) (sym held) (ap (option_map (λ (z : ListedChunk). z.digest)) at) in
-    let (x, d, chunk_is, digest_is) = chunk_has blocks c.digest (is.taken c.digest (spot.Chunk 0 0) (refl, (there, listed))) in
-    let told_here : inode_told blocks 0 handle 1 ≡ Some (Some d) = rw held (rw (eq-eqb r.principal 0 of) (rw at (rw chunk_is (ap (λ (o : Option Digest). Some o) digest_is)))) in
-    (d, same_some (digest_at t 1) (Some d) (sym told ∙ told_here))
+    let (x, d, chunk_is, digest_is) = chunk_has blocks c.digest (is.taken c.digest (spot.Chunk 0 0) (refl, there, listed)) in
+    let there_told = told_here blocks handle r c x d held of at chunk_is digest_is in
+    (d, same_some (digest_at t 1) (Some d) (sym told ∙ there_told))
 
 -- ---- the table that a handle names
 

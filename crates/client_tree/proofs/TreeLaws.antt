@@ -1,5 +1,5 @@
 -- A part as it is stored.
-use Rattle.std.proofs.Common.{◌≡◌, ℕ, false, List, Option, Some, None, refl, sym, ap, subst, ◌∙◌}
+use Rattle.std.proofs.Common.{◌≡◌, ℕ, false, List, Option, Some, None, refl, sym, ap, ◌∙◌}
 use Rattle.std.specs.Option.{option_map}
 use Rattle.layout.specs.Types.{Digest, Principal}
 use Rattle.itable.specs.ITable.{ITable, digest_at}

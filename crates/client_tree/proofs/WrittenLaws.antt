@@ -1,11 +1,10 @@
 -- Each principal whose changes are permitted to the own operation is among those whose parts it may change.
-use Rattle.std.proofs.Common.{◌≡◌, ℕ, zero, suc, ◌<◌, ◌≤◌, ◌+◌, Bool, true, false, ◌&&◌, ◌||◌, List, [], ◌∷◌, ◌++◌, length, map, take, Option, None, refl, sym, ap, subst, ◌∙◌, arith}
+use Rattle.std.proofs.Common.{◌≡◌, ℕ, zero, suc, ◌<◌, ◌≤◌, Bool, true, false, ◌&&◌, ◌||◌, List, [], ◌∷◌, length, map, Option, None, refl, sym, ap, ◌∙◌, arith}
 use Rattle.std.specs.Prelude.{◌==◌, IsSomeAnd, nat_le, slice_index_or, if◌then◌else◌}
 use Rattle.std.specs.Int.{w8}
 use Rattle.std.specs.List.{All, list_any}
 use Rattle.std.proofs.lemmas.Bool.{and_parts, eq-eqb, eqb-true, leb-true}
-use Rattle.std.proofs.lemmas.List.{map-append}
-use Rattle.std.proofs.lemmas.List.Elements.{All-append, All-cons, All-head, All-nil, All-weaker}
+use Rattle.std.proofs.lemmas.List.Elements.{All-cons, All-nil, All-weaker}
 use Rattle.layout.specs.Format.{FitRows, after_row}
 use Rattle.layout.specs.Laws.{in_range}
 use Rattle.layout.specs.Types.{Digest, Principal}
@@ -17,7 +16,7 @@ use Rattle.pending_list.specs.Groups.{raised_groups, raises_at, table_version, t
 use Rattle.pending_list.proofs.GroupsLaws.{has_group}
 use Rattle.client_tree.specs.Lost.{PartVoids}
 use Rattle.client_tree.specs.View.{View, actor_of, acts_for, written}
-use Rattle.client_tree.proofs.LostLaws.{AreListed, IsListed, lists}
+use Rattle.client_tree.proofs.LostLaws.{AreListed, lists}
 
 -- ---- what a certificate has
 

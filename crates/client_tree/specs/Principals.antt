@@ -13,7 +13,7 @@ use Rattle.update_cert.specs.Asked.{IsOfPrincipals}
 use Rattle.update_cert.specs.Spot.{lacks}
 use Rattle.update_cert.specs.declared.spot.Spot.{Spot}
 use Rattle.client_tree.specs.Tables.{IsOfTable, IsRead}
-use Rattle.client_tree.specs.View.{View, actor_of, handle_of, tree, tree_before}
+use Rattle.client_tree.specs.View.{View, actor_of, tree, tree_before}
 
 -- The digest is asked for to read the table: that of a block of user 0's i-table with this handle, or, once that is read,
 -- that of the i-node which it has at i-number 1, or of a block of the table.

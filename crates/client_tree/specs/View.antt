@@ -1,8 +1,8 @@
 -- The tree of a view: what the handles of its structures name, and on it the operations that are pending.
 -- How it is read stands in docs/RULES.md.
-use Rattle.std.specs.Prelude.{ℕ, ◌==◌, Bool, false, ◌&&◌, List, [], ◌∷◌, ◌++◌, Option, Some, None, find, filter, nat_le, nat_lt, if◌then◌else◌}
+use Rattle.std.specs.Prelude.{ℕ, ◌==◌, Bool, false, ◌&&◌, List, [], ◌∷◌, Option, Some, None, find, filter, nat_le, nat_lt, if◌then◌else◌}
 use Rattle.std.specs.Option.{option_map, option_map_or}
-use Rattle.layout.specs.Types.{Group, Handle, Key, Principal, User, Version}
+use Rattle.layout.specs.Types.{Group, Handle, Key, Principal, User}
 use Rattle.principals.specs.Table.{Table, is_member}
 use Rattle.version_order.specs.declared.structure.GroupRecord.{GroupRecord}
 use Rattle.version_order.specs.Vector.{version_of}

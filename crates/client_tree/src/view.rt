@@ -153,6 +153,23 @@ impl<'a, A: Allocator> View<'a, A> {
     }
 }
 
+/// The handle of a group's newest record, if there is one.
+fn group_handle<A: Allocator>(group: Group, structures: &[Signed<Structure<A>>]) -> Option<Digest>
+    ensures { result ≡ option_map (λ r. r.handle) (newest group structures.now) }
+{
+    newest(group, structures).map(|row| row.handle)
+}
+
+/// The handle of a user's structure, if there is one.
+fn user_handle<A: Allocator>(
+    principal: Principal,
+    structures: &[Signed<Structure<A>>],
+) -> Option<Digest>
+    ensures { result ≡ option_map (λ z. z.value.handle) (structure_of principal structures.now) }
+{
+    structure_of(principal, structures).map(|shown| shown.value.handle())
+}
+
 /// The handle on which a principal's part stands, by these structures. The error is Memory.
 pub(crate) fn handle_in<A: Allocator + Copy>(
     alloc: A,
@@ -163,8 +180,8 @@ pub(crate) fn handle_in<A: Allocator + Copy>(
     ensures { IfOk result (λ handle. handle ≡ handle_in key.now structures.now principal) }
 {
     let named = match group_of(principal) {
-        Some(group) => newest(group, structures).map(|row| row.handle),
-        None => structure_of(principal, structures).map(|shown| shown.value.handle()),
+        Some(group) => group_handle(group, structures),
+        None => user_handle(principal, structures),
     };
     match named {
         Some(handle) => Ok(handle),

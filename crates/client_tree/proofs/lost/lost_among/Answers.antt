@@ -1,5 +1,4 @@
-use Rattle.std.proofs.Common.{◌≡◌, true, false, refl, sym, ap, ◌∙◌}
-use Rattle.std.specs.Vec.{vec_items}
+use Rattle.std.proofs.Common.{true, false, refl, sym, ◌∙◌}
 use Rattle.client_tree.specs.Lost.{lost_from}
 use Rattle.client_tree.proofs.LostLaws.{lost_next, lost_all}
 use Rattle.client_tree.proofs.lost.lost_among.Goals.{then-not-is_kept+in_ok-push, else-not-is_kept}

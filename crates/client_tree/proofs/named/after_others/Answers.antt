@@ -1,8 +1,8 @@
-use Rattle.std.proofs.Common.{◌≡◌, ◌<◌, ◌+◌, ◌++◌, ℕ, List, [], ◌∷◌, Some, length, take, true, false, refl, sym, ap, subst, ◌∙◌, rules}
+use Rattle.std.proofs.Common.{◌≡◌, ◌<◌, ◌+◌, ◌++◌, List, [], ◌∷◌, Some, length, take, true, false, sym, ap, subst, rules}
 use Rattle.std.proofs.lemmas.List.{take_all}
 use Rattle.std.specs.Prelude.{filter, slice_index_or}
 use Rattle.update_cert.specs.Cert.{Cert}
-use Rattle.update_cert.specs.World.{Content, Principals}
+use Rattle.update_cert.specs.World.{Principals}
 use Rattle.update_cert.specs.Reading.{after_read}
 use Rattle.pending_list.specs.Reply.{PendingItem}
 use Rattle.client_tree.specs.View.{actor_of, after_items, is_superusers}

@@ -1,5 +1,4 @@
-use Rattle.std.proofs.Common.{◌≡◌, ℕ, Option, Some, None, sym, ap, subst, ◌∙◌}
-use Rattle.layout.specs.Types.{Digest}
+use Rattle.std.proofs.Common.{◌≡◌, ℕ, Some, None, sym, ap, subst, ◌∙◌}
 use Rattle.itable.specs.ITable.{digest_at}
 use Rattle.update_cert.specs.Blocks.{inode_told}
 use Rattle.client_tree.specs.Tables.{IsRead}

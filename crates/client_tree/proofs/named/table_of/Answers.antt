@@ -1,12 +1,11 @@
 use Rattle.std.proofs.Common.{◌≡◌, ℕ, List, Some, refl, sym, ap, subst, ◌∙◌}
-use Rattle.std.specs.Prelude.{filter}
 use Rattle.layout.specs.Types.{Handle}
 use Rattle.update_cert.specs.Cert.{Cert}
 use Rattle.update_cert.specs.World.{Principals}
 use Rattle.update_cert.specs.Reading.{Reading, after_read, void_of_table_read}
 use Rattle.update_cert.specs.Asked.{Lacks}
 use Rattle.pending_list.specs.Reply.{PendingItem}
-use Rattle.client_tree.specs.View.{View, actor_of, after_items, handle_in, is_superusers, named, tree_before}
+use Rattle.client_tree.specs.View.{View, actor_of, after_items, handle_in, named, tree_before}
 use Rattle.client_tree.specs.Principals.{IsNamed, IsOfNamed}
 use Rattle.client_tree.proofs.OpenedLaws.{handed_on, superusers}
 use Rattle.client_tree.proofs.named.table_of.Goals as goal
@@ -35,12 +34,15 @@ returns-clause-table g c =
     let user = ap (λ (k : Cert). k.user) (sym cert) in
     let number = ap (λ (k : Cert). k.number) (sym cert) in
     let before : (reads : Reading) → tree_before reads users x 0 1 ≡ Some (Principals c.in_ok-table.table) = λ reads.
-        ap (λ (is : List PendingItem). after_items reads x.table is (named reads users x) 0 1) (superusers x others) ∙ c.in_ok-table.ensures reads x.table (named reads users x) refl in
-    (users, subst (λ (h : Handle). IsNamed held h users) handle c.in_ok-named.ensures.named, record {
-      after = λ reads.
-          subst (λ (k : Cert). after_read reads (actor_of x.table own) k.changes (tree_before reads users x) 0 1 ≡ Some (Principals x.table)) cert
-          (c.in_ok-voids.ensures.table reads (tree_before reads users x) (actor_of x.table own) (before reads) user number);
-      void = λ reads.
-          c.in_ok-voids.ensures.voids reads (tree_before reads users x) (actor_of x.table own) (before reads) user number
-          ∙ ap (λ (k : Cert). void_of_table_read reads (actor_of x.table own) k.changes (tree_before reads users x)) cert;
-    })
+    ap (λ (is : List PendingItem). after_items reads x.table is (named reads users x) 0 1) (superusers x others) ∙ c.in_ok-table.ensures reads x.table (named reads users x) refl in (
+      users,
+      subst (λ (h : Handle). IsNamed held h users) handle c.in_ok-named.ensures.named,
+      record {
+        after = λ reads.
+            subst (λ (k : Cert). after_read reads (actor_of x.table own) k.changes (tree_before reads users x) 0 1 ≡ Some (Principals x.table)) cert
+            (c.in_ok-voids.ensures.table reads (tree_before reads users x) (actor_of x.table own) (before reads) user number);
+        void = λ reads.
+            c.in_ok-voids.ensures.voids reads (tree_before reads users x) (actor_of x.table own) (before reads) user number
+            ∙ ap (λ (k : Cert). void_of_table_read reads (actor_of x.table own) k.changes (tree_before reads users x)) cert;
+      },
+    )

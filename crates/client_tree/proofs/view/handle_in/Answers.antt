@@ -1,4 +1,4 @@
-use Rattle.std.proofs.Common.{◌≡◌, Option, Some, true, false, sym, ap, ◌∙◌, rules}
+use Rattle.std.proofs.Common.{◌≡◌, ℕ, Some, true, false, sym, ap, ◌∙◌, rules}
 use Rattle.std.specs.Prelude.{nat_lt}
 use Rattle.std.specs.Option.{option_map}
 use Rattle.client_tree.specs.View.{newest, structure_of}
@@ -14,10 +14,12 @@ returns-in-Some-named g c =
     elim c.match-group_of.branch [
       | in-Some w ↦
           let group : nat_lt p 64 ≡ false = search rules in
-          let there : option_map (λ r. r.handle) (newest p zs) ≡ Some c.in-Some-named.handle = search rules in
+          let same : w.in-Some.group ≡ p = search rules in
+          let there : option_map (λ r. r.handle) (newest p zs) ≡ Some c.in-Some-named.handle =
+          ap (λ (n : ℕ). option_map (λ r. r.handle) (newest n zs)) (sym same) ∙ sym w.group_handle-named.ensures ∙ sym w.named-is ∙ c.in-Some-named.is in
           of_group key zs p c.in-Some-named.handle group there
       | in-None w ↦
           let user : nat_lt p 64 ≡ true = search rules in
-          let there : option_map (λ z. z.value.handle) (structure_of p zs) ≡ Some c.in-Some-named.handle = search rules in
+          let there : option_map (λ z. z.value.handle) (structure_of p zs) ≡ Some c.in-Some-named.handle = sym w.user_handle-named.ensures ∙ sym w.named-is ∙ c.in-Some-named.is in
           of_user key zs p c.in-Some-named.handle user there
     ]

@@ -1,11 +1,8 @@
-use Rattle.std.proofs.Common.{◌≡◌, ℕ, Option, Some, None, false, sym, ap, subst, ◌∙◌}
-use Rattle.std.specs.Prelude.{IfOk, OnOk}
+use Rattle.std.proofs.Common.{◌≡◌, Option, Some, None, false, sym, ap, subst, ◌∙◌}
+use Rattle.std.specs.Prelude.{IfOk}
 use Rattle.std.specs.Option.{option_map}
-use Rattle.layout.specs.Types.{Digest}
 use Rattle.update_cert.specs.World.{Content, is_table}
-use Rattle.update_cert.specs.Part.{Laid, Changed, Slot, slot_at, slot_in}
-use Rattle.update_cert.specs.Spot.{lacks}
-use Rattle.client_tree.specs.Opened.{HasLooked, IsOfInode}
+use Rattle.update_cert.specs.Part.{Laid, Changed, slot_at, slot_in}
 use Rattle.client_tree.specs.Seen.{content_seen}
 use Rattle.client_tree.proofs.LookLaws.{look_stands, looked}
 use Rattle.client_tree.proofs.view.View.look.Goals as goal

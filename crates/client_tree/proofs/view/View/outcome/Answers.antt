@@ -1,12 +1,11 @@
-use Rattle.std.proofs.Common.{◌≡◌, ◌<◌, ◌+◌, ◌++◌, ℕ, List, [], ◌∷◌, length, map, take, refl, sym, ap, subst, ◌∙◌}
+use Rattle.std.proofs.Common.{◌≡◌, ◌<◌, ◌++◌, ℕ, List, [], ◌∷◌, length, map, take, sym, ap, subst, ◌∙◌}
 use Rattle.std.proofs.lemmas.List.{map-append, take_all}
 use Rattle.std.proofs.lemmas.List.Elements.{All-append, All-cons, All-nil}
 use Rattle.std.specs.Prelude.{slice_index_or}
 use Rattle.std.specs.Int.{w8}
 use Rattle.std.specs.List.{All}
 use Rattle.layout.specs.Laws.{in_range}
-use Rattle.layout.specs.Types.{Digest, Principal}
-use Rattle.update_cert.specs.Change.{Change}
+use Rattle.layout.specs.Types.{Principal}
 use Rattle.principals.specs.Table.{Table}
 use Rattle.update_cert.specs.World.{Tree}
 use Rattle.update_cert.specs.Reading.{Reading}
