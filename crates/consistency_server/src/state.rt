@@ -264,10 +264,7 @@ impl<A: Allocator + Copy> State<A> {
         )?);
         let payload = reply.copy(alloc)?;
         let placement = Placement::new(item, entry, reply);
-        Ok(Judged::Happens(
-            Change::Places(table, vector, placement),
-            payload,
-        ))
+        Ok(Judged::Happens(Change::Places(table, vector, placement), payload))
     }
 
     /// What a COMMIT leads to.

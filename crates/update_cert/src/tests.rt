@@ -173,7 +173,11 @@ fn table_of_three_operations(rt: HostRuntime) {
     let others = cert_of(&rt, one, 1, &dropped);
     applied(&rt, &mut table, &others, &[1, 2]);
     check_table(&rt, &table, b"\x40\x01\0\0\0\x01\0\0\0\0");
-    assert!(rt; table_after(rt.alloc(), &table, &others).expect(&rt, "memory").is_none());
+    assert!(rt;
+        table_after(rt.alloc(), &table, &others)
+            .expect(&rt, "memory")
+            .is_none()
+    );
     let second = cert_of(&rt, User::superuser(), 2, &dropped);
     let after = table_after(rt.alloc(), &table, &second).expect(&rt, "memory");
     check_table(
