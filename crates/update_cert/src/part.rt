@@ -215,7 +215,8 @@ impl<A: Allocator + Copy> Part<A> {
         ensures principal { OnOk result (self.new.table.principal ≡ self.old.table.principal) }
         ensures missing { IfErr result (LacksAt (B.held blocks.now) self.old i_number false) }
     {
-        if is_table(self.principal(), i_number) {
+        let principal = self.principal();
+        if is_table(principal, i_number) {
             return Ok(false);
         }
         if !self.is_file(alloc, blocks, i_number)? {

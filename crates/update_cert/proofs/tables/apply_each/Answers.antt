@@ -40,10 +40,10 @@ loop-place-preserved g c =
     record {
       table = table_next user number (take k cs) (take (k + 1) cs) change first old new front inv.table moved;
       voids = table_voids_next user number k (take k cs) (take (k + 1) cs) change first old c.loop-place.numbers.items c.if-branch.numbers.items c.in_ok-apply_change.field-0 front long inv.table told inv.voids
-      (elim c.if-branch.branch [
-        | then-branch+in_ok-push w ↦ pushed c.loop-place.numbers.items c.if-branch.numbers.items (k + 1) c.in_ok-apply_change.field-0 w.if-branch.true (ap vec_items w.numbers-is ∙ w.in_ok-push.ensures.items)
-        | else-branch w ↦ not_pushed c.loop-place.numbers.items c.if-branch.numbers.items (k + 1) c.in_ok-apply_change.field-0 w.if-branch.false (ap vec_items w.numbers-is)
-      ]);
+          (elim c.if-branch.branch [
+            | then-branch+in_ok-push w ↦ pushed c.loop-place.numbers.items c.if-branch.numbers.items (k + 1) c.in_ok-apply_change.field-0 w.if-branch.true (ap vec_items w.numbers-is ∙ w.in_ok-push.ensures.items)
+            | else-branch w ↦ not_pushed c.loop-place.numbers.items c.if-branch.numbers.items (k + 1) c.in_ok-apply_change.field-0 w.if-branch.false (ap vec_items w.numbers-is)
+          ]);
       fits = λ fits none.
           done.fits (inv.fits fits none)
           (subst (λ (n : ℕ). NoneAfter n old) (sym c.number-number.ensures) (subst (NoneAfter number) (sym inv.table) (none_after user number (take k cs) first none)));
