@@ -19,6 +19,7 @@ use Rattle.update_cert.specs.Part.{Part, Changed, IsPart, slot_at}
 use Rattle.update_cert.specs.Slots.{slot_digest, directory_digest, changed_texts, has_digest, IsReadBack}
 use Rattle.update_cert.specs.declared.spot.Spot.{Spot}
 use Rattle.client_tree.specs.View.{View, lost as lost_of, tree, written}
+use Rattle.client_tree.specs.Principals.{IsPending}
 use Rattle.client_tree.specs.Opened.{IsOpened, IsReached}
 
 -- the digest that a directory has which changed stands for the directory
@@ -71,12 +72,15 @@ pub record IsStored (blocks : Blocks) (x : View) (s : Stored) : Type 0 where
   -- that changed, and of the root
   pub stored : s.texts ≡ changed_texts before part.table part.opened ++ principals_texts before s.principal x.table ++ table_texts before table
 
--- What the own operation makes of the view's tree, where user 0's handle names this table of principals: each part that it
--- may change, as it is stored, and the numbers of the changes that have no effect.
-pub record IsOutcome (blocks : Blocks) (users : Table) (x : View) (parts : List Stored) (numbers : List ℕ) : Type 0 where
+-- What the own operation makes of the view's tree: each part that it may change, as it is stored.
+pub record IsOutcome (blocks : Blocks) (x : View) (parts : List Stored) : Type 0 where
   pub principals : map (λ s. s.principal) parts ≡ written x
   pub stored : All (IsStored blocks x) parts
-  pub lost : (reads : Reading) → Agrees blocks reads → numbers ≡ lost_of reads users x
+
+-- These are the numbers of the own changes that have no effect, whatever stands for the digests of which no block tells,
+-- where these are those of the changes of the table of principals among them.
+abbrev pub IsLost : Blocks → View → List ℕ → List ℕ → Type 0
+IsLost blocks x void numbers = (users : Table) → IsPending users x void → (reads : Reading) → Agrees blocks reads → numbers ≡ lost_of reads users x
 
 -- a block by which a part is opened that the own operation may change
 abbrev pub IsWanted : Blocks → View → Digest → Spot → Type 0

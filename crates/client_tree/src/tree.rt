@@ -13,8 +13,7 @@ ghost use Rattle.update_cert.specs.Blocks.{Agrees, Blocks as Held};
 ghost use Rattle.update_cert.specs.Asked.{Lacks};
 ghost use Rattle.client_tree.specs.View.{View as ViewModel, actor_of, shown, tree_before, written};
 ghost use Rattle.client_tree.specs.Opened.{HasLooked, IsLooked, IsOpened, IsReached};
-ghost use Rattle.client_tree.specs.Principals.{IsPending};
-ghost use Rattle.client_tree.specs.Tree.{IsOutcome, IsStored, IsWanted, principals_digest, principals_texts, table_texts};
+ghost use Rattle.client_tree.specs.Tree.{IsLost, IsOutcome, IsStored, IsWanted, principals_digest, principals_texts, table_texts};
 ghost use Rattle.client_tree.specs.Seen.{content_seen};
 
 use crate::contents::{Seen, read_content};
@@ -249,8 +248,8 @@ impl<'a, A: Allocator + Copy> View<'a, A> {
         blocks: &B,
         voids: &Voids<A>,
     ) -> Result<Outcome<A>, ApplyError>
-        ensures outcome { (users : Principals) → IsPending users self.now voids.now
-            → IfOk result (λ o. IsOutcome (B.held blocks.now) users self.now o.parts.items o.lost.items) }
+        ensures outcome { IfOk result (λ o. IsOutcome (B.held blocks.now) self.now o.parts.items) }
+        ensures lost { IfOk result (λ o. IsLost (B.held blocks.now) self.now voids.now o.lost.items) }
         // Missing names a digest that a spot asks for, and of which no text is held that the spot takes.
         ensures missing { IfErr result (Lacks (B.held blocks.now) (IsWanted (B.held blocks.now) self.now)) }
     {

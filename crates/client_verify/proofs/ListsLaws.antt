@@ -1,5 +1,5 @@
 -- The structures of a reply ascend by user.
-use Rattle.std.proofs.Common.{◌≡◌, ℕ, Bool, true, false, ◌&&◌, List, [], ◌∷◌, Option, Some, None, map, refl, arith}
+use Rattle.std.proofs.Common.{◌≡◌, ℕ, Bool, true, false, ◌&&◌, List, [], ◌∷◌, ◌++◌, Option, Some, None, map, refl, ap, arith}
 use Rattle.std.specs.Prelude.{nat_lt}
 use Rattle.std.specs.Ordering.{nat_cmp, is_lt}
 use Rattle.std.proofs.lemmas.Bool.Decides.{nat_tests}
@@ -7,6 +7,10 @@ use Rattle.layout.specs.Ascending.{Ascends}
 use Rattle.version_order.specs.Structure.{Structure}
 use Rattle.pending_list.specs.declared.signed.Signed.{Signed}
 use Rattle.pending_list.specs.Reply.{user_of}
+use Rattle.std.specs.Prelude.{IsSome}
+use Rattle.std.specs.Option.{option_map}
+use Rattle.pending_list.specs.Reply.{PendingItem, Reply}
+use Rattle.reply_rules.specs.Lists.{lists_of, split_last}
 use Rattle.reply_rules.specs.Rules.{ascends, ascends_after}
 
 both : (a b : Bool) → (a && b) ≡ true → (a ≡ true) × (b ≡ true)
@@ -26,3 +30,20 @@ pub ascend : (zs : List (Signed Structure)) → ascends (map user_of zs) ≡ tru
 unfolding Ascends
 ascend [] h = tt
 ascend (z ∷ zs) h = (refl, rises z zs h)
+
+-- ---- the lists of a reply
+
+pub last_of : {X : Type 0} (xs : List X) → IsSome (split_last xs) → (front : List X) × (own : X) × (xs ≡ front ++ own ∷ [])
+last_of [] some = absurd cc
+last_of (x ∷ []) some = ([], x, refl)
+last_of (x ∷ y ∷ ys) some =
+    let rest = last_of (y ∷ ys) refl in
+    (x ∷ rest.0, rest.1, ap (λ (zs : List _). x ∷ zs) rest.2)
+
+mapped : {A B : Type 0} (f : A → B) (o : Option A) → IsSome (option_map f o) → IsSome o
+mapped f None some = absurd cc
+mapped f (Some a) some = refl
+
+-- a reply that has lists ends with the own operation
+pub ends : (r : Reply) → IsSome (lists_of r) → (front : List PendingItem) × (own : PendingItem) × (r.pending ≡ front ++ own ∷ [])
+ends r some = last_of r.pending (mapped _ (split_last r.pending) some)

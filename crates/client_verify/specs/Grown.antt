@@ -14,10 +14,10 @@ use Rattle.update_cert.specs.Blocks.{Blocks, Agrees}
 use Rattle.update_cert.specs.Spot.{lacks}
 use Rattle.reply_rules.specs.Lists.{Lists}
 use Rattle.client_tree.specs.View.{View, handle_in, shown}
-use Rattle.client_tree.specs.Principals.{IsOfNamed, IsPending}
+use Rattle.client_tree.specs.Principals.{IsOfNamed}
 use Rattle.client_verify.specs.FirstBroken.{ByTable, IsRead, lists_break, view_over}
 use Rattle.client_tree.specs.Opened.{HasLooked, IsLooked}
-use Rattle.client_tree.specs.Tree.{IsOutcome, IsWanted, Stored}
+use Rattle.client_tree.specs.Tree.{IsLost, IsOutcome, IsWanted, Stored}
 use Rattle.client_verify.specs.Judged.{record_over}
 use Rattle.client_tree.specs.Seen.{content_seen}
 use Rattle.client_tree.specs.declared.contents.Seen.{Seen}
@@ -47,8 +47,7 @@ IsMade plan own groups m =
 abbrev pub IsWritten : {A : Type 0} → Blocks → View → List ℕ → Written A → Type 0
 IsWritten blocks x void (written.Lacks a) = IsWanted blocks x a.digest a.spot × (lacks blocks a.digest a.spot ≡ true)
 IsWritten blocks x void (written.Parts m) =
-    (own : Stored) × (groups : List Stored) × IsMade x.own.plan own groups m
-    × ((users : Table) → IsPending users x void → IsOutcome blocks users x (own ∷ groups) m.lost.items)
+    (own : Stored) × (groups : List Stored) × IsMade x.own.plan own groups m × IsOutcome blocks x (own ∷ groups) × IsLost blocks x void m.lost.items
 
 abbrev pub IsReached : {A : Type 0} → Blocks → Key → Lists → Reached A → Type 0
 IsReached blocks key x (reached.Lacks a) = IsOfNamed blocks (handle_in key x.structures 0) a.digest a.spot × (lacks blocks a.digest a.spot ≡ true)

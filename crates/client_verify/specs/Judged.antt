@@ -13,8 +13,8 @@ use Rattle.reply_rules.specs.Lists.{Lists, lists_of}
 use Rattle.client_tree.specs.Held.{held, keeping}
 use Rattle.layout.specs.Types.{Key}
 use Rattle.client_tree.specs.View.{View, handle_in}
-use Rattle.client_tree.specs.Principals.{IsOfNamed, IsPending}
-use Rattle.client_tree.specs.Tree.{IsOutcome, IsWanted, Stored}
+use Rattle.client_tree.specs.Principals.{IsOfNamed}
+use Rattle.client_tree.specs.Tree.{IsLost, IsOutcome, IsWanted, Stored}
 use Rattle.client_verify.specs.declared.asked.Asked.{Asked}
 use Rattle.client_verify.specs.declared.step.Step.{Step}
 use Rattle.client_verify.specs.declared.step.Step.TheVariants.{Need, Store, Broken}
@@ -39,7 +39,7 @@ Goes s x (Need digest) new =
 Goes s x (Store texts) new =
     (own : Stored) × (groups : List Stored) × (lost : List ℕ)
     × (new ≡ record s { checked = None; accepted = Some (record { lists = x.lists; table = x.table; handle = own.handle; records = map (record_over x.lists.own.plan) groups; lost = lost }) })
-    × ((users : Table) → IsPending users (view_of s.pinned x) x.void → IsOutcome (held s.blocks) users (view_of s.pinned x) (own ∷ groups) lost)
+    × IsOutcome (held s.blocks) (view_of s.pinned x) (own ∷ groups) × IsLost (held s.blocks) (view_of s.pinned x) x.void lost
     × (map vec_items texts.items ≡ own.texts ++ flat_map (λ g. g.texts) groups)
 Goes s x (Broken rule) new = ⊥
 

@@ -67,22 +67,25 @@ pub lost_among-requires : goal.lost_among-requires
 lost_among-requires g c = record { few = rw (c.changes-changes.ensures, c.cert.ensures.same) (in_range w8 0 16 _ c.cert.ensures.fits.0.0.1.1.1.1.0).1 }
 
 pub returns-clause-outcome : goal.returns-clause-outcome
-returns-clause-outcome g c = λ users is.
-    let held = g.B.Blocks.held c.args.blocks.now in
+returns-clause-outcome g c =
     let x = c.args.self.now in
     let inv = c.loop-principal.invariant in
     let principals : c.deref-principal-items.result.now ≡ written x = c.deref-principal-items.ensures.value ∙ c.in_ok-written.ensures in
     let past = rw principals at c.loop-principal-test.false in
     let all : take c.loop-principal.principal-index (written x) ≡ written x = take_all c.loop-principal.principal-index (written x) past in
-    record {
-      principals = inv.principals ∙ all;
-      stored = inv.stored;
-      lost = λ reads agrees.
-          let own = c.own.result.now in
-          let vs = c.loop-principal.of_parts.items in
-          let table = c.args.voids.now in
-          let cs : c.changes-changes.result.now ≡ x.own.cert.changes = c.changes-changes.ensures ∙ ap (λ (k : Cert). k.changes) c.cert.ensures.same ∙ ap (λ (i : PendingItem). i.cert.changes) c.own.ensures in
-          let fits : cert.Fits x.own.cert = subst (λ (i : PendingItem). cert.Fits i.cert) c.own.ensures c.cert.ensures.fits.0.0.1 in
-          c.in_ok-lost.ensures ∙ ap (λ (ps : List PartVoids). lost_from 1 ps c.numbers.result.now c.changes-changes.result.now) c.deref.ensures.value ∙ ap (λ (ns : List ℕ). lost_from 1 vs ns c.changes-changes.result.now) c.numbers.ensures ∙ ap (lost_from 1 vs table) cs
-          ∙ lost_is_void reads (actor_of x.table x.own) vs table x.own.cert.changes (tree_before reads users x) (inv.voids reads users agrees) (is.void reads) (are_listed x vs fits (inv.parts ∙ all));
-    }
+    record { principals = inv.principals ∙ all; stored = inv.stored }
+
+pub returns-clause-lost : goal.returns-clause-lost
+returns-clause-lost g c = λ users is reads agrees.
+    let x = c.args.self.now in
+    let inv = c.loop-principal.invariant in
+    let principals : c.deref-principal-items.result.now ≡ written x = c.deref-principal-items.ensures.value ∙ c.in_ok-written.ensures in
+    let past = rw principals at c.loop-principal-test.false in
+    let all : take c.loop-principal.principal-index (written x) ≡ written x = take_all c.loop-principal.principal-index (written x) past in
+    let own = c.own.result.now in
+    let vs = c.loop-principal.of_parts.items in
+    let table = c.args.voids.now in
+    let cs : c.changes-changes.result.now ≡ x.own.cert.changes = c.changes-changes.ensures ∙ ap (λ (k : Cert). k.changes) c.cert.ensures.same ∙ ap (λ (i : PendingItem). i.cert.changes) c.own.ensures in
+    let fits : cert.Fits x.own.cert = subst (λ (i : PendingItem). cert.Fits i.cert) c.own.ensures c.cert.ensures.fits.0.0.1 in
+    c.in_ok-lost.ensures ∙ ap (λ (ps : List PartVoids). lost_from 1 ps c.numbers.result.now c.changes-changes.result.now) c.deref.ensures.value ∙ ap (λ (ns : List ℕ). lost_from 1 vs ns c.changes-changes.result.now) c.numbers.ensures ∙ ap (lost_from 1 vs table) cs
+    ∙ lost_is_void reads (actor_of x.table x.own) vs table x.own.cert.changes (tree_before reads users x) (inv.voids reads users agrees) (is.void reads) (are_listed x vs fits (inv.parts ∙ all))
