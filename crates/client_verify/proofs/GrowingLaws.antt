@@ -1,7 +1,8 @@
 -- What lists that break no rule say of the groups that the own operation raises, and of the parts that it writes.
-use Rattle.std.proofs.Common.{◌≡◌, ℕ, zero, suc, ◌+◌, ◌<◌, ◌≤◌, Bool, true, false, ◌&&◌, ◌||◌, List, [], ◌∷◌, ◌++◌, Option, Some, None, map, filter, refl, sym, ap, subst, ◌∙◌, arith}
+use Rattle.std.proofs.Common.{◌≡◌, ℕ, zero, suc, ◌+◌, ◌<◌, ◌≤◌, Bool, true, false, ◌&&◌, ◌||◌, List, [], ◌∷◌, ◌++◌, Option, Some, None, map, filter, refl, sym, ap, subst, ◌∙◌, arith, append_assoc}
 use Rattle.std.specs.Prelude.{◌==◌}
-use Rattle.std.specs.List.{All, list_any}
+use Rattle.std.specs.List.{All, flat_map, list_any}
+use Rattle.std.proofs.lemmas.List.{append-nil}
 use Rattle.std.proofs.lemmas.Bool.{eq-eqb}
 use Rattle.std.proofs.lemmas.List.Elements.{All-append, All-cons, All-head, All-nil, All-tail, All-weaker}
 use Rattle.layout.specs.Types.{Group, Key}
@@ -11,14 +12,15 @@ use Rattle.version_order.specs.Vector.{version_of}
 use Rattle.pending_list.specs.Reply.{PendingItem}
 use Rattle.pending_list.specs.Groups.{groups, groups_below, raised_groups, raises}
 use Rattle.reply_rules.specs.Lists.{Lists}
-use Rattle.reply_rules.specs.Rules.{vector}
-use Rattle.reply_rules.specs.Broken.{least}
+use Rattle.reply_rules.specs.Rules.{entries, group_records, link, numbers, unknown_user, vector}
+use Rattle.reply_rules.specs.Broken.{later_rules, least}
 use Rattle.reply_rules.specs.declared.rule.Rule.{Rule}
+use Rattle.reply_rules.specs.declared.rule.Rule.TheVariants as rule
 use Rattle.reply_rules.proofs.OwnRaised.{own_counts}
 use Rattle.client_tree.specs.View.{View, written}
 use Rattle.client_tree.specs.Tree.{IsOutcome, Stored}
 use Rattle.update_cert.specs.Blocks.{Blocks}
-use Rattle.client_verify.specs.FirstBroken.{lists_break, view_over}
+use Rattle.client_verify.specs.FirstBroken.{certificates, lists_break, signatures, view_over}
 use Rattle.client_verify.specs.Grown.{CountsRaised, IsRaisedIn}
 
 -- ---- the rules hold
@@ -30,11 +32,13 @@ none_broken r false rest none = absurd cc
 
 vector_holds : (t : Table) (x : Lists) → lists_break t x ≡ None → vector t x ≡ true
 vector_holds t x none =
-    let users = none_broken _ _ _ none in
-    let signed = none_broken _ _ _ users.1 in
-    let certified = none_broken _ _ _ signed.1 in
-    let numbered = none_broken _ _ _ certified.1 in
-    (none_broken _ _ _ numbered.1).0
+    let after_vector = (rule.Entries, entries x) ∷ (rule.Link, link x) ∷ (rule.GroupRecord, group_records t x) ∷ [] in
+    let of_vector = (rule.Vector, vector t x) ∷ after_vector in
+    let users = none_broken rule.UnknownUser (unknown_user t x) ((rule.Signature, signatures t x) ∷ (rule.Certificate, certificates t x) ∷ later_rules t x) none in
+    let signed = none_broken rule.Signature (signatures t x) ((rule.Certificate, certificates t x) ∷ later_rules t x) users.1 in
+    let certified = none_broken rule.Certificate (certificates t x) (later_rules t x) signed.1 in
+    let numbered = none_broken rule.Numbers (numbers x) of_vector certified.1 in
+    (none_broken rule.Vector (vector t x) after_vector numbered.1).0
 
 -- each group that the own operation raises has a version in its plan
 pub counts_raised : (key : Key) (t : Table) (x : Lists) → lists_break t x ≡ None → CountsRaised (view_over key t x)
@@ -102,3 +106,14 @@ pub some_part : (blocks : Blocks) (x : View) (parts : List Stored) → IsOutcome
 some_part blocks x parts outcome none =
     let clash : [] ≡ written x = ap (map (λ (s : Stored). s.principal)) (sym none) ∙ outcome.principals in
     absurd cc
+
+-- ---- the records and the texts of parts, in turn
+
+pub records_next : {X Y : Type 0} (f : X → Y) (old new all : List Y) (x : X) (left later : List X) → new ≡ old ++ f x ∷ [] → left ≡ x ∷ later → old ++ map f left ≡ all → new ++ map f later ≡ all
+records_next f old new all x left later is next so_far = rw is (append_assoc old (f x ∷ []) (map f later) ∙ (rw next at so_far))
+
+pub texts_next : {X Y : Type 0} (f : X → List Y) (old new all : List Y) (x : X) (left later : List X) → new ≡ old ++ f x → left ≡ x ∷ later → old ++ flat_map f left ≡ all → new ++ flat_map f later ≡ all
+texts_next f old new all x left later is next so_far = rw is (append_assoc old (f x) (flat_map f later) ∙ (rw next at so_far))
+
+pub all_done : {Y : Type 0} (old all left : List Y) → left ≡ [] → old ++ left ≡ all → old ≡ all
+all_done old all left none so_far = sym (append-nil old) ∙ (rw none at so_far)

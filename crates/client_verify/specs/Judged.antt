@@ -19,7 +19,8 @@ use Rattle.client_verify.specs.declared.asked.Asked.{Asked}
 use Rattle.client_verify.specs.declared.step.Step.{Step}
 use Rattle.client_verify.specs.declared.step.Step.TheVariants.{Need, Store, Broken}
 use Rattle.client_verify.specs.FirstBroken.{ByTable, IsFirstBroken, IsRead, lists_break, lists_in, reply_breaks, reply_in, view_over}
-use Rattle.client_verify.specs.State.{State, Checked, Good, Reading, Writing, asked_of, block_breaks, blocks_with, holding, known}
+use Rattle.client_verify.specs.Good.{Good}
+use Rattle.client_verify.specs.State.{State, Checked, Reading, Writing, asked_of, block_breaks, blocks_with, holding, known}
 
 -- the view of good lists
 abbrev pub view_of : Key → Good → View
@@ -50,10 +51,10 @@ IsGood s x good = (good.lists ≡ x) × IsRead (held s.blocks) s.pinned x good.t
 -- Where the reply breaks none of the rules on itself: while the table of principals can't be read, a block of it is asked
 -- for, of which no text is held that its spot takes; once it is read and the lists break no rule by it, the reply goes on.
 abbrev pub Taken : {A : Type 0} → State → Reply → Lists → Step A → State → Type 0
-Taken s r x (Need digest) new =
+Taken {A} s r x (Need digest) new =
     ((a : Asked) × (a.digest ≡ digest) × (new ≡ record s { checked = Some (Reading r a); accepted = None })
     × IsOfNamed (held s.blocks) (handle_in s.pinned x.structures 0) digest a.spot × (lacks (held s.blocks) digest a.spot ≡ true))
-    ⊎ ((good : Good) × IsGood s x good × Goes s good (Need digest) new)
+    ⊎ ((good : Good) × IsGood s x good × Goes {A = A} s good (Need digest) new)
 Taken s r x (Store texts) new = (good : Good) × IsGood s x good × Goes s good (Store texts) new
 Taken s r x (Broken rule) new = ⊥
 

@@ -33,12 +33,7 @@ use Rattle.client_verify.specs.declared.view.Looking.{Looking}
 use Rattle.client_verify.specs.declared.view.Stage.{Stage as Held}
 use Rattle.client_verify.specs.declared.view.Stage.TheVariants as stage
 use Rattle.client_verify.specs.FirstBroken.{Known}
-
--- lists that break no rule by this table of principals, of which the own changes with these numbers have no effect
-pub record Good : Type 0 where
-  pub lists : Lists
-  pub table : Table
-  pub void : List ℕ
+use Rattle.client_verify.specs.Good.{Good}
 
 -- A reply that breaks none of the rules on itself, of which a block is asked for: one of the table of principals; or,
 -- once that is read and the lists break no rule by it, one that tells what the own operation makes.

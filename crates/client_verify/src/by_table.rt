@@ -1,6 +1,9 @@
 //! The first broken rule of those on the lists of a reply, by the table of principals.
 
-ghost use Rattle.std.specs.Prelude.{◌≡◌, ◌==◌, ◌||◌, false, IfOk, IsSomeAnd};
+ghost use Rattle.std.specs.Prelude.{◌≡◌, false, IfOk, IsSomeAnd};
+ghost use Rattle.std.specs.Option.{option_map_or};
+ghost use Rattle.lms_sign.specs.Signature.{valid};
+ghost use Rattle.principals.specs.Table.{key_of};
 ghost use Rattle.std.specs.List.{list_all};
 ghost use Rattle.reply_rules.specs.Lists.{lists_of};
 ghost use Rattle.update_cert.specs.Cert.{cert};
@@ -17,13 +20,8 @@ use std::alloc::Allocator;
 use version_order::Structure;
 
 /// Whether a text is signed by the key that the table has of this user.
-fn is_signed<A: Allocator>(
-    table: &Table<A>,
-    user: User,
-    text: &[u8],
-    signature: &Signature,
-) -> bool
-    ensures { result ≡ (user == 0 || verifies table.now user text.now signature.now) }
+fn is_signed<A: Allocator>(table: &Table<A>, user: User, text: &[u8], signature: &Signature) -> bool
+    ensures { result ≡ option_map_or (λ key. valid key text.now signature.now) (key_of user table.now) false }
 {
     match table.key_of(user) {
         Some(key) => verify(&key, text, signature.as_bytes()),

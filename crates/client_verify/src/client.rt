@@ -10,7 +10,10 @@ ghost use Rattle.client_verify.specs.Laid.{are_laid};
 use crate::asked::Asked;
 use crate::checking::check;
 use crate::error::ClientError;
-use crate::growing::{Reached, Shown, Written, reach, reach_with, show, show_with, write_with};
+use crate::good::Good;
+use crate::growing::{
+    Made, Reached, Shown, Written, reach, reach_with, show, show_with, write_with,
+};
 use crate::lists::with_own;
 use crate::look::Look;
 use crate::phase::Phase;
@@ -18,7 +21,7 @@ use crate::signing::{Sealed, seal};
 use crate::step::Step;
 use crate::structure::{SignedOver, sign_over};
 use crate::verdict::judge;
-use crate::view::{AcceptedView, Checked, Good, Looking, Ready, Stage};
+use crate::view::{AcceptedView, Checked, Looking, Ready, Stage};
 use client_tree::{Held, Seen, first_blocks};
 use layout::{Digest, INumber, Memory, Principal, Text, User, Version};
 use lms_sign::{LEAF_COUNT, PrivateKey, PublicKey};
@@ -334,17 +337,28 @@ impl<A: Allocator + Copy> Client<A> {
         ensures { Goes self.old good result self.new }
     {
         match written {
-            Written::Lacks(asked) => self.ask(Stage::Writing(good, asked), asked.digest),
+            Written::Lacks(asked) => {
+                let digest = asked.digest;
+                self.ask(Stage::Writing(good, asked), digest)
+            }
             Written::Parts(made) => {
+                let Good { lists, table } = good;
+                let Made {
+                    handle,
+                    records,
+                    texts,
+                    lost,
+                } = made;
+                let ready = Ready {
+                    lists,
+                    table: table.table,
+                    handle,
+                    records,
+                    lost,
+                };
                 self.checked = None;
-                self.accepted = Some(Ready {
-                    lists: good.lists,
-                    table: good.table.table,
-                    handle: made.handle,
-                    records: made.records,
-                    lost: made.lost,
-                });
-                Step::Store(made.texts)
+                self.accepted = Some(ready);
+                Step::Store(texts)
             }
         }
     }
@@ -371,7 +385,10 @@ impl<A: Allocator + Copy> Client<A> {
         };
         match reach(self.alloc, &self.pinned, &reply, &self.blocks)? {
             Reached::Breaks(rule) => Ok(Step::Broken(rule)),
-            Reached::Lacks(asked) => Ok(self.ask(Stage::Reading(reply, asked), asked.digest)),
+            Reached::Lacks(asked) => {
+                let digest = asked.digest;
+                Ok(self.ask(Stage::Reading(reply, asked), digest))
+            }
             Reached::Goes(table, written) => {
                 let lists = reply.into_lists();
                 Ok(self.go(Good { lists, table }, written))
@@ -407,7 +424,10 @@ impl<A: Allocator + Copy> Client<A> {
         };
         match reached {
             Reached::Breaks(_) => unreachable!(),
-            Reached::Lacks(asked) => Ok(self.ask(Stage::Reading(reply, asked), asked.digest)),
+            Reached::Lacks(asked) => {
+                let digest = asked.digest;
+                Ok(self.ask(Stage::Reading(reply, asked), digest))
+            }
             Reached::Goes(table, written) => {
                 let lists = reply.into_lists();
                 Ok(self.go(Good { lists, table }, written))
@@ -454,13 +474,16 @@ impl<A: Allocator + Copy> Client<A> {
             unreachable!()
         };
         let asked = checked.asked();
+        let digest = asked.digest;
+        let reads = checked.is_reading();
         let text = match check(self.alloc, &self.blocks, asked, block)? {
             Ok(text) => text,
             Err(rule) => return Ok(Step::Broken(rule)),
         };
-        match checked.stage {
-            Stage::Reading(_, _) => self.read_on(asked.digest, text),
-            Stage::Writing(_, _) => self.write_on(asked.digest, text),
+        if reads {
+            self.read_on(digest, text)
+        } else {
+            self.write_on(digest, text)
         }
     }
 

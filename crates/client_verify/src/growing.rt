@@ -13,8 +13,8 @@ ghost use Rattle.client_verify.specs.Grown.{CountsRaised, IsAnswer, IsMade, IsRa
 
 use crate::asked::Asked;
 use crate::by_table::lists_broken;
+use crate::good::Good;
 use crate::lists::{Admitted, Lists};
-use crate::view::Good;
 use client_tree::{Held, PendingTable, Seen, Stored, View, With, table_of};
 use layout::{Digest, Group, INumber, Memory, Principal, Version};
 use lms_sign::PublicKey;
@@ -154,7 +154,13 @@ pub(crate) fn write<A: Allocator + Copy, B: Blocks>(
     ensures { IfOk result (λ written. IsWritten (B.held blocks.now) (view_of pinned.now good.now) good.now.void written) }
 {
     let view = good.lists.view(pinned.as_bytes(), &good.table.table);
-    write_in(alloc, &view, &good.table.voids, good.lists.own().plan(), blocks)
+    write_in(
+        alloc,
+        &view,
+        &good.table.voids,
+        good.lists.own().plan(),
+        blocks,
+    )
 }
 
 /// The same, of a reply whose lists break no rule by this table.

@@ -7,6 +7,7 @@ mod by_table;
 mod checking;
 mod client;
 mod error;
+mod good;
 mod growing;
 mod laid;
 mod lists;

@@ -48,7 +48,7 @@ pub(crate) struct Admitted<A: Allocator> {
 }
 
 impl<A: Allocator> Model for Admitted<A> {
-    ghost use Rattle.std.specs.Prelude.{◌≡◌, ◌×◌, IsSome, true};
+    ghost use Rattle.std.specs.Prelude.{◌≡◌, IsSome, true};
     ghost use Rattle.pending_list.specs.Reply.{Reply};
     ghost use Rattle.reply_rules.specs.Lists.{lists_of};
     ghost use Rattle.reply_rules.specs.Rules.{lists};
@@ -121,8 +121,19 @@ impl<A: Allocator> Admitted<A> {
     }
 }
 
-impl<A: Allocator> Lists<A> {
+impl<A: Allocator + Copy> Admitted<A> {
+    ghost use Rattle.reply_rules.specs.Lists.{lists_of};
 
+    /// The first rule by this table that the lists break, but for those on signatures.
+    pub(crate) fn broken_by(&self, alloc: A, table: &Table<A>) -> Result<Option<Rule>, Memory>
+        ensures { IfOk result (λ rule. IsSomeAnd (lists_of self.now) (λ x. rule ≡ broken table.now x)) }
+    {
+        let (own, _others) = self.split();
+        broken(alloc, &self.reply, table, own.plan().user())
+    }
+}
+
+impl<A: Allocator> Lists<A> {
     /// The own item, which is the last pending one.
     pub(crate) fn own(&self) -> &PendingItem<A>
         ensures { result.now ≡ self.now.own }

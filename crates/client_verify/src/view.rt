@@ -1,33 +1,14 @@
 //! What a client keeps of replies: one under check, one that was accepted, and the view that was signed.
 
 use crate::asked::Asked;
+use crate::good::Good;
 use crate::lists::{Admitted, Lists};
-use client_tree::PendingTable;
 use layout::{Digest, INumber, Principal};
 use pending_list::Signed;
 use principals::Table;
 use std::alloc::Allocator;
 use std::marker::Model;
 use version_order::{GroupRecord, Structure};
-
-/// Lists that break no rule by this table of principals.
-#[derive(Drop)]
-pub(crate) struct Good<A: Allocator> {
-    pub(crate) lists: Lists<A>,
-    pub(crate) table: PendingTable<A>,
-}
-
-impl<A: Allocator> Model for Good<A> {
-    ghost use Rattle.std.specs.Prelude.{◌≡◌, None};
-    ghost use Rattle.client_verify.specs.FirstBroken.{lists_break};
-    ghost use Rattle.client_verify.specs.State.{Good};
-
-    ghost Value = { Good };
-
-    ghost view = { λ g. record { lists = g.lists; table = g.table.table; void = g.table.voids } };
-
-    ghost invariant = { λ g. lists_break g.table.table g.lists ≡ None };
-}
 
 /// How far a reply under check is.
 #[derive(Drop)]
@@ -53,7 +34,17 @@ impl<A: Allocator> Model for Checked<A> {
 }
 
 impl<A: Allocator> Checked<A> {
+    ghost use Rattle.std.specs.Prelude.{◌≡◌, true, false};
     ghost use Rattle.client_verify.specs.State.{asked_of};
+    ghost use Rattle.client_verify.specs.Judged.{IsReading, IsWriting};
+
+    /// Whether the table of principals is being read.
+    pub(crate) fn is_reading(&self) -> bool
+        ensures reading { result ≡ true → IsReading self.now }
+        ensures writing { result ≡ false → IsWriting self.now }
+    {
+        matches!(self.stage, Stage::Reading(_, _))
+    }
 
     /// The block that is asked for.
     pub(crate) fn asked(&self) -> Asked
