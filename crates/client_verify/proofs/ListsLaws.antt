@@ -1,13 +1,14 @@
 -- The structures of a reply ascend by user.
-use Rattle.std.proofs.Common.{◌≡◌, ℕ, Bool, true, false, ◌&&◌, List, [], ◌∷◌, ◌++◌, Option, Some, None, map, refl, sym, ap, subst, arith}
+use Rattle.std.proofs.Common.{◌≡◌, ℕ, Bool, true, false, ◌&&◌, ◌-◌, List, [], ◌∷◌, ◌++◌, length, Option, Some, None, map, refl, sym, ap, subst, ◌∙◌, arith}
 use Rattle.std.specs.Prelude.{nat_lt}
 use Rattle.std.specs.Ordering.{nat_cmp, is_lt}
+use Rattle.std.proofs.lemmas.List.{length-append}
 use Rattle.std.proofs.lemmas.Bool.Decides.{nat_tests}
 use Rattle.layout.specs.Ascending.{Ascends}
 use Rattle.version_order.specs.Structure.{Structure}
 use Rattle.pending_list.specs.declared.signed.Signed.{Signed}
 use Rattle.pending_list.specs.Reply.{user_of}
-use Rattle.std.specs.Prelude.{IsSome, IsSomeAnd}
+use Rattle.std.specs.Prelude.{IfSome, IsSome, IsSomeAnd, slice_get}
 use Rattle.std.specs.Option.{option_map}
 use Rattle.pending_list.specs.Reply.{PendingItem, Reply}
 use Rattle.reply_rules.specs.Lists.{Lists, lists_of, split_last}
@@ -53,10 +54,14 @@ ends r some = last_of r.pending (mapped _ (split_last r.pending) some)
 pub with_lists : (r : Reply) (P : Lists → Type 0) → IsSome (lists_of r) → ((front : List PendingItem) (own : PendingItem) → r.pending ≡ front ++ own ∷ [] → P (record { structures = r.structures; others = front; own = own })) → IsSomeAnd (lists_of r) P
 with_lists r P some each = let e = ends r some in subst (λ (o : Option Lists). IsSomeAnd o P) (sym (lists_are r e.0 e.1 e.2)) (each e.0 e.1 e.2)
 
+after_front : (front : List PendingItem) (own : PendingItem) → slice_get (front ++ own ∷ []) (length front) ≡ Some own
+after_front [] own = refl
+after_front (x ∷ xs) own = after_front xs own
+
 last_one : (front : List PendingItem) (own : PendingItem) → slice_get (front ++ own ∷ []) (length (front ++ own ∷ []) - 1) ≡ Some own
 last_one front own =
     let last : length (front ++ own ∷ []) - 1 ≡ length front = omega (arith, length-append front (own ∷ [])) in
-    rw last (slice_get_after front own)
+    rw last (after_front front own)
 
 -- the last pending operation is the own one
 pub own_is_last : (r : Reply) (own : PendingItem) (others : List PendingItem) → IsSome (lists_of r) → (user : ℕ) → IsSomeAnd (lists_of r) (λ y. (y.own ≡ own) × (y.others ≡ others)) → user ≡ own.plan.user
