@@ -6,7 +6,7 @@ use directory::{Entry, Name, Target, name_text};
 use layout::{Digest, INumber, Principal, Text, User, Version};
 use pending_list::{Signature, Signed};
 use std::alloc::Global;
-use update_cert::{Action, Cert, Change};
+use update_cert::{Action, Cert, Change, Deed};
 
 /// A change: its bytes, and what they say.
 struct Case {
@@ -19,7 +19,7 @@ struct Case {
     target: Option<(u8, u16)>,
 }
 
-/// One of each kind.
+/// One of each kind that is done at an i-number.
 static CASES: [Case; 5] = [
     Case {
         bytes: b"\x01\0\0\x03abcdefghijklmnopqrstuvwxyz012345",
@@ -135,12 +135,22 @@ fn target(action: &Action<Global>) -> Option<(u8, u16)> {
     }
 }
 
+/// What a change does at its i-number.
+fn action_at<'a>(rt: &impl Host, change: &'a Change<Global>) -> &'a Action<Global> {
+    let action = match change.deed() {
+        Deed::At(action) => Some(action),
+        Deed::OfTable(_) => None,
+    };
+    action.expect(rt, "an action at an i-number")
+}
+
 /// The change is that of the case.
 fn is_case(rt: &impl Host, change: &Change<Global>, case: &Case) {
-    let (kind, named) = parts(change.action());
+    let action = action_at(rt, change);
+    let (kind, named) = parts(action);
     check(rt, kind == case.kind, "the kind");
     check_text(rt, named, case.named);
-    check(rt, target(change.action()) == case.target, "the target");
+    check(rt, target(action) == case.target, "the target");
     check(
         rt,
         change.principal().get() == case.principal,

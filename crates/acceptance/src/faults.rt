@@ -71,7 +71,7 @@ static CERTIFICATES: [Row; 28] = [
     Row(Kind::Certificate, &[b"SUC1\0\0\0\0\0"], RANGE),
     Row(Kind::Certificate, &[CERT, b"\x11"], RANGE),
     Row(Kind::Certificate, &[CERT, b"\x01\0"], RANGE),
-    Row(Kind::Certificate, &[CERT, b"\x01\x06"], RANGE),
+    Row(Kind::Certificate, &[CERT, b"\x01\x09"], RANGE),
     Row(Kind::Certificate, &[CERT, b"\x01\x03\x60"], RANGE),
     Row(Kind::Certificate, &[CERT, b"\x01\x03\0\0\0"], RANGE),
     Row(Kind::Certificate, &[CERT, b"\x01\x03\0\x10\0"], RANGE),
@@ -96,7 +96,7 @@ static CERTIFICATES: [Row; 28] = [
     Row(Kind::Certificate, &[CERT, b"\x01\x05\0\0\x02\0"], RANGE),
     Row(Kind::Certificate, &[CERT, b"\x01\x05\0\0\x02\x01/"], RANGE),
     Row(Kind::Certificate, &[CERT, b"\x01\x05\0\0\x02\x01."], RANGE),
-    Row(Kind::Certificate, &[CERT, b"\x02\x03\0\0\x01\x06"], RANGE),
+    Row(Kind::Certificate, &[CERT, b"\x02\x03\0\0\x01\x09"], RANGE),
     // One change of each kind.
     Row(
         Kind::Certificate,

@@ -4,7 +4,8 @@ use crate::texts::{Host, check, check_text, joined, plan};
 use layout::{Digest, Group, Text, User, Version};
 use std::alloc::Global;
 use version_order::{
-    Entries, GroupRecord, Plan, PlanError, Structure, Vector, below, depth, next_plan,
+    Entries, GroupRecord, GroupRecords, Plan, PlanError, Structure, Vector, below, depth,
+    next_plan,
 };
 
 /// The vector before an operation of a user, the groups that it raises, and the vector of its plan with the plan's
@@ -157,4 +158,29 @@ fn records_of_two_groups(rt: HostRuntime) {
     };
     is_record(&rt, first, 64, 1, 8);
     is_record(&rt, second, 65, 3, 9);
+}
+
+/// The state of a group at a version, of a handle of 32 times this byte, by the table of version 3.
+fn state_of(rt: &impl Host, group: u8, version: u32, handle: u8) -> GroupRecord {
+    GroupRecord {
+        group: Group::new(group).expect(rt, "a group"),
+        version: Version::new(version).expect(rt, "a version"),
+        table: 3,
+        handle: Digest::from_bytes([handle; 32]),
+    }
+}
+
+#[test]
+fn records_are_set(rt: HostRuntime) {
+    let mut records = GroupRecords::new(rt.alloc());
+    let states = [(70, 1, 5), (64, 2, 6), (70, 9, 7)];
+    for (group, version, handle) in states {
+        let state = state_of(&rt, group, version, handle);
+        records.set(state).expect(&rt, "memory");
+    }
+    let [first, second] = records.as_slice() else {
+        panic!(&rt; "not two records");
+    };
+    is_record(&rt, first, 64, 2, 6);
+    is_record(&rt, second, 70, 9, 7);
 }

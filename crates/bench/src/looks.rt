@@ -28,6 +28,11 @@ fn owner() -> Principal {
     User::superuser().into()
 }
 
+/// Where the file stands.
+fn place() -> INumber {
+    INumber::root()
+}
+
 /// A file of so many blocks, no two of which are the same.
 fn file_of(alloc: Global, blocks: u32) -> Result<Vec<u8>> {
     let mut file = Vec::new(alloc);
@@ -38,13 +43,15 @@ fn file_of(alloc: Global, blocks: u32) -> Result<Vec<u8>> {
     Ok(file)
 }
 
-/// A store that has a file of so many blocks at i-number 1, and the handle of the i-table.
+/// A store that has a file of so many blocks at its place, and the handle of the i-table.
 fn store_of(alloc: Global, blocks: u32) -> Result<(Held<Global>, Digest)> {
     let mut store = Held::empty(alloc);
     let file = file_of(alloc, blocks)?;
     let Laid { inode, blocks } = lay_file(alloc, &file)?;
     let mut table = ITable::empty(alloc, owner());
+    // User 0's i-table has something at the place of the table of principals, which isn't read here.
     table.set(INumber::table(), digest(&inode))?;
+    table.set(place(), digest(&inode))?;
     store.keep_all(table.new_texts(alloc, &[])?)?;
     store.keep(inode)?;
     store.keep_all(blocks)?;
@@ -161,7 +168,7 @@ fn look(
     store: &Held<Global>,
 ) -> Result<usize> {
     for _ in 0..u32::MAX {
-        match view(shown).look(alloc, held, owner(), INumber::table()) {
+        match view(shown).look(alloc, held, owner(), place()) {
             Ok(Seen::File(bytes)) => return Ok(bytes.len()),
             Ok(_) => break,
             Err(error) => hand(alloc, store, held, wanted(error)?)?,

@@ -1,6 +1,7 @@
 pub mod HeldLaws
 pub mod Firsts
 pub mod TableLaws
+pub mod NamedLaws
 pub mod LookLaws
 pub mod ViewLaws
 pub mod OpenedLaws

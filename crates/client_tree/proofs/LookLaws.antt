@@ -1,8 +1,7 @@
 -- What is read of an i-node is what its places take.
-use Rattle.std.proofs.Common.{◌≡◌, ℕ, Bool, true, false, ◌&&◌, List, [], ◌∷◌, Option, Some, None, Result, Ok, Err, refl, sym, ap, subst, ◌∙◌, inl, inr}
-use Rattle.std.specs.Prelude.{◌==◌, if◌then◌else◌, IsSome, IsSomeAnd, OnOk, slice_get, take}
+use Rattle.std.proofs.Common.{◌≡◌, ℕ, false, List, Option, Some, Result, Ok, Err, sym, ap, subst, ◌∙◌, inl, inr}
+use Rattle.std.specs.Prelude.{IsSome, IsSomeAnd, OnOk, slice_get, take}
 use Rattle.std.specs.Option.{option_map}
-use Rattle.std.proofs.lemmas.Bool.{and_parts, eqb-true}
 use Rattle.layout.specs.Types.{Digest, INumber, Principal}
 use Rattle.itable.specs.Inode.{Inode}
 use Rattle.itable.specs.declared.inode.Kind.{Kind}
@@ -11,17 +10,14 @@ use Rattle.update_cert.specs.Asked.{HasBlocks, IsBlock}
 use Rattle.update_cert.specs.Spot.{lacks}
 use Rattle.update_cert.specs.declared.spot.Spot.{Spot}
 use Rattle.update_cert.specs.declared.spot.Spot.TheVariants as spot
-use Rattle.itable.specs.ITable.{ITable, digest_at}
+use Rattle.itable.specs.ITable.{ITable}
 use Rattle.principals.specs.Table.{Table}
-use Rattle.update_cert.specs.Change.{Change}
-use Rattle.update_cert.specs.World.{Actor, is_table}
+use Rattle.update_cert.specs.World.{is_table}
 use Rattle.update_cert.specs.Reading.{Reading}
 use Rattle.update_cert.specs.Blocks.{Agrees}
-use Rattle.update_cert.specs.Part.{Laid, Part, Slot, content_of, part_of, slot_at, slot_of}
-use Rattle.update_cert.specs.Slots.{slot_after, slot_after_change, slot_changes}
-use Rattle.pending_list.specs.Reply.{PendingItem}
-use Rattle.client_tree.specs.View.{View, actor_of, handle_of, shown, tree}
-use Rattle.client_tree.specs.Opened.{HasLooked, IsOfInode, IsOpened, items_on, slot_after_items}
+use Rattle.update_cert.specs.Part.{Laid, Part, Slot, content_of, slot_at}
+use Rattle.client_tree.specs.View.{View, shown, tree}
+use Rattle.client_tree.specs.Opened.{HasLooked, IsOfInode, IsOpened}
 
 -- a block of an i-node is one of its kind's
 of_kind : (blocks : Blocks) (inode : Digest) (n : Inode) (kind : Kind) (digest : Digest) (s : Spot) → inode_at blocks inode ≡ Some n → IsBlock blocks kind inode digest s → n.kind ≡ kind
@@ -36,53 +32,13 @@ all_taken blocks p i inode n held taken has digest s (inr (kind, is)) =
     let kinds : n.kind ≡ kind = of_kind blocks inode n kind digest s held is in
     has digest s (subst (λ (k : Kind). IsBlock blocks k inode digest s) (sym kinds) is)
 
-table_change : (reads : Reading) (actor : Actor) (c : Change Digest) (s : Option Slot) → is_table c.principal c.i_number ≡ true → slot_after_change reads actor c s ≡ s
-unfolding slot_after_change slot_changes
-table_change reads actor c s place = rw place refl
-
-table_step : (reads : Reading) (actor : Actor) (p : Principal) (i : INumber) (c : Change Digest) (cs : List (Change Digest)) (s : Option Slot) (here : Bool) → ((c.principal == p) && (c.i_number == i)) ≡ here → is_table p i ≡ true → slot_after reads actor p i cs s ≡ s
-    → (if here then slot_after reads actor p i cs (slot_after_change reads actor c s) else slot_after reads actor p i cs s) ≡ s
-table_step reads actor p i c cs s true is place rest =
-    let both = and_parts (c.principal == p) (c.i_number == i) is in
-    let there : is_table c.principal c.i_number ≡ true = rw (eqb-true c.principal p both.0, eqb-true c.i_number i both.1) place in
-    rw (table_change reads actor c s there) rest
-table_step reads actor p i c cs s false is place rest = rest
-
--- at the place of the table of principals no change has effect on a slot
-table_slot : (reads : Reading) (actor : Actor) (p : Principal) (i : INumber) (cs : List (Change Digest)) (s : Option Slot) → is_table p i ≡ true → slot_after reads actor p i cs s ≡ s
-unfolding slot_after
-table_slot reads actor p i [] s place = refl
-table_slot reads actor p i (c ∷ cs) s place = table_step reads actor p i c cs s ((c.principal == p) && (c.i_number == i)) refl place (table_slot reads actor p i cs s place)
-
-table_slot_items : (reads : Reading) (t : Table) (p : Principal) (i : INumber) (items : List PendingItem) (s : Option Slot) → is_table p i ≡ true → slot_after_items reads t p i items s ≡ s
-unfolding slot_after_items
-table_slot_items reads t p i [] s place = refl
-table_slot_items reads t p i (x ∷ xs) s place =
-    table_slot_items reads t p i xs (slot_after reads (actor_of t x) p i x.cert.changes s) place ∙ table_slot reads (actor_of t x) p i x.cert.changes s place
-
-laid_there : (reads : Reading) (digest : Option Digest) → option_map (content_of reads) (option_map (slot_of None) digest) ≡ option_map reads.content digest
-laid_there reads None = refl
-laid_there reads (Some d) = refl
-
-stands_at_table : (blocks : Blocks) (reads : Reading) (x : View) (p : Principal) (i : INumber) (before : ITable) (part : Part) → IsOpened blocks x p before part → Agrees blocks reads → is_table p i ≡ true
-    → option_map reads.content (reads.inode p (handle_of x p) i) ≡ option_map (content_of reads) (slot_at part i)
-stands_at_table blocks reads x p i before part is agrees place =
-    let own : before.principal ≡ p = is.read.principal in
-    let slot : slot_at part i ≡ slot_at (part_of before) i = is.after.slots reads agrees i ∙ table_slot_items reads x.table before.principal i (items_on x p) (slot_at (part_of before) i) (ap (λ (q : ℕ). is_table q i) own ∙ place) in
-    ap (option_map reads.content) (agrees.inodes p (handle_of x p) i (digest_at before i) (is.told i)) ∙ sym (laid_there reads (digest_at before i)) ∙ ap (option_map (content_of reads)) (sym slot)
-
-stands_step : (blocks : Blocks) (reads : Reading) (users : Table) (x : View) (p : Principal) (i : INumber) (before : ITable) (part : Part) (place : Bool) → is_table p i ≡ place → IsOpened blocks x p before part → Agrees blocks reads
-    → shown reads users x p i ≡ option_map (content_of reads) (slot_at part i)
-stands_step blocks reads users x p i before part true place is agrees = rw place (stands_at_table blocks reads x p i before part is agrees place)
-stands_step blocks reads users x p i before part false place is agrees =
+-- what is read there is what the opened part has; the table of principals is no part's
+pub look_stands : (blocks : Blocks) (reads : Reading) (users : Table) (x : View) (p : Principal) (i : INumber) (before : ITable) (part : Part) (s : Option Slot) → IsOpened blocks x p before part → Agrees blocks reads → is_table p i ≡ false → slot_at part i ≡ s
+    → shown reads users x p i ≡ option_map (content_of reads) s
+look_stands blocks reads users x p i before part s is agrees place at =
     let own : part.table.principal ≡ p = is.after.principal ∙ is.read.principal in
     let stands = (is.stands reads users agrees).stands i (ap (λ (q : ℕ). is_table q i) own ∙ place) in
-    rw place (ap (λ (q : ℕ). tree reads users x q i) (sym own) ∙ stands)
-
--- what is read there is what the opened part has
-pub look_stands : (blocks : Blocks) (reads : Reading) (users : Table) (x : View) (p : Principal) (i : INumber) (before : ITable) (part : Part) (s : Option Slot) → IsOpened blocks x p before part → Agrees blocks reads → slot_at part i ≡ s
-    → shown reads users x p i ≡ option_map (content_of reads) s
-look_stands blocks reads users x p i before part s is agrees at = stands_step blocks reads users x p i before part (is_table p i) refl is agrees ∙ ap (option_map (content_of reads)) at
+    rw place (ap (λ (q : ℕ). tree reads users x q i) (sym own) ∙ stands ∙ ap (option_map (content_of reads)) at)
 
 -- where what the i-node there is of was read, nothing of it is missing
 pub looked : {T E : Type 0} (blocks : Blocks) (x : View) (p : Principal) (i : INumber) (before : ITable) (part : Part) (inode : Digest) (r : Result T E) → IsOpened blocks x p before part → slot_at part i ≡ Some (Laid inode)

@@ -1,15 +1,14 @@
 -- What operations, in turn, make of a part and of a tree.
-use Rattle.std.proofs.Common.{◌≡◌, ℕ, suc, ◌+◌, ◌<◌, Bool, true, false, List, [], ◌∷◌, ◌++◌, length, take, drop, Option, Some, None, Result, Ok, Err, refl, subst, sym, ap, ◌∙◌, inl, inr, arith, add-one, drop-cons, append_assoc}
-use Rattle.std.specs.Prelude.{◌==◌, IfErr, IfOk, IsErrAnd, filter, slice_index_or, if◌then◌else◌}
+use Rattle.std.proofs.Common.{◌≡◌, ℕ, suc, ◌+◌, ◌<◌, Bool, true, false, List, [], ◌∷◌, ◌++◌, length, take, drop, Option, Some, None, Result, Ok, Err, refl, subst, sym, ap, ◌∙◌, inl, inr, add-one, drop-cons, append_assoc}
+use Rattle.std.specs.Prelude.{IfErr, IfOk, IsErrAnd, filter, slice_index_or, if◌then◌else◌}
 use Rattle.std.specs.Option.{option_map}
-use Rattle.std.proofs.lemmas.Bool.{eq-eqb}
 use Rattle.std.proofs.lemmas.List.{append-nil, take-append-drop}
 use Rattle.std.proofs.lemmas.List.Elements.{filter-append}
 use Rattle.layout.specs.Types.{Digest, Handle, INumber, Principal}
 use Rattle.itable.specs.ITable.{ITable, digest_at}
 use Rattle.principals.specs.Table.{Table}
 use Rattle.update_cert.specs.Change.{Change}
-use Rattle.update_cert.specs.World.{Actor, Content, Principals, Tree, after, after_change, is_table}
+use Rattle.update_cert.specs.World.{Actor, Content, Tree, after, after_change}
 use Rattle.update_cert.specs.Reading.{Reading, after_read, read_changes}
 use Rattle.update_cert.specs.Blocks.{Blocks, Agrees, inode_told}
 use Rattle.update_cert.specs.Part.{HasTable, IsPartOf, Part, Slot, content_of, part_of, slot_at, slot_of, stands_at}
@@ -22,8 +21,8 @@ use Rattle.update_cert.proofs.ActLaws.{has_table_after}
 use Rattle.std.proofs.Math.Seq.{take-suc}
 use Rattle.pending_list.specs.Reply.{PendingItem}
 use Rattle.client_tree.specs.Tables.{IsOfTable, IsRead, LacksOfTable}
-use Rattle.client_tree.specs.View.{View, actor_of, after_items, comes_after, handle_of, named, tree, tree_before}
-use Rattle.client_tree.specs.Opened.{IsAskedByItem, IsOpened, IsPartAfter, IsReached, items_on, slot_after_items}
+use Rattle.client_tree.specs.View.{View, actor_of, after_items, comes_after, handle_of, is_superusers, named, tree_before}
+use Rattle.client_tree.specs.Opened.{IsPartAfter, IsReached, items_on, slot_after_items}
 
 -- ---- one operation more
 
@@ -127,3 +126,10 @@ of_item blocks x p before part earlier later item e read turn after lacks =
 pub handed_on : {X : Type 0} (r : Result X ApplyError) (v : ApplyError) (P : ApplyError → Type 0) → IsErrAnd r (λ e. e ≡ v) → P v → IfErr r P
 handed_on (Ok x) v P is holds = tt
 handed_on (Err e) v P is holds = subst P (sym is) holds
+
+-- ---- the table of principals
+
+-- user 0's operations come after the handle of its part
+pub superusers : (x : View) (items : List PendingItem) → filter (comes_after x 0) items ≡ filter is_superusers items
+unfolding comes_after
+superusers x items = refl

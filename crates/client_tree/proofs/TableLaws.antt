@@ -105,6 +105,7 @@ nothing_lacks blocks p handle r held found chunks digest (spot.Chunk q n) (of, f
 nothing_lacks blocks p handle r held found chunks digest (spot.Inode q i) is = absurd is
 nothing_lacks blocks p handle r held found chunks digest (spot.File inode k) is = absurd is
 nothing_lacks blocks p handle r held found chunks digest (spot.Directory inode k) is = absurd is
+nothing_lacks blocks p handle r held found chunks digest (spot.Table inode k) is = absurd is
 
 -- ---- the order of the chunks
 

@@ -1,5 +1,5 @@
 -- A part as it is stored.
-use Rattle.std.proofs.Common.{◌≡◌, ℕ, false, List, Option, Some, None, refl, sym, ap, subst, ◌∙◌}
+use Rattle.std.proofs.Common.{◌≡◌, ℕ, false, List, Option, Some, None, refl, sym, ap, ◌∙◌}
 use Rattle.std.specs.Option.{option_map}
 use Rattle.layout.specs.Types.{Digest, Principal}
 use Rattle.itable.specs.ITable.{ITable, digest_at}
@@ -19,8 +19,8 @@ slot_read reads (Some (Changed d entries)) changed = ap (λ (x : Content). Some 
 
 -- the i-table has what stands in the tree
 pub world_is : (reads : Reading) (users : Table) (x : View) (p : Principal) (part : Part) (t : ITable) (i : ℕ) → t.principal ≡ p → part.table.principal ≡ p → IsPartOf reads part (tree reads users x) → ReadsChanged reads part
-    → ((j : ℕ) → digest_at t j ≡ option_map slot_digest (slot_at part j)) → is_table p i ≡ false → option_map reads.content (digest_at t i) ≡ tree reads users x p i
+    → ((j : ℕ) → is_table p j ≡ false → digest_at t j ≡ option_map slot_digest (slot_at part j)) → is_table p i ≡ false → option_map reads.content (digest_at t i) ≡ tree reads users x p i
 world_is reads users x p part t i of_t of_part is changed digests place =
     let there : is_table part.table.principal i ≡ false = ap (λ (q : ℕ). is_table q i) of_part ∙ place in
     let at : tree reads users x p i ≡ stands_at reads part i = ap (λ (q : ℕ). tree reads users x q i) (sym of_part) ∙ is.stands i there in
-    ap (option_map reads.content) (digests i) ∙ slot_read reads (slot_at part i) (changed i) ∙ sym at
+    ap (option_map reads.content) (digests i place) ∙ slot_read reads (slot_at part i) (changed i) ∙ sym at

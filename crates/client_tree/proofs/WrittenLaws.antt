@@ -1,23 +1,22 @@
 -- Each principal whose changes are permitted to the own operation is among those whose parts it may change.
-use Rattle.std.proofs.Common.{◌≡◌, ℕ, zero, suc, ◌<◌, ◌≤◌, ◌+◌, Bool, true, false, ◌&&◌, ◌||◌, List, [], ◌∷◌, ◌++◌, length, map, take, Option, None, refl, sym, ap, subst, ◌∙◌, arith}
-use Rattle.std.specs.Prelude.{◌==◌, nat_le, slice_index_or}
+use Rattle.std.proofs.Common.{◌≡◌, ℕ, zero, suc, ◌<◌, ◌≤◌, Bool, true, false, ◌&&◌, ◌||◌, List, [], ◌∷◌, length, map, Option, None, refl, sym, ap, ◌∙◌, arith}
+use Rattle.std.specs.Prelude.{◌==◌, IsSomeAnd, nat_le, slice_index_or, if◌then◌else◌}
 use Rattle.std.specs.Int.{w8}
 use Rattle.std.specs.List.{All, list_any}
 use Rattle.std.proofs.lemmas.Bool.{and_parts, eq-eqb, eqb-true, leb-true}
-use Rattle.std.proofs.lemmas.List.{map-append}
-use Rattle.std.proofs.lemmas.List.Elements.{All-append, All-cons, All-head, All-nil, All-weaker}
+use Rattle.std.proofs.lemmas.List.Elements.{All-cons, All-nil, All-weaker}
 use Rattle.layout.specs.Format.{FitRows, after_row}
 use Rattle.layout.specs.Laws.{in_range}
 use Rattle.layout.specs.Types.{Digest, Principal}
 use Rattle.principals.specs.Table.{is_member}
-use Rattle.update_cert.specs.Change.{Change, change}
+use Rattle.update_cert.specs.Change.{Action, Make, Put, Remove, Link, Unlink, AddUser, AddMember, DropMember, Change, change}
 use Rattle.update_cert.specs.Cert.{Cert, cert, change_rows}
 use Rattle.update_cert.specs.World.{permitted}
 use Rattle.pending_list.specs.Groups.{raised_groups, raises_at, table_version, touches}
 use Rattle.pending_list.proofs.GroupsLaws.{has_group}
 use Rattle.client_tree.specs.Lost.{PartVoids}
 use Rattle.client_tree.specs.View.{View, actor_of, acts_for, written}
-use Rattle.client_tree.proofs.LostLaws.{AreListed, IsListed, lists}
+use Rattle.client_tree.proofs.LostLaws.{AreListed, lists}
 
 -- ---- what a certificate has
 
@@ -26,10 +25,22 @@ unfolding FitRows
 all_fit b [] fits = All-nil change.Fits
 all_fit b (c ∷ cs) fits = All-cons change.Fits c cs fits.0 (all_fit _ cs fits.1)
 
+in_place : {X : Type 0} (p i : ℕ) (first : Bool) (found : Option X) (P : X → Type 0) → (p == 0) ≡ first → IsSomeAnd (if (p == 0) && (i == 1) then found else None) P → p < 96
+in_place p i true found P is fits = let zero = eqb-true p 0 is in omega (arith, zero)
+in_place p i false found P is fits = absurd (rw is at fits)
+
+below : (p i : ℕ) (a : Action Digest) → change.Fits (record { principal = p; i_number = i; action = a }) → p < 96
+below p i (Make new) fits = let range = in_range w8 0 95 p fits.1.0 in omega (arith, range.1)
+below p i (Put new) fits = let range = in_range w8 0 95 p fits.1.0 in omega (arith, range.1)
+below p i Remove fits = let range = in_range w8 0 95 p fits.1.0 in omega (arith, range.1)
+below p i (Link entry) fits = let range = in_range w8 0 95 p fits.1.0 in omega (arith, range.1)
+below p i (Unlink name) fits = let range = in_range w8 0 95 p fits.1.0 in omega (arith, range.1)
+below p i (AddUser u key) fits = in_place p i (p == 0) _ _ refl fits.1
+below p i (AddMember g u) fits = in_place p i (p == 0) _ _ refl fits.1
+below p i (DropMember g u) fits = in_place p i (p == 0) _ _ refl fits.1
+
 in_cert : (c : Cert) → cert.Fits c → All (λ x. x.principal < 96) c.changes
-in_cert c fits =
-    All-weaker change.Fits (λ x. x.principal < 96) (λ x of. let range = in_range w8 0 95 x.principal of.1.0 in omega (arith, range.1)) c.changes
-    (all_fit None c.changes fits.1.1.1.1.1)
+in_cert c fits = All-weaker change.Fits (λ x. x.principal < 96) (λ x of. below x.principal x.i_number x.action of) c.changes (all_fit None c.changes fits.1.1.1.1.1)
 
 either : (b : Bool) → (b || true) ≡ true
 either true = refl

@@ -1,7 +1,7 @@
 -- The beginning: user 0 has the table of principals at 1 and an empty root directory at 2, and nobody else has
 -- anything. Each client computes these texts, and never asks for them.
 -- The bytes stand in docs/FORMATS.md.
-use Rattle.std.specs.Prelude.{ℕ, List, [], ◌∷◌, ◌++◌, codes, ◌==◌, if◌then◌else◌}
+use Rattle.std.specs.Prelude.{List, [], ◌∷◌, ◌++◌, codes, ◌==◌, if◌then◌else◌}
 use Rattle.std.specs.Int.{w8, w16, w32}
 use Rattle.std.specs.List.{flat_map, range_with_len}
 use Rattle.layout.specs.Format.{be}

@@ -2,6 +2,7 @@ pub mod Held
 pub mod Genesis
 pub mod Tables
 pub mod View
+pub mod Principals
 pub mod Opened
 pub mod Tree
 pub mod Lost

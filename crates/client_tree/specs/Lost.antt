@@ -14,7 +14,12 @@ pub record PartVoids : Type 0 where
 abbrev pub counts : {C : Type 0} → ℕ → Change C → PartVoids → Bool
 counts n c v = (v.principal == c.principal) && not (list_any (λ m. m == n) v.numbers)
 
--- the numbers of the changes that count for none of these parts, counted from this one
-abbrev pub lost_from : {C : Type 0} → ℕ → List PartVoids → List (Change C) → List ℕ
-lost_from n vs [] = []
-lost_from n vs (c ∷ cs) = if list_any (counts n c) vs then lost_from (n + 1) vs cs else n ∷ lost_from (n + 1) vs cs
+-- a change has effect where it counts for one of these parts and isn't one of the table's changes with these numbers,
+-- which have none
+abbrev pub is_kept : {C : Type 0} → ℕ → List PartVoids → List ℕ → Change C → Bool
+is_kept n vs table c = list_any (counts n c) vs && not (list_any (λ m. m == n) table)
+
+-- the numbers of the others, counted from this one
+abbrev pub lost_from : {C : Type 0} → ℕ → List PartVoids → List ℕ → List (Change C) → List ℕ
+lost_from n vs table [] = []
+lost_from n vs table (c ∷ cs) = if is_kept n vs table c then lost_from (n + 1) vs table cs else n ∷ lost_from (n + 1) vs table cs

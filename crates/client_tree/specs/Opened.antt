@@ -1,6 +1,6 @@
 -- A principal's part of the tree of a view, opened: its i-table, read from the blocks that are held, after the operations
 -- that come after it.
-use Rattle.std.specs.Prelude.{◌≡◌, ◌⊎◌, ℕ, false, List, [], ◌∷◌, ◌++◌, Option, Some, filter}
+use Rattle.std.specs.Prelude.{◌≡◌, ◌⊎◌, false, List, [], ◌∷◌, ◌++◌, Option, Some, filter}
 use Rattle.layout.specs.Types.{Digest, INumber, Principal}
 use Rattle.itable.specs.ITable.{ITable, digest_at}
 use Rattle.itable.specs.declared.inode.Kind.{Kind}

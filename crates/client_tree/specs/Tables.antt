@@ -1,6 +1,6 @@
 -- The i-table that a handle names, and the blocks that are asked for to read it.
 -- The bytes stand in docs/FORMATS.md.
-use Rattle.std.specs.Prelude.{◌≡◌, ℕ, false, List, [], ◌∷◌, ◌++◌, Option, Some, IsSomeAnd}
+use Rattle.std.specs.Prelude.{◌≡◌, false, List, [], ◌∷◌, ◌++◌, Option, Some, IsSomeAnd}
 use Rattle.std.specs.Option.{option_and_then, option_map}
 use Rattle.itable.specs.Root.{Root, chunk_at}
 use Rattle.itable.specs.ITable.{ITable, IsTable, handle_of}

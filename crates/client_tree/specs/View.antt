@@ -1,13 +1,14 @@
 -- The tree of a view: what the handles of its structures name, and on it the operations that are pending.
 -- How it is read stands in docs/RULES.md.
-use Rattle.std.specs.Prelude.{ℕ, ◌==◌, Bool, false, ◌&&◌, List, [], ◌∷◌, ◌++◌, Option, Some, None, find, filter, nat_le, nat_lt, if◌then◌else◌}
+use Rattle.std.specs.Prelude.{ℕ, ◌==◌, Bool, false, ◌&&◌, List, [], ◌∷◌, Option, Some, None, find, filter, nat_le, nat_lt, if◌then◌else◌}
 use Rattle.std.specs.Option.{option_map, option_map_or}
-use Rattle.layout.specs.Types.{Group, Handle, Key, Principal, User, Version}
+use Rattle.layout.specs.Types.{Group, Handle, Key, Principal, User}
 use Rattle.principals.specs.Table.{Table, is_member}
 use Rattle.version_order.specs.declared.structure.GroupRecord.{GroupRecord}
 use Rattle.version_order.specs.Vector.{version_of}
 use Rattle.version_order.specs.Structure.{Structure}
-use Rattle.update_cert.specs.World.{Actor, Principals, Tree, is_table}
+use Rattle.principals.specs.TableText.{table}
+use Rattle.update_cert.specs.World.{Actor, File, Principals, Tree, is_table}
 use Rattle.update_cert.specs.Reading.{Reading, after_read, void_read}
 use Rattle.pending_list.specs.declared.signed.Signed.{Signed}
 use Rattle.pending_list.specs.Reply.{PendingItem}
@@ -45,11 +46,14 @@ newest g (z ∷ zs) = newer (record_of g z.value.groups) (newest g zs)
 
 -- A user's part stands on the handle of its structure, a group's on that of its newest record; without one it is as at
 -- the beginning.
-abbrev pub handle_of : View → Principal → Handle
-handle_of x p =
+abbrev pub handle_in : Key → List (Signed Structure) → Principal → Handle
+handle_in key zs p =
     if nat_lt p 64
-    then option_map_or (λ z. z.value.handle) (structure_of p x.structures) (first_handle p x.key)
-    else option_map_or (λ r. r.handle) (newest p x.structures) (first_handle p x.key)
+    then option_map_or (λ z. z.value.handle) (structure_of p zs) (first_handle p key)
+    else option_map_or (λ r. r.handle) (newest p zs) (first_handle p key)
+
+abbrev pub handle_of : View → Principal → Handle
+handle_of x p = handle_in x.key x.structures p
 
 -- ---- which operations come after it
 
@@ -59,6 +63,10 @@ comes_after x p i =
     if nat_lt p 64
     then i.cert.user == p
     else raises x.table p i && nat_lt (option_map_or (λ r. r.version) (newest p x.structures) 0) (version_of p i.plan.vector)
+
+-- the operation is user 0's, and so comes after the table of principals that user 0's handle names
+abbrev pub is_superusers : PendingItem → Bool
+is_superusers i = i.cert.user == 0
 
 -- a group of which the operation's user is a member, where membership is judged at its table version
 abbrev pub acts_for : Table → PendingItem → Group → Bool
@@ -75,7 +83,8 @@ after_items reads t (i ∷ is) tree = after_items reads t is (after_read reads (
 
 -- ---- the tree
 
--- what the handles name: the table of principals, and at each other i-number what its i-table has there
+-- What the handles name: at each i-number what the i-table has there, and at the place of the table of principals this
+-- one, whose text is the file there.
 abbrev pub named : Reading → Table → View → Tree
 named reads users x p i = if is_table p i then Some (Principals users) else option_map reads.content (reads.inode p (handle_of x p) i)
 
@@ -87,9 +96,9 @@ tree_before reads users x p i = after_items reads x.table (filter (comes_after x
 abbrev pub tree : Reading → Table → View → Tree
 tree reads users x = after_read reads (actor_of x.table x.own) x.own.cert.changes (tree_before reads users x)
 
--- what is read there: at the place of the table of principals the file of its text, which user 0's i-table has there
+-- what is read there: at the place of the table of principals the file of its text
 abbrev pub shown : Reading → Table → View → Tree
-shown reads users x p i = if is_table p i then option_map reads.content (reads.inode p (handle_of x p) i) else tree reads users x p i
+shown reads users x p i = if is_table p i then Some (File (table.spell x.table)) else tree reads users x p i
 
 -- the numbers of the own changes that have no effect
 abbrev pub lost : Reading → Table → View → List ℕ

@@ -2,7 +2,7 @@
 
 ghost use Rattle.std.specs.Prelude.{◌≡◌, ◌≤◌, IfOk, length};
 ghost use Rattle.std.specs.List.{list_any};
-ghost use Rattle.client_tree.specs.Lost.{counts, lost_from};
+ghost use Rattle.client_tree.specs.Lost.{counts, is_kept, lost_from};
 
 use layout::{Memory, Principal};
 use std::alloc::Allocator;
@@ -47,19 +47,33 @@ fn has_effect<A: Allocator>(number: u8, change: &Change<A>, parts: &[PartVoids<A
     parts.iter().any(|part| part.counts(number, change))
 }
 
-/// The numbers, from 1 and ascending, of the changes that have effect in none of these parts.
+/// Whether the change of this number has effect in one of these parts, and isn't one of the table's that has none.
+fn is_kept<A: Allocator>(
+    number: u8,
+    change: &Change<A>,
+    parts: &[PartVoids<A>],
+    table: &[u8],
+) -> bool
+    ensures { result ≡ is_kept number parts.now table.now change.now }
+{
+    has_effect(number, change, parts) && !table.contains(&number)
+}
+
+/// The numbers, from 1 and ascending, of the changes that have effect in none of these parts, or are of the table of
+/// principals and have none there, as these numbers say.
 pub(crate) fn lost_among<A: Allocator + Copy>(
     alloc: A,
     changes: &[Change<A>],
     parts: &[PartVoids<A>],
+    table: &[u8],
 ) -> Result<Vec<u8, A>, Memory>
     requires few { length changes.now ≤ 16 }
-    ensures { IfOk result (λ lost. lost.items ≡ lost_from 1 parts.now changes.now) }
+    ensures { IfOk result (λ lost. lost.items ≡ lost_from 1 parts.now table.now changes.now) }
 {
     let mut lost = Vec::new(alloc);
     for (place, change) in changes.iter().enumerate() {
         let number = place as u8 + 1;
-        if !has_effect(number, change, parts) {
+        if !is_kept(number, change, parts, table) {
             lost.push(number)?;
         }
     }

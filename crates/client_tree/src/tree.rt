@@ -1,27 +1,32 @@
 //! What the own operation makes of the tree of a view.
 
-ghost use Rattle.std.specs.Prelude.{◌≡◌, ◌++◌, IfOk, IfErr, OnOk, map};
+ghost use Rattle.std.specs.Prelude.{◌≡◌, ◌==◌, ◌++◌, ℕ, Some, false, IfOk, IfErr, OnOk, map, if◌then◌else◌};
 ghost use Rattle.std.specs.Vec.{vec_items};
-ghost use Rattle.itable.specs.ITable.{IsTable, handle_of as table_handle};
+ghost use Rattle.itable.specs.File.{blocks_of, inode_of};
+ghost use Rattle.itable.specs.Inode.{inode};
+ghost use Rattle.itable.specs.ITable.{IsTable, digest_at, handle_of as table_handle};
 ghost use Rattle.principals.specs.Table.{Table as Principals};
+ghost use Rattle.principals.specs.TableText.{table as table_format};
+ghost use Rattle.update_cert.specs.World.{is_table};
 ghost use Rattle.update_cert.specs.Reading.{Reading, void_of_read};
 ghost use Rattle.update_cert.specs.Blocks.{Agrees, Blocks as Held};
 ghost use Rattle.update_cert.specs.Asked.{Lacks};
 ghost use Rattle.client_tree.specs.View.{View as ViewModel, actor_of, shown, tree_before, written};
 ghost use Rattle.client_tree.specs.Opened.{HasLooked, IsLooked, IsOpened, IsReached};
-ghost use Rattle.client_tree.specs.Tree.{IsOutcome, IsStored, IsWanted, table_texts};
+ghost use Rattle.client_tree.specs.Tree.{IsLost, IsOutcome, IsStored, IsWanted, principals_digest, principals_texts, table_texts};
 ghost use Rattle.client_tree.specs.Seen.{content_seen};
 
 use crate::contents::{Seen, read_content};
 use crate::lost::{PartVoids, lost_among};
 use crate::opened::Opened;
 use crate::view::View;
-use itable::ITable;
-use layout::{Digest, INumber, Memory, Principal};
+use itable::{ITable, Laid, LayError, lay_file};
+use layout::{Digest, INumber, Memory, Principal, Text, digest};
 use pending_list::raised_groups;
+use principals::Table;
 use std::alloc::Allocator;
 use std::marker::Model;
-use update_cert::{ApplyError, Blocks, LaidPart, Slot};
+use update_cert::{ApplyError, Blocks, LaidPart, Slot, Voids, has_digest, is_table};
 
 /// A principal's part, as it is stored.
 #[derive(Drop)]
@@ -52,6 +57,20 @@ pub struct Outcome<A: Allocator> {
     pub parts: Vec<Stored<A>, A>,
     /// The numbers, from 1 and ascending, of the changes that have no effect.
     pub lost: Vec<u8, A>,
+}
+
+/// The file of the text of a table of principals, laid in blocks.
+fn lay_principals<A: Allocator + Copy>(alloc: A, users: &Table<A>) -> Result<Laid<A>, Memory>
+    ensures inode { IfOk result (λ laid. laid.inode.items ≡ inode.spell (inode_of (table_format.spell users.now))) }
+    ensures blocks { IfOk result (λ laid. map vec_items laid.blocks.items ≡ blocks_of (table_format.spell users.now)) }
+{
+    users.text_fits();
+    let text = users.text(alloc)?;
+    match lay_file(alloc, &text) {
+        Ok(laid) => Ok(laid),
+        Err(LayError::TooLarge) => unreachable!(),
+        Err(LayError::Memory) => Err(Memory),
+    }
 }
 
 /// An i-table's handle, and the texts by which it is stored where an earlier one was.
@@ -112,13 +131,60 @@ struct Written<A: Allocator> {
     voids: PartVoids<A>,
 }
 
+/// A part that was laid, and at its place the file of the table of principals, where this i-table was stored before: the
+/// texts of the file come last, and only where it is another one.
+fn with_principals<A: Allocator + Copy>(
+    alloc: A,
+    before: &ITable<A>,
+    laid: LaidPart<A>,
+    users: &Table<A>,
+) -> Result<LaidPart<A>, Memory>
+    ensures digests { IfOk result (λ new. (i : ℕ) → digest_at new.table i ≡ (if 1 == i then Some (principals_digest users.now) else digest_at laid.table i)) }
+    ensures texts { IfOk result (λ new. map vec_items new.texts.items ≡ map vec_items laid.texts.items ++ principals_texts before.now 0 users.now) }
+    ensures principal { IfOk result (λ new. new.table.principal ≡ laid.table.principal) }
+{
+    let LaidPart {
+        mut table,
+        mut texts,
+    } = laid;
+    let Laid { inode, mut blocks } = lay_principals(alloc, users)?;
+    let digest = digest(&inode);
+    if !has_digest(before, INumber::table(), digest) {
+        texts.append(&mut blocks)?;
+        texts.push(inode)?;
+    }
+    table.set(INumber::table(), digest)?;
+    Ok(LaidPart { table, texts })
+}
+
+/// A part that was laid, with the table of principals where it is user 0's.
+fn with_table<A: Allocator + Copy>(
+    alloc: A,
+    principal: Principal,
+    before: &ITable<A>,
+    laid: LaidPart<A>,
+    users: &Table<A>,
+) -> Result<LaidPart<A>, Memory>
+    ensures digests { IfOk result (λ new. (i : ℕ) → is_table principal i ≡ false → digest_at new.table i ≡ digest_at laid.table i) }
+    ensures users { IfOk result (λ new. principal ≡ 0 → digest_at new.table 1 ≡ Some (principals_digest users.now)) }
+    ensures texts { IfOk result (λ new. map vec_items new.texts.items ≡ map vec_items laid.texts.items ++ principals_texts before.now principal users.now) }
+    ensures principal { IfOk result (λ new. new.table.principal ≡ laid.table.principal) }
+{
+    if principal.get() == 0 {
+        with_principals(alloc, before, laid, users)
+    } else {
+        Ok(laid)
+    }
+}
+
 /// A part that was opened, as it is stored.
 fn store_part<A: Allocator + Copy>(
     alloc: A,
     principal: Principal,
     opened: Opened<A>,
+    users: &Table<A>,
 ) -> Result<Written<A>, Memory>
-    ensures stored { (blocks : Held) (x : ViewModel) → IsOpened blocks x principal opened.before opened.part
+    ensures stored { (blocks : Held) (x : ViewModel) → x.table ≡ users.now → IsOpened blocks x principal opened.before opened.part
         → IfOk result (λ w. IsStored blocks x w.stored) }
     ensures principal { IfOk result (λ w. w.stored.principal ≡ principal) }
     ensures voids { IfOk result (λ w. w.voids ≡ record { principal = principal; numbers = opened.voids }) }
@@ -129,6 +195,7 @@ fn store_part<A: Allocator + Copy>(
         voids,
     } = opened;
     let laid = part.lay(alloc, &before)?;
+    let laid = with_table(alloc, principal, &before, laid, users)?;
     let StoredTable { handle, texts } = store_laid(alloc, before, laid)?;
     Ok(Written {
         stored: Stored {
@@ -169,24 +236,32 @@ impl<'a, A: Allocator + Copy> View<'a, A> {
         ensures missing { IfErr result (Lacks (B.held blocks.now) (IsReached (B.held blocks.now) self.now principal)) }
     {
         let opened = self.open(alloc, blocks, principal)?;
-        let written = store_part(alloc, principal, opened)?;
+        let written = store_part(alloc, principal, opened, self.table())?;
         Ok(written)
     }
 
-    /// What the own operation makes of the tree. The errors are Missing of a block, and Memory.
-    pub fn outcome<B: Blocks>(&self, alloc: A, blocks: &B) -> Result<Outcome<A>, ApplyError>
-        ensures outcome { IfOk result (λ o. IsOutcome (B.held blocks.now) self.now o.parts.items o.lost.items) }
+    /// What the own operation makes of the tree, where these of its changes have no effect on the table of principals. The
+    /// errors are Missing of a block, and Memory.
+    pub fn outcome<B: Blocks>(
+        &self,
+        alloc: A,
+        blocks: &B,
+        voids: &Voids<A>,
+    ) -> Result<Outcome<A>, ApplyError>
+        ensures outcome { IfOk result (λ o. IsOutcome (B.held blocks.now) self.now o.parts.items) }
+        ensures lost { IfOk result (λ o. IsLost (B.held blocks.now) self.now voids.now o.lost.items) }
         // Missing names a digest that a spot asks for, and of which no text is held that the spot takes.
         ensures missing { IfErr result (Lacks (B.held blocks.now) (IsWanted (B.held blocks.now) self.now)) }
     {
         let mut parts = Vec::new(alloc);
-        let mut voids = Vec::new(alloc);
+        let mut of_parts = Vec::new(alloc);
         for principal in &self.written(alloc)? {
             let written = self.write(alloc, blocks, *principal)?;
             parts.push(written.stored)?;
-            voids.push(written.voids)?;
+            of_parts.push(written.voids)?;
         }
-        let lost = lost_among(alloc, self.own().cert().changes(), &voids)?;
+        let changes = self.own().cert().changes();
+        let lost = lost_among(alloc, changes, &of_parts, voids.numbers())?;
         Ok(Outcome { parts, lost })
     }
 
@@ -201,10 +276,14 @@ impl<'a, A: Allocator + Copy> View<'a, A> {
         // Whatever stands for the digests of which no block tells.
         ensures seen { (reads : Reading) (users : Principals) → Agrees (B.held blocks.now) reads
             → IfOk result (λ s. content_seen s ≡ shown reads users self.now principal i_number) }
-        // Each block of what stands there is what its place takes.
-        ensures taken { OnOk result (HasLooked (B.held blocks.now) self.now principal i_number) }
+        // Each block of what stands there is what its place takes; the table of principals was read before.
+        ensures taken { is_table principal i_number ≡ false → OnOk result (HasLooked (B.held blocks.now) self.now principal i_number) }
         ensures missing { IfErr result (Lacks (B.held blocks.now) (IsLooked (B.held blocks.now) self.now principal i_number)) }
     {
+        if is_table(principal, i_number) {
+            let text = self.table().text(alloc)?;
+            return Ok(Seen::File(text));
+        }
         let opened = self.open(alloc, blocks, principal)?;
         let Some(slot) = opened.part.into_slot(i_number) else {
             return Ok(Seen::Nothing);

@@ -2,7 +2,7 @@
 
 ghost use Rattle.std.specs.Prelude.{◌≡◌, IfOk, IfSome, MatchOption, Some, true, false, nat_lt};
 ghost use Rattle.std.specs.Option.{option_copied, option_map, option_map_or};
-ghost use Rattle.client_tree.specs.View.{acts_for, comes_after, handle_of, newer, newest, record_of, structure_of};
+ghost use Rattle.client_tree.specs.View.{acts_for, comes_after, handle_in, handle_of, newer, newest, record_of, structure_of};
 
 use crate::genesis::first_handle;
 use layout::{Digest, Group, Memory, Principal};
@@ -153,19 +153,48 @@ impl<'a, A: Allocator> View<'a, A> {
     }
 }
 
+/// The handle of a group's newest record, if there is one.
+fn group_handle<A: Allocator>(group: Group, structures: &[Signed<Structure<A>>]) -> Option<Digest>
+    ensures { result ≡ option_map (λ r. r.handle) (newest group structures.now) }
+{
+    newest(group, structures).map(|row| row.handle)
+}
+
+/// The handle of a user's structure, if there is one.
+fn user_handle<A: Allocator>(
+    principal: Principal,
+    structures: &[Signed<Structure<A>>],
+) -> Option<Digest>
+    ensures { result ≡ option_map (λ z. z.value.handle) (structure_of principal structures.now) }
+{
+    structure_of(principal, structures).map(|shown| shown.value.handle())
+}
+
+/// The handle on which a principal's part stands, by these structures. The error is Memory.
+pub(crate) fn handle_in<A: Allocator + Copy>(
+    alloc: A,
+    key: &[u8; 56],
+    structures: &[Signed<Structure<A>>],
+    principal: Principal,
+) -> Result<Digest, Memory>
+    ensures { IfOk result (λ handle. handle ≡ handle_in key.now structures.now principal) }
+{
+    let named = match group_of(principal) {
+        Some(group) => group_handle(group, structures),
+        None => user_handle(principal, structures),
+    };
+    match named {
+        Some(handle) => Ok(handle),
+        None => first_handle(alloc, principal, key),
+    }
+}
+
 impl<'a, A: Allocator + Copy> View<'a, A> {
     /// The handle on which a principal's part stands. The error is Memory.
     pub(crate) fn handle_of(&self, alloc: A, principal: Principal) -> Result<Digest, Memory>
         ensures { IfOk result (λ handle. handle ≡ handle_of self.now principal) }
     {
-        let named = match group_of(principal) {
-            Some(group) => newest(group, self.structures).map(|row| row.handle),
-            None => structure_of(principal, self.structures).map(|shown| shown.value.handle()),
-        };
-        match named {
-            Some(handle) => Ok(handle),
-            None => first_handle(alloc, principal, self.key),
-        }
+        handle_in(alloc, self.key, self.structures, principal)
     }
 }
 

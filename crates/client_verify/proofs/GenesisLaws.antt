@@ -134,7 +134,7 @@ root_is : (blocks : Blocks) (reads : Reading) → Agrees blocks reads → blocks
 root_is blocks reads agrees text is =
     let size = empty_size in
     let over : directory_over blocks root_inode ≡ Some [] =
-    ap (option_and_then (of_size root_inode.size)) (over_one blocks (directory.spell []) (omega (arith, size)) (omega (arith, size)) text)
+    ap (option_and_then (of_size directory root_inode.size)) (over_one blocks (directory.spell []) (omega (arith, size)) (omega (arith, size)) text)
     ∙ rw (eq-eqb (length (directory.spell [])) (length (directory.spell [])) refl) (ap result_ok (whole_again directory lawful_directory [] empty_fits)) in
     ap (λ (content : Content). Some content) (sym (directory_is blocks reads (inode_digest root_inode) root_inode [] agrees (inode_held blocks root_inode root_fits is) refl over))
 

@@ -1,48 +1,87 @@
 -- What goes on is judged so, handed so, or given so.
-use Rattle.std.proofs.Common.{◌≡◌, ℕ, List, Option, Some, None, sym, subst}
+use Rattle.std.proofs.Common.{◌≡◌, ℕ, List, Option, Some, None, true, refl, sym, subst, inl, inr}
 use Rattle.std.specs.Prelude.{IfSome, IsSomeAnd}
-use Rattle.reply_rules.specs.Lists.{Lists}
+use Rattle.reply_rules.specs.Lists.{Lists, lists_of}
 use Rattle.client_tree.specs.Held.{Block, held, keeping}
 use Rattle.client_verify.specs.declared.view.Looking.{Looking}
 use Rattle.client_verify.specs.declared.step.Step.{Step}
 use Rattle.client_verify.specs.declared.step.Step.TheVariants as step
 use Rattle.client_verify.specs.declared.look.Look.{Look}
 use Rattle.client_verify.specs.declared.look.Look.TheVariants as look
-use Rattle.client_verify.specs.FirstBroken.{first_broken}
-use Rattle.client_verify.specs.State.{State, AcceptedView, Checked, known, lists_in, view_over, block_breaks, holding}
-use Rattle.client_verify.specs.Judged.{Goes, Judged, Handed}
+use Rattle.layout.specs.Types.{Handle}
+use Rattle.version_order.specs.declared.structure.GroupRecord.{GroupRecord}
+use Rattle.client_tree.specs.Tree.{IsWanted}
+use Rattle.client_tree.specs.View.{handle_in}
+use Rattle.client_tree.specs.Principals.{IsOfNamed}
+use Rattle.update_cert.specs.Spot.{lacks}
+use Rattle.pending_list.specs.Reply.{Reply}
+use Rattle.client_verify.specs.declared.asked.Asked.{Asked}
+use Rattle.client_verify.specs.FirstBroken.{reply_breaks, reply_in, view_over}
+use Rattle.client_verify.specs.Good.{Good}
+use Rattle.client_verify.specs.State.{State, AcceptedView, Checked, Reading, Writing, asked_of, known, block_breaks, holding}
+use Rattle.client_verify.specs.Judged.{Goes, GoesOn, Handed, IsGood, Judged, Taken, view_of}
 use Rattle.client_verify.specs.Looked.{Looked, Given}
 use Rattle.client_verify.specs.Grown.{IsAnswer}
 use Rattle.client_verify.specs.declared.growing.Shown.{Shown}
 
-some_one : {A : Type 0} (o : Option A) (a : A) (P : A → Type 0) → o ≡ Some a → P a → IsSomeAnd o P
+pub some_one : {A : Type 0} (o : Option A) (a : A) (P : A → Type 0) → o ≡ Some a → P a → IsSomeAnd o P
 some_one {A} o a P is holds = subst (λ (x : Option A). IsSomeAnd x P) (sym is) holds
-
--- whether a reply was under check before doesn't matter
-goes_anew : {A : Type 0} (s : State) (o : Option Checked) (x : Lists) (r : Step A) (new : State) → Goes (record s { checked = o }) x r new → Goes s x r new
-goes_anew s o x (step.Need d) new goes = goes
-goes_anew s o x (step.Store texts) new goes = goes
-goes_anew s o x (step.Broken rule) new goes = absurd goes
-
-pub goes_from : {A : Type 0} (v old : State) (o : Option Checked) (blocks : List Block) (text : List ℕ) (x y : Lists) (r : Step A) (new : State) → v ≡ old → blocks ≡ keeping old.blocks text → x ≡ y
-    → Goes (record v { blocks = blocks; checked = o }) x r new → Goes (holding old text) y r new
-goes_from {A} v old o blocks text x y r new is kept same goes =
-    let of_old : Goes (record old { blocks = blocks; checked = o }) x r new = subst (λ (s : State). Goes {A = A} (record s { blocks = blocks; checked = o }) x r new) is goes in
-    let of_kept : Goes (record old { blocks = keeping old.blocks text; checked = o }) x r new = subst (λ (b : List Block). Goes {A = A} (record old { blocks = b; checked = o }) x r new) kept of_old in
-    goes_anew (holding old text) o y r new (subst (λ (z : Lists). Goes {A = A} (record old { blocks = keeping old.blocks text; checked = o }) z r new) same of_kept)
 
 pub if_some : {A : Type 0} (o : Option A) (a : A) (P : A → Type 0) → o ≡ Some a → P a → IfSome o P
 if_some {A} o a P is holds = subst (λ (x : Option A). IfSome x P) (sym is) holds
 
-pub judged_goes : {A : Type 0} (old : State) (text : List ℕ) (x : Lists) (s : Step A) (new : State) → first_broken (known old) text ≡ None → lists_in text ≡ Some x → Goes old x s new → Judged old text s new
-judged_goes old text x (step.Need d) new none lists goes = (none, some_one (lists_in text) x _ lists goes)
-judged_goes old text x (step.Store texts) new none lists goes = (none, some_one (lists_in text) x _ lists goes)
-judged_goes old text x (step.Broken rule) new none lists goes = absurd goes
+-- ---- a reply goes on
 
-pub handed_goes : {A : Type 0} (old : State) (k : Checked) (block : Option (List ℕ)) (text : List ℕ) (s : Step A) (new : State) → block_breaks (held old.blocks) k.asked block ≡ None → block ≡ Some text → Goes (holding old text) k.lists s new → Handed old k block s new
+-- whether a reply was under check before doesn't matter
+goes_anew : {A : Type 0} (s : State) (o : Option Checked) (x : Good) (r : Step A) (new : State) → Goes (record s { checked = o }) x r new → Goes s x r new
+goes_anew s o x (step.Need d) new goes = goes
+goes_anew s o x (step.Store texts) new goes = goes
+goes_anew s o x (step.Broken rule) new goes = absurd goes
+
+-- what goes on from the state with a block more, where the reply under check was taken out, goes on from it
+pub goes_from : {A : Type 0} (v old : State) (o : Option Checked) (blocks : List Block) (text : List ℕ) (x y : Good) (r : Step A) (new : State) → v ≡ old → blocks ≡ keeping old.blocks text → x ≡ y
+    → Goes (record v { blocks = blocks; checked = o }) x r new → Goes (holding old text) y r new
+goes_from {A} v old o blocks text x y r new is kept same goes =
+    let of_old : Goes (record old { blocks = blocks; checked = o }) x r new = subst (λ (s : State). Goes {A = A} (record s { blocks = blocks; checked = o }) x r new) is goes in
+    let of_kept : Goes (record old { blocks = keeping old.blocks text; checked = o }) x r new = subst (λ (b : List Block). Goes {A = A} (record old { blocks = b; checked = o }) x r new) kept of_old in
+    goes_anew (holding old text) o y r new (subst (λ (z : Good). Goes {A = A} (record old { blocks = keeping old.blocks text; checked = o }) z r new) same of_kept)
+
+-- a block is asked for that tells what the operation makes
+pub goes_need : (A : Type 0) (s new : State) (x : Good) (a : Asked) (st : Step A) → st ≡ step.Need a.digest → new ≡ record s { checked = Some (Writing x a); accepted = None }
+    → IsWanted (held s.blocks) (view_of s.pinned x) a.digest a.spot × (lacks (held s.blocks) a.digest a.spot ≡ true) → Goes s x st new
+goes_need A s new x a st is made wanted = subst (λ (y : Step A). Goes s x y new) (sym is) (a, refl, made, wanted.0, wanted.1)
+
+-- the state with an accepted reply
+pub ready_is : (s old : State) (g good : Good) (one other : Handle) (made records : List GroupRecord) (lost : List ℕ) → s ≡ old → g ≡ good → one ≡ other → made ≡ records
+    → record s { checked = None; accepted = Some (record { lists = g.lists; table = g.table; handle = one; records = made; lost = lost }) } ≡ record old { checked = None; accepted = Some (record { lists = good.lists; table = good.table; handle = other; records = records; lost = lost }) }
+ready_is s old g good one other made records lost is same handle of_groups = rw (is, same, handle, of_groups) refl
+
+-- a block of the table of principals is asked for
+pub taken_need : (A : Type 0) (s new : State) (r : Reply) (x : Lists) (a : Asked) → new ≡ record s { checked = Some (Reading r a); accepted = None }
+    → IsOfNamed (held s.blocks) (handle_in s.pinned x.structures 0) a.digest a.spot × (lacks (held s.blocks) a.digest a.spot ≡ true) → Taken {A = A} s r x (step.Need a.digest) new
+taken_need A s new r x a is lacks = inl (a, refl, is, lacks.0, lacks.1)
+
+-- the lists break no rule by the table that was read
+pub taken_goes : {A : Type 0} (s new : State) (r : Reply) (x : Lists) (good : Good) (st : Step A) → IsGood s x good → Goes s good st new → Taken s r x st new
+taken_goes s new r x good (step.Need d) is goes = inr (good, is, goes)
+taken_goes s new r x good (step.Store texts) is goes = (good, is, goes)
+taken_goes s new r x good (step.Broken rule) is goes = absurd goes
+
+pub judged_taken : {A : Type 0} (old : State) (text : List ℕ) (r : Reply) (x : Lists) (st : Step A) (new : State) → reply_breaks (known old) text ≡ None → reply_in text ≡ Some r → lists_of r ≡ Some x → Taken old r x st new → Judged old text st new
+judged_taken old text r x (step.Need d) new none read lists taken = (none, some_one (reply_in text) r _ read (some_one (lists_of r) x _ lists taken))
+judged_taken old text r x (step.Store texts) new none read lists taken = (none, some_one (reply_in text) r _ read (some_one (lists_of r) x _ lists taken))
+judged_taken old text r x (step.Broken rule) new none read lists taken = absurd taken
+
+-- what isn't broken by the lists isn't Broken
+no_rule : (o : Option Lists) → IsSomeAnd o (λ x. ⊥) → ⊥
+no_rule None none = none
+no_rule (Some x) none = none
+
+pub handed_goes : {A : Type 0} (old : State) (k : Checked) (block : Option (List ℕ)) (text : List ℕ) (st : Step A) (new : State) → block_breaks (held old.blocks) (asked_of k) block ≡ None → block ≡ Some text → GoesOn (holding old text) k st new → Handed old k block st new
 handed_goes old k block text (step.Need d) new none is goes = (none, some_one block text _ is goes)
 handed_goes old k block text (step.Store texts) new none is goes = (none, some_one block text _ is goes)
-handed_goes old k block text (step.Broken rule) new none is goes = absurd goes
+handed_goes old (Reading r a) block text (step.Broken rule) new none is goes = absurd (no_rule (lists_of r) goes)
+handed_goes old (Writing x a) block text (step.Broken rule) new none is goes = absurd goes
 
 pub given_looked : {A : Type 0} (old : State) (v : AcceptedView) (l : Looking) (block : Option (List ℕ)) (text : List ℕ) (s : Look A) (new : State) → block_breaks (held old.blocks) l.asked block ≡ None → block ≡ Some text → Looked (holding old text) v l.principal l.i_number s new → Given old v l block s new
 given_looked old v l block text (look.Need d) new none is looked = (none, some_one block text _ is looked)
@@ -60,7 +99,7 @@ given_from {A} inner old v l blocks block text s new is kept there none given lo
     given_looked old v l block text s new none given (subst (λ (b : List Block). Looked {A = A} (record old { blocks = b }) v l.principal l.i_number s new) kept of_view)
 
 -- what is shown by blocks in a view is shown by the same blocks in the same view
-pub shown_there : {A : Type 0} (before blocks : List Block) (key same_key : List ℕ) (inside v : AcceptedView) (p i : ℕ) (s : Shown A) → before ≡ blocks → key ≡ same_key → inside ≡ v → IsAnswer (held before) (view_over key inside.lists) p i s → IsAnswer (held blocks) (view_over same_key v.lists) p i s
+pub shown_there : {A : Type 0} (before blocks : List Block) (key same_key : List ℕ) (inside v : AcceptedView) (p i : ℕ) (s : Shown A) → before ≡ blocks → key ≡ same_key → inside ≡ v → IsAnswer (held before) (view_over key inside.table inside.lists) p i s → IsAnswer (held blocks) (view_over same_key v.table v.lists) p i s
 shown_there {A} before blocks key same_key inside v p i s same pinned is shown =
-    subst (λ (bs : List Block). IsAnswer {A = A} (held bs) (view_over same_key v.lists) p i s) same
-    (subst (λ (k : List ℕ). IsAnswer {A = A} (held before) (view_over k v.lists) p i s) pinned (subst (λ (w : AcceptedView). IsAnswer {A = A} (held before) (view_over key w.lists) p i s) is shown))
+    subst (λ (bs : List Block). IsAnswer {A = A} (held bs) (view_over same_key v.table v.lists) p i s) same
+    (subst (λ (k : List ℕ). IsAnswer {A = A} (held before) (view_over k v.table v.lists) p i s) pinned (subst (λ (w : AcceptedView). IsAnswer {A = A} (held before) (view_over key w.table w.lists) p i s) is shown))

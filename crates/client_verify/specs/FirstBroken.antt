@@ -1,21 +1,26 @@
 -- The first broken rule of a reply: the least whose test doesn't hold.
 -- The rules stand in docs/RULES.md.
-use Rattle.std.specs.Prelude.{ℕ, ◌-◌, List, [], ◌∷◌, Option, Some, None, Result, Ok, Err, Bool, true, false, ◌&&◌, ◌||◌, ◌==◌, not, length, find}
+use Rattle.std.specs.Prelude.{◌≡◌, ℕ, ◌-◌, List, [], ◌∷◌, Option, Some, None, Result, Ok, Err, Bool, true, false, ◌&&◌, ◌||◌, ◌==◌, not, length, find, IsSomeAnd}
 use Rattle.std.specs.List.{list_all, slice_get}
-use Rattle.std.specs.Option.{option_map, option_map_or}
+use Rattle.std.specs.Option.{option_and_then, option_map, option_map_or}
+use Rattle.std.specs.Result.{result_ok}
 use Rattle.std.specs.Str.{bytes_eq}
 use Rattle.layout.specs.declared.error.ReadError.{ReadError}
 use Rattle.layout.specs.Format.{whole}
+use Rattle.layout.specs.Types.{Bytes, Key, User}
 use Rattle.lms_sign.specs.Signature.{valid}
 use Rattle.version_order.specs.Structure.{Structure, structure}
 use Rattle.update_cert.specs.Cert.{cert}
 use Rattle.pending_list.specs.declared.signed.Signed.{Signed}
 use Rattle.pending_list.specs.Signed.{signed}
 use Rattle.pending_list.specs.Reply.{PendingItem, Reply, reply}
-use Rattle.principals.specs.Table.{genesis}
-use Rattle.reply_rules.specs.Lists.{Lists, lists_of}
-use Rattle.reply_rules.specs.Rules.{lists}
-use Rattle.reply_rules.specs.Broken.{least, rules_of}
+use Rattle.principals.specs.Table.{Table, key_of}
+use Rattle.update_cert.specs.Blocks.{Blocks}
+use Rattle.client_tree.specs.View.{View, handle_in}
+use Rattle.client_tree.specs.Principals.{IsNamed, IsPending}
+use Rattle.reply_rules.specs.Lists.{Lists, items, lists_of}
+use Rattle.reply_rules.specs.Rules.{lists, unknown_user}
+use Rattle.reply_rules.specs.Broken.{later_rules, least}
 use Rattle.reply_rules.specs.declared.rule.Rule.{Rule}
 use Rattle.reply_rules.specs.declared.rule.Rule.TheVariants as rule
 
@@ -63,9 +68,7 @@ cert_verifies key i = not (i.cert.user == 0) || valid key (cert.spell i.cert) i.
 unfoldable pub super_signature : List ℕ → Reply → Bool
 super_signature key r = list_all (structure_verifies key) r.structures && list_all (cert_verifies key) r.pending
 
--- the rules that speak of the lists alone, where something is pending
-abbrev pub of_lists : List ℕ → Option Lists → List (Rule × Bool)
-of_lists pinned x = option_map_or (rules_of (genesis pinned)) x []
+-- ---- the rules on the reply itself
 
 unfoldable pub of_reply : Known → Reply → Option Rule
 of_reply k r =
@@ -73,14 +76,60 @@ of_reply k r =
     ∷ (rule.OwnLast, own_last k.user k.last r)
     ∷ (rule.OwnPending, own_pending k.declared r)
     ∷ (rule.SuperSignature, super_signature k.pinned r)
-    ∷ of_lists k.pinned (lists_of r))
+    ∷ [])
 
 abbrev pub of_read : Known → Result Reply ReadError → Option Rule
 of_read k (Err e) = Some rule.Form
 of_read k (Ok r) = of_reply k r
 
--- The first broken rule of the bytes of a reply, or none, while user 0 alone is listed. The rules on blocks are judged
--- where a block is handed in (block_breaks). An item of another user breaks UnknownUser, so that the rules on others'
--- signatures can't be the first.
-unfoldable pub first_broken : Known → List ℕ → Option Rule
-first_broken k text = of_read k (whole reply text)
+-- the first of them that the bytes of a reply break
+unfoldable pub reply_breaks : Known → List ℕ → Option Rule
+reply_breaks k text = of_read k (whole reply text)
+
+-- ---- the rules by the table of principals
+
+-- a signature of another user than user 0 verifies under the key that the table has of the user
+abbrev pub verifies : Table → User → Bytes → Bytes → Bool
+verifies t user text signature = (user == 0) || option_map_or (λ key. valid key text signature) (key_of user t) false
+
+unfoldable pub signatures : Table → Lists → Bool
+signatures t x = list_all (λ z. verifies t z.value.plan.user (structure.spell z.value) z.signature) x.structures
+
+unfoldable pub certificates : Table → Lists → Bool
+certificates t x = list_all (λ i. verifies t i.cert.user (cert.spell i.cert) i.signature) (items x)
+
+-- the first of them that the lists break
+abbrev pub lists_break : Table → Lists → Option Rule
+lists_break t x =
+    least ((rule.UnknownUser, unknown_user t x) ∷ (rule.Signature, signatures t x) ∷ (rule.Certificate, certificates t x) ∷ later_rules t x)
+
+-- the lists of a reply as a view, by this table of principals
+abbrev pub view_over : Key → Table → Lists → View
+view_over key t x = record { key = key; table = t; structures = x.structures; others = x.others; own = x.own }
+
+-- The table of principals of the lists, as it can be read from these blocks: the one that user 0's handle names, as the
+-- pending operations leave it. The own changes of it with these numbers have no effect.
+pub record IsRead (blocks : Blocks) (key : Key) (x : Lists) (t : Table) (void : List ℕ) : Type 0 where
+  pub users : Table
+  pub named : IsNamed blocks (handle_in key x.structures 0) users
+  pub pending : IsPending users (view_over key t x) void
+
+-- what the lists break, once the table can be read from these blocks
+abbrev pub ByTable : Blocks → Key → Lists → Option Rule → Type 0
+ByTable blocks key x None = (t : Table) (void : List ℕ) → IsRead blocks key x t void → lists_break t x ≡ None
+ByTable blocks key x (Some rule) = (t : Table) × (void : List ℕ) × IsRead blocks key x t void × (lists_break t x ≡ Some rule)
+
+-- the reply that the bytes spell, if they spell one, and its lists
+abbrev pub reply_in : Bytes → Option Reply
+reply_in text = result_ok (whole reply text)
+
+abbrev pub lists_in : Bytes → Option Lists
+lists_in text = option_and_then lists_of (reply_in text)
+
+-- The first broken rule of a reply and of the block that was handed in last is this one: of the bytes, which break this
+-- rule or none of those on the reply itself; of the block, which breaks this one or none; and of the lists, if there are
+-- any, by the blocks that are held then, once the table of principals can be read from them.
+abbrev pub IsFirstBroken : Option Rule → Option Rule → Blocks → Key → Option Lists → Rule → Type 0
+IsFirstBroken (Some first) block blocks key x rule = first ≡ rule
+IsFirstBroken None (Some first) blocks key x rule = first ≡ rule
+IsFirstBroken None None blocks key x rule = IsSomeAnd x (λ y. ByTable blocks key y (Some rule))

@@ -1,4 +1,5 @@
 pub mod FirstBroken
+pub mod Good
 pub mod State
 pub mod Judged
 pub mod Looked

@@ -1,28 +1,25 @@
 -- A client as a machine: its state, and what each call makes of it.
-use Rattle.std.specs.Prelude.{ℕ, ◌+◌, List, [], ◌++◌, Option, Some, None}
-use Rattle.std.specs.Option.{option_map_or, option_and_then}
-use Rattle.std.specs.Result.{result_ok}
+use Rattle.std.specs.Prelude.{ℕ, ◌+◌, List, [], ◌∷◌, ◌++◌, fold, Option, Some, None}
+use Rattle.std.specs.Option.{option_map_or}
 use Rattle.std.specs.Ordering.{nat_cmp}
 use Rattle.layout.specs.Ascending.{with_row}
-use Rattle.layout.specs.Format.{whole}
 use Rattle.layout.specs.Hash.{hash}
-use Rattle.layout.specs.Types.{Digest, Handle, Key}
+use Rattle.layout.specs.Types.{Digest, Handle}
 use Rattle.lms_sign.specs.Signature.{signature_of}
 use Rattle.version_order.specs.declared.structure.GroupRecord.{GroupRecord}
 use Rattle.version_order.specs.Plan.{Plan}
-use Rattle.version_order.specs.Structure.{Structure, structure}
+use Rattle.version_order.specs.Structure.{Structure, group_of, structure}
 use Rattle.update_cert.specs.Change.{Change}
 use Rattle.update_cert.specs.Cert.{Cert, cert}
 use Rattle.update_cert.specs.Blocks.{Blocks}
 use Rattle.update_cert.specs.Spot.{takes}
 use Rattle.client_tree.specs.Held.{Block, keeping, keeping_all}
 use Rattle.client_tree.specs.Genesis.{first_blocks}
-use Rattle.client_tree.specs.View.{View}
-use Rattle.principals.specs.Table.{genesis}
+use Rattle.principals.specs.Table.{Table}
 use Rattle.pending_list.specs.declared.signed.Signed.{Signed}
 use Rattle.pending_list.specs.Signed.{signed}
-use Rattle.pending_list.specs.Reply.{digest_of_last, reply, user_of}
-use Rattle.reply_rules.specs.Lists.{Lists, lists_of}
+use Rattle.pending_list.specs.Reply.{Reply, digest_of_last, user_of}
+use Rattle.reply_rules.specs.Lists.{Lists}
 use Rattle.reply_rules.specs.declared.rule.Rule.{Rule}
 use Rattle.reply_rules.specs.declared.rule.Rule.TheVariants as rule
 use Rattle.std.specs.Str.{bytes_eq}
@@ -33,23 +30,40 @@ use Rattle.client_verify.specs.declared.phase.Phase.{Phase}
 use Rattle.client_verify.specs.declared.phase.Phase.TheVariants as phase
 use Rattle.client_verify.specs.declared.asked.Asked.{Asked}
 use Rattle.client_verify.specs.declared.view.Looking.{Looking}
+use Rattle.client_verify.specs.declared.view.Stage.{Stage as Held}
+use Rattle.client_verify.specs.declared.view.Stage.TheVariants as stage
 use Rattle.client_verify.specs.FirstBroken.{Known}
+use Rattle.client_verify.specs.Good.{Good}
 
--- a reply that breaks none of the rules on lists, of which a block is asked for
-pub record Checked : Type 0 where
-  pub lists : Lists
-  pub asked : Asked
+-- A reply that breaks none of the rules on itself, of which a block is asked for: one of the table of principals; or,
+-- once that is read and the lists break no rule by it, one that tells what the own operation makes.
+pub data Checked : Type 0 where
+  Reading : Reply → Asked → Checked
+  Writing : Good → Asked → Checked
 
--- a reply that breaks no rule, the handle of the own part after the own operation, and the changes that it loses
+abbrev pub asked_of : Checked → Asked
+asked_of (Reading r a) = a
+asked_of (Writing x a) = a
+
+-- a reply under check in memory
+abbrev pub checked_in : {A : Type 0} → Held A → Checked
+checked_in (stage.Reading r a) = Reading r a
+checked_in (stage.Writing x a) = Writing x a
+
+-- a reply that breaks no rule by this table, the handle of the own part after the own operation, the records of the groups
+-- that it raises, and the changes that it loses
 pub record Ready : Type 0 where
   pub lists : Lists
+  pub table : Table
   pub handle : Handle
+  pub records : List GroupRecord
   pub lost : List ℕ
 
--- an accepted view: the lists of the reply that it was signed over, its structures with the own new one in its user's
--- place, and the changes that the own operation lost
+-- an accepted view: the lists of the reply that it was signed over, the table of principals, its structures with the own
+-- new one in its user's place, and the changes that the own operation lost
 pub record AcceptedView : Type 0 where
   pub lists : Lists
+  pub table : Table
   pub structures : List (Signed Structure)
   pub lost : List ℕ
   pub looking : Option Looking
@@ -124,37 +138,36 @@ declared s changes laid = record s {
 
 -- ---- judging
 
--- the lists of the bytes of a reply
-abbrev pub lists_in : List ℕ → Option Lists
-lists_in text = option_and_then lists_of (result_ok (whole reply text))
-
 -- which rule a block breaks that was handed in for this one
 abbrev pub block_breaks : Blocks → Asked → Option (List ℕ) → Option Rule
 block_breaks blocks a None = Some rule.Block
 block_breaks blocks a (Some block) =
     if bytes_eq (hash block) a.digest then (if takes blocks a.spot block then None else Some rule.Content) else Some rule.Block
 
--- The lists of a reply as a view, whose tree is read. The table of principals is that of the beginning, since no operation
--- changes it yet.
-abbrev pub view_over : Key → Lists → View
-view_over key x = record { key = key; table = genesis key; structures = x.structures; others = x.others; own = x.own }
-
 -- the state with one block more
 abbrev pub holding : State → List ℕ → State
 holding s block = record s { blocks = keeping s.blocks block }
 
+-- the blocks with this one, if there is one
+abbrev pub blocks_with : State → Option (List ℕ) → List Block
+blocks_with s block = option_map_or (keeping s.blocks) block s.blocks
+
 -- ---- signing
 
--- the records of groups, which are carried on
+-- the records of groups of the structure that was signed last
 abbrev pub groups : Option (Signed Structure) → List GroupRecord
 groups last = option_map_or (λ z. z.value.groups) last []
 
--- the structure over a plan, with this handle, after the one that was signed last
-abbrev pub structure_over : List ℕ → Option (Signed Structure) → Plan → Structure
-structure_over handle last plan = record { plan = plan; handle = handle; groups = groups last }
+-- the old records with each of the new ones in its group's place, in turn
+abbrev pub with_records : List GroupRecord → List GroupRecord → List GroupRecord
+with_records old new = fold (with_row nat_cmp group_of) old new
+
+-- the structure over a plan, with this handle and these new records of groups, after the one that was signed last
+abbrev pub structure_over : Handle → List GroupRecord → Option (Signed Structure) → Plan → Structure
+structure_over handle records last plan = record { plan = plan; handle = handle; groups = with_records (groups last) records }
 
 abbrev pub next_structure : State → Ready → Structure
-next_structure s r = structure_over r.handle s.last r.lists.own.plan
+next_structure s r = structure_over r.handle r.records s.last r.lists.own.plan
 
 -- a structure with its signature by this leaf
 abbrev pub signed_by : List ℕ → List ℕ → ℕ → Structure → Signed Structure
@@ -169,7 +182,7 @@ with_own z zs = with_row nat_cmp user_of zs z
 
 -- the view of an accepted reply
 abbrev pub view_of : State → Ready → AcceptedView
-view_of s r = record { lists = r.lists; structures = with_own (signed_structure s r) r.lists.structures; lost = r.lost; looking = None }
+view_of s r = record { lists = r.lists; table = r.table; structures = with_own (signed_structure s r) r.lists.structures; lost = r.lost; looking = None }
 
 -- the state after the structure over an accepted reply is signed
 abbrev pub signed_over : State → Ready → State

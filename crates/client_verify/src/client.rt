@@ -3,7 +3,6 @@
 ghost use Rattle.std.specs.Prelude.{◌≡◌, ◌≢◌, ◌+◌, ◌<◌, ◌≤◌, Some, IfOk, IfErr, IsErrOf, IfSome, IsOk, OnOk, OnErr, IsSome, IsSomeAnd, IsTrue, ◌↔◌, true, false, length, map};
 ghost use Rattle.std.specs.Option.{option_copied, option_map};
 ghost use Rattle.std.specs.Vec.{vec_items};
-ghost use Rattle.principals.specs.Table.{genesis};
 ghost use Rattle.update_cert.specs.Cert.{cert};
 ghost use Rattle.client_verify.specs.Grown.{IsTold};
 ghost use Rattle.client_verify.specs.Laid.{are_laid};
@@ -11,16 +10,19 @@ ghost use Rattle.client_verify.specs.Laid.{are_laid};
 use crate::asked::Asked;
 use crate::checking::check;
 use crate::error::ClientError;
-use crate::growing::{Shown, Written, show, show_with, write, write_with};
-use crate::lists::{Lists, with_own};
+use crate::good::Good;
+use crate::growing::{
+    Made, Reached, Shown, Written, reach, reach_with, show, show_with, write_with,
+};
+use crate::lists::with_own;
 use crate::look::Look;
 use crate::phase::Phase;
 use crate::signing::{Sealed, seal};
 use crate::step::Step;
 use crate::structure::{SignedOver, sign_over};
 use crate::verdict::judge;
-use crate::view::{AcceptedView, Checked, Looking, Ready};
-use client_tree::{Held, Seen, Stored, first_blocks};
+use crate::view::{AcceptedView, Checked, Looking, Ready, Stage};
+use client_tree::{Held, Seen, first_blocks};
 use layout::{Digest, INumber, Memory, Principal, Text, User, Version};
 use lms_sign::{LEAF_COUNT, PrivateKey, PublicKey};
 use pending_list::{Signed, digest_of_last};
@@ -211,12 +213,15 @@ impl<A: Allocator + Copy> Client<A> {
         }
     }
 
-    /// The table of principals of the accepted view. It is that of the beginning, since no operation changes it yet.
-    pub fn table(&self) -> Table<A>
+    /// The table of principals of the accepted view.
+    pub fn table(&self) -> &Table<A>
         requires { IsSome self.now.view }
-        ensures { result ≡ genesis self.now.pinned }
+        ensures { IsSomeAnd self.now.view (λ v. v.table ≡ result.now) }
     {
-        Table::genesis(self.alloc, self.pinned)
+        match &self.view {
+            Some(view) => &view.table,
+            None => unreachable!(),
+        }
     }
 }
 
@@ -247,8 +252,10 @@ fn told<A: Allocator>(seen: Seen<A>) -> Look<A>
 
 impl<A: Allocator + Copy> Client<A> {
     ghost use Rattle.client_tree.specs.Held.{held};
-    ghost use Rattle.client_verify.specs.State.{block_breaks, declared, committed, next_cert, sent, signed_over, view_over};
-    ghost use Rattle.client_verify.specs.Judged.{Goes, Judged, Handed};
+    ghost use Rattle.layout.specs.Hash.{hash};
+    ghost use Rattle.client_verify.specs.FirstBroken.{view_over};
+    ghost use Rattle.client_verify.specs.State.{asked_of, block_breaks, checked_in, declared, committed, holding, next_cert, sent, signed_over};
+    ghost use Rattle.client_verify.specs.Judged.{Goes, GoesOn, Handed, IsReading, IsWriting, Judged, ReadsOn, view_of};
     ghost use Rattle.client_verify.specs.Grown.{IsAnswer, IsWritten};
     ghost use Rattle.client_verify.specs.Looked.{Looked, Given};
 
@@ -314,37 +321,50 @@ impl<A: Allocator + Copy> Client<A> {
         Ok(sent)
     }
 
-    /// Goes on with a reply whose lists break no rule: a block is asked for, or the reply is accepted.
-    fn go(&mut self, lists: Lists<A>, written: Written<A>) -> Step<A>
-        requires { IsWritten (held self.old.blocks) (view_over self.old.pinned lists) written }
-        ensures { Goes self.old lists result self.new }
+    /// A reply is under check, and this block is asked for.
+    fn ask(&mut self, stage: Stage<A>, digest: Digest) -> Step<A>
+        ensures state { self.new ≡ record self.old { checked = Some (checked_in stage); accepted = None } }
+        ensures step { result ≡ Step.Need digest }
+    {
+        self.checked = Some(Checked { stage });
+        self.accepted = None;
+        Step::Need(digest)
+    }
+
+    /// Goes on with lists that break no rule: a block is asked for, or the reply is accepted.
+    fn go(&mut self, good: Good<A>, written: Written<A>) -> Step<A>
+        requires { IsWritten (held self.old.blocks) (view_of self.old.pinned good) good.void written }
+        ensures { Goes self.old good result self.new }
     {
         match written {
             Written::Lacks(asked) => {
                 let digest = asked.digest;
-                self.checked = Some(Checked { lists, asked });
-                self.accepted = None;
-                Step::Need(digest)
+                self.ask(Stage::Writing(good, asked), digest)
             }
-            Written::Part(part, lost) => {
-                let Stored {
-                    principal: _,
+            Written::Parts(made) => {
+                let Good { lists, table } = good;
+                let Made {
                     handle,
+                    records,
                     texts,
-                } = part;
-                self.checked = None;
-                self.accepted = Some(Ready {
-                    lists,
-                    handle,
                     lost,
-                });
+                } = made;
+                let ready = Ready {
+                    lists,
+                    table: table.table,
+                    handle,
+                    records,
+                    lost,
+                };
+                self.checked = None;
+                self.accepted = Some(ready);
                 Step::Store(texts)
             }
         }
     }
 
     /// Takes the server's reply to the declared certificate. A reply that was under check or accepted before is dropped
-    /// where this one breaks none of the rules on lists. Only want of memory is an error.
+    /// where this one breaks no rule. Only want of memory is an error.
     pub fn on_reply(&mut self, text: &[u8]) -> Result<Step<A>, ClientError>
         requires { self.old.phase ≡ Phase.Declared }
         ensures judged { IfOk result (λ step. Judged self.old text.now step self.new) }
@@ -363,12 +383,82 @@ impl<A: Allocator + Copy> Client<A> {
             Ok(reply) => reply,
             Err(rule) => return Ok(Step::Broken(rule)),
         };
-        // Its last pending certificate is the own one.
-        let Some(lists) = Lists::of(reply) else {
+        match reach(self.alloc, &self.pinned, &reply, &self.blocks)? {
+            Reached::Breaks(rule) => Ok(Step::Broken(rule)),
+            Reached::Lacks(asked) => {
+                let digest = asked.digest;
+                Ok(self.ask(Stage::Reading(reply, asked), digest))
+            }
+            Reached::Goes(table, written) => {
+                let lists = reply.into_lists();
+                Ok(self.go(Good { lists, table }, written))
+            }
+        }
+    }
+
+    /// Takes a block of the table of principals, which was asked for. Only want of memory is an error.
+    fn read_on(&mut self, digest: Digest, text: &[u8]) -> Result<Step<A>, ClientError>
+        requires hashed { digest ≡ hash text.now }
+        requires reading { IsSomeAnd self.old.checked IsReading }
+        ensures goes { IfSome self.old.checked (λ k. IfOk result (λ step. ReadsOn self.old k text.now step self.new)) }
+        ensures only_memory { IfErr result (λ e. e ≡ ClientError.Memory) }
+        ensures err { OnErr result (self.new ≡ self.old) }
+    {
+        let Some(checked) = &self.checked else {
             unreachable!()
         };
-        let written = write(self.alloc, &self.pinned, &lists, &self.blocks)?;
-        Ok(self.go(lists, written))
+        let Stage::Reading(reply, _) = &checked.stage else {
+            unreachable!()
+        };
+        let reached = reach_with(self.alloc, &self.pinned, reply, &self.blocks, digest, text)?;
+        if let Reached::Breaks(rule) = reached {
+            return Ok(Step::Broken(rule));
+        }
+        let text = Vec::from_slice(self.alloc, text)?;
+        self.blocks.keep_as(digest, text)?;
+        let Some(checked) = self.checked.take() else {
+            unreachable!()
+        };
+        let Stage::Reading(reply, _) = checked.stage else {
+            unreachable!()
+        };
+        match reached {
+            Reached::Breaks(_) => unreachable!(),
+            Reached::Lacks(asked) => {
+                let digest = asked.digest;
+                Ok(self.ask(Stage::Reading(reply, asked), digest))
+            }
+            Reached::Goes(table, written) => {
+                let lists = reply.into_lists();
+                Ok(self.go(Good { lists, table }, written))
+            }
+        }
+    }
+
+    /// Takes a block that tells what the own operation makes, which was asked for. Only want of memory is an error.
+    fn write_on(&mut self, digest: Digest, text: &[u8]) -> Result<Step<A>, ClientError>
+        requires hashed { digest ≡ hash text.now }
+        requires writing { IsSomeAnd self.old.checked IsWriting }
+        ensures goes { IfSome self.old.checked (λ k. IfOk result (λ step. GoesOn (holding self.old text.now) k step self.new)) }
+        ensures only_memory { IfErr result (λ e. e ≡ ClientError.Memory) }
+        ensures err { OnErr result (self.new ≡ self.old) }
+    {
+        let Some(checked) = &self.checked else {
+            unreachable!()
+        };
+        let Stage::Writing(good, _) = &checked.stage else {
+            unreachable!()
+        };
+        let written = write_with(self.alloc, &self.pinned, good, &self.blocks, digest, text)?;
+        let text = Vec::from_slice(self.alloc, text)?;
+        self.blocks.keep_as(digest, text)?;
+        let Some(checked) = self.checked.take() else {
+            unreachable!()
+        };
+        let Stage::Writing(good, _) = checked.stage else {
+            unreachable!()
+        };
+        Ok(self.go(good, written))
     }
 
     /// Takes the block that the reply under check asks for, or its absence. Only want of memory is an error.
@@ -376,33 +466,25 @@ impl<A: Allocator + Copy> Client<A> {
         requires { IsSome self.old.checked }
         ensures handed { IfSome self.old.checked (λ k. IfOk result (λ step. Handed self.old k (option_copied block.entry) step self.new)) }
         // A block that is absent or has another digest is told without memory.
-        ensures told { IfSome self.old.checked (λ k. block_breaks (held self.old.blocks) k.asked (option_copied block.entry) ≡ Some Rule.Block → IsOk result) }
+        ensures told { IfSome self.old.checked (λ k. block_breaks (held self.old.blocks) (asked_of k) (option_copied block.entry) ≡ Some Rule.Block → IsOk result) }
         ensures only_memory { IfErr result (λ e. e ≡ ClientError.Memory) }
         ensures err { OnErr result (self.new ≡ self.old) }
     {
         let Some(checked) = &self.checked else {
             unreachable!()
         };
-        let asked = checked.asked;
+        let asked = checked.asked();
         let digest = asked.digest;
+        let reads = checked.is_reading();
         let text = match check(self.alloc, &self.blocks, asked, block)? {
             Ok(text) => text,
             Err(rule) => return Ok(Step::Broken(rule)),
         };
-        let written = write_with(
-            self.alloc,
-            &self.pinned,
-            &checked.lists,
-            &self.blocks,
-            digest,
-            text,
-        )?;
-        let text = Vec::from_slice(self.alloc, text)?;
-        self.blocks.keep_as(digest, text)?;
-        let Some(checked) = self.checked.take() else {
-            unreachable!()
-        };
-        Ok(self.go(checked.lists, written))
+        if reads {
+            self.read_on(digest, text)
+        } else {
+            self.write_on(digest, text)
+        }
     }
 
     /// Signs the structure over the accepted reply, and gives it as it is sent. From here on the view is accepted. It
@@ -427,6 +509,7 @@ impl<A: Allocator + Copy> Client<A> {
             &self.key,
             self.leaf,
             ready.handle,
+            &ready.records,
             self.last.as_ref(),
             ready.lists.own().plan(),
         )?;
@@ -446,6 +529,7 @@ impl<A: Allocator + Copy> Client<A> {
         self.checked = None;
         self.view = Some(AcceptedView {
             lists: ready.lists,
+            table: ready.table,
             structures: with_own(copies, shown),
             lost: ready.lost,
             looking: None,
@@ -467,6 +551,7 @@ impl<A: Allocator + Copy> Client<A> {
         let shown = show(
             self.alloc,
             &self.pinned,
+            &view.table,
             &view.lists,
             principal,
             i_number,
@@ -478,7 +563,7 @@ impl<A: Allocator + Copy> Client<A> {
     /// Goes on with a look: a block is asked for, or it is over.
     fn answer(&mut self, principal: Principal, i_number: INumber, shown: Shown<A>) -> Look<A>
         requires view { IsSome self.old.view }
-        requires shown { IfSome self.old.view (λ v. IsAnswer (held self.old.blocks) (view_over self.old.pinned v.lists) principal i_number shown) }
+        requires shown { IfSome self.old.view (λ v. IsAnswer (held self.old.blocks) (view_over self.old.pinned v.table v.lists) principal i_number shown) }
         ensures { IfSome self.old.view (λ v. Looked self.old v principal i_number result self.new) }
     {
         let Some(view) = &mut self.view else {
@@ -525,6 +610,7 @@ impl<A: Allocator + Copy> Client<A> {
         let shown = show_with(
             self.alloc,
             &self.pinned,
+            &view.table,
             &view.lists,
             looking.principal,
             looking.i_number,

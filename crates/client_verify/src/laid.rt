@@ -14,7 +14,7 @@ use client_tree::{Held, root_digest};
 use itable::{Inode, Kind};
 use layout::{Digest, Memory, ReadError, Text};
 use std::alloc::Allocator;
-use update_cert::{Action, Blocks, Change, size_of_block};
+use update_cert::{Action, Blocks, Change, Deed, TableChange, size_of_block};
 
 /// Whether the block of this place is there, and has its size.
 fn has_block<A: Allocator>(blocks: &Held<A>, size: u32, place: u16, digest: Digest) -> bool
@@ -76,6 +76,24 @@ fn is_laid<A: Allocator + Copy>(
     }
 }
 
+/// Whether what a change names was laid out: one of the table of principals names nothing.
+fn is_change_laid<A: Allocator + Copy>(
+    alloc: A,
+    blocks: &Held<A>,
+    change: &Change<A>,
+) -> Result<bool, Memory>
+    ensures { IfOk result (λ is. is ≡ is_laid (held blocks.now) change.now.action) }
+{
+    match change.deed() {
+        Deed::At(action) => is_laid(alloc, blocks, action),
+        Deed::OfTable(change) => match change {
+            TableChange::AddUser(_, _)
+            | TableChange::AddMember(_, _)
+            | TableChange::DropMember(_, _) => Ok(true),
+        },
+    }
+}
+
 /// Whether all that these changes name was laid out.
 fn all_laid<A: Allocator + Copy>(
     alloc: A,
@@ -85,7 +103,7 @@ fn all_laid<A: Allocator + Copy>(
     ensures { IfOk result (λ all. all ≡ list_all (λ c. is_laid (held blocks.now) c.action) changes.now) }
 {
     for change in changes {
-        if !is_laid(alloc, blocks, change.action())? {
+        if !is_change_laid(alloc, blocks, change)? {
             return Ok(false);
         }
     }

@@ -3,9 +3,11 @@
 #![tactic(auto)]
 
 mod asked;
+mod by_table;
 mod checking;
 mod client;
 mod error;
+mod good;
 mod growing;
 mod laid;
 mod lists;

@@ -1,16 +1,19 @@
 //! The lists of a reply that breaks none of the rules on lists.
 
-ghost use Rattle.std.specs.Prelude.{◌≡◌, ◌<◌, None, IfOk, OnOk, MatchResult, true, vec_len, vec_capacity};
+ghost use Rattle.std.specs.Prelude.{◌≡◌, ◌<◌, None, Some, IfOk, IsSome, IsSomeAnd, OnOk, MatchResult, true, vec_len, vec_capacity};
 ghost use Rattle.std.specs.Ordering.{nat_cmp};
 ghost use Rattle.layout.specs.Ascending.{Ascends, Stands, IsFree};
 ghost use Rattle.pending_list.specs.Reply.{user_of};
-ghost use Rattle.reply_rules.specs.Rules.{structures_ascend};
+ghost use Rattle.reply_rules.specs.Broken.{broken};
+ghost use Rattle.reply_rules.specs.Lists.{items};
+ghost use Rattle.client_verify.specs.FirstBroken.{view_over};
 ghost use Rattle.client_verify.specs.State.{with_own};
 
 use client_tree::View;
 use layout::{Memory, User};
 use pending_list::{PendingItem, Reply, Signed};
 use principals::Table;
+use reply_rules::{Rule, broken};
 use std::alloc::Allocator;
 use std::marker::Model;
 use version_order::Structure;
@@ -38,23 +41,99 @@ impl<A: Allocator> Model for Lists<A> {
     ghost invariant = { λ a. Ascends nat_cmp user_of None a.structures.items };
 }
 
-impl<A: Allocator> Lists<A> {
-    ghost use Rattle.reply_rules.specs.Lists.{lists_of};
+/// A reply that breaks none of the rules on itself: it meets the rule on lists, and something is pending.
+#[derive(Drop)]
+pub(crate) struct Admitted<A: Allocator> {
+    reply: Reply<A>,
+}
 
-    /// The lists of a reply. None where nothing is pending.
-    pub(crate) fn of(reply: Reply<A>) -> Option<Lists<A>>
-        requires { structures_ascend reply ≡ true }
-        ensures { result ≡ lists_of reply }
+impl<A: Allocator> Model for Admitted<A> {
+    ghost use Rattle.std.specs.Prelude.{◌≡◌, IsSome, true};
+    ghost use Rattle.pending_list.specs.Reply.{Reply};
+    ghost use Rattle.reply_rules.specs.Lists.{lists_of};
+    ghost use Rattle.reply_rules.specs.Rules.{lists};
+
+    ghost Value = { Reply };
+
+    ghost view = { λ a. a.reply };
+
+    ghost invariant = { λ a. (lists a.reply ≡ true) × IsSome (lists_of a.reply) };
+}
+
+impl<A: Allocator> Admitted<A> {
+    ghost use Rattle.reply_rules.specs.Lists.{lists_of};
+    ghost use Rattle.reply_rules.specs.Rules.{lists};
+
+    /// This reply.
+    pub(crate) fn new(reply: Reply<A>) -> Admitted<A>
+        requires lists { lists reply ≡ true }
+        requires pending { IsSome (lists_of reply) }
+        ensures { result ≡ reply }
     {
-        let (structures, mut pending) = reply.into_parts();
-        let own = pending.pop()?;
-        Some(Lists {
+        Admitted { reply }
+    }
+
+    /// The structures.
+    pub(crate) fn structures(&self) -> &[Signed<Structure<A>>]
+        ensures { IsSomeAnd (lists_of self.now) (λ x. x.structures ≡ result.now) }
+    {
+        self.reply.structures()
+    }
+
+    /// The pending operations, in order.
+    pub(crate) fn pending(&self) -> &[PendingItem<A>]
+        ensures { IsSomeAnd (lists_of self.now) (λ x. items x ≡ result.now) }
+    {
+        self.reply.pending()
+    }
+
+    /// The own one, which is the last, and those before it.
+    pub(crate) fn split(&self) -> (&PendingItem<A>, &[PendingItem<A>])
+        ensures { IsSomeAnd (lists_of self.now) (λ x. (x.own ≡ result.0.now) × (x.others ≡ result.1.now)) }
+    {
+        let Some((own, others)) = self.reply.pending().split_last() else {
+            unreachable!()
+        };
+        (own, others)
+    }
+
+    /// The view of its lists, with user 0's key and this table of principals.
+    pub(crate) fn view<'a>(&'a self, key: &'a [u8; 56], table: &'a Table<A>) -> View<'a, A>
+        ensures { IsSomeAnd (lists_of self.now) (λ x. result ≡ view_over key.now table.now x) }
+    {
+        let (own, others) = self.split();
+        View::new(key, table, self.structures(), others, own)
+    }
+
+    /// Its lists.
+    pub(crate) fn into_lists(self) -> Lists<A>
+        ensures { lists_of self ≡ Some result }
+    {
+        let (structures, mut pending) = self.reply.into_parts();
+        let Some(own) = pending.pop() else {
+            unreachable!()
+        };
+        Lists {
             structures,
             others: pending,
             own,
-        })
+        }
     }
+}
 
+impl<A: Allocator + Copy> Admitted<A> {
+    ghost use Rattle.reply_rules.specs.Lists.{lists_of};
+
+    /// The first rule by this table that the lists break, but for those on signatures.
+    pub(crate) fn broken_by(&self, alloc: A, table: &Table<A>) -> Result<Option<Rule>, Memory>
+        ensures { IfOk result (λ rule. IsSomeAnd (lists_of self.now) (λ x. rule ≡ broken table.now x)) }
+    {
+        let (own, _others) = self.split();
+        broken(alloc, &self.reply, table, own.plan().user())
+    }
+}
+
+impl<A: Allocator> Lists<A> {
     /// The own item, which is the last pending one.
     pub(crate) fn own(&self) -> &PendingItem<A>
         ensures { result.now ≡ self.now.own }

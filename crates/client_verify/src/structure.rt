@@ -12,22 +12,27 @@ use layout::{Digest, Memory, Text};
 use lms_sign::PrivateKey;
 use pending_list::Signed;
 use std::alloc::Allocator;
-use version_order::{GroupRecords, Plan, Structure};
+use version_order::{GroupRecord, GroupRecords, Plan, Structure};
 
-/// The structure over a plan, with this handle, after the one that was signed last.
+/// The structure over a plan, with this handle, after the one that was signed last, whose records of groups are carried
+/// on but where there is a new one.
 fn structure_over<A: Allocator + Copy>(
     alloc: A,
     handle: Digest,
+    records: &[GroupRecord],
     last: Option<&Signed<Structure<A>>>,
     plan: &Plan<A>,
 ) -> Result<Structure<A>, Memory>
-    ensures { IfOk result (λ s. s ≡ structure_over handle (option_copied last.entry) plan.now) }
+    ensures { IfOk result (λ s. s ≡ structure_over handle records.now (option_copied last.entry) plan.now) }
 {
     let plan = plan.copy(alloc)?;
-    let groups = match last {
+    let mut groups = match last {
         Some(last) => last.value.groups().copy(alloc)?,
         None => GroupRecords::new(alloc),
     };
+    for state in records {
+        groups.set(*state)?;
+    }
     Ok(Structure::new(plan, handle, groups))
 }
 
@@ -39,22 +44,24 @@ pub(crate) struct SignedOver<A: Allocator> {
     pub(crate) sent: Vec<u8, A>,
 }
 
-/// Signs the structure over a plan by this leaf. All growths come before the leaf is used.
+/// Signs the structure over a plan, with these new records of groups, by this leaf. All growths come before the leaf is
+/// used.
 pub(crate) fn sign_over<A: Allocator + Copy>(
     alloc: A,
     key: &PrivateKey<A>,
     leaf: u32,
     handle: Digest,
+    records: &[GroupRecord],
     last: Option<&Signed<Structure<A>>>,
     plan: &Plan<A>,
 ) -> Result<SignedOver<A>, Memory>
     requires { leaf < 1024 }
-    ensures structure { IfOk result (λ over. over.structure ≡ signed_by key.now.seed key.now.id leaf (structure_over handle (option_copied last.entry) plan.now)) }
+    ensures structure { IfOk result (λ over. over.structure ≡ signed_by key.now.seed key.now.id leaf (structure_over handle records.now (option_copied last.entry) plan.now)) }
     ensures shown { IfOk result (λ over. over.shown ≡ over.structure) }
     ensures kept { IfOk result (λ over. over.kept.items ≡ (signed structure).spell over.structure) }
     ensures sent { IfOk result (λ over. over.sent.items ≡ (signed structure).spell over.structure) }
 {
-    let value = structure_over(alloc, handle, last, plan)?;
+    let value = structure_over(alloc, handle, records, last, plan)?;
     let copy = value.copy(alloc)?;
     let text = value.text(alloc)?;
     let sealed = seal(alloc, key, leaf, text)?;

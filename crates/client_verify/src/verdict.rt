@@ -1,21 +1,19 @@
-//! The first broken rule of a reply.
+//! The first broken rule of those on a reply itself.
 
 ghost use Rattle.std.specs.Prelude.{IfErr, OnOk, Ok, ◌≡◌, ℕ, List, IfOk, Option, Some, None, IsSome, true, map};
 ghost use Rattle.std.specs.List.{list_all};
 ghost use Rattle.std.specs.Option.{option_copied, option_map};
 ghost use Rattle.reply_rules.specs.Lists.{lists_of};
-ghost use Rattle.reply_rules.specs.Rules.{structures_ascend};
+ghost use Rattle.reply_rules.specs.Rules.{lists};
 ghost use Rattle.pending_list.specs.Signed.{signed};
 ghost use Rattle.update_cert.specs.Cert.{cert};
-ghost use Rattle.client_verify.specs.FirstBroken.{own_last, own_pending, super_signature, shown_of, structure_sent, cert_sent, same_bytes, structure_verifies, cert_verifies, of_reply, first_broken};
-ghost use Rattle.layout.specs.Format.{whole};
-ghost use Rattle.pending_list.specs.Reply.{reply};
+ghost use Rattle.client_verify.specs.FirstBroken.{own_last, own_pending, super_signature, shown_of, structure_sent, cert_sent, same_bytes, structure_verifies, cert_verifies, of_reply, reply_breaks, reply_in};
 
+use crate::lists::Admitted;
 use layout::{Memory, ReadError, Text, User};
 use lms_sign::{PublicKey, verify};
 use pending_list::{PendingItem, Reply, Signed};
-use principals::Table;
-use reply_rules::{Rule, broken, lists_hold};
+use reply_rules::{Rule, lists_hold};
 use std::alloc::Allocator;
 use version_order::Structure;
 
@@ -152,9 +150,10 @@ fn super_signature<A: Allocator + Copy>(
     )
 }
 
-/// The first rule that the reply breaks, for a client of this user that signed and declared these texts last.
+/// The first of the rules on the reply itself that it breaks, for a client of this user that signed and declared these
+/// texts last.
 #[tactic(auto, unfolding(crate::specs::FirstBroken::of_reply))]
-pub(crate) fn first_broken<A: Allocator + Copy>(
+fn broken_alone<A: Allocator + Copy>(
     alloc: A,
     user: User,
     pinned: &PublicKey,
@@ -162,10 +161,10 @@ pub(crate) fn first_broken<A: Allocator + Copy>(
     declared: &[u8],
     reply: &Reply<A>,
 ) -> Result<Option<Rule>, Memory>
-    ensures lists { IfOk result (λ rule. rule ≡ None → IsSome (lists_of reply.now)) }
     ensures first { IfOk result (λ rule. rule ≡ of_reply (record { user = user; pinned = pinned.now; last = option_copied last.entry; declared = declared.now }) reply.now) }
-    // Then its structures ascend by user.
-    ensures ascending { IfOk result (λ rule. rule ≡ None → structures_ascend reply.now ≡ true) }
+    // Then something is pending.
+    ensures pending { IfOk result (λ rule. rule ≡ None → IsSome (lists_of reply.now)) }
+    ensures lists { IfOk result (λ rule. rule ≡ None → lists reply.now ≡ true) }
 {
     if !lists_hold(reply) {
         return Ok(Some(Rule::Lists));
@@ -179,17 +178,11 @@ pub(crate) fn first_broken<A: Allocator + Copy>(
     if !super_signature(alloc, pinned, reply)? {
         return Ok(Some(Rule::SuperSignature));
     }
-    // The last pending certificate is the own one.
-    let Some(own) = reply.pending().last() else {
-        unreachable!()
-    };
-    let table = Table::genesis(alloc, *pinned);
-    let first = broken(alloc, reply, &table, own.plan().user())?;
-    Ok(first)
+    Ok(None)
 }
 
-/// Reads and judges the bytes of a reply: the reply, or the first rule that it breaks.
-#[tactic(auto, unfolding(crate::specs::FirstBroken::first_broken))]
+/// Reads and judges the bytes of a reply by the rules on the reply itself: the reply, or the first of them that it breaks.
+#[tactic(auto, unfolding(crate::specs::FirstBroken::reply_breaks))]
 pub(crate) fn judge<A: Allocator + Copy>(
     alloc: A,
     user: User,
@@ -197,20 +190,18 @@ pub(crate) fn judge<A: Allocator + Copy>(
     last: Option<&Signed<Structure<A>>>,
     declared: &[u8],
     text: &[u8],
-) -> Result<Result<Reply<A>, Rule>, Memory>
-    ensures broken { IfOk result (λ judged. IfErr judged (λ rule. first_broken (record { user = user; pinned = pinned.now; last = option_copied last.entry; declared = declared.now }) text.now ≡ Some rule)) }
-    ensures accepted { IfOk result (λ judged. OnOk judged (first_broken (record { user = user; pinned = pinned.now; last = option_copied last.entry; declared = declared.now }) text.now ≡ None)) }
-    ensures read { IfOk result (λ judged. IfOk judged (λ r. whole reply text.now ≡ Ok r)) }
-    ensures lists { IfOk result (λ judged. IfOk judged (λ r. IsSome (lists_of r))) }
-    ensures ascending { IfOk result (λ judged. IfOk judged (λ r. structures_ascend r ≡ true)) }
+) -> Result<Result<Admitted<A>, Rule>, Memory>
+    ensures broken { IfOk result (λ judged. IfErr judged (λ rule. reply_breaks (record { user = user; pinned = pinned.now; last = option_copied last.entry; declared = declared.now }) text.now ≡ Some rule)) }
+    ensures accepted { IfOk result (λ judged. OnOk judged (reply_breaks (record { user = user; pinned = pinned.now; last = option_copied last.entry; declared = declared.now }) text.now ≡ None)) }
+    ensures read { IfOk result (λ judged. IfOk judged (λ r. reply_in text.now ≡ Some r)) }
 {
     let reply = match Reply::read(alloc, text) {
         Ok(reply) => reply,
         Err(ReadError::Memory) => return Err(Memory),
         Err(_) => return Ok(Err(Rule::Form)),
     };
-    match first_broken(alloc, user, pinned, last, declared, &reply)? {
+    match broken_alone(alloc, user, pinned, last, declared, &reply)? {
         Some(rule) => Ok(Err(rule)),
-        None => Ok(Ok(reply)),
+        None => Ok(Ok(Admitted::new(reply))),
     }
 }

@@ -1,33 +1,69 @@
 //! What a client keeps of replies: one under check, one that was accepted, and the view that was signed.
 
 use crate::asked::Asked;
-use crate::lists::Lists;
+use crate::good::Good;
+use crate::lists::{Admitted, Lists};
 use layout::{Digest, INumber, Principal};
 use pending_list::Signed;
+use principals::Table;
 use std::alloc::Allocator;
 use std::marker::Model;
-use version_order::Structure;
+use version_order::{GroupRecord, Structure};
 
-/// A reply that breaks none of the rules on lists, of which a block is asked for.
+/// How far a reply under check is.
+#[derive(Drop)]
+pub(crate) enum Stage<A: Allocator> {
+    /// The table of principals is read, and a block of it is asked for.
+    Reading(Admitted<A>, Asked),
+    /// The lists break no rule, and a block is asked for that tells what the own operation makes.
+    Writing(Good<A>, Asked),
+}
+
+/// A reply under check, of which a block is asked for.
 #[derive(Drop)]
 pub(crate) struct Checked<A: Allocator> {
-    pub(crate) lists: Lists<A>,
-    pub(crate) asked: Asked,
+    pub(crate) stage: Stage<A>,
 }
 
 impl<A: Allocator> Model for Checked<A> {
-    ghost use Rattle.client_verify.specs.State.{Checked};
+    ghost use Rattle.client_verify.specs.State.{Checked, checked_in};
 
     ghost Value = { Checked };
 
-    ghost view = { λ c. record { lists = c.lists; asked = c.asked } };
+    ghost view = { λ c. checked_in c.stage };
 }
 
-/// A reply that breaks no rule, the handle of the own part after the own operation, and the changes that it loses.
+impl<A: Allocator> Checked<A> {
+    ghost use Rattle.std.specs.Prelude.{◌≡◌, true, false};
+    ghost use Rattle.client_verify.specs.State.{asked_of};
+    ghost use Rattle.client_verify.specs.Judged.{IsReading, IsWriting};
+
+    /// Whether the table of principals is being read.
+    pub(crate) fn is_reading(&self) -> bool
+        ensures reading { result ≡ true → IsReading self.now }
+        ensures writing { result ≡ false → IsWriting self.now }
+    {
+        matches!(self.stage, Stage::Reading(_, _))
+    }
+
+    /// The block that is asked for.
+    pub(crate) fn asked(&self) -> Asked
+        ensures { result ≡ asked_of self.now }
+    {
+        match &self.stage {
+            Stage::Reading(_, asked) | Stage::Writing(_, asked) => *asked,
+        }
+    }
+}
+
+/// A reply that breaks no rule by this table, the handle of the own part after the own operation, the records of the groups
+/// that it raises, and the changes that it loses.
 #[derive(Drop)]
 pub(crate) struct Ready<A: Allocator> {
     pub(crate) lists: Lists<A>,
+    pub(crate) table: Table<A>,
     pub(crate) handle: Digest,
+    pub(crate) records: Vec<GroupRecord, A>,
     pub(crate) lost: Vec<u8, A>,
 }
 
@@ -36,7 +72,7 @@ impl<A: Allocator> Model for Ready<A> {
 
     ghost Value = { Ready };
 
-    ghost view = { λ r. record { lists = r.lists; handle = r.handle; lost = r.lost.items } };
+    ghost view = { λ r. record { lists = r.lists; table = r.table; handle = r.handle; records = r.records.items; lost = r.lost.items } };
 }
 
 /// A look that is under way: at what, and the block that is asked for.
@@ -47,11 +83,12 @@ pub(crate) struct Looking {
     pub(crate) asked: Asked,
 }
 
-/// The accepted view: the lists of its reply, its structures with the own new one in its user's place, and the changes that
-/// the own operation lost.
+/// The accepted view: the lists of its reply, the table of principals, its structures with the own new one in its user's
+/// place, and the changes that the own operation lost.
 #[derive(Drop)]
 pub(crate) struct AcceptedView<A: Allocator> {
     pub(crate) lists: Lists<A>,
+    pub(crate) table: Table<A>,
     pub(crate) structures: Vec<Signed<Structure<A>>, A>,
     pub(crate) lost: Vec<u8, A>,
     pub(crate) looking: Option<Looking>,
@@ -62,5 +99,5 @@ impl<A: Allocator> Model for AcceptedView<A> {
 
     ghost Value = { AcceptedView };
 
-    ghost view = { λ v. record { lists = v.lists; structures = v.structures.items; lost = v.lost.items; looking = v.looking } };
+    ghost view = { λ v. record { lists = v.lists; table = v.table; structures = v.structures.items; lost = v.lost.items; looking = v.looking } };
 }

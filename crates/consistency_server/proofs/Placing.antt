@@ -1,6 +1,6 @@
 -- Operations that are pending: which have a text, their entries, and the next one.
 use Rattle.std.proofs.Common.{◌≡◌, ℕ, suc, ◌+◌, ◌<◌, Bool, true, false, cond, ◌&&◌, List, [], ◌∷◌, ◌++◌, Option, Some, None, Result, Ok, refl, sym, ap, subst, ◌∙◌, arith}
-use Rattle.std.specs.Prelude.{◌==◌, not, filter_map, nat_eq, is_some}
+use Rattle.std.specs.Prelude.{◌==◌, not, filter_map, nat_eq, is_some, IsNone, IfSome}
 use Rattle.std.specs.List.{All, cons_option}
 use Rattle.std.specs.Option.{option_map}
 use Rattle.std.specs.Str.{bytes_eq}
@@ -16,12 +16,12 @@ use Rattle.update_cert.specs.Cert.{Cert, cert, lawful_cert, digest_of}
 use Rattle.pending_list.specs.declared.signed.Signed.{Signed}
 use Rattle.pending_list.specs.Signed.{signature, signed, lawful_signed}
 use Rattle.pending_list.specs.Reply.{PendingItem, pending_item, digest_of_last, reply}
-use Rattle.principals.specs.Table.{key_of}
+use Rattle.principals.specs.Table.{Table, key_of}
 use Rattle.wire.specs.declared.kinds.Status.TheVariants as status
 use Rattle.consistency_server.specs.Event.{Placed, users_below}
-use Rattle.consistency_server.specs.State.{State, Placement, next_groups, next_vector, pending_of, entries_of, next_plan, next_item, next_reply, next_placement}
+use Rattle.consistency_server.specs.State.{State, Placement, after_operation, next_groups, next_vector, pending_of, entries_of, next_plan, next_item, next_reply, next_placement}
 use Rattle.consistency_server.specs.Answers.{Refused, Happens, structure_of, cert_of, same_cert, is_next, at_limit, placing, verified_update, read_update, same_plan}
-use Rattle.consistency_server.specs.Judged.{IsNext}
+use Rattle.consistency_server.specs.Judged.{IsNext, table_or}
 use Rattle.consistency_server.proofs.Rows.{find_holds, no_users, more, keys_below}
 use Rattle.consistency_server.proofs.Texts.{other_text}
 
@@ -105,16 +105,23 @@ pub signed_update : (state : State) (c : Signed Cert) (key : List ℕ) (r : Resu
 signed_update state c key r read known true' =
     ap (read_update state) read ∙ ap (verified_update state c) known ∙ ap (λ b. cond b (placing state c) (Refused status.BadSignature)) true'
 
-pub placed_judged : (state : State) (found : Signed Cert) (v : List Component) (w : Placement) (payload : List ℕ) → cert.Fits found.value → pending_of found.value.user state.pending ≡ None → v ≡ next_vector state.table state.vector found.value → w.item ≡ next_item state found → w.reply ≡ reply.spell (next_reply state found) → payload ≡ w.reply
-    → (Happens (Placed found) (reply.spell (next_reply state found)) ≡ Happens (Placed (cert_of w.item)) payload) × IsNext state v w
-placed_judged state found v w payload fits free vector item text same =
+pub placed_judged : (state : State) (found : Signed Cert) (t : Option Table) (v : List Component) (w : Placement) (payload : List ℕ) → cert.Fits found.value → pending_of found.value.user state.pending ≡ None
+    → table_or t state.table ≡ after_operation found.value state.table → v ≡ next_vector state.table state.vector found.value → w.item ≡ next_item state found → w.reply ≡ reply.spell (next_reply state found) → payload ≡ w.reply
+    → (Happens (Placed found) (reply.spell (next_reply state found)) ≡ Happens (Placed (cert_of w.item)) payload) × IsNext state t v w
+placed_judged state found t v w payload fits free table vector item text same =
     let own : cert_of w.item ≡ found = ap cert_of item in
     let of_cert : w.item.cert ≡ found.value = ap (λ (i : PendingItem). i.cert) item in (
       ap (λ (c : Signed Cert). Happens (Placed c) (reply.spell (next_reply state found))) (sym own) ∙ ap (Happens (Placed (cert_of w.item))) (sym (same ∙ text)),
       record {
         fits = subst cert.Fits (sym of_cert) fits;
         free = subst (λ (c : Cert). pending_of c.user state.pending ≡ None) (sym of_cert) free;
+        table = table ∙ ap (λ (c : Cert). after_operation c state.table) (sym of_cert);
         vector = vector ∙ ap (next_vector state.table state.vector) (sym of_cert);
         placement = ap (λ (i : PendingItem). record { item = i; reply = w.reply }) item ∙ ap (λ (r : List ℕ). record { item = next_item state found; reply = r }) text ∙ ap (next_placement state) (sym own);
       },
     )
+
+-- the table after an operation, where it was made if the operation may change it
+pub table_made : (after : Option Table) (kept new : Table) → IfSome after (λ t. t ≡ new) → (IsNone after → new ≡ kept) → table_or after kept ≡ new
+table_made None kept new changed same = sym (same refl)
+table_made (Some t) kept new changed same = changed

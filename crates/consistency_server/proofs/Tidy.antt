@@ -117,8 +117,8 @@ distinct_filter p (w ∷ ws) apart =
 
 -- ---- changes
 
-pub tidy_placed : (state : State) (v : List Component) (w : Placement) (ss : List (Signed Structure)) (ps : List Placement) → IsTidy state → IsNext state v w → ss ≡ state.structures → ps ≡ state.pending ++ w ∷ [] → IsTidy (record { table = state.table; vector = v; structures = ss; pending = ps })
-tidy_placed state v w ss ps tidy next same more =
+pub tidy_placed : (state : State) (t : Option Table) (table : Table) (v : List Component) (w : Placement) (ss : List (Signed Structure)) (ps : List Placement) → IsTidy state → IsNext state t v w → ss ≡ state.structures → ps ≡ state.pending ++ w ∷ [] → IsTidy (record { table = table; vector = v; structures = ss; pending = ps })
+tidy_placed state t table v w ss ps tidy next same more =
     let same_user : placed_by w ≡ w.item.cert.user = ap placed_by next.placement in
     let free : pending_of (placed_by w) state.pending ≡ None = ap (λ u. pending_of u state.pending) same_user ∙ next.free in
     let user : placed_by w < 64 = omega (arith, same_user, (in_range w8 0 63 w.item.cert.user next.fits.0).1) in

@@ -1,24 +1,30 @@
 -- Nobody has to believe this file: an aid of private contracts.
 -- What judging a call found: an outcome, and a change of what is kept.
-use Rattle.std.specs.Prelude.{◌≡◌, ◌<◌, List, [], ◌∷◌, ◌++◌, None, not, filter}
+use Rattle.std.specs.Prelude.{◌≡◌, ◌<◌, List, [], ◌∷◌, ◌++◌, Option, Some, None, not, filter}
 use Rattle.std.specs.Ordering.{nat_cmp}
 use Rattle.layout.specs.Ascending.{with_row}
 use Rattle.version_order.specs.declared.vector.Component.{Component}
 use Rattle.update_cert.specs.Cert.{cert}
 use Rattle.pending_list.specs.Reply.{user_of}
+use Rattle.principals.specs.Table.{Table}
 use Rattle.wire.specs.declared.kinds.Status.TheVariants as status
 use Rattle.consistency_server.specs.declared.state.Change.{Change}
 use Rattle.consistency_server.specs.declared.state.Change.TheVariants.{Places, Commits}
 use Rattle.consistency_server.specs.declared.state.Judged.{Judged}
 use Rattle.consistency_server.specs.declared.state.Judged.TheVariants as judged
 use Rattle.consistency_server.specs.Event.{Event, Placed, Committed}
-use Rattle.consistency_server.specs.State.{State, Placement, next_vector, pending_of, next_placement, commits}
+use Rattle.consistency_server.specs.State.{State, Placement, after_operation, next_vector, pending_of, next_placement, commits}
 use Rattle.consistency_server.specs.Answers.{Call, Answer, Outcome, Refused, Repeated, Happens, cert_of}
+
+-- the table that a change brings, or else the one that is kept
+abbrev pub table_or : Option Table → Table → Table
+table_or None kept = kept
+table_or (Some new) kept = new
 
 -- what is kept after a change
 abbrev pub changed : {A : Type 0} → State → Change A → State
-changed state (Places vector placement) = record {
-  table = state.table;
+changed state (Places table vector placement) = record {
+  table = table_or table state.table;
   vector = vector;
   structures = state.structures;
   pending = state.pending ++ placement ∷ [];
@@ -32,19 +38,20 @@ changed state (Commits s) = record {
 
 -- the event that a change is of
 abbrev pub event_of : {A : Type 0} → Change A → Event
-event_of (Places vector placement) = Placed (cert_of placement.item)
+event_of (Places table vector placement) = Placed (cert_of placement.item)
 event_of (Commits s) = Committed s
 
 -- it is the next operation, of a user of whom none is pending
-pub record IsNext (state : State) (new : List Component) (w : Placement) : Type 0 where
+pub record IsNext (state : State) (brought : Option Table) (new : List Component) (w : Placement) : Type 0 where
   pub fits : cert.Fits w.item.cert
   pub free : pending_of w.item.cert.user state.pending ≡ None
+  pub table : table_or brought state.table ≡ after_operation w.item.cert state.table
   pub vector : new ≡ next_vector state.table state.vector w.item.cert
   pub placement : w ≡ next_placement state (cert_of w.item)
 
 -- what is kept admits the change
 abbrev pub Admits : {A : Type 0} → State → Change A → Type 0
-Admits state (Places vector placement) = IsNext state vector placement
+Admits state (Places table vector placement) = IsNext state table vector placement
 Admits state (Commits s) = user_of s < 64
 
 -- what was found is this outcome

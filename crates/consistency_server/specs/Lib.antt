@@ -1,5 +1,4 @@
 pub mod Event
-pub mod Tables
 pub mod State
 pub mod Answers
 pub mod History

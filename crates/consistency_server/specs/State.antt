@@ -8,12 +8,12 @@ use Rattle.version_order.specs.Vector.{version_of, raised, raised_all}
 use Rattle.version_order.specs.Plan.{Plan, entry_of}
 use Rattle.version_order.specs.Structure.{Structure}
 use Rattle.update_cert.specs.Cert.{Cert, digest_of}
+use Rattle.update_cert.specs.Tables.{table_after as table_in_turn}
 use Rattle.pending_list.specs.declared.signed.Signed.{Signed}
 use Rattle.pending_list.specs.Reply.{PendingItem, Reply, reply}
 use Rattle.principals.specs.Table.{Table, genesis}
 use Rattle.pending_list.specs.Groups.{groups_at}
 use Rattle.consistency_server.specs.Event.{Event, Placed, Committed, users, structures}
-use Rattle.consistency_server.specs.Tables.{after_operation}
 
 -- an operation as it was placed, and the text of its reply, which was made then
 pub record Placement : Type 0 where
@@ -71,8 +71,13 @@ next_reply state c = record {
 abbrev pub next_placement : State → Signed Cert → Placement
 next_placement state c = record { item = next_item state c; reply = reply.spell (next_reply state c) }
 
+-- the table after an operation: its changes of the table in turn, where it is user 0's
+abbrev pub after_operation : Cert → Table → Table
+after_operation c table = table_in_turn c.user c.number c.changes table
+
 -- ---- after events, the newest first, where this is the key that every client knows
 
+-- the table after all operations that were placed, in the order of their placing
 unfoldable pub table_after : Key → List Event → Table
 table_after pinned [] = genesis pinned
 table_after pinned (Placed c ∷ es) = after_operation c.value (table_after pinned es)

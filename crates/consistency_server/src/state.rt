@@ -14,7 +14,7 @@ ghost use Rattle.consistency_server.specs.Event.{Placed};
 ghost use Rattle.consistency_server.specs.State.{pending_of, next_plan, next_reply, commits};
 ghost use Rattle.consistency_server.specs.Answers.{Happens, outcome_of, read_update, read_commit, placing, placing_beside, committing, same_structure, structure_of, is_next, at_limit};
 ghost use Rattle.consistency_server.specs.History.{call_of};
-ghost use Rattle.consistency_server.specs.Judged.{JudgedAs, Admits, changed};
+ghost use Rattle.consistency_server.specs.Judged.{JudgedAs, Admits, changed, table_or};
 
 use crate::call::{Call, CallKind};
 use crate::log::Log;
@@ -29,7 +29,7 @@ use pending_list::{PendingItem, Reply, Signed, digest_of_last, groups_at};
 use principals::Table;
 use std::alloc::Allocator;
 use std::marker::Model;
-use update_cert::Cert;
+use update_cert::{Cert, table_after};
 use version_order::{Entries, Plan, PlanError, Structure, Vector, next_plan};
 use wire::Status;
 
@@ -56,8 +56,8 @@ impl<A: Allocator> Model for State<A> {
 /// An event, with all that is kept of it.
 #[derive(Drop)]
 pub(crate) enum Change<A: Allocator> {
-    /// An operation is placed: the vector after it, and the operation.
-    Places(Vector<A>, Placement<A>),
+    /// An operation is placed: the table after it, if it may change the table; the vector after it; and the operation.
+    Places(Option<Table<A>>, Vector<A>, Placement<A>),
     /// Its structure is committed.
     Commits(Signed<Structure<A>>),
 }
@@ -71,6 +71,15 @@ pub(crate) enum Judged<A: Allocator> {
     Repeated(Payload<A>),
     /// A change, and the payload.
     Happens(Change<A>, Payload<A>),
+}
+
+/// Keeps a new table, if there is one.
+fn keep<A: Allocator>(kept: &mut Table<A>, table: Option<Table<A>>)
+    ensures { kept.new ≡ table_or table kept.old }
+{
+    if let Some(table) = table {
+        *kept = table;
+    }
 }
 
 /// Puts a structure among the latest, where there is room, and takes its operation out.
@@ -109,7 +118,8 @@ impl<A: Allocator> State<A> {
         self.pending.reserve(1)?;
         log.try_push(call)?;
         match change {
-            Change::Places(vector, placement) => {
+            Change::Places(table, vector, placement) => {
+                keep(&mut self.table, table);
                 self.vector = vector;
                 place(&mut self.pending, placement);
             }
@@ -242,6 +252,7 @@ impl<A: Allocator + Copy> State<A> {
         ensures { IfOk result (λ judged. JudgedAs self.now judged (Happens (Placed found) (reply.spell (next_reply self.now found)))) }
     {
         let _user = found.value.user();
+        let table = table_after(alloc, &self.table, &found.value)?;
         let vector = plan.vector().copy(alloc)?;
         let entry = plan.entry(alloc)?;
         let item = PendingItem::new(found, plan);
@@ -253,7 +264,7 @@ impl<A: Allocator + Copy> State<A> {
         )?);
         let payload = reply.copy(alloc)?;
         let placement = Placement::new(item, entry, reply);
-        Ok(Judged::Happens(Change::Places(vector, placement), payload))
+        Ok(Judged::Happens(Change::Places(table, vector, placement), payload))
     }
 
     /// What a COMMIT leads to.

@@ -1,12 +1,13 @@
 //! Laying out what a script's operation names: its changes, and the texts to be stored before it is declared.
 
+use crate::players::Players;
 use crate::task::{Task, TaskAction};
 use client_tree::Held;
-use directory::Directory;
+use directory::{Directory, Target};
 use itable::{Inode, Laid, LayError, lay_file};
 use layout::{Digest, Memory, Text, digest};
 use std::alloc::Allocator;
-use update_cert::{Action, Change};
+use update_cert::{Action, Change, TableChange};
 
 /// The changes of an operation, and the texts that were laid out for it.
 #[derive(Drop)]
@@ -71,21 +72,37 @@ fn action_of<A: Allocator + Copy>(
     }
 }
 
+/// The change that a task is, with what has to be laid out for it.
+fn change_of<A: Allocator + Copy>(
+    alloc: A,
+    players: &mut Players<A>,
+    laid: &mut Vec<Vec<u8, A>, A>,
+    task: Task<A>,
+) -> Result<Change<A>, Memory> {
+    match task {
+        Task::At(Target { principal, i_number }, action) => {
+            let action = action_of(alloc, laid, action)?;
+            Ok(Change::new(principal, i_number, action))
+        }
+        Task::AddUser(user) => {
+            let key = players.key_of(user)?;
+            Ok(Change::of_table(TableChange::AddUser(user, key)))
+        }
+        Task::AddMember(group, user) => Ok(Change::of_table(TableChange::AddMember(group, user))),
+        Task::DropMember(group, user) => Ok(Change::of_table(TableChange::DropMember(group, user))),
+    }
+}
+
 /// The changes that a script's tasks are, in order, with what has to be laid out for them.
 pub(crate) fn work_of<A: Allocator + Copy>(
     alloc: A,
+    players: &mut Players<A>,
     tasks: Vec<Task<A>, A>,
 ) -> Result<Work<A>, Memory> {
     let mut changes = Vec::new(alloc);
     let mut laid = Vec::new(alloc);
     for task in tasks {
-        let Task {
-            principal,
-            i_number,
-            action,
-        } = task;
-        let action = action_of(alloc, &mut laid, action)?;
-        changes.push(Change::new(principal, i_number, action))?;
+        changes.push(change_of(alloc, players, &mut laid, task)?)?;
     }
     Ok(Work { changes, laid })
 }

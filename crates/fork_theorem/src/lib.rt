@@ -5,6 +5,7 @@ mod command;
 mod laying;
 mod operation;
 mod outcome;
+mod players;
 mod script;
 mod server;
 mod task;

@@ -2,10 +2,9 @@
 
 ghost use Rattle.std.specs.Prelude.{◌≡◌, IsSome};
 
-use crate::laying::{Work, store, work_of};
+use crate::laying::{Work, store};
 use crate::outcome::Outcome;
 use crate::server::{Server, exchange};
-use crate::task::Task;
 use client_tree::Held;
 use client_verify::{Client, ClientError, Look, Phase, Step, are_laid};
 use layout::{INumber, Memory, Principal, User};
@@ -43,18 +42,15 @@ fn declare<A: Allocator + Copy>(
     }
 }
 
-/// Lays out and stores what the tasks name, and declares the operation.
+/// Stores what was laid out, and declares the operation, where the client has none.
 pub(crate) fn begin<A: Allocator + Copy>(
     alloc: A,
     blocks: &mut Held<A>,
     client: &mut Client<A>,
-    tasks: Vec<Task<A>, A>,
+    work: Work<A>,
 ) -> Result<Outcome<A>, Memory> {
     match client.phase() {
-        Phase::Idle => {
-            let work = work_of(alloc, tasks)?;
-            declare(alloc, blocks, client, work)
-        }
+        Phase::Idle => declare(alloc, blocks, client, work),
         _ => Ok(Outcome::Busy(client.user())),
     }
 }

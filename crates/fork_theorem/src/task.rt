@@ -2,9 +2,9 @@
 
 ghost use Rattle.std.specs.Prelude.{◌≡◌, ◌≤◌, IfOk, length};
 
-use crate::words::{Unread, bytes_of, i_number_of, principal_of};
+use crate::words::{Unread, bytes_of, group_of, i_number_of, principal_of, user_of};
 use directory::{Entry, Name, Target, name_text};
-use layout::{INumber, Principal};
+use layout::{Group, User};
 use std::alloc::Allocator;
 use std::str::Split;
 
@@ -25,12 +25,17 @@ pub(crate) enum TaskAction<A: Allocator> {
     Unlink(Name<A>),
 }
 
-/// What is done at an i-number of a principal.
+/// A change of a script.
 #[derive(Drop)]
-pub(crate) struct Task<A: Allocator> {
-    pub(crate) principal: Principal,
-    pub(crate) i_number: INumber,
-    pub(crate) action: TaskAction<A>,
+pub(crate) enum Task<A: Allocator> {
+    /// This is done at an i-number of a principal.
+    At(Target, TaskAction<A>),
+    /// `adduser V`: the key is the first one of V's client.
+    AddUser(User),
+    /// `addmember G V`.
+    AddMember(Group, User),
+    /// `dropmember G V`.
+    DropMember(Group, User),
 }
 
 /// The next word.
@@ -82,29 +87,52 @@ fn name<A: Allocator>(alloc: A, words: &mut Split<'_, char>) -> Result<Name<A>, 
     Ok(name)
 }
 
+/// The user that the next word names.
+fn user(words: &mut Split<'_, char>) -> Result<User, Unread> {
+    match user_of(next(words)?) {
+        Some(user) => Ok(user),
+        None => Err(Unread::NoCommand),
+    }
+}
+
+/// The group that the next word names.
+fn group(words: &mut Split<'_, char>) -> Result<Group, Unread> {
+    match group_of(next(words)?) {
+        Some(group) => Ok(group),
+        None => Err(Unread::NoCommand),
+    }
+}
+
+/// What is done at an i-number of a principal, by this verb.
+fn task_at<A: Allocator>(
+    alloc: A,
+    verb: &str,
+    words: &mut Split<'_, char>,
+) -> Result<Task<A>, Unread> {
+    let place = target(words)?;
+    let action = match verb {
+        "make" => made(alloc, words)?,
+        "put" => TaskAction::Put(bytes_of(alloc, next(words)?)?),
+        "remove" => TaskAction::Remove,
+        "link" => TaskAction::Link(entry(alloc, words)?),
+        "unlink" => TaskAction::Unlink(name(alloc, words)?),
+        _ => return Err(Unread::NoCommand),
+    };
+    Ok(Task::At(place, action))
+}
+
 /// What a change of a script says.
 fn task_of<A: Allocator>(alloc: A, text: &str) -> Result<Task<A>, Unread> {
     let mut words = text.split(' ');
-    let verb = next(&mut words)?;
-    let Target {
-        principal,
-        i_number,
-    } = target(&mut words)?;
-    let action = match verb {
-        "make" => made(alloc, &mut words)?,
-        "put" => TaskAction::Put(bytes_of(alloc, next(&mut words)?)?),
-        "remove" => TaskAction::Remove,
-        "link" => TaskAction::Link(entry(alloc, &mut words)?),
-        "unlink" => TaskAction::Unlink(name(alloc, &mut words)?),
-        _ => return Err(Unread::NoCommand),
+    let task = match next(&mut words)? {
+        "adduser" => Task::AddUser(user(&mut words)?),
+        "addmember" => Task::AddMember(group(&mut words)?, user(&mut words)?),
+        "dropmember" => Task::DropMember(group(&mut words)?, user(&mut words)?),
+        verb => task_at(alloc, verb, &mut words)?,
     };
     match words.next() {
         Some(_) => Err(Unread::NoCommand),
-        None => Ok(Task {
-            principal,
-            i_number,
-            action,
-        }),
+        None => Ok(task),
     }
 }
 

@@ -2,7 +2,7 @@
 
 use directory::name_text;
 use itable::FILE_SIZE;
-use layout::{INumber, Memory, Principal, User};
+use layout::{Group, INumber, Memory, Principal, User};
 use std::alloc::{AllocError, AllocFailed, Allocator};
 
 /// Why a line isn't read as a command.
@@ -47,6 +47,10 @@ fn byte_of(word: &str) -> Option<u8> {
 
 pub(crate) fn user_of(word: &str) -> Option<User> {
     User::new(byte_of(word)?)
+}
+
+pub(crate) fn group_of(word: &str) -> Option<Group> {
+    Group::new(byte_of(word)?)
 }
 
 pub(crate) fn principal_of(word: &str) -> Option<Principal> {

@@ -5,4 +5,5 @@ mod LineLaws
 mod MarksLaws
 mod OpenLaws
 mod Parts
+mod SizeLaws
 mod Users

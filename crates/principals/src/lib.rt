@@ -11,4 +11,5 @@ mod tests;
 
 pub use error::TableError;
 pub use laws::{membership, open_rows};
-pub use table::{Listing, Row, Table};
+pub use reading::read_key;
+pub use table::{Listing, Row, TABLE_SIZE, Table, key_fits};

@@ -16,9 +16,10 @@ use lms_sign::{KEY_SIZE, PublicKey};
 use std::alloc::Allocator;
 use std::marker::Model;
 
-/// A public key.
-fn read_key(reader: &mut Reader<'_>) -> Result<PublicKey, ReadError>
-    ensures { Reads result reader.new (key_format.read reader.old) }
+/// A public key, as a table or a change of it has one: 56 bytes.
+pub fn read_key(reader: &mut Reader<'_>) -> Result<PublicKey, ReadError>
+    ensures reads { Reads result reader.new (key_format.read reader.old) }
+    ensures bytes { IsBytes reader.old }
 {
     let bytes = reader.bytes(KEY_SIZE)?;
     let mut copy = [0; KEY_SIZE];

@@ -1,6 +1,6 @@
 //! The table, and its rows.
 
-ghost use Rattle.std.specs.Prelude.{◌≡◌, ◌<◌, ◌≤◌, ◌⊎◌, ◌++◌, ◌∷◌, ◌==◌, ◌&&◌, nat_le, [], true, false, length, map, find, Some, None, IfOk, OnOk, OnErr, MatchResult};
+ghost use Rattle.std.specs.Prelude.{◌≡◌, ◌<◌, ◌≤◌, ◌⊎◌, ◌++◌, ◌∷◌, ◌==◌, ◌&&◌, nat_le, [], true, false, length, map, find, Some, None, IfOk, OnOk, OnErr, MatchResult, if◌then◌else◌};
 ghost use Rattle.std.specs.Option.{option_copied};
 ghost use Rattle.std.specs.List.{list_any};
 ghost use Rattle.std.specs.Ordering.{nat_cmp};
@@ -17,6 +17,9 @@ use std::marker::Model;
 
 /// How many rows of members a table has at most.
 pub(crate) const MOST_ROWS: usize = 65535;
+
+/// How many bytes the text of a table has at most: the tag, the users after their count, and the rows after theirs.
+pub const TABLE_SIZE: usize = 4 + (1 + 255 * (1 + 4 + 56)) + (2 + MOST_ROWS * (1 + 1 + 4 + 4));
 
 /// A user and its key.
 #[derive(Clone, Copy, Debug)]
@@ -63,8 +66,8 @@ impl<A: Allocator> Model for Table<A> {
     ghost invariant = { λ t. IsKept t.superuser t.others.items t.rows.items t.marks };
 }
 
-/// That a key is one in a text, for the contract of what holds it.
-fn key_fits(key: &PublicKey)
+/// That a key fits a text, for the contract of what holds it: it does nothing.
+pub fn key_fits(key: &PublicKey)
     ensures { key_format.Fits key.now }
 {
     are_bytes(key.as_bytes());
@@ -154,6 +157,20 @@ impl<A: Allocator + Copy> Table<A> {
             marks: no_marks(),
         }
     }
+
+    /// A table like this one.
+    pub fn copy(&self, alloc: A) -> Result<Table<A>, Memory>
+        ensures { IfOk result (λ copy. copy ≡ self.now) }
+    {
+        let others = Vec::from_slice(alloc, &self.others)?;
+        let rows = Vec::from_slice(alloc, &self.rows)?;
+        Ok(Table {
+            superuser: self.superuser,
+            others,
+            rows,
+            marks: self.marks,
+        })
+    }
 }
 
 impl<A: Allocator> Table<A> {
@@ -224,6 +241,14 @@ impl<A: Allocator> Table<A> {
         ensures { result ≡ is_member_now self.now group user }
     {
         self.marks[slot(group, user)]
+    }
+
+    /// That its text isn't longer than `TABLE_SIZE`: it does nothing.
+    pub fn text_fits(&self)
+        ensures { length (table_format.spell self.now) ≤ TABLE_SIZE }
+    {
+        // It is as its type keeps it.
+        let _rows = self.rows.len();
     }
 
     /// Where the last row begins, 0 where there is none.
@@ -320,6 +345,23 @@ impl<A: Allocator> Table<A> {
         }
     }
 
+    /// Takes a user out of a group, by user 0's operation of this number, and answers whether it was a member now: one pass
+    /// over the rows. It isn't asked whether the user is listed.
+    pub fn end_member(&mut self, number: Version, group: Group, user: User) -> bool
+        ensures member { result ≡ is_member_now self.old group user }
+        ensures rows { self.new ≡ (if result then member_dropped number group user self.old else self.old) }
+        // A table that has a text has one afterwards, if the number isn't less than those before.
+        ensures fits { table_format.Fits self.old → NoneAfter number self.old → table_format.Fits self.new }
+    {
+        if !self.is_member_now(group, user) {
+            return false;
+        }
+        let _number = number.get();
+        end_rows(&mut self.rows, number, group, user);
+        self.marks[slot(group, user)] = false;
+        true
+    }
+
     /// Takes a member out of a group, by user 0's operation of this number: one pass over the rows. Unlisted where the
     /// user isn't listed, NotGroup where the principal is a user, NotMember where it is no member now; of several the
     /// least.
@@ -341,12 +383,9 @@ impl<A: Allocator> Table<A> {
         let Some(group) = Group::new(group.get()) else {
             return Err(TableError::NotGroup);
         };
-        if !self.is_member_now(group, user) {
+        if !self.end_member(number, group, user) {
             return Err(TableError::NotMember);
         }
-        let _number = number.get();
-        end_rows(&mut self.rows, number, group, user);
-        self.marks[slot(group, user)] = false;
         Ok(())
     }
 }

@@ -6,3 +6,4 @@ pub mod VectorLaws
 pub mod EntriesLaws
 pub mod RecordsLaws
 pub mod Examples
+pub mod OwnRaised

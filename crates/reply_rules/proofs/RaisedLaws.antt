@@ -27,7 +27,7 @@ version_most p (c ∷ cs) each =
     ]
 
 -- a version falls by no raising
-version-grows : (u : ℕ) (ps : List ℕ) (v : List Component) → version_of u v ≤ version_of u (raised_all ps v)
+pub version-grows : (u : ℕ) (ps : List ℕ) (v : List Component) → version_of u v ≤ version_of u (raised_all ps v)
 version-grows u [] v = omega arith
 version-grows u (p ∷ ps) v = omega (arith, version-grows u ps (raised p v), version_of-raised p u v)
 

@@ -1,6 +1,6 @@
 -- What stands in a part after an action.
-use Rattle.std.proofs.Common.{◌≡◌, ◌≢◌, ◌≤◌, ℕ, Bool, true, false, List, [], ◌∷◌, Option, Some, None, refl, subst, sym, ap, ◌∙◌, arith}
-use Rattle.std.specs.Prelude.{◌==◌, ◌&&◌, ◌||◌, not, nat_le, is_some, IsSome, if◌then◌else◌, slice_index_or}
+use Rattle.std.proofs.Common.{◌≡◌, ◌≢◌, ℕ, Bool, true, false, List, [], ◌∷◌, Option, Some, None, refl, subst, sym, ap, ◌∙◌, arith}
+use Rattle.std.specs.Prelude.{◌==◌, ◌&&◌, ◌||◌, not, nat_le, is_some, IsSome, IsSomeAnd, if◌then◌else◌, slice_index_or}
 use Rattle.std.specs.List.{slice_set}
 use Rattle.std.specs.Option.{option_map}
 use Rattle.std.specs.Ordering.{nat_cmp, is_eq}
@@ -11,9 +11,13 @@ use Rattle.layout.specs.Ascending.{Stands, row_at, with_row}
 use Rattle.directory.specs.Directory.{Entry, linked, unlinked}
 use Rattle.itable.specs.ITable.{digest_at}
 use Rattle.layout.specs.Types.{Digest}
-use Rattle.update_cert.specs.Change.{Action, Make, Put, Remove, Link, Unlink, AddUser, AddMember, DropMember, Change, kind, kind_of}
+use Rattle.update_cert.specs.Change.{Action, Make, Put, Remove, Link, Unlink, AddUser, AddMember, DropMember, Change, change, action_of, table_action_of}
+use Rattle.update_cert.specs.declared.change.Action.{Action as Held}
+use Rattle.update_cert.specs.declared.change.Action.TheVariants as held
+use Rattle.update_cert.specs.declared.change.TableChange.{TableChange}
+use Rattle.update_cert.specs.declared.change.TableChange.TheVariants as table_change
 use Rattle.principals.specs.Table.{Table, user_added, member_added, member_dropped}
-use Rattle.update_cert.specs.World.{Content, File, Directory, Principals, Actor, Tree, permitted, has_effect, action_fits, fits, has_room, has_name, entries_of, becomes, content_after, after_change, is_table}
+use Rattle.update_cert.specs.World.{Content, File, Directory, Principals, Actor, Tree, permitted, has_effect, action_fits, fits, has_room, has_name, entries_of, becomes, content_after, after_change, is_table, changes_table}
 use Rattle.update_cert.specs.Reading.{Reading, read_action, read_change}
 use Rattle.update_cert.specs.Part.{Open, Part, Slot, Changed, HasTable, IsPart, IsPartOf, number_of, opened_at, slot_at, slot_of, stands_at}
 use Rattle.update_cert.specs.Slots.{content_in, laid_under, slot_becomes, slot_changes, slot_after_change}
@@ -156,7 +160,7 @@ is_change c part i a of here does = rw (← of) (rw (here, does) refl)
 pub permitted_is : (actor : Actor) (c : Change Digest) (p user : ℕ) (member : Bool) → c.principal ≡ p → actor.user ≡ user → actor.member p ≡ member → permitted actor c ≡ ((p == user) || (nat_le 64 p && member))
 permitted_is actor c p user member of is one = rw of (rw (is, one) refl)
 
-table_place : (p i : ℕ) → is_table p i ≡ true → (p ≡ 0) × (i ≡ 1)
+pub table_place : (p i : ℕ) → is_table p i ≡ true → (p ≡ 0) × (i ≡ 1)
 table_place p i is = grind (arith, nat_tests)
 
 -- what isn't permitted, or is of the table of principals, has no effect on the slots
@@ -218,6 +222,17 @@ pub effect_read : (reads : Reading) (actor : Actor) (c : Change Digest) (content
 unfolding has_effect
 effect_read reads actor c content = ap (λ (t : Bool). permitted actor c && t) (fits_read reads actor.user c.principal c.i_number c.action content)
 
+-- nor whether it is one of the table
+pub kind_read : (reads : Reading) (a : Action Digest) → changes_table (read_action reads a) ≡ changes_table a
+kind_read reads (Make new) = refl
+kind_read reads (Put new) = refl
+kind_read reads Remove = refl
+kind_read reads (Link entry) = refl
+kind_read reads (Unlink name) = refl
+kind_read reads (AddUser u key) = refl
+kind_read reads (AddMember g u) = refl
+kind_read reads (DropMember g u) = refl
+
 -- ---- the table of principals stays a table
 
 abbrev IsTableContent : Option Content → Type 0
@@ -250,19 +265,19 @@ pub has_table_after : (actor : Actor) (c : Change Content) (tree : Tree) → Has
 has_table_after actor c tree has = kept_if ((0 == c.principal) && (1 == c.i_number)) (content_after actor c (tree 0 1)) (tree 0 1) (table_after actor c (tree 0 1) has) has
 
 -- no change of a part fits it
-void_kind : (user p i : ℕ) (a : Action Digest) (t : Table) → kind a ≤ 5 → action_fits user p i a (Some (Principals t)) ≡ false
-void_kind user p i (Make new) t few = refl
-void_kind user p i (Put new) t few = refl
-void_kind user p i Remove t few = refl
-void_kind user p i (Link entry) t few = refl
-void_kind user p i (Unlink name) t few = refl
-void_kind user p i (AddUser u key) t few = absurd (omega (arith, few))
-void_kind user p i (AddMember g u) t few = absurd (omega (arith, few))
-void_kind user p i (DropMember g u) t few = absurd (omega (arith, few))
+pub other_void : {C : Type 0} (user p i : ℕ) (a : Action C) (t : Table) → changes_table a ≡ false → action_fits user p i a (Some (Principals t)) ≡ false
+other_void user p i (Make new) t other = refl
+other_void user p i (Put new) t other = refl
+other_void user p i Remove t other = refl
+other_void user p i (Link entry) t other = refl
+other_void user p i (Unlink name) t other = refl
+other_void user p i (AddUser u key) t other = absurd cc
+other_void user p i (AddMember g u) t other = absurd cc
+other_void user p i (DropMember g u) t other = absurd cc
 
-no_effect_there : (actor : Actor) (c : Change Digest) (content : Option Content) → kind_of c ≤ 5 → IsTableContent content → has_effect actor c content ≡ false
+no_effect_there : (actor : Actor) (c : Change Digest) (content : Option Content) → changes_table c.action ≡ false → IsTableContent content → has_effect actor c content ≡ false
 unfolding has_effect
-no_effect_there actor c content few (t, is) = rw is (rw (void_kind actor.user c.principal c.i_number c.action t few) (and-false (permitted actor c)))
+no_effect_there actor c content other (t, is) = rw is (rw (other_void actor.user c.principal c.i_number c.action t other) (and-false (permitted actor c)))
 
 -- ---- what stands, from the slots
 
@@ -324,19 +339,58 @@ part_foreign reads actor c part tree other is = record {
       ∙ is.stands i place;
 }
 
-void_step : (reads : Reading) (actor : Actor) (c : Change Digest) (part : Part) (tree : Tree) (t : Bool) → is_table c.principal c.i_number ≡ t → c.principal ≡ part.table.principal → kind_of c ≤ 5 → IsPartOf reads part tree
+void_step : (reads : Reading) (actor : Actor) (c : Change Digest) (part : Part) (tree : Tree) (t : Bool) → is_table c.principal c.i_number ≡ t → c.principal ≡ part.table.principal → changes_table c.action ≡ false → IsPartOf reads part tree
     → slot_changes reads actor c (slot_at part c.i_number) ≡ has_effect actor c (tree c.principal c.i_number)
 unfolding slot_changes
-void_step reads actor c part tree true place of few is =
+void_step reads actor c part tree true place of other is =
     let at = table_place c.principal c.i_number place in
     let there : tree c.principal c.i_number ≡ tree 0 1 = rw (at.0, at.1) refl in
-    rw place (sym (no_effect_there actor c (tree c.principal c.i_number) few (is.has_table.0, there ∙ is.has_table.1)))
-void_step reads actor c part tree false place of few is =
+    rw place (sym (no_effect_there actor c (tree c.principal c.i_number) other (is.has_table.0, there ∙ is.has_table.1)))
+void_step reads actor c part tree false place of other is =
     let here : tree c.principal c.i_number ≡ stands_at reads part c.i_number = ap (λ (q : ℕ). tree q c.i_number) of ∙ is.stands c.i_number (ap (λ (q : ℕ). is_table q c.i_number) (sym of) ∙ place) in
     rw place (ap (has_effect actor c) (sym here))
 
 -- it is void where it has no effect on the tree
-pub void_followed : (reads : Reading) (actor : Actor) (c : Change Digest) (part : Part) (tree : Tree) (effect : Bool) → c.principal ≡ part.table.principal → kind_of c ≤ 5 → IsPartOf reads part tree → effect ≡ slot_changes reads actor c (slot_at part c.i_number) → not effect ≡ is_void_of actor part.table.principal c tree
-void_followed reads actor c part tree effect of few is told =
-    ap not (told ∙ void_step reads actor c part tree (is_table c.principal c.i_number) refl of few is)
-    ∙ sym (ap (λ (t : Bool). t && not (has_effect actor c (tree c.principal c.i_number))) (eq-eqb c.principal part.table.principal of))
+pub void_followed : (reads : Reading) (actor : Actor) (c : Change Digest) (part : Part) (tree : Tree) (effect : Bool) → c.principal ≡ part.table.principal → changes_table c.action ≡ false → IsPartOf reads part tree → effect ≡ slot_changes reads actor c (slot_at part c.i_number) → not effect ≡ is_void_of actor part.table.principal c tree
+void_followed reads actor c part tree effect of other is told =
+    ap not (told ∙ void_step reads actor c part tree (is_table c.principal c.i_number) refl of other is)
+    ∙ sym (ap (λ (t : Bool). (t && not (changes_table c.action)) && not (has_effect actor c (tree c.principal c.i_number))) (eq-eqb c.principal part.table.principal of)
+    ∙ ap (λ (t : Bool). not t && not (has_effect actor c (tree c.principal c.i_number))) other)
+
+-- ---- changes of the table
+
+-- an action in memory that isn't one of the table
+pub is_other : {A : Type 0} (a : Held A) → changes_table (action_of a) ≡ false
+is_other (held.Make inode) = refl
+is_other (held.Put inode) = refl
+is_other held.Remove = refl
+is_other (held.Link entry) = refl
+is_other (held.Unlink old) = refl
+
+-- and one that is
+pub is_tables : (c : TableChange) → changes_table (table_action_of c) ≡ true
+is_tables (table_change.AddUser u key) = refl
+is_tables (table_change.AddMember g u) = refl
+is_tables (table_change.DropMember g u) = refl
+
+if_some : {X : Type 0} (P : X → Type 0) (t : Bool) (o : Option X) → IsSomeAnd (if t then o else None) P → t ≡ true
+if_some P true o some = refl
+if_some P false o some = absurd some
+
+place_fits : (p i : ℕ) (a : Action Digest) → change.Fits (record { principal = p; i_number = i; action = a }) → changes_table a ≡ true → is_table p i ≡ true
+place_fits p i (Make new) fits is = absurd cc
+place_fits p i (Put new) fits is = absurd cc
+place_fits p i Remove fits is = absurd cc
+place_fits p i (Link entry) fits is = absurd cc
+place_fits p i (Unlink name) fits is = absurd cc
+place_fits p i (AddUser u k) fits is = if_some _ (is_table p i) (Some (u, k)) fits.1
+place_fits p i (AddMember g u) fits is = if_some _ (is_table p i) (Some (g, u)) fits.1
+place_fits p i (DropMember g u) fits is = if_some _ (is_table p i) (Some (g, u)) fits.1
+
+-- a change of the table is made at its place
+pub at_table : (c : Change Digest) → change.Fits c → changes_table c.action ≡ true → is_table c.principal c.i_number ≡ true
+at_table c fits is = place_fits c.principal c.i_number c.action fits is
+
+-- it is void in no part
+pub not_of_part : (actor : Actor) (p : ℕ) (c : Change Digest) (tree : Tree) → changes_table c.action ≡ true → false ≡ is_void_of actor p c tree
+not_of_part actor p c tree is = sym (ap (λ (t : Bool). ((c.principal == p) && not t) && not (has_effect actor c (tree c.principal c.i_number))) is ∙ ap (λ (t : Bool). t && not (has_effect actor c (tree c.principal c.i_number))) (and-false (c.principal == p)))

@@ -1,5 +1,5 @@
 -- What is asked for, from the part at a change's turn to the first part.
-use Rattle.std.proofs.Common.{◌≡◌, ℕ, ◌<◌, Bool, true, false, List, length, take, Option, Some, Result, Ok, Err, refl, subst, sym, ap, ◌∙◌}
+use Rattle.std.proofs.Common.{◌≡◌, ℕ, ◌<◌, Bool, true, false, List, length, take, Some, Result, Ok, Err, refl, subst, sym, ◌∙◌}
 use Rattle.std.specs.Prelude.{◌⊎◌, IfErr, IsErr, IsErrAnd, slice_get, slice_index_or}
 use Rattle.std.proofs.lemmas.Option.{slice_get_read}
 use Rattle.update_cert.specs.Change.{Change}

@@ -35,7 +35,7 @@ joined_held blocks (t ∷ ts) all = rw (All-head (IsHeld blocks) t ts all) (ap (
 pub inode_held : (blocks : Blocks) (n : Inode) → inode.Fits n → IsHeld blocks (inode.spell n) → inode_at blocks (hash (inode.spell n)) ≡ Some n
 inode_held blocks n fits held = ap (option_and_then (λ text. result_ok (whole inode text))) held ∙ ap result_ok (whole_again inode lawful_inode n fits)
 
-spelled_of_size : (entries : List Entry) → directory.Fits entries → of_size (length (directory.spell entries)) (directory.spell entries) ≡ Some entries
+spelled_of_size : (entries : List Entry) → directory.Fits entries → of_size directory (length (directory.spell entries)) (directory.spell entries) ≡ Some entries
 spelled_of_size entries fits = rw (eq-eqb (length (directory.spell entries)) (length (directory.spell entries)) refl) (ap result_ok (whole_again directory lawful_directory entries fits))
 
 is_file : (blocks : Blocks) (n : Inode) (bytes : List ℕ) (content : Content) → n.kind ≡ kinds.File → file_over blocks n ≡ Some bytes → IsOf blocks n content → content ≡ File bytes
@@ -62,5 +62,5 @@ read_back entries fits inode_fits all = λ blocks reads agrees held.
     let digest = hash (inode.spell n) in
     let blocks_held : All (IsHeld blocks) (blocks_of text) = all_front (IsHeld blocks) (blocks_of text) (inode.spell n ∷ []) held in
     let inode_is_held : IsHeld blocks (inode.spell n) = All-head (IsHeld blocks) (inode.spell n) [] (all_back (IsHeld blocks) (blocks_of text) (inode.spell n ∷ []) held) in
-    let over : directory_over blocks n ≡ Some entries = ap (option_and_then (of_size n.size)) (joined_held blocks (blocks_of text) blocks_held ∙ ap (λ (t : List ℕ). Some t) all) ∙ spelled_of_size entries fits in
+    let over : directory_over blocks n ≡ Some entries = ap (option_and_then (of_size directory n.size)) (joined_held blocks (blocks_of text) blocks_held ∙ ap (λ (t : List ℕ). Some t) all) ∙ spelled_of_size entries fits in
     directory_is blocks reads digest n entries agrees (inode_held blocks n inode_fits inode_is_held) refl over

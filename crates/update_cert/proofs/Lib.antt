@@ -9,3 +9,6 @@ pub mod LaidLaws
 pub mod SomeReading
 pub mod Contents
 pub mod TakenLaws
+pub mod TableLaws
+pub mod TableStands
+pub mod VoidLaws

@@ -130,7 +130,7 @@ sized_text true (Ok entries) found e = let same : entries ≡ found = cc in (ref
 sized_text true (Err d) found e = absurd cc
 sized_text false r found e = absurd cc
 
-text_sized : (size : ℕ) (text : List ℕ) (found : List Entry) → of_size size text ≡ Some found → (found ≡ []) ↔ (size ≡ 6)
+text_sized : (size : ℕ) (text : List ℕ) (found : List Entry) → of_size directory size text ≡ Some found → (found ≡ []) ↔ (size ≡ 6)
 text_sized size text found e =
     let s = sized_text (length text == size) (whole directory text) found e in
     subst (λ (n : ℕ). (found ≡ []) ↔ (n ≡ 6)) (eqb-true (length text) size s.0) (empty_at_6 text found s.1)
@@ -145,7 +145,7 @@ one_or_none size false is = (λ none. absurd cc, λ six. let clash = sym is ∙ 
 
 listed_fits : (blocks : Blocks) (n : Inode) (over : Option (List Entry)) → over ≡ directory_over blocks n → (listed_of n.size over ≡ []) ↔ (n.size ≡ 6)
 listed_fits blocks n None is = one_or_none n.size (n.size == 6) refl
-listed_fits blocks n (Some found) is = let text = then_some (of_size n.size) (joined blocks n.blocks) found (sym is) in text_sized n.size text.0 found text.1
+listed_fits blocks n (Some found) is = let text = then_some (of_size directory n.size) (joined blocks n.blocks) found (sym is) in text_sized n.size text.0 found text.1
 
 is_over : (blocks : Blocks) (n : Inode) (k : Kind) → n.kind ≡ k → IsOf blocks n (content_over blocks n k)
 is_over blocks n kinds.File is = (is, bytes_fit blocks n (file_over blocks n) refl, λ found at. sym (ap (bytes_of n.size) at))

@@ -1,23 +1,26 @@
 -- The blocks that were read are what their places take.
-use Rattle.std.proofs.Common.{◌≡◌, ℕ, ◌+◌, ◌<◌, ◌≤◌, Bool, true, false, List, [], ◌∷◌, ◌++◌, length, take, Option, Some, None, Result, Ok, Err, refl, sym, ap, subst, ◌∙◌, inl, inr, arith}
-use Rattle.std.specs.Prelude.{not, ◌&&◌, ◌||◌, ◌==◌, is_some, IsSome, IsSomeAnd, OnOk, nat_lt, slice_get, slice_index_or, if◌then◌else◌}
+use Rattle.std.proofs.Common.{◌≡◌, ℕ, ◌+◌, ◌<◌, ◌≤◌, true, false, List, ◌++◌, length, take, Option, Some, None, Result, Ok, Err, refl, sym, ap, subst, ◌∙◌, inl, inr, arith}
+use Rattle.std.specs.Prelude.{not, ◌||◌, ◌==◌, is_some, IsSome, IsSomeAnd, OnOk, nat_lt, slice_get, slice_index_or}
 use Rattle.std.proofs.lemmas.Bool.{cases_lt, eq-eqb}
 use Rattle.std.proofs.lemmas.Bool.Decides.{nat_tests}
 use Rattle.std.proofs.lemmas.Option.{get_or_from_slice_get, slice_get_read, slice_get_within}
 use Rattle.std.specs.Option.{option_map_or}
 use Rattle.std.specs.Result.{result_ok}
-use Rattle.layout.specs.Format.{whole}
+use Rattle.layout.specs.Format.{Format, whole}
 use Rattle.itable.specs.Inode.{Inode, inode, block_count}
 use Rattle.itable.specs.declared.inode.Kind.{Kind}
 use Rattle.itable.specs.declared.inode.Kind.TheVariants as kinds
 use Rattle.directory.specs.Directory.{Entry, directory}
+use Rattle.principals.specs.Table.{Table}
+use Rattle.principals.specs.TableText.{table}
 use Rattle.update_cert.specs.Blocks.{Blocks, inode_at, joined, of_size}
-use Rattle.update_cert.specs.Asked.{HasBlocks, IsBlock}
+use Rattle.update_cert.specs.Asked.{HasBlocks, HasPrincipals, IsOfPrincipals}
 use Rattle.update_cert.specs.Acts.{IsSized}
-use Rattle.update_cert.specs.Spot.{takes, is_of_file, completes, size_of_block, spot_of, lacks}
+use Rattle.update_cert.specs.Spot.{takes, completes, size_of_block, spot_of, lacks}
 use Rattle.update_cert.specs.declared.error.ApplyError.{ApplyError}
 use Rattle.update_cert.specs.declared.spot.Spot.{Spot}
-use Rattle.update_cert.proofs.ReadingLaws.{block_taken, count_is, front_and_last, joined_last, taken_by, with_last}
+use Rattle.update_cert.specs.declared.spot.Spot.TheVariants as spot
+use Rattle.update_cert.proofs.ReadingLaws.{block_taken, count_is, front_and_last, joined_last, table_taken_by, taken_by, with_last}
 
 -- ---- the first blocks, and one more
 
@@ -83,16 +86,16 @@ pub file_read_taken : {X : Type 0} (blocks : Blocks) (digest : List ℕ) (n : In
 file_read_taken blocks digest n (Ok x) fits at of_file sized = file_taken blocks digest n fits at of_file sized
 file_read_taken blocks digest n (Err e) fits at of_file sized = tt
 
-completed : (before : Option (List ℕ)) (bytes text : List ℕ) (size : ℕ) (es : List Entry) → with_last before (Some bytes) ≡ Some text → length text ≡ size → result_ok (whole directory text) ≡ Some es → option_map_or (λ front. is_some (of_size size (front ++ bytes))) before false ≡ true
-completed None bytes text size es all long read = absurd cc
-completed (Some front) bytes text size es all long read =
+completed : {T : Type 0} (f : Format T) (before : Option (List ℕ)) (bytes text : List ℕ) (size : ℕ) (x : T) → with_last before (Some bytes) ≡ Some text → length text ≡ size → result_ok (whole f text) ≡ Some x → option_map_or (λ front. is_some (of_size f size (front ++ bytes))) before false ≡ true
+completed f None bytes text size x all long read = absurd cc
+completed f (Some front) bytes text size x all long read =
     let same : text ≡ front ++ bytes = cc in
-    subst (λ (t : List ℕ). is_some (of_size size t) ≡ true) same (rw (eq-eqb (length text) size long) (ap is_some read))
+    subst (λ (t : List ℕ). is_some (of_size f size t) ≡ true) same (rw (eq-eqb (length text) size long) (ap is_some read))
 
 -- the last block, or one before it
-completes_it : (blocks : Blocks) (n : Inode) (k : ℕ) (block bytes text : List ℕ) (es : List Entry) → inode.Fits n → slice_get n.blocks k ≡ Some block → blocks block ≡ Some bytes → joined blocks n.blocks ≡ Some text → length text ≡ n.size → result_ok (whole directory text) ≡ Some es
-    → (nat_lt (k + 1) (block_count n.size) || completes blocks n k bytes) ≡ true
-completes_it blocks n k block bytes text es fits here held all long read =
+completes_it : {T : Type 0} (f : Format T) (blocks : Blocks) (n : Inode) (k : ℕ) (block bytes text : List ℕ) (x : T) → inode.Fits n → slice_get n.blocks k ≡ Some block → blocks block ≡ Some bytes → joined blocks n.blocks ≡ Some text → length text ≡ n.size → result_ok (whole f text) ≡ Some x
+    → (nat_lt (k + 1) (block_count n.size) || completes f blocks n k bytes) ≡ true
+completes_it f blocks n k block bytes text x fits here held all long read =
     elim (cases_lt (k + 1) (block_count n.size)) [
       | inl earlier ↦ (let more : nat_lt (k + 1) (block_count n.size) ≡ true = grind (arith, nat_tests) in rw more refl)
       | inr late ↦ (
@@ -102,11 +105,35 @@ completes_it blocks n k block bytes text es fits here held all long read =
           let front = sym (joined_last blocks (take k n.blocks) block) ∙ sym (ap (joined blocks) (front_and_last n.blocks k block last (sym (get_or_from_slice_get n.blocks k block block here)))) ∙ all in
           let split : with_last (joined blocks (take k n.blocks)) (Some bytes) ≡ Some text = ap (with_last (joined blocks (take k n.blocks))) (sym held) ∙ front in
           let no_more : nat_lt (k + 1) (block_count n.size) ≡ false = grind (arith, nat_tests) in
-          rw no_more (completed (joined blocks (take k n.blocks)) bytes text n.size es split long read))
+          rw no_more (completed f (joined blocks (take k n.blocks)) bytes text n.size x split long read))
     ]
 
 pub directory_taken : (blocks : Blocks) (digest text : List ℕ) (n : Inode) (es : List Entry) → inode.Fits n → inode_at blocks digest ≡ Some n → n.kind ≡ kinds.Directory → ((k : ℕ) (block : List ℕ) → slice_get n.blocks k ≡ Some block → IsSized blocks n k block)
     → joined blocks n.blocks ≡ Some text → length text ≡ n.size → result_ok (whole directory text) ≡ Some es → HasBlocks blocks kinds.Directory digest
 directory_taken blocks digest text n es fits at of_directory sized all long read =
     has_blocks blocks digest n kinds.Directory at sized
-    (λ k block here bytes held. rw (of_directory, counted n k block fits here, size_told blocks n k block bytes (sized k block here) held, completes_it blocks n k block bytes text es fits here held all long read) refl)
+    (λ k block here bytes held. rw (of_directory, counted n k block fits here, size_told blocks n k block bytes (sized k block here) held, completes_it directory blocks n k block bytes text es fits here held all long read) refl)
+
+-- ---- the table of principals
+
+table_block_taken : (blocks : Blocks) (digest text block : List ℕ) (n : Inode) (t : Table) (k : ℕ) → inode.Fits n → inode_at blocks digest ≡ Some n → n.kind ≡ kinds.File → slice_get n.blocks k ≡ Some block → IsSized blocks n k block
+    → joined blocks n.blocks ≡ Some text → length text ≡ n.size → result_ok (whole table text) ≡ Some t → lacks blocks block (spot.Table digest k) ≡ false
+table_block_taken blocks digest text block n t k fits at of_file here sized all long read =
+    is_taken blocks (spot.Table digest k) (blocks block) (some_sized (blocks block) (size_of_block n.size k) sized)
+    (λ bytes held. table_taken_by blocks digest n k bytes at
+    ∙ rw (of_file, counted n k block fits here, size_told blocks n k block bytes sized held, completes_it table blocks n k block bytes text t fits here held all long read) refl)
+
+inode_and_blocks : (blocks : Blocks) (inode_digest text : List ℕ) (n : Inode) (t : Table) → inode.Fits n → inode_at blocks inode_digest ≡ Some n → n.kind ≡ kinds.File → lacks blocks inode_digest (spot.Inode 0 1) ≡ false
+    → ((k : ℕ) (block : List ℕ) → slice_get n.blocks k ≡ Some block → IsSized blocks n k block)
+    → joined blocks n.blocks ≡ Some text → length text ≡ n.size → result_ok (whole table text) ≡ Some t → (digest : List ℕ) (s : Spot) → IsOfPrincipals blocks inode_digest digest s → lacks blocks digest s ≡ false
+inode_and_blocks blocks inode_digest text n t fits at of_file there sized all long read digest s (inl is) = rw (is.0, is.1) there
+inode_and_blocks blocks inode_digest text n t fits at of_file there sized all long read digest s (inr (k, is, of)) =
+    let told = subst (λ (o : Option Inode). IsSomeAnd o (λ m. (m.kind ≡ kinds.File) × (slice_get m.blocks k ≡ Some digest) × IsSome (joined blocks (take k m.blocks)))) at of in
+    subst (λ (x : Spot). lacks blocks digest x ≡ false) (sym is)
+    (table_block_taken blocks inode_digest text digest n t k fits at of_file told.1 (sized k digest told.1) all long read)
+
+-- nothing of a table that was read is missing
+pub principals_taken : (blocks : Blocks) (inode_digest text : List ℕ) (n : Inode) (t : Table) → inode.Fits n → inode_at blocks inode_digest ≡ Some n → n.kind ≡ kinds.File → lacks blocks inode_digest (spot.Inode 0 1) ≡ false
+    → ((k : ℕ) (block : List ℕ) → slice_get n.blocks k ≡ Some block → IsSized blocks n k block)
+    → joined blocks n.blocks ≡ Some text → length text ≡ n.size → result_ok (whole table text) ≡ Some t → HasPrincipals blocks inode_digest
+principals_taken blocks inode_digest text n t fits at of_file there sized all long read = λ digest s of. inode_and_blocks blocks inode_digest text n t fits at of_file there sized all long read digest s of

@@ -6,9 +6,9 @@ use Rattle.std.proofs.lemmas.List.{append-nil}
 use Rattle.std.proofs.Math.Seq.{take-suc}
 use Rattle.update_cert.specs.Change.{Change}
 use Rattle.layout.specs.Types.{Digest}
-use Rattle.update_cert.specs.World.{Actor, Tree, after_change, after, void_from, is_of, void_of}
+use Rattle.update_cert.specs.World.{Actor, Tree, has_effect, after_change, after, void_from, is_of}
 use Rattle.update_cert.specs.Reading.{Reading, read_change, read_changes, after_read, void_of_read}
-use Rattle.update_cert.proofs.ActLaws.{effect_read}
+use Rattle.update_cert.proofs.ActLaws.{effect_read, kind_read}
 use Rattle.update_cert.specs.Slots.{slot_after_change, slot_after}
 use Rattle.update_cert.specs.Part.{Part, Slot, IsPartOf}
 use Rattle.update_cert.specs.Acts.{is_void_of}
@@ -24,14 +24,14 @@ after_last reads actor (x ∷ xs) c tree = after_last reads actor xs c (after_ch
 abbrev pub if_void : Bool → ℕ → List ℕ
 if_void t n = if t then n ∷ [] else []
 
-void_step : (t : Bool) (n : ℕ) (all front : List ℕ) (last : List ℕ) → all ≡ front ++ last → (if t then n ∷ all else all) ≡ (if t then n ∷ front else front) ++ last
+pub void_step : (t : Bool) (n : ℕ) (all front : List ℕ) (last : List ℕ) → all ≡ front ++ last → (if t then n ∷ all else all) ≡ (if t then n ∷ front else front) ++ last
 void_step true n all front last is = ap (λ (ns : List ℕ). n ∷ ns) is
 void_step false n all front last is = is
 
-more : (n k : ℕ) → (n + 1) + k ≡ n + suc k
+pub more : (n k : ℕ) → (n + 1) + k ≡ n + suc k
 more n k = omega arith
 
-no_more : (n : ℕ) → n ≡ n + 0
+pub no_more : (n : ℕ) → n ≡ n + 0
 no_more n = omega arith
 
 -- the numbers, counted from this one, of a principal's changes that have no effect
@@ -39,7 +39,9 @@ abbrev voids_from : ℕ → Reading → Actor → ℕ → List (Change Digest) �
 voids_from n reads actor p cs tree = void_from n actor (is_of p) (read_changes reads cs) tree
 
 void_is : (reads : Reading) (actor : Actor) (p : ℕ) (c : Change Digest) (tree : Tree) → is_void_of actor p (read_change reads c) tree ≡ is_void_of actor p c tree
-void_is reads actor p c tree = ap (λ (t : Bool). (c.principal == p) && not t) (effect_read reads actor c (tree c.principal c.i_number))
+void_is reads actor p c tree =
+    ap (λ (t : Bool). is_of p (read_change reads c) && not t) (effect_read reads actor c (tree c.principal c.i_number))
+    ∙ ap (λ (t : Bool). ((c.principal == p) && not t) && not (has_effect actor c (tree c.principal c.i_number))) (kind_read reads c.action)
 
 void_last : (n : ℕ) (reads : Reading) (actor : Actor) (p : ℕ) (cs : List (Change Digest)) (c : Change Digest) (tree : Tree)
     → voids_from n reads actor p (cs ++ c ∷ []) tree ≡ voids_from n reads actor p cs tree ++ if_void (is_void_of actor p c (after_read reads actor cs tree)) (n + length cs)

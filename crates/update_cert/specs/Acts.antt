@@ -6,7 +6,7 @@ use Rattle.itable.specs.Inode.{Inode}
 use Rattle.directory.specs.Directory.{Entry}
 use Rattle.update_cert.specs.Change.{Action, Change}
 use Rattle.layout.specs.Types.{Digest, INumber, Principal, User}
-use Rattle.update_cert.specs.World.{Content, File, Directory, Principals, Actor, Tree, fits, has_effect}
+use Rattle.update_cert.specs.World.{Content, File, Directory, Principals, Actor, Tree, fits, has_effect, is_of}
 use Rattle.update_cert.specs.Reading.{Reading}
 use Rattle.update_cert.specs.Blocks.{Blocks}
 use Rattle.update_cert.specs.Spot.{size_of_block}
@@ -15,7 +15,9 @@ use Rattle.itable.specs.declared.inode.Kind.TheVariants as kind
 use Rattle.update_cert.specs.Asked.{Lacks, IsInode, IsBlock, asks, needs_inode, needs_entries}
 use Rattle.update_cert.specs.Slots.{slot_becomes}
 use Rattle.update_cert.specs.declared.error.ApplyError.{ApplyError}
+use Rattle.update_cert.specs.declared.error.ApplyError.TheVariants as error
 use Rattle.update_cert.specs.declared.spot.Spot.{Spot}
+use Rattle.update_cert.specs.declared.spot.Spot.TheVariants as spot
 
 -- an action at an i-number of the part's principal
 abbrev pub change_at : Part → INumber → Action Digest → Change Digest
@@ -27,9 +29,9 @@ pub record Acts (reads : Reading) (user : User) (c : Change Digest) (old new : P
   pub is_fit : fitted ≡ fits user c (stands_at reads old c.i_number)
   pub slots : (i : ℕ) → slot_at new i ≡ (if fitted && (c.i_number == i) then slot_becomes reads c.action (slot_at old i) else slot_at old i)
 
--- the change is one of this principal that has no effect on the tree
+-- the change is done in this principal's part, and has no effect on the tree
 abbrev pub is_void_of : {C : Type 0} → Actor → Principal → Change C → Tree → Bool
-is_void_of actor p c tree = (c.principal == p) && not (has_effect actor c (tree c.principal c.i_number))
+is_void_of actor p c tree = is_of p c && not (has_effect actor c (tree c.principal c.i_number))
 
 -- the entries, if a directory stands there
 abbrev pub listed : Option Content → Option (List Entry)
@@ -61,3 +63,12 @@ LacksBy blocks actor part c e = Lacks blocks (λ digest s. (asks actor c ≡ tru
 -- a text of the size of the i-node's block at this place is held under this digest
 abbrev pub IsSized : Blocks → Inode → ℕ → Digest → Type 0
 IsSized blocks n k digest = option_map_or (λ bytes. length bytes == size_of_block n.size k) (blocks digest) false ≡ true
+
+-- where the file is the table of principals, the place of its block is one of the table
+abbrev pub table_spot : Spot → Spot
+table_spot (spot.File inode k) = spot.Table inode k
+table_spot other = other
+
+abbrev pub as_table : ApplyError → ApplyError
+as_table (error.Missing digest s) = error.Missing digest (table_spot s)
+as_table error.Memory = error.Memory

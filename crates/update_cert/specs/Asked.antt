@@ -37,6 +37,20 @@ IsBlock blocks kind inode digest s = (k : ℕ) × (s ≡ spot_of kind inode k) �
 abbrev pub HasBlocks : Blocks → Kind → Digest → Type 0
 HasBlocks blocks kind inode = (digest : Digest) (s : Spot) → IsBlock blocks kind inode digest s → lacks blocks digest s ≡ false
 
+-- ---- of the table of principals
+
+-- the digest is that of this block of the file that the table is, and its spot is that block's
+abbrev pub IsTableBlock : Blocks → Digest → Digest → Spot → Type 0
+IsTableBlock blocks inode digest s = (k : ℕ) × (s ≡ spot.Table inode k) × IsBlockOf blocks kind.File inode k digest
+
+-- the digest is that of this i-node, which stands at user 0's i-number 1, or of a block of the table that it is of
+abbrev pub IsOfPrincipals : Blocks → Digest → Digest → Spot → Type 0
+IsOfPrincipals blocks inode digest s = IsInode 0 1 inode digest s ⊎ IsTableBlock blocks inode digest s
+
+-- nothing of the table is missing
+abbrev pub HasPrincipals : Blocks → Digest → Type 0
+HasPrincipals blocks inode = (digest : Digest) (s : Spot) → IsOfPrincipals blocks inode digest s → lacks blocks digest s ≡ false
+
 -- ---- of a change
 
 -- Whether the change fits depends on what kind of thing stands at its i-number, and so on the i-node there: of a make it

@@ -2,7 +2,7 @@
 use Rattle.std.specs.Prelude.{◌≡◌, ◌↔◌, ℕ, ◌==◌, List, [], ◌∷◌, ◌++◌, length, Option, Some, None, if◌then◌else◌}
 use Rattle.std.specs.Option.{option_and_then, option_map}
 use Rattle.std.specs.Result.{result_ok}
-use Rattle.layout.specs.Format.{whole}
+use Rattle.layout.specs.Format.{Format, whole}
 use Rattle.layout.specs.Hash.{hash}
 use Rattle.layout.specs.Types.{Bytes, Digest, Handle, INumber, Principal}
 use Rattle.itable.specs.Inode.{Inode, inode}
@@ -12,6 +12,8 @@ use Rattle.itable.specs.ITable.{digest_in}
 use Rattle.itable.specs.declared.root.ListedChunk.{ListedChunk}
 use Rattle.itable.specs.declared.inode.Kind.TheVariants as kind
 use Rattle.directory.specs.Directory.{Entry, directory}
+use Rattle.principals.specs.Table.{Table}
+use Rattle.principals.specs.TableText.{table}
 use Rattle.update_cert.specs.World.{Content, File, Directory, Principals}
 use Rattle.update_cert.specs.Reading.{Reading}
 
@@ -32,13 +34,21 @@ unfoldable pub joined : Blocks → List Digest → Option Bytes
 joined blocks [] = Some []
 joined blocks (d ∷ ds) = option_and_then (λ text. option_map (λ rest. text ++ rest) (joined blocks ds)) (blocks d)
 
--- the directory that a text of this size is
-abbrev pub of_size : ℕ → Bytes → Option (List Entry)
-of_size size text = if length text == size then result_ok (whole directory text) else None
+-- what a text of this size spells in a format, if it spells anything
+abbrev pub of_size : {T : Type 0} → Format T → ℕ → Bytes → Option T
+of_size f size text = if length text == size then result_ok (whole f text) else None
 
 -- the directory that the blocks of an i-node spell, if they are held and spell one of the i-node's size
 abbrev pub directory_over : Blocks → Inode → Option (List Entry)
-directory_over blocks n = option_and_then (of_size n.size) (joined blocks n.blocks)
+directory_over blocks n = option_and_then (of_size directory n.size) (joined blocks n.blocks)
+
+-- the table of principals that they spell, if they are held and spell one of the i-node's size
+abbrev pub principals_over : Blocks → Inode → Option Table
+principals_over blocks n = option_and_then (of_size table n.size) (joined blocks n.blocks)
+
+-- the table that the i-node of a digest is of, if its text and its blocks are held and spell one
+abbrev pub principals_at : Blocks → Digest → Option Table
+principals_at blocks digest = option_and_then (principals_over blocks) (inode_at blocks digest)
 
 -- the bytes, if they are as many as this
 abbrev pub if_of_size : ℕ → Bytes → Option Bytes
@@ -55,7 +65,7 @@ IsOf blocks n (File bytes) =
     (n.kind ≡ kind.File) × (length bytes ≡ n.size) × ((found : Bytes) → file_over blocks n ≡ Some found → found ≡ bytes)
 IsOf blocks n (Directory entries) =
     (n.kind ≡ kind.Directory) × ((entries ≡ []) ↔ (n.size ≡ 6)) × ((found : List Entry) → directory_over blocks n ≡ Some found → found ≡ entries)
-IsOf blocks n (Principals table) = ⊥
+IsOf blocks n (Principals t) = ⊥
 
 -- ---- i-tables
 

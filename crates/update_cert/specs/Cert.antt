@@ -1,7 +1,7 @@
 -- Certificates of updates: `SUC1`, user, number, the digest of the user's last signed structure (zeros at number 1,
 -- which a rule above judges), and at most 16 changes.
 -- The bytes stand in docs/FORMATS.md.
-use Rattle.std.specs.Prelude.{ℕ, List, codes}
+use Rattle.std.specs.Prelude.{List, codes}
 use Rattle.std.specs.Int.{w8, w32}
 use Rattle.layout.specs.Format.{Format, RowAfter, uint_in, raw, pair, headed, mapped, listed}
 use Rattle.layout.specs.Laws.{Lawful, laws, wide8, wide32}

@@ -1,18 +1,26 @@
 -- Changes: what an operation does at an i-number of a principal.
 -- The bytes stand in docs/FORMATS.md.
 use Rattle.std.proofs.Common.{refl, sym, ap, ◌∙◌, arith}
-use Rattle.std.specs.Prelude.{◌≡◌, ℕ, zero, suc, List, Option, Some, None}
+use Rattle.std.specs.Prelude.{◌≡◌, ℕ, zero, suc, ◌≤◌, ◌==◌, Bool, true, false, ◌&&◌, Option, Some, None, if◌then◌else◌}
 use Rattle.std.specs.Int.{w8, w16}
+use Rattle.std.proofs.lemmas.Bool.{eqb-true}
 use Rattle.layout.specs.Format.{Format, uint_in, raw, pair, nothing, variant, sized, mapped}
 use Rattle.layout.specs.Laws.{Lawful, laws, in_range, lawful_sized, lawful_variant, variant_is, wide8, wide16}
-use Rattle.layout.specs.Sizes.{AtMost, at_most_mapped, at_most_more, at_most_nothing, at_most_pair, at_most_raw, at_most_sized, at_most_uint_in, at_most_variant}
-use Rattle.layout.specs.Ranges.{principal, i_number}
+use Rattle.layout.specs.Sizes.{AtMost, at_most_guarded, at_most_mapped, at_most_more, at_most_nothing, at_most_pair, at_most_raw, at_most_sized, at_most_uint_in, at_most_variant}
+use Rattle.layout.specs.Ranges.{principal, i_number, user, group}
 use Rattle.layout.specs.Types.{Bytes, Digest, Group, INumber, Key, Principal, User}
+use Rattle.layout.specs.declared.error.ReadError.TheVariants.{Range}
+use Rattle.lms_sign.specs.Keys.{is_key}
+use Rattle.principals.specs.TableText.{key, lawful_key}
 use Rattle.directory.specs.Directory.{Entry, named, lawful_named, at_most_name, at_most_named}
 use Rattle.directory.specs.Name.{name, lawful_name}
 use Rattle.update_cert.specs.declared.change.TheConstants.{CHANGE_SIZE}
 use Rattle.update_cert.specs.declared.change.Action.{Action as Held}
 use Rattle.update_cert.specs.declared.change.Action.TheVariants as held
+use Rattle.update_cert.specs.declared.change.TableChange.{TableChange}
+use Rattle.update_cert.specs.declared.change.TableChange.TheVariants as table_change
+use Rattle.update_cert.specs.declared.change.Deed.{Deed}
+use Rattle.update_cert.specs.declared.change.Deed.TheVariants as deed
 
 -- What is done. Make and Put have what is to stand there: in a certificate the digest of its i-node, in an operation the
 -- content. Link has the new entry, and Unlink the name of one. The last three are done to the table of principals, at user
@@ -33,6 +41,10 @@ pub record Change (C : Type 0) : Type 0 where
   pub i_number : INumber
   pub action : Action C
 
+-- the change of the table by this action
+abbrev pub of_table : {C : Type 0} → Action C → Change C
+of_table action = record { principal = 0; i_number = 1; action = action }
+
 -- an action in memory
 abbrev pub action_of : {A : Type 0} → Held A → Action Digest
 action_of (held.Make inode) = Make inode
@@ -40,6 +52,17 @@ action_of (held.Put inode) = Put inode
 action_of held.Remove = Remove
 action_of (held.Link entry) = Link entry
 action_of (held.Unlink old) = Unlink old
+
+-- a change of the table in memory
+abbrev pub table_action_of : TableChange → Action Digest
+table_action_of (table_change.AddUser u key) = AddUser u key
+table_action_of (table_change.AddMember g u) = AddMember g u
+table_action_of (table_change.DropMember g u) = DropMember g u
+
+-- what a change in memory does
+abbrev pub deed_of : {A : Type 0} → Deed A → Action Digest
+deed_of (deed.At action) = action_of action
+deed_of (deed.OfTable change) = table_action_of change
 
 -- ---- the text
 
@@ -50,7 +73,7 @@ kind (Put inode) = 2
 kind Remove = 3
 kind (Link entry) = 4
 kind (Unlink old) = 5
-kind (AddUser u key) = 6
+kind (AddUser u k) = 6
 kind (AddMember g u) = 7
 kind (DropMember g u) = 8
 
@@ -74,8 +97,19 @@ abbrev pub as_unlink : Action Digest → Option Bytes
 as_unlink (Unlink old) = Some old
 as_unlink other = None
 
--- What stands after the kinds 1 to 5, which certificates have today: the digest of an i-node for 1 and 2, nothing for 3,
--- an entry for 4, a name for 5.
+abbrev pub as_add_user : Action Digest → Option (User × Key)
+as_add_user (AddUser u key) = Some (u, key)
+as_add_user other = None
+
+abbrev pub as_add_member : Action Digest → Option (Group × User)
+as_add_member (AddMember g u) = Some (g, u)
+as_add_member other = None
+
+abbrev pub as_drop_member : Action Digest → Option (Group × User)
+as_drop_member (DropMember g u) = Some (g, u)
+as_drop_member other = None
+
+-- what stands after the place of a change: the digest of an i-node for 1 and 2, nothing for 3, an entry for 4, a name for 5
 abbrev pub action : ℕ → Format (Action Digest)
 action zero = variant (λ _. Remove) as_remove nothing
 action (suc zero) = variant (λ inode. Make inode) as_make (raw 32)
@@ -84,17 +118,38 @@ action (suc (suc (suc zero))) = variant (λ _. Remove) as_remove nothing
 action (suc (suc (suc (suc zero)))) = variant (λ entry. Link entry) as_link named
 action (suc (suc (suc (suc (suc n))))) = variant (λ old. Unlink old) as_unlink name
 
--- the fields after the kind
-abbrev pub fields : ℕ → Format (Change Digest)
-fields k =
+-- the fields after the kinds 1 to 5: whose i-number, which, and what is done there
+abbrev pub placed_fields : ℕ → Format (Change Digest)
+placed_fields k =
     mapped (λ p. record { principal = p.0; i_number = p.1.0; action = p.1.1 }) (λ c. (c.principal, (c.i_number, c.action)))
     (pair principal (pair i_number (action k)))
+
+-- where the change is one of the table, what its action has
+abbrev pub in_table : {X : Type 0} → (Action Digest → Option X) → Change Digest → Option X
+in_table from c = if (c.principal == 0) && (c.i_number == 1) then from c.action else None
+
+-- The fields after the kinds 6 to 8, of changes of the table, counted from 0: a user and its key, or a group and a user.
+-- Their place isn't written.
+abbrev pub table_fields : ℕ → Format (Change Digest)
+table_fields zero = variant (λ p. of_table (AddUser p.0 p.1)) (in_table as_add_user) (pair user key)
+table_fields (suc zero) = variant (λ p. of_table (AddMember p.0 p.1)) (in_table as_add_member) (pair group user)
+table_fields (suc (suc n)) = variant (λ p. of_table (DropMember p.0 p.1)) (in_table as_drop_member) (pair group user)
+
+-- the fields after the kind
+abbrev pub fields : ℕ → Format (Change Digest)
+fields zero = placed_fields 0
+fields (suc zero) = placed_fields 1
+fields (suc (suc zero)) = placed_fields 2
+fields (suc (suc (suc zero))) = placed_fields 3
+fields (suc (suc (suc (suc zero)))) = placed_fields 4
+fields (suc (suc (suc (suc (suc zero))))) = placed_fields 5
+fields (suc (suc (suc (suc (suc (suc n)))))) = table_fields n
 
 abbrev pub kind_of : {C : Type 0} → Change C → ℕ
 kind_of c = kind c.action
 
 abbrev pub change : Format (Change Digest)
-change = sized (uint_in w8 1 5) kind_of fields
+change = sized (uint_in w8 1 8) kind_of fields
 
 -- ---- its laws
 
@@ -126,22 +181,70 @@ lawful_action (suc (suc (suc zero))) = lawful_variant (λ _. Remove) as_remove n
 lawful_action (suc (suc (suc (suc zero)))) = lawful_variant (λ entry. Link entry) as_link named (λ x. refl) is_link lawful_named
 lawful_action (suc (suc (suc (suc (suc n))))) = lawful_variant (λ old. Unlink old) as_unlink name (λ x. refl) is_unlink lawful_name
 
+is_add_user : (a : Action Digest) (x : User × Key) → as_add_user a ≡ Some x → AddUser x.0 x.1 ≡ a
+is_add_user (AddUser u key) x e = cc
+is_add_user other x e = absurd cc
+
+is_add_member : (a : Action Digest) (x : Group × User) → as_add_member a ≡ Some x → AddMember x.0 x.1 ≡ a
+is_add_member (AddMember g u) x e = cc
+is_add_member other x e = absurd cc
+
+is_drop_member : (a : Action Digest) (x : Group × User) → as_drop_member a ≡ Some x → DropMember x.0 x.1 ≡ a
+is_drop_member (DropMember g u) x e = cc
+is_drop_member other x e = absurd cc
+
+in_table_at : {X : Type 0} (t : Bool) (o : Option X) (x : X) → (if t then o else None) ≡ Some x → (t ≡ true) × (o ≡ Some x)
+in_table_at true o x e = (refl, e)
+in_table_at false o x e = absurd cc
+
+both_true : (a b : Bool) → (a && b) ≡ true → (a ≡ true) × (b ≡ true)
+both_true true true e = (refl, refl)
+both_true true false e = absurd cc
+both_true false b e = absurd cc
+
+-- a change of the table is the one by its action
+table_is : {X : Type 0} (to : X → Action Digest) (from : Action Digest → Option X) → ((a : Action Digest) (x : X) → from a ≡ Some x → to x ≡ a) → (c : Change Digest) (x : X) → in_table from c ≡ Some x → of_table (to x) ≡ c
+table_is to from is c x e =
+    let found = in_table_at ((c.principal == 0) && (c.i_number == 1)) (from c.action) x e in
+    let place = both_true (c.principal == 0) (c.i_number == 1) found.0 in
+    rw (eqb-true c.principal 0 place.0, eqb-true c.i_number 1 place.1, is c.action x found.1) refl
+
+lawful_placed : (k : ℕ) → Lawful (placed_fields k)
+lawful_placed k = search (laws, lawful_action) depth 9
+
+lawful_table_fields : (k : ℕ) → Lawful (table_fields k)
+lawful_table_fields zero = lawful_variant (λ p. of_table (AddUser p.0 p.1)) (in_table as_add_user) (pair user key) (λ x. refl) (table_is (λ p. AddUser p.0 p.1) as_add_user is_add_user) (search (laws, lawful_key))
+lawful_table_fields (suc zero) = lawful_variant (λ p. of_table (AddMember p.0 p.1)) (in_table as_add_member) (pair group user) (λ x. refl) (table_is (λ p. AddMember p.0 p.1) as_add_member is_add_member) (search laws)
+lawful_table_fields (suc (suc n)) = lawful_variant (λ p. of_table (DropMember p.0 p.1)) (in_table as_drop_member) (pair group user) (λ x. refl) (table_is (λ p. DropMember p.0 p.1) as_drop_member is_drop_member) (search laws)
+
 lawful_fields : (k : ℕ) → Lawful (fields k)
-lawful_fields k = search (laws, lawful_action) depth 9
+lawful_fields zero = lawful_placed 0
+lawful_fields (suc zero) = lawful_placed 1
+lawful_fields (suc (suc zero)) = lawful_placed 2
+lawful_fields (suc (suc (suc zero))) = lawful_placed 3
+lawful_fields (suc (suc (suc (suc zero)))) = lawful_placed 4
+lawful_fields (suc (suc (suc (suc (suc zero))))) = lawful_placed 5
+lawful_fields (suc (suc (suc (suc (suc (suc n)))))) = lawful_table_fields n
+
+same_table_kind : (k : ℕ) (c : Change Digest) → k ≤ 2 → (table_fields k).Fits c → kind_of c ≡ suc (suc (suc (suc (suc (suc k)))))
+same_table_kind zero c few fits = ap kind_of (sym (variant_is _ (in_table as_add_user) (pair user key) (table_is (λ p. AddUser p.0 p.1) as_add_user is_add_user) c fits).1)
+same_table_kind (suc zero) c few fits = ap kind_of (sym (variant_is _ (in_table as_add_member) (pair group user) (table_is (λ p. AddMember p.0 p.1) as_add_member is_add_member) c fits).1)
+same_table_kind (suc (suc n)) c few fits = ap kind_of (sym (variant_is _ (in_table as_drop_member) (pair group user) (table_is (λ p. DropMember p.0 p.1) as_drop_member is_drop_member) c fits).1) ∙ omega (arith, few)
 
 -- what is read after a kind is of this kind
-same_kind : (k : ℕ) (c : Change Digest) → (uint_in w8 1 5).Fits k → (fields k).Fits c → kind_of c ≡ k
-same_kind zero c few fits = let range = in_range w8 1 5 zero few in absurd (omega (arith, range.0))
+same_kind : (k : ℕ) (c : Change Digest) → (uint_in w8 1 8).Fits k → (fields k).Fits c → kind_of c ≡ k
+same_kind zero c few fits = let range = in_range w8 1 8 zero few in absurd (omega (arith, range.0))
 same_kind (suc zero) c few fits = ap kind (sym (variant_is _ as_make (raw 32) is_make c.action fits.1.1).1)
 same_kind (suc (suc zero)) c few fits = ap kind (sym (variant_is _ as_put (raw 32) is_put c.action fits.1.1).1)
 same_kind (suc (suc (suc zero))) c few fits = ap kind (sym (variant_is _ as_remove nothing is_remove c.action fits.1.1).1)
 same_kind (suc (suc (suc (suc zero)))) c few fits = ap kind (sym (variant_is _ as_link named is_link c.action fits.1.1).1)
-same_kind (suc (suc (suc (suc (suc n))))) c few fits =
-    let range = in_range w8 1 5 (suc (suc (suc (suc (suc n))))) few in
-    ap kind (sym (variant_is _ as_unlink name is_unlink c.action fits.1.1).1) ∙ omega (arith, range.1)
+same_kind (suc (suc (suc (suc (suc zero))))) c few fits = ap kind (sym (variant_is _ as_unlink name is_unlink c.action fits.1.1).1)
+same_kind (suc (suc (suc (suc (suc (suc n)))))) c few fits =
+    let range = in_range w8 1 8 (suc (suc (suc (suc (suc (suc n)))))) few in
+    same_table_kind n c (omega (arith, range.1)) fits
 
 pub lawful_change : Lawful change
-lawful_change = lawful_sized (uint_in w8 1 5) kind_of fields (search laws) lawful_fields same_kind
+lawful_change = lawful_sized (uint_in w8 1 8) kind_of fields (search laws) lawful_fields same_kind
 
 -- ---- sizes
 
@@ -153,8 +256,28 @@ at_most_action (suc (suc (suc zero))) = at_most_variant (λ _. Remove) as_remove
 at_most_action (suc (suc (suc (suc zero)))) = at_most_variant (λ entry. Link entry) as_link named 259 at_most_named
 at_most_action (suc (suc (suc (suc (suc n))))) = at_most_variant (λ old. Unlink old) as_unlink name 259 (at_most_more name 256 259 at_most_name (omega arith))
 
+at_most_placed : (k : ℕ) → AtMost (placed_fields k) 262
+at_most_placed k = at_most_mapped _ _ _ 262 (at_most_pair _ _ 1 261 (at_most_uint_in w8 0 95 wide8) (at_most_pair _ _ 2 259 (at_most_uint_in w16 1 4095 wide16) (at_most_action k)))
+
+at_most_listing : AtMost (pair user key) 262
+at_most_listing = at_most_more (pair user key) 57 262 (at_most_pair user key 1 56 (at_most_uint_in w8 0 63 wide8) (at_most_guarded (raw 56) is_key Range 56 (at_most_raw 56))) (omega arith)
+
+at_most_member : AtMost (pair group user) 262
+at_most_member = at_most_more (pair group user) 2 262 (at_most_pair group user 1 1 (at_most_uint_in w8 64 95 wide8) (at_most_uint_in w8 0 63 wide8)) (omega arith)
+
+at_most_table_fields : (k : ℕ) → AtMost (table_fields k) 262
+at_most_table_fields zero = at_most_variant (λ p. of_table (AddUser p.0 p.1)) (in_table as_add_user) (pair user key) 262 at_most_listing
+at_most_table_fields (suc zero) = at_most_variant (λ p. of_table (AddMember p.0 p.1)) (in_table as_add_member) (pair group user) 262 at_most_member
+at_most_table_fields (suc (suc n)) = at_most_variant (λ p. of_table (DropMember p.0 p.1)) (in_table as_drop_member) (pair group user) 262 at_most_member
+
 at_most_fields : (k : ℕ) → AtMost (fields k) 262
-at_most_fields k = at_most_mapped _ _ _ 262 (at_most_pair _ _ 1 261 (at_most_uint_in w8 0 95 wide8) (at_most_pair _ _ 2 259 (at_most_uint_in w16 1 4095 wide16) (at_most_action k)))
+at_most_fields zero = at_most_placed 0
+at_most_fields (suc zero) = at_most_placed 1
+at_most_fields (suc (suc zero)) = at_most_placed 2
+at_most_fields (suc (suc (suc zero))) = at_most_placed 3
+at_most_fields (suc (suc (suc (suc zero)))) = at_most_placed 4
+at_most_fields (suc (suc (suc (suc (suc zero))))) = at_most_placed 5
+at_most_fields (suc (suc (suc (suc (suc (suc n)))))) = at_most_table_fields n
 
 pub at_most_change : AtMost change CHANGE_SIZE
-at_most_change = at_most_sized (uint_in w8 1 5) kind_of fields 1 262 (at_most_uint_in w8 1 5 wide8) at_most_fields
+at_most_change = at_most_sized (uint_in w8 1 8) kind_of fields 1 262 (at_most_uint_in w8 1 8 wide8) at_most_fields

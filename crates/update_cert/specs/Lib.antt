@@ -8,3 +8,5 @@ pub mod Part
 pub mod Slots
 pub mod Asked
 pub mod Acts
+pub mod Tables
+pub mod TableVoids

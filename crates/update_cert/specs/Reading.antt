@@ -2,7 +2,7 @@
 use Rattle.std.specs.Prelude.{ℕ, List, Option, map}
 use Rattle.layout.specs.Types.{Digest, Handle, INumber, Principal}
 use Rattle.update_cert.specs.Change.{Action, Make, Put, Remove, Link, Unlink, AddUser, AddMember, DropMember, Change}
-use Rattle.update_cert.specs.World.{Actor, Content, Tree, after, void, void_of}
+use Rattle.update_cert.specs.World.{Actor, Content, Tree, after, void, void_of, void_of_table}
 
 -- what the i-node of a digest is of, and the digest of the i-node at an i-number of a principal's i-table with a handle, if
 -- it has one
@@ -32,9 +32,12 @@ read_changes reads cs = map (read_change reads) cs
 abbrev pub after_read : Reading → Actor → List (Change Digest) → Tree → Tree
 after_read reads actor cs tree = after actor (read_changes reads cs) tree
 
--- the numbers of those that have no effect, and of one principal's among them
+-- the numbers of those that have no effect; of those done in one principal's part; and of those of the table
 abbrev pub void_read : Reading → Actor → List (Change Digest) → Tree → List ℕ
 void_read reads actor cs tree = void actor (read_changes reads cs) tree
 
 abbrev pub void_of_read : Reading → Actor → Principal → List (Change Digest) → Tree → List ℕ
 void_of_read reads actor p cs tree = void_of actor p (read_changes reads cs) tree
+
+abbrev pub void_of_table_read : Reading → Actor → List (Change Digest) → Tree → List ℕ
+void_of_table_read reads actor cs tree = void_of_table actor (read_changes reads cs) tree

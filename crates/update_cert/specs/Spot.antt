@@ -3,11 +3,13 @@ use Rattle.std.specs.Prelude.{ℕ, ◌+◌, ◌*◌, ◌-◌, ◌==◌, Bool, tr
 use Rattle.std.specs.List.{list_any}
 use Rattle.std.specs.Option.{option_map_or}
 use Rattle.std.specs.Result.{result_ok}
-use Rattle.layout.specs.Format.{whole}
+use Rattle.layout.specs.Format.{Format, whole}
 use Rattle.itable.specs.Inode.{Inode, inode, block_count}
 use Rattle.itable.specs.Root.{Root, root}
 use Rattle.itable.specs.Chunk.{Chunk, chunk}
 use Rattle.itable.specs.declared.inode.Kind.{Kind}
+use Rattle.directory.specs.Directory.{directory}
+use Rattle.principals.specs.TableText.{table}
 use Rattle.itable.specs.declared.inode.Kind.TheVariants as kind
 use Rattle.update_cert.specs.declared.spot.Spot.{Spot}
 use Rattle.update_cert.specs.declared.spot.Spot.TheVariants as spot
@@ -37,14 +39,23 @@ size_of_block size k = min 4096 (size - 4096 * k)
 abbrev pub takes_file_block : ℕ → List ℕ → Inode → Bool
 takes_file_block k text n = is_of_file n.kind && (nat_lt k (block_count n.size) && (length text == size_of_block n.size k))
 
--- the last block of a directory is, after the others, what makes the text of one
-abbrev pub completes : Blocks → Inode → ℕ → List ℕ → Bool
-completes blocks n k text = option_map_or (λ before. is_some (of_size n.size (before ++ text))) (joined blocks (take k n.blocks)) false
+-- the last block of a text in a format is, after the others, what makes the text
+abbrev pub completes : {T : Type 0} → Format T → Blocks → Inode → ℕ → List ℕ → Bool
+completes f blocks n k text = option_map_or (λ before. is_some (of_size f n.size (before ++ text))) (joined blocks (take k n.blocks)) false
 
+-- a block of such a text has its size, and the last one completes it
+abbrev pub is_block_of : {T : Type 0} → Format T → Blocks → ℕ → List ℕ → Inode → Bool
+is_block_of f blocks k text n =
+    nat_lt k (block_count n.size)
+    && ((length text == size_of_block n.size k) && (nat_lt (k + 1) (block_count n.size) || completes f blocks n k text))
+
+-- so it is of a directory
 abbrev pub takes_block : Blocks → ℕ → List ℕ → Inode → Bool
-takes_block blocks k text n =
-    not (is_of_file n.kind) && (nat_lt k (block_count n.size)
-    && ((length text == size_of_block n.size k) && (nat_lt (k + 1) (block_count n.size) || completes blocks n k text)))
+takes_block blocks k text n = not (is_of_file n.kind) && is_block_of directory blocks k text n
+
+-- and of the table of principals, which is a file
+abbrev pub takes_table_block : Blocks → ℕ → List ℕ → Inode → Bool
+takes_table_block blocks k text n = is_of_file n.kind && is_block_of table blocks k text n
 
 -- the spot of a block of what an i-node of this kind is of
 abbrev pub spot_of : Kind → List ℕ → ℕ → Spot
@@ -58,6 +69,7 @@ takes blocks (spot.Chunk p n) text = option_map_or (takes_chunk p n) (result_ok 
 takes blocks (spot.Inode p i) text = option_map_or (takes_inode p i) (result_ok (whole inode text)) false
 takes blocks (spot.File d k) text = option_map_or (takes_file_block k text) (inode_at blocks d) false
 takes blocks (spot.Directory d k) text = option_map_or (takes_block blocks k text) (inode_at blocks d) false
+takes blocks (spot.Table d k) text = option_map_or (takes_table_block blocks k text) (inode_at blocks d) false
 
 -- no text of this digest is held that the spot takes
 abbrev pub lacks : Blocks → List ℕ → Spot → Bool

@@ -164,9 +164,29 @@ void_from n actor among (c ∷ cs) tree =
 abbrev pub void : Actor → List (Change Content) → Tree → List ℕ
 void actor cs tree = void_from 1 actor (λ _. true) cs tree
 
-abbrev pub is_of : {C : Type 0} → Principal → Change C → Bool
-is_of p c = c.principal == p
+-- the action changes the table of principals
+abbrev pub changes_table : {C : Type 0} → Action C → Bool
+changes_table (Make new) = false
+changes_table (Put new) = false
+changes_table Remove = false
+changes_table (Link entry) = false
+changes_table (Unlink name) = false
+changes_table (AddUser u key) = true
+changes_table (AddMember g u) = true
+changes_table (DropMember g u) = true
 
--- and of those of one principal's
+-- the change is one of the table
+abbrev pub is_of_table : {C : Type 0} → Change C → Bool
+is_of_table c = changes_table c.action
+
+-- the change is done in this principal's part: it is of the principal, and not one of the table
+abbrev pub is_of : {C : Type 0} → Principal → Change C → Bool
+is_of p c = (c.principal == p) && not (is_of_table c)
+
+-- those of them that are done in one principal's part
 abbrev pub void_of : Actor → Principal → List (Change Content) → Tree → List ℕ
 void_of actor p cs tree = void_from 1 actor (is_of p) cs tree
+
+-- and those that are of the table
+abbrev pub void_of_table : Actor → List (Change Content) → Tree → List ℕ
+void_of_table actor cs tree = void_from 1 actor is_of_table cs tree

@@ -30,6 +30,13 @@ impl<A: Allocator> Model for Voids<A> {
 }
 
 impl<A: Allocator> Voids<A> {
+    /// Those of these numbers.
+    pub(crate) fn of(numbers: Vec<u8, A>) -> Voids<A>
+        ensures { result ≡ numbers.items }
+    {
+        Voids { numbers }
+    }
+
     /// The numbers, ascending.
     pub fn numbers(&self) -> &[u8]
         ensures { result.now ≡ self.now }

@@ -38,7 +38,8 @@ pub(crate) fn spelled<A: Allocator + Copy, T: Text<A>>(
     alloc: A,
     bytes: &[u8],
 ) -> Result<Option<T>, Memory>
-    ensures { IfOk result (λ found. found ≡ result_ok (whole T.format bytes.now)) }
+    ensures found { IfOk result (λ found. found ≡ result_ok (whole T.format bytes.now)) }
+    ensures text { IfOk result (λ found. IfSome found (λ x. T.format.Fits x × (bytes.now ≡ T.format.spell x))) }
 {
     match T::read(alloc, bytes) {
         Ok(found) => Ok(Some(found)),

@@ -3,10 +3,14 @@
 ghost use Rattle.layout.specs.declared.error.ReadError.TheVariants as read_error;
 ghost use Rattle.std.specs.Prelude.{◌≡◌, ◌≢◌, ◌≤◌, IfErr, OnErr, OnOk};
 ghost use Rattle.layout.specs.Format.{BeginsWith, Reads, ReadsAs};
-ghost use Rattle.update_cert.specs.Change.{action as action_format, action_of, change, kind};
+ghost use Rattle.update_cert.specs.Change.{action as action_format, placed_fields, table_fields, fields, action_of, table_action_of, deed_of, of_table, change, kind};
 
 use directory::{Entry, Name};
-use layout::{Digest, INumber, Memory, Principal, ReadError, Reader, RowFormat, Text, Writer};
+use layout::{
+    Digest, Group, INumber, Memory, Principal, ReadError, Reader, RowFormat, Text, User, Writer,
+};
+use lms_sign::PublicKey;
+use principals::{key_fits, read_key};
 use std::alloc::Allocator;
 use std::marker::Model;
 
@@ -28,23 +32,43 @@ pub enum Action<A: Allocator> {
     Unlink(Name<A>),
 }
 
+/// What is done to the table of principals, at user 0's i-number 1.
+#[derive(Clone, Copy)]
+pub enum TableChange {
+    /// The user is listed, with this key.
+    AddUser(User, PublicKey),
+    /// The user is a member of the group from now on.
+    AddMember(Group, User),
+    /// The user is no member of the group any more.
+    DropMember(Group, User),
+}
+
+/// What a change does.
+#[derive(Drop)]
+pub enum Deed<A: Allocator> {
+    /// This, at its i-number of its principal.
+    At(Action<A>),
+    /// This, to the table of principals.
+    OfTable(TableChange),
+}
+
 /// What is done at an i-number of a principal.
 #[derive(Drop)]
 pub struct Change<A: Allocator> {
     principal: Principal,
     i_number: INumber,
-    action: Action<A>,
+    deed: Deed<A>,
 }
 
 impl<A: Allocator> Model for Change<A> {
     ghost use Rattle.layout.specs.Types.{Digest};
-    ghost use Rattle.update_cert.specs.Change.{Change, action_of, change};
+    ghost use Rattle.update_cert.specs.Change.{Change, deed_of, change};
 
     ghost Value = { Change Digest };
 
-    ghost view = { λ c. record { principal = c.principal; i_number = c.i_number; action = action_of c.action } };
+    ghost view = { λ c. record { principal = c.principal; i_number = c.i_number; action = deed_of c.deed } };
 
-    ghost invariant = { λ c. change.Fits (record { principal = c.principal; i_number = c.i_number; action = action_of c.action }) };
+    ghost invariant = { λ c. change.Fits (record { principal = c.principal; i_number = c.i_number; action = deed_of c.deed }) };
 }
 
 /// What is done, of this kind, in what is left of a text.
@@ -119,6 +143,92 @@ impl<A: Allocator + Copy> Action<A> {
     }
 }
 
+/// A change of this kind of the table, in what is left of a text.
+fn read_table_change(reader: &mut Reader<'_>, kind: u8) -> Result<TableChange, ReadError>
+    requires low { 6 ≤ kind }
+    requires high { kind ≤ 8 }
+    ensures reads { ReadsAs (λ change. of_table (table_action_of change)) result reader.new ((fields kind).read reader.old) }
+{
+    match kind {
+        6 => {
+            let user = reader.user()?;
+            Ok(TableChange::AddUser(user, read_key(reader)?))
+        }
+        7 => {
+            let group = reader.group()?;
+            Ok(TableChange::AddMember(group, reader.user()?))
+        }
+        _ => {
+            let group = reader.group()?;
+            Ok(TableChange::DropMember(group, reader.user()?))
+        }
+    }
+}
+
+impl TableChange {
+    /// The number of its kind in a text.
+    fn kind(&self) -> u8
+        ensures { result ≡ kind (table_action_of self.now) }
+    {
+        match self {
+            TableChange::AddUser(_, _) => 6,
+            TableChange::AddMember(_, _) => 7,
+            TableChange::DropMember(_, _) => 8,
+        }
+    }
+
+    /// That it fits its text, as the contracts of its parts say.
+    fn fits(&self)
+        ensures { (fields (kind (table_action_of self.now))).Fits (of_table (table_action_of self.now)) }
+    {
+        match self {
+            TableChange::AddUser(user, key) => {
+                let _number = user.get();
+                key_fits(key);
+            }
+            TableChange::AddMember(group, user) | TableChange::DropMember(group, user) => {
+                let _numbers = (group.get(), user.get());
+            }
+        }
+    }
+
+    /// Writes it at the end of a text, without its kind.
+    fn write_to<A: Allocator + Copy>(&self, writer: &mut Writer<A>) -> Result<(), Memory>
+        ensures ok { OnOk result (writer.new ≡ (fields (kind (table_action_of self.now))).onto writer.old (of_table (table_action_of self.now))) }
+        ensures front { BeginsWith writer.new writer.old }
+    {
+        match self {
+            TableChange::AddUser(user, key) => {
+                writer.user(*user)?;
+                writer.bytes(key.as_bytes())
+            }
+            TableChange::AddMember(group, user) | TableChange::DropMember(group, user) => {
+                writer.group(*group)?;
+                writer.user(*user)
+            }
+        }
+    }
+}
+
+/// What is left of the text of a change of this kind.
+fn read_after_kind<A: Allocator + Copy>(
+    alloc: A,
+    reader: &mut Reader<'_>,
+    kind: u8,
+) -> Result<Change<A>, ReadError>
+    requires low { 1 ≤ kind }
+    requires high { kind ≤ 8 }
+    ensures reads { Reads result reader.new ((fields kind).read reader.old) }
+{
+    if kind > 5 {
+        return Ok(Change::of_table(read_table_change(reader, kind)?));
+    }
+    let principal = reader.principal()?;
+    let i_number = reader.i_number()?;
+    let action = read_action(alloc, reader, kind)?;
+    Ok(Change::new(principal, i_number, action))
+}
+
 /// The rows of the changes.
 #[derive(Clone, Copy)]
 pub(crate) struct Changes;
@@ -136,18 +246,23 @@ impl<A: Allocator + Copy> RowFormat<A> for Changes {
         reader: &mut Reader<'_>,
         _before: Option<&Change<A>>,
     ) -> Result<Change<A>, ReadError> {
-        let kind = reader.u8_in(1, 5)?;
-        let principal = reader.principal()?;
-        let i_number = reader.i_number()?;
-        let action = read_action(alloc, reader, kind)?;
-        Ok(Change::new(principal, i_number, action))
+        let kind = reader.u8_in(1, 8)?;
+        read_after_kind(alloc, reader, kind)
     }
 
     fn write_fields(&self, writer: &mut Writer<A>, row: &Change<A>) -> Result<(), Memory> {
-        writer.u8(row.action.kind())?;
-        writer.principal(row.principal)?;
-        writer.i_number(row.i_number)?;
-        row.action.write_to(writer)
+        match &row.deed {
+            Deed::At(action) => {
+                writer.u8(action.kind())?;
+                writer.principal(row.principal)?;
+                writer.i_number(row.i_number)?;
+                action.write_to(writer)
+            }
+            Deed::OfTable(change) => {
+                writer.u8(change.kind())?;
+                change.write_to(writer)
+            }
+        }
     }
 }
 
@@ -161,7 +276,19 @@ impl<A: Allocator> Change<A> {
         Change {
             principal,
             i_number,
-            action,
+            deed: Deed::At(action),
+        }
+    }
+
+    /// A change of the table of principals, at user 0's i-number 1.
+    pub fn of_table(change: TableChange) -> Change<A>
+        ensures { result ≡ of_table (table_action_of change) }
+    {
+        change.fits();
+        Change {
+            principal: Principal::from(User::superuser()),
+            i_number: INumber::table(),
+            deed: Deed::OfTable(change),
         }
     }
 
@@ -181,9 +308,9 @@ impl<A: Allocator> Change<A> {
     }
 
     /// What is done there.
-    pub fn action(&self) -> &Action<A>
-        ensures { action_of result.now ≡ self.now.action }
+    pub fn deed(&self) -> &Deed<A>
+        ensures { deed_of result.now ≡ self.now.action }
     {
-        &self.action
+        &self.deed
     }
 }

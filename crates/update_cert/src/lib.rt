@@ -6,17 +6,23 @@ mod blocks;
 mod cert;
 mod change;
 mod error;
+mod laws;
 mod laying;
 mod opened;
 mod part;
 mod reading;
 mod spot;
+mod tables;
+#[cfg(test)]
+mod tests;
 
 pub use applying::{Applied, Voids, apply};
 pub use blocks::{Blocks, some_reading_agrees};
 pub use cert::{CERT_SIZE, Cert, MOST_CHANGES};
-pub use change::{Action, CHANGE_SIZE, Change};
+pub use change::{Action, CHANGE_SIZE, Change, Deed, TableChange};
 pub use error::ApplyError;
-pub use part::{LaidPart, Part, Slot};
-pub use reading::{read_directory, read_file, read_inode};
-pub use spot::{Spot, size_of_block};
+pub use laws::{table_in_trees, voids_in_turn};
+pub use part::{LaidPart, Part, Slot, has_digest};
+pub use reading::{read_directory, read_file, read_inode, read_principals};
+pub use spot::{Spot, is_table, size_of_block};
+pub use tables::{apply_table, table_after};

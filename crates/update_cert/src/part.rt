@@ -7,7 +7,7 @@ ghost use Rattle.std.specs.Ordering.{nat_cmp};
 ghost use Rattle.layout.specs.Ascending.{IsFree};
 ghost use Rattle.directory.specs.Directory.{Entry as ListedEntry};
 ghost use Rattle.itable.specs.ITable.{digest_at};
-ghost use Rattle.update_cert.specs.Change.{Make, Put, Remove, Link, Unlink};
+ghost use Rattle.update_cert.specs.Change.{Make, Put, Remove, Link, Unlink, action_of};
 ghost use Rattle.update_cert.specs.World.{Actor, Tree, after_change, is_file, is_removable, is_root as is_root_of};
 ghost use Rattle.update_cert.specs.Reading.{Reading, read_change};
 ghost use Rattle.update_cert.specs.Blocks.{Agrees, inode_at as inode_of};
@@ -16,7 +16,7 @@ ghost use Rattle.update_cert.specs.Acts.{Acts, LacksAt, LacksBy, LacksFor, chang
 ghost use Rattle.update_cert.specs.Slots.{IsReadBack, changed_texts, has_digest, laid_under, slot_after, slot_after_change, slot_changes, slot_digest};
 
 use crate::blocks::Blocks;
-use crate::change::{Action, Change};
+use crate::change::{Action, Change, Deed};
 use crate::error::ApplyError;
 use crate::laying::lay_directory;
 use crate::opened::{Open, find, take_out};
@@ -215,7 +215,8 @@ impl<A: Allocator + Copy> Part<A> {
         ensures principal { OnOk result (self.new.table.principal ≡ self.old.table.principal) }
         ensures missing { IfErr result (LacksAt (B.held blocks.now) self.old i_number false) }
     {
-        if is_table(self.principal(), i_number) {
+        let principal = self.principal();
+        if is_table(principal, i_number) {
             return Ok(false);
         }
         if !self.is_file(alloc, blocks, i_number)? {
@@ -319,21 +320,20 @@ impl<A: Allocator + Copy> Part<A> {
         Ok(true)
     }
 
-    /// Does what a change of the part's principal does, if it fits what stands at its i-number.
+    /// Does this at an i-number, if it fits what stands there.
     fn act<B: Blocks>(
         &mut self,
         alloc: A,
         blocks: &B,
         user: User,
-        change: &Change<A>,
+        i_number: INumber,
+        action: &Action<A>,
     ) -> Result<bool, ApplyError>
-        requires { change.now.principal ≡ self.old.table.principal }
-        ensures acts { (reads : Reading) → Agrees (B.held blocks.now) reads → IfOk result (λ fitted. Acts reads user change.now self.old self.new fitted) }
+        ensures acts { (reads : Reading) → Agrees (B.held blocks.now) reads → IfOk result (λ fitted. Acts reads user (change_at self.old i_number (action_of action.now)) self.old self.new fitted) }
         ensures principal { OnOk result (self.new.table.principal ≡ self.old.table.principal) }
-        ensures missing { IfErr result (LacksFor (B.held blocks.now) self.old change.now) }
+        ensures missing { IfErr result (LacksFor (B.held blocks.now) self.old (change_at self.old i_number (action_of action.now))) }
     {
-        let i_number = change.i_number();
-        match change.action() {
+        match action {
             Action::Make(inode) => Ok(self.make(user, i_number, *inode)?),
             Action::Put(inode) => self.put(alloc, blocks, i_number, *inode),
             Action::Remove => self.remove(alloc, blocks, i_number),
@@ -342,37 +342,36 @@ impl<A: Allocator + Copy> Part<A> {
         }
     }
 
-    /// Applies a change of the part's principal, where it is permitted and fits what stands at its i-number, and answers
-    /// whether it had effect.
+    /// Does this at an i-number, where it is permitted and fits what stands there, and answers whether it had effect.
     pub(crate) fn change<B: Blocks>(
         &mut self,
         alloc: A,
         blocks: &B,
         user: User,
         is_member: bool,
-        change: &Change<A>,
+        i_number: INumber,
+        action: &Action<A>,
     ) -> Result<bool, ApplyError>
-        requires { change.now.principal ≡ self.old.table.principal }
         ensures effect { (reads : Reading) (actor : Actor)
             → Agrees (B.held blocks.now) reads → actor.user ≡ user → actor.member self.old.table.principal ≡ is_member
-            → IfOk result (λ effect. effect ≡ slot_changes reads actor change.now (slot_at self.old change.now.i_number)) }
+            → IfOk result (λ effect. effect ≡ slot_changes reads actor (change_at self.old i_number (action_of action.now)) (slot_at self.old i_number)) }
         ensures slots { (reads : Reading) (actor : Actor)
             → Agrees (B.held blocks.now) reads → actor.user ≡ user → actor.member self.old.table.principal ≡ is_member
-            → OnOk result ((i : ℕ) → slot_at self.new i ≡ (if change.now.i_number == i then slot_after_change reads actor change.now (slot_at self.old i) else slot_at self.old i)) }
+            → OnOk result ((i : ℕ) → slot_at self.new i ≡ (if i_number == i then slot_after_change reads actor (change_at self.old i_number (action_of action.now)) (slot_at self.old i) else slot_at self.old i)) }
         ensures principal { OnOk result (self.new.table.principal ≡ self.old.table.principal) }
         ensures missing { (actor : Actor) → actor.user ≡ user → actor.member self.old.table.principal ≡ is_member
-            → IfErr result (LacksBy (B.held blocks.now) actor self.old change.now) }
+            → IfErr result (LacksBy (B.held blocks.now) actor self.old (change_at self.old i_number (action_of action.now))) }
     {
         if !is_permitted(user, is_member, self.principal()) {
             return Ok(false);
         }
-        if is_table(self.principal(), change.i_number()) {
+        if is_table(self.principal(), i_number) {
             return Ok(false);
         }
-        self.act(alloc, blocks, user, change)
+        self.act(alloc, blocks, user, i_number, action)
     }
 
-    /// Applies a change, if it is of the part's principal, and answers whether it is one of theirs that has no effect.
+    /// Applies a change, if it is done in this part, and answers whether it is such a one and has no effect.
     pub(crate) fn apply_change<B: Blocks>(
         &mut self,
         alloc: A,
@@ -397,8 +396,14 @@ impl<A: Allocator + Copy> Part<A> {
         if change.principal().get() != self.principal().get() {
             return Ok(false);
         }
-        let effect = self.change(alloc, blocks, user, is_member, change)?;
-        Ok(!effect)
+        match change.deed() {
+            Deed::At(action) => {
+                let i_number = change.i_number();
+                let effect = self.change(alloc, blocks, user, is_member, i_number, action)?;
+                Ok(!effect)
+            }
+            Deed::OfTable(_) => Ok(false),
+        }
     }
 }
 
@@ -438,7 +443,7 @@ pub struct LaidPart<A: Allocator> {
 }
 
 /// Whether an i-table has this digest at an i-number.
-fn has_digest<A: Allocator>(table: &ITable<A>, i_number: INumber, digest: Digest) -> bool
+pub fn has_digest<A: Allocator>(table: &ITable<A>, i_number: INumber, digest: Digest) -> bool
     ensures { result ≡ has_digest table.now i_number digest }
 {
     match table.get(i_number) {

@@ -1,9 +1,12 @@
 //! I-nodes, files and directories, read from the blocks that are held.
 
 ghost use Rattle.std.specs.Prelude.{◌≡◌, ℕ, List, Some, IfOk, IfErr, OnOk, false, length, slice_get};
-ghost use Rattle.update_cert.specs.Blocks.{directory_over, file_over, inode_at as inode_of, joined};
-ghost use Rattle.update_cert.specs.Asked.{HasBlocks, Lacks, IsInode, IsBlock};
-ghost use Rattle.update_cert.specs.Acts.{IsSized};
+ghost use Rattle.principals.specs.TableText.{table as table_format};
+ghost use Rattle.update_cert.specs.World.{File};
+ghost use Rattle.update_cert.specs.Reading.{Reading};
+ghost use Rattle.update_cert.specs.Blocks.{Agrees, directory_over, file_over, inode_at as inode_of, joined, principals_at, principals_over};
+ghost use Rattle.update_cert.specs.Asked.{HasBlocks, HasPrincipals, Lacks, IsInode, IsBlock, IsOfPrincipals, IsTableBlock};
+ghost use Rattle.update_cert.specs.Acts.{IsSized, as_table};
 ghost use Rattle.update_cert.specs.Spot.{lacks};
 ghost use Rattle.itable.specs.Inode.{inode as inode_format};
 ghost use Rattle.itable.specs.declared.inode.Kind.TheVariants as kinds;
@@ -14,7 +17,8 @@ use crate::error::ApplyError;
 use crate::spot::{Spot, size_of_block, takes_inode};
 use directory::Directory;
 use itable::Inode;
-use layout::{Digest, INumber, Principal};
+use layout::{Digest, INumber, Principal, User};
+use principals::Table;
 use std::alloc::Allocator;
 
 /// The i-node of this digest, at an i-number of a principal. The errors are Missing of its text, where none is held that
@@ -111,4 +115,82 @@ pub fn read_directory<A: Allocator + Copy, B: Blocks>(
     let blocks = inode.blocks();
     let last = blocks.len() - 1;
     Err(ApplyError::Missing(blocks[last], Spot::Directory(digest, last as u16)))
+}
+
+/// That a block is missing, of a file that is the table of principals.
+fn as_table(error: ApplyError) -> ApplyError
+    ensures { result ≡ as_table error }
+{
+    match error {
+        ApplyError::Missing(block, spot) => ApplyError::Missing(block, spot.of_table()),
+        ApplyError::Memory => ApplyError::Memory,
+    }
+}
+
+/// The blocks of the table of principals that an i-node is of, one after another: each has its size.
+fn table_text<A: Allocator + Copy, B: Blocks>(
+    alloc: A,
+    blocks: &B,
+    digest: Digest,
+    inode: &Inode<A>,
+) -> Result<Vec<u8, A>, ApplyError>
+    requires held { inode_of (B.held blocks.now) digest ≡ Some inode.now }
+    requires file { inode.now.kind ≡ kinds.File }
+    ensures fits { inode_format.Fits inode.now }
+    ensures joined { IfOk result (λ text. joined (B.held blocks.now) inode.now.blocks ≡ Some text.items) }
+    ensures size { IfOk result (λ text. length text.items ≡ inode.now.size) }
+    ensures sized { OnOk result ((k : ℕ) (block : List ℕ) → slice_get inode.now.blocks k ≡ Some block → IsSized (B.held blocks.now) inode.now k block) }
+    ensures missing { IfErr result (Lacks (B.held blocks.now) (IsTableBlock (B.held blocks.now) digest)) }
+{
+    match text_of(alloc, blocks, digest, inode) {
+        Ok(text) => Ok(text),
+        Err(error) => Err(as_table(error)),
+    }
+}
+
+/// The table of principals that the blocks of an i-node spell, which is of a file with bytes.
+fn read_table<A: Allocator + Copy, B: Blocks>(
+    alloc: A,
+    blocks: &B,
+    digest: Digest,
+    inode: &Inode<A>,
+) -> Result<Table<A>, ApplyError>
+    requires held { inode_of (B.held blocks.now) digest ≡ Some inode.now }
+    requires there { lacks (B.held blocks.now) digest (spots.Inode 0 1) ≡ false }
+    ensures found { IfOk result (λ table. principals_over (B.held blocks.now) inode.now ≡ Some table) }
+    ensures file { IfOk result (λ table. file_over (B.held blocks.now) inode.now ≡ Some (table_format.spell table)) }
+    ensures fits { IfOk result table_format.Fits }
+    ensures taken { OnOk result (HasPrincipals (B.held blocks.now) digest) }
+    ensures missing { IfErr result (Lacks (B.held blocks.now) (IsTableBlock (B.held blocks.now) digest)) }
+{
+    let text = table_text(alloc, blocks, digest, inode)?;
+    if let Some(table) = spelled(alloc, &text)? {
+        return Ok(table);
+    }
+    // It has bytes, and so a last block.
+    let _kind = inode.kind();
+    let blocks = inode.blocks();
+    let end = blocks.len() - 1;
+    Err(ApplyError::Missing(blocks[end], Spot::Table(digest, end as u16)))
+}
+
+/// The table of principals that the i-node of this digest is of, which user 0's i-table has at its i-number 1. The errors
+/// are Missing of the i-node or of a block, and Memory.
+pub fn read_principals<A: Allocator + Copy, B: Blocks>(
+    alloc: A,
+    blocks: &B,
+    digest: Digest,
+) -> Result<Table<A>, ApplyError>
+    ensures found { IfOk result (λ table. principals_at (B.held blocks.now) digest ≡ Some table) }
+    // It has a text, and whatever stands for the digests of which no block tells, the file there is that text.
+    ensures fits { IfOk result table_format.Fits }
+    ensures reads { (reads : Reading) → Agrees (B.held blocks.now) reads → IfOk result (λ table. reads.content digest ≡ File (table_format.spell table)) }
+    // Each block is what its place takes.
+    ensures taken { OnOk result (HasPrincipals (B.held blocks.now) digest) }
+    // Missing names the i-node or a block of it, and no text of it is held that its spot takes.
+    ensures missing { IfErr result (Lacks (B.held blocks.now) (IsOfPrincipals (B.held blocks.now) digest)) }
+{
+    let superuser = Principal::from(User::superuser());
+    let inode = read_inode(alloc, blocks, superuser, INumber::table(), digest)?;
+    read_table(alloc, blocks, digest, &inode)
 }

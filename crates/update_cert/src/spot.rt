@@ -2,12 +2,14 @@
 
 ghost use Rattle.std.specs.Prelude.{◌≡◌, ◌==◌, ◌&&◌, ◌<◌, IfOk, length};
 ghost use Rattle.std.specs.List.{list_any};
-ghost use Rattle.update_cert.specs.Spot.{completes as completes_directory, is_of_file, size_of_block, spot_of, takes, takes_block as block_is_taken, takes_file_block as file_block_is_taken, takes_chunk as chunk_is_taken, takes_inode as inode_is_taken, takes_root as root_is_taken};
+ghost use Rattle.update_cert.specs.Acts.{table_spot};
+ghost use Rattle.update_cert.specs.Spot.{completes as is_whole, is_block_of, is_of_file, size_of_block, spot_of, takes, takes_block as block_is_taken, takes_file_block as file_block_is_taken, takes_table_block as table_block_is_taken, takes_chunk as chunk_is_taken, takes_inode as inode_is_taken, takes_root as root_is_taken};
 
 use crate::blocks::{Blocks, inode_at, join, spelled};
 use directory::Directory;
 use itable::{BLOCK_SIZE, Chunk, ChunkNumber, Inode, Kind, Root};
-use layout::{Digest, INumber, Memory, Principal};
+use layout::{Digest, INumber, Memory, Principal, Text};
+use principals::Table;
 use std::alloc::Allocator;
 
 /// A place at which a block is asked for.
@@ -23,10 +25,12 @@ pub enum Spot {
     File(Digest, u16),
     /// The block of this place, from 0, of the directory that the i-node of this digest is of.
     Directory(Digest, u16),
+    /// The block of this place, from 0, of the table of principals, which the i-node of this digest is of.
+    Table(Digest, u16),
 }
 
 /// Whether the table of principals stands there.
-pub(crate) fn is_table(principal: Principal, i_number: INumber) -> bool
+pub fn is_table(principal: Principal, i_number: INumber) -> bool
     ensures { result ≡ ((principal == 0) && (i_number == 1)) }
 {
     principal.get() == 0 && i_number.get() == 1
@@ -67,8 +71,8 @@ fn takes_file_block<A: Allocator>(inode: &Inode<A>, place: u16, text: &[u8]) -> 
         && text.len() == size_of_block(inode.size(), place) as usize
 }
 
-/// Whether the text makes, after the blocks before this place, the text of a directory of the i-node's size.
-fn completes<A: Allocator + Copy, B: Blocks>(
+/// Whether the text makes, after the blocks before this place, a text of this type of the i-node's size.
+fn completes<A: Allocator + Copy, B: Blocks, T: Text<A>>(
     alloc: A,
     blocks: &B,
     inode: &Inode<A>,
@@ -76,7 +80,7 @@ fn completes<A: Allocator + Copy, B: Blocks>(
     text: &[u8],
 ) -> Result<bool, Memory>
     requires { place < length inode.now.blocks }
-    ensures { IfOk result (λ whole. whole ≡ completes_directory (B.held blocks.now) inode.now place text.now) }
+    ensures { IfOk result (λ whole. whole ≡ is_whole T.format (B.held blocks.now) inode.now place text.now) }
 {
     let Some(mut all) = join(alloc, blocks, &inode.blocks()[..usize::from(place)])? else {
         return Ok(false);
@@ -85,8 +89,33 @@ fn completes<A: Allocator + Copy, B: Blocks>(
     if all.len() != inode.size() as usize {
         return Ok(false);
     }
-    let directory = spelled::<A, Directory<A>>(alloc, &all)?;
-    Ok(directory.is_some())
+    let found = spelled::<A, T>(alloc, &all)?;
+    Ok(found.is_some())
+}
+
+/// Whether the text is the block of this place of a text of this type that the i-node is of.
+fn is_block_of<A: Allocator + Copy, B: Blocks, T: Text<A>>(
+    alloc: A,
+    blocks: &B,
+    inode: &Inode<A>,
+    place: u16,
+    text: &[u8],
+) -> Result<bool, Memory>
+    ensures { IfOk result (λ fits. fits ≡ is_block_of T.format (B.held blocks.now) place text.now inode.now) }
+{
+    // It has a block for each 4,096 bytes.
+    let _kind = inode.kind();
+    let count = inode.blocks().len();
+    if usize::from(place) >= count {
+        return Ok(false);
+    }
+    if text.len() != size_of_block(inode.size(), place) as usize {
+        return Ok(false);
+    }
+    if usize::from(place) + 1 < count {
+        return Ok(true);
+    }
+    completes::<A, B, T>(alloc, blocks, inode, place, text)
 }
 
 /// Whether the text is the block of this place of the i-node's directory.
@@ -99,17 +128,26 @@ fn takes_block<A: Allocator + Copy, B: Blocks>(
 ) -> Result<bool, Memory>
     ensures { IfOk result (λ fits. fits ≡ block_is_taken (B.held blocks.now) place text.now inode.now) }
 {
-    let count = inode.blocks().len();
-    if inode.kind() == Kind::File || usize::from(place) >= count {
+    if inode.kind() == Kind::File {
         return Ok(false);
     }
-    if text.len() != size_of_block(inode.size(), place) as usize {
+    is_block_of::<A, B, Directory<A>>(alloc, blocks, inode, place, text)
+}
+
+/// Whether the text is the block of this place of the table of principals that the i-node is of.
+fn takes_table_block<A: Allocator + Copy, B: Blocks>(
+    alloc: A,
+    blocks: &B,
+    inode: &Inode<A>,
+    place: u16,
+    text: &[u8],
+) -> Result<bool, Memory>
+    ensures { IfOk result (λ fits. fits ≡ table_block_is_taken (B.held blocks.now) place text.now inode.now) }
+{
+    if inode.kind() != Kind::File {
         return Ok(false);
     }
-    if usize::from(place) + 1 < count {
-        return Ok(true);
-    }
-    completes(alloc, blocks, inode, place, text)
+    is_block_of::<A, B, Table<A>>(alloc, blocks, inode, place, text)
 }
 
 /// Whether chunk 0 is listed.
@@ -149,6 +187,16 @@ fn takes_chunk<A: Allocator>(principal: Principal, number: ChunkNumber, chunk: &
 }
 
 impl Spot {
+    /// The place of a block of a file, where the file is the table of principals.
+    pub(crate) fn of_table(self) -> Spot
+        ensures { result ≡ table_spot self }
+    {
+        match self {
+            Spot::File(inode, place) => Spot::Table(inode, place),
+            other => other,
+        }
+    }
+
     /// The place of a block of what an i-node of this kind is of.
     pub(crate) fn of_block(kind: Kind, inode: Digest, place: u16) -> Spot
         ensures { result ≡ spot_of kind inode place }
@@ -160,8 +208,8 @@ impl Spot {
     }
 
     /// Whether the text is what it asks for: a root or a chunk of the i-table; an i-node, of a file with bytes where the
-    /// table of principals stands; or as many bytes as the block has, and with those before it the text of a directory
-    /// where it is a directory's last one. Only want of memory is an error.
+    /// table of principals stands; or as many bytes as the block has, and with those before it the text of a directory,
+    /// or of the table of principals, where it is the last one of such. Only want of memory is an error.
     #[tactic(auto, unfolding(crate::specs::Spot::takes))]
     pub fn takes<A: Allocator + Copy, B: Blocks>(
         &self,
@@ -190,6 +238,10 @@ impl Spot {
             }
             Spot::Directory(digest, place) => match inode_at(alloc, blocks, *digest)? {
                 Some(inode) => takes_block(alloc, blocks, &inode, *place, text),
+                None => Ok(false),
+            },
+            Spot::Table(digest, place) => match inode_at(alloc, blocks, *digest)? {
+                Some(inode) => takes_table_block(alloc, blocks, &inode, *place, text),
                 None => Ok(false),
             },
         }

@@ -1,2 +1,4 @@
+pub mod Rows
 pub mod Raising
+pub mod Recording
 pub mod SideBySide

@@ -1,21 +1,20 @@
 -- Components as rows that ascend, and what raising does.
-use Rattle.std.proofs.Common.{◌≡◌, ℕ, ◌+◌, ◌<◌, List, [], Option, Some, None, Result, Ok, Err, refl, sym, ap, subst, ◌∙◌, cond, inl, inr, arith}
+use Rattle.std.proofs.Common.{◌≡◌, ℕ, ◌+◌, ◌<◌, List, [], Option, Some, Result, Ok, Err, refl, sym, ap, subst, ◌∙◌, cond, inl, inr, arith}
 use Rattle.std.specs.Prelude.{◌==◌, if◌then◌else◌, OnOk, OnErr}
 use Rattle.std.specs.Int.{w8, w32}
-use Rattle.std.specs.List.{All}
 use Rattle.std.specs.Option.{option_map_or}
 use Rattle.std.specs.Ordering.{nat_cmp}
 use Rattle.std.proofs.lemmas.Bool.{cases_eq, eq-eqb, ne_eqb}
 use Rattle.std.proofs.lemmas.Cmp.{nat_cmp_total}
 use Rattle.std.proofs.lemmas.List.Elements.{All-nil}
-use Rattle.layout.specs.Laws.{in_range_fits, listed_fits}
+use Rattle.layout.specs.Laws.{in_range_fits}
 use Rattle.layout.specs.Ranges.{principal, version}
-use Rattle.layout.specs.Sizes.{few_rows}
 use Rattle.layout.specs.Ascending.{Ascends, row_at}
 use Rattle.layout.specs.AscendingKeys.{key_test}
-use Rattle.layout.specs.AscendingLaws.{Ordered, ascends_from_fits, fits_from_ascends, ascends_with_row, all_with_row, row_at-with_row}
+use Rattle.layout.specs.AscendingLaws.{Ordered, row_at-with_row}
 use Rattle.version_order.specs.declared.vector.Component.{Component}
 use Rattle.version_order.specs.Vector.{principal_of, component, vector, components_ascend, version_of, raised}
+use Rattle.version_order.proofs.Rows.{AreRows, rows_of, are_listed, listed_with}
 
 -- what each component is, wherever it stands
 abbrev pub IsComponent : Component → Type 0
@@ -29,33 +28,23 @@ ordered = record {
 
 -- components that ascend by principal
 abbrev pub Listed : List Component → Type 0
-Listed v = All IsComponent v × Ascends nat_cmp principal_of None v
+Listed = AreRows principal_of IsComponent
 
 pub listed_of : (v : List Component) → vector.Fits v → Listed v
-listed_of v fits = ascends_from_fits nat_cmp principal_of nat_cmp_total component IsComponent ordered None v fits.1.1
-
-pub is_vector : (v : List Component) → Listed v → vector.Fits v
-is_vector v listed =
-    let rows = fits_from_ascends nat_cmp principal_of nat_cmp_total component IsComponent ordered None v listed.0 listed.1 in
-    let few = few_rows component principal_of 0 96 components_ascend None v rows (omega arith) in
-    listed_fits w8 255 component v (omega arith) (omega (arith, few)) rows
+listed_of = rows_of component principal_of IsComponent ordered
 
 pub none_is_vector : (v : List Component) → v ≡ [] → vector.Fits v
 unfolding Ascends
-none_is_vector v e = subst vector.Fits (sym e) (is_vector [] (All-nil IsComponent, tt))
+none_is_vector v e = subst vector.Fits (sym e) (are_listed component principal_of IsComponent ordered 0 96 components_ascend (omega arith) [] (All-nil IsComponent, tt))
 
 pub vector_raised : (p : ℕ) (v : List Component) → p < 96 → version_of p v < 4294967295 → vector.Fits v → vector.Fits (raised p v)
 vector_raised p v small room fits =
-    let old = listed_of v fits in
     let new : Component = record { principal = p; version = version_of p v + 1 } in
     let one : IsComponent new = (
       in_range_fits w8 0 95 p (omega arith) (omega arith) (omega arith),
       in_range_fits w32 1 4294967295 (version_of p v + 1) (omega arith) (omega arith) (omega arith),
     ) in
-    is_vector (raised p v) (
-      all_with_row nat_cmp principal_of nat_cmp_total IsComponent v new one old.0,
-      ascends_with_row nat_cmp principal_of nat_cmp_total None v new refl old.1,
-    )
+    listed_with component principal_of IsComponent ordered 0 96 components_ascend (omega arith) v new one fits
 
 -- raising adds one at the principal, and nothing elsewhere
 pub version_of-raised : (p q : ℕ) (v : List Component) → version_of q (raised p v) ≡ version_of q v + (if p == q then 1 else 0)

@@ -53,7 +53,7 @@ lawful_structure = search (laws, lawful_plan, lawful_group_records) depth 9
 
 -- ---- sizes
 
-records_ascend : KeysAscend group_record group_of 64 96
+pub records_ascend : KeysAscend group_record group_of 64 96
 records_ascend = keys_ascend group_record group_of 64 96 (λ b r fits.
     let range = in_range w8 64 95 r.group fits.0.0 in
     (fits.0.1, (range.0, omega (arith, range.1))))

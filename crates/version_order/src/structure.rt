@@ -1,9 +1,11 @@
 //! Version structures.
 
-ghost use Rattle.std.specs.Prelude.{◌≡◌, ◌++◌, Option, OnOk, IfOk, [], length, ◌≤◌};
+ghost use Rattle.std.specs.Prelude.{◌≡◌, ◌++◌, Option, OnOk, OnErr, IfOk, IsOk, IsSome, MatchResult, [], length, ◌≤◌};
 ghost use Rattle.std.specs.Option.{option_copied};
+ghost use Rattle.std.specs.Ordering.{nat_cmp};
+ghost use Rattle.layout.specs.Ascending.{Stands, IsFree, row_at, with_row};
 ghost use Rattle.layout.specs.Format.{Reads};
-ghost use Rattle.version_order.specs.Structure.{group_record};
+ghost use Rattle.version_order.specs.Structure.{group_record, group_records, group_of};
 
 use crate::plan::{PLAN_SIZE, Plan};
 use layout::{
@@ -104,9 +106,29 @@ impl<A: Allocator + Copy> Text<A> for GroupRecords<A> {
     ghost lawful = { lawful_group_records };
 }
 
-impl<A: Allocator> GroupRecords<A> {
-    ghost use Rattle.version_order.specs.Structure.{group_records};
+/// Where the record of a group stands, or where it would stand.
+fn find(records: &[GroupRecord], group: Group) -> Result<usize, usize>
+    requires { group_records.Fits records.now }
+    ensures { MatchResult result (Stands nat_cmp group_of records.now group) (IsFree nat_cmp group_of records.now group) }
+{
+    records.binary_search_by_key(&group.get(), |record| record.group.get())
+}
 
+/// Puts a record in its place, or in that of the one of its group.
+fn put<A: Allocator>(records: &mut Vec<GroupRecord, A>, state: GroupRecord) -> Result<(), Memory>
+    requires { group_records.Fits records.old.items }
+    ensures ok { OnOk result (records.new.items ≡ with_row nat_cmp group_of records.old.items state) }
+    ensures listed { IsSome (row_at nat_cmp group_of records.old.items state.group) → IsOk result }
+    ensures err { OnErr result (records.new.items ≡ records.old.items) }
+{
+    match find(records, state.group) {
+        Ok(place) => records[place] = state,
+        Err(place) => records.insert(place, state)?,
+    }
+    Ok(())
+}
+
+impl<A: Allocator> GroupRecords<A> {
     /// No records.
     pub fn new(alloc: A) -> GroupRecords<A>
         ensures { result ≡ [] }
@@ -130,6 +152,20 @@ impl<A: Allocator> GroupRecords<A> {
         ensures fits { group_records.Fits self.now }
     {
         &self.records
+    }
+
+    /// Sets the record of a group, in the place of the one that the group has, if it has one: one binary search and at
+    /// most one shift.
+    pub fn set(&mut self, state: GroupRecord) -> Result<(), Memory>
+        ensures ok { OnOk result (self.new ≡ with_row nat_cmp group_of self.old state) }
+        // Where the group has a record it takes no memory.
+        ensures listed { IsSome (row_at nat_cmp group_of self.old state.group) → IsOk result }
+        ensures err { OnErr result (self.new ≡ self.old) }
+    {
+        let _group = state.group.get();
+        let _version = state.version.get();
+        let _handle = state.handle.as_bytes();
+        put(&mut self.records, state)
     }
 }
 

@@ -1,5 +1,4 @@
-use Rattle.std.proofs.Common.{◌≡◌, ℕ, ap, sym, ◌∙◌, arith}
-use Rattle.client_tree.specs.Held.{keeping_all}
+use Rattle.std.proofs.Common.{◌≡◌, ap, ◌∙◌, arith}
 use Rattle.client_tree.specs.Genesis.{common_texts, first_table_texts, first_blocks}
 use Rattle.client_tree.proofs.Firsts.{none_first, one_first}
 use Rattle.client_tree.proofs.genesis.first_blocks.Goals as goal

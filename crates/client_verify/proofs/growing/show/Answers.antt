@@ -4,14 +4,13 @@ use Rattle.layout.specs.Types.{Key}
 use Rattle.principals.specs.Table.{Table}
 use Rattle.client_tree.specs.View.{View}
 use Rattle.client_verify.specs.Grown.{IsAnswer}
-use Rattle.client_verify.specs.State.{view_over}
+use Rattle.client_verify.specs.FirstBroken.{view_over}
 use Rattle.client_verify.proofs.growing.show.Goals as goal
 
 pub returns : goal.returns
 returns g c =
     let lists = c.args.lists.now in
-    let over : c.view-view.result ≡ view_over c.args.pinned.now lists =
+    let over : c.view-view.result ≡ view_over c.args.pinned.now c.args.table.now lists =
     c.view-view.ensures
-    ∙ ap (λ (k : Key). record { key = k; table = c.genesis-table.result; structures = lists.structures; others = lists.others; own = lists.own }) c.as_bytes.ensures.same
-    ∙ ap (λ (t : Table). record { key = c.args.pinned.now; table = t; structures = lists.structures; others = lists.others; own = lists.own }) c.genesis-table.ensures.same in
+    ∙ ap (λ (k : Key). record { key = k; table = c.args.table.now; structures = lists.structures; others = lists.others; own = lists.own }) c.as_bytes.ensures.same in
     subst (λ (v : View). IfOk c.show_in.result (λ x. IsAnswer (g.B.Blocks.held c.args.blocks.now) v c.args.principal c.args.i_number x)) over c.show_in.ensures

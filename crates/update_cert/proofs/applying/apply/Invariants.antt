@@ -1,4 +1,4 @@
-use Rattle.std.proofs.Common.{◌≡◌, ℕ, List, take}
+use Rattle.std.proofs.Common.{◌≡◌, ℕ, take}
 use Rattle.update_cert.specs.World.{Actor, Tree}
 use Rattle.update_cert.specs.Reading.{Reading, after_read, void_of_read}
 use Rattle.update_cert.specs.Blocks.{Agrees}

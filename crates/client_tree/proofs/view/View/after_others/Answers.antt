@@ -1,9 +1,8 @@
-use Rattle.std.proofs.Common.{◌≡◌, ◌<◌, ◌+◌, ◌++◌, ℕ, List, [], ◌∷◌, Some, length, take, drop, true, false, sym, ap, subst, ◌∙◌}
+use Rattle.std.proofs.Common.{◌≡◌, ◌<◌, ◌+◌, ◌++◌, List, [], ◌∷◌, length, take, drop, true, false, sym, subst, ◌∙◌}
 use Rattle.std.proofs.lemmas.List.{take_all}
 use Rattle.std.specs.Prelude.{filter, slice_index_or}
-use Rattle.update_cert.specs.Part.{IsPartOf, Part, part_of}
+use Rattle.update_cert.specs.Part.{IsPartOf, Part}
 use Rattle.principals.specs.Table.{Table}
-use Rattle.update_cert.specs.World.{Tree}
 use Rattle.update_cert.specs.Reading.{after_read}
 use Rattle.update_cert.specs.Asked.{Lacks, LacksAskedFor}
 use Rattle.pending_list.specs.Reply.{PendingItem}

@@ -1,10 +1,9 @@
-use Rattle.std.proofs.Common.{◌≡◌, ℕ, Option, Some, sym, ap, subst, ◌∙◌}
-use Rattle.std.specs.Prelude.{filter}
+use Rattle.std.proofs.Common.{◌≡◌, ℕ, Some, sym, ap, subst, ◌∙◌}
 use Rattle.layout.specs.Types.{Digest}
-use Rattle.itable.specs.ITable.{ITable, digest_at}
+use Rattle.itable.specs.ITable.{digest_at}
 use Rattle.update_cert.specs.Blocks.{inode_told}
 use Rattle.update_cert.specs.Part.{IsPartOf, Part, part_of}
-use Rattle.client_tree.specs.View.{after_items, comes_after, handle_of, named}
+use Rattle.client_tree.specs.View.{handle_of, named}
 use Rattle.client_tree.proofs.OpenedLaws.{before_own, named_part}
 use Rattle.client_tree.proofs.view.View.earlier.Goals as goal
 

@@ -1,11 +1,8 @@
-use Rattle.std.proofs.Common.{◌≡◌, ℕ, Option, Some, None, sym, ap, subst, ◌∙◌}
-use Rattle.std.specs.Prelude.{IfOk, OnOk}
+use Rattle.std.proofs.Common.{◌≡◌, Option, Some, None, false, sym, ap, subst, ◌∙◌}
+use Rattle.std.specs.Prelude.{IfOk}
 use Rattle.std.specs.Option.{option_map}
-use Rattle.layout.specs.Types.{Digest}
-use Rattle.update_cert.specs.World.{Content}
-use Rattle.update_cert.specs.Part.{Laid, Changed, Slot, slot_at, slot_in}
-use Rattle.update_cert.specs.Spot.{lacks}
-use Rattle.client_tree.specs.Opened.{HasLooked, IsOfInode}
+use Rattle.update_cert.specs.World.{Content, is_table}
+use Rattle.update_cert.specs.Part.{Laid, Changed, slot_at, slot_in}
 use Rattle.client_tree.specs.Seen.{content_seen}
 use Rattle.client_tree.proofs.LookLaws.{look_stands, looked}
 use Rattle.client_tree.proofs.view.View.look.Goals as goal
@@ -16,8 +13,9 @@ returns-in_default-clause-seen g c = λ reads users agrees.
     let x = c.args.self.now in
     let p = c.args.principal in
     let part = c.in_ok-opened.opened.part in
+    let place : is_table p c.args.i_number ≡ false = sym c.is_table.ensures ∙ c.if-is_table.false in
     let at : slot_at part c.args.i_number ≡ None = sym c.into_slot.ensures ∙ ap (option_map slot_in) c.in_default.is in
-    sym (look_stands (g.B.Blocks.held c.args.blocks.now) reads users x p c.args.i_number c.in_ok-opened.opened.before part None is agrees at)
+    sym (look_stands (g.B.Blocks.held c.args.blocks.now) reads users x p c.args.i_number c.in_ok-opened.opened.before part None is agrees place at)
 
 pub returns-in-Laid-clause-seen : goal.returns-in-Laid-clause-seen
 returns-in-Laid-clause-seen g c = λ reads users agrees.
@@ -25,12 +23,13 @@ returns-in-Laid-clause-seen g c = λ reads users agrees.
     let x = c.args.self.now in
     let p = c.args.principal in
     let part = c.in_ok-opened.opened.part in
+    let place : is_table p c.args.i_number ≡ false = sym c.is_table.ensures ∙ c.if-is_table.false in
     let at : slot_at part c.args.i_number ≡ Some (Laid c.in-Laid.digest) = sym c.into_slot.ensures ∙ ap (option_map slot_in) c.in-Some.is ∙ ap (λ s. Some (slot_in s)) c.in-Laid.is in
-    let there = look_stands (g.B.Blocks.held c.args.blocks.now) reads users x p c.args.i_number c.in_ok-opened.opened.before part (Some (Laid c.in-Laid.digest)) is agrees at in
+    let there = look_stands (g.B.Blocks.held c.args.blocks.now) reads users x p c.args.i_number c.in_ok-opened.opened.before part (Some (Laid c.in-Laid.digest)) is agrees place at in
     subst (λ (content : Option Content). IfOk c.read_content.result (λ s. content_seen s ≡ content)) (sym there) (c.read_content.ensures.seen reads agrees)
 
 pub returns-in-Laid-clause-taken : goal.returns-in-Laid-clause-taken
-returns-in-Laid-clause-taken g c =
+returns-in-Laid-clause-taken g c = λ place.
     let is = c.in_ok-opened.ensures.opened in
     let part = c.in_ok-opened.opened.part in
     let at : slot_at part c.args.i_number ≡ Some (Laid c.in-Laid.digest) = sym c.into_slot.ensures ∙ ap (option_map slot_in) c.in-Some.is ∙ ap (λ s. Some (slot_in s)) c.in-Laid.is in
@@ -42,5 +41,6 @@ returns-clause-seen g c = λ reads users agrees.
     let x = c.args.self.now in
     let p = c.args.principal in
     let part = c.in_ok-opened.opened.part in
+    let place : is_table p c.args.i_number ≡ false = sym c.is_table.ensures ∙ c.if-is_table.false in
     let at : slot_at part c.args.i_number ≡ Some (Changed c.in-Changed._laid c.in-Changed.directory) = sym c.into_slot.ensures ∙ ap (option_map slot_in) c.in-Some.is ∙ ap (λ s. Some (slot_in s)) c.in-Changed.is in
-    sym (look_stands (g.B.Blocks.held c.args.blocks.now) reads users x p c.args.i_number c.in_ok-opened.opened.before part (Some (Changed c.in-Changed._laid c.in-Changed.directory)) is agrees at)
+    sym (look_stands (g.B.Blocks.held c.args.blocks.now) reads users x p c.args.i_number c.in_ok-opened.opened.before part (Some (Changed c.in-Changed._laid c.in-Changed.directory)) is agrees place at)

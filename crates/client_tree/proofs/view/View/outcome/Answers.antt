@@ -1,12 +1,11 @@
-use Rattle.std.proofs.Common.{◌≡◌, ◌<◌, ◌+◌, ◌++◌, ℕ, List, [], ◌∷◌, length, map, take, refl, sym, ap, subst, ◌∙◌}
+use Rattle.std.proofs.Common.{◌≡◌, ◌<◌, ◌++◌, ℕ, List, [], ◌∷◌, length, map, take, sym, ap, subst, ◌∙◌}
 use Rattle.std.proofs.lemmas.List.{map-append, take_all}
 use Rattle.std.proofs.lemmas.List.Elements.{All-append, All-cons, All-nil}
 use Rattle.std.specs.Prelude.{slice_index_or}
 use Rattle.std.specs.Int.{w8}
 use Rattle.std.specs.List.{All}
 use Rattle.layout.specs.Laws.{in_range}
-use Rattle.layout.specs.Types.{Digest, Principal}
-use Rattle.update_cert.specs.Change.{Change}
+use Rattle.layout.specs.Types.{Principal}
 use Rattle.principals.specs.Table.{Table}
 use Rattle.update_cert.specs.World.{Tree}
 use Rattle.update_cert.specs.Reading.{Reading}
@@ -56,33 +55,37 @@ loop-principal-preserved g c =
     record {
       principals = ap (map (λ (s : Stored). s.principal)) c.in_ok-push.ensures.items ∙ map-append (λ (s : Stored). s.principal) c.loop-principal.parts.items (stored ∷ []) ∙ ap (λ (ps : List Principal). ps ++ stored.principal ∷ []) inv.principals ∙ ap (λ (q : Principal). take k (written x) ++ q ∷ []) done.principal ∙ sym next;
       stored = subst (All (IsStored held x)) (sym c.in_ok-push.ensures.items) (All-append (IsStored held x) c.loop-principal.parts.items (stored ∷ []) inv.stored (All-cons (IsStored held x) stored [] done.stored (All-nil (IsStored held x))));
-      parts = ap (map (λ (v : PartVoids). v.principal)) c.in_ok-push-2.ensures.items ∙ map-append (λ (v : PartVoids). v.principal) c.loop-principal.voids.items (voids ∷ []) ∙ ap (λ (ps : List Principal). ps ++ voids.principal ∷ []) inv.parts ∙ ap (λ (q : Principal). take k (written x) ++ q ∷ []) done.changed ∙ sym next;
+      parts = ap (map (λ (v : PartVoids). v.principal)) c.in_ok-push-2.ensures.items ∙ map-append (λ (v : PartVoids). v.principal) c.loop-principal.of_parts.items (voids ∷ []) ∙ ap (λ (ps : List Principal). ps ++ voids.principal ∷ []) inv.parts ∙ ap (λ (q : Principal). take k (written x) ++ q ∷ []) done.changed ∙ sym next;
       voids = λ reads users agrees.
           let tree = tree_before reads users x in
           let is = done.voids reads users agrees in
           let numbers : HasVoids reads x.table x.own tree voids = ap (λ (v : PartVoids). v.numbers) is ∙ ap (λ (q : ℕ). void_of_read reads (actor_of x.table x.own) q x.own.cert.changes tree) (sym (ap (λ (v : PartVoids). v.principal) is)) in
-          subst (All (HasVoids reads x.table x.own tree)) (sym c.in_ok-push-2.ensures.items) (All-append (HasVoids reads x.table x.own tree) c.loop-principal.voids.items (voids ∷ []) (inv.voids reads users agrees) (All-cons (HasVoids reads x.table x.own tree) voids [] numbers (All-nil (HasVoids reads x.table x.own tree))));
+          subst (All (HasVoids reads x.table x.own tree)) (sym c.in_ok-push-2.ensures.items) (All-append (HasVoids reads x.table x.own tree) c.loop-principal.of_parts.items (voids ∷ []) (inv.voids reads users agrees) (All-cons (HasVoids reads x.table x.own tree) voids [] numbers (All-nil (HasVoids reads x.table x.own tree))));
     }
 
 pub lost_among-requires : goal.lost_among-requires
-lost_among-requires g c = record { few = rw (c.changes.ensures, c.cert.ensures.same) (in_range w8 0 16 _ c.cert.ensures.fits.0.0.1.1.1.1.0).1 }
+lost_among-requires g c = record { few = rw (c.changes-changes.ensures, c.cert.ensures.same) (in_range w8 0 16 _ c.cert.ensures.fits.0.0.1.1.1.1.0).1 }
 
 pub returns-clause-outcome : goal.returns-clause-outcome
 returns-clause-outcome g c =
-    let held = g.B.Blocks.held c.args.blocks.now in
     let x = c.args.self.now in
     let inv = c.loop-principal.invariant in
     let principals : c.deref-principal-items.result.now ≡ written x = c.deref-principal-items.ensures.value ∙ c.in_ok-written.ensures in
     let past = rw principals at c.loop-principal-test.false in
     let all : take c.loop-principal.principal-index (written x) ≡ written x = take_all c.loop-principal.principal-index (written x) past in
-    record {
-      principals = inv.principals ∙ all;
-      stored = inv.stored;
-      lost = λ reads users agrees.
-          let own = c.own.result.now in
-          let vs = c.loop-principal.voids.items in
-          let cs : c.changes.result.now ≡ x.own.cert.changes = c.changes.ensures ∙ ap (λ (k : Cert). k.changes) c.cert.ensures.same ∙ ap (λ (i : PendingItem). i.cert.changes) c.own.ensures in
-          let fits : cert.Fits x.own.cert = subst (λ (i : PendingItem). cert.Fits i.cert) c.own.ensures c.cert.ensures.fits.0.0.1 in
-          c.in_ok-lost.ensures ∙ ap (λ (ps : List PartVoids). lost_from 1 ps c.changes.result.now) c.deref.ensures.value ∙ ap (lost_from 1 vs) cs
-          ∙ lost_is_void reads (actor_of x.table x.own) vs x.own.cert.changes (tree_before reads users x) (inv.voids reads users agrees) (are_listed x vs fits (inv.parts ∙ all));
-    }
+    record { principals = inv.principals ∙ all; stored = inv.stored }
+
+pub returns-clause-lost : goal.returns-clause-lost
+returns-clause-lost g c = λ users is reads agrees.
+    let x = c.args.self.now in
+    let inv = c.loop-principal.invariant in
+    let principals : c.deref-principal-items.result.now ≡ written x = c.deref-principal-items.ensures.value ∙ c.in_ok-written.ensures in
+    let past = rw principals at c.loop-principal-test.false in
+    let all : take c.loop-principal.principal-index (written x) ≡ written x = take_all c.loop-principal.principal-index (written x) past in
+    let own = c.own.result.now in
+    let vs = c.loop-principal.of_parts.items in
+    let table = c.args.voids.now in
+    let cs : c.changes-changes.result.now ≡ x.own.cert.changes = c.changes-changes.ensures ∙ ap (λ (k : Cert). k.changes) c.cert.ensures.same ∙ ap (λ (i : PendingItem). i.cert.changes) c.own.ensures in
+    let fits : cert.Fits x.own.cert = subst (λ (i : PendingItem). cert.Fits i.cert) c.own.ensures c.cert.ensures.fits.0.0.1 in
+    c.in_ok-lost.ensures ∙ ap (λ (ps : List PartVoids). lost_from 1 ps c.numbers.result.now c.changes-changes.result.now) c.deref.ensures.value ∙ ap (λ (ns : List ℕ). lost_from 1 vs ns c.changes-changes.result.now) c.numbers.ensures ∙ ap (lost_from 1 vs table) cs
+    ∙ lost_is_void reads (actor_of x.table x.own) vs table x.own.cert.changes (tree_before reads users x) (inv.voids reads users agrees) (is.void reads) (are_listed x vs fits (inv.parts ∙ all))

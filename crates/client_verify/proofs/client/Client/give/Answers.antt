@@ -2,7 +2,8 @@ use Rattle.std.proofs.Common.{◌≡◌, Some, None, refl, sym, ap, ◌∙◌, r
 use Rattle.std.specs.Option.{option_copied}
 use Rattle.client_tree.specs.Held.{held, keeping}
 use Rattle.client_verify.specs.Grown.{IsAnswer}
-use Rattle.client_verify.specs.State.{block_breaks, view_over}
+use Rattle.client_verify.specs.FirstBroken.{view_over}
+use Rattle.client_verify.specs.State.{block_breaks}
 use Rattle.client_verify.proofs.Steps.{given_from, if_some, shown_there}
 use Rattle.client_verify.proofs.client.Client.give.Goals as goal
 
@@ -24,5 +25,5 @@ answer-requires-clause-shown g c =
     let l = c.in-Some-looking.looking in
     let there : c.self.inside.view ≡ Some v = search rules in
     let kept : c.keep_as.new.self ≡ keeping c.self.inside.blocks c.in-Ok.text.now = search rules in
-    if_some c.self.inside.view v (λ w. IsAnswer (held c.keep_as.new.self) (view_over c.self.inside.pinned w.lists) l.principal l.i_number c.in_ok-shown.shown) there
+    if_some c.self.inside.view v (λ w. IsAnswer (held c.keep_as.new.self) (view_over c.self.inside.pinned w.table w.lists) l.principal l.i_number c.in_ok-shown.shown) there
     (shown_there (keeping c.self.inside.blocks c.in-Ok.text.now) c.keep_as.new.self c.self.inside.pinned c.self.inside.pinned _ v l.principal l.i_number c.in_ok-shown.shown (sym kept) refl c.view.view_is c.in_ok-shown.ensures)

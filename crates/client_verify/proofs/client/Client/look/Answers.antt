@@ -1,7 +1,8 @@
 use Rattle.std.proofs.Common.{◌≡◌, Some, ap, rules}
 use Rattle.client_tree.specs.Held.{held}
 use Rattle.client_verify.specs.Grown.{IsAnswer}
-use Rattle.client_verify.specs.State.{State, view_over}
+use Rattle.client_verify.specs.FirstBroken.{view_over}
+use Rattle.client_verify.specs.State.{State}
 use Rattle.client_verify.proofs.Steps.{if_some, shown_there}
 use Rattle.client_verify.proofs.client.Client.look.Goals as goal
 
@@ -10,5 +11,5 @@ answer-requires-clause-shown g c =
     let old = c.args.self.now in
     let v = c.in-Some.view in
     let there : old.view ≡ Some v = search rules in
-    if_some old.view v (λ w. IsAnswer (held old.blocks) (view_over old.pinned w.lists) c.args.principal c.args.i_number c.in_ok-shown.shown) there
+    if_some old.view v (λ w. IsAnswer (held old.blocks) (view_over old.pinned w.table w.lists) c.args.principal c.args.i_number c.in_ok-shown.shown) there
     (shown_there c.self.inside.blocks old.blocks c.self.inside.pinned old.pinned _ v c.args.principal c.args.i_number c.in_ok-shown.shown (ap (λ (s : State). s.blocks) c.self.view_is) (ap (λ (s : State). s.pinned) c.self.view_is) c.view.view_is c.in_ok-shown.ensures)

@@ -13,7 +13,7 @@ pub invariant_of-self-in-Places : goal.invariant_of-self-in-Places
 invariant_of-self-in-Places g c =
     let s : State = record { table = c.self.inside.table; vector = c.self.inside.vector; structures = c.self.inside.structures.items; pending = c.self.inside.pending.items } in
     let admits = subst (λ (t : State). Admits t c.args.change) (sym c.self.view_is) c.requires in
-    tidy_placed s c.in-Places.vector c.in-Places.placement c.reserve.new.self.items c.place.new.pending.items c.self.invariant (subst (Admits s) c.in-Places.is admits) c.reserve.ensures.items
+    tidy_placed s c.in-Places.table c.keep.new.kept c.in-Places.vector c.in-Places.placement c.reserve.new.self.items c.place.new.pending.items c.self.invariant (subst (Admits s) c.in-Places.is admits) c.reserve.ensures.items
     (c.place.ensures ∙ ap (λ (ps : List Placement). ps ++ c.in-Places.placement ∷ []) c.reserve-2.ensures.items)
 
 pub invariant_of-self-in-Commits : goal.invariant_of-self-in-Commits

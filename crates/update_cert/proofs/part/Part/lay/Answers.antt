@@ -1,13 +1,10 @@
-use Rattle.std.proofs.Common.{◌≡◌, true, false, ℕ, List, [], ◌∷◌, Option, Some, subst, sym, ap, ◌∙◌, map, rules}
+use Rattle.std.proofs.Common.{◌≡◌, true, false, ℕ, List, [], ◌∷◌, Some, subst, sym, ap, ◌∙◌, map, rules}
 use Rattle.std.specs.Vec.{vec_items}
 use Rattle.std.specs.Prelude.{◌++◌, ◌==◌, ◌||◌, if◌then◌else◌}
-use Rattle.std.specs.Str.{bytes_eq}
 use Rattle.layout.specs.Hash.{hash}
-use Rattle.std.specs.Option.{option_map_or}
 use Rattle.std.proofs.lemmas.List.{append-nil, take_all}
 use Rattle.std.proofs.lemmas.List.Elements.{All-nil}
 use Rattle.std.specs.List.{All}
-use Rattle.std.proofs.lemmas.Slice.Eq.{bytes_eq-Decides}
 use Rattle.itable.specs.File.{blocks_of}
 use Rattle.itable.specs.Inode.{inode}
 use Rattle.itable.specs.ITable.{digest_at}

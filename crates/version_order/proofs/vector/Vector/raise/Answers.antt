@@ -1,4 +1,3 @@
-use Rattle.std.proofs.Common.{sym, subst}
 use Rattle.version_order.proofs.Raising.{versions_raised, fits_raised}
 use Rattle.version_order.proofs.vector.Vector.raise.Goals as goal
 
