@@ -35,8 +35,8 @@ pub struct Stored<A: Allocator> {
     pub principal: Principal,
     /// The handle of its i-table.
     pub handle: Digest,
-    /// The texts that are new: of each directory that changed its blocks and its i-node; the chunks of the i-table that
-    /// changed; and its root.
+    /// The texts that are new: of each directory that changed its blocks and its i-node; in user 0's part those of the table
+    /// of principals, where it changed; the chunks of the i-table that changed; and its root.
     pub texts: Vec<Vec<u8, A>, A>,
 }
 
