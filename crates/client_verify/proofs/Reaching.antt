@@ -17,7 +17,13 @@ use Rattle.reply_rules.specs.Lists.{Lists}
 use Rattle.client_tree.specs.View.{View, handle_in}
 use Rattle.client_tree.specs.Principals.{IsNamed, IsOfNamed, IsPending}
 use Rattle.client_verify.specs.declared.asked.Asked.{Asked}
-use Rattle.client_verify.specs.FirstBroken.{IsRead, view_over}
+use Rattle.client_verify.specs.declared.growing.Written.{Written}
+use Rattle.reply_rules.specs.declared.rule.Rule.{Rule}
+use Rattle.client_verify.specs.FirstBroken.{ByTable, IsRead, lists_break, view_over}
+use Rattle.client_verify.specs.Good.{Good}
+use Rattle.client_verify.specs.Grown.{CountsRaised, IsWritten}
+use Rattle.client_verify.specs.Judged.{view_of}
+use Rattle.client_verify.proofs.GrowingLaws.{counts_raised}
 
 -- ---- the first of a list
 
@@ -33,27 +39,6 @@ first_before (x ∷ xs) left first some is rest =
     let here : first ≡ x = is in
     let later : left ≡ xs = rest in
     cc
-
--- ---- of the one that there is
-
--- what follows from two facts of it
-pub of_both : {X G : Type 0} (o : Option X) (P Q : X → Type 0) → ((x : X) → P x → Q x → G) → IsSomeAnd o P → IsSomeAnd o Q → G
-of_both None P Q each p q = absurd p
-of_both (Some x) P Q each p q = each x p q
-
-pub each_some : {X : Type 0} (o : Option X) (P Q : X → Type 0) → ((x : X) → P x → Q x) → IsSomeAnd o P → IsSomeAnd o Q
-each_some None P Q each p = absurd p
-each_some (Some x) P Q each p = each x p
-
-pub both_some : {X : Type 0} (o : Option X) (P Q R : X → Type 0) → ((x : X) → P x → Q x → R x) → IsSomeAnd o P → IsSomeAnd o Q → IsSomeAnd o R
-both_some None P Q R each p q = absurd p
-both_some (Some x) P Q R each p q = each x p q
-
--- what a result says is said of it
-pub ok_some : {X Y E : Type 0} (o : Option X) (r : Result Y E) (P : X → Type 0) (Q : Y → Type 0) (R : X → Y → Type 0) → ((x : X) (y : Y) → P x → Q y → R x y) → IsSomeAnd o P → IfOk r Q → IfOk r (λ y. IsSomeAnd o (λ x. R x y))
-ok_some None r P Q R each p q = absurd p
-ok_some (Some x) (Ok y) P Q R each p q = each x y p q
-ok_some (Some x) (Err e) P Q R each p q = tt
 
 -- ---- the table of principals
 
@@ -97,3 +82,61 @@ table_read blocks key pinned t void structures others own x same shown split tol
   named = subst (λ (h : Handle). IsNamed blocks h told.0) (handle_read key pinned structures x same shown) told.1;
   pending = subst (λ (v : View). IsPending told.0 v void) (over_parts key pinned t structures others own x same shown split) told.2;
 }
+
+-- ---- what is made
+
+-- each group that the own operation raises has a version in its plan
+pub counts_seen : (key : Key) (view : View) (t : Table) (x : Lists) → view ≡ view_over key t x → lists_break t x ≡ None → CountsRaised view
+counts_seen key view t x is none = subst CountsRaised (sym is) (counts_raised key t x none)
+
+-- what is made of a view is made of it by this key
+pub written_by : {A E : Type 0} (r : Result (Written A) E) (blocks : Blocks) (key pinned : Key) (view : View) (t : Table) (void : List ℕ) (x : Lists) → key ≡ pinned → view ≡ view_over key t x → IfOk r (IsWritten blocks view void) → IfOk r (IsWritten blocks (view_over pinned t x) void)
+written_by r blocks key pinned view t void x same is told =
+    subst (λ (v : View). IfOk r (IsWritten blocks v void)) (is ∙ ap (λ (k : Key). view_over k t x) same) told
+
+-- what is made of the tree of good lists
+pub good_written : {A E : Type 0} (r : Result (Written A) E) (blocks : Blocks) (key pinned : Key) (view : View) (t : Table) (void : List ℕ) (x : Lists) (good : Good)
+    → key ≡ pinned → view ≡ view_over key t x → record { lists = x; table = t; void = void } ≡ good → IfOk r (IsWritten blocks view void) → IfOk r (IsWritten blocks (view_of pinned good) good.void)
+good_written r blocks key pinned view t void x good same is whole told =
+    subst (λ (y : Good). IfOk r (IsWritten blocks (view_of pinned y) y.void)) whole (written_by r blocks key pinned view t void x same is told)
+
+-- ---- of a reply
+
+-- each group that the own operation of a reply raises has a version in its plan
+pub reply_counts : (o : Option Lists) (key : Key) (view : View) (t : Table) → IsSomeAnd o (λ x. lists_break t x ≡ None) → IsSomeAnd o (λ x. view ≡ view_over key t x) → CountsRaised view
+reply_counts None key view t none is = absurd none
+reply_counts (Some x) key view t none is = counts_seen key view t x is none
+
+-- what is made of the tree of a reply
+pub reply_written : {A E : Type 0} (o : Option Lists) (r : Result (Written A) E) (blocks : Blocks) (key pinned : Key) (view : View) (t : Table) (void : List ℕ)
+    → key ≡ pinned → IsSomeAnd o (λ x. view ≡ view_over key t x) → IfOk r (IsWritten blocks view void) → IfOk r (λ w. IsSomeAnd o (λ x. IsWritten blocks (view_over pinned t x) void w))
+reply_written None r blocks key pinned view t void same is told = absurd is
+reply_written (Some x) r blocks key pinned view t void same is told = written_by r blocks key pinned view t void x same is told
+
+-- a block of the table is missing
+pub reply_lacks : (o : Option Lists) (blocks : Blocks) (key pinned : Key) (structures : List (Signed Structure)) (e : ApplyError) (a : Asked)
+    → key ≡ pinned → IsSomeAnd o (λ x. x.structures ≡ structures) → e ≡ error.Missing a.digest a.spot → Lacks blocks (IsOfNamed blocks (handle_in key structures 0)) e
+    → IsSomeAnd o (λ x. IsOfNamed blocks (handle_in pinned x.structures 0) a.digest a.spot × (lacks blocks a.digest a.spot ≡ true))
+reply_lacks None blocks key pinned structures e a same shown is missing = absurd shown
+reply_lacks (Some x) blocks key pinned structures e a same shown is missing = table_lacks blocks key pinned structures x e a same shown is missing
+
+-- the lists break a rule by the table that is read
+pub reply_breaks : (o : Option Lists) (blocks : Blocks) (key pinned : Key) (t : Table) (void : List ℕ) (structures : List (Signed Structure)) (others : List PendingItem) (own : PendingItem) (first : Option Rule) (broken : Rule)
+    → key ≡ pinned → IsSomeAnd o (λ x. x.structures ≡ structures) → IsSomeAnd o (λ x. (x.own ≡ own) × (x.others ≡ others))
+    → (users : Table) × IsNamed blocks (handle_in key structures 0) users × IsPending users (view_of_parts key t structures others own) void
+    → IsSomeAnd o (λ x. first ≡ lists_break t x) → first ≡ Some broken
+    → IsSomeAnd o (λ x. ByTable blocks pinned x (Some broken))
+reply_breaks None blocks key pinned t void structures others own first broken same shown split told judged is = absurd shown
+reply_breaks (Some x) blocks key pinned t void structures others own first broken same shown split told judged is =
+    (t, void, table_read blocks key pinned t void structures others own x same shown split told, sym judged ∙ is)
+
+-- the lists break none, and the reply goes on
+pub reply_goes : {A : Type 0} (o : Option Lists) (w : Written A) (blocks : Blocks) (key pinned : Key) (t : Table) (void : List ℕ) (structures : List (Signed Structure)) (others : List PendingItem) (own : PendingItem) (first : Option Rule)
+    → key ≡ pinned → IsSomeAnd o (λ x. x.structures ≡ structures) → IsSomeAnd o (λ x. (x.own ≡ own) × (x.others ≡ others))
+    → (users : Table) × IsNamed blocks (handle_in key structures 0) users × IsPending users (view_of_parts key t structures others own) void
+    → IsSomeAnd o (λ x. first ≡ lists_break t x) → first ≡ None
+    → IsSomeAnd o (λ x. IsWritten blocks (view_over pinned t x) void w)
+    → IsSomeAnd o (λ x. IsRead blocks pinned x t void × (lists_break t x ≡ None) × IsWritten blocks (view_over pinned t x) void w)
+reply_goes None w blocks key pinned t void structures others own first same shown split told judged is made = absurd shown
+reply_goes (Some x) w blocks key pinned t void structures others own first same shown split told judged is made =
+    (table_read blocks key pinned t void structures others own x same shown split told, sym judged ∙ is, made)
