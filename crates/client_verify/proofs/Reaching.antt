@@ -1,6 +1,6 @@
 -- What a reply comes to by the blocks that are held, from what each step tells of its lists.
 use Rattle.std.proofs.Common.{◌≡◌, ◌<◌, arith, List, [], ◌∷◌, length, true, refl, sym, ap, subst, ◌∙◌, slice_index_or}
-use Rattle.std.specs.Prelude.{ℕ, Option, Some, None, Result, Ok, Err, IsSomeAnd, IfOk}
+use Rattle.std.specs.Prelude.{ℕ, Option, Some, None, Result, IsSomeAnd, IfOk}
 use Rattle.std.specs.List.{remove}
 use Rattle.layout.specs.Types.{Digest, Handle, Key}
 use Rattle.principals.specs.Table.{Table}
@@ -14,11 +14,11 @@ use Rattle.update_cert.specs.declared.spot.Spot.{Spot}
 use Rattle.pending_list.specs.declared.signed.Signed.{Signed}
 use Rattle.pending_list.specs.Reply.{PendingItem}
 use Rattle.reply_rules.specs.Lists.{Lists}
+use Rattle.reply_rules.specs.declared.rule.Rule.{Rule}
 use Rattle.client_tree.specs.View.{View, handle_in}
 use Rattle.client_tree.specs.Principals.{IsNamed, IsOfNamed, IsPending}
 use Rattle.client_verify.specs.declared.asked.Asked.{Asked}
 use Rattle.client_verify.specs.declared.growing.Written.{Written}
-use Rattle.reply_rules.specs.declared.rule.Rule.{Rule}
 use Rattle.client_verify.specs.FirstBroken.{ByTable, IsRead, lists_break, view_over}
 use Rattle.client_verify.specs.Good.{Good}
 use Rattle.client_verify.specs.Grown.{CountsRaised, IsWritten}
@@ -43,7 +43,7 @@ first_before (x ∷ xs) left first some is rest =
 -- ---- the table of principals
 
 -- the block that is missing is the one that is asked for
-pub missing_is : (blocks : Blocks) (IsAsked : Digest → Spot → Type 0) (e : ApplyError) (a : Asked) → e ≡ error.Missing a.digest a.spot → Lacks blocks IsAsked e → IsAsked a.digest a.spot × (lacks blocks a.digest a.spot ≡ true)
+missing_is : (blocks : Blocks) (IsAsked : Digest → Spot → Type 0) (e : ApplyError) (a : Asked) → e ≡ error.Missing a.digest a.spot → Lacks blocks IsAsked e → IsAsked a.digest a.spot × (lacks blocks a.digest a.spot ≡ true)
 missing_is blocks IsAsked e a is missing = subst (Lacks blocks IsAsked) is missing
 
 -- the handle by which the table of principals is read
@@ -53,7 +53,7 @@ handle_read key pinned structures x same shown =
     ∙ ap (λ (zs : List (Signed Structure)). handle_in pinned zs 0) (sym shown)
 
 -- a block of the table is missing
-pub table_lacks : (blocks : Blocks) (key pinned : Key) (structures : List (Signed Structure)) (x : Lists) (e : ApplyError) (a : Asked)
+table_lacks : (blocks : Blocks) (key pinned : Key) (structures : List (Signed Structure)) (x : Lists) (e : ApplyError) (a : Asked)
     → key ≡ pinned → x.structures ≡ structures → e ≡ error.Missing a.digest a.spot → Lacks blocks (IsOfNamed blocks (handle_in key structures 0)) e
     → IsOfNamed blocks (handle_in pinned x.structures 0) a.digest a.spot × (lacks blocks a.digest a.spot ≡ true)
 table_lacks blocks key pinned structures x e a same shown is missing =
@@ -73,7 +73,7 @@ over_parts key pinned t structures others own x same shown split =
     ∙ ap (λ (i : PendingItem). view_of_parts pinned t x.structures x.others i) (sym split.0)
 
 -- the table is read
-pub table_read : (blocks : Blocks) (key pinned : Key) (t : Table) (void : List ℕ) (structures : List (Signed Structure)) (others : List PendingItem) (own : PendingItem) (x : Lists)
+table_read : (blocks : Blocks) (key pinned : Key) (t : Table) (void : List ℕ) (structures : List (Signed Structure)) (others : List PendingItem) (own : PendingItem) (x : Lists)
     → key ≡ pinned → x.structures ≡ structures → (x.own ≡ own) × (x.others ≡ others)
     → (users : Table) × IsNamed blocks (handle_in key structures 0) users × IsPending users (view_of_parts key t structures others own) void
     → IsRead blocks pinned x t void
@@ -90,7 +90,7 @@ pub counts_seen : (key : Key) (view : View) (t : Table) (x : Lists) → view ≡
 counts_seen key view t x is none = subst CountsRaised (sym is) (counts_raised key t x none)
 
 -- what is made of a view is made of it by this key
-pub written_by : {A E : Type 0} (r : Result (Written A) E) (blocks : Blocks) (key pinned : Key) (view : View) (t : Table) (void : List ℕ) (x : Lists) → key ≡ pinned → view ≡ view_over key t x → IfOk r (IsWritten blocks view void) → IfOk r (IsWritten blocks (view_over pinned t x) void)
+written_by : {A E : Type 0} (r : Result (Written A) E) (blocks : Blocks) (key pinned : Key) (view : View) (t : Table) (void : List ℕ) (x : Lists) → key ≡ pinned → view ≡ view_over key t x → IfOk r (IsWritten blocks view void) → IfOk r (IsWritten blocks (view_over pinned t x) void)
 written_by r blocks key pinned view t void x same is told =
     subst (λ (v : View). IfOk r (IsWritten blocks v void)) (is ∙ ap (λ (k : Key). view_over k t x) same) told
 

@@ -1,6 +1,6 @@
-use Rattle.std.proofs.Common.{◌≡◌, ◌<◌, List, ◌∷◌, length, sym, subst}
+use Rattle.std.proofs.Common.{◌<◌, ◌∷◌, length, sym, subst}
 use Rattle.version_order.specs.Plan.{Plan}
-use Rattle.client_tree.specs.Tree.{IsLost, IsOutcome, Stored}
+use Rattle.client_tree.specs.Tree.{IsLost, IsOutcome}
 use Rattle.client_verify.specs.Grown.{IsMade}
 use Rattle.client_verify.proofs.GrowingLaws.{raised_parts, some_part}
 use Rattle.client_verify.proofs.Reaching.{first_before, some_length}
