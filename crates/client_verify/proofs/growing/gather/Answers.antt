@@ -1,6 +1,6 @@
-use Rattle.std.proofs.Common.{◌≡◌, ◌+◌, ◌++◌, ◌∷◌, [], List, length, map, refl, sym, ap, subst, ◌∙◌, rules, arith}
-use Rattle.std.proofs.lemmas.List.{length-map, map-append}
-use Rattle.std.proofs.lemmas.List.Elements.{All-head, All-tail}
+use Rattle.std.proofs.Common.{◌++◌, ◌∷◌, [], length, map, ap, subst, ◌∙◌, rules, arith}
+use Rattle.std.proofs.lemmas.List.{map-append}
+use Rattle.std.proofs.lemmas.List.Elements.{All-tail}
 use Rattle.std.specs.List.{All, flat_map}
 use Rattle.std.specs.Vec.{vec_items}
 use Rattle.std.specs.Vec.Iter.{into_iter_items}

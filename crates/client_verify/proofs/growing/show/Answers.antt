@@ -1,7 +1,6 @@
-use Rattle.std.proofs.Common.{◌≡◌, sym, ap, subst, ◌∙◌}
+use Rattle.std.proofs.Common.{◌≡◌, ap, subst, ◌∙◌}
 use Rattle.std.specs.Prelude.{IfOk}
 use Rattle.layout.specs.Types.{Key}
-use Rattle.principals.specs.Table.{Table}
 use Rattle.client_tree.specs.View.{View}
 use Rattle.client_verify.specs.Grown.{IsAnswer}
 use Rattle.client_verify.specs.FirstBroken.{view_over}
