@@ -5,3 +5,4 @@ pub mod LaidLaws
 pub mod GenesisLaws
 pub mod GrowingLaws
 pub mod Reaching
+pub mod ByTableLaws
