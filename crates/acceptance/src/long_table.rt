@@ -1,0 +1,156 @@
+//! A table of principals of two blocks, through a client: each of its blocks absent, cut, flipped and another one, in the
+//! place of what was asked for, and named by the i-node itself.
+
+use crate::replies::{client_of, declare, step_on};
+use crate::several_users::{broken_by, keep_each};
+use crate::tables::{FORM, Texts, listing, structure_over, texts_over};
+use crate::texts::{Host, check, joined, key_of, listed, named, pending, plan, reply, shown};
+use client_tree::Held;
+use client_verify::{Client, Rule, Step};
+use layout::digest;
+use std::alloc::Global;
+use update_cert::Blocks;
+
+/// The size of the table: 64 users, and 19 rows.
+const SIZE: u32 = 4101;
+
+/// Its text: user 0 is a member of the groups 64 to 82.
+fn table_text(rt: &impl Host) -> Vec<u8> {
+    let mut text = joined(rt, &[b"SPT1\x40"]);
+    let zero = key_of(rt, 0).public();
+    push(rt, &mut text, &listing(rt, 0, 0, zero.as_bytes()));
+    let one = key_of(rt, 1).public();
+    push(rt, &mut text, &listing(rt, 1, 1, one.as_bytes()));
+    for user in 2..64 {
+        push(rt, &mut text, &listing(rt, user, 1, FORM));
+    }
+    push(rt, &mut text, b"\0\x13");
+    for group in 64..83 {
+        push(rt, &mut text, &[group, 0, 0, 0, 0, 1, 0, 0, 0, 0]);
+    }
+    text
+}
+
+fn push(rt: &impl Host, text: &mut Vec<u8>, bytes: &[u8]) {
+    text.extend_from_slice(bytes).expect(rt, "memory");
+}
+
+/// Its two blocks.
+fn blocks_of(rt: &impl Host) -> [Vec<u8>; 2] {
+    let text = table_text(rt);
+    assert!(rt; text.len() == 4101);
+    let (front, rest) = text.split_at(4096);
+    [joined(rt, &[front]), joined(rt, &[rest])]
+}
+
+/// The text without its last byte.
+fn cut(rt: &impl Host, text: &[u8]) -> Vec<u8> {
+    joined(rt, &[&text[..text.len().saturating_sub(1)]])
+}
+
+/// The text with the lowest bit of its first byte changed, after which neither block is one of a table.
+fn flipped(rt: &impl Host, text: &[u8]) -> Vec<u8> {
+    let mut text = joined(rt, &[text]);
+    if let Some(byte) = text.first_mut() {
+        *byte ^= 1;
+    }
+    text
+}
+
+/// A store of these blocks, and of user 0's i-table over them.
+fn store_of(rt: &impl Host, blocks: &[Vec<u8>; 2]) -> (Held<Global>, Vec<u8>) {
+    let Texts { root, chunk, inode } = texts_over(rt, SIZE, blocks);
+    let [front, rest] = blocks;
+    let mut store = Held::empty(rt.alloc());
+    keep_each(rt, &mut store, &[&root, &chunk, &inode, front, rest]);
+    (store, root)
+}
+
+/// The reply to user 1's first certificate after user 0's structure over that i-table.
+fn reply_over(rt: &impl Host, root: &[u8], update: &[u8]) -> Vec<u8> {
+    let superuser = structure_over(rt, &key_of(rt, 0), 1, root);
+    let vector = b"\x02\0\0\0\0\x01\x01\0\0\0\x01";
+    let plan = plan(rt, 1, 1, &named(update), vector, b"\0");
+    let own = pending(rt, update, &plan);
+    reply(rt, &listed(rt, &shown(rt, &superuser)), &listed(rt, &own))
+}
+
+/// What is handed in breaks the rule on blocks.
+fn refuses(rt: &impl Host, client: &mut Client<Global>, block: Option<&[u8]>) {
+    assert!(rt; client.wants());
+    let step = client.on_block(block).expect(rt, "memory");
+    check(
+        rt,
+        matches!(step, Step::Broken(Rule::Block)),
+        "another block than that asked for",
+    );
+}
+
+/// Each fault is handed in in the place of a block, where the other block of the table is this.
+fn refuses_each(rt: &impl Host, client: &mut Client<Global>, block: &[u8], other: &[u8]) {
+    refuses(rt, client, None);
+    refuses(rt, client, Some(&cut(rt, block)));
+    refuses(rt, client, Some(&flipped(rt, block)));
+    refuses(rt, client, Some(other));
+}
+
+/// The block is asked for, is handed in after each fault, and what comes next is answered.
+fn takes_block(
+    rt: &impl Host,
+    client: &mut Client<Global>,
+    step: Step<Global>,
+    block: &[u8],
+    other: &[u8],
+) -> Step<Global> {
+    let Step::Need(asked) = step else {
+        panic!(rt; "no block is asked for");
+    };
+    check(rt, asked == digest(block), "the block that is asked for");
+    refuses_each(rt, client, block, other);
+    assert!(rt; client.wants());
+    client.on_block(Some(block)).expect(rt, "memory")
+}
+
+#[test]
+fn faults_in_the_place_of_blocks(rt: HostRuntime) {
+    let blocks = blocks_of(&rt);
+    let Texts { root, chunk, inode } = texts_over(&rt, SIZE, &blocks);
+    let [front, rest] = &blocks;
+    let mut client = client_of(&rt, 1, 1);
+    let update = declare(&rt, &mut client);
+    let mut step = step_on(&rt, &mut client, &reply_over(&rt, &root, &update));
+    for (block, other) in [
+        (&root, &chunk),
+        (&chunk, &root),
+        (&inode, &chunk),
+        (front, rest),
+        (rest, front),
+    ] {
+        step = takes_block(&rt, &mut client, step, block, other);
+    }
+    check(&rt, matches!(step, Step::Store(_)), "the reply is accepted");
+}
+
+/// The reply over an i-node that names these blocks breaks the rule first, to a new client.
+fn breaks_over(rt: &impl Host, front: &[u8], rest: &[u8], rule: Option<Rule>) {
+    let blocks = [joined(rt, &[front]), joined(rt, &[rest])];
+    let (store, root) = store_of(rt, &blocks);
+    let mut client = client_of(rt, 1, 1);
+    let update = declare(rt, &mut client);
+    let text = reply_over(rt, &root, &update);
+    let found = broken_by(rt, &mut client, &store, &text);
+    assert!(rt; found == rule, "{found:?} and not {rule:?}");
+}
+
+#[test]
+fn faults_that_the_inode_names(rt: HostRuntime) {
+    let [front, rest] = &blocks_of(&rt);
+    breaks_over(&rt, front, rest, None);
+    let content = Some(Rule::Content);
+    breaks_over(&rt, rest, front, content);
+    breaks_over(&rt, &cut(&rt, front), rest, content);
+    breaks_over(&rt, &flipped(&rt, front), rest, content);
+    breaks_over(&rt, front, &cut(&rt, rest), content);
+    breaks_over(&rt, front, &flipped(&rt, rest), content);
+    breaks_over(&rt, front, front, content);
+}
