@@ -3,10 +3,13 @@
 
 use crate::certificates::{i_number, principal};
 use crate::changes::{Planned, lay, nothing, plan_change};
-use crate::texts::{Host, check, check_text, joined, key_of};
+use crate::replies::first_key;
+use crate::tables::{FORM, listing};
+use crate::texts::{Host, check, check_text, joined};
 use crate::world::{World, has_lost, new_world, operate, see_of};
 use client_verify::Look;
 use layout::{Group, Text, User};
+use lms_sign::PublicKey;
 use std::alloc::Global;
 use update_cert::{Action, Change, TableChange};
 
@@ -91,7 +94,7 @@ fn change_at(rt: &impl Host, number: u16, action: Action<Global>) -> Change<Glob
 fn change_of(rt: &impl Host, planned: &mut Planned, deed: Deed) -> Change<Global> {
     match deed {
         Deed::AddUser => {
-            let key = key_of(rt, 1).public();
+            let key = PublicKey::from_bytes(*FORM).expect(rt, "a key");
             Change::of_table(TableChange::AddUser(user(rt, 1), key))
         }
         Deed::AddMember(number) => {
@@ -139,16 +142,14 @@ fn file_at(rt: &impl Host, world: &mut World, owner: u8, number: u16) -> Vec<u8>
     }
 }
 
-/// The text of the table after the first operation, until user 0 was taken out of the group by this number.
-fn table_text(rt: &impl Host, until: u8) -> Vec<u8> {
-    let (zero, one) = (key_of(rt, 0).public(), key_of(rt, 1).public());
+/// The text of the table, where this is user 0's key, which was taken out of the group by this number.
+fn table_text(rt: &impl Host, key: &PublicKey, until: u8) -> Vec<u8> {
     joined(
         rt,
         &[
-            b"SPT1\x02\0\0\0\0\0",
-            zero.as_bytes(),
-            b"\x01\0\0\0\x01",
-            one.as_bytes(),
+            b"SPT1\x02",
+            &listing(rt, 0, 0, key.as_bytes()),
+            &listing(rt, 1, 1, FORM),
             b"\0\x01\x40\0\0\0\0\x01\0\0\0",
             &[until],
         ],
@@ -156,10 +157,10 @@ fn table_text(rt: &impl Host, until: u8) -> Vec<u8> {
 }
 
 /// The table's text is this in the accepted view.
-fn has_table(rt: &impl Host, world: &mut World, until: u8) {
+fn has_table(rt: &impl Host, world: &mut World, key: &PublicKey, until: u8) {
     let text = file_at(rt, world, 0, 1);
     check(rt, text.len() == 139, "the size of the table");
-    check_text(rt, &text, &table_text(rt, until));
+    check_text(rt, &text, &table_text(rt, key, until));
 }
 
 /// The operation happens, loses these changes and has these records.
@@ -170,21 +171,22 @@ fn happens(rt: &impl Host, world: &mut World, operation: &Operation) {
 }
 
 /// The operations happen, with a store that is hostile or not.
-fn happen(rt: &impl Host, is_hostile: bool) {
+fn happen(rt: &impl Host, key: &PublicKey, is_hostile: bool) {
     let [first, rest @ ..] = &OPERATIONS;
     let mut world = new_world(rt, is_hostile);
     happens(rt, &mut world, first);
-    has_table(rt, &mut world, 0);
+    has_table(rt, &mut world, key, 0);
     for operation in rest {
         happens(rt, &mut world, operation);
     }
-    has_table(rt, &mut world, 3);
+    has_table(rt, &mut world, key, 3);
     let file = file_at(rt, &mut world, 64, 1);
     check_text(rt, &file, b"c");
 }
 
 #[test]
 fn member_and_then_none(rt: HostRuntime) {
-    happen(&rt, false);
-    happen(&rt, true);
+    let key = first_key(&rt);
+    happen(&rt, &key, false);
+    happen(&rt, &key, true);
 }

@@ -40,6 +40,8 @@ mod operations;
 #[cfg(test)]
 mod other_users;
 #[cfg(test)]
+mod others_parts;
+#[cfg(test)]
 mod plans;
 #[cfg(test)]
 mod refusals;

@@ -1,13 +1,14 @@
 //! A table of principals of two blocks, through a client: each of its blocks absent, cut, flipped and another one, in the
 //! place of what was asked for, and named by the i-node itself.
 
-use crate::replies::{client_of, declare, step_on};
+use crate::replies::{client_with, declare, step_on};
 use crate::several_users::{broken_by, keep_each};
 use crate::tables::{FORM, Texts, listing, structure_over, texts_over};
 use crate::texts::{Host, check, joined, key_of, listed, named, pending, plan, reply, shown};
 use client_tree::Held;
 use client_verify::{Client, Rule, Step};
 use layout::digest;
+use lms_sign::{PrivateKey, PublicKey};
 use std::alloc::Global;
 use update_cert::Blocks;
 
@@ -15,11 +16,9 @@ use update_cert::Blocks;
 const SIZE: u32 = 4101;
 
 /// Its text: user 0 is a member of the groups 64 to 82.
-fn table_text(rt: &impl Host) -> Vec<u8> {
+fn table_text(rt: &impl Host, zero: &PublicKey, one: &PublicKey) -> Vec<u8> {
     let mut text = joined(rt, &[b"SPT1\x40"]);
-    let zero = key_of(rt, 0).public();
     push(rt, &mut text, &listing(rt, 0, 0, zero.as_bytes()));
-    let one = key_of(rt, 1).public();
     push(rt, &mut text, &listing(rt, 1, 1, one.as_bytes()));
     for user in 2..64 {
         push(rt, &mut text, &listing(rt, user, 1, FORM));
@@ -36,11 +35,34 @@ fn push(rt: &impl Host, text: &mut Vec<u8>, bytes: &[u8]) {
 }
 
 /// Its two blocks.
-fn blocks_of(rt: &impl Host) -> [Vec<u8>; 2] {
-    let text = table_text(rt);
+fn blocks_of(rt: &impl Host, zero: &PublicKey, one: &PublicKey) -> [Vec<u8>; 2] {
+    let text = table_text(rt, zero, one);
     assert!(rt; text.len() == 4101);
     let (front, rest) = text.split_at(4096);
     [joined(rt, &[front]), joined(rt, &[rest])]
+}
+
+/// User 0's key, the table's blocks, a client of user 1, and the certificate that it declared.
+#[derive(Drop)]
+struct Scene {
+    key: PrivateKey<Global>,
+    blocks: [Vec<u8>; 2],
+    client: Client<Global>,
+    update: Vec<u8>,
+}
+
+/// The scene.
+fn new_scene(rt: &impl Host) -> Scene {
+    let (key, own) = (key_of(rt, 0), key_of(rt, 1));
+    let blocks = blocks_of(rt, &key.public(), &own.public());
+    let mut client = client_with(rt, own, key.public());
+    let update = declare(rt, &mut client);
+    Scene {
+        key,
+        blocks,
+        client,
+        update,
+    }
 }
 
 /// The text without its last byte.
@@ -66,9 +88,9 @@ fn store_of(rt: &impl Host, blocks: &[Vec<u8>; 2]) -> (Held<Global>, Vec<u8>) {
     (store, root)
 }
 
-/// The reply to user 1's first certificate after user 0's structure over that i-table.
-fn reply_over(rt: &impl Host, root: &[u8], update: &[u8]) -> Vec<u8> {
-    let superuser = structure_over(rt, &key_of(rt, 0), 1, root);
+/// The reply to the certificate after user 0's structure over the i-table of this root.
+fn reply_over(rt: &impl Host, key: &PrivateKey<Global>, root: &[u8], update: &[u8]) -> Vec<u8> {
+    let superuser = structure_over(rt, key, 1, root);
     let vector = b"\x02\0\0\0\0\x01\x01\0\0\0\x01";
     let plan = plan(rt, 1, 1, &named(update), vector, b"\0");
     let own = pending(rt, update, &plan);
@@ -113,12 +135,11 @@ fn takes_block(
 
 #[test]
 fn faults_in_the_place_of_blocks(rt: HostRuntime) {
-    let blocks = blocks_of(&rt);
-    let Texts { root, chunk, inode } = texts_over(&rt, SIZE, &blocks);
-    let [front, rest] = &blocks;
-    let mut client = client_of(&rt, 1, 1);
-    let update = declare(&rt, &mut client);
-    let mut step = step_on(&rt, &mut client, &reply_over(&rt, &root, &update));
+    let mut scene = new_scene(&rt);
+    let Texts { root, chunk, inode } = texts_over(&rt, SIZE, &scene.blocks);
+    let [front, rest] = &scene.blocks;
+    let text = reply_over(&rt, &scene.key, &root, &scene.update);
+    let mut step = step_on(&rt, &mut scene.client, &text);
     for (block, other) in [
         (&root, &chunk),
         (&chunk, &root),
@@ -126,31 +147,35 @@ fn faults_in_the_place_of_blocks(rt: HostRuntime) {
         (front, rest),
         (rest, front),
     ] {
-        step = takes_block(&rt, &mut client, step, block, other);
+        step = takes_block(&rt, &mut scene.client, step, block, other);
     }
     check(&rt, matches!(step, Step::Store(_)), "the reply is accepted");
 }
 
-/// The reply over an i-node that names these blocks breaks the rule first, to a new client.
-fn breaks_over(rt: &impl Host, front: &[u8], rest: &[u8], rule: Option<Rule>) {
-    let blocks = [joined(rt, &[front]), joined(rt, &[rest])];
+/// The reply over an i-node that names these blocks breaks the rule first.
+fn breaks_over(rt: &impl Host, scene: &mut Scene, blocks: [Vec<u8>; 2], rule: Option<Rule>) {
     let (store, root) = store_of(rt, &blocks);
-    let mut client = client_of(rt, 1, 1);
-    let update = declare(rt, &mut client);
-    let text = reply_over(rt, &root, &update);
-    let found = broken_by(rt, &mut client, &store, &text);
+    let text = reply_over(rt, &scene.key, &root, &scene.update);
+    let found = broken_by(rt, &mut scene.client, &store, &text);
     assert!(rt; found == rule, "{found:?} and not {rule:?}");
 }
 
 #[test]
 fn faults_that_the_inode_names(rt: HostRuntime) {
-    let [front, rest] = &blocks_of(&rt);
-    breaks_over(&rt, front, rest, None);
-    let content = Some(Rule::Content);
-    breaks_over(&rt, rest, front, content);
-    breaks_over(&rt, &cut(&rt, front), rest, content);
-    breaks_over(&rt, &flipped(&rt, front), rest, content);
-    breaks_over(&rt, front, &cut(&rt, rest), content);
-    breaks_over(&rt, front, &flipped(&rt, rest), content);
-    breaks_over(&rt, front, front, content);
+    let mut scene = new_scene(&rt);
+    let [front, rest] = &scene.blocks;
+    let (front, rest) = (joined(&rt, &[front]), joined(&rt, &[rest]));
+    let copy = |text: &[u8]| joined(&rt, &[text]);
+    let cases = [
+        ([copy(&front), copy(&rest)], None),
+        ([copy(&rest), copy(&front)], Some(Rule::Content)),
+        ([cut(&rt, &front), copy(&rest)], Some(Rule::Content)),
+        ([flipped(&rt, &front), copy(&rest)], Some(Rule::Content)),
+        ([copy(&front), cut(&rt, &rest)], Some(Rule::Content)),
+        ([copy(&front), flipped(&rt, &rest)], Some(Rule::Content)),
+        ([copy(&front), copy(&front)], Some(Rule::Content)),
+    ];
+    for (blocks, rule) in cases {
+        breaks_over(&rt, &mut scene, blocks, rule);
+    }
 }

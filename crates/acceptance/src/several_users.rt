@@ -2,7 +2,7 @@
 //! principals made by hand: replies that break no rule, and replies that differ from those in one part and break the rule
 //! of that part.
 
-use crate::replies::{client_of, declare, step_on};
+use crate::replies::{client_with, declare, step_on};
 use crate::tables::{FORM, Texts, listing, structure_over, texts_over};
 use crate::texts::{
     Host, certificate_of, check, joined, key_of, named, pending, plan, reply, shown, signed,
@@ -11,7 +11,7 @@ use crate::texts::{
 use client_tree::Held;
 use client_verify::{Client, Rule, Step};
 use layout::digest;
-use lms_sign::PrivateKey;
+use lms_sign::{PrivateKey, PublicKey};
 use std::alloc::Global;
 use update_cert::Blocks;
 
@@ -38,19 +38,19 @@ const TO_GROUP: &[u8] = b"\x01\x04\x02\0\x02\x01n\x40\0\x05";
 
 /// The first operation of another user than user 0.
 #[derive(Clone, Copy)]
-struct Operation {
-    user: u8,
+pub(crate) struct Operation {
+    pub(crate) user: u8,
     /// Whose key signs it.
-    signer: u8,
-    changes: &'static [u8],
+    pub(crate) signer: u8,
+    pub(crate) changes: &'static [u8],
     /// The versions in the vector of its plan.
-    versions: &'static [(u8, u8)],
+    pub(crate) versions: &'static [(u8, u8)],
     /// The group, the version and the version of the table in the record of its structure.
-    record: Option<(u8, u8, u8)>,
+    pub(crate) record: Option<(u8, u8, u8)>,
 }
 
 /// User 2's operation as most replies show it.
-const SECOND: Operation = Operation {
+pub(crate) const SECOND: Operation = Operation {
     user: 2,
     signer: 2,
     changes: NONE,
@@ -59,7 +59,7 @@ const SECOND: Operation = Operation {
 };
 
 /// User 3's.
-const THIRD: Operation = Operation {
+pub(crate) const THIRD: Operation = Operation {
     user: 3,
     signer: 3,
     versions: &[(0, 2), (3, 1)],
@@ -67,7 +67,7 @@ const THIRD: Operation = Operation {
 };
 
 /// Those that raised group 64.
-const SECOND_OF_GROUP: Operation = Operation {
+pub(crate) const SECOND_OF_GROUP: Operation = Operation {
     changes: OF_GROUP,
     versions: &[(0, 2), (2, 1), (64, 1)],
     record: Some((64, 1, 2)),
@@ -286,34 +286,40 @@ static CASES: [Case; 20] = [
     },
 ];
 
-/// The keys of users 0 to 3, the stored blocks, and user 0's structure, signed.
+/// The keys of users 0, 2 and 3, the stored blocks, and user 0's structure, signed.
 #[derive(Drop)]
 pub(crate) struct Scene {
-    keys: [PrivateKey<Global>; 4],
+    keys: [PrivateKey<Global>; 3],
     pub(crate) store: Held<Global>,
     superuser: Vec<u8>,
 }
 
 /// A user's key.
-fn key_in(keys: &[PrivateKey<Global>; 4], user: u8) -> &PrivateKey<Global> {
-    let [zero, one, two, three] = keys;
+fn key_in(keys: &[PrivateKey<Global>; 3], user: u8) -> &PrivateKey<Global> {
+    let [zero, two, three] = keys;
     match user {
         0 => zero,
-        1 => one,
         2 => two,
         _ => three,
     }
 }
 
-/// The text of the table of principals.
-fn table_of(rt: &impl Host, keys: &[PrivateKey<Global>; 4]) -> Vec<u8> {
-    let mut text = joined(rt, &[b"SPT1\x05"]);
-    for (user, since) in [(0, 0), (1, 1), (2, 1), (3, 1)] {
-        let key = key_in(keys, user).public();
-        let row = listing(rt, user, since, key.as_bytes());
-        text.extend_from_slice(&row).expect(rt, "memory");
-    }
-    joined(rt, &[&text, &listing(rt, 4, 2, FORM), ROWS])
+/// The text of the table of principals, where this is user 1's key.
+fn table_of(rt: &impl Host, keys: &[PrivateKey<Global>; 3], one: &PublicKey) -> Vec<u8> {
+    let [zero, two, three] = keys;
+    let (zero, two, three) = (zero.public(), two.public(), three.public());
+    joined(
+        rt,
+        &[
+            b"SPT1\x05",
+            &listing(rt, 0, 0, zero.as_bytes()),
+            &listing(rt, 1, 1, one.as_bytes()),
+            &listing(rt, 2, 1, two.as_bytes()),
+            &listing(rt, 3, 1, three.as_bytes()),
+            &listing(rt, 4, 2, FORM),
+            ROWS,
+        ],
+    )
 }
 
 /// Stores a copy of each text.
@@ -323,22 +329,28 @@ pub(crate) fn keep_each(rt: &impl Host, store: &mut Held<Global>, texts: &[&[u8]
     }
 }
 
-/// The scene, in which all blocks of user 0's i-table are stored.
-pub(crate) fn new_scene(rt: &impl Host) -> Scene {
-    let keys = [key_of(rt, 0), key_of(rt, 1), key_of(rt, 2), key_of(rt, 3)];
-    let table = table_of(rt, &keys);
-    let blocks = [table];
+/// The scene, in which all blocks of user 0's i-table are stored and this is user 1's key.
+fn scene_of(rt: &impl Host, keys: [PrivateKey<Global>; 3], one: &PublicKey) -> Scene {
+    let blocks = [table_of(rt, &keys, one)];
     let Texts { root, chunk, inode } = texts_over(rt, SIZE, &blocks);
     let [table] = &blocks;
     let mut store = Held::empty(rt.alloc());
     keep_each(rt, &mut store, &[&root, &chunk, &inode, table]);
-    let [zero, ..] = &keys;
-    let superuser = structure_over(rt, zero, 2, &root);
+    let superuser = structure_over(rt, key_in(&keys, 0), 2, &root);
     Scene {
         keys,
         store,
         superuser,
     }
+}
+
+/// A scene, and a new client of user 1.
+pub(crate) fn new_scene(rt: &impl Host) -> (Scene, Client<Global>) {
+    let (zero, one) = (key_of(rt, 0), key_of(rt, 1));
+    let (pinned, public) = (zero.public(), one.public());
+    let keys = [zero, key_of(rt, 2), key_of(rt, 3)];
+    let client = client_with(rt, one, pinned);
+    (scene_of(rt, keys, &public), client)
 }
 
 /// A vector of these versions.
@@ -377,7 +389,7 @@ fn records_of(rt: &impl Host, record: Option<(u8, u8, u8)>, handle: &[u8; 32]) -
 
 /// The structure of an operation as a reply lists it. Its i-table, and that of the group of its record, have these
 /// handles.
-fn structure_row(
+pub(crate) fn structure_row(
     rt: &impl Host,
     scene: &Scene,
     operation: &Operation,
@@ -392,7 +404,7 @@ fn structure_row(
 }
 
 /// The handle of the i-table of a principal other than user 0 at the beginning.
-fn first_handle(rt: &impl Host, principal: u8) -> [u8; 32] {
+pub(crate) fn first_handle(rt: &impl Host, principal: u8) -> [u8; 32] {
     *digest(&joined(rt, &[b"STR1", &[principal, 0]])).as_bytes()
 }
 
@@ -407,7 +419,7 @@ fn structure_at_first(rt: &impl Host, scene: &Scene, operation: &Operation) -> V
 }
 
 /// The list of user 0's structure and these rows.
-fn list_of(rt: &impl Host, scene: &Scene, rows: &[Vec<u8>]) -> Vec<u8> {
+pub(crate) fn list_of(rt: &impl Host, scene: &Scene, rows: &[Vec<u8>]) -> Vec<u8> {
     let [.., count] = rows.len().wrapping_add(1).to_be_bytes();
     let mut list = joined(rt, &[&[count], &shown(rt, &scene.superuser)]);
     for row in rows {
@@ -427,7 +439,7 @@ fn structures_of(rt: &impl Host, scene: &Scene, case: &Case) -> Vec<u8> {
 }
 
 /// The own operation as a reply lists it, with these versions and entries.
-fn own_row(rt: &impl Host, update: &[u8], own: &[(u8, u8)], entries: &[u8]) -> Vec<u8> {
+pub(crate) fn own_row(rt: &impl Host, update: &[u8], own: &[(u8, u8)], entries: &[u8]) -> Vec<u8> {
     let vector = vector_of(rt, own);
     let plan = plan(rt, 1, 1, &named(update), &vector, entries);
     pending(rt, update, &plan)
@@ -485,8 +497,7 @@ fn breaks_case(
 
 #[test]
 fn each_reply(rt: HostRuntime) {
-    let scene = new_scene(&rt);
-    let mut client = client_of(&rt, 1, 1);
+    let (scene, mut client) = new_scene(&rt);
     let update = declare(&rt, &mut client);
     for case in &CASES {
         breaks_case(&rt, &scene, &mut client, &update, case);
