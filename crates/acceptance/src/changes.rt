@@ -49,6 +49,11 @@ pub(crate) fn lay(rt: &impl Host, planned: &mut Planned, file: &[u8]) -> Digest 
     digest
 }
 
+/// Plans a change.
+pub(crate) fn plan_change(rt: &impl Host, planned: &mut Planned, change: Change<Global>) {
+    planned.changes.push(change).expect(rt, "memory");
+}
+
 /// Plans an action at an i-number of user 0's.
 pub(crate) fn plan_action(
     rt: &impl Host,
@@ -57,7 +62,7 @@ pub(crate) fn plan_action(
     action: Action<Global>,
 ) {
     let change = Change::new(principal(rt, 0), i_number(rt, number), action);
-    planned.changes.push(change).expect(rt, "memory");
+    plan_change(rt, planned, change);
 }
 
 /// Plans a deed.

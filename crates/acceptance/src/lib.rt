@@ -18,6 +18,8 @@ mod files;
 #[cfg(test)]
 mod frames;
 #[cfg(test)]
+mod groups;
+#[cfg(test)]
 mod histories;
 #[cfg(test)]
 mod i_tables;
@@ -25,6 +27,8 @@ mod i_tables;
 mod laid_out;
 #[cfg(test)]
 mod last_blocks;
+#[cfg(test)]
+mod long_table;
 #[cfg(test)]
 mod longest;
 #[cfg(test)]
@@ -35,6 +39,8 @@ mod missing_files;
 mod operations;
 #[cfg(test)]
 mod other_users;
+#[cfg(test)]
+mod others_parts;
 #[cfg(test)]
 mod plans;
 #[cfg(test)]
@@ -48,7 +54,11 @@ mod scripts;
 #[cfg(test)]
 mod server;
 #[cfg(test)]
+mod several_users;
+#[cfg(test)]
 mod spots;
+#[cfg(test)]
+mod tables;
 #[cfg(test)]
 mod texts;
 #[cfg(test)]

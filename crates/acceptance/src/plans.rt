@@ -4,8 +4,7 @@ use crate::texts::{Host, check, check_text, joined, plan};
 use layout::{Digest, Group, Text, User, Version};
 use std::alloc::Global;
 use version_order::{
-    Entries, GroupRecord, GroupRecords, Plan, PlanError, Structure, Vector, below, depth,
-    next_plan,
+    Entries, GroupRecord, GroupRecords, Plan, PlanError, Structure, Vector, below, depth, next_plan,
 };
 
 /// The vector before an operation of a user, the groups that it raises, and the vector of its plan with the plan's

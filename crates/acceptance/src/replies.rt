@@ -3,10 +3,20 @@
 use crate::texts::{Host, check, key_of, listed, named, pending, plan, reply};
 use client_verify::{Client, Phase, Rule, Step, are_laid};
 use layout::User;
-use lms_sign::PublicKey;
+use lms_sign::{PrivateKey, PublicKey};
 use std::alloc::Global;
 use update_cert::Change;
 use wire::Status;
+
+/// The client of user 1 by this key, which knows this key of user 0's.
+pub(crate) fn client_with(
+    rt: &impl Host,
+    own: PrivateKey<Global>,
+    pinned: PublicKey,
+) -> Client<Global> {
+    let user = User::new(1).expect(rt, "a user");
+    Client::new(rt.alloc(), user, own, pinned).expect(rt, "memory")
+}
 
 /// The client of a user by its key, which takes the first key for user 0's.
 pub(crate) fn client_of(rt: &impl Host, user: u8, key: u8) -> Client<Global> {

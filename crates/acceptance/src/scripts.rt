@@ -187,7 +187,11 @@ static CASES: [Case; 9] = [
             begin 0 put 0 3 a; \n\
             begin 0 remove 0 3;remove 0 3\n\
             begin 0 remove 0 3 4\n\
-            begin 0 adduser 1\n\
+            begin 0 adduser 64\n\
+            begin 0 addmember 63 0\n\
+            begin 0 dropmember 96 0\n\
+            begin 0 addmember 64 64\n\
+            begin 0 dropmember 64\n\
             begin 0 remove 0 9; remove 0 9; remove 0 9; remove 0 9; remove 0 9; remove 0 9; remove 0 9; remove 0 9; remove 0 9; remove 0 9; remove 0 9; remove 0 9; remove 0 9; remove 0 9; remove 0 9; remove 0 9; remove 0 9\n\
             begin 0 remove 0 9; remove 0 9; remove 0 9; remove 0 9; remove 0 9; remove 0 9; remove 0 9; remove 0 9; remove 0 9; remove 0 9; remove 0 9; remove 0 9; remove 0 9; remove 0 9; remove 0 9; remove 0 9\n\
             begin 0\n\
@@ -205,10 +209,195 @@ static CASES: [Case; 9] = [
             error\n\
             error\n\
             error\n\
+            error\n\
+            error\n\
+            error\n\
+            error\n\
             0 begin 1\n\
             0 busy\n\
             error\n\
             0 accepted 1 lost 1 2 3 4 5 6 7 8 9 10 11 12 13 14 15 16\n",
+    },
+];
+
+/// Groups: a member's changes, and who is none in the table before the operation. Another program, which applies the
+/// placed operations in turn, tells the lines of the second and the last one.
+static WITH_GROUPS: [Case; 4] = [
+    // A member is dropped, and its last changes stand.
+    Case {
+        script: b"begin 0 adduser 1; adduser 1; addmember 64 0; addmember 64 2\n\
+            update 0 a\n\
+            commit 0 a\n\
+            begin 0 make 64 1 file a; make 64 64 file b\n\
+            update 0 a\n\
+            commit 0 a\n\
+            begin 0 dropmember 64 0; put 64 1 c\n\
+            update 0 a\n\
+            commit 0 a\n\
+            begin 0 put 64 1 d\n\
+            update 0 a\n\
+            commit 0 a\n\
+            show 0 64 1\n",
+        lines: b"0 begin 1\n\
+            0 accepted 1 lost 2 4\n\
+            0 committed\n\
+            0 begin 2\n\
+            0 accepted 2 lost 2\n\
+            0 committed\n\
+            0 begin 3\n\
+            0 accepted 3\n\
+            0 committed\n\
+            0 begin 4\n\
+            0 accepted 4 lost 1\n\
+            0 committed\n\
+            0 file c\n",
+    },
+    // In one operation: who is made a member isn't one yet, who is dropped still is; links of groups.
+    Case {
+        script: b"begin 0 adduser 1; addmember 64 0; addmember 95 1; make 64 1 file x\n\
+            update 0 a\n\
+            commit 0 a\n\
+            begin 0 make 64 1 dir; make 64 63 file -; make 64 64 file y; make 95 1 file z; link 64 1 n 95 1; link 64 1 n 0 2\n\
+            update 0 a\n\
+            commit 0 a\n\
+            show 0 64 1\n\
+            show 0 64 63\n\
+            show 0 64 64\n\
+            show 0 95 1\n\
+            begin 0 dropmember 64 0; addmember 64 0; addmember 64 0; dropmember 95 0; remove 64 1; unlink 64 1 n; remove 64 1; put 64 63 w\n\
+            update 0 a\n\
+            commit 0 a\n\
+            begin 0 dropmember 64 0; make 64 2 file last\n\
+            update 0 a\n\
+            commit 0 a\n\
+            begin 0 addmember 64 0; put 64 2 no\n\
+            update 0 a\n\
+            commit 0 a\n\
+            begin 0 put 64 2 yes; link 0 2 g 64 2\n\
+            update 0 a\n\
+            commit 0 a\n\
+            show 0 64 1\n\
+            show 0 64 2\n\
+            show 0 64 63\n\
+            show 0 0 2\n",
+        lines: b"0 begin 1\n\
+            0 accepted 1 lost 4\n\
+            0 committed\n\
+            0 begin 2\n\
+            0 accepted 2 lost 3 4 6\n\
+            0 committed\n\
+            0 dir n 95:1\n\
+            0 file -\n\
+            0 none\n\
+            0 none\n\
+            0 begin 3\n\
+            0 accepted 3 lost 3 4 5\n\
+            0 committed\n\
+            0 begin 4\n\
+            0 accepted 4\n\
+            0 committed\n\
+            0 begin 5\n\
+            0 accepted 5 lost 2\n\
+            0 committed\n\
+            0 begin 6\n\
+            0 accepted 6\n\
+            0 committed\n\
+            0 none\n\
+            0 file yes\n\
+            0 file w\n\
+            0 dir g 64:2\n",
+    },
+    // A member is dropped before its operation is placed.
+    Case {
+        script: b"begin 0 adduser 1; addmember 64 1\n\
+            update 0 a\n\
+            commit 0 a\n\
+            begin 1 make 64 64 file old\n\
+            update 1 a\n\
+            commit 1 a\n\
+            begin 1 put 64 64 new\n\
+            begin 0 dropmember 64 1\n\
+            update 0 a\n\
+            commit 0 a\n\
+            update 1 a\n\
+            commit 1 a\n\
+            show 1 64 64\n",
+        lines: b"0 begin 1\n\
+            0 accepted 1\n\
+            0 committed\n\
+            1 begin 1\n\
+            1 accepted 1\n\
+            1 committed\n\
+            1 begin 2\n\
+            0 begin 2\n\
+            0 accepted 2\n\
+            0 committed\n\
+            1 accepted 2 lost 1\n\
+            1 committed\n\
+            1 file old\n",
+    },
+    // Three users, whose operations are pending beside one another.
+    Case {
+        script: b"begin 1\n\
+            update 1 a\n\
+            begin 0 adduser 1; adduser 2; addmember 64 1; addmember 64 2; addmember 65 0\n\
+            update 0 a\n\
+            commit 0 a\n\
+            update 1 a\n\
+            commit 1 a\n\
+            begin 1 make 64 64 dir; make 1 2 file one\n\
+            begin 2 link 64 64 n 2 2; make 64 65 file no; make 64 128 file two; make 2 2 file own\n\
+            begin 0 dropmember 64 2; make 64 1 file no\n\
+            update 1 a\n\
+            update 2 a\n\
+            update 0 a\n\
+            show 1 64 64\n\
+            show 2 64 64\n\
+            show 0 64 128\n\
+            show 0 2 2\n\
+            commit 2 a\n\
+            commit 0 a\n\
+            begin 2 put 64 128 late; put 2 2 mine; adduser 3; addmember 64 2\n\
+            update 2 a\n\
+            commit 1 a\n\
+            commit 2 a\n\
+            show 2 64 128\n\
+            show 2 2 2\n\
+            begin 1 link 64 64 m 65 1; unlink 64 64 n; make 65 64 file no; put 2 2 no\n\
+            update 1 a\n\
+            show 1 64 64\n\
+            show 2 64 64\n\
+            show 1 2 2\n",
+        lines: b"1 begin 1\n\
+            1 status 2\n\
+            0 begin 1\n\
+            0 accepted 1\n\
+            0 committed\n\
+            1 accepted 1\n\
+            1 committed\n\
+            1 begin 2\n\
+            2 begin 1\n\
+            0 begin 2\n\
+            1 accepted 2\n\
+            2 accepted 1 lost 2\n\
+            0 accepted 2 lost 2\n\
+            1 dir\n\
+            2 dir n 2:2\n\
+            0 file two\n\
+            0 file own\n\
+            2 committed\n\
+            0 committed\n\
+            2 begin 2\n\
+            2 accepted 2 lost 1 3 4\n\
+            1 committed\n\
+            2 committed\n\
+            2 file two\n\
+            2 file mine\n\
+            1 begin 3\n\
+            1 accepted 3 lost 3 4\n\
+            1 dir m 65:1\n\
+            2 dir n 2:2\n\
+            1 file mine\n",
     },
 ];
 
@@ -351,6 +540,13 @@ fn prints(rt: &impl Host, case: &Case) {
 #[test]
 fn each_script_prints_its_lines(rt: HostRuntime) {
     for case in &CASES {
+        prints(&rt, case);
+    }
+}
+
+#[test]
+fn scripts_with_groups(rt: HostRuntime) {
+    for case in &WITH_GROUPS {
         prints(&rt, case);
     }
 }

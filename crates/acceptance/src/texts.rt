@@ -45,9 +45,23 @@ fn size_of(text: &[u8]) -> [u8; 2] {
     [high, low]
 }
 
+/// A certificate with changes that are spelled already, after their count.
+pub(crate) fn certificate_of(
+    rt: &impl Host,
+    user: u8,
+    number: u32,
+    last: &[u8; 32],
+    changes: &[u8],
+) -> Vec<u8> {
+    joined(
+        rt,
+        &[b"SUC1", &[user], &number.to_be_bytes(), last, changes],
+    )
+}
+
 /// A certificate without changes.
 pub(crate) fn certificate(rt: &impl Host, user: u8, number: u32, last: &[u8; 32]) -> Vec<u8> {
-    joined(rt, &[b"SUC1", &[user], &number.to_be_bytes(), last, &[0]])
+    certificate_of(rt, user, number, last, b"\0")
 }
 
 /// A plan with a vector and entries that are spelled already, each after its count.
@@ -72,9 +86,19 @@ pub(crate) fn plan<'a>(
     )
 }
 
+/// A structure with group records that are spelled already, after their count.
+pub(crate) fn structure_of(
+    rt: &impl Host,
+    plan: &[u8],
+    handle: &[u8; 32],
+    records: &[u8],
+) -> Vec<u8> {
+    joined(rt, &[b"SVS1", &size_of(plan), plan, handle, records])
+}
+
 /// A structure without group records.
 pub(crate) fn structure(rt: &impl Host, plan: &[u8], handle: &[u8; 32]) -> Vec<u8> {
-    joined(rt, &[b"SVS1", &size_of(plan), plan, handle, &[0]])
+    structure_of(rt, plan, handle, b"\0")
 }
 
 /// A text, and after it its signature by a leaf.

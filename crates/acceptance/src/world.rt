@@ -160,11 +160,18 @@ pub(crate) fn has_lost(rt: &impl Host, world: &World, lost: &[u8]) {
     check_text(rt, world.client.lost(), lost);
 }
 
+/// Begins a look at an i-number of a principal.
+fn look_of(rt: &impl Host, world: &mut World, owner: u8, number: u16) -> Look<Global> {
+    assert!(rt; world.client.has_view());
+    let look = world
+        .client
+        .look(principal(rt, owner), i_number(rt, number));
+    look.expect(rt, "memory")
+}
+
 /// Begins a look at an i-number of user 0's.
 pub(crate) fn look_at(rt: &impl Host, world: &mut World, number: u16) -> Look<Global> {
-    assert!(rt; world.client.has_view());
-    let look = world.client.look(principal(rt, 0), i_number(rt, number));
-    look.expect(rt, "memory")
+    look_of(rt, world, 0, number)
 }
 
 /// Gives the block that the look asks for.
@@ -178,9 +185,9 @@ fn give(rt: &impl Host, world: &mut World, digest: Digest) -> Look<Global> {
     world.client.give(block).expect(rt, "memory")
 }
 
-/// What stands at an i-number of user 0's.
-pub(crate) fn see(rt: &impl Host, world: &mut World, number: u16) -> Look<Global> {
-    let mut look = look_at(rt, world, number);
+/// What stands at an i-number of a principal.
+pub(crate) fn see_of(rt: &impl Host, world: &mut World, owner: u8, number: u16) -> Look<Global> {
+    let mut look = look_of(rt, world, owner, number);
     for _ in 0..BOUND {
         match look {
             Look::Need(digest) => look = give(rt, world, digest),
@@ -188,6 +195,11 @@ pub(crate) fn see(rt: &impl Host, world: &mut World, number: u16) -> Look<Global
         }
     }
     panic!(rt; "too many blocks")
+}
+
+/// What stands at an i-number of user 0's.
+pub(crate) fn see(rt: &impl Host, world: &mut World, number: u16) -> Look<Global> {
+    see_of(rt, world, 0, number)
 }
 
 /// A file of these bytes stands at an i-number of user 0's.

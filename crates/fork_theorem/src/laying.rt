@@ -56,7 +56,7 @@ fn empty_directory<A: Allocator + Copy>(alloc: A) -> Result<Digest, Memory> {
     Ok(digest(&text))
 }
 
-/// What a action of a script is as a change's action.
+/// What an action of a script is as a change's action.
 fn action_of<A: Allocator + Copy>(
     alloc: A,
     laid: &mut Vec<Vec<u8, A>, A>,
@@ -80,7 +80,13 @@ fn change_of<A: Allocator + Copy>(
     task: Task<A>,
 ) -> Result<Change<A>, Memory> {
     match task {
-        Task::At(Target { principal, i_number }, action) => {
+        Task::At(
+            Target {
+                principal,
+                i_number,
+            },
+            action,
+        ) => {
             let action = action_of(alloc, laid, action)?;
             Ok(Change::new(principal, i_number, action))
         }
