@@ -48,6 +48,8 @@ mod scripts;
 #[cfg(test)]
 mod server;
 #[cfg(test)]
+mod small_world;
+#[cfg(test)]
 mod spots;
 #[cfg(test)]
 mod texts;
