@@ -56,6 +56,8 @@ mod server;
 #[cfg(test)]
 mod several_users;
 #[cfg(test)]
+mod small_world;
+#[cfg(test)]
 mod spots;
 #[cfg(test)]
 mod tables;

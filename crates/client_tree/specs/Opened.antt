@@ -5,6 +5,7 @@ use Rattle.layout.specs.Types.{Digest, INumber, Principal}
 use Rattle.itable.specs.ITable.{ITable, digest_at}
 use Rattle.itable.specs.declared.inode.Kind.{Kind}
 use Rattle.principals.specs.Table.{Table}
+use Rattle.update_cert.specs.World.{is_table}
 use Rattle.update_cert.specs.Reading.{Reading}
 use Rattle.update_cert.specs.Blocks.{Blocks, Agrees, inode_told}
 use Rattle.update_cert.specs.Part.{Part, Slot, Laid, IsPartOf, part_of, slot_at}
@@ -67,10 +68,11 @@ IsOfInode blocks p i inode digest s = IsInode p i inode digest s ⊎ ((kind : Ki
 abbrev pub IsThere : Blocks → Part → INumber → Digest → Spot → Type 0
 IsThere blocks part i digest s = (inode : Digest) × (slot_at part i ≡ Some (Laid inode)) × IsOfInode blocks part.table.principal i inode digest s
 
--- a block by which the principal's part is opened, or, once it is, one of what stands at the i-number
+-- a block by which the principal's part is opened, or, once it is, one of what stands at the i-number; none where the table
+-- of principals stands, which was read before
 abbrev pub IsLooked : Blocks → View → Principal → INumber → Digest → Spot → Type 0
 IsLooked blocks x p i digest s =
-    IsReached blocks x p digest s ⊎ ((before : ITable) × (part : Part) × IsOpened blocks x p before part × IsThere blocks part i digest s)
+    (is_table p i ≡ false) × (IsReached blocks x p digest s ⊎ ((before : ITable) × (part : Part) × IsOpened blocks x p before part × IsThere blocks part i digest s))
 
 -- nothing of what stands there is missing
 pub record HasLooked (blocks : Blocks) (x : View) (p : Principal) (i : INumber) : Type 0 where

@@ -20,13 +20,19 @@ use std::marker::Model;
 pub fn read_key(reader: &mut Reader<'_>) -> Result<PublicKey, ReadError>
     ensures reads { Reads result reader.new (key_format.read reader.old) }
     ensures bytes { IsBytes reader.old }
+    ensures no_memory { IfErr result (λ e. e ≢ read_error.Memory) }
+    ensures err { OnErr result (reader.new ≡ reader.old) }
 {
+    let left = reader.left();
     let bytes = reader.bytes(KEY_SIZE)?;
     let mut copy = [0; KEY_SIZE];
     copy.copy_from_slice(bytes);
     match PublicKey::from_bytes(copy) {
         Some(key) => Ok(key),
-        None => Err(ReadError::Range),
+        None => {
+            reader.go_back(left);
+            Err(ReadError::Range)
+        }
     }
 }
 

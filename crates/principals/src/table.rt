@@ -1,12 +1,13 @@
 //! The table, and its rows.
 
-ghost use Rattle.std.specs.Prelude.{◌≡◌, ◌<◌, ◌≤◌, ◌⊎◌, ◌++◌, ◌∷◌, ◌==◌, ◌&&◌, nat_le, [], true, false, length, map, find, Some, None, IfOk, OnOk, OnErr, MatchResult, if◌then◌else◌};
+ghost use Rattle.std.specs.Prelude.{◌≡◌, ◌≢◌, ◌<◌, ◌≤◌, ◌⊎◌, ◌++◌, ◌∷◌, ◌==◌, ◌&&◌, nat_le, [], true, false, length, map, find, Some, None, IfOk, IfErr, OnOk, OnErr, MatchResult, if◌then◌else◌};
 ghost use Rattle.std.specs.Option.{option_copied};
 ghost use Rattle.std.specs.List.{list_any};
 ghost use Rattle.std.specs.Ordering.{nat_cmp};
 ghost use Rattle.layout.specs.Ascending.{Ascends, Stands, IsFree, row_at};
 ghost use Rattle.principals.specs.Table.{user_of, listing_of, user_refused, ended, Told};
 ghost use Rattle.principals.specs.TableText.{key as key_format, users, without_rows};
+ghost use Rattle.principals.specs.declared.error.TableError.TheVariants as table_error;
 
 use crate::error::TableError;
 use crate::marks::{Marks, no_marks, slot};
@@ -373,6 +374,7 @@ impl<A: Allocator> Table<A> {
     ) -> Result<(), TableError>
         ensures ok { OnOk result (self.new ≡ member_dropped number group user self.old) }
         ensures told { Told (drop_refused self.old group user) result }
+        ensures no_memory { IfErr result (λ e. e ≢ table_error.Memory) }
         // A table that has a text has one afterwards, if the number isn't less than those before.
         ensures fits { table_format.Fits self.old → NoneAfter number self.old → OnOk result (table_format.Fits self.new) }
         ensures err { OnErr result (self.new ≡ self.old) }

@@ -148,6 +148,7 @@ fn read_table_change(reader: &mut Reader<'_>, kind: u8) -> Result<TableChange, R
     requires low { 6 ≤ kind }
     requires high { kind ≤ 8 }
     ensures reads { ReadsAs (λ change. of_table (table_action_of change)) result reader.new ((fields kind).read reader.old) }
+    ensures no_memory { IfErr result (λ e. e ≢ read_error.Memory) }
 {
     match kind {
         6 => {

@@ -1,6 +1,6 @@
 //! The changes of a certificate, applied to the table of principals.
 
-ghost use Rattle.std.specs.Prelude.{◌≡◌, false, Some, IfOk, OnOk, OnErr, IsNone, IfSome, if◌then◌else◌};
+ghost use Rattle.std.specs.Prelude.{◌≡◌, false, Some, IfOk, IsOk, OnOk, OnErr, IsNone, IfSome, if◌then◌else◌};
 ghost use Rattle.std.specs.List.{list_any};
 ghost use Rattle.principals.specs.TableText.{table as table_format, NoneAfter};
 ghost use Rattle.update_cert.specs.Change.{table_action_of};
@@ -160,6 +160,8 @@ pub fn table_after<A: Allocator + Copy>(
 ) -> Result<Option<Table<A>>, Memory>
     ensures changed { IfOk result (λ after. IfSome after (λ new. new ≡ table_after cert.now.user cert.now.number cert.now.changes table.now)) }
     ensures same { IfOk result (λ after. IsNone after → table_after cert.now.user cert.now.number cert.now.changes table.now ≡ table.now) }
+    // An operation that can't change it takes no memory.
+    ensures no_memory { may_change cert.now ≡ false → IsOk result }
 {
     if !may_change(cert) {
         return Ok(None);
