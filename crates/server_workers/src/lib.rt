@@ -6,17 +6,21 @@ mod event_queue;
 mod flusher;
 mod gate;
 mod locked;
+mod memory;
 mod queue_log;
 mod reply;
 mod server;
 mod shared;
 mod tally;
+#[cfg(test)]
+mod tests;
 mod worker;
 mod writing;
 
 pub use connection::{Connection, ConnectionFault, Ended};
 pub use event_queue::Room;
 pub use gate::{Gate, OpenGate};
+pub use memory::MemoryConnection;
 pub use server::{Served, serve};
 pub use shared::Shared;
 pub use tally::Tally;
