@@ -1,18 +1,8 @@
 //! A connection in memory.
 
 ghost use Rattle.std.specs.Prelude.{◌≡◌, ◌<◌, ◌≤◌, Some, take, length, nat_eq};
-ghost use Rattle.leaf_ledger.specs.Device.{HasRisen};
 
-use crate::connection::{Connection, ConnectionFault};
-
-/// Counts a fault.
-fn fault(faults: &mut u64) -> ConnectionFault
-    ensures later { faults.old ≤ faults.new }
-    ensures rose { HasRisen faults.old faults.new }
-{
-    *faults = faults.saturating_add(1);
-    ConnectionFault
-}
+use crate::connection::{Connection, ConnectionFault, fault};
 
 /// A connection whose bytes are known before, and come in pieces. What is written to it is put to the output. It fails
 /// where that finds no memory.

@@ -1,14 +1,10 @@
 //! The server of a file system: it keeps the one order of operations and the blocks, and serves its clients over TCP.
 #![tactic(auto)]
 
-mod accepted;
-mod socket;
-
-use accepted::Accepted;
 use block_store::Store;
 use clap::{Arg, ArgAction, Command, value_parser};
 use lms_sign::{KEY_SIZE, PublicKey};
-use server_workers::{OpenGate, serve};
+use server_workers::{Accepted, OpenGate, serve};
 use std::alloc::Global;
 use std::env;
 use std::fs::File;
