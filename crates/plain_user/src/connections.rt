@@ -50,31 +50,19 @@ pub(crate) fn caller<'a, R: Host>(rt: &'a R, pipe: &'a Pipe) -> Caller<ClientEnd
 }
 
 /// A user makes so many operations of the same changes over a pipe, which ends then.
-pub(crate) fn operate<R: Host>(
-    rt: &R,
-    pipe: &Pipe,
-    user: PlainUser,
-    changes: &[u8],
-    count: u32,
-) {
+pub(crate) fn operate<R: Host>(rt: &R, pipe: &Pipe, user: PlainUser, changes: &[u8], count: u32) {
     let mut user = user;
     let mut caller = caller(rt, pipe);
     for number in 1..=count {
-        let statuses = user.operate(&mut caller, changes).expect(rt, "an operation");
-        assert!(rt; statuses == (Status::Ok, Status::Ok), "operation {number}: {statuses:?}");
+        let statuses = user
+            .operate(&mut caller, changes)
+            .expect(rt, "an operation");
+        assert!(rt;
+            statuses == (Status::Ok, Status::Ok),
+            "operation {number}: {statuses:?}"
+        );
     }
     pipe.close(rt);
-}
-
-/// The changes that list these users: their count, and each user with its key.
-pub(crate) fn listing<R: Host>(rt: &R, users: &[PlainUser], count: u8) -> Vec<u8> {
-    let mut changes = Vec::from_slice(rt.alloc(), &[count]).expect(rt, "memory");
-    for (number, user) in (1u8..=count).zip(users) {
-        changes.extend_from_slice(&[6, number]).expect(rt, "memory");
-        let key = user.public();
-        changes.extend_from_slice(key.as_bytes()).expect(rt, "memory");
-    }
-    changes
 }
 
 /// The users from 1 to this one.

@@ -5,6 +5,8 @@ mod caller;
 #[cfg(test)]
 mod connections;
 #[cfg(test)]
+mod loopback;
+#[cfg(test)]
 mod operations;
 #[cfg(test)]
 mod pipe;
@@ -13,4 +15,4 @@ mod rows;
 mod user;
 
 pub use caller::{CallError, Caller, Replied};
-pub use user::PlainUser;
+pub use user::{PlainUser, listing};

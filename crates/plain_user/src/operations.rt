@@ -1,8 +1,8 @@
 //! Many operations at once.
 
-use crate::connections::{Host, listing, operate, pipes, serve_pipes, users};
+use crate::connections::{Host, operate, pipes, serve_pipes, users};
 use crate::pipe::Pipe;
-use crate::user::PlainUser;
+use crate::user::{PlainUser, listing};
 use server_workers::OpenGate;
 use std::alloc::Global;
 use std::thread;
@@ -34,7 +34,7 @@ fn serve_all<R: Host>(rt: &R, others: u8, count: u32) -> (usize, u64, Vec<u8>) {
     let superuser = PlainUser::new(rt.alloc(), 0).expect(rt, "memory");
     let pinned = superuser.public();
     let others_too = users(rt, others);
-    let changes = listing(rt, &others_too, others);
+    let changes = listing(rt.alloc(), &others_too).expect(rt, "memory");
     let pipes = pipes(rt, usize::from(others) + 1);
     let pipes = pipes.as_slice();
     let changes = changes.as_slice();

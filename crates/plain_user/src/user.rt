@@ -106,6 +106,19 @@ impl PlainUser {
     }
 }
 
+/// The changes that list these users, after their count, which is at most 255.
+pub fn listing(alloc: Global, users: &[PlainUser]) -> Result<Vec<u8>, CallError> {
+    let Ok(count) = u8::try_from(users.len()) else {
+        return Err(CallError::Form);
+    };
+    let mut changes = Vec::from_slice(alloc, &[count])?;
+    for user in users {
+        changes.extend_from_slice(&[6, user.user])?;
+        changes.extend_from_slice(user.public().as_bytes())?;
+    }
+    Ok(changes)
+}
+
 /// Asks, and again where the answer is Busy.
 fn insist<S: Read + Write + Drop>(
     caller: &mut Caller<S>,
