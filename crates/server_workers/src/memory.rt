@@ -21,8 +21,8 @@ impl<'a> MemoryConnection<'a> {
     /// A connection that gives these bytes, at most so many at a time.
     pub fn new(input: &'a [u8], piece: usize, output: &'a mut Vec<u8>) -> MemoryConnection<'a>
         requires { 0 < piece }
-        ensures input { (result.input ≡ input) × (result.given ≡ 0) × (result.piece ≡ piece) }
-        ensures output { result.output ≡ output }
+        ensures input { (result.input ≡ input.entry) × (result.given ≡ 0) × (result.piece ≡ piece) }
+        ensures output { result.output ≡ output.entry }
     {
         MemoryConnection {
             input,
