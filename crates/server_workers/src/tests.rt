@@ -31,8 +31,9 @@ fn served<R: AllocGlobal + Abort + Threads + Wait + Sync>(
 {
     let alloc = rt.alloc();
     let pinned = PublicKey::from_bytes(key()).expect(rt, "a key");
+    let mut connections = Vec::new(alloc);
     let connection = MemoryConnection::new(input, piece, output);
-    let connections = vec![in alloc; connection].expect(rt, "memory");
+    connections.push(connection).expect(rt, "memory");
     let served = serve(
         rt,
         alloc,
