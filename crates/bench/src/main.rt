@@ -1,5 +1,6 @@
 //! How long things take, for people: `bench lms` keys, signatures and verifications, `bench itable` an i-table of 4,095
-//! digests, `bench directory` a directory of 1,024 entries, `bench look` looks at files. With no word it does nothing.
+//! digests, `bench directory` a directory of 1,024 entries, `bench look` looks at files, `bench server` operations over TCP. With no word it does
+//! nothing.
 #![tactic(auto)]
 
 mod counts;
@@ -7,6 +8,7 @@ mod directories;
 mod i_tables;
 mod lms;
 mod looks;
+mod server;
 mod time;
 
 use anyhow::Result;
@@ -25,7 +27,11 @@ fn report(rt: &HostRuntime, word: &str) -> Result<()> {
 
 fn main(rt: HostRuntime) -> Result<()> {
     for word in env::args(&rt)? {
-        report(&rt, word.as_str())?;
+        if word.as_str() == "server" {
+            server::report(&rt)?;
+        } else {
+            report(&rt, word.as_str())?;
+        }
     }
     Ok(())
 }

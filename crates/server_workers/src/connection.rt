@@ -1,5 +1,8 @@
 //! Connections, and how they end.
 
+ghost use Rattle.std.specs.Prelude.{◌≤◌};
+ghost use Rattle.leaf_ledger.specs.Device.{HasRisen};
+
 use thiserror::Error;
 
 /// The connection failed.
@@ -52,4 +55,13 @@ pub trait Connection: Drop {
     /// How often it has failed. It counts up to the greatest number, and stays there.
     fn faults(&self) -> u64
         ensures { result ≡ fault_count self.now };
+}
+
+/// Counts a fault.
+pub(crate) fn fault(faults: &mut u64) -> ConnectionFault
+    ensures later { faults.old ≤ faults.new }
+    ensures rose { HasRisen faults.old faults.new }
+{
+    *faults = faults.saturating_add(1);
+    ConnectionFault
 }

@@ -1,23 +1,31 @@
 //! The server's workers: a connection each, one order of calls under a lock, and a log of what it placed and committed.
 #![tactic(auto)]
 
+mod accepted;
 mod connection;
 mod event_queue;
 mod flusher;
 mod gate;
 mod locked;
+mod memory;
 mod queue_log;
 mod reply;
 mod server;
 mod shared;
+mod socket;
 mod tally;
+#[cfg(test)]
+mod tests;
 mod worker;
 mod writing;
 
+pub use accepted::Accepted;
 pub use connection::{Connection, ConnectionFault, Ended};
 pub use event_queue::Room;
 pub use gate::{Gate, OpenGate};
+pub use memory::MemoryConnection;
 pub use server::{Served, serve};
 pub use shared::Shared;
+pub use socket::Socket;
 pub use tally::Tally;
 pub use worker::converse;

@@ -1,20 +1,19 @@
 //! The server of a file system: it keeps the one order of operations and the blocks, and serves its clients over TCP.
 #![tactic(auto)]
 
-mod accepted;
-mod socket;
-
-use accepted::Accepted;
 use block_store::Store;
 use clap::{Arg, ArgAction, Command, value_parser};
 use lms_sign::{KEY_SIZE, PublicKey};
-use server_workers::{OpenGate, serve};
+use server_workers::{Accepted, OpenGate, serve};
 use std::alloc::Global;
 use std::env;
 use std::fs::File;
 use std::io::Read;
-use std::net::TcpListener;
+use std::net::{Net, TcpListener, TcpStream};
 use std::process::ExitCode;
+use std::rt::{Files, Runtime};
+use std::sync::Wait;
+use std::thread::Threads;
 use thiserror::Error;
 
 /// The status where the words are at fault.
@@ -39,7 +38,7 @@ fn option<'a>(alloc: Global, name: &'a str, value: &'a str) -> Arg<'a> {
 }
 
 /// The public key in a file of 56 bytes.
-fn read_key(rt: &HostRuntime, name: &str) -> anyhow::Result<PublicKey> {
+fn read_key(rt: &impl Files, name: &str) -> anyhow::Result<PublicKey> {
     let mut file = File::open(rt, name)?;
     let mut bytes = [0; KEY_SIZE];
     file.read_exact(&mut bytes)?;
@@ -50,7 +49,15 @@ fn read_key(rt: &HostRuntime, name: &str) -> anyhow::Result<PublicKey> {
 }
 
 /// Serves the connections that the words ask for.
-fn run(rt: &HostRuntime) -> anyhow::Result<ExitCode> {
+fn run<
+    R: Runtime
+        + AllocGlobal
+        + Files<File = File>
+        + Net<Listener = TcpListener, Stream = TcpStream>
+        + Threads
+        + Wait
+        + Sync,
+>(rt: &R) -> anyhow::Result<ExitCode> {
     let alloc = rt.alloc();
     let words: Vec<String> = env::args(rt)?.collect(alloc)?;
     let command = Command::new(alloc, "sundrd")

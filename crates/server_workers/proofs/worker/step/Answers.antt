@@ -10,5 +10,5 @@ returns-in-Ok-Some-clause-goes_on g c =
     replied _ _ _ _ _ _ _ _ _ _ next c.reply_to-reply.ensures.replies c.reply_to-reply.ensures.counted c.answer.ensures.ok c.answer.ensures.err c.answer.ensures.broken
 
 pub returns-in-Ok-None-clause-goes_on : goal.returns-in-Ok-None-clause-goes_on
-returns-in-Ok-None-clause-goes_on g c = 
+returns-in-Ok-None-clause-goes_on g c =
     reads_on _ _ _ _ _ _ _ _ (none_holds _ _ c.in-Ok-None.field-0-is c.in-Ok-None.ensures.none_same) c.read_on.ensures.ok c.read_on.ensures.err c.read_on.ensures.kind (none_holds _ _ c.in-Ok-None.field-0-is c.in-Ok-None.ensures.none)

@@ -1,11 +1,11 @@
-//! The connections of clients, as they come.
+//! The connections of clients over TCP, as they come.
 
 ghost use Rattle.std.specs.Iterator.{at_most};
 
 use crate::socket::Socket;
 use std::net::TcpListener;
 
-/// So many connections at most. It ends before them where the listener fails.
+/// The connections that a listener accepts, so many at most. It ends before them where the listener fails.
 #[derive(Drop)]
 pub struct Accepted<'a> {
     listener: &'a TcpListener,
@@ -13,6 +13,7 @@ pub struct Accepted<'a> {
 }
 
 impl<'a> Accepted<'a> {
+    /// Nothing is accepted yet.
     pub fn new(listener: &'a TcpListener, most: u32) -> Accepted<'a> {
         Accepted {
             listener,

@@ -3,18 +3,9 @@
 ghost use Rattle.std.specs.Prelude.{◌≤◌, None};
 ghost use Rattle.leaf_ledger.specs.Device.{HasRisen};
 
-use server_workers::{Connection, ConnectionFault};
+use crate::connection::{Connection, ConnectionFault, fault};
 use std::io::{Read, Write};
 use std::net::TcpStream;
-
-/// Counts a fault.
-fn fault(faults: &mut u64) -> ConnectionFault
-    ensures later { faults.old ≤ faults.new }
-    ensures rose { HasRisen faults.old faults.new }
-{
-    *faults = faults.saturating_add(1);
-    ConnectionFault
-}
 
 /// A client's stream. It doesn't tell its bytes: no clause says what a socket holds or delivers.
 #[derive(Drop)]
@@ -25,6 +16,7 @@ pub struct Socket {
 }
 
 impl Socket {
+    /// A stream from which nothing was read and to which nothing was written.
     pub fn new(stream: TcpStream) -> Socket {
         Socket {
             stream,

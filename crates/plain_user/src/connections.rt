@@ -1,0 +1,76 @@
+//! A server over pipes, and users that operate over them.
+
+use crate::caller::Caller;
+use crate::pipe::{ClientEnd, Pipe, ServerEnd};
+use crate::user::PlainUser;
+use block_store::Store;
+use lms_sign::PublicKey;
+use server_workers::{Gate, Served, serve};
+use std::alloc::Global;
+use std::process::Abort;
+use std::sync::Wait;
+use std::thread::Threads;
+use wire::Status;
+
+/// What a test with threads runs in.
+pub(crate) trait Host: AllocGlobal + Abort + Threads + Wait + Sync {}
+
+impl<R: AllocGlobal + Abort + Threads + Wait + Sync> Host for R {}
+
+/// So many pipes.
+pub(crate) fn pipes<R: Host>(rt: &R, count: usize) -> Vec<Pipe> {
+    let mut all = Vec::new(rt.alloc());
+    for _number in 0..count {
+        all.push(Pipe::new(rt.alloc())).expect(rt, "memory");
+    }
+    all
+}
+
+/// Serves all these pipes to their ends: the log stands in memory.
+pub(crate) fn serve_pipes<R: Host, G: Gate + Sync>(
+    rt: &R,
+    gate: &G,
+    pipes: &[Pipe],
+    pinned: PublicKey,
+) -> Served<Vec<u8>> {
+    let alloc = rt.alloc();
+    let mut ends = Vec::new(alloc);
+    for pipe in pipes {
+        ends.push(ServerEnd::new(rt, pipe)).expect(rt, "memory");
+    }
+    let store = Store::new(alloc);
+    let log = Vec::new(alloc);
+    let served = serve(rt, alloc, gate, ends.into_iter(), 8, &store, pinned, log);
+    served.expect(rt, "memory")
+}
+
+/// A caller over a pipe.
+pub(crate) fn caller<'a, R: Host>(rt: &'a R, pipe: &'a Pipe) -> Caller<ClientEnd<'a, R>> {
+    Caller::new(rt.alloc(), ClientEnd::new(rt, pipe))
+}
+
+/// A user makes so many operations of the same changes over a pipe, which ends then.
+pub(crate) fn operate<R: Host>(rt: &R, pipe: &Pipe, user: PlainUser, changes: &[u8], count: u32) {
+    let mut user = user;
+    let mut caller = caller(rt, pipe);
+    for number in 1..=count {
+        let statuses = user
+            .operate(&mut caller, changes)
+            .expect(rt, "an operation");
+        assert!(rt;
+            statuses == (Status::Ok, Status::Ok),
+            "operation {number}: {statuses:?}"
+        );
+    }
+    pipe.close(rt);
+}
+
+/// The users from 1 to this one.
+pub(crate) fn users<R: Host>(rt: &R, count: u8) -> Vec<PlainUser> {
+    let mut all = Vec::new(rt.alloc());
+    for number in 1..=count {
+        let user = PlainUser::new(rt.alloc(), number).expect(rt, "memory");
+        all.push(user).expect(rt, "memory");
+    }
+    all
+}

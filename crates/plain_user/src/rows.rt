@@ -1,0 +1,141 @@
+//! One user's operation over a connection, call by call, and two connections at once.
+
+use crate::caller::{Caller, Replied};
+use crate::connections::{Host, caller, pipes, serve_pipes};
+use crate::pipe::{ClientEnd, Pipe};
+use crate::user::PlainUser;
+use lms_sign::PublicKey;
+use server_workers::{Gate, OpenGate};
+use std::alloc::Global;
+use std::rt::Clock;
+use std::sync::atomic::{AtomicBool, Ordering};
+use std::thread;
+use std::time::Duration;
+use wire::{RequestKind, Status};
+
+/// What the caller is replied.
+fn ask<R: Host>(
+    rt: &R,
+    caller: &mut Caller<ClientEnd<'_, R>>,
+    kind: RequestKind,
+    text: &[u8],
+) -> Replied {
+    assert!(rt; text.len() < 2_097_152, "a text of a frame");
+    caller.ask(kind, text).expect(rt, "a reply")
+}
+
+/// The same reply to one UPDATE three times while it is pending, and Ok to one COMMIT twice.
+fn operate_again<R: Host>(rt: &R, pipe: &Pipe, user: PlainUser) {
+    let mut user = user;
+    let mut caller = caller(rt, pipe);
+    let certificate = user.certificate(b"\0").expect(rt, "a certificate");
+    let first = ask(rt, &mut caller, RequestKind::Update, &certificate);
+    assert!(rt;
+        first.status == Status::Ok && first.payload.len() == 2608,
+        "placed"
+    );
+    for _again in 0..2u8 {
+        let again = ask(rt, &mut caller, RequestKind::Update, &certificate);
+        assert!(rt;
+            again.status == Status::Ok && again.payload == first.payload,
+            "again"
+        );
+    }
+    let structure = user.structure(&first.payload).expect(rt, "a structure");
+    for _time in 0..2u8 {
+        let committed = ask(rt, &mut caller, RequestKind::Commit, &structure);
+        assert!(rt;
+            committed.status == Status::Ok && committed.payload.is_empty(),
+            "committed"
+        );
+    }
+    pipe.close(rt);
+}
+
+/// The log has the event of each but once: 01, 2,550 and so many bytes, 02, 2,595 and so many.
+#[test]
+fn calls_that_come_again(rt: HostRuntime) {
+    let user = PlainUser::new(rt.alloc(), 0).expect(&rt, "memory");
+    let pinned = user.public();
+    let pipes = pipes(&rt, 1);
+    let (served, ()) = thread::join(
+        &rt,
+        || serve_pipes(&rt, &OpenGate, &pipes, pinned),
+        || operate_again(&rt, &pipes[0], user),
+    );
+    assert_eq!(rt; served.answered, 5);
+    assert!(rt; served.flushed, "flushed");
+    let log = served.writer.as_slice();
+    assert_eq!(rt; log.len(), 5155);
+    assert!(rt; log.starts_with(b"\x01\0\0\x09\xf6SUC1"), "the certificate");
+    assert!(rt;
+        log[2555..].starts_with(b"\x02\0\0\x0a\x23SVS1"),
+        "the structure"
+    );
+}
+
+/// How many turns of one millisecond the first call is held up at most.
+const TURNS: u32 = 10_000;
+
+/// A gate that holds the first call up until some call was answered.
+#[derive(Drop)]
+struct Holding<'a, R: Host + Clock> {
+    rt: &'a R,
+    answered: &'a AtomicBool,
+    in_time: &'a AtomicBool,
+}
+
+impl<'a, R: Host + Clock> Gate for Holding<'a, R> {
+    fn pass(&self, call: u64) {
+        if call != 1 {
+            return;
+        }
+        for _turn in 0..TURNS {
+            if self.answered.load(Ordering::SeqCst) {
+                self.in_time.store(true, Ordering::SeqCst);
+                return;
+            }
+            thread::sleep(self.rt, Duration::from_millis(1));
+        }
+    }
+}
+
+/// One call over a pipe, whose answer is told.
+fn call_once<R: Host>(rt: &R, pipe: &Pipe, answered: &AtomicBool) {
+    let mut caller = caller(rt, pipe);
+    let replied = ask(rt, &mut caller, RequestKind::Update, b"no certificate");
+    assert!(rt; replied.status == Status::Form, "{:?}", replied.status);
+    answered.store(true, Ordering::SeqCst);
+    pipe.close(rt);
+}
+
+/// The first call is held up in the gate until the second one is answered.
+#[test]
+fn two_connections_overlap(rt: HostRuntime) {
+    let mut key = [0; 56];
+    (key[3], key[7]) = (6, 3);
+    let pinned = PublicKey::from_bytes(key).expect(&rt, "a key");
+    let pipes = pipes(&rt, 2);
+    let [first, second] = pipes.as_slice() else {
+        panic!(rt; "two pipes");
+    };
+    let (answered, in_time) = (AtomicBool::new(false), AtomicBool::new(false));
+    let gate = Holding {
+        rt: &rt,
+        answered: &answered,
+        in_time: &in_time,
+    };
+    let (served, ((), ())) = thread::join(
+        &rt,
+        || serve_pipes(&rt, &gate, &pipes, pinned),
+        || {
+            thread::join(
+                &rt,
+                || call_once(&rt, first, &answered),
+                || call_once(&rt, second, &answered),
+            )
+        },
+    );
+    assert_eq!(rt; served.answered, 2);
+    assert!(rt; in_time.load(Ordering::SeqCst), "within the turns");
+}

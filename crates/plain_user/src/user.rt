@@ -1,0 +1,138 @@
+//! A user that signs what it is shown.
+
+use crate::caller::{CallError, Caller};
+use layout::{Memory, Text, digest};
+use lms_sign::{Leaf, PrivateKey, PublicKey, sign};
+use pending_list::Reply;
+use std::alloc::Global;
+use std::io::{Read, Write};
+use wire::{RequestKind, Status};
+
+/// How many leaves a key has.
+const LEAVES: u32 = 1024;
+
+/// How often a call that is answered Busy is sent again.
+const TRIES: u32 = 1_000_000;
+
+/// A user whose key's seed and identifier have its number everywhere, before its first operation or between two.
+#[derive(Drop)]
+pub struct PlainUser {
+    alloc: Global,
+    user: u8,
+    key: PrivateKey<Global>,
+    leaf: u32,
+    number: u32,
+    /// The digest of its last structure.
+    last: [u8; 32],
+}
+
+/// The size of a text, as it stands before it in another one.
+fn size_of(text: &[u8]) -> [u8; 2] {
+    let [.., high, low] = text.len().to_be_bytes();
+    [high, low]
+}
+
+impl PlainUser {
+    /// Before its first operation.
+    pub fn new(alloc: Global, user: u8) -> Result<PlainUser, Memory> {
+        Ok(PlainUser {
+            alloc,
+            user,
+            key: PrivateKey::from_seed(alloc, [user; 32], [user; 16])?,
+            leaf: 0,
+            number: 0,
+            last: [0; 32],
+        })
+    }
+
+    /// Its public key.
+    pub fn public(&self) -> PublicKey {
+        self.key.public()
+    }
+
+    /// These texts one after another, and their signature by the next leaf.
+    fn signed(&mut self, texts: &[&[u8]]) -> Result<Vec<u8>, CallError> {
+        if self.leaf >= LEAVES {
+            return Err(CallError::NoLeaf);
+        }
+        let mut text = Vec::new(self.alloc);
+        for piece in texts {
+            text.extend_from_slice(piece)?;
+        }
+        let (signature, spent) = sign(&self.key, Leaf::issue(&self.key.public(), self.leaf), &text);
+        spent.end();
+        self.leaf += 1;
+        text.extend_from_slice(&signature)?;
+        Ok(text)
+    }
+
+    /// The certificate of the next operation, with changes that are spelled already, after their count.
+    pub fn certificate(&mut self, changes: &[u8]) -> Result<Vec<u8>, CallError> {
+        let number = self.number.wrapping_add(1).to_be_bytes();
+        let (user, last) = ([self.user], self.last);
+        self.signed(&[b"SUC1", &user, &number, &last, changes])
+    }
+
+    /// The structure over the last plan of a reply, with a handle of zeros and no records.
+    pub fn structure(&mut self, reply: &[u8]) -> Result<Vec<u8>, CallError> {
+        let Ok(reply) = Reply::read(self.alloc, reply) else {
+            return Err(CallError::Form);
+        };
+        let Some(own) = reply.pending().last() else {
+            return Err(CallError::Form);
+        };
+        let plan = own.plan().text(self.alloc)?;
+        let signed = self.signed(&[b"SVS1", &size_of(&plan), &plan, &[0; 32], &[0]])?;
+        let text = &signed[..signed.len().saturating_sub(2508)];
+        self.last = *digest(text).as_bytes();
+        self.number = self.number.wrapping_add(1);
+        Ok(signed)
+    }
+
+    /// Makes an operation: the statuses of its two calls, Ok twice where it was committed.
+    pub fn operate<S: Read + Write + Drop>(
+        &mut self,
+        caller: &mut Caller<S>,
+        changes: &[u8],
+    ) -> Result<(Status, Status), CallError> {
+        let certificate = self.certificate(changes)?;
+        let (placed, reply) = insist(caller, RequestKind::Update, &certificate)?;
+        if placed != Status::Ok {
+            return Ok((placed, placed));
+        }
+        let structure = self.structure(&reply)?;
+        let (committed, _) = insist(caller, RequestKind::Commit, &structure)?;
+        Ok((placed, committed))
+    }
+}
+
+/// The changes that list these users, after their count, which is at most 255.
+pub fn listing(alloc: Global, users: &[PlainUser]) -> Result<Vec<u8>, CallError> {
+    let Ok(count) = u8::try_from(users.len()) else {
+        return Err(CallError::Form);
+    };
+    let mut changes = Vec::from_slice(alloc, &[count])?;
+    for user in users {
+        changes.extend_from_slice(&[6, user.user])?;
+        changes.extend_from_slice(user.public().as_bytes())?;
+    }
+    Ok(changes)
+}
+
+/// Asks, and again where the answer is Busy.
+fn insist<S: Read + Write + Drop>(
+    caller: &mut Caller<S>,
+    kind: RequestKind,
+    text: &[u8],
+) -> Result<(Status, Vec<u8>), CallError> {
+    if text.len() >= 2_097_152 {
+        return Err(CallError::Form);
+    }
+    for _try in 0..TRIES {
+        let replied = caller.ask(kind, text)?;
+        if replied.status != Status::Busy {
+            return Ok((replied.status, replied.payload));
+        }
+    }
+    Err(CallError::Lost)
+}

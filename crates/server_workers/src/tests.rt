@@ -1,0 +1,137 @@
+//! Requests over memory, each stream cut in pieces of several sizes.
+
+ghost use Rattle.std.specs.Prelude.{◌<◌};
+
+use crate::{MemoryConnection, OpenGate, Served, serve};
+use block_store::Store;
+use lms_sign::PublicKey;
+use std::alloc::Global;
+use std::process::Abort;
+use std::sync::Wait;
+use std::test::Fail;
+use std::thread::Threads;
+
+/// A public key of these types, whose root signs nothing here.
+fn key() -> [u8; 56] {
+    let mut bytes = [0; 56];
+    bytes[3] = 6;
+    bytes[7] = 3;
+    bytes
+}
+
+/// Serves one connection that gives these bytes, in pieces of such a size, over a store.
+fn served<R: AllocGlobal + Abort + Threads + Wait + Sync>(
+    rt: &R,
+    store: &Store<Global>,
+    input: &[u8],
+    piece: usize,
+    output: &mut Vec<u8>,
+) -> Served<Vec<u8>>
+    requires { 0 < piece }
+{
+    let alloc = rt.alloc();
+    let pinned = PublicKey::from_bytes(key()).expect(rt, "a key");
+    let mut connections = Vec::new(alloc);
+    let connection = MemoryConnection::new(input, piece, output);
+    connections.push(connection).expect(rt, "memory");
+    let served = serve(
+        rt,
+        alloc,
+        &OpenGate,
+        connections.into_iter(),
+        1,
+        store,
+        pinned,
+        Vec::new(alloc),
+    );
+    served.expect(rt, "memory")
+}
+
+/// The SHA-256 of no bytes (FIPS 180-4's own vector).
+const EMPTY: [u8; 32] = [
+    0xe3, 0xb0, 0xc4, 0x42, 0x98, 0xfc, 0x1c, 0x14, 0x9a, 0xfb, 0xf4, 0xc8, 0x99, 0x6f, 0xb9, 0x24,
+    0x27, 0xae, 0x41, 0xe4, 0x64, 0x9b, 0x93, 0x4c, 0xa4, 0x95, 0x99, 0x1b, 0x78, 0x52, 0xb8, 0x55,
+];
+
+/// No such kind; a digest of 31 bytes; the empty block put, and got; a digest that no block has.
+fn requests(alloc: Global) -> Result<Vec<u8>, Fail> {
+    let mut input = Vec::new(alloc);
+    input.extend_from_slice(&[0, 0, 0, 1, 5])?;
+    input.extend_from_slice(&[0, 0, 0, 0x20, 4])?;
+    input.extend_from_slice(&[0; 31])?;
+    input.extend_from_slice(&[0, 0, 0, 1, 3])?;
+    input.extend_from_slice(&[0, 0, 0, 0x21, 4])?;
+    input.extend_from_slice(&EMPTY)?;
+    input.extend_from_slice(&[0, 0, 0, 0x21, 4])?;
+    input.extend_from_slice(&[0; 32])?;
+    Ok(input)
+}
+
+/// What they are replied.
+fn replies(alloc: Global) -> Result<Vec<u8>, Fail> {
+    let mut wanted = Vec::new(alloc);
+    wanted.extend_from_slice(&[0, 0, 0, 1, 1])?;
+    wanted.extend_from_slice(&[0, 0, 0, 1, 1])?;
+    wanted.extend_from_slice(&[0, 0, 0, 0x21, 0])?;
+    wanted.extend_from_slice(&EMPTY)?;
+    wanted.extend_from_slice(&[0, 0, 0, 1, 0])?;
+    wanted.extend_from_slice(&[0, 0, 0, 1, 8])?;
+    Ok(wanted)
+}
+
+#[test]
+fn requests_over_memory(rt: HostRuntime) -> Result<(), Fail> {
+    let alloc = rt.alloc();
+    let (input, wanted) = (requests(alloc)?, replies(alloc)?);
+    for piece in [1usize, 5, 36, 1000] {
+        let store = Store::new(alloc);
+        let mut output = Vec::new(alloc);
+        let served = served(&rt, &store, &input, piece, &mut output);
+        assert_eq!(rt; served.answered, 0);
+        assert_eq!(rt; served.unserved, 0);
+        assert!(rt; served.flushed && served.writer.is_empty(), "no events");
+        assert!(rt; output == wanted, "pieces of {piece}");
+    }
+    Ok(())
+}
+
+#[test]
+fn a_length_at_fault_ends_it(rt: HostRuntime) -> Result<(), Fail> {
+    let alloc = rt.alloc();
+    // A request that no text follows, a length at fault (0; 2,097,153), and a request that isn't read any more.
+    for length in [[0, 0, 0, 0], [0, 0x20, 0, 1]] {
+        let mut input = Vec::from_slice(alloc, &[0, 0, 0, 1, 1])?;
+        input.extend_from_slice(&length)?;
+        input.extend_from_slice(&[0, 0, 0, 1, 3])?;
+        let store = Store::new(alloc);
+        let mut output = Vec::new(alloc);
+        let served = served(&rt, &store, &input, 1000, &mut output);
+        assert_eq!(rt; served.answered, 1);
+        assert_eq!(rt; served.ordered.history().len(), 1);
+        assert!(rt;
+            output.as_slice() == [0, 0, 0, 1, 1].as_slice(),
+            "one reply"
+        );
+    }
+    Ok(())
+}
+
+#[test]
+fn a_cut_request_gets_no_reply(rt: HostRuntime) -> Result<(), Fail> {
+    let alloc = rt.alloc();
+    // A digest that no block has.
+    let mut input = Vec::from_slice(alloc, &[0, 0, 0, 0x21, 4])?;
+    input.extend_from_slice(&[0; 32])?;
+    for cut in 0..=input.len() {
+        let store = Store::new(alloc);
+        let mut output = Vec::new(alloc);
+        served(&rt, &store, &input[..cut], 3, &mut output);
+        let wanted: &[u8] = if cut < input.len() {
+            &[]
+        } else {
+            &[0, 0, 0, 1, 8]
+        };
+        assert!(rt; output.as_slice() == wanted, "cut at {cut}");
+    }
+    Ok(())
+}
