@@ -1,0 +1,7 @@
+pub mod Members
+pub mod Plans
+pub mod Tests
+pub mod Formed
+pub mod ByPlans
+pub mod Runs
+pub mod Lines

@@ -1,0 +1,14 @@
+use Rattle.agreement.proofs.Lines.{agreed, ended, growing, numbered}
+use Rattle.agreement.proofs.laws.views_agree.Goals as goal
+
+pub returns-clause-numbered : goal.returns-clause-numbered
+returns-clause-numbered c = numbered
+
+pub returns-clause-ended : goal.returns-clause-ended
+returns-clause-ended c = ended
+
+pub returns-clause-growing : goal.returns-clause-growing
+returns-clause-growing c = growing
+
+pub returns-clause-agreed : goal.returns-clause-agreed
+returns-clause-agreed c = agreed

@@ -1,0 +1,7 @@
+//! Accepted views agree, whatever the server did: each has a line of operations, and where two views have a structure in
+//! common, their lines are the same up to it. A law for callers: nothing here runs.
+#![tactic(auto)]
+
+mod laws;
+
+pub use laws::views_agree;
