@@ -1,6 +1,6 @@
 -- The first rule that lists break by a table of principals: the rules on signatures come after the one on users and before
 -- the others.
-use Rattle.std.proofs.Common.{◌≡◌, Bool, true, false, List, [], ◌∷◌, Option, Some, None, refl, ap, ◌∙◌}
+use Rattle.std.proofs.Common.{◌≡◌, Bool, true, false, List, ◌∷◌, Option, Some, None, refl, ap, ◌∙◌}
 use Rattle.std.specs.Prelude.{IsSomeAnd}
 use Rattle.std.specs.List.{list_all}
 use Rattle.std.specs.Option.{option_eq}
