@@ -4,3 +4,4 @@ pub mod Steps
 pub mod LaidLaws
 pub mod GenesisLaws
 pub mod GrowingLaws
+pub mod Handing
