@@ -6,3 +6,4 @@ pub mod GenesisLaws
 pub mod GrowingLaws
 pub mod Reaching
 pub mod ByTableLaws
+pub mod Handing

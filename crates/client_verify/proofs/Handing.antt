@@ -1,0 +1,134 @@
+-- What a reply comes to, and a block that was handed in for it: it breaks a rule, or it goes on.
+use Rattle.std.proofs.Common.{◌≡◌, ℕ, List, Option, Some, None, sym, ap, refl, subst, ◌∙◌}
+use Rattle.std.specs.Prelude.{IsSomeAnd}
+use Rattle.std.specs.Option.{option_and_then}
+use Rattle.reply_rules.specs.Lists.{Lists, lists_of}
+use Rattle.reply_rules.specs.declared.rule.Rule.{Rule}
+use Rattle.pending_list.specs.Reply.{Reply}
+use Rattle.principals.specs.Table.{Table}
+use Rattle.client_tree.specs.Held.{Block, held, keeping}
+use Rattle.client_verify.specs.declared.asked.Asked.{Asked}
+use Rattle.client_verify.specs.declared.step.Step.{Step}
+use Rattle.client_verify.specs.declared.step.Step.TheVariants as step
+use Rattle.client_verify.specs.declared.growing.Reached.{Reached}
+use Rattle.client_verify.specs.declared.growing.Reached.TheVariants as reached
+use Rattle.client_verify.specs.declared.growing.Written.{Written}
+use Rattle.client_verify.specs.Good.{Good}
+use Rattle.client_verify.specs.FirstBroken.{ByTable, IsFirstBroken, IsRead, lists_break, lists_in, reply_breaks, reply_in, view_over}
+use Rattle.client_verify.specs.Grown.{IsReached, IsWritten}
+use Rattle.client_verify.specs.State.{State, Checked, Reading, Writing, asked_of, block_breaks, blocks_with, holding, known}
+use Rattle.client_verify.specs.Judged.{Goes, GoesOn, Handed, Judged, ReadsOn, Taken, unjudged, view_of}
+use Rattle.client_verify.proofs.Steps.{some_one, taken_goes, taken_need}
+
+-- ---- what holds of an option's value
+
+pub at_one : {A : Type 0} (o : Option A) (a : A) (P : A → Type 0) → o ≡ Some a → IsSomeAnd o P → P a
+at_one {A} o a P is holds = subst (λ (x : Option A). IsSomeAnd x P) is holds
+
+each_one : {A : Type 0} (o : Option A) (P Q : A → Type 0) → ((a : A) → P a → Q a) → IsSomeAnd o P → IsSomeAnd o Q
+each_one None P Q each holds = holds
+each_one (Some a) P Q each holds = each a holds
+
+never : {A : Type 0} (o : Option A) (P : A → Type 0) → ((a : A) → P a → ⊥) → IsSomeAnd o P → ⊥
+never None P none holds = holds
+never (Some a) P none holds = none a holds
+
+-- ---- a reply is taken
+
+abbrev pub TakenOf : {A : Type 0} → State → Reply → Step A → State → Type 0
+TakenOf s r st new = IsSomeAnd (lists_of r) (λ x. Taken s r x st new)
+
+-- the lists of a reply, which break no rule by this table, and what their own operation makes
+abbrev pub GoesIn : {A : Type 0} → List Block → List ℕ → Table → List ℕ → Written A → Lists → Type 0
+GoesIn blocks key t void w x = IsRead (held blocks) key x t void × (lists_break t x ≡ None) × IsWritten (held blocks) (view_over key t x) void w
+
+-- how far the reply comes by the blocks and the key of the same state
+pub reached_there : {A : Type 0} (inner old : State) (r : Reply) (f g : Reached A) → inner ≡ old → f ≡ g → IsSomeAnd (lists_of r) (λ x. IsReached (held inner.blocks) inner.pinned x f) → IsSomeAnd (lists_of r) (λ x. IsReached (held old.blocks) old.pinned x g)
+reached_there {A} inner old r f g same is reaches =
+    let of_old : IsSomeAnd (lists_of r) (λ x. IsReached {A = A} (held old.blocks) old.pinned x f) = subst (λ (s : State). IsSomeAnd (lists_of r) (λ x. IsReached {A = A} (held s.blocks) s.pinned x f)) same reaches in
+    subst (λ (h : Reached A). IsSomeAnd (lists_of r) (λ x. IsReached {A = A} (held old.blocks) old.pinned x h)) is of_old
+
+-- the same with one block more, for the same reply
+pub reached_more : {A : Type 0} (inner old : State) (text : List ℕ) (r other : Reply) (f g : Reached A) → inner ≡ old → r ≡ other → f ≡ g → IsSomeAnd (lists_of r) (λ x. IsReached (held (keeping inner.blocks text)) inner.pinned x f)
+    → IsSomeAnd (lists_of other) (λ x. IsReached (held (keeping old.blocks text)) old.pinned x g)
+reached_more {A} inner old text r other f g same replies is reaches =
+    let of_other : IsSomeAnd (lists_of other) (λ x. IsReached {A = A} (held (keeping inner.blocks text)) inner.pinned x f) = subst (λ (q : Reply). IsSomeAnd (lists_of q) (λ x. IsReached {A = A} (held (keeping inner.blocks text)) inner.pinned x f)) replies reaches in
+    reached_there (holding inner text) (holding old text) other f g (ap (λ (s : State). holding s text) same) is of_other
+
+-- a block of the table of principals is asked for
+pub taken_lacks : (A : Type 0) (s new : State) (r : Reply) (a : Asked) (st : Step A) → st ≡ step.Need a.digest → new ≡ record s { checked = Some (Reading r a); accepted = None }
+    → IsSomeAnd (lists_of r) (λ x. IsReached {A = A} (held s.blocks) s.pinned x (reached.Lacks a)) → TakenOf s r st new
+taken_lacks A s new r a st is made reaches =
+    subst (λ (y : Step A). TakenOf s r y new) (sym is)
+    (each_one (lists_of r) (λ x. IsReached {A = A} (held s.blocks) s.pinned x (reached.Lacks a)) (λ x. Taken {A = A} s r x (step.Need a.digest) new) (λ x lacks. taken_need A s new r x a made lacks) reaches)
+
+-- the lists break no rule by this table
+pub good_written : {A : Type 0} (blocks : List Block) (key : List ℕ) (r : Reply) (g : Good) (t : Table) (void : List ℕ) (w : Written A) → lists_of r ≡ Some g.lists → t ≡ g.table → void ≡ g.void → IsSomeAnd (lists_of r) (GoesIn blocks key t void w)
+    → IsWritten (held blocks) (view_of key g) g.void w
+good_written {A} blocks key r g t void w lists table voids reaches =
+    let here = (at_one (lists_of r) g.lists (GoesIn {A = A} blocks key t void w) lists reaches).2 in
+    let of_table : IsWritten {A = A} (held blocks) (view_over key g.table g.lists) void w = subst (λ (u : Table). IsWritten {A = A} (held blocks) (view_over key u g.lists) void w) table here in
+    subst (λ (v : List ℕ). IsWritten {A = A} (held blocks) (view_over key g.table g.lists) v w) voids of_table
+
+pub taken_good : {A : Type 0} (s new : State) (r : Reply) (g : Good) (t : Table) (void : List ℕ) (w : Written A) (st : Step A) → lists_of r ≡ Some g.lists → t ≡ g.table → void ≡ g.void → IsSomeAnd (lists_of r) (GoesIn s.blocks s.pinned t void w)
+    → Goes s g st new → TakenOf s r st new
+taken_good {A} s new r g t void w st lists table voids reaches goes =
+    let here = at_one (lists_of r) g.lists (GoesIn {A = A} s.blocks s.pinned t void w) lists reaches in
+    let read : IsRead (held s.blocks) s.pinned g.lists g.table g.void = subst (λ (v : List ℕ). IsRead (held s.blocks) s.pinned g.lists g.table v) voids (subst (λ (u : Table). IsRead (held s.blocks) s.pinned g.lists u void) table here.0) in
+    let none : lists_break g.table g.lists ≡ None = subst (λ (u : Table). lists_break u g.lists ≡ None) table here.1 in
+    some_one (lists_of r) g.lists (λ x. Taken s r x st new) lists (taken_goes s new r g.lists g st (refl, read, none) goes)
+
+-- ---- a reply is judged
+
+pub judged_of : {A : Type 0} (old new : State) (text : List ℕ) (r : Reply) (st : Step A) → reply_breaks (known old) text ≡ None → reply_in text ≡ Some r → TakenOf old r st new → Judged old text st new
+judged_of old new text r (step.Need d) none read taken = (none, some_one (reply_in text) r _ read taken)
+judged_of old new text r (step.Store texts) none read taken = (none, some_one (reply_in text) r _ read taken)
+judged_of {A} old new text r (step.Broken rule) none read taken = absurd (never (lists_of r) (λ x. Taken {A = A} old r x (step.Broken rule) new) (λ x t. t) taken)
+
+-- the lists break a rule by the table that was read
+pub judged_breaks : (old : State) (text : List ℕ) (r : Reply) (rule : Rule) → reply_breaks (known old) text ≡ None → reply_in text ≡ Some r → IsSomeAnd (lists_of r) (λ x. ByTable (held old.blocks) old.pinned x (Some rule))
+    → IsFirstBroken (reply_breaks (known old) text) None (held old.blocks) old.pinned (lists_in text) rule
+judged_breaks old text r rule none read breaks =
+    let lists : lists_in text ≡ lists_of r = ap (option_and_then lists_of) read in
+    let of_lists : IsSomeAnd (lists_in text) (λ x. ByTable (held old.blocks) old.pinned x (Some rule)) = subst (λ (o : Option Lists). IsSomeAnd o (λ x. ByTable (held old.blocks) old.pinned x (Some rule))) (sym lists) breaks in
+    subst (λ (o : Option Rule). IsFirstBroken o None (held old.blocks) old.pinned (lists_in text) rule) (sym none) of_lists
+
+-- ---- a block of the table was handed in
+
+same_reply : (r other : Reply) (a b : Asked) → Reading r a ≡ Reading other b → r ≡ other
+same_reply r other a b is = cc
+
+-- two replies that are read are one where they are under check alike
+pub reading_same : (r other : Reply) (a b : Asked) (k : Checked) → Reading r a ≡ k → Reading other b ≡ k → r ≡ other
+reading_same r other a b k is also = same_reply r other a b (is ∙ sym also)
+
+-- the state that asks for a block, with a block more, where the reply under check was taken out
+pub asked_is : (v old : State) (blocks : List Block) (text : List ℕ) (j k : Checked) → v ≡ old → blocks ≡ keeping old.blocks text → j ≡ k → record v { blocks = blocks; checked = Some j; accepted = None } ≡ record (holding old text) { checked = Some k; accepted = None }
+asked_is v old blocks text j k is kept same =
+    let of_blocks : record v { blocks = blocks; checked = Some j; accepted = None } ≡ record v { blocks = keeping old.blocks text; checked = Some j; accepted = None } = ap (λ (b : List Block). record v { blocks = b; checked = Some j; accepted = None }) kept in
+    let of_checked : record v { blocks = keeping old.blocks text; checked = Some j; accepted = None } ≡ record v { blocks = keeping old.blocks text; checked = Some k; accepted = None } = ap (λ (c : Checked). record v { blocks = keeping old.blocks text; checked = Some c; accepted = None }) same in
+    of_blocks ∙ of_checked ∙ ap (λ (s : State). record s { blocks = keeping old.blocks text; checked = Some k; accepted = None }) is
+
+pub reads_broken : (old : State) (k : Checked) (text : List ℕ) (r : Reply) (a : Asked) (rule : Rule) → Reading r a ≡ k → IsSomeAnd (lists_of r) (λ x. ByTable (held (keeping old.blocks text)) old.pinned x (Some rule))
+    → IsSomeAnd (unjudged k) (λ x. ByTable (held (keeping old.blocks text)) old.pinned x (Some rule))
+reads_broken old k text r a rule is breaks = subst (λ (c : Checked). IsSomeAnd (unjudged c) (λ x. ByTable (held (keeping old.blocks text)) old.pinned x (Some rule))) is breaks
+
+reading_on : {A : Type 0} (old new : State) (text : List ℕ) (r : Reply) (a : Asked) (st : Step A) → TakenOf (holding old text) r st new → ReadsOn old (Reading r a) text st new
+reading_on old new text r a (step.Need d) taken = taken
+reading_on old new text r a (step.Store texts) taken = taken
+reading_on {A} old new text r a (step.Broken rule) taken = absurd (never (lists_of r) (λ x. Taken {A = A} (holding old text) r x (step.Broken rule) new) (λ x t. t) taken)
+
+pub reads_taken : {A : Type 0} (old new : State) (k : Checked) (text : List ℕ) (r : Reply) (a : Asked) (st : Step A) → Reading r a ≡ k → TakenOf (holding old text) r st new → ReadsOn old k text st new
+reads_taken {A} old new k text r a st is taken = subst (λ (c : Checked). ReadsOn {A = A} old c text st new) is (reading_on old new text r a st taken)
+
+-- ---- a block is handed in
+
+pub handed_breaks : (old : State) (k : Checked) (block : Option (List ℕ)) (rule : Rule) → block_breaks (held old.blocks) (asked_of k) block ≡ Some rule → IsFirstBroken None (block_breaks (held old.blocks) (asked_of k) block) (held (blocks_with old block)) old.pinned (unjudged k) rule
+handed_breaks old k block rule breaks = subst (λ (o : Option Rule). IsFirstBroken None o (held (blocks_with old block)) old.pinned (unjudged k) rule) (sym breaks) refl
+
+pub handed_reads : {A : Type 0} (old new : State) (k : Checked) (block : Option (List ℕ)) (text : List ℕ) (st : Step A) → block_breaks (held old.blocks) (asked_of k) block ≡ None → block ≡ Some text → ReadsOn old k text st new → Handed old k block st new
+handed_reads old new k block text (step.Need d) none is reads = (none, some_one block text _ is reads)
+handed_reads old new k block text (step.Store texts) none is reads = (none, some_one block text _ is reads)
+handed_reads old new k block text (step.Broken rule) none is reads =
+    let of_block : IsFirstBroken None None (held (blocks_with old block)) old.pinned (unjudged k) rule = subst (λ (b : Option (List ℕ)). IsFirstBroken None None (held (blocks_with old b)) old.pinned (unjudged k) rule) (sym is) reads.0 in
+    (subst (λ (o : Option Rule). IsFirstBroken None o (held (blocks_with old block)) old.pinned (unjudged k) rule) (sym none) of_block, reads.1)
