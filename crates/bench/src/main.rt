@@ -1,5 +1,6 @@
 //! How long things take, for people: `bench lms` keys, signatures and verifications, `bench itable` an i-table of 4,095
-//! digests, `bench directory` a directory of 1,024 entries, `bench look` looks at files. With no word it does nothing.
+//! digests, `bench directory` a directory of 1,024 entries, `bench table` the largest table of principals, `bench look` looks
+//! at files. With no word it does nothing.
 #![tactic(auto)]
 
 mod counts;
@@ -7,6 +8,7 @@ mod directories;
 mod i_tables;
 mod lms;
 mod looks;
+mod tables;
 mod time;
 
 use anyhow::Result;
@@ -18,6 +20,7 @@ fn report(rt: &HostRuntime, word: &str) -> Result<()> {
         "lms" => lms::report(rt),
         "itable" => i_tables::report(rt),
         "directory" => directories::report(rt),
+        "table" => tables::report(rt),
         "look" => looks::report(rt),
         _ => Ok(()),
     }
