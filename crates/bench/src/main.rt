@@ -1,6 +1,6 @@
 //! How long things take, for people: `bench lms` keys, signatures and verifications, `bench itable` an i-table of 4,095
-//! digests, `bench directory` a directory of 1,024 entries, `bench look` looks at files, `bench server` operations over TCP. With no word it does
-//! nothing.
+//! digests, `bench directory` a directory of 1,024 entries, `bench table` the largest table of principals, `bench look` looks
+//! at files, `bench server` operations over TCP. With no word it does nothing.
 #![tactic(auto)]
 
 mod counts;
@@ -9,6 +9,7 @@ mod i_tables;
 mod lms;
 mod looks;
 mod server;
+mod tables;
 mod time;
 
 use anyhow::Result;
@@ -20,6 +21,7 @@ fn report(rt: &HostRuntime, word: &str) -> Result<()> {
         "lms" => lms::report(rt),
         "itable" => i_tables::report(rt),
         "directory" => directories::report(rt),
+        "table" => tables::report(rt),
         "look" => looks::report(rt),
         _ => Ok(()),
     }
