@@ -52,6 +52,8 @@ mod rule_parts;
 #[cfg(test)]
 mod scripts;
 #[cfg(test)]
+mod served;
+#[cfg(test)]
 mod server;
 #[cfg(test)]
 mod several_users;

@@ -1,6 +1,7 @@
 //! How long things take, for people: `bench lms` keys, signatures and verifications, `bench itable` an i-table of 4,095
 //! digests, `bench directory` a directory of 1,024 entries, `bench table` the largest table of principals, `bench look` looks
-//! at files, `bench server` operations over TCP. With no word it does nothing.
+//! at files, `bench server` operations over TCP. `bench visit=ADDR` makes an operation at a server that runs. With no word
+//! it does nothing.
 #![tactic(auto)]
 
 mod counts;
@@ -29,10 +30,13 @@ fn report(rt: &HostRuntime, word: &str) -> Result<()> {
 
 fn main(rt: HostRuntime) -> Result<()> {
     for word in env::args(&rt)? {
-        if word.as_str() == "server" {
+        let word = word.as_str();
+        if word == "server" {
             server::report(&rt)?;
+        } else if let Some(address) = word.strip_prefix("visit=") {
+            server::visit_at(&rt, address)?;
         } else {
-            report(&rt, word.as_str())?;
+            report(&rt, word)?;
         }
     }
     Ok(())

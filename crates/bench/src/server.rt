@@ -88,6 +88,17 @@ fn visit<R: Host>(
     Ok((total, seconds))
 }
 
+/// User 0's first operation at a server that runs already, at this address, for which the key of the seed of zeros is user
+/// 0's.
+pub(crate) fn visit_at<R: Host>(rt: &R, address: &str) -> Result<()> {
+    let mut superuser = PlainUser::new(rt.alloc(), 0)?;
+    let stream = TcpStream::connect(rt, address)?;
+    let mut caller = Caller::new(rt.alloc(), stream);
+    let (placed, committed) = superuser.operate(&mut caller, b"\0")?;
+    println!(rt; "placed {placed:?}, committed {committed:?}")?;
+    Ok(())
+}
+
 /// Serves user 0 and so many others.
 fn measure<R: Host>(rt: &R, connections: u8) -> Result<(u32, f64)> {
     let alloc = rt.alloc();

@@ -109,33 +109,42 @@ fn call_once<R: Host>(rt: &R, pipe: &Pipe, answered: &AtomicBool) {
     pipe.close(rt);
 }
 
+/// A call over each of two pipes, side by side.
+fn call_both<R: Host>(rt: &R, pipes: &[Pipe], answered: &AtomicBool) {
+    let [first, second] = pipes else {
+        return;
+    };
+    thread::join(
+        rt,
+        || call_once(rt, first, answered),
+        || call_once(rt, second, answered),
+    );
+}
+
+/// Two connections whose first call is held up: how many calls were answered.
+fn serve_two<R: Host + Clock>(rt: &R, answered: &AtomicBool, in_time: &AtomicBool) -> u64 {
+    let mut key = [0; 56];
+    (key[3], key[7]) = (6, 3);
+    let pinned = PublicKey::from_bytes(key).expect(rt, "a key");
+    let pipes = pipes(rt, 2);
+    let pipes = pipes.as_slice();
+    let gate = Holding {
+        rt,
+        answered,
+        in_time,
+    };
+    let (served, ()) = thread::join(
+        rt,
+        || serve_pipes(rt, &gate, pipes, pinned),
+        || call_both(rt, pipes, answered),
+    );
+    served.answered
+}
+
 /// The first call is held up in the gate until the second one is answered.
 #[test]
 fn two_connections_overlap(rt: HostRuntime) {
-    let mut key = [0; 56];
-    (key[3], key[7]) = (6, 3);
-    let pinned = PublicKey::from_bytes(key).expect(&rt, "a key");
-    let pipes = pipes(&rt, 2);
-    let [first, second] = pipes.as_slice() else {
-        panic!(rt; "two pipes");
-    };
     let (answered, in_time) = (AtomicBool::new(false), AtomicBool::new(false));
-    let gate = Holding {
-        rt: &rt,
-        answered: &answered,
-        in_time: &in_time,
-    };
-    let (served, ((), ())) = thread::join(
-        &rt,
-        || serve_pipes(&rt, &gate, &pipes, pinned),
-        || {
-            thread::join(
-                &rt,
-                || call_once(&rt, first, &answered),
-                || call_once(&rt, second, &answered),
-            )
-        },
-    );
-    assert_eq!(rt; served.answered, 2);
+    assert_eq!(rt; serve_two(&rt, &answered, &in_time), 2);
     assert!(rt; in_time.load(Ordering::SeqCst), "within the turns");
 }

@@ -76,8 +76,9 @@ fn run<
     };
     let most = matches.get_one::<u32>("connections").unwrap_or(0);
     let pinned = read_key(rt, matches.get_str("super").unwrap_or(""))?;
-    let log = File::create(rt, matches.get_str("log").unwrap_or(""))?;
+    // The log is emptied only once the port is ours.
     let listener = TcpListener::bind(rt, matches.get_str("listen").unwrap_or(""))?;
+    let log = File::create(rt, matches.get_str("log").unwrap_or(""))?;
     println!(rt; "listening {}", listener.local_addr()?)?;
     let store = Store::new(alloc);
     let connections = Accepted::new(&listener, most);

@@ -1,0 +1,192 @@
+//! Three clients of one server over TCP, with their blocks: two write at once, and the third sees both writes.
+
+use crate::certificates::{i_number, principal};
+use crate::changes::{Planned, lay, nothing};
+use crate::replies::{client_of, declare_changes, end, sign, step_on};
+use crate::texts::{Host, check, check_text, key_of};
+use block_store::Store;
+use client_verify::{Client, Look, Step};
+use layout::{Digest, User};
+use lms_sign::PublicKey;
+use plain_user::{Caller, Replied};
+use server_workers::{Accepted, OpenGate, serve};
+use std::alloc::Global;
+use std::net::{SocketAddr, TcpListener, TcpStream};
+use std::sync::Wait;
+use std::thread;
+use std::thread::Threads;
+use update_cert::{Action, Change, TableChange};
+use wire::{RequestKind, Status};
+
+/// How many blocks are asked for at most at one go.
+const BOUND: u32 = 2000;
+
+/// The server replies Ok, with this payload.
+fn ask(rt: &impl Host, caller: &mut Caller<TcpStream>, kind: RequestKind, text: &[u8]) -> Vec<u8> {
+    assert!(rt; text.len() < 2_097_152, "a text of a frame");
+    let Replied { status, payload } = caller.ask(kind, text).expect(rt, "a reply");
+    assert!(rt; status == Status::Ok, "{status:?} to {kind:?}");
+    payload
+}
+
+/// Stores these texts, each of which the server names by its digest.
+fn put(rt: &impl Host, caller: &mut Caller<TcpStream>, texts: &[Vec<u8>]) {
+    for text in texts {
+        let named = ask(rt, caller, RequestKind::Put, text);
+        check_text(rt, &named, layout::digest(text).as_bytes());
+    }
+}
+
+/// The block of this digest.
+fn get(rt: &impl Host, caller: &mut Caller<TcpStream>, digest: Digest) -> Vec<u8> {
+    ask(rt, caller, RequestKind::Get, digest.as_bytes())
+}
+
+/// Has an operation of these changes placed and accepted: its signed structure.
+fn begin(
+    rt: &impl Host,
+    caller: &mut Caller<TcpStream>,
+    client: &mut Client<Global>,
+    planned: Planned,
+) -> Vec<u8> {
+    let Planned { changes, laid } = planned;
+    put(rt, caller, &laid);
+    let update = declare_changes(rt, client, changes, laid);
+    let reply = ask(rt, caller, RequestKind::Update, &update);
+    let mut step = step_on(rt, client, &reply);
+    for _block in 0..BOUND {
+        match step {
+            Step::Need(digest) => {
+                let block = get(rt, caller, digest);
+                assert!(rt; client.wants());
+                step = client.on_block(Some(&block)).expect(rt, "memory");
+            }
+            Step::Store(texts) => {
+                put(rt, caller, &texts);
+                return sign(rt, client);
+            }
+            Step::Broken(rule) => panic!(rt; "{rule:?}"),
+        }
+    }
+    panic!(rt; "too many blocks")
+}
+
+/// Commits the structure.
+fn commit(
+    rt: &impl Host,
+    caller: &mut Caller<TcpStream>,
+    client: &mut Client<Global>,
+    structure: &[u8],
+) {
+    let payload = ask(rt, caller, RequestKind::Commit, structure);
+    check(rt, payload.is_empty(), "no payload");
+    end(rt, client, Status::Ok);
+}
+
+/// An operation from its beginning to its commit.
+fn operate(
+    rt: &impl Host,
+    caller: &mut Caller<TcpStream>,
+    client: &mut Client<Global>,
+    planned: Planned,
+) {
+    let structure = begin(rt, caller, client, planned);
+    commit(rt, caller, client, &structure);
+}
+
+/// The client sees a file of these bytes at the i-number 3 of a user.
+fn sees(
+    rt: &impl Host,
+    caller: &mut Caller<TcpStream>,
+    client: &mut Client<Global>,
+    user: u8,
+    bytes: &[u8],
+) {
+    assert!(rt; client.has_view());
+    let looked = client.look(principal(rt, user), i_number(rt, 3));
+    let mut look = looked.expect(rt, "memory");
+    for _block in 0..BOUND {
+        match look {
+            Look::Need(digest) => {
+                let block = get(rt, caller, digest);
+                assert!(rt; client.looking());
+                look = client.give(Some(&block)).expect(rt, "memory");
+            }
+            Look::File(file) => return check_text(rt, &file, bytes),
+            Look::Dir(_) | Look::None | Look::Broken(_) => panic!(rt; "no file"),
+        }
+    }
+    panic!(rt; "too many blocks")
+}
+
+/// A file of these bytes at the i-number 3 of a user.
+fn a_file(rt: &impl Host, user: u8, bytes: &[u8]) -> Planned {
+    let mut planned = nothing(rt);
+    let digest = lay(rt, &mut planned, bytes);
+    let change = Change::new(principal(rt, user), i_number(rt, 3), Action::Make(digest));
+    planned.changes.push(change).expect(rt, "memory");
+    planned
+}
+
+/// The users 1 and 2 are listed.
+fn two_users(rt: &impl Host) -> Planned {
+    let mut planned = nothing(rt);
+    for number in [1u8, 2] {
+        let user = User::new(number).expect(rt, "a user");
+        let listed = TableChange::AddUser(user, key_of(rt, number).public());
+        planned.changes.push(Change::of_table(listed)).expect(rt, "memory");
+    }
+    planned
+}
+
+/// User 0 makes an operation without changes, and sees the files of both.
+fn sees_both(rt: &impl Host, caller: &mut Caller<TcpStream>, superuser: &mut Client<Global>) {
+    operate(rt, caller, superuser, nothing(rt));
+    sees(rt, caller, superuser, 1, b"one");
+    sees(rt, caller, superuser, 2, b"two");
+}
+
+/// Users 1 and 2 write at once, and user 0 looks when one of them has committed, and when both have.
+fn write_and_look(rt: &impl Host, caller: &mut Caller<TcpStream>) {
+    let mut superuser = client_of(rt, 0, 0);
+    let mut first = client_of(rt, 1, 1);
+    let mut second = client_of(rt, 2, 2);
+    operate(rt, caller, &mut superuser, two_users(rt));
+    let by_first = begin(rt, caller, &mut first, a_file(rt, 1, b"one"));
+    let by_second = begin(rt, caller, &mut second, a_file(rt, 2, b"two"));
+    commit(rt, caller, &mut second, &by_second);
+    sees_both(rt, caller, &mut superuser);
+    commit(rt, caller, &mut first, &by_first);
+    sees_both(rt, caller, &mut superuser);
+}
+
+/// Serves one connection: how many calls were answered.
+fn serve_one<R: Host + Threads + Wait + Sync>(
+    rt: &R,
+    listener: &TcpListener,
+    pinned: PublicKey,
+) -> u64 {
+    let alloc = rt.alloc();
+    let (store, log) = (Store::new(alloc), Vec::new(alloc));
+    let connections = Accepted::new(listener, 1);
+    let served = serve(rt, alloc, &OpenGate, connections, 1, &store, pinned, log);
+    served.expect(rt, "memory").answered
+}
+
+#[test]
+fn two_write_at_once(rt: HostRuntime) {
+    let pinned = key_of(&rt, 0).public();
+    let listener = TcpListener::bind(&rt, "127.0.0.1:0").expect(&rt, "a port");
+    let address: SocketAddr = listener.local_addr().expect(&rt, "its address");
+    let (answered, ()) = thread::join(
+        &rt,
+        || serve_one(&rt, &listener, pinned),
+        || {
+            let stream = TcpStream::connect(&rt, address).expect(&rt, "a connection");
+            let mut caller = Caller::new(rt.alloc(), stream);
+            write_and_look(&rt, &mut caller);
+        },
+    );
+    // Five operations, of two calls each.
+    assert_eq!(rt; answered, 10);
+}
