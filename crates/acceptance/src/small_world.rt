@@ -194,7 +194,11 @@ impl Story {
     /// What the user sees of the three files.
     fn look(&mut self, rt: &impl Host, user: u8) {
         let (one, two) = (self.first.file, self.second.file);
-        write!(self.script, "show {user} 1 3\nshow {user} 2 3\nshow {user} 64 65\n").expect(rt, "memory");
+        write!(
+            self.script,
+            "show {user} 1 3\nshow {user} 2 3\nshow {user} 64 65\n"
+        )
+        .expect(rt, "memory");
         write!(self.lines, "{user} file {one}\n{user} file {two}\n").expect(rt, "memory");
         let written = match self.shared {
             Some(text) => write!(self.lines, "{user} file {text}\n"),
@@ -291,7 +295,8 @@ fn tell(rt: &impl Host, story: &mut Story, shape: &Shape, order: u32) {
 fn tell_all(rt: &impl Host, shape: &Shape) {
     let mut story = Story::new(rt);
     for order in 0..MOST_ORDERS {
-        let is_of_shape = order.count_ones() == shape.second && order.checked_shr(shape.steps) == Some(0);
+        let is_of_shape = order.count_ones() == shape.second
+            && order.checked_shr(shape.steps) == Some(0);
         if is_of_shape {
             tell(rt, &mut story, shape, order);
         }
