@@ -1,6 +1,6 @@
 -- What a reply comes to, and a block that was handed in for it: it breaks a rule, or it goes on.
 use Rattle.std.proofs.Common.{◌≡◌, ℕ, List, Option, Some, None, sym, ap, refl, subst, ◌∙◌}
-use Rattle.std.specs.Prelude.{IsSomeAnd}
+use Rattle.std.specs.Prelude.{IfSome, IsSomeAnd}
 use Rattle.std.specs.Option.{option_and_then}
 use Rattle.reply_rules.specs.Lists.{Lists, lists_of}
 use Rattle.reply_rules.specs.declared.rule.Rule.{Rule}
@@ -16,14 +16,17 @@ use Rattle.client_verify.specs.declared.growing.Written.{Written}
 use Rattle.client_verify.specs.Good.{Good}
 use Rattle.client_verify.specs.FirstBroken.{ByTable, IsFirstBroken, IsRead, lists_break, lists_in, reply_breaks, reply_in, view_over}
 use Rattle.client_verify.specs.Grown.{IsReached, IsWritten}
-use Rattle.client_verify.specs.State.{State, Checked, Reading, Writing, asked_of, block_breaks, blocks_with, holding, known}
-use Rattle.client_verify.specs.Judged.{Goes, GoesOn, Handed, Judged, ReadsOn, Taken, unjudged, view_of}
+use Rattle.client_verify.specs.State.{State, Checked, Reading, asked_of, block_breaks, blocks_with, holding, known}
+use Rattle.client_verify.specs.Judged.{Goes, Handed, Judged, ReadsOn, Taken, unjudged, view_of}
 use Rattle.client_verify.proofs.Steps.{some_one, taken_goes, taken_need}
 
 -- ---- what holds of an option's value
 
 pub at_one : {A : Type 0} (o : Option A) (a : A) (P : A → Type 0) → o ≡ Some a → IsSomeAnd o P → P a
 at_one {A} o a P is holds = subst (λ (x : Option A). IsSomeAnd x P) is holds
+
+pub if_at : {A : Type 0} (o : Option A) (a : A) (P : A → Type 0) → o ≡ Some a → IfSome o P → P a
+if_at {A} o a P is holds = subst (λ (x : Option A). IfSome x P) is holds
 
 each_one : {A : Type 0} (o : Option A) (P Q : A → Type 0) → ((a : A) → P a → Q a) → IsSomeAnd o P → IsSomeAnd o Q
 each_one None P Q each holds = holds
@@ -123,8 +126,11 @@ reads_taken {A} old new k text r a st is taken = subst (λ (c : Checked). ReadsO
 
 -- ---- a block is handed in
 
-pub handed_breaks : (old : State) (k : Checked) (block : Option (List ℕ)) (rule : Rule) → block_breaks (held old.blocks) (asked_of k) block ≡ Some rule → IsFirstBroken None (block_breaks (held old.blocks) (asked_of k) block) (held (blocks_with old block)) old.pinned (unjudged k) rule
-handed_breaks old k block rule breaks = subst (λ (o : Option Rule). IsFirstBroken None o (held (blocks_with old block)) old.pinned (unjudged k) rule) (sym breaks) refl
+-- which rule a block breaks that was handed in for the same one, in the same state
+pub breaks_before : (inner old : State) (a b : Asked) (block : Option (List ℕ)) (o : Option Rule) → inner ≡ old → a ≡ b → block_breaks (held old.blocks) b block ≡ o → block_breaks (held inner.blocks) a block ≡ o
+breaks_before inner old a b block o same is breaks =
+    let of_asked : block_breaks (held old.blocks) a block ≡ o = subst (λ (c : Asked). block_breaks (held old.blocks) c block ≡ o) (sym is) breaks in
+    subst (λ (s : State). block_breaks (held s.blocks) a block ≡ o) (sym same) of_asked
 
 pub handed_reads : {A : Type 0} (old new : State) (k : Checked) (block : Option (List ℕ)) (text : List ℕ) (st : Step A) → block_breaks (held old.blocks) (asked_of k) block ≡ None → block ≡ Some text → ReadsOn old k text st new → Handed old k block st new
 handed_reads old new k block text (step.Need d) none is reads = (none, some_one block text _ is reads)
