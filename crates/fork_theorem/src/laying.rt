@@ -1,9 +1,9 @@
 //! Laying out what a script's operation names: its changes, and the texts to be stored before it is declared.
 
 use crate::players::Players;
-use crate::task::{Task, TaskAction};
+use crate::task::{TableTask, Task, TaskAction};
 use client_tree::Held;
-use directory::{Directory, Target};
+use directory::Directory;
 use itable::{Inode, Laid, LayError, lay_file};
 use layout::{Digest, Memory, Text, digest};
 use std::alloc::Allocator;
@@ -72,6 +72,21 @@ fn action_of<A: Allocator + Copy>(
     }
 }
 
+/// What is done to the table of principals, as a change's.
+fn table_change_of<A: Allocator + Copy>(
+    players: &mut Players<A>,
+    task: TableTask,
+) -> Result<TableChange, Memory> {
+    match task {
+        TableTask::AddUser(user) => {
+            let key = players.key_of(user)?;
+            Ok(TableChange::AddUser(user, key))
+        }
+        TableTask::AddMember(group, user) => Ok(TableChange::AddMember(group, user)),
+        TableTask::DropMember(group, user) => Ok(TableChange::DropMember(group, user)),
+    }
+}
+
 /// The change that a task is, with what has to be laid out for it.
 fn change_of<A: Allocator + Copy>(
     alloc: A,
@@ -80,22 +95,11 @@ fn change_of<A: Allocator + Copy>(
     task: Task<A>,
 ) -> Result<Change<A>, Memory> {
     match task {
-        Task::At(
-            Target {
-                principal,
-                i_number,
-            },
-            action,
-        ) => {
+        Task::At(place, action) => {
             let action = action_of(alloc, laid, action)?;
-            Ok(Change::new(principal, i_number, action))
+            Ok(Change::new(place.principal, place.i_number, action))
         }
-        Task::AddUser(user) => {
-            let key = players.key_of(user)?;
-            Ok(Change::of_table(TableChange::AddUser(user, key)))
-        }
-        Task::AddMember(group, user) => Ok(Change::of_table(TableChange::AddMember(group, user))),
-        Task::DropMember(group, user) => Ok(Change::of_table(TableChange::DropMember(group, user))),
+        Task::OfTable(task) => Ok(Change::of_table(table_change_of(players, task)?)),
     }
 }
 

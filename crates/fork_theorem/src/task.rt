@@ -25,17 +25,24 @@ pub(crate) enum TaskAction<A: Allocator> {
     Unlink(Name<A>),
 }
 
-/// A change of a script.
-#[derive(Drop)]
-pub(crate) enum Task<A: Allocator> {
-    /// This is done at an i-number of a principal.
-    At(Target, TaskAction<A>),
+/// What is done to the table of principals.
+#[derive(Clone, Copy)]
+pub(crate) enum TableTask {
     /// `adduser V`: the key is the first one of V's client.
     AddUser(User),
     /// `addmember G V`.
     AddMember(Group, User),
     /// `dropmember G V`.
     DropMember(Group, User),
+}
+
+/// A change of a script.
+#[derive(Drop)]
+pub(crate) enum Task<A: Allocator> {
+    /// This is done at an i-number of a principal.
+    At(Target, TaskAction<A>),
+    /// This is done to the table of principals.
+    OfTable(TableTask),
 }
 
 /// The next word.
@@ -125,9 +132,15 @@ fn task_at<A: Allocator>(
 fn task_of<A: Allocator>(alloc: A, text: &str) -> Result<Task<A>, Unread> {
     let mut words = text.split(' ');
     let task = match next(&mut words)? {
-        "adduser" => Task::AddUser(user(&mut words)?),
-        "addmember" => Task::AddMember(group(&mut words)?, user(&mut words)?),
-        "dropmember" => Task::DropMember(group(&mut words)?, user(&mut words)?),
+        "adduser" => Task::OfTable(TableTask::AddUser(user(&mut words)?)),
+        "addmember" => {
+            let group = group(&mut words)?;
+            Task::OfTable(TableTask::AddMember(group, user(&mut words)?))
+        }
+        "dropmember" => {
+            let group = group(&mut words)?;
+            Task::OfTable(TableTask::DropMember(group, user(&mut words)?))
+        }
         verb => task_at(alloc, verb, &mut words)?,
     };
     match words.next() {
