@@ -58,10 +58,11 @@ fn calls_that_come_again(rt: HostRuntime) {
     let user = PlainUser::new(rt.alloc(), 0).expect(&rt, "memory");
     let pinned = user.public();
     let pipes = pipes(&rt, 1);
+    let pipe = pipes.first().expect(&rt, "a pipe");
     let (served, ()) = thread::join(
         &rt,
         || serve_pipes(&rt, &OpenGate, &pipes, pinned),
-        || operate_again(&rt, &pipes[0], user),
+        || operate_again(&rt, pipe, user),
     );
     assert_eq!(rt; served.answered, 5);
     assert!(rt; served.flushed, "flushed");
