@@ -5,7 +5,6 @@ use Rattle.std.specs.Option.{option_and_then}
 use Rattle.reply_rules.specs.Lists.{Lists, lists_of}
 use Rattle.reply_rules.specs.declared.rule.Rule.{Rule}
 use Rattle.pending_list.specs.Reply.{Reply}
-use Rattle.principals.specs.Table.{Table}
 use Rattle.client_tree.specs.Held.{Block, held, keeping}
 use Rattle.client_verify.specs.declared.asked.Asked.{Asked}
 use Rattle.client_verify.specs.declared.step.Step.{Step}
@@ -42,8 +41,8 @@ abbrev pub TakenOf : {A : Type 0} → State → Reply → Step A → State → T
 TakenOf s r st new = IsSomeAnd (lists_of r) (λ x. Taken s r x st new)
 
 -- the lists of a reply, which break no rule by this table, and what their own operation makes
-abbrev pub GoesIn : {A : Type 0} → List Block → List ℕ → Table → List ℕ → Written A → Lists → Type 0
-GoesIn blocks key t void w x = IsRead (held blocks) key x t void × (lists_break t x ≡ None) × IsWritten (held blocks) (view_over key t x) void w
+abbrev pub GoesIn : {A : Type 0} → List Block → List ℕ → Good → Written A → Lists → Type 0
+GoesIn blocks key g w x = IsRead (held blocks) key x g.table g.void × (lists_break g.table x ≡ None) × IsWritten (held blocks) (view_over key g.table x) g.void w
 
 -- how far the reply comes by the blocks and the key of the same state
 pub reached_there : {A : Type 0} (inner old : State) (r : Reply) (f g : Reached A) → inner ≡ old → f ≡ g → IsSomeAnd (lists_of r) (λ x. IsReached (held inner.blocks) inner.pinned x f) → IsSomeAnd (lists_of r) (λ x. IsReached (held old.blocks) old.pinned x g)
@@ -66,20 +65,13 @@ taken_lacks A s new r a st is made reaches =
     (each_one (lists_of r) (λ x. IsReached {A = A} (held s.blocks) s.pinned x (reached.Lacks a)) (λ x. Taken {A = A} s r x (step.Need a.digest) new) (λ x lacks. taken_need A s new r x a made lacks) reaches)
 
 -- the lists break no rule by this table
-pub good_written : {A : Type 0} (blocks : List Block) (key : List ℕ) (r : Reply) (g : Good) (t : Table) (void : List ℕ) (w : Written A) → lists_of r ≡ Some g.lists → t ≡ g.table → void ≡ g.void → IsSomeAnd (lists_of r) (GoesIn blocks key t void w)
-    → IsWritten (held blocks) (view_of key g) g.void w
-good_written {A} blocks key r g t void w lists table voids reaches =
-    let here = (at_one (lists_of r) g.lists (GoesIn {A = A} blocks key t void w) lists reaches).2 in
-    let of_table : IsWritten {A = A} (held blocks) (view_over key g.table g.lists) void w = subst (λ (u : Table). IsWritten {A = A} (held blocks) (view_over key u g.lists) void w) table here in
-    subst (λ (v : List ℕ). IsWritten {A = A} (held blocks) (view_over key g.table g.lists) v w) voids of_table
+pub good_written : {A : Type 0} (blocks : List Block) (key : List ℕ) (r : Reply) (g : Good) (w : Written A) → lists_of r ≡ Some g.lists → IsSomeAnd (lists_of r) (GoesIn blocks key g w) → IsWritten (held blocks) (view_of key g) g.void w
+good_written {A} blocks key r g w lists reaches = (at_one (lists_of r) g.lists (GoesIn {A = A} blocks key g w) lists reaches).2
 
-pub taken_good : {A : Type 0} (s new : State) (r : Reply) (g : Good) (t : Table) (void : List ℕ) (w : Written A) (st : Step A) → lists_of r ≡ Some g.lists → t ≡ g.table → void ≡ g.void → IsSomeAnd (lists_of r) (GoesIn s.blocks s.pinned t void w)
-    → Goes s g st new → TakenOf s r st new
-taken_good {A} s new r g t void w st lists table voids reaches goes =
-    let here = at_one (lists_of r) g.lists (GoesIn {A = A} s.blocks s.pinned t void w) lists reaches in
-    let read : IsRead (held s.blocks) s.pinned g.lists g.table g.void = subst (λ (v : List ℕ). IsRead (held s.blocks) s.pinned g.lists g.table v) voids (subst (λ (u : Table). IsRead (held s.blocks) s.pinned g.lists u void) table here.0) in
-    let none : lists_break g.table g.lists ≡ None = subst (λ (u : Table). lists_break u g.lists ≡ None) table here.1 in
-    some_one (lists_of r) g.lists (λ x. Taken s r x st new) lists (taken_goes s new r g.lists g st (refl, read, none) goes)
+pub taken_good : {A : Type 0} (s new : State) (r : Reply) (g : Good) (w : Written A) (st : Step A) → lists_of r ≡ Some g.lists → IsSomeAnd (lists_of r) (GoesIn s.blocks s.pinned g w) → Goes s g st new → TakenOf s r st new
+taken_good {A} s new r g w st lists reaches goes =
+    let here = at_one (lists_of r) g.lists (GoesIn {A = A} s.blocks s.pinned g w) lists reaches in
+    some_one (lists_of r) g.lists (λ x. Taken s r x st new) lists (taken_goes s new r g.lists g st (refl, here.0, here.1) goes)
 
 -- ---- a reply is judged
 

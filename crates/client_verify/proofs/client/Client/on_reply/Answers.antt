@@ -12,7 +12,7 @@ go-requires g c =
     let r = c.in-Ok.reply in
     let t = c.in-Goes.table in
     let reaches = reached_there _ old r c.in_ok-rule.field-0 (reached.Goes t c.in-Goes.written) c.self.view_is c.in-Goes.is c.in_ok-rule.ensures in
-    good_written old.blocks old.pinned r (record { lists = c.into_lists-lists.result; table = t.table; void = t.voids }) t.table t.voids c.in-Goes.written c.into_lists-lists.ensures refl refl reaches
+    good_written old.blocks old.pinned r (record { lists = c.into_lists-lists.result; table = t.table; void = t.voids }) c.in-Goes.written c.into_lists-lists.ensures reaches
 
 pub returns-in-Breaks-clause-judged : goal.returns-in-Breaks-clause-judged
 returns-in-Breaks-clause-judged g c =
@@ -41,4 +41,4 @@ returns-in-Goes-clause-judged g c =
     let read : reply_in c.args.text.now ≡ Some r = search rules in
     let reaches = reached_there _ old r c.in_ok-rule.field-0 (reached.Goes t c.in-Goes.written) c.self.view_is c.in-Goes.is c.in_ok-rule.ensures in
     let good : Good = record { lists = c.into_lists-lists.result; table = t.table; void = t.voids } in
-    judged_of old c.go.new.self c.args.text.now r c.go.result none read (taken_good old c.go.new.self r good t.table t.voids c.in-Goes.written c.go.result c.into_lists-lists.ensures refl refl reaches c.go.ensures)
+    judged_of old c.go.new.self c.args.text.now r c.go.result none read (taken_good old c.go.new.self r good c.in-Goes.written c.go.result c.into_lists-lists.ensures reaches c.go.ensures)

@@ -63,7 +63,7 @@ returns-in-Goes g c =
     let good : Good = record { lists = c.into_lists-lists.result; table = t.table; void = t.voids } in
     let goes = goes_from _ old c.take.new.self c.keep_as.new.self text good good c.go.result c.go.new.self c.self.view_is kept refl c.go.ensures in
     record {
-      goes = if_some old.checked k _ there (reads_taken old c.go.new.self k text s b c.go.result also (taken_good (holding old text) c.go.new.self s good t.table t.voids c.in-Goes.written c.go.result lists refl refl reaches goes));
+      goes = if_some old.checked k _ there (reads_taken old c.go.new.self k text s b c.go.result also (taken_good (holding old text) c.go.new.self s good c.in-Goes.written c.go.result lists reaches goes));
       only_memory = tt;
       err = tt;
     }
