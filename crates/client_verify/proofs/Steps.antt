@@ -67,11 +67,6 @@ taken_goes s new r x good (step.Need d) is goes = inr (good, is, goes)
 taken_goes s new r x good (step.Store texts) is goes = (good, is, goes)
 taken_goes s new r x good (step.Broken rule) is goes = absurd goes
 
-pub judged_taken : {A : Type 0} (old : State) (text : List ℕ) (r : Reply) (x : Lists) (st : Step A) (new : State) → reply_breaks (known old) text ≡ None → reply_in text ≡ Some r → lists_of r ≡ Some x → Taken old r x st new → Judged old text st new
-judged_taken old text r x (step.Need d) new none read lists taken = (none, some_one (reply_in text) r _ read (some_one (lists_of r) x _ lists taken))
-judged_taken old text r x (step.Store texts) new none read lists taken = (none, some_one (reply_in text) r _ read (some_one (lists_of r) x _ lists taken))
-judged_taken old text r x (step.Broken rule) new none read lists taken = absurd taken
-
 -- what isn't broken by the lists isn't Broken
 no_rule : (o : Option Lists) → IsSomeAnd o (λ x. ⊥) → ⊥
 no_rule None none = none
