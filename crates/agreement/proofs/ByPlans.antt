@@ -19,7 +19,7 @@ use Rattle.pending_list.specs.Reply.{PendingItem, Reply, reply, top}
 use Rattle.pending_list.specs.Reply as reply_spec
 use Rattle.pending_list.proofs.Highest.{none_listed, top_is}
 use Rattle.reply_rules.specs.Lists.{Lists, items, number_of, pending, shown, structure_of}
-use Rattle.reply_rules.specs.Rules.{above, above_show, all_show, ascends_after, counts_at, depth, each_once, entries, entries_of, follow, group_records, is_above, is_next, is_numbered, is_planned, items_above, left_of, link, lists, lists_entry, names_certificate, names_last, next_vector, numbers, other_entries, own_above, own_all, own_entry_of_top, own_only, pending_ascends, pending_next, pending_numbered, pending_once, rest_known, rest_of, rest_others, rest_waiting, same_vector, shows, shows_earlier, structures_ascend, structures_numbered, top_counts, top_entries, top_known, top_plan, top_vector, top_waiting, unknown_user, vector, vectors_follow, waiting, waits, within, all_in_order}
+use Rattle.reply_rules.specs.Rules.{above, above_show, all_show, ascends_after, counts_at, depth, each_once, entries, entries_of, follow, group_records, is_above, is_next, is_numbered, is_planned, items_above, left_of, link, lists, lists_entry, names_certificate, names_last, next_vector, numbers, other_entries, own_above, own_all, own_entry_of_top, own_only, pending_ascends, pending_next, pending_numbered, pending_once, rest_known, rest_of, rest_others, rest_waiting, same_vector, shows, shows_earlier, structures_ascend, structures_numbered, top_counts, top_entries, top_known, top_plan, top_vector, top_waiting, unknown_user, vector, vectors_follow, waiting, waits, within, all_in_order, is_known}
 use Rattle.reply_rules.specs.Broken.{broken, later_rules}
 use Rattle.reply_rules.specs.declared.rule.Rule.TheVariants as rule
 use Rattle.reply_rules.proofs.Above.{above_plans}
@@ -274,6 +274,7 @@ pub record Parts (t : Table) (x : Lists) : Type 0 where
   pub depths : ascends_after None (map (λ p. depth p) (pending x)) ≡ true
   pub pending_once : Plans.EachOnce Plan Entry shape (pending x)
   pub planned : list_all is_planned (items x) ≡ true
+  pub known : list_all (is_known t) (pending x) ≡ true
   pub pending_numbered : pending_numbered x ≡ true
   pub pending_next : pending_next x ≡ true
   pub top_counts : top_counts x ≡ true
@@ -316,6 +317,7 @@ parts_of t x holds unbroken =
       pending_once = once_each (pending x) (sym (ap each_once (users_pending (items x))) ∙ once.0);
       depths = sym (ap (λ ds. ascends_after None ds) (depths_pending (items x))) ∙ deeper.0;
       planned = once.1;
+      known = (and_parts (list_all (is_known t) (shown x)) (list_all (is_known t) (pending x)) known.0).1;
       pending_numbered = of_pending.0;
       pending_next = next.0;
       top_counts = next.1;

@@ -4,7 +4,7 @@ use Rattle.std.specs.Prelude.{◌==◌, ◌&&◌, map, nat_le, if◌then◌else�
 use Rattle.std.specs.List.{filter, list_any}
 use Rattle.std.proofs.lemmas.Bool.{eq-eqb, eqb-true, eqb-false, ne_eqb, lt-leb, cases_eq, and_left, or_from}
 use Rattle.layout.specs.Types.{Digest}
-use Rattle.principals.specs.Table.{Table, is_member}
+use Rattle.principals.specs.Table.{Table, is_member, is_listed}
 use Rattle.update_cert.specs.Change.{Change}
 use Rattle.update_cert.specs.Cert.{Cert}
 use Rattle.update_cert.specs.Reading.{Reading, after_read, read_change, read_changes}
@@ -204,9 +204,10 @@ module _ (reads : Reading) where
   Numbered k [] = Unit {0}
   Numbered k (c ∷ cs) = (0 ≡ c.user → c.number ≡ suc k) × Numbered (k + one 0 c.user) cs
 
-  -- who was a member up to this number is as in the tree before
-  abbrev pub Kept : ℕ → Tree → Tree → Type 0
-  Kept k w u = (group user v : ℕ) → v ≤ k → is_member (table_in u) group user v ≡ is_member (table_in w) group user v
+  -- who was a member, and who was listed, up to this number is as in the tree before
+  pub record Kept (k : ℕ) (w u : Tree) : Type 0 where
+    pub member_same : (group user v : ℕ) → v ≤ k → is_member (table_in u) group user v ≡ is_member (table_in w) group user v
+    pub listed_same : (user v : ℕ) → v ≤ k → is_listed (table_in u) user v ≡ is_listed (table_in w) user v
 
   pub in_table : (w : Tree) (t : Table) → w 0 1 ≡ Some (Principals t) → table_in w ≡ t
   in_table w t e = ap table_of e
@@ -242,27 +243,36 @@ module _ (reads : Reading) where
             let new = in_table (step w c) u stands in
             let more : c.number ≡ k + one 0 c.user = omega arith in (
               record { held = u; stands = stands; bound = subst (λ z. UpTo z u) more (grown.bounded k (omega arith) t.bound) },
-              (λ group user v l. ap (λ z. is_member z group user v) new ∙ grown.member_same group user v (omega arith) ∙ sym (ap (λ z. is_member z group user v) old)),
+              record {
+                member_same = λ group user v l. ap (λ z. is_member z group user v) new ∙ grown.member_same group user v (omega arith) ∙ sym (ap (λ z. is_member z group user v) old);
+                listed_same = λ user v l. ap (λ z. is_listed z user v) new ∙ grown.listed_same user v (omega arith) ∙ sym (ap (λ z. is_listed z user v) old);
+              },
             ))
         | inr e ↦ (
             let same = step_other w c 0 (omega arith) e in
             let o = one-other 0 c.user e in
             let more : k ≡ k + one 0 c.user = omega arith in (
               record { held = t.held; stands = ap (λ (p : Part). p 1) same ∙ t.stands; bound = subst (λ z. UpTo z t.held) more t.bound },
-              (λ group user v l. ap (λ (p : Part). is_member (table_of (p 1)) group user v) same),
+              record {
+                member_same = λ group user v l. ap (λ (p : Part). is_member (table_of (p 1)) group user v) same;
+                listed_same = λ user v l. ap (λ (p : Part). is_listed (table_of (p 1)) user v) same;
+              },
             ))
       ]
 
   pub line_table : (k : ℕ) (w : Tree) (cs : List Cert) → TableAt k w → Numbered k cs → TableAt (k + count 0 cs) (world_from reads w cs) × Kept k w (world_from reads w cs)
   line_table k w [] t n =
       let e : k ≡ k + count 0 [] = omega arith in
-      (subst (λ z. TableAt z w) e t, (λ group user v l. refl))
+      (subst (λ z. TableAt z w) e t, record { member_same = λ group user v l. refl; listed_same = λ user v l. refl })
   line_table k w (c ∷ cs) t n =
       let (here, kept) = step_table k w c t n.0 in
       let (there, later) = line_table (k + one 0 c.user) (step w c) cs here n.1 in
       let e : (k + one 0 c.user) + count 0 cs ≡ k + count 0 (c ∷ cs) = omega arith in (
         subst (λ z. TableAt z (world_from reads (step w c) cs)) e there,
-        (λ group user v l. later group user v (omega arith) ∙ kept group user v l),
+        record {
+          member_same = λ group user v l. later.member_same group user v (omega arith) ∙ kept.member_same group user v l;
+          listed_same = λ user v l. later.listed_same user v (omega arith) ∙ kept.listed_same user v l;
+        },
       )
 
   count_push : (u : ℕ) (xs ys : List Cert) → count u (xs ++ ys) ≡ count u xs + count u ys

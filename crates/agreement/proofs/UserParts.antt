@@ -367,9 +367,10 @@ module _ (reads : Reading) (key : Key) where
         ]
 
     -- the table in the world up to a place of the line, and what stays of it up to the line's end
-    line_kept : (x : View) → In x run → (b a : List PendingItem) → whole run x ≡ b ++ a
+    pub line_kept : (x : View) → In x run → (b a : List PendingItem) → whole run x ≡ b ++ a
         → TableAt reads (count reads 0 (map cert_in_item b)) (world reads key (map cert_in_item b))
         × Kept reads (count reads 0 (map cert_in_item b)) (world reads key (map cert_in_item b)) (world reads key (line run x))
+        × Kept reads 0 (genesis key) (world reads key (map cert_in_item b))
     line_kept x i b a e =
         let before = map cert_in_item b in
         let after = map cert_in_item a in
@@ -383,17 +384,18 @@ module _ (reads : Reading) (key : Key) where
         let (there, later) = line_table reads (count reads 0 before) (world reads key before) after t n in (
           t,
           subst (λ w. Kept reads (count reads 0 before) (world reads key before) w) (sym (world-append reads (genesis key) before after) ∙ ap (world reads key) (sym split)) later,
+          kept,
         )
 
     -- a member at the table version of an operation is one in the world before it
     pub judged : (x : View) → In x run → (b : List PendingItem) (o : PendingItem) (a : List PendingItem) → whole run x ≡ b ++ o ∷ a → (group user : ℕ)
         → is_member x.table group user (table_version o.plan) ≡ is_member_now (table_in (world reads key (map cert_in_item b))) group user
     judged x i b o a e group user =
-        let (t, kept) = line_kept x i b (o ∷ a) e in
+        let (t, kept, since_first) = line_kept x i b (o ∷ a) e in
         let here = in_table reads (world reads key (map cert_in_item b)) t.held t.stands in
         ap (λ z. is_member z group user (table_version o.plan)) (sym (table_world x i))
         ∙ ap (is_member (table_in (world reads key (line run x))) group user) (version_is x i b o a e)
-        ∙ kept group user (count reads 0 (map cert_in_item b)) (omega arith)
+        ∙ kept.member_same group user (count reads 0 (map cert_in_item b)) (omega arith)
         ∙ ap (λ z. is_member z group user (count reads 0 (map cert_in_item b))) here
         ∙ member_now t.held (count reads 0 (map cert_in_item b)) t.bound group user
         ∙ ap (λ z. is_member_now z group user) (sym here)

@@ -2,30 +2,39 @@
 use Rattle.std.proofs.Common.{◌≡◌, ℕ, zero, suc, ◌+◌, ◌<◌, ◌≤◌, Bool, true, false, List, [], ◌∷◌, ◌++◌, length, Option, Some, None, refl, sym, ap, ◌∙◌, subst, inl, inr, arith, append_assoc, length-append}
 use Rattle.std.specs.Prelude.{◌==◌, ◌&&◌, IsSomeAnd, map, nat_le, not, if◌then◌else◌}
 use Rattle.std.specs.Int.{w8}
-use Rattle.std.proofs.lemmas.Bool.{and_right, cases_Bool, cases_eq, cases_lt, eqb-true}
+use Rattle.std.proofs.lemmas.Bool.{and_right, cases_Bool, cases_eq, cases_lt, eqb-true, ne_eqb}
 use Rattle.std.proofs.lemmas.List.{append_cancel_right, map-append}
 use Rattle.layout.specs.Format.{FitRows, after_row}
 use Rattle.layout.specs.Laws.{in_range}
 use Rattle.layout.specs.Types.{Digest, Key}
-use Rattle.principals.specs.Table.{Table}
+use Rattle.principals.specs.Table.{Table, is_listed, lists_user}
 use Rattle.update_cert.specs.Cert.{Cert, cert, change_rows}
 use Rattle.update_cert.specs.Change.{Action, Make, Put, Remove, Link, Unlink, AddUser, AddMember, DropMember, Change, change}
 use Rattle.update_cert.specs.Reading.{Reading, read_change, read_changes, void_read}
 use Rattle.update_cert.specs.World.{Actor, Content, Tree, after_change, content_after, has_effect, void_from}
 use Rattle.pending_list.specs.Reply.{PendingItem}
-use Rattle.reply_rules.specs.Lists.{items}
+use Rattle.reply_rules.specs.Lists.{items, pending}
 use Rattle.client_tree.specs.View.{actor_of, handle_of, lost, tree, tree_before}
 use Rattle.agreement.specs.Runs.{IsRun, NoCollision, View, reply_of}
 use Rattle.agreement.specs.Lines.{line}
-use Rattle.agreement.specs.Worlds.{AreWorlds, IsGuarded, JudgeAsWorld, acts_in, IsHonest, LoseVoid, NameFirst, actor_in, view_in, world}
-use Rattle.agreement.proofs.Members.{In, contains_in, in-middle, map-in}
+use Rattle.agreement.specs.Worlds.{AreWorlds, IsGuarded, JudgeAsWorld, acts_in, IsHonest, LoseVoid, NameFirst, actor_in, view_in, world, AllListed, table_in}
+use Rattle.agreement.proofs.Plans
+use Rattle.agreement.proofs.Members.{In, contains_in, in-middle, map-in, in-left, in-split}
 use Rattle.agreement.proofs.Formed.{cert_fits}
-use Rattle.agreement.proofs.Runs.{accepted_in}
+use Rattle.agreement.proofs.Runs.{accepted_in, none_collide, of_view, valid_by_plans}
 use Rattle.agreement.proofs.Lines.{cert_in_item, unmap}
-use Rattle.agreement.proofs.TreeParts.{Part, after_part, part_forbidden}
-use Rattle.agreement.proofs.LineItems.{bare, has_number, has_user, in_whole, whole, whole_certs, whole_ends}
-use Rattle.agreement.proofs.UserParts.{actor_is, same_table, user_base, user_before, user_world}
+use Rattle.agreement.proofs.TreeParts.{Part, after_part, part_forbidden, count}
+use Rattle.agreement.proofs.LineItems.{bare, has_number, has_user, in_whole, whole, whole_certs, whole_ends, is_line, operations, operations_plans, plan_line, same_operations, whole_plans}
+use Rattle.agreement.proofs.UserParts.{actor_is, same_table, user_base, user_before, user_world, line_kept, table_world, version_is}
 use Rattle.agreement.proofs.GroupParts.{group_base, group_before, group_whole, line_item, pending_in_line}
+use Rattle.version_order.specs.Vector.{version_of}
+use Rattle.version_order.specs.Plan.{Plan}
+use Rattle.version_order.specs.declared.plan.Entry.{Entry}
+use Rattle.pending_list.specs.Groups.{table_version}
+use Rattle.reply_rules.specs.Rules.{is_known}
+use Rattle.agreement.proofs.Tests.{all_in}
+use Rattle.agreement.proofs.ByPlans.{parts, pending_plans, plan_in_item, shape}
+use Rattle.agreement.proofs.TableGrowth.{listed_some}
 
 -- ---- void changes are told by the parts of principals alone
 
@@ -145,6 +154,44 @@ module _ (reads : Reading) (key : Key) (run : List View) (first : NameFirst read
       let same : o ≡ bare i = line_item reads key run first v nc all x there (bare i) o i_in o_in user number in
       let acts = ap (λ (a : Actor). a.member g) (actor_is reads key run first v nc all x there b (bare i) a (cut ∙ ap (λ (o : PendingItem). b ++ o ∷ a) same)) in
       acts ∙ ap (λ (l : List Cert). acts_in (world reads key l) i.cert g) of_b
+
+  -- of an operation that is pending in a view
+  listed_there : (y : View) → In y run → (b : List PendingItem) (o : PendingItem) (a : List PendingItem) → whole run y ≡ b ++ o ∷ a → In o (operations y)
+      → lists_user (table_in (world reads key (map cert_in_item b))) o.plan.user ≡ true
+  listed_there y j b o a e k =
+      let (t, kept, since_first) = line_kept reads key run first v nc all y j b (o ∷ a) e in
+      let w = world reads key (map cert_in_item b) in
+      elim (cases_eq o.plan.user 0) [
+        | inl z ↦ ap (lists_user (table_in w)) z ∙ listed_some (table_in w) 0 0 (since_first.listed_same 0 0 (omega arith))
+        | inr n ↦ (
+            let accepted = (accepted_in run v y j).1 in
+            let is = version_is reads key run first v nc all y j b o a e in
+            let at : table_version o.plan ≡ version_of 0 o.plan.vector = rw (ne_eqb o.plan.user 0 n) refl in
+            let pending_plan = subst (λ (ps : List Plan). In o.plan ps) (operations_plans y ∙ sym (pending_plans y.lists)) (map-in plan_in_item (operations y) o k) in
+            let rule = all_in (is_known y.table) (pending y.lists) (parts y.table y.lists accepted.read accepted.lists accepted.rules).known o.plan pending_plan in
+            let known : is_listed (table_in (world reads key (line run y))) o.plan.user (count reads 0 (map cert_in_item b)) ≡ true
+            = ap (is_listed (table_in (world reads key (line run y))) o.plan.user) (sym is ∙ at) ∙ ap (λ z. is_listed z o.plan.user (version_of 0 o.plan.vector)) (table_world reads key run first v nc all y j) ∙ rule in
+            listed_some (table_in w) o.plan.user (count reads 0 (map cert_in_item b)) (sym (kept.listed_same o.plan.user (count reads 0 (map cert_in_item b)) (omega arith)) ∙ known))
+      ]
+
+  pub all_listed : AllListed reads key run
+  all_listed x contains before c after e =
+      let there = contains_in x run contains in
+      let (b, o, a, cut, of_b, of_o, of_a) = unmap cert_in_item (whole run x) before c after (whole_certs run x ∙ e) in
+      let o_in : In o (whole run x) = subst (λ l. In o l) (sym cut) (in-middle o b a) in
+      let (i, (y, j, k), is) = in_whole run v nc x o o_in in
+      let o_there : In o (operations y) = subst (λ o. In o (operations y)) (sym is) (map-in bare (items y.lists) i k) in
+      let (front, back, cut_y) = in-split o (whole run y) (pending_in_line reads key run first v nc all y j o o_there) in
+      let same_plans : map plan_in_item b ≡ map plan_in_item front
+      = Plans.same_before Plan Entry shape (map of_view run) (valid_by_plans run v) (none_collide run v nc) (of_view x) (of_view y) (plan_line run x) (plan_line run y) (is_line run v nc x there) (is_line run v nc y j)
+      (length (map plan_in_item b)) (map plan_in_item b) (map plan_in_item front) o.plan (map plan_in_item a) (map plan_in_item back) (omega arith)
+      (sym (whole_plans run x) ∙ ap (map plan_in_item) cut ∙ map-append plan_in_item b (o ∷ a)) (sym (whole_plans run y) ∙ ap (map plan_in_item) cut_y ∙ map-append plan_in_item front (o ∷ back)) in
+      let same : b ≡ front = same_operations run v nc b front
+      (λ q r. in_whole run v nc x q (subst (λ l. In q l) (sym cut) (in-left q b (o ∷ a) r)))
+      (λ q r. in_whole run v nc y q (subst (λ l. In q l) (sym cut_y) (in-left q front (o ∷ back) r))) same_plans in
+      subst (λ (u : ℕ). lists_user (table_in (world reads key before)) u ≡ true) (has_user run v nc o (in_whole run v nc x o o_in) ∙ ap (λ (c : Cert). c.user) of_o)
+      (subst (λ (l : List Cert). lists_user (table_in (world reads key l)) o.plan.user ≡ true) (ap (map cert_in_item) (sym same) ∙ of_b)
+      (listed_there y j front o back cut_y o_there))
 
 -- ---- any operation
 

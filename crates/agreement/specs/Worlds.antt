@@ -5,7 +5,7 @@ use Rattle.std.specs.Prelude.{◌≡◌, ◌⊎◌, ◌<◌, ◌&&◌, Bool, tru
 use Rattle.std.specs.List.{All, Contains}
 use Rattle.std.specs.Option.{option_and_then, option_map}
 use Rattle.layout.specs.Types.{Group, Handle, INumber, Key, Principal}
-use Rattle.principals.specs.Table.{Table, genesis as first_table, is_member_now}
+use Rattle.principals.specs.Table.{Table, genesis as first_table, is_member_now, lists_user}
 use Rattle.principals.specs.TableText.{table}
 use Rattle.version_order.specs.declared.structure.GroupRecord.{GroupRecord}
 use Rattle.version_order.specs.Vector.{version_of}
@@ -105,6 +105,11 @@ abbrev pub JudgeAsWorld : Reading → Key → List View → Type 0
 JudgeAsWorld reads key run =
     (x : View) (i : PendingItem) → Contains run x → Contains (items x.lists) i → (before after : List Cert) → line run x ≡ before ++ i.cert ∷ after → (g : Group)
     → acts_for x.table i g ≡ acts_in (world reads key before) i.cert g
+
+-- each operation's user is listed in the world before it
+abbrev pub AllListed : Reading → Key → List View → Type 0
+AllListed reads key run =
+    (x : View) → Contains run x → (before : List Cert) (c : Cert) (after : List Cert) → line run x ≡ before ++ c ∷ after → lists_user (table_in (world reads key before)) c.user ≡ true
 
 -- ---- any operation, in any tree
 

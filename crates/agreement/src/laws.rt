@@ -2,7 +2,7 @@
 
 ghost use Rattle.agreement.specs.Runs.{EachRun};
 ghost use Rattle.agreement.specs.Lines.{Agree, AreNumbered, EndWithOwn, Grow};
-ghost use Rattle.agreement.specs.Worlds.{AreWorlds, EachHonestRun, IsGuarded, JudgeAsWorld, LoseVoid};
+ghost use Rattle.agreement.specs.Worlds.{AllListed, AreWorlds, EachHonestRun, IsGuarded, JudgeAsWorld, LoseVoid};
 ghost use Rattle.update_cert.specs.Cert.{Cert};
 ghost use Rattle.update_cert.specs.Reading.{Reading};
 ghost use Rattle.update_cert.specs.World.{Tree};
@@ -28,6 +28,8 @@ pub fn views_are_worlds()
     ensures losses { EachHonestRun LoseVoid }
     // Membership at an operation's table version is that in the world before it.
     ensures judged { EachHonestRun JudgeAsWorld }
+    // Each operation's user is listed in the world before it.
+    ensures listed { EachHonestRun AllListed }
     // Along a line a part is changed only by its user, or by a member of its group.
     ensures guarded { (reads : Reading) (w : Tree) (c : Cert) → IsGuarded reads w c }
 {}
