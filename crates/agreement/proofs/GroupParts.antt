@@ -139,6 +139,13 @@ module _ (reads : Reading) (key : Key) (run : List View) (first : NameFirst read
     abbrev pub Good : Plans.View Plan → Type 0
     Good y = (a : List Plan) × (plan_line run x ≡ Plans.line Plan Entry shape (map of_view run) y ++ a)
 
+    -- each of these plans has the version of the group that follows from the one before it, which is this
+    abbrev Chain : ℕ → List Plan → Type 0
+    Chain n ps = Plans.Raised Plan Entry shape Raises group_version recorded_version (Option GroupRecord) record_signed Good n ps
+
+    abbrev version_top : Option Plan → ℕ
+    version_top o = Plans.group_of Plan Entry shape Raises group_version recorded_version (Option GroupRecord) record_signed Good o
+
     down : Plans.Down Plan Entry shape Raises group_version recorded_version (Option GroupRecord) record_signed Good (map of_view run)
     down y z i j good k =
         let (a, e) = Plans.prefix Plan Entry shape (map of_view run) (valid_by_plans run v) (none_collide run v nc) y z i j k in
@@ -175,7 +182,7 @@ module _ (reads : Reading) (key : Key) (run : List View) (first : NameFirst read
     -- ---- versions of the group along the line
 
     follows_group : (y : View) → In y run → Good (of_view y) → (w : List Component) (is : List PendingItem) → ((i : PendingItem) → In i is → In i (items_above y.lists)) → follow y.table w is ≡ true
-        → Plans.GChained Plan Entry shape Raises group_version recorded_version (Option GroupRecord) record_signed Good (version_of g w) (map plan_in_item is)
+        → Chain (version_of g w) (map plan_in_item is)
     follows_group y j good w [] f t = tt
     follows_group y j good w (i ∷ is) f t =
         let q = and_parts (same_vector i.plan.vector (next_vector y.table i w)) (follow y.table i.plan.vector is) t in
@@ -187,19 +194,19 @@ module _ (reads : Reading) (key : Key) (run : List View) (first : NameFirst read
         let same : raises y.table g i ≡ Raises i.plan = alike y j good (bare i) (map-in bare (items y.lists) i is_pending) in
         (n ∙ ap (λ b. version_of g w + (if b then 1 else 0)) same, follows_group y j good i.plan.vector is (λ r k. f r (inr k)) q.1)
 
-    group_top : (o : Option Plan) → Plans.group_of Plan Entry shape Raises group_version recorded_version (Option GroupRecord) record_signed Good o ≡ version_of g (option_map_or (λ p. p.vector) o [])
+    group_top : (o : Option Plan) → version_top o ≡ version_of g (option_map_or (λ p. p.vector) o [])
     group_top None = refl
     group_top (Some t) = refl
 
     above_raise : (y : Plans.View Plan) → In y (map of_view run) → Good y
-        → Plans.GChained Plan Entry shape Raises group_version recorded_version (Option GroupRecord) record_signed Good (Plans.group_of Plan Entry shape Raises group_version recorded_version (Option GroupRecord) record_signed Good y.top) y.above
+        → Chain (version_top y.top) y.above
     above_raise z i good =
         let (y, j, e) = in-map of_view run z i in
         let a = (accepted_in run v y j).1 in
         let c = follows_group y j (subst (λ w. Good w) e good) (top_vector y.lists) (items_above y.lists) (λ i k. k) (parts y.table y.lists a.read a.lists a.rules).vectors_follow in
-        subst (λ (w : Plans.View Plan). Plans.GChained Plan Entry shape Raises group_version recorded_version (Option GroupRecord) record_signed Good (Plans.group_of Plan Entry shape Raises group_version recorded_version (Option GroupRecord) record_signed Good w.top) w.above) (sym e)
-        (subst (λ n. Plans.GChained Plan Entry shape Raises group_version recorded_version (Option GroupRecord) record_signed Good n (above y.lists)) (sym (group_top (top_plan y.lists)))
-        (subst (λ (ps : List Plan). Plans.GChained Plan Entry shape Raises group_version recorded_version (Option GroupRecord) record_signed Good (version_of g (top_vector y.lists)) ps) (sym (above_plans y.lists)) c))
+        subst (λ (w : Plans.View Plan). Chain (version_top w.top) w.above) (sym e)
+        (subst (λ n. Chain n (above y.lists)) (sym (group_top (top_plan y.lists)))
+        (subst (λ (ps : List Plan). Chain (version_of g (top_vector y.lists)) ps) (sym (above_plans y.lists)) c))
 
     own_is_operation : (y : View) → In (bare y.lists.own) (operations y)
     own_is_operation y = subst (λ l. In (bare y.lists.own) l) (sym (operations_end y)) (in-middle (bare y.lists.own) (map bare y.lists.others) [])
@@ -263,12 +270,12 @@ module _ (reads : Reading) (key : Key) (run : List View) (first : NameFirst read
     self : Good (of_view x)
     self = ([], sym (append-nil (plan_line run x)))
 
-    line_chained : Plans.GChained Plan Entry shape Raises group_version recorded_version (Option GroupRecord) record_signed Good 0 (plan_line run x)
+    line_chained : Chain 0 (plan_line run x)
     line_chained =
-        Plans.gline Plan Entry shape Raises group_version recorded_version (Option GroupRecord) record_signed Good (map of_view run) (valid_by_plans run v) (none_collide run v nc) down above_raise (of_view x) (in_run run v nc x ix) self
+        Plans.raised_line Plan Entry shape Raises group_version recorded_version (Option GroupRecord) record_signed Good (map of_view run) (valid_by_plans run v) (none_collide run v nc) down above_raise (of_view x) (in_run run v nc x ix) self
 
     -- along the line the plans that raise the group ascend by its version
-    chained_ascends : (n : ℕ) (l : List Plan) → Plans.GChained Plan Entry shape Raises group_version recorded_version (Option GroupRecord) record_signed Good n l → Ascends group_version (filter Raises l)
+    chained_ascends : (n : ℕ) (l : List Plan) → Chain n l → Ascends group_version (filter Raises l)
     chained_ascends n [] h = tt
     chained_ascends n (p ∷ l) h = go (Raises p) (chained_ascends (group_version p) l h.1)
       where
@@ -277,7 +284,7 @@ module _ (reads : Reading) (key : Key) (run : List View) (first : NameFirst read
         go true ih = (
           (λ q i.
               (let (k, t) = in-filter Raises q l i in
-              let b = (Plans.gbounds Plan Entry shape Raises group_version recorded_version (Option GroupRecord) record_signed Good (group_version p) l h.1 q k).0 in
+              let b = (Plans.version_bounds Plan Entry shape Raises group_version recorded_version (Option GroupRecord) record_signed Good (group_version p) l h.1 q k).0 in
               let st = one_if (Raises q) t in
               omega arith)),
           ih,
@@ -303,7 +310,7 @@ module _ (reads : Reading) (key : Key) (run : List View) (first : NameFirst read
             let no_less = no_fall g (shown x.lists ++ pending x.lists) (parts x.table x.lists a.read a.lists a.rules).ordered p q (in-right p (shown x.lists) (pending x.lists) kp) (in-right q (shown x.lists) (pending x.lists) kq) less in
             elim (cases_eq (group_version p) (group_version q)) [
               | inl e ↦ absurd (
-                  let same = Plans.gunique Plan Entry shape Raises group_version recorded_version (Option GroupRecord) record_signed Good 0 (plan_line run x) line_chained p q (pending_plan_in_line p kp) (pending_plan_in_line q kq)
+                  let same = Plans.one_raises Plan Entry shape Raises group_version recorded_version (Option GroupRecord) record_signed Good 0 (plan_line run x) line_chained p q (pending_plan_in_line p kp) (pending_plan_in_line q kq)
                   (and_parts (Raises p) (nat_lt newest_version (version_of g p.vector)) tp).0 (and_parts (Raises q) (nat_lt newest_version (version_of g q.vector)) tq).0 e in
                   let d = ap (λ (p : Plan). depth p) same in
                   omega arith)
@@ -317,9 +324,9 @@ module _ (reads : Reading) (key : Key) (run : List View) (first : NameFirst read
         → filter Raises a ≡ filter Comes (pending x.lists)
     same_rest before a e f h =
         ascends_same group_version (filter Raises a) (filter Comes (pending x.lists))
-        (chained_ascends (Plans.gfinal Plan Entry shape Raises group_version recorded_version (Option GroupRecord) record_signed Good 0 before) a
-        (Plans.gback Plan Entry shape Raises group_version recorded_version (Option GroupRecord) record_signed Good 0 before a
-        (subst (λ (l : List Plan). Plans.GChained Plan Entry shape Raises group_version recorded_version (Option GroupRecord) record_signed Good 0 l) e line_chained)))
+        (chained_ascends (Plans.last_raised Plan Entry shape Raises group_version recorded_version (Option GroupRecord) record_signed Good 0 before) a
+        (Plans.raised-back Plan Entry shape Raises group_version recorded_version (Option GroupRecord) record_signed Good 0 before a
+        (subst (λ (l : List Plan). Chain 0 l) e line_chained)))
         pending_ascends
         (λ q i.
         (let (k, t) = in-filter Raises q a i in

@@ -1089,112 +1089,96 @@ module _ (Plan Entry : Type 0) (shape : Shape Plan Entry) where
 
   -- one group: which plans raise it, its version in a plan's vector, the version in the record of the structure of a plan
   -- Good are views of which this is said: the one at hand, and those whose structures good ones show.
-  module _ (raises : Plan → Bool) (gversion record_of : Plan → ℕ) (Handle : Type 0) (handle_of : Plan → Handle) (Good : View Plan → Type 0) where
+  module _ (raises : Plan → Bool) (group_version record_of : Plan → ℕ) (Handle : Type 0) (handle_of : Plan → Handle) (Good : View Plan → Type 0) where
     abbrev pub Down : List (View Plan) → Type 0
     Down run = (x y : View Plan) → In x run → In y run → Good x → In y.own x.structures → Good y
 
     abbrev step : Plan → ℕ
     step p = if raises p then 1 else 0
 
-    abbrev pub GChained : ℕ → List Plan → Type 0
-    GChained n [] = Unit {0}
-    GChained n (p ∷ ps) = (gversion p ≡ n + step p) × GChained (gversion p) ps
+    abbrev pub Raised : ℕ → List Plan → Type 0
+    Raised n [] = Unit {0}
+    Raised n (p ∷ ps) = (group_version p ≡ n + step p) × Raised (group_version p) ps
 
-    abbrev pub gfinal : ℕ → List Plan → ℕ
-    gfinal n [] = n
-    gfinal n (p ∷ ps) = gfinal (gversion p) ps
+    abbrev pub last_raised : ℕ → List Plan → ℕ
+    last_raised n [] = n
+    last_raised n (p ∷ ps) = last_raised (group_version p) ps
 
     abbrev pub group_of : Option Plan → ℕ
     group_of None = 0
-    group_of (Some t) = gversion t
+    group_of (Some t) = group_version t
 
     abbrev pub record_in : Option Plan → ℕ
     record_in None = 0
     record_in (Some s) = record_of s
 
-    gappend : (n : ℕ) (a b : List Plan) → GChained n a → GChained (gfinal n a) b → GChained n (a ++ b)
-    gappend n [] b h k = k
-    gappend n (p ∷ a) b h k = (h.0, gappend (gversion p) a b h.1 k)
+    raised-append : (n : ℕ) (a b : List Plan) → Raised n a → Raised (last_raised n a) b → Raised n (a ++ b)
+    raised-append n [] b h k = k
+    raised-append n (p ∷ a) b h k = (h.0, raised-append (group_version p) a b h.1 k)
 
-    gfront : (n : ℕ) (a b : List Plan) → GChained n (a ++ b) → GChained n a
-    gfront n [] b h = tt
-    gfront n (p ∷ a) b h = (h.0, gfront (gversion p) a b h.1)
+    pub raised-back : (n : ℕ) (a b : List Plan) → Raised n (a ++ b) → Raised (last_raised n a) b
+    raised-back n [] b h = h
+    raised-back n (p ∷ a) b h = raised-back (group_version p) a b h.1
 
-    pub gback : (n : ℕ) (a b : List Plan) → GChained n (a ++ b) → GChained (gfinal n a) b
-    gback n [] b h = h
-    gback n (p ∷ a) b h = gback (gversion p) a b h.1
+    last_raised-push : (n : ℕ) (a : List Plan) (p : Plan) → last_raised n (a ++ p ∷ []) ≡ group_version p
+    last_raised-push n [] p = refl
+    last_raised-push n (q ∷ a) p = last_raised-push (group_version q) a p
 
-    gfinal-push : (n : ℕ) (a : List Plan) (p : Plan) → gfinal n (a ++ p ∷ []) ≡ gversion p
-    gfinal-push n [] p = refl
-    gfinal-push n (q ∷ a) p = gfinal-push (gversion q) a p
+    last_grows : (n : ℕ) (l : List Plan) → Raised n l → n ≤ last_raised n l
+    last_grows n [] h = omega arith
+    last_grows n (p ∷ l) h = let ih = last_grows (group_version p) l h.1 in let e = h.0 in omega arith
 
-    gmore : (n : ℕ) (l : List Plan) → GChained n l → n ≤ gfinal n l
-    gmore n [] h = omega arith
-    gmore n (p ∷ l) h = let ih = gmore (gversion p) l h.1 in let e = h.0 in omega arith
-
-    pub gbounds : (n : ℕ) (l : List Plan) → GChained n l → (q : Plan) → In q l → (n + step q ≤ gversion q) × (gversion q ≤ gfinal n l)
-    gbounds n [] h q i = absurd i
-    gbounds n (p ∷ l) h q (inl i) =
+    pub version_bounds : (n : ℕ) (l : List Plan) → Raised n l → (q : Plan) → In q l → (n + step q ≤ group_version q) × (group_version q ≤ last_raised n l)
+    version_bounds n [] h q i = absurd i
+    version_bounds n (p ∷ l) h q (inl i) =
         let e = h.0 in
-        let k = gmore (gversion p) l h.1 in
-        let a = ap gversion i in
+        let k = last_grows (group_version p) l h.1 in
+        let a = ap group_version i in
         let b = ap step i in
         omega arith
-    gbounds n (p ∷ l) h q (inr i) =
+    version_bounds n (p ∷ l) h q (inr i) =
         let e = h.0 in
-        let ih = gbounds (gversion p) l h.1 q i in
+        let ih = version_bounds (group_version p) l h.1 q i in
         omega arith
 
     -- one plan raises the group to a version
-    pub gunique : (n : ℕ) (l : List Plan) → GChained n l → (p q : Plan) → In p l → In q l → raises p ≡ true → raises q ≡ true → gversion p ≡ gversion q → p ≡ q
-    gunique n [] h p q i j rp rq e = absurd i
-    gunique n (x ∷ l) h p q (inl i) (inl j) rp rq e = i ∙ sym j
-    gunique n (x ∷ l) h p q (inl i) (inr j) rp rq e =
-        let b = (gbounds (gversion x) l h.1 q j).0 in
+    pub one_raises : (n : ℕ) (l : List Plan) → Raised n l → (p q : Plan) → In p l → In q l → raises p ≡ true → raises q ≡ true → group_version p ≡ group_version q → p ≡ q
+    one_raises n [] h p q i j rp rq e = absurd i
+    one_raises n (x ∷ l) h p q (inl i) (inl j) rp rq e = i ∙ sym j
+    one_raises n (x ∷ l) h p q (inl i) (inr j) rp rq e =
+        let b = (version_bounds (group_version x) l h.1 q j).0 in
         let s : step q ≡ 1 = ap (λ b. if b then 1 else 0) rq in
-        let m = ap gversion i in
+        let m = ap group_version i in
         absurd (omega arith)
-    gunique n (x ∷ l) h p q (inr i) (inl j) rp rq e =
-        let b = (gbounds (gversion x) l h.1 p i).0 in
+    one_raises n (x ∷ l) h p q (inr i) (inl j) rp rq e =
+        let b = (version_bounds (group_version x) l h.1 p i).0 in
         let s : step p ≡ 1 = ap (λ b. if b then 1 else 0) rp in
-        let m = ap gversion j in
+        let m = ap group_version j in
         absurd (omega arith)
-    gunique n (x ∷ l) h p q (inr i) (inr j) rp rq e = gunique (gversion x) l h.1 p q i j rp rq e
+    one_raises n (x ∷ l) h p q (inr i) (inr j) rp rq e = one_raises (group_version x) l h.1 p q i j rp rq e
 
-    -- a plan raises the group to each version up to the last
-    pub greach : (n : ℕ) (l : List Plan) → GChained n l → (m : ℕ) → n < m → m ≤ gfinal n l → (p : Plan) × In p l × (raises p ≡ true) × (gversion p ≡ m)
-    greach n [] h m lo hi = absurd (omega arith)
-    greach n (x ∷ l) h m lo hi =
-        elim (cases_lt (gversion x) m) [
-          | inl k ↦ (let r = greach (gversion x) l h.1 m k hi in (r.0, inr r.1, r.2, r.3))
-          | inr k ↦ elim (cases_Bool (raises x)) [
-            | inl t ↦ (let s : step x ≡ 1 = ap (λ b. if b then 1 else 0) t in let e = h.0 in (x, inl refl, t, omega arith))
-            | inr f ↦ (let s : step x ≡ 0 = ap (λ b. if b then 1 else 0) f in let e = h.0 in absurd (omega arith))
-          ]
-        ]
-
-    gbase : (older : List (View Plan)) (x : View Plan) → Valid (x ∷ older) → NoCollision (x ∷ older) → Down (x ∷ older) → Good x → GChained (group_of x.top) x.above
-        → ((y : View Plan) → In y older → Good y → GChained 0 (line older y)) → (t : Option Plan) → x.top ≡ t → GChained 0 (base (line_at older) t ++ x.above)
-    gbase older x v nc down good c ih None e = subst (λ n. GChained n x.above) (ap group_of e) c
-    gbase older x v nc down good c ih (Some t) e =
+    raised_base : (older : List (View Plan)) (x : View Plan) → Valid (x ∷ older) → NoCollision (x ∷ older) → Down (x ∷ older) → Good x → Raised (group_of x.top) x.above
+        → ((y : View Plan) → In y older → Good y → Raised 0 (line older y)) → (t : Option Plan) → x.top ≡ t → Raised 0 (base (line_at older) t ++ x.above)
+    raised_base older x v nc down good c ih None e = subst (λ n. Raised n x.above) (ap group_of e) c
+    raised_base older x v nc down good c ih (Some t) e =
         let (y, i, m) = v.0.released t (v.0.rules.top_in t e) in
         let h = is_line older v.1 (no_collision_older older x nc) y i in
         let gy = down x y (inl refl) (inr i) good (subst (λ s. In s x.structures) (sym m) (v.0.rules.top_in t e)) in
-        let k : group_of x.top ≡ gfinal 0 (line older y) =
-        ap group_of e ∙ ap gversion (sym m) ∙ sym (ap (gfinal 0) h.ends.1 ∙ gfinal-push 0 h.ends.0 y.own) in
-        subst (λ z. GChained 0 (line_at older (user z) (number z) ++ x.above)) m
-        (gappend 0 (line older y) x.above (ih y i gy) (subst (λ n. GChained n x.above) k c))
+        let k : group_of x.top ≡ last_raised 0 (line older y) =
+        ap group_of e ∙ ap group_version (sym m) ∙ sym (ap (last_raised 0) h.ends.1 ∙ last_raised-push 0 h.ends.0 y.own) in
+        subst (λ z. Raised 0 (line_at older (user z) (number z) ++ x.above)) m
+        (raised-append 0 (line older y) x.above (ih y i gy) (subst (λ n. Raised n x.above) k c))
 
-    pub gline : (run : List (View Plan)) → Valid run → NoCollision run → Down run → ((x : View Plan) → In x run → Good x → GChained (group_of x.top) x.above)
-        → (x : View Plan) → In x run → Good x → GChained 0 (line run x)
-    gline [] v nc down c x i good = absurd i
-    gline (x' ∷ older) v nc down c x (inl i) good =
-        let ih = λ (y : View Plan) (k : In y older) (gy : Good y). gline older v.1 (no_collision_older older x' nc) (λ a b j l. down a b (inr j) (inr l)) (λ z m. c z (inr m)) y k gy in
+    pub raised_line : (run : List (View Plan)) → Valid run → NoCollision run → Down run → ((x : View Plan) → In x run → Good x → Raised (group_of x.top) x.above)
+        → (x : View Plan) → In x run → Good x → Raised 0 (line run x)
+    raised_line [] v nc down c x i good = absurd i
+    raised_line (x' ∷ older) v nc down c x (inl i) good =
+        let ih = λ (y : View Plan) (k : In y older) (gy : Good y). raised_line older v.1 (no_collision_older older x' nc) (λ a b j l. down a b (inr j) (inr l)) (λ z m. c z (inr m)) y k gy in
         let good' = subst (λ w. Good w) i good in
-        let here : GChained 0 (line (x' ∷ older) x') = subst (λ l. GChained 0 l) (sym (line_here older x')) (gbase older x' v nc down good' (c x' (inl refl) good') ih x'.top refl) in
-        subst (λ w. GChained 0 (line (x' ∷ older) w)) (sym i) here
-    gline (x' ∷ older) v nc down c x (inr i) good =
-        subst (λ l. GChained 0 l) (sym (line_there older x' v x i)) (gline older v.1 (no_collision_older older x' nc) (λ a b j l. down a b (inr j) (inr l)) (λ z m. c z (inr m)) x i good)
+        let here : Raised 0 (line (x' ∷ older) x') = subst (λ l. Raised 0 l) (sym (line_here older x')) (raised_base older x' v nc down good' (c x' (inl refl) good') ih x'.top refl) in
+        subst (λ w. Raised 0 (line (x' ∷ older) w)) (sym i) here
+    raised_line (x' ∷ older) v nc down c x (inr i) good =
+        subst (λ l. Raised 0 l) (sym (line_there older x' v x i)) (raised_line older v.1 (no_collision_older older x' nc) (λ a b j l. down a b (inr j) (inr l)) (λ z m. c z (inr m)) x i good)
 
     record_some : (u : ℕ) (zs : List Plan) → 0 < record_in (structure_of u zs) → (s : Plan) × In s zs × (u ≡ user s) × (record_of s ≡ record_in (structure_of u zs))
     record_some u [] h = absurd (omega arith)
@@ -1219,25 +1203,25 @@ module _ (Plan Entry : Type 0) (shape : Shape Plan Entry) where
         ]
 
     module _ (run : List (View Plan)) (v : Valid run) (nc : NoCollision run) (down : Down run)
-        (above_raise : (x : View Plan) → In x run → Good x → GChained (group_of x.top) x.above)
-        (records_new : (y : View Plan) → In y run → Good y → raises y.own ≡ true → record_of y.own ≡ gversion y.own)
+        (above_raise : (x : View Plan) → In x run → Good x → Raised (group_of x.top) x.above)
+        (records_new : (y : View Plan) → In y run → Good y → raises y.own ≡ true → record_of y.own ≡ group_version y.own)
         (records_kept : (y : View Plan) → In y run → Good y → raises y.own ≡ false → record_of y.own ≡ record_in (structure_of (user y.own) y.structures))
         (handles_kept : (y : View Plan) → In y run → Good y → raises y.own ≡ false → (s : Plan) → In s y.structures → user y.own ≡ user s → handle_of y.own ≡ handle_of s) where
-      pub own_last_version : (y : View Plan) → In y run → Good y → (q : Plan) → In q (line run y) → gversion q ≤ gversion y.own
+      pub own_last_version : (y : View Plan) → In y run → Good y → (q : Plan) → In q (line run y) → group_version q ≤ group_version y.own
       own_last_version y i gy q k =
-          let c = gline run v nc down above_raise y i gy in
+          let c = raised_line run v nc down above_raise y i gy in
           let h = is_line run v nc y i in
-          let b = (gbounds 0 (line run y) c q k).1 in
-          let t = ap (gfinal 0) h.ends.1 ∙ gfinal-push 0 h.ends.0 y.own in
+          let b = (version_bounds 0 (line run y) c q k).1 in
+          let t = ap (last_raised 0) h.ends.1 ∙ last_raised-push 0 h.ends.0 y.own in
           omega arith
 
       -- a user's plans in its line are recorded
-      recorded : (n : ℕ) (y : View Plan) → In y run → Good y → number y.own ≤ n → (q : Plan) → In q (line run y) → user q ≡ user y.own → raises q ≡ true → gversion q ≤ record_of y.own
+      recorded : (n : ℕ) (y : View Plan) → In y run → Good y → number y.own ≤ n → (q : Plan) → In q (line run y) → user q ≡ user y.own → raises q ≡ true → group_version q ≤ record_of y.own
       recorded zero y i gy l q k u w = let p = (one_use run v).positive y.own (y, i, refl) in absurd (omega arith)
       recorded (suc n) y i gy l q k u w =
           elim (cases_Bool (raises y.own)) [
             | inl t ↦ (
-                let e : record_of y.own ≡ gversion y.own = records_new y i gy t in
+                let e : record_of y.own ≡ group_version y.own = records_new y i gy t in
                 let b = own_last_version y i gy q k in
                 omega arith)
             | inr t ↦ (
@@ -1276,12 +1260,12 @@ module _ (Plan Entry : Type 0) (shape : Shape Plan Entry) where
 
       -- the view that wrote a record
       pub written : (n : ℕ) (y : View Plan) → In y run → Good y → number y.own ≤ n → 0 < record_of y.own
-          → (w : View Plan) × In w run × Good w × (raises w.own ≡ true) × (gversion w.own ≡ record_of y.own) × (handle_of w.own ≡ handle_of y.own) × (user w.own ≡ user y.own) × ((a : List Plan) × (line run y ≡ line run w ++ a))
+          → (w : View Plan) × In w run × Good w × (raises w.own ≡ true) × (group_version w.own ≡ record_of y.own) × (handle_of w.own ≡ handle_of y.own) × (user w.own ≡ user y.own) × ((a : List Plan) × (line run y ≡ line run w ++ a))
       written zero y i gy l h = let p = (one_use run v).positive y.own (y, i, refl) in absurd (omega arith)
       written (suc n) y i gy l h =
           elim (cases_Bool (raises y.own)) [
             | inl t ↦ (
-                let e : record_of y.own ≡ gversion y.own = records_new y i gy t in
+                let e : record_of y.own ≡ group_version y.own = records_new y i gy t in
                 (y, i, gy, t, sym e, refl, refl, ([], sym (append-nil (line run y)))))
             | inr t ↦ (
                 let e : record_of y.own ≡ record_in (structure_of (user y.own) y.structures) = records_kept y i gy t in
@@ -1301,7 +1285,7 @@ module _ (Plan Entry : Type 0) (shape : Shape Plan Entry) where
           ]
 
       -- what raises the group past all records is pending
-      pub still_pending : (x : View Plan) → In x run → Good x → (r : ℕ) → ((s : Plan) → In s x.structures → record_of s ≤ r) → (q : Plan) → In q (line run x) → raises q ≡ true → r < gversion q → In q (pending x)
+      pub still_pending : (x : View Plan) → In x run → Good x → (r : ℕ) → ((s : Plan) → In s x.structures → record_of s ≤ r) → (q : Plan) → In q (line run x) → raises q ≡ true → r < group_version q → In q (pending x)
       still_pending x i gx r m q k w h =
           let g = is_line run v nc x i in
           let nq = g.numbered q k in
@@ -1340,23 +1324,18 @@ module _ (Plan Entry : Type 0) (shape : Shape Plan Entry) where
                 ])
           ]
 
-      pub last_version : (x : View Plan) → In x run → gfinal 0 (line run x) ≡ gversion x.own
-      last_version x i =
-          let h = is_line run v nc x i in
-          ap (gfinal 0) h.ends.1 ∙ gfinal-push 0 h.ends.0 x.own
-
       -- what raises the group has a version of it
-      pub raised_version : (x : View Plan) → In x run → Good x → (q : Plan) → In q (line run x) → raises q ≡ true → 0 < gversion q
+      pub raised_version : (x : View Plan) → In x run → Good x → (q : Plan) → In q (line run x) → raises q ≡ true → 0 < group_version q
       raised_version x i gx q k w =
-          let b = (gbounds 0 (line run x) (gline run v nc down above_raise x i gx) q k).0 in
+          let b = (version_bounds 0 (line run x) (raised_line run v nc down above_raise x i gx) q k).0 in
           let st : step q ≡ 1 = ap (λ b. if b then 1 else 0) w in
           omega arith
 
       -- the group's part of a line: up to the plan that wrote the greatest record, then pending plans
       pub group_part : (x : View Plan) → In x run → Good x → (s : Plan) → In s x.structures → 0 < record_of s → ((z : Plan) → In z x.structures → record_of z ≤ record_of s)
           → (w : View Plan) × In w run × Good w × (raises w.own ≡ true) × (handle_of w.own ≡ handle_of s) × (length (line run w) < length (line run x)) × ((a : List Plan) × (line run x ≡ line run w ++ a)
-          × ((q : Plan) → In q a → raises q ≡ true → In q (pending x) × (record_of s < gversion q))
-          × ((q : Plan) → In q (pending x) → record_of s < gversion q → In q a))
+          × ((q : Plan) → In q a → raises q ≡ true → In q (pending x) × (record_of s < group_version q))
+          × ((q : Plan) → In q (pending x) → record_of s < group_version q → In q a))
       group_part x i gx s k h m =
           let g = is_line run v nc x i in
           let (y, jy, my) = g.released s k in
@@ -1367,11 +1346,11 @@ module _ (Plan Entry : Type 0) (shape : Shape Plan Entry) where
           let sh = shorter run v nc x y i jy k' in
           let (w, jw, gw', tw, gw, hw, uw, c) = written (number y.own) y jy gy (omega arith) (omega arith) in
           let whole : line run x ≡ line run w ++ (c.0 ++ p.0) = p.1 ∙ ap (λ d. d ++ p.0) c.1 ∙ append_assoc (line run w) c.0 p.0 in
-          let gs : gversion w.own ≡ record_of s = gw ∙ ry in
+          let gs : group_version w.own ≡ record_of s = gw ∙ ry in
           let hv = is_line run v nc w jw in
-          let fw = ap (gfinal 0) hv.ends.1 ∙ gfinal-push 0 hv.ends.0 w.own in
+          let fw = ap (last_raised 0) hv.ends.1 ∙ last_raised-push 0 hv.ends.0 w.own in
           let lw = ap length c.1 ∙ length-append (line run w) c.0 in
-          let back = gback 0 (line run w) (c.0 ++ p.0) (subst (λ l. GChained 0 l) whole (gline run v nc down above_raise x i gx)) in (
+          let back = raised-back 0 (line run w) (c.0 ++ p.0) (subst (λ l. Raised 0 l) whole (raised_line run v nc down above_raise x i gx)) in (
             w,
             jw,
             gw',
@@ -1382,9 +1361,9 @@ module _ (Plan Entry : Type 0) (shape : Shape Plan Entry) where
               c.0 ++ p.0,
               whole,
               (λ q iq rq.
-                  (let lo = (gbounds (gfinal 0 (line run w)) (c.0 ++ p.0) back q iq).0 in
+                  (let lo = (version_bounds (last_raised 0 (line run w)) (c.0 ++ p.0) back q iq).0 in
                   let st : step q ≡ 1 = ap (λ b. if b then 1 else 0) rq in
-                  let lt : record_of s < gversion q = omega arith in
+                  let lt : record_of s < group_version q = omega arith in
                   (still_pending x i gx (record_of s) m q (subst (λ l. In q l) (sym whole) (in-right q (line run w) (c.0 ++ p.0) iq)) rq lt, lt))),
               (λ q iq lt.
                   (elim (in-append q (line run w) (c.0 ++ p.0) (subst (λ l. In q l) whole (g.has_pending q iq))) [
