@@ -19,7 +19,7 @@ use Rattle.pending_list.specs.Reply.{PendingItem, Reply, reply, top}
 use Rattle.pending_list.specs.Reply as reply_spec
 use Rattle.pending_list.proofs.Highest.{none_listed, top_is}
 use Rattle.reply_rules.specs.Lists.{Lists, items, number_of, pending, shown, structure_of}
-use Rattle.reply_rules.specs.Rules.{above, above_show, all_show, ascends_after, counts_at, each_once, entries, entries_of, follow, group_records, is_above, is_next, is_numbered, is_planned, items_above, left_of, link, lists, lists_entry, names_certificate, names_last, next_vector, numbers, other_entries, own_above, own_all, own_entry_of_top, own_only, pending_ascends, pending_next, pending_numbered, pending_once, rest_known, rest_of, rest_others, rest_waiting, same_vector, shows, shows_earlier, structures_ascend, structures_numbered, top_counts, top_entries, top_known, top_plan, top_vector, top_waiting, unknown_user, vector, vectors_follow, waiting, waits, within, all_in_order}
+use Rattle.reply_rules.specs.Rules.{above, above_show, all_show, ascends_after, counts_at, depth, each_once, entries, entries_of, follow, group_records, is_above, is_next, is_numbered, is_planned, items_above, left_of, link, lists, lists_entry, names_certificate, names_last, next_vector, numbers, other_entries, own_above, own_all, own_entry_of_top, own_only, pending_ascends, pending_next, pending_numbered, pending_once, rest_known, rest_of, rest_others, rest_waiting, same_vector, shows, shows_earlier, structures_ascend, structures_numbered, top_counts, top_entries, top_known, top_plan, top_vector, top_waiting, unknown_user, vector, vectors_follow, waiting, waits, within, all_in_order, is_known}
 use Rattle.reply_rules.specs.Broken.{broken, later_rules}
 use Rattle.reply_rules.specs.declared.rule.Rule.TheVariants as rule
 use Rattle.reply_rules.proofs.Above.{above_plans}
@@ -74,6 +74,10 @@ users_shown (z ∷ zs) = ap (λ us. z.value.plan.user ∷ us) (users_shown zs)
 users_pending : (is : List PendingItem) → map (λ i. i.plan.user) is ≡ map (λ (p : Plan). p.user) (map plan_in_item is)
 users_pending [] = refl
 users_pending (i ∷ is) = ap (λ us. i.plan.user ∷ us) (users_pending is)
+
+depths_pending : (is : List PendingItem) → map (λ i. depth i.plan) is ≡ map (λ (p : Plan). depth p) (map plan_in_item is)
+depths_pending [] = refl
+depths_pending (i ∷ is) = ap (λ ds. depth i.plan ∷ ds) (depths_pending is)
 
 once_ascending : (before : Option ℕ) (ps : List Plan) → ascends_after before (map (λ (p : Plan). p.user) ps) ≡ true → Plans.EachOnce Plan Entry shape ps
 once_ascending before [] h = tt
@@ -135,7 +139,7 @@ number_by_plan : (o : Option (Signed Structure)) → Plans.number_in Plan Entry 
 number_by_plan None = refl
 number_by_plan (Some z) = refl
 
-number_by_plans : (u : ℕ) (x : Lists) → Plans.number_of Plan Entry shape u (by_plans x) ≡ number_of u x
+pub number_by_plans : (u : ℕ) (x : Lists) → Plans.number_of Plan Entry shape u (by_plans x) ≡ number_of u x
 number_by_plans u x = ap (Plans.number_in Plan Entry shape) (structure_by_plans u x.structures) ∙ number_by_plan (structure_of u x)
 
 -- ---- counts
@@ -178,10 +182,10 @@ of_user u v l = rw (lt-ltb u 64 l) refl
 of_group : (u : ℕ) (v : List Component) → 64 ≤ u → users_version u v ≡ 0
 of_group u v l = rw (le-ltb u 64 l) refl
 
-one_turned : (u w : ℕ) → (if w == u then 1 else 0) ≡ one u w
+pub one_turned : (u w : ℕ) → (if w == u then 1 else 0) ≡ one u w
 one_turned u w = elim (cases_eq u w) [ inl e ↦ rw (eq-eqb w u (sym e), eq-eqb u w e) refl | inr e ↦ rw (ne_eqb w u (λ m. e (sym m)), ne_eqb u w e) refl ]
 
-raised_are_groups : (t : Table) (i : PendingItem) (g : ℕ) → In g (raised_groups t i) → 64 ≤ g
+pub raised_are_groups : (t : Table) (i : PendingItem) (g : ℕ) → In g (raised_groups t i) → 64 ≤ g
 raised_are_groups t i g j = are_groups 32 g (in-filter (raises_at t (table_version i.plan) i.cert) g groups j).0
 
 -- the vector that follows, by users
@@ -267,11 +271,14 @@ shows_plan x before rest p h =
 -- what the rules say of the lists of a reply
 pub record Parts (t : Table) (x : Lists) : Type 0 where
   pub structures_ascend : Plans.EachOnce Plan Entry shape (shown x)
+  pub depths : ascends_after None (map (λ p. depth p) (pending x)) ≡ true
   pub pending_once : Plans.EachOnce Plan Entry shape (pending x)
   pub planned : list_all is_planned (items x) ≡ true
+  pub known : list_all (is_known t) (pending x) ≡ true
   pub pending_numbered : pending_numbered x ≡ true
   pub pending_next : pending_next x ≡ true
   pub top_counts : top_counts x ≡ true
+  pub ordered : all_in_order x ≡ true
   pub own_above : own_above x ≡ true
   pub vectors_follow : vectors_follow t x ≡ true
   pub top_known : top_known x ≡ true
@@ -308,10 +315,13 @@ parts_of t x holds unbroken =
     record {
       structures_ascend = once_ascending None (shown x) (sym (ap (λ us. ascends_after None us) (users_shown x.structures)) ∙ ascend.0);
       pending_once = once_each (pending x) (sym (ap each_once (users_pending (items x))) ∙ once.0);
+      depths = sym (ap (λ ds. ascends_after None ds) (depths_pending (items x))) ∙ deeper.0;
       planned = once.1;
+      known = (and_parts (list_all (is_known t) (shown x)) (list_all (is_known t) (pending x)) known.0).1;
       pending_numbered = of_pending.0;
       pending_next = next.0;
       top_counts = next.1;
+      ordered = order.0;
       own_above = follows.0;
       vectors_follow = follows.1;
       top_known = top_first.0;
@@ -338,13 +348,13 @@ module _ (t : Table) (x : Lists) (read : reply.Fits (reply_with x)) (holds : lis
   pub pending_fits : (q : Plan) → In q (pending x) → plan.Fits q
   pending_fits q i = let j = in-map plan_in_item (items x) q i in subst plan.Fits (sym j.2) (pending_plan_fits (reply_with x) read j.0 j.1)
 
-  waiting_pending : (q : Plan) → In q (waiting x) → In q (pending x)
+  pub waiting_pending : (q : Plan) → In q (waiting x) → In q (pending x)
   waiting_pending q i = (in-filter (λ p. not (is_above x p)) q (pending x) i).0
 
-  above_pending : (q : Plan) → In q (above x) → In q (pending x)
+  pub above_pending : (q : Plan) → In q (above x) → In q (pending x)
   above_pending q i = (in-filter (is_above x) q (pending x) i).0
 
-  above_user : (i : PendingItem) → In i (items_above x) → i.plan.user < 64
+  pub above_user : (i : PendingItem) → In i (items_above x) → i.plan.user < 64
   above_user i j = user_below i.plan (pending_fits i.plan (map-in plan_in_item (items x) i (in-filter (λ i. is_above x i.plan) i (items x) j).0))
 
   top_count : (u : ℕ) → Plans.version_of Plan Entry shape (top_plan x) u ≡ Plans.number_of Plan Entry shape u (by_plans x) + Count u (waiting x)

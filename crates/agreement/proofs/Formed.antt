@@ -1,13 +1,14 @@
 -- What the grammar says of the plans and the certificates of a reply.
 use Rattle.std.proofs.Common.{◌≡◌, ◌<◌, List, [], ◌∷◌, Option, Some, None, Ok, sym, ap, ◌∙◌, subst, inl, inr, arith}
-use Rattle.std.specs.Int.{w8}
+use Rattle.std.specs.Int.{w8, w32}
 use Rattle.layout.specs.AscendingKeys.{lt_from_less}
 use Rattle.layout.specs.Format.{Format, FitRows, after_row, whole}
 use Rattle.layout.specs.Laws.{Lawful, in_range, whole_again}
 use Rattle.version_order.specs.declared.plan.Entry.{Entry}
 use Rattle.version_order.specs.Plan.{Plan, entry, plan}
-use Rattle.version_order.specs.Structure.{Structure}
-use Rattle.update_cert.specs.Cert.{cert}
+use Rattle.version_order.specs.declared.structure.GroupRecord.{GroupRecord}
+use Rattle.version_order.specs.Structure.{Structure, group_record}
+use Rattle.update_cert.specs.Cert.{Cert, cert}
 use Rattle.pending_list.specs.declared.signed.Signed.{Signed}
 use Rattle.pending_list.specs.Reply.{PendingItem, Reply, pending_item, reply, signed_structure}
 use Rattle.agreement.proofs.Members.{In}
@@ -35,6 +36,9 @@ pending_plan_fits r fits i j = (item_fits r fits i j).1.1
 
 pub cert_fits : (r : Reply) → reply.Fits r → (i : PendingItem) → In i r.pending → cert.Fits i.cert
 cert_fits r fits i j = (item_fits r fits i j).0.0.1
+
+pub cert_user : (c : Cert) → cert.Fits c → c.user < 64
+cert_user c fits = omega (arith, (in_range w8 0 63 c.user fits.0).1)
 
 -- ---- plans
 
@@ -70,3 +74,18 @@ one_entry b (f ∷ es) fits d e (inr i) (inr j) same = one_entry (Some f) es fit
 -- a plan has one entry of a user
 pub one_each : (p : Plan) → plan.Fits p → (d e : Entry) → In d p.entries → In e p.entries → d.user ≡ e.user → d ≡ e
 one_each p fits d e i j same = one_entry None p.entries fits.1.1.1.1.1.1 d e i j same
+
+-- ---- records of groups
+
+records_positive : (b : Option GroupRecord) (rs : List GroupRecord) → FitRows (after_row group_record) b rs → (r : GroupRecord) → In r rs → 0 < r.version
+unfolding FitRows
+records_positive b [] fits r i = absurd i
+records_positive b (q ∷ rs) fits r (inl i) =
+    let low = (in_range w32 1 4294967295 q.version fits.0.1.0).0 in
+    let same = ap (λ (r : GroupRecord). r.version) i in
+    omega arith
+records_positive b (q ∷ rs) fits r (inr i) = records_positive (Some q) rs fits.1 r i
+
+-- the version in a record is positive
+pub record_positive : (r : Reply) → reply.Fits r → (z : Signed Structure) → In z r.structures → (q : GroupRecord) → In q z.value.groups → 0 < q.version
+record_positive r fits z i q j = records_positive None z.value.groups (each_fits signed_structure None r.structures fits.0.1.1 z i).0.1.1.1.1.1 q j

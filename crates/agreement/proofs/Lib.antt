@@ -5,3 +5,10 @@ pub mod Formed
 pub mod ByPlans
 pub mod Runs
 pub mod Lines
+pub mod TableGrowth
+pub mod TreeParts
+pub mod LineItems
+pub mod UserParts
+pub mod GroupVersions
+pub mod GroupParts
+pub mod Worlds

@@ -21,12 +21,12 @@ use Rattle.agreement.proofs.Members.{In, contains_in, in-append, in-filter, in-l
 use Rattle.agreement.proofs.ByPlans.{Count, plan_in_item, plan_shown, shape}
 use Rattle.agreement.proofs.Runs.{IsPending, is_of_cert, names_cert, none_collide, of_view, same_cert, same_certs, signed_plan, valid_by_plans}
 
-abbrev cert_in_item : PendingItem → Cert
+abbrev pub cert_in_item : PendingItem → Cert
 cert_in_item i = i.cert
 
 -- ---- a map that is cut
 
-unmap : {A B : Type 0} (f : A → B) (xs : List A) (b : List B) (y : B) (a : List B) → map f xs ≡ b ++ y ∷ a
+pub unmap : {A B : Type 0} (f : A → B) (xs : List A) (b : List B) (y : B) (a : List B) → map f xs ≡ b ++ y ∷ a
     → (front : List A) × (x : A) × (back : List A) × (xs ≡ front ++ x ∷ back) × (map f front ≡ b) × (f x ≡ y) × (map f back ≡ a)
 unmap f [] [] y a e = cc
 unmap f [] (z ∷ b) y a e = cc
@@ -37,7 +37,7 @@ unmap f (x ∷ xs) (z ∷ b) y a e =
     let r = unmap f xs b y a t in
     (x ∷ r.0, r.1, r.2, ap (λ l. x ∷ l) r.3, cc (r.4), r.5, r.6)
 
-unmap_front : {A B : Type 0} (f : A → B) (xs : List A) (b a : List B) → map f xs ≡ b ++ a → (front : List A) × (back : List A) × (xs ≡ front ++ back) × (map f front ≡ b) × (map f back ≡ a)
+pub unmap_front : {A B : Type 0} (f : A → B) (xs : List A) (b a : List B) → map f xs ≡ b ++ a → (front : List A) × (back : List A) × (xs ≡ front ++ back) × (map f front ≡ b) × (map f back ≡ a)
 unmap_front f xs [] a e = ([], xs, refl, refl, e)
 unmap_front f [] (z ∷ b) a e = cc
 unmap_front f (x ∷ xs) (z ∷ b) a e =
@@ -49,14 +49,14 @@ unmap_front f (x ∷ xs) (z ∷ b) a e =
 -- ---- a line with its plans
 
 -- the line of the view that this user accepted at this number, with the plans
-abbrev items_at : List View → ℕ → ℕ → List PendingItem
+abbrev pub items_at : List View → ℕ → ℕ → List PendingItem
 items_at [] u n = []
 items_at (x ∷ older) u n =
     if (user_of x == u) && (number_of x == n)
     then option_map_or (λ t. items_at older t.user t.number) (top_plan x.lists) [] ++ items_above x.lists
     else items_at older u n
 
-line_certs : (run : List View) (u n : ℕ) → map cert_in_item (items_at run u n) ≡ line_at run u n
+pub line_certs : (run : List View) (u n : ℕ) → map cert_in_item (items_at run u n) ≡ line_at run u n
 line_certs [] u n = refl
 line_certs (x ∷ older) u n = go ((user_of x == u) && (number_of x == n)) (top_plan x.lists) (line_certs older)
   where
@@ -67,7 +67,7 @@ line_certs (x ∷ older) u n = go ((user_of x == u) && (number_of x == n)) (top_
     go true None ih = refl
     go true (Some t) ih = map-append cert_in_item (items_at older t.user t.number) (items_above x.lists) ∙ ap (λ l. l ++ map cert_in_item (items_above x.lists)) (ih t.user t.number)
 
-line_plans : (run : List View) (u n : ℕ) → map plan_in_item (items_at run u n) ≡ Plans.line_at Plan Entry shape (map of_view run) u n
+pub line_plans : (run : List View) (u n : ℕ) → map plan_in_item (items_at run u n) ≡ Plans.line_at Plan Entry shape (map of_view run) u n
 line_plans [] u n = refl
 line_plans (x ∷ older) u n = go ((user_of x == u) && (number_of x == n)) (top_plan x.lists) (line_plans older)
   where
@@ -85,7 +85,7 @@ above_in : (x : Lists) (i : PendingItem) → In i (items_above x) → In i (item
 above_in x i h = (in-filter (λ i. is_above x i.plan) i (items x) h).0
 
 -- each operation of a line is pending in a view of the run
-line_pending : (run : List View) (u n : ℕ) (i : PendingItem) → In i (items_at run u n) → IsPending run i
+pub line_pending : (run : List View) (u n : ℕ) (i : PendingItem) → In i (items_at run u n) → IsPending run i
 line_pending [] u n i h = absurd h
 line_pending (x ∷ older) u n i h = go ((user_of x == u) && (number_of x == n)) (top_plan x.lists) h (λ u n. line_pending older u n i)
   where
@@ -126,13 +126,13 @@ module _ (run : List View) (v : IsRun run) (nc : NoCollision run) where
         | inr other ↦ (let o = other.1 in rw (ne_eqb c.user u (λ m. other.0 (sym m ∙ is))) (omega arith))
       ]
 
-  counted : (u : ℕ) (is : List PendingItem) → ((i : PendingItem) → In i is → IsPending run i) → Count u (map plan_in_item is) ≡ length (filter (λ c. c.user == u) (map cert_in_item is))
+  pub counted : (u : ℕ) (is : List PendingItem) → ((i : PendingItem) → In i is → IsPending run i) → Count u (map plan_in_item is) ≡ length (filter (λ c. c.user == u) (map cert_in_item is))
   counted u [] o = refl
   counted u (i ∷ is) o =
       one_counted u i.plan.user (Count u (map plan_in_item is)) (map cert_in_item is) (counted u is (λ j r. o j (inr r))) i.cert
       (sym (is_of_cert run v nc i (o i (inl refl))).0)
 
-  line_numbered : (x : View) → In x run → IsNumbered (line run x)
+  pub line_numbered : (x : View) → In x run → IsNumbered (line run x)
   line_numbered x i before c after e =
       let (b, o, a, cut, of_b, of_o, of_a) = unmap cert_in_item (line_items x) before c after (certs x ∙ e) in
       let k = Plans.counts Plan Entry shape (map of_view run) (valid_by_plans run v) (none_collide run v nc) (of_view x) (in_run x i) (map plan_in_item b) o.plan (map plan_in_item a)

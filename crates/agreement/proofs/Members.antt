@@ -80,6 +80,48 @@ pub last_or_nil : {A : Type 0} (xs : List A) → (xs ≡ []) ⊎ ((ys : List A) 
 last_or_nil [] = inl refl
 last_or_nil {A} (x ∷ xs) = elim (last_or_nil xs) [ inl e ↦ inr ([], x, ap (λ l. x ∷ l) e) | inr s ↦ inr (x ∷ s.0, s.1, ap (λ l. x ∷ l) s.2) ]
 
+pub last_same : {A : Type 0} (xs ys : List A) (x y : A) → xs ++ x ∷ [] ≡ ys ++ y ∷ [] → x ≡ y
+last_same [] [] x y e = cc
+last_same [] (z ∷ []) x y e = cc
+last_same [] (z ∷ (w ∷ ys)) x y e = cc
+last_same (z ∷ []) [] x y e = cc
+last_same (z ∷ (w ∷ xs)) [] x y e = cc
+last_same (z ∷ xs) (w ∷ ys) x y e = let t : xs ++ x ∷ [] ≡ ys ++ y ∷ [] = cc in last_same xs ys x y t
+
+-- strictly ascending by a number
+abbrev pub Ascends : {A : Type 0} → (A → ℕ) → List A → Type 0
+Ascends f [] = Unit {0}
+Ascends {A} f (x ∷ xs) = ((y : A) → In y xs → f x < f y) × Ascends f xs
+
+pub ascends_back : {A : Type 0} (f : A → ℕ) (xs ys : List A) → Ascends f (xs ++ ys) → Ascends f ys
+ascends_back f [] ys h = h
+ascends_back f (x ∷ xs) ys h = ascends_back f xs ys h.1
+
+pub ascends_kept : {A : Type 0} (f : A → ℕ) (t : A → Bool) (xs : List A) → Ascends f xs → Ascends f (filter t xs)
+ascends_kept f t [] h = tt
+ascends_kept {A} f t (x ∷ xs) h = go (t x) (ascends_kept f t xs h.1)
+  where
+    go : (b : Bool) → Ascends f (filter t xs) → Ascends f (cond b (x ∷ filter t xs) (filter t xs))
+    go true ih = ((λ y i. h.0 y (in-filter t y xs i).0), ih)
+    go false ih = ih
+
+-- two ascending lists of the same members are one
+pub ascends_same : {A : Type 0} (f : A → ℕ) (xs ys : List A) → Ascends f xs → Ascends f ys → ((q : A) → In q xs → In q ys) → ((q : A) → In q ys → In q xs) → xs ≡ ys
+ascends_same f [] [] a b h k = refl
+ascends_same f [] (y ∷ ys) a b h k = absurd (k y (inl refl))
+ascends_same f (x ∷ xs) [] a b h k = absurd (h x (inl refl))
+ascends_same {A} f (x ∷ xs) (y ∷ ys) a b h k =
+    let e : x ≡ y = heads (h x (inl refl)) (k y (inl refl)) in
+    let ih = ascends_same f xs ys a.1 b.1
+    (λ q i. elim (h q (inr i)) [ inl m ↦ absurd (let l = a.0 q i in let n = ap f (m ∙ sym e) in omega arith) | inr m ↦ m ])
+    (λ q i. elim (k q (inr i)) [ inl m ↦ absurd (let l = b.0 q i in let n = ap f (m ∙ e) in omega arith) | inr m ↦ m ]) in
+    ap (λ z. z ∷ xs) e ∙ ap (λ z. y ∷ z) ih
+  where
+    heads : (x ≡ y) ⊎ In x ys → (y ≡ x) ⊎ In y xs → x ≡ y
+    heads (inl m) n = m
+    heads (inr m) (inl n) = sym n
+    heads (inr m) (inr n) = absurd (let l = a.0 y n in let r = b.0 x m in omega arith)
+
 -- ---- maps
 
 pub in-map : {A B : Type 0} (f : A → B) (xs : List A) (y : B) → In y (map f xs) → (x : A) × In x xs × (y ≡ f x)

@@ -1,8 +1,10 @@
 -- Views agree: over any type of plans, from what the rules say of a view as counts and members.
 use Rattle.std.proofs.Common.{◌≡◌, ◌≢◌, ℕ, zero, suc, ◌+◌, ◌<◌, ◌≤◌, List, [], ◌∷◌, ◌++◌, length, Option, Some, None, Bool, true, false, refl, sym, ap, ◌∙◌, subst, inl, inr, arith, append_assoc, length-append}
 use Rattle.std.specs.Prelude.{◌⊎◌, ◌==◌, ◌&&◌, if◌then◌else◌}
+use Rattle.std.specs.List.{filter}
+use Rattle.std.proofs.lemmas.List.{append-nil}
 use Rattle.std.proofs.lemmas.Bool.{eqb-true, eq-eqb, ne_eqb, cases_Bool, cases_lt, cases_eq, and_left, and_right}
-use Rattle.agreement.proofs.Members.{In, one, in-left, in-right, in-append, in-middle, in-split, split, nil-split, one-same, one-other, one-cases, last_or_nil}
+use Rattle.agreement.proofs.Members.{In, one, in-left, in-right, in-append, in-middle, in-split, split, nil-split, one-same, one-other, one-cases, last_or_nil, last_same}
 
 -- A view: its structures' plans, the pending plans of others in order, the own plan, the top, the pending plans
 -- that are above, in order, and those that aren't.
@@ -956,3 +958,417 @@ module _ (Plan Entry : Type 0) (shape : Shape Plan Entry) where
         let f = count-append u before (p ∷ []) in
         let z : version u p ≡ count u (before ++ p ∷ []) = omega arith in z) in
         record { of_user = of_user; of_number = n ∙ of_user (user p) }
+
+    -- a user's part of a line: behind the line that ends with its structure is its pending plan
+
+    none_of : (u : ℕ) (l : List Plan) → count u l ≡ 0 → filter (λ p. u == user p) l ≡ []
+    none_of u [] h = refl
+    none_of u (p ∷ l) h =
+        elim (one-cases u (user p)) [
+          | inl e ↦ absurd (let o = e.1 in omega arith)
+          | inr e ↦ (let o = e.1 in rw (ne_eqb u (user p) e.0) (none_of u l (omega arith)))
+        ]
+
+    one_of : (u : ℕ) (l : List Plan) → count u l ≤ 1 → (q : Plan) → In q l → u ≡ user q → filter (λ p. u == user p) l ≡ q ∷ []
+    one_of u [] h q i e = absurd i
+    one_of u (p ∷ l) h q (inl i) e =
+        let k : u ≡ user p = e ∙ ap user i in
+        let o = one-same u (user p) k in
+        rw (eq-eqb u (user p) k) (ap (λ z. z ∷ filter (λ p. u == user p) l) (sym i) ∙ ap (λ z. q ∷ z) (none_of u l (omega arith)))
+    one_of u (p ∷ l) h q (inr i) e =
+        let c = count-of u q l i e in
+        elim (one-cases u (user p)) [
+          | inl k ↦ absurd (let o = k.1 in omega arith)
+          | inr k ↦ (let o = k.1 in rw (ne_eqb u (user p) k.0) (one_of u l (omega arith) q i e))
+        ]
+
+    pub line_counts : (x : View Plan) → In x run → (u : ℕ) → count u (line run x) ≡ version u x.own
+    line_counts x i u =
+        let g = is_line run v nc x i in
+        let f = at-final u (λ u. 0) (line run x) g.chained in
+        let t = ap (λ l. final (λ u. 0) l u) g.ends.1 ∙ final-push (λ u. 0) g.ends.0 x.own u in
+        omega arith
+
+    -- the line that ends with a structure is a beginning of each line of a view that shows it
+    pub prefix : (x y : View Plan) → In x run → In y run → In y.own x.structures → (a : List Plan) × (line run x ≡ line run y ++ a)
+    prefix x y i j k =
+        let g = is_line run v nc x i in
+        let h = is_line run v nc y j in
+        let (b, a, e) = in-split y.own (line run x) (g.has_structures y.own k) in
+        let m : h.ends.0 ≡ b = same_before y x (line run y) (line run x) h g (length h.ends.0) h.ends.0 b y.own [] a (omega arith) h.ends.1 e in
+        (a, e ∙ sym (append_assoc b (y.own ∷ []) a) ∙ ap (λ z. (z ++ y.own ∷ []) ++ a) (sym m) ∙ ap (λ z. z ++ a) (sym h.ends.1))
+
+    -- and a shorter one
+    pub shorter : (x y : View Plan) → In x run → In y run → In y.own x.structures → length (line run y) < length (line run x)
+    shorter x y i j k =
+        let g = is_line run v nc x i in
+        let h = is_line run v nc y j in
+        let (a, e) = prefix x y i j k in
+        let le = ap length e ∙ length-append (line run y) a in
+        elim (last_or_nil a) [
+          | inl z ↦ absurd (
+              let f : g.ends.0 ++ x.own ∷ [] ≡ h.ends.0 ++ y.own ∷ [] = sym g.ends.1 ∙ e ∙ ap (λ l. line run y ++ l) z ∙ append-nil (line run y) ∙ h.ends.1 in
+              let m : x.own ≡ y.own = last_same g.ends.0 h.ends.0 x.own y.own f in
+              let n = g.rules.next x.own (own_in x g.rules) in
+              let s = structure_number x g.rules y.own k in
+              let c = ap (λ (p : Plan). number_of (user p) x) m in
+              let d = ap number m in
+              omega arith)
+          | inr r ↦ (let la = ap length r.2 ∙ length-append r.0 (r.1 ∷ []) in omega arith)
+        ]
+
+    -- with no structure of a user, its part of a line is its pending plan
+    pub user_pending : (x : View Plan) → In x run → (u : ℕ) → number_of u x ≡ 0 → filter (λ p. u == user p) (line run x) ≡ filter (λ p. u == user p) (pending x)
+    user_pending x i u z =
+        let g = is_line run v nc x i in
+        let cx = line_counts x i u in
+        let co = own_counts x g.rules u in
+        let most = at_most_one x g.rules u in
+        elim (cases_Bool (has u (pending x))) [
+          | inr n ↦ (
+              let k = count-none u (pending x) n in
+              none_of u (line run x) (omega arith) ∙ sym (none_of u (pending x) k))
+          | inl w ↦ (
+              let (q, iq, uq) = has-in u (pending x) w in
+              one_of u (line run x) (omega arith) q (g.has_pending q iq) uq ∙ sym (one_of u (pending x) most q iq uq))
+        ]
+
+    pub user_part : (x y : View Plan) → In x run → In y run → In y.own x.structures
+        → (a : List Plan) × (line run x ≡ line run y ++ a) × (filter (λ p. user y.own == user p) a ≡ filter (λ p. user y.own == user p) (pending x))
+    user_part x y i j k =
+        let u = user y.own in
+        let g = is_line run v nc x i in
+        let h = is_line run v nc y j in
+        let (b, a, e) = in-split y.own (line run x) (g.has_structures y.own k) in
+        let m : h.ends.0 ≡ b = same_before y x (line run y) (line run x) h g (length h.ends.0) h.ends.0 b y.own [] a (omega arith) h.ends.1 e in
+        let front : line run x ≡ line run y ++ a =
+        e ∙ sym (append_assoc b (y.own ∷ []) a) ∙ ap (λ z. (z ++ y.own ∷ []) ++ a) (sym m) ∙ ap (λ z. z ++ a) (sym h.ends.1) in
+        let cx = line_counts x i u in
+        let cy = line_counts y j u in
+        let co = own_counts x g.rules u in
+        let ny = h.numbered y.own (h.has_pending y.own (own_in y h.rules)) in
+        let sn = structure_number x g.rules y.own k in
+        let ca = ap (count u) front ∙ count-append u (line run y) a in
+        let most = at_most_one x g.rules u in
+        let ea : count u a ≡ count u (pending x) = omega arith in
+        let parts : filter (λ p. u == user p) a ≡ filter (λ p. u == user p) (pending x) =
+        (elim (cases_Bool (has u (pending x))) [
+          | inr n ↦ (
+              let z = count-none u (pending x) n in
+              none_of u a (omega arith) ∙ sym (none_of u (pending x) z))
+          | inl w ↦ (
+              let (q, iq, uq) = has-in u (pending x) w in
+              let nq = g.rules.next q iq in
+              let cq = ap (λ u. number_of u x) uq in
+              let il : In q (line run y ++ a) = subst (λ z. In q z) front (g.has_pending q iq) in
+              let ia : In q a =
+              (elim (in-append q (line run y) a il) [
+                | inl l ↦ (
+                    let up = (at-in (λ u. 0) (line run y) h.chained q l).1 in
+                    let nn = h.numbered q l in
+                    let cl = ap (λ u. count u (line run y)) uq in
+                    absurd (omega arith))
+                | inr r ↦ r
+              ]) in
+              one_of u a (omega arith) q ia uq ∙ sym (one_of u (pending x) most q iq uq))
+        ]) in
+        (a, front, parts)
+
+    -- a plan of the user after that beginning has a greater number
+    after_greater : (x y : View Plan) → In x run → In y run → (a : List Plan) → line run x ≡ line run y ++ a → (q : Plan) → In q a → user q ≡ user y.own → number y.own < number q
+    after_greater x y i j a e q k u =
+        let g = is_line run v nc x i in
+        let h = is_line run v nc y j in
+        let c = chained-back (λ u. 0) (line run y) a (subst (λ l. Chained (λ u. 0) l) e g.chained) in
+        let low = (at-in (final (λ u. 0) (line run y)) a c q k).0 in
+        let t = ap (λ l. final (λ u. 0) l (user q)) h.ends.1 ∙ final-push (λ u. 0) h.ends.0 y.own (user q) in
+        let w = ap (λ u. version u y.own) u in
+        let ny = h.numbered y.own (h.has_pending y.own (own_in y h.rules)) in
+        let nq = g.numbered q (subst (λ l. In q l) (sym e) (in-right q (line run y) a k)) in
+        omega arith
+
+  -- one group: which plans raise it, its version in a plan's vector, the version in the record of the structure of a plan
+  -- Good are views of which this is said: the one at hand, and those whose structures good ones show.
+  module _ (raises : Plan → Bool) (group_version record_of : Plan → ℕ) (Handle : Type 0) (handle_of : Plan → Handle) (Good : View Plan → Type 0) where
+    abbrev pub Down : List (View Plan) → Type 0
+    Down run = (x y : View Plan) → In x run → In y run → Good x → In y.own x.structures → Good y
+
+    abbrev step : Plan → ℕ
+    step p = if raises p then 1 else 0
+
+    abbrev pub Raised : ℕ → List Plan → Type 0
+    Raised n [] = Unit {0}
+    Raised n (p ∷ ps) = (group_version p ≡ n + step p) × Raised (group_version p) ps
+
+    abbrev pub last_raised : ℕ → List Plan → ℕ
+    last_raised n [] = n
+    last_raised n (p ∷ ps) = last_raised (group_version p) ps
+
+    abbrev pub group_of : Option Plan → ℕ
+    group_of None = 0
+    group_of (Some t) = group_version t
+
+    abbrev pub record_in : Option Plan → ℕ
+    record_in None = 0
+    record_in (Some s) = record_of s
+
+    raised-append : (n : ℕ) (a b : List Plan) → Raised n a → Raised (last_raised n a) b → Raised n (a ++ b)
+    raised-append n [] b h k = k
+    raised-append n (p ∷ a) b h k = (h.0, raised-append (group_version p) a b h.1 k)
+
+    pub raised-back : (n : ℕ) (a b : List Plan) → Raised n (a ++ b) → Raised (last_raised n a) b
+    raised-back n [] b h = h
+    raised-back n (p ∷ a) b h = raised-back (group_version p) a b h.1
+
+    last_raised-push : (n : ℕ) (a : List Plan) (p : Plan) → last_raised n (a ++ p ∷ []) ≡ group_version p
+    last_raised-push n [] p = refl
+    last_raised-push n (q ∷ a) p = last_raised-push (group_version q) a p
+
+    last_grows : (n : ℕ) (l : List Plan) → Raised n l → n ≤ last_raised n l
+    last_grows n [] h = omega arith
+    last_grows n (p ∷ l) h = let ih = last_grows (group_version p) l h.1 in let e = h.0 in omega arith
+
+    pub version_bounds : (n : ℕ) (l : List Plan) → Raised n l → (q : Plan) → In q l → (n + step q ≤ group_version q) × (group_version q ≤ last_raised n l)
+    version_bounds n [] h q i = absurd i
+    version_bounds n (p ∷ l) h q (inl i) =
+        let e = h.0 in
+        let k = last_grows (group_version p) l h.1 in
+        let a = ap group_version i in
+        let b = ap step i in
+        omega arith
+    version_bounds n (p ∷ l) h q (inr i) =
+        let e = h.0 in
+        let ih = version_bounds (group_version p) l h.1 q i in
+        omega arith
+
+    -- one plan raises the group to a version
+    pub one_raises : (n : ℕ) (l : List Plan) → Raised n l → (p q : Plan) → In p l → In q l → raises p ≡ true → raises q ≡ true → group_version p ≡ group_version q → p ≡ q
+    one_raises n [] h p q i j rp rq e = absurd i
+    one_raises n (x ∷ l) h p q (inl i) (inl j) rp rq e = i ∙ sym j
+    one_raises n (x ∷ l) h p q (inl i) (inr j) rp rq e =
+        let b = (version_bounds (group_version x) l h.1 q j).0 in
+        let s : step q ≡ 1 = ap (λ b. if b then 1 else 0) rq in
+        let m = ap group_version i in
+        absurd (omega arith)
+    one_raises n (x ∷ l) h p q (inr i) (inl j) rp rq e =
+        let b = (version_bounds (group_version x) l h.1 p i).0 in
+        let s : step p ≡ 1 = ap (λ b. if b then 1 else 0) rp in
+        let m = ap group_version j in
+        absurd (omega arith)
+    one_raises n (x ∷ l) h p q (inr i) (inr j) rp rq e = one_raises (group_version x) l h.1 p q i j rp rq e
+
+    raised_base : (older : List (View Plan)) (x : View Plan) → Valid (x ∷ older) → NoCollision (x ∷ older) → Down (x ∷ older) → Good x → Raised (group_of x.top) x.above
+        → ((y : View Plan) → In y older → Good y → Raised 0 (line older y)) → (t : Option Plan) → x.top ≡ t → Raised 0 (base (line_at older) t ++ x.above)
+    raised_base older x v nc down good c ih None e = subst (λ n. Raised n x.above) (ap group_of e) c
+    raised_base older x v nc down good c ih (Some t) e =
+        let (y, i, m) = v.0.released t (v.0.rules.top_in t e) in
+        let h = is_line older v.1 (no_collision_older older x nc) y i in
+        let gy = down x y (inl refl) (inr i) good (subst (λ s. In s x.structures) (sym m) (v.0.rules.top_in t e)) in
+        let k : group_of x.top ≡ last_raised 0 (line older y) =
+        ap group_of e ∙ ap group_version (sym m) ∙ sym (ap (last_raised 0) h.ends.1 ∙ last_raised-push 0 h.ends.0 y.own) in
+        subst (λ z. Raised 0 (line_at older (user z) (number z) ++ x.above)) m
+        (raised-append 0 (line older y) x.above (ih y i gy) (subst (λ n. Raised n x.above) k c))
+
+    pub raised_line : (run : List (View Plan)) → Valid run → NoCollision run → Down run → ((x : View Plan) → In x run → Good x → Raised (group_of x.top) x.above)
+        → (x : View Plan) → In x run → Good x → Raised 0 (line run x)
+    raised_line [] v nc down c x i good = absurd i
+    raised_line (x' ∷ older) v nc down c x (inl i) good =
+        let ih = λ (y : View Plan) (k : In y older) (gy : Good y). raised_line older v.1 (no_collision_older older x' nc) (λ a b j l. down a b (inr j) (inr l)) (λ z m. c z (inr m)) y k gy in
+        let good' = subst (λ w. Good w) i good in
+        let here : Raised 0 (line (x' ∷ older) x') = subst (λ l. Raised 0 l) (sym (line_here older x')) (raised_base older x' v nc down good' (c x' (inl refl) good') ih x'.top refl) in
+        subst (λ w. Raised 0 (line (x' ∷ older) w)) (sym i) here
+    raised_line (x' ∷ older) v nc down c x (inr i) good =
+        subst (λ l. Raised 0 l) (sym (line_there older x' v x i)) (raised_line older v.1 (no_collision_older older x' nc) (λ a b j l. down a b (inr j) (inr l)) (λ z m. c z (inr m)) x i good)
+
+    record_some : (u : ℕ) (zs : List Plan) → 0 < record_in (structure_of u zs) → (s : Plan) × In s zs × (u ≡ user s) × (record_of s ≡ record_in (structure_of u zs))
+    record_some u [] h = absurd (omega arith)
+    record_some u (z ∷ zs) h =
+        elim (cases_eq u (user z)) [
+          | inl e ↦ (z, inl refl, e, rw (eq-eqb u (user z) e))
+          | inr n ↦ (
+              let k : 0 < record_in (structure_of u zs) = rw (ne_eqb u (user z) n) at h in
+              let r = record_some u zs k in
+              (r.0, inr r.1, r.2, rw (ne_eqb u (user z) n) r.3))
+        ]
+
+    structure_some : (u : ℕ) (zs : List Plan) → 0 < number_in (structure_of u zs) → (s : Plan) × In s zs × (u ≡ user s) × (number s ≡ number_in (structure_of u zs)) × (record_of s ≡ record_in (structure_of u zs))
+    structure_some u [] h = absurd (omega arith)
+    structure_some u (z ∷ zs) h =
+        elim (cases_eq u (user z)) [
+          | inl e ↦ (z, inl refl, e, rw (eq-eqb u (user z) e), rw (eq-eqb u (user z) e))
+          | inr n ↦ (
+              let k : 0 < number_in (structure_of u zs) = rw (ne_eqb u (user z) n) at h in
+              let r = structure_some u zs k in
+              (r.0, inr r.1, r.2, rw (ne_eqb u (user z) n) r.3, rw (ne_eqb u (user z) n) r.4))
+        ]
+
+    module _ (run : List (View Plan)) (v : Valid run) (nc : NoCollision run) (down : Down run)
+        (above_raise : (x : View Plan) → In x run → Good x → Raised (group_of x.top) x.above)
+        (records_new : (y : View Plan) → In y run → Good y → raises y.own ≡ true → record_of y.own ≡ group_version y.own)
+        (records_kept : (y : View Plan) → In y run → Good y → raises y.own ≡ false → record_of y.own ≡ record_in (structure_of (user y.own) y.structures))
+        (handles_kept : (y : View Plan) → In y run → Good y → raises y.own ≡ false → (s : Plan) → In s y.structures → user y.own ≡ user s → handle_of y.own ≡ handle_of s) where
+      pub own_last_version : (y : View Plan) → In y run → Good y → (q : Plan) → In q (line run y) → group_version q ≤ group_version y.own
+      own_last_version y i gy q k =
+          let c = raised_line run v nc down above_raise y i gy in
+          let h = is_line run v nc y i in
+          let b = (version_bounds 0 (line run y) c q k).1 in
+          let t = ap (last_raised 0) h.ends.1 ∙ last_raised-push 0 h.ends.0 y.own in
+          omega arith
+
+      -- a user's plans in its line are recorded
+      recorded : (n : ℕ) (y : View Plan) → In y run → Good y → number y.own ≤ n → (q : Plan) → In q (line run y) → user q ≡ user y.own → raises q ≡ true → group_version q ≤ record_of y.own
+      recorded zero y i gy l q k u w = let p = (one_use run v).positive y.own (y, i, refl) in absurd (omega arith)
+      recorded (suc n) y i gy l q k u w =
+          elim (cases_Bool (raises y.own)) [
+            | inl t ↦ (
+                let e : record_of y.own ≡ group_version y.own = records_new y i gy t in
+                let b = own_last_version y i gy q k in
+                omega arith)
+            | inr t ↦ (
+                let e : record_of y.own ≡ record_in (structure_of (user y.own) y.structures) = records_kept y i gy t in
+                let h = is_line run v nc y i in
+                let nq = h.numbered q k in
+                let io = h.has_pending y.own (own_in y h.rules) in
+                let no = h.numbered y.own io in
+                let bs = at-in (λ u. 0) (line run y) h.chained q k in
+                let b0 = bs.0 in
+                let b1 = bs.1 in
+                let lc = line_counts run v nc y i (user q) in
+                let w' = ap (λ u. version u y.own) u in
+                let nx = h.rules.next y.own (own_in y h.rules) in
+                elim (cases_eq (number q) (number y.own)) [
+                  | inl m ↦ absurd (
+                      let same : q ≡ y.own = unique (λ u. 0) (line run y) h.chained q y.own k io u (sym nq ∙ m ∙ no) in
+                      let f = sym w ∙ ap raises same ∙ t in
+                      cc f)
+                  | inr m ↦ (
+                      let (s, js, us, ns, rs) = structure_some (user y.own) y.structures (omega arith) in
+                      let (z, jz, mz) = h.released s js in
+                      let nz = ap number mz in
+                      let uz : user q ≡ user z.own = u ∙ us ∙ sym (ap user mz) in
+                      let js' = subst (λ d. In d y.structures) (sym mz) js in
+                      let p = prefix run v nc y z i jz js' in
+                      elim (in-append q (line run z) p.0 (subst (λ d. In q d) p.1 k)) [
+                        | inl kq ↦ (
+                            let ih = recorded n z jz (down y z i jz gy js') (omega arith) q kq uz w in
+                            let rz = ap record_of mz in
+                            omega arith)
+                        | inr kq ↦ (let g = after_greater run v nc y z i jz p.0 p.1 q kq uz in absurd (omega arith))
+                      ])
+                ])
+          ]
+
+      -- the view that wrote a record
+      pub written : (n : ℕ) (y : View Plan) → In y run → Good y → number y.own ≤ n → 0 < record_of y.own
+          → (w : View Plan) × In w run × Good w × (raises w.own ≡ true) × (group_version w.own ≡ record_of y.own) × (handle_of w.own ≡ handle_of y.own) × (user w.own ≡ user y.own) × ((a : List Plan) × (line run y ≡ line run w ++ a))
+      written zero y i gy l h = let p = (one_use run v).positive y.own (y, i, refl) in absurd (omega arith)
+      written (suc n) y i gy l h =
+          elim (cases_Bool (raises y.own)) [
+            | inl t ↦ (
+                let e : record_of y.own ≡ group_version y.own = records_new y i gy t in
+                (y, i, gy, t, sym e, refl, refl, ([], sym (append-nil (line run y)))))
+            | inr t ↦ (
+                let e : record_of y.own ≡ record_in (structure_of (user y.own) y.structures) = records_kept y i gy t in
+                let g = is_line run v nc y i in
+                let nx = g.rules.next y.own (own_in y g.rules) in
+                let (s, js, us, rs) = record_some (user y.own) y.structures (omega arith) in
+                let sn = structure_number y g.rules s js in
+                let cu = ap (λ u. number_of u y) us in
+                let (z, jz, mz) = g.released s js in
+                let nz = ap number mz in
+                let rz = ap record_of mz in
+                let js' = subst (λ d. In d y.structures) (sym mz) js in
+                let p = prefix run v nc y z i jz js' in
+                let (w, jw, gw', tw, gw, hw, uw, c) = written n z jz (down y z i jz gy js') (omega arith) (omega arith) in
+                let hs = handles_kept y i gy t s js us in
+                (w, jw, gw', tw, gw ∙ rz ∙ rs ∙ sym e, hw ∙ ap handle_of mz ∙ sym hs, uw ∙ ap user mz ∙ sym us, (c.0 ++ p.0, p.1 ∙ ap (λ d. d ++ p.0) c.1 ∙ append_assoc (line run w) c.0 p.0)))
+          ]
+
+      -- what raises the group past all records is pending
+      pub still_pending : (x : View Plan) → In x run → Good x → (r : ℕ) → ((s : Plan) → In s x.structures → record_of s ≤ r) → (q : Plan) → In q (line run x) → raises q ≡ true → r < group_version q → In q (pending x)
+      still_pending x i gx r m q k w h =
+          let g = is_line run v nc x i in
+          let nq = g.numbered q k in
+          let bs = at-in (λ u. 0) (line run x) g.chained q k in
+          let b0 = bs.0 in
+          let b1 = bs.1 in
+          let lc = line_counts run v nc x i (user q) in
+          let oc = own_counts x g.rules (user q) in
+          let most = at_most_one x g.rules (user q) in
+          let old = λ (l : number q ≤ number_of (user q) x).
+          (let (s, js, us, ns) = structure_in (user q) x.structures (omega arith) in
+          let (z, jz, mz) = g.released s js in
+          let nz = ap number mz in
+          let uz : user q ≡ user z.own = us ∙ sym (ap user mz) in
+          let rs = m s js in
+          let rz = ap record_of mz in
+          let js' = subst (λ d. In d x.structures) (sym mz) js in
+          let p = prefix run v nc x z i jz js' in
+          let bad : ⊥ = elim (in-append q (line run z) p.0 (subst (λ d. In q d) p.1 k)) [
+            | inl kq ↦ (let rc = recorded (number z.own) z jz (down x z i jz gx js') (omega arith) q kq uz w in omega arith)
+            | inr kq ↦ (let af = after_greater run v nc x z i jz p.0 p.1 q kq uz in omega arith)
+          ] in
+          bad) in
+          elim (cases_Bool (has (user q) (pending x))) [
+            | inr n ↦ (let z = count-none (user q) (pending x) n in absurd (old (omega arith)))
+            | inl n ↦ (
+                let (p, ip, up) = has-in (user q) (pending x) n in
+                let np = g.rules.next p ip in
+                let cp = ap (λ u. number_of u x) up in
+                elim (cases_eq (number q) (number p)) [
+                  | inl e ↦ (
+                      let jp = g.has_pending p ip in
+                      let same : q ≡ p = unique (λ u. 0) (line run x) g.chained q p k jp up (sym nq ∙ e ∙ g.numbered p jp) in
+                      subst (λ d. In d (pending x)) (sym same) ip)
+                  | inr e ↦ absurd (old (omega arith))
+                ])
+          ]
+
+      -- what raises the group has a version of it
+      pub raised_version : (x : View Plan) → In x run → Good x → (q : Plan) → In q (line run x) → raises q ≡ true → 0 < group_version q
+      raised_version x i gx q k w =
+          let b = (version_bounds 0 (line run x) (raised_line run v nc down above_raise x i gx) q k).0 in
+          let st : step q ≡ 1 = ap (λ b. if b then 1 else 0) w in
+          omega arith
+
+      -- the group's part of a line: up to the plan that wrote the greatest record, then pending plans
+      pub group_part : (x : View Plan) → In x run → Good x → (s : Plan) → In s x.structures → 0 < record_of s → ((z : Plan) → In z x.structures → record_of z ≤ record_of s)
+          → (w : View Plan) × In w run × Good w × (raises w.own ≡ true) × (handle_of w.own ≡ handle_of s) × (length (line run w) < length (line run x)) × ((a : List Plan) × (line run x ≡ line run w ++ a)
+          × ((q : Plan) → In q a → raises q ≡ true → In q (pending x) × (record_of s < group_version q))
+          × ((q : Plan) → In q (pending x) → record_of s < group_version q → In q a))
+      group_part x i gx s k h m =
+          let g = is_line run v nc x i in
+          let (y, jy, my) = g.released s k in
+          let ry = ap record_of my in
+          let k' = subst (λ d. In d x.structures) (sym my) k in
+          let gy = down x y i jy gx k' in
+          let p = prefix run v nc x y i jy k' in
+          let sh = shorter run v nc x y i jy k' in
+          let (w, jw, gw', tw, gw, hw, uw, c) = written (number y.own) y jy gy (omega arith) (omega arith) in
+          let whole : line run x ≡ line run w ++ (c.0 ++ p.0) = p.1 ∙ ap (λ d. d ++ p.0) c.1 ∙ append_assoc (line run w) c.0 p.0 in
+          let gs : group_version w.own ≡ record_of s = gw ∙ ry in
+          let hv = is_line run v nc w jw in
+          let fw = ap (last_raised 0) hv.ends.1 ∙ last_raised-push 0 hv.ends.0 w.own in
+          let lw = ap length c.1 ∙ length-append (line run w) c.0 in
+          let back = raised-back 0 (line run w) (c.0 ++ p.0) (subst (λ l. Raised 0 l) whole (raised_line run v nc down above_raise x i gx)) in (
+            w,
+            jw,
+            gw',
+            tw,
+            hw ∙ ap handle_of my,
+            omega arith,
+            (
+              c.0 ++ p.0,
+              whole,
+              (λ q iq rq.
+                  (let lo = (version_bounds (last_raised 0 (line run w)) (c.0 ++ p.0) back q iq).0 in
+                  let st : step q ≡ 1 = ap (λ b. if b then 1 else 0) rq in
+                  let lt : record_of s < group_version q = omega arith in
+                  (still_pending x i gx (record_of s) m q (subst (λ l. In q l) (sym whole) (in-right q (line run w) (c.0 ++ p.0) iq)) rq lt, lt))),
+              (λ q iq lt.
+                  (elim (in-append q (line run w) (c.0 ++ p.0) (subst (λ l. In q l) whole (g.has_pending q iq))) [
+                    | inl kq ↦ absurd (let b = own_last_version w jw gw' q kq in omega arith)
+                    | inr kq ↦ kq
+                  ])),
+            ),
+          )

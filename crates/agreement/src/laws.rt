@@ -2,6 +2,10 @@
 
 ghost use Rattle.agreement.specs.Runs.{EachRun};
 ghost use Rattle.agreement.specs.Lines.{Agree, AreNumbered, EndWithOwn, Grow};
+ghost use Rattle.agreement.specs.Worlds.{AllListed, AreWorlds, EachHonestRun, IsGuarded, JudgeAsWorld, LoseVoid};
+ghost use Rattle.update_cert.specs.Cert.{Cert};
+ghost use Rattle.update_cert.specs.Reading.{Reading};
+ghost use Rattle.update_cert.specs.World.{Tree};
 
 /// Accepted views agree, as long as no digest collides and no signature is forged. Of the server nothing is assumed.
 pub fn views_agree()
@@ -13,4 +17,19 @@ pub fn views_agree()
     ensures growing { EachRun Grow }
     // Views that have a structure in common agree up to it.
     ensures agreed { EachRun Agree }
+{}
+
+/// What a client reads of an accepted view is the world of the view's line, whatever stands for the digests, as long as
+/// all users are honest: their handles name what they read, and no digest collides and no signature is forged.
+pub fn views_are_worlds()
+    // The tree is the world of the line.
+    ensures worlds { EachHonestRun AreWorlds }
+    // The numbers that it loses are the void changes of the own operation at its place.
+    ensures losses { EachHonestRun LoseVoid }
+    // Membership at an operation's table version is that in the world before it.
+    ensures judged { EachHonestRun JudgeAsWorld }
+    // Each operation's user is listed in the world before it.
+    ensures listed { EachHonestRun AllListed }
+    // Along a line a part is changed only by its user, or by a member of its group.
+    ensures guarded { (reads : Reading) (w : Tree) (c : Cert) → IsGuarded reads w c }
 {}

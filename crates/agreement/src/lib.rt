@@ -4,4 +4,4 @@
 
 mod laws;
 
-pub use laws::views_agree;
+pub use laws::{views_agree, views_are_worlds};
