@@ -1,11 +1,13 @@
 //! The client of another user, to which user 0's structure is shown.
 
-use crate::replies::{breaks, client_of, declare, plan_of};
+use crate::replies::{breaks, client_of, declare, plan_of, step_on};
+use crate::tables::{listing, structure_over, texts_over};
 use crate::texts::{
-    Host, certificate, joined, key_of, listed, named, pending, plan, reply, shown, signed,
-    structure,
+    Host, certificate, check, check_text, joined, key_of, listed, named, pending, plan, reply,
+    shown, signed, structure,
 };
-use client_verify::{Client, Rule};
+use client_verify::{Client, Rule, Step};
+use lms_sign::PublicKey;
 use std::alloc::Global;
 
 /// The structure of user 0's first operation, with an invented handle.
@@ -43,10 +45,36 @@ fn forged_structure_of_user_0(rt: HostRuntime) {
     breaks_after(&rt, &mut user_1(&rt), &another, Rule::SuperSignature);
 }
 
-/// With user 0's own signature the first broken rule is that user 1 isn't listed.
+/// The root of user 0's i-table at the beginning.
+fn first_root(rt: &impl Host, key: &PublicKey) -> Vec<u8> {
+    let row = listing(rt, 0, 0, key.as_bytes());
+    let table = joined(rt, &[b"SPT1\x01", &row, b"\0\0"]);
+    texts_over(rt, 68, &[table]).root
+}
+
+/// With user 0's own signature, over the table of the beginning, which each client knows, the first broken rule is that
+/// user 1 isn't listed.
 #[test]
 fn true_structure_of_user_0(rt: HostRuntime) {
+    let key = key_of(&rt, 0);
+    let root = first_root(&rt, &key.public());
+    let structure = structure_over(&rt, &key, 1, &root);
+    breaks_after(&rt, &mut user_1(&rt), &structure, Rule::UnknownUser);
+}
+
+/// Over another handle its root is asked for first.
+#[test]
+fn table_of_another_handle(rt: HostRuntime) {
     let text = structure_of_super(&rt);
     let structure = signed(&rt, &key_of(&rt, 0), 1, &text);
-    breaks_after(&rt, &mut user_1(&rt), &structure, Rule::UnknownUser);
+    let mut client = user_1(&rt);
+    let update = declare(&rt, &mut client);
+    let text = reply_after(&rt, &structure, &update);
+    let Step::Need(asked) = step_on(&rt, &mut client, &text) else {
+        panic!(&rt; "no block is asked for");
+    };
+    check_text(&rt, asked.as_bytes(), &[5; 32]);
+    assert!(&rt; client.wants());
+    let step = client.on_block(None).expect(&rt, "memory");
+    check(&rt, matches!(step, Step::Broken(Rule::Block)), "no root");
 }
