@@ -1,5 +1,6 @@
 //! Times of a directory of 1,024 entries.
 
+use crate::server::Host;
 use crate::time::{Time, compress, share};
 use anyhow::Result;
 use directory::{Directory, Target};
@@ -66,7 +67,7 @@ fn get_all(clock: &impl Clock, directory: &Directory<Global>, unit: f64) -> Resu
     Ok((Time::new(start.elapsed(clock)?, 0, unit), found))
 }
 
-fn measure(rt: &HostRuntime) -> Result<(Round, u32)> {
+fn measure(rt: &impl Host) -> Result<(Round, u32)> {
     let (unit, _digest) = compress(rt)?;
     let alloc = rt.alloc();
     let mut directory = Directory::empty(alloc);
@@ -79,7 +80,7 @@ fn measure(rt: &HostRuntime) -> Result<(Round, u32)> {
 }
 
 /// Measures, and prints the least times of all rounds.
-pub(crate) fn report(rt: &HostRuntime) -> Result<()> {
+pub(crate) fn report(rt: &impl Host) -> Result<()> {
     let (mut least, found) = measure(rt)?;
     for _round in 1..ROUNDS {
         least = least.least(measure(rt)?.0);

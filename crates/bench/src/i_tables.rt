@@ -1,5 +1,6 @@
 //! Times of an i-table in which each i-number has a digest.
 
+use crate::server::Host;
 use crate::time::{Time, compress, share};
 use anyhow::Result;
 use itable::ITable;
@@ -66,7 +67,7 @@ fn handles<A: Allocator + Copy>(
     Ok((whole, again))
 }
 
-fn measure(rt: &HostRuntime) -> Result<Round> {
+fn measure(rt: &impl Host) -> Result<Round> {
     let (unit, _digest) = compress(rt)?;
     let alloc = rt.alloc();
     let mut table = ITable::empty(alloc, Principal::from(User::superuser()));
@@ -80,7 +81,7 @@ fn measure(rt: &HostRuntime) -> Result<Round> {
 }
 
 /// Measures, and prints the least times of all rounds.
-pub(crate) fn report(rt: &HostRuntime) -> Result<()> {
+pub(crate) fn report(rt: &impl Host) -> Result<()> {
     let mut least = measure(rt)?;
     for _round in 1..ROUNDS {
         least = least.least(measure(rt)?);

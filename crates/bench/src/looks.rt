@@ -1,5 +1,6 @@
 //! Times of looks at files, whose blocks are handed in one after another.
 
+use crate::server::Host;
 use crate::time::{Time, compress, share};
 use anyhow::{Result, anyhow};
 use client_tree::{Held, Seen, View, read_table};
@@ -177,7 +178,7 @@ fn look(
     Ok(0)
 }
 
-fn measure(rt: &HostRuntime, blocks: u32) -> Result<(Time, usize)> {
+fn measure(rt: &impl Host, blocks: u32) -> Result<(Time, usize)> {
     let alloc = rt.alloc();
     let (unit, _digest) = compress(rt)?;
     let (store, handle) = store_of(alloc, blocks)?;
@@ -190,7 +191,7 @@ fn measure(rt: &HostRuntime, blocks: u32) -> Result<(Time, usize)> {
 }
 
 /// Measures, and prints of each file the least of all rounds.
-pub(crate) fn report(rt: &HostRuntime) -> Result<()> {
+pub(crate) fn report(rt: &impl Host) -> Result<()> {
     for blocks in &FILES {
         let (mut least, size) = measure(rt, *blocks)?;
         for _round in 1..ROUNDS {

@@ -14,30 +14,44 @@ mod tables;
 mod time;
 
 use anyhow::Result;
+use server::Host;
 use std::env;
+use std::net::{Net, TcpListener, TcpStream};
+use std::rt::Runtime;
+use std::sync::Wait;
+use std::thread::Threads;
 
 /// Measures what a word names.
-fn report(rt: &HostRuntime, word: &str) -> Result<()> {
+fn report<R: Host>(rt: &R, word: &str) -> Result<()> {
+    if let Some(address) = word.strip_prefix("visit=") {
+        return server::visit_at(rt, address);
+    }
     match word {
         "lms" => lms::report(rt),
         "itable" => i_tables::report(rt),
         "directory" => directories::report(rt),
         "table" => tables::report(rt),
         "look" => looks::report(rt),
+        "server" => server::report(rt),
         _ => Ok(()),
     }
 }
 
-fn main(rt: HostRuntime) -> Result<()> {
-    for word in env::args(&rt)? {
-        let word = word.as_str();
-        if word == "server" {
-            server::report(&rt)?;
-        } else if let Some(address) = word.strip_prefix("visit=") {
-            server::visit_at(&rt, address)?;
-        } else {
-            report(&rt, word)?;
-        }
+/// Measures what each word names.
+fn run<
+    R: Runtime
+        + AllocGlobal
+        + Net<Listener = TcpListener, Stream = TcpStream>
+        + Threads
+        + Wait
+        + Sync,
+>(rt: &R) -> Result<()> {
+    for word in env::args(rt)? {
+        report(rt, word.as_str())?;
     }
     Ok(())
+}
+
+fn main(rt: HostRuntime) -> Result<()> {
+    run(&rt)
 }
