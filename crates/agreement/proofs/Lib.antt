@@ -12,3 +12,4 @@ pub mod UserParts
 pub mod GroupVersions
 pub mod GroupParts
 pub mod Worlds
+pub mod Examples
