@@ -15,6 +15,7 @@ use std::net::{SocketAddr, TcpListener, TcpStream};
 use std::sync::Wait;
 use std::thread;
 use std::thread::Threads;
+use std::time::Clock;
 use update_cert::{Action, Change, TableChange};
 use wire::{RequestKind, Status};
 
@@ -164,7 +165,7 @@ fn write_and_look(rt: &impl Host, caller: &mut Caller<TcpStream>) {
 }
 
 /// Serves one connection: how many calls were answered.
-fn serve_one<R: Host + Threads + Wait + Sync>(
+fn serve_one<R: Host + Clock + Threads + Wait + Sync>(
     rt: &R,
     listener: &TcpListener,
     pinned: PublicKey,

@@ -28,7 +28,7 @@ enum Step {
 
 /// A user, by plain numbers.
 #[derive(Clone, Copy, Drop)]
-struct Plain {
+struct Member {
     user: u8,
     /// The number of the operation that was declared last.
     number: u32,
@@ -44,8 +44,8 @@ struct Plain {
 struct Story {
     script: Vec<u8>,
     lines: Vec<u8>,
-    first: Plain,
-    second: Plain,
+    first: Member,
+    second: Member,
     /// The text of the group's file, where it stands.
     shared: Option<u32>,
     /// The text that was written last.
@@ -53,8 +53,8 @@ struct Story {
 }
 
 /// A user whose file has been made by its first operation.
-fn plain(user: u8) -> Plain {
-    Plain {
+fn new_member(user: u8) -> Member {
+    Member {
         user,
         number: 1,
         writes: 0,
@@ -120,16 +120,16 @@ impl Story {
         Story {
             script: Vec::from_slice(rt.alloc(), BEFORE).expect(rt, "memory"),
             lines: Vec::from_slice(rt.alloc(), LINES_BEFORE).expect(rt, "memory"),
-            first: plain(1),
-            second: plain(2),
+            first: new_member(1),
+            second: new_member(2),
             shared: None,
             texts: 0,
         }
     }
 
     /// The user declares an operation, which writes a new text.
-    fn begin(&mut self, rt: &impl Host, plain: Plain) -> Plain {
-        let Plain { user, number, .. } = plain;
+    fn begin(&mut self, rt: &impl Host, member: Member) -> Member {
+        let Member { user, number, .. } = member;
         let (number, text) = (number.wrapping_add(1), self.texts.wrapping_add(1));
         write!(self.script, "begin {user}").expect(rt, "memory");
         for (place, deed) in deeds_of(user, number).iter().enumerate() {
@@ -141,32 +141,32 @@ impl Story {
         write!(self.script, "\n").expect(rt, "memory");
         write!(self.lines, "{user} begin {number}\n").expect(rt, "memory");
         self.texts = text;
-        Plain {
+        Member {
             number,
             writes: text,
             step: Step::Update,
-            ..plain
+            ..member
         }
     }
 
     /// What the change makes of the files.
-    fn change(&mut self, plain: &mut Plain, deed: Deed) {
+    fn change(&mut self, member: &mut Member, deed: Deed) {
         match deed {
-            Deed::PutOwn => plain.file = plain.writes,
-            Deed::MakeShared | Deed::PutShared => self.shared = Some(plain.writes),
+            Deed::PutOwn => member.file = member.writes,
+            Deed::MakeShared | Deed::PutShared => self.shared = Some(member.writes),
             Deed::RemoveShared => self.shared = None,
         }
     }
 
     /// The operation is placed: each change has its effect, or is told among the lost ones.
-    fn update(&mut self, rt: &impl Host, mut plain: Plain) -> Plain {
-        let Plain { user, number, .. } = plain;
+    fn update(&mut self, rt: &impl Host, mut member: Member) -> Member {
+        let Member { user, number, .. } = member;
         write!(self.script, "update {user} a\n").expect(rt, "memory");
         write!(self.lines, "{user} accepted {number}").expect(rt, "memory");
         let mut loses = false;
         for (place, deed) in deeds_of(user, number).iter().enumerate() {
             if fits(*deed, self.shared.is_some()) {
-                self.change(&mut plain, *deed);
+                self.change(&mut member, *deed);
             } else {
                 let before = if loses { "" } else { " lost" };
                 write!(self.lines, "{before} {}", place.wrapping_add(1)).expect(rt, "memory");
@@ -174,20 +174,20 @@ impl Story {
             }
         }
         write!(self.lines, "\n").expect(rt, "memory");
-        Plain {
+        Member {
             step: Step::Commit,
-            ..plain
+            ..member
         }
     }
 
     /// The structure is committed.
-    fn commit(&mut self, rt: &impl Host, plain: Plain) -> Plain {
-        let user = plain.user;
+    fn commit(&mut self, rt: &impl Host, member: Member) -> Member {
+        let user = member.user;
         write!(self.script, "commit {user} a\n").expect(rt, "memory");
         write!(self.lines, "{user} committed\n").expect(rt, "memory");
-        Plain {
+        Member {
             step: Step::Begin,
-            ..plain
+            ..member
         }
     }
 
@@ -209,15 +209,15 @@ impl Story {
 
     /// One user goes on by a step, and looks after an update. A short story has no step of its own for begin.
     fn go_on(&mut self, rt: &impl Host, is_second: bool, is_short: bool) {
-        let plain = if is_second { self.second } else { self.first };
-        let (next, looks) = match (plain.step, is_short) {
-            (Step::Begin, false) => (self.begin(rt, plain), false),
+        let member = if is_second { self.second } else { self.first };
+        let (next, looks) = match (member.step, is_short) {
+            (Step::Begin, false) => (self.begin(rt, member), false),
             (Step::Begin, true) => {
-                let declared = self.begin(rt, plain);
+                let declared = self.begin(rt, member);
                 (self.update(rt, declared), true)
             }
-            (Step::Update, _) => (self.update(rt, plain), true),
-            (Step::Commit, _) => (self.commit(rt, plain), false),
+            (Step::Update, _) => (self.update(rt, member), true),
+            (Step::Commit, _) => (self.commit(rt, member), false),
         };
         if is_second {
             self.second = next;

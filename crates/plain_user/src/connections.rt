@@ -10,12 +10,13 @@ use std::alloc::Global;
 use std::process::Abort;
 use std::sync::Wait;
 use std::thread::Threads;
+use std::time::Clock;
 use wire::Status;
 
 /// What a test with threads runs in.
-pub(crate) trait Host: AllocGlobal + Abort + Threads + Wait + Sync {}
+pub(crate) trait Host: AllocGlobal + Abort + Clock + Threads + Wait + Sync {}
 
-impl<R: AllocGlobal + Abort + Threads + Wait + Sync> Host for R {}
+impl<R: AllocGlobal + Abort + Clock + Threads + Wait + Sync> Host for R {}
 
 /// So many pipes.
 pub(crate) fn pipes<R: Host>(rt: &R, count: usize) -> Vec<Pipe> {

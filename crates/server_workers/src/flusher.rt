@@ -12,6 +12,10 @@ use std::marker::{Model, PhantomData};
 use std::sync::Wait;
 use std::sync::atomic::{AtomicBool, Ordering};
 use std::thread;
+use std::time::{Clock, Duration};
+
+/// How long the flusher rests after a flush.
+const REST: Duration = Duration::from_millis(1);
 
 /// Takes events from the log and writes their records. Contracts see what its pass knows, and whether a write failed. What
 /// was written is always the records of what was taken, or after a failed write a beginning of them.
@@ -108,8 +112,11 @@ impl<'a, B: Room, R: Wait, W: Write + Drop> Flusher<'a, B, R, W> {
         unreachable!()
     }
 
-    /// Flushes again and again, and once more when the workers have ended.
-    pub(crate) fn run(self, ended: &AtomicBool) -> Flusher<'a, B, R, W> {
+    /// Flushes again and again, and once more when the workers have ended. It rests between one flush and the next.
+    pub(crate) fn run(self, ended: &AtomicBool) -> Flusher<'a, B, R, W>
+    where
+        R: Clock,
+    {
         let mut flusher = self;
         let rt = flusher.rt;
         for _ in rt.forever() {
@@ -118,7 +125,7 @@ impl<'a, B: Room, R: Wait, W: Write + Drop> Flusher<'a, B, R, W> {
             if last || flusher.failed {
                 return flusher;
             }
-            thread::yield_now();
+            thread::sleep(rt, REST);
         }
         unreachable!()
     }

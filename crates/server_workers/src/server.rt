@@ -28,6 +28,7 @@ use std::sync::ledger::{Blank, Ledger};
 use std::sync::{Mutex, Wait};
 use std::thread;
 use std::thread::{JoinHandle, Scope, Threads};
+use std::time::Clock;
 
 /// What is left of a server.
 #[derive(Drop)]
@@ -163,7 +164,7 @@ fn serve_in<
     W: Write + Drop + Send,
     B: Room + Send + Sync,
     L: Ledger + Send + Sync,
-    R: Threads + Wait + Sync,
+    R: Threads + Wait + Clock + Sync,
 >(
     rt: &R,
     alloc: Global,
@@ -236,7 +237,7 @@ pub fn serve<
     C: Connection + Send,
     I: Iterator<Item = C> + Drop,
     W: Write + Drop + Send,
-    R: Threads + Wait + Sync,
+    R: Threads + Wait + Clock + Sync,
 >(
     rt: &R,
     alloc: Global,

@@ -10,6 +10,7 @@ use std::process::Abort;
 use std::sync::Wait;
 use std::test::Fail;
 use std::thread::Threads;
+use std::time::Clock;
 
 /// A public key of these types, whose root signs nothing here.
 fn key() -> [u8; 56] {
@@ -20,7 +21,7 @@ fn key() -> [u8; 56] {
 }
 
 /// Serves one connection that gives these bytes, in pieces of such a size, over a store.
-fn served<R: AllocGlobal + Abort + Threads + Wait + Sync>(
+fn served<R: AllocGlobal + Abort + Clock + Threads + Wait + Sync>(
     rt: &R,
     store: &Store<Global>,
     input: &[u8],

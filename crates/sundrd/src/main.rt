@@ -8,12 +8,13 @@ use server_workers::{Accepted, OpenGate, serve};
 use std::alloc::Global;
 use std::env;
 use std::fs::File;
-use std::io::Read;
+use std::io::{self, Read};
 use std::net::{Net, TcpListener, TcpStream};
 use std::process::ExitCode;
 use std::rt::{Files, Runtime};
 use std::sync::Wait;
 use std::thread::Threads;
+use std::time::Clock;
 use thiserror::Error;
 
 /// The status where the words are at fault.
@@ -22,8 +23,14 @@ const WORDS: u8 = 5;
 /// What goes wrong past the words, beside the system's own faults.
 #[derive(Debug, Drop, Error)]
 enum Fault {
-    #[error("the file of the superuser's key isn't a public key")]
+    #[error("the file of user 0's key: {0}")]
+    KeyFile(io::Error),
+    #[error("the file of user 0's key isn't a public key of 56 bytes")]
     Key,
+    #[error("the address to listen at: {0}")]
+    Address(io::Error),
+    #[error("the file of the log: {0}")]
+    LogFile(io::Error),
     #[error("the log wasn't written to its end")]
     Log,
 }
@@ -39,10 +46,10 @@ fn option<'a>(alloc: Global, name: &'a str, value: &'a str) -> Arg<'a> {
 
 /// The public key in a file of 56 bytes.
 fn read_key(rt: &impl Files, name: &str) -> anyhow::Result<PublicKey> {
-    let mut file = File::open(rt, name)?;
+    let mut file = File::open(rt, name).map_err(Fault::KeyFile)?;
     let mut bytes = [0; KEY_SIZE];
-    file.read_exact(&mut bytes)?;
-    if file.read(&mut [0])? != 0 {
+    file.read_exact(&mut bytes).map_err(|_| Fault::Key)?;
+    if file.read(&mut [0]).map_err(Fault::KeyFile)? != 0 {
         return Err(Fault::Key.into());
     }
     Ok(PublicKey::from_bytes(bytes).ok_or(Fault::Key)?)
@@ -54,6 +61,7 @@ fn run<
         + AllocGlobal
         + Files<File = File>
         + Net<Listener = TcpListener, Stream = TcpStream>
+        + Clock
         + Threads
         + Wait
         + Sync,
@@ -77,8 +85,9 @@ fn run<
     let most = matches.get_one::<u32>("connections").unwrap_or(0);
     let pinned = read_key(rt, matches.get_str("super").unwrap_or(""))?;
     // The log is emptied only once the port is ours.
-    let listener = TcpListener::bind(rt, matches.get_str("listen").unwrap_or(""))?;
-    let log = File::create(rt, matches.get_str("log").unwrap_or(""))?;
+    let address = matches.get_str("listen").unwrap_or("");
+    let listener = TcpListener::bind(rt, address).map_err(Fault::Address)?;
+    let log = File::create(rt, matches.get_str("log").unwrap_or("")).map_err(Fault::LogFile)?;
     println!(rt; "listening {}", listener.local_addr()?)?;
     let store = Store::new(alloc);
     let connections = Accepted::new(&listener, most);
