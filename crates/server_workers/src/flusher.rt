@@ -14,8 +14,8 @@ use std::sync::atomic::{AtomicBool, Ordering};
 use std::thread;
 use std::time::{Clock, Duration};
 
-/// How long the flusher rests after a flush.
-const REST: Duration = Duration::from_millis(1);
+/// How long the flusher rests after a flush, in milliseconds.
+const REST: u64 = 1;
 
 /// Takes events from the log and writes their records. Contracts see what its pass knows, and whether a write failed. What
 /// was written is always the records of what was taken, or after a failed write a beginning of them.
@@ -125,7 +125,7 @@ impl<'a, B: Room, R: Wait, W: Write + Drop> Flusher<'a, B, R, W> {
             if last || flusher.failed {
                 return flusher;
             }
-            thread::sleep(rt, REST);
+            thread::sleep(rt, Duration::from_millis(REST));
         }
         unreachable!()
     }
