@@ -134,7 +134,10 @@ fn two_users(rt: &impl Host) -> Planned {
     for number in [1u8, 2] {
         let user = User::new(number).expect(rt, "a user");
         let listed = TableChange::AddUser(user, key_of(rt, number).public());
-        planned.changes.push(Change::of_table(listed)).expect(rt, "memory");
+        planned
+            .changes
+            .push(Change::of_table(listed))
+            .expect(rt, "memory");
     }
     planned
 }

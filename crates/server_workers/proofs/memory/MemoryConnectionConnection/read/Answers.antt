@@ -16,5 +16,5 @@ returns-clause-ok c =
     let same : copied ≡ take count (drop given input) = search rules in
     let front = subst (λ n. take n (copied ++ rest) ≡ copied) sized (take-append_seam copied rest) in
     let read : take (given + count) input ≡ take given input ++ take count (copied ++ rest) =
-        take-add given count input ∙ ap (λ t. take given input ++ t) (sym (front ∙ same)) in
+    take-add given count input ∙ ap (λ t. take given input ++ t) (sym (front ∙ same)) in
     ap (λ t. Some (record { read = t; written = output })) read ∙ ap (λ t. Some (record { read = take given input ++ take count (copied ++ rest); written = t })) (sym (append-nil output))
