@@ -172,12 +172,12 @@ fn happens(rt: &impl Host, world: &mut World, operation: &Operation) {
 
 /// The operations happen, with a store that is hostile or not.
 fn happen(rt: &impl Host, key: &PublicKey, is_hostile: bool) {
-    let [first, rest @ ..] = &OPERATIONS;
     let mut world = new_world(rt, is_hostile);
-    happens(rt, &mut world, first);
-    has_table(rt, &mut world, key, 0);
-    for operation in rest {
+    for (place, operation) in OPERATIONS.iter().enumerate() {
         happens(rt, &mut world, operation);
+        if place == 0 {
+            has_table(rt, &mut world, key, 0);
+        }
     }
     has_table(rt, &mut world, key, 3);
     let file = file_at(rt, &mut world, 64, 1);

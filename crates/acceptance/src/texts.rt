@@ -87,11 +87,11 @@ pub(crate) fn plan<'a>(
 }
 
 /// A structure with group records that are spelled already, after their count.
-pub(crate) fn structure_of(
+pub(crate) fn structure_of<'a>(
     rt: &impl Host,
-    plan: &[u8],
-    handle: &[u8; 32],
-    records: &[u8],
+    plan: &'a [u8],
+    handle: &'a [u8; 32],
+    records: &'a [u8],
 ) -> Vec<u8> {
     joined(rt, &[b"SVS1", &size_of(plan), plan, handle, records])
 }
