@@ -1,6 +1,7 @@
 //! Times of the largest table of principals: 64 users and 65,535 rows, of which the first 2,048 are open, one for each
 //! group and user.
 
+use crate::server::Host;
 use crate::time::{Time, compress, share};
 use anyhow::{Result, anyhow};
 use layout::{Group, Text, User};
@@ -83,7 +84,7 @@ fn read(
     Ok((Time::new(start.elapsed(clock)?, 0, unit), table))
 }
 
-fn measure(rt: &HostRuntime) -> Result<(Round, u32, usize)> {
+fn measure(rt: &impl Host) -> Result<(Round, u32, usize)> {
     let (unit, _digest) = compress(rt)?;
     let alloc = rt.alloc();
     let (read, table) = read(rt, alloc, &text_of(alloc)?, unit)?;
@@ -97,7 +98,7 @@ fn measure(rt: &HostRuntime) -> Result<(Round, u32, usize)> {
 }
 
 /// Measures, and prints the least times of all rounds.
-pub(crate) fn report(rt: &HostRuntime) -> Result<()> {
+pub(crate) fn report(rt: &impl Host) -> Result<()> {
     let (mut least, members, size) = measure(rt)?;
     for _round in 1..ROUNDS {
         least = least.least(measure(rt)?.0);
