@@ -1,5 +1,8 @@
 pub mod FirstBroken
 pub mod Good
+pub mod Errors
+pub mod Releasing
+pub mod Told
 pub mod State
 pub mod Judged
 pub mod Looked

@@ -1,8 +1,9 @@
 //! The client.
 
-ghost use Rattle.std.specs.Prelude.{◌≡◌, ◌≢◌, ◌+◌, ◌<◌, ◌≤◌, Some, IfOk, IfErr, IsErrOf, IfSome, IsOk, OnOk, OnErr, IsSome, IsSomeAnd, IsTrue, ◌↔◌, true, false, length, map};
+ghost use Rattle.std.specs.Prelude.{◌≡◌, ◌≢◌, ◌⊎◌, ◌+◌, ◌≤◌, Some, IfOk, IfErr, IsErrOf, IfSome, IsOk, OnOk, OnErr, IsSome, IsSomeAnd, IsTrue, ◌↔◌, true, false, length, map};
 ghost use Rattle.std.specs.Option.{option_copied, option_map};
 ghost use Rattle.std.specs.Vec.{vec_items};
+ghost use Rattle.leaf_ledger.specs.Ledger.{IsFull, IsLeastFree, LeafNumber};
 ghost use Rattle.update_cert.specs.Cert.{cert};
 ghost use Rattle.client_verify.specs.Grown.{IsTold};
 ghost use Rattle.client_verify.specs.Laid.{are_laid};
@@ -14,70 +15,69 @@ use crate::good::Good;
 use crate::growing::{
     Made, Reached, Shown, Written, reach, reach_with, show, show_with, write_with,
 };
+use crate::laid::copies;
 use crate::lists::with_own;
 use crate::look::Look;
+use crate::parts::Parts;
 use crate::phase::Phase;
-use crate::signing::{Sealed, seal};
+use crate::releases::Releases;
+use crate::signing::Unsigned;
 use crate::step::Step;
-use crate::structure::{SignedOver, sign_over};
+use crate::structure::{Draft, draft_over};
 use crate::verdict::judge;
 use crate::view::{AcceptedView, Checked, Looking, Ready, Stage};
 use client_tree::{Held, Seen, first_blocks};
-use layout::{Digest, INumber, Memory, Principal, Text, User, Version};
-use lms_sign::{LEAF_COUNT, PrivateKey, PublicKey};
+use layout::{Digest, INumber, Memory, Principal, User, Version};
+use leaf_ledger::Device;
+use lms_sign::{PrivateKey, PublicKey};
 use pending_list::{Signed, digest_of_last};
 use principals::Table;
 use reply_rules::Rule;
 use std::alloc::Allocator;
 use std::marker::Model;
-use update_cert::{Cert, Change};
+use update_cert::{Change, cert_text};
 use version_order::Structure;
 use wire::Status;
 
-/// A client of one user, in memory.
+/// A client of one user, over a ledger of its key's leaves and a journal of what it released.
+///
+/// A key has one ledger file, and a user one journal. One that is dropped is as after a crash.
 #[derive(Drop)]
-pub struct Client<A: Allocator> {
+pub struct Client<L: Device, J: Device, A: Allocator> {
     alloc: A,
-    user: User,
-    key: PrivateKey<A>,
     pinned: PublicKey,
-    leaf: u32,
-    number: u32,
-    last: Option<Signed<Structure<A>>>,
-    phase: Phase,
-    text: Vec<u8, A>,
+    releases: Releases<L, J, A>,
     blocks: Held<A>,
     checked: Option<Checked<A>>,
     accepted: Option<Ready<A>>,
     view: Option<AcceptedView<A>>,
 }
 
-impl<A: Allocator> Model for Client<A> {
-    ghost use Rattle.std.specs.Prelude.{◌≤◌};
-    ghost use Rattle.client_verify.specs.State.{State};
+impl<L: Device, J: Device, A: Allocator> Model for Client<L, J, A> {
+    ghost use Rattle.client_verify.specs.State.{AreReplies, State};
 
     ghost Value = { State };
 
     ghost view = { λ c. record {
-      user = c.user;
-      seed = c.key.seed;
-      id = c.key.id;
+      user = c.releases.user;
+      seed = c.releases.seed;
+      id = c.releases.id;
       pinned = c.pinned;
-      leaf = c.leaf;
-      number = c.number;
-      last = c.last;
-      phase = c.phase;
-      text = c.text.items;
+      devices = c.releases.devices;
+      number = c.releases.number;
+      last = c.releases.last;
+      phase = c.releases.phase;
+      text = c.releases.text;
       blocks = c.blocks;
       checked = c.checked;
       accepted = c.accepted;
       view = c.view;
     } };
 
-    ghost invariant = { λ c. c.leaf ≤ 1024 };
+    ghost invariant = { λ c. AreReplies c.releases c.checked c.accepted };
 }
 
-impl<A: Allocator + Copy> Client<A> {
+impl<L: Device, J: Device, A: Allocator + Copy> Client<L, J, A> {
     ghost use Rattle.std.specs.Prelude.{ℕ, List};
     ghost use Rattle.itable.specs.File.{NoneCollide};
     ghost use Rattle.update_cert.specs.World.{genesis as first_tree, File, is_table};
@@ -86,17 +86,43 @@ impl<A: Allocator + Copy> Client<A> {
     ghost use Rattle.update_cert.specs.Blocks.{Agrees};
     ghost use Rattle.client_tree.specs.Held.{held};
     ghost use Rattle.client_tree.specs.Genesis.{first_table, first_texts, table_text};
-    ghost use Rattle.client_verify.specs.State.{initial};
+    ghost use Rattle.lms_sign.specs.Keys.{public_key_of};
+    ghost use Rattle.leaf_ledger.specs.Device.{HasRisen};
+    ghost use Rattle.leaf_ledger.specs.Ledger.{IsForeign};
+    ghost use Rattle.client_journal.specs.Records.{IsDamaged};
+    ghost use Rattle.client_verify.specs.Releasing.{IsOpening};
+    ghost use Rattle.client_verify.specs.State.{opened, released};
+    ghost use Rattle.client_verify.specs.Told.{IsToldBy, TellsOfOther};
 
-    /// A client of this user before its first operation. User 0's public key is known to every client. Memory is wanted for
-    /// the blocks of the beginning.
-    pub fn new(
+    /// Opens the client of this user over its devices, before its first operation or after a crash: a declared operation
+    /// goes on with its certificate, and a signed one with its structure. User 0's public key is known to every client. A
+    /// refusal hands back what was handed in.
+    pub fn open(
         alloc: A,
         user: User,
         key: PrivateKey<A>,
         pinned: PublicKey,
-    ) -> Result<Client<A>, Memory>
-        ensures state { IfOk result (λ client. client ≡ initial user key.seed key.id pinned) }
+        ledger: L,
+        journal: J,
+    ) -> Result<Client<L, J, A>, (ClientError, Parts<L, J, A>)>
+        ensures state { IfOk result (λ client. client ≡ opened pinned (released client)) }
+        ensures whose { IfOk result (λ client. (client.user ≡ user) × (client.seed ≡ key.seed) × (client.id ≡ key.id)) }
+        // It is as the journal told, and as it tells still.
+        ensures told { IfOk result (λ client. IsToldBy (J.history journal).now.text (released client)) }
+        // What both devices go through meanwhile.
+        ensures moments { IfOk result (λ client. IsOpening (L.history ledger) (J.history journal) client.devices.ledger.file client.devices.journal.file) }
+        ensures moments_err { IfErr result (λ e. IsOpening (L.history ledger) (J.history journal) (L.history e.1.ledger) (J.history e.1.journal)) }
+        ensures own { IfOk result (λ _. IsForeign (public_key_of key.seed key.id) (L.history ledger).now.text → ⊥) }
+        ensures foreign { IfErr result (λ e. e.0 ≡ ClientError.Foreign
+            → IsForeign (public_key_of key.seed key.id) (L.history ledger).now.text) }
+        ensures damaged { IfErr result (λ e. e.0 ≡ ClientError.Damaged
+            → IsDamaged (J.history journal).now.text ⊎ TellsOfOther user (J.history journal).now.text) }
+        ensures device { IfErr result (λ e. e.0 ≡ ClientError.Device
+            → HasRisen (L.fault_count ledger) (L.fault_count e.1.ledger) ⊎ HasRisen (J.fault_count journal) (J.fault_count e.1.journal)) }
+        ensures only { IfErr result (λ e. (e.0 ≢ ClientError.NoLeaf) × (e.0 ≢ ClientError.NoNumber)) }
+        ensures later { IfOk result (λ client. (L.fault_count ledger ≤ client.devices.ledger.faults) × (J.fault_count journal ≤ client.devices.journal.faults)) }
+        ensures later_err { IfErr result (λ e. (L.fault_count ledger ≤ L.fault_count e.1.ledger) × (J.fault_count journal ≤ J.fault_count e.1.journal)) }
+        ensures key_err { IfErr result (λ e. e.1.key ≡ key) }
         // What the i-tables of the beginning have is the tree of the beginning, unless two texts of it have one digest.
         ensures genesis { IfOk result (λ client. NoneCollide (first_texts pinned) (first_texts pinned)
             → (reads : Reading) → Agrees (held client.blocks) reads
@@ -106,43 +132,66 @@ impl<A: Allocator + Copy> Client<A> {
             → (reads : Reading) → Agrees (held client.blocks) reads
             → option_map reads.content (digest_at (first_table 0 pinned) 1) ≡ Some (File (table_text pinned))) }
     {
-        let blocks = first_blocks(alloc, pinned.as_bytes())?;
-        Ok(Client {
-            alloc,
-            user,
-            key,
-            pinned,
-            leaf: 0,
-            number: 0,
-            last: None,
-            phase: Phase::Idle,
-            text: Vec::new(alloc),
-            blocks,
-            checked: None,
-            accepted: None,
-            view: None,
-        })
+        let Ok(blocks) = first_blocks(alloc, pinned.as_bytes()) else {
+            let parts = Parts {
+                key,
+                ledger,
+                journal,
+            };
+            return Err((ClientError::Memory, parts));
+        };
+        match Releases::open(alloc, user, key, ledger, journal) {
+            Ok(releases) => Ok(Client {
+                alloc,
+                pinned,
+                releases,
+                blocks,
+                checked: None,
+                accepted: None,
+                view: None,
+            }),
+            Err(refused) => Err(refused),
+        }
+    }
+
+    /// Hands back what it was opened over, in any phase.
+    pub fn close(self) -> Parts<L, J, A>
+        ensures key { (result.key.seed ≡ self.seed) × (result.key.id ≡ self.id) }
+        ensures ledger { L.history result.ledger ≡ self.devices.ledger.file }
+        ensures journal { J.history result.journal ≡ self.devices.journal.file }
+        ensures faults { (L.fault_count result.ledger ≡ self.devices.ledger.faults) × (J.fault_count result.journal ≡ self.devices.journal.faults) }
+    {
+        let Client {
+            alloc: _,
+            pinned: _,
+            releases,
+            blocks: _,
+            checked: _,
+            accepted: _,
+            view: _,
+        } = self;
+        releases.close()
     }
 
     /// Whose client it is.
     pub fn user(&self) -> User
         ensures { result ≡ self.now.user }
     {
-        self.user
+        self.releases.user
     }
 
     /// The number of the operation that was declared last, 0 where none was.
     pub fn number(&self) -> u32
         ensures { result ≡ self.now.number }
     {
-        self.number
+        self.releases.number
     }
 
     /// How far it is with its operation.
     pub fn phase(&self) -> Phase
         ensures { result ≡ self.now.phase }
     {
-        self.phase
+        self.releases.phase
     }
 
     /// Whether a reply is under check, of which a block is asked for.
@@ -180,7 +229,7 @@ impl<A: Allocator + Copy> Client<A> {
         requires { self.now.phase ≡ Phase.Declared }
         ensures { result.now ≡ self.now.text }
     {
-        &self.text
+        &self.releases.text
     }
 
     /// The signed structure, to be sent again.
@@ -188,7 +237,7 @@ impl<A: Allocator + Copy> Client<A> {
         requires { self.now.phase ≡ Phase.Signed }
         ensures { result.now ≡ self.now.text }
     {
-        &self.text
+        &self.releases.text
     }
 
     /// The structures of the accepted view, with the own one in its user's place.
@@ -225,20 +274,6 @@ impl<A: Allocator + Copy> Client<A> {
     }
 }
 
-/// The text of a certificate.
-fn certificate<A: Allocator + Copy>(
-    alloc: A,
-    user: User,
-    number: Version,
-    last: Digest,
-    changes: Vec<Change<A>, A>,
-) -> Result<Vec<u8, A>, Memory>
-    requires { length changes.items ≤ 16 }
-    ensures { IfOk result (λ text. text.items ≡ cert.spell (record { user = user; number = number; last = last; changes = changes.items })) }
-{
-    Cert::new(user, number, last, changes).text(alloc)
-}
-
 /// What is seen, as it is told.
 fn told<A: Allocator>(seen: Seen<A>) -> Look<A>
     ensures { IsTold seen result }
@@ -250,79 +285,82 @@ fn told<A: Allocator>(seen: Seen<A>) -> Look<A>
     }
 }
 
-impl<A: Allocator + Copy> Client<A> {
+impl<L: Device, J: Device, A: Allocator + Copy> Client<L, J, A> {
     ghost use Rattle.client_tree.specs.Held.{held};
     ghost use Rattle.layout.specs.Hash.{hash};
     ghost use Rattle.client_verify.specs.FirstBroken.{view_over};
-    ghost use Rattle.client_verify.specs.State.{asked_of, block_breaks, checked_in, declared, committed, holding, next_cert, sent, signed_over};
+    ghost use Rattle.client_verify.specs.Releasing.{AnyMoment, IsKept, IsTried, OneHasRisen, cert_record, structure_record};
+    ghost use Rattle.client_verify.specs.State.{IsOfDeclared, asked_of, block_breaks, checked_in, committed, declared, declared_text, failed, holding, laying, lists_under, next_cert, on, released, signed_over, signed_text};
     ghost use Rattle.client_verify.specs.Judged.{Goes, GoesOn, Handed, IsReading, IsWriting, Judged, ReadsOn, view_of};
     ghost use Rattle.client_verify.specs.Grown.{IsAnswer, IsWritten};
     ghost use Rattle.client_verify.specs.Looked.{Looked, Given};
 
-    /// The number of the next operation, where a leaf is left.
+    /// The number of the next operation, where a leaf is free.
     fn next_number(&self) -> Result<Version, ClientError>
+        requires { self.now.phase ≡ Phase.Idle }
         ensures number { IfOk result (λ number. number ≡ self.now.number + 1) }
-        ensures leaf { OnOk result (self.now.leaf < 1024) }
-        ensures no_leaf { IsErrOf result ClientError.NoLeaf ↔ (self.now.leaf ≡ 1024) }
-        ensures no_number { IsErrOf result ClientError.NoNumber ↔ ((self.now.number ≡ 4294967295) × (self.now.leaf ≢ 1024)) }
+        ensures no_leaf { IsErrOf result ClientError.NoLeaf ↔ IsFull self.now.devices.ledger.file.now.text }
+        ensures no_number { IsErrOf result ClientError.NoNumber ↔ ((self.now.number ≡ 4294967295) × (IsFull self.now.devices.ledger.file.now.text → ⊥)) }
+        ensures only { IfErr result (λ e. (e ≡ ClientError.NoLeaf) ⊎ (e ≡ ClientError.NoNumber)) }
     {
-        if self.leaf >= LEAF_COUNT {
+        if !self.releases.has_free_leaf() {
             return Err(ClientError::NoLeaf);
         }
-        match self.number.checked_add(1).and_then(Version::new) {
+        match self.releases.number.checked_add(1).and_then(Version::new) {
             Some(number) => Ok(number),
             None => Err(ClientError::NoNumber),
         }
     }
 
-    /// The certificate of these changes, signed by the next leaf.
-    fn certify(&self, number: Version, changes: Vec<Change<A>, A>) -> Result<Sealed<A>, Memory>
+    /// The certificate of these changes, not signed yet.
+    fn certificate(&self, number: Version, changes: &[Change<A>]) -> Result<Unsigned<A>, Memory>
         requires number { number ≡ self.now.number + 1 }
-        requires leaf { self.now.leaf < 1024 }
-        requires few { length changes.items ≤ 16 }
-        ensures kept { IfOk result (λ s. s.kept.items ≡ sent self.now (cert.spell (next_cert self.now changes.items))) }
-        ensures sent { IfOk result (λ s. s.sent.items ≡ sent self.now (cert.spell (next_cert self.now changes.items))) }
+        requires few { length changes.now ≤ 16 }
+        ensures text { IfOk result (λ unsigned. unsigned ≡ cert.spell (next_cert self.now changes.now)) }
+        ensures fits { IfOk result (λ _. cert.Fits (next_cert self.now changes.now)) }
     {
-        let last = digest_of_last(self.alloc, self.last.as_ref())?;
-        let text = certificate(self.alloc, self.user, number, last, changes)?;
-        seal(self.alloc, &self.key, self.leaf, text)
+        let last = digest_of_last(self.alloc, self.releases.last.as_ref())?;
+        let text = cert_text(self.alloc, self.releases.user, number, last, changes)?;
+        Unsigned::new(self.alloc, text)
     }
 
-    /// Declares the next operation, and gives its signed certificate. What was laid out for it is held. It uses a leaf,
-    /// unless it answers an error: NoLeaf, NoNumber, or Memory.
+    /// Declares the next operation, and gives its signed certificate, which stands in the journal by then. What was laid
+    /// out for it is held. All growths come before the leaf is taken. After Device the client has to be opened again.
     pub fn begin(
         &mut self,
-        changes: Vec<Change<A>, A>,
-        laid: Vec<Vec<u8, A>, A>,
+        changes: &[Change<A>],
+        laid: &[Vec<u8, A>],
     ) -> Result<Vec<u8, A>, ClientError>
         requires idle { self.old.phase ≡ Phase.Idle }
-        requires few { length changes.items ≤ 16 }
-        requires laid { are_laid (map vec_items laid.items) changes.items ≡ true }
-        ensures declared { OnOk result (self.new ≡ declared self.old changes.items (map vec_items laid.items)) }
+        requires few { length changes.now ≤ 16 }
+        requires laid { are_laid (map vec_items laid.now) changes.now ≡ true }
+        ensures declared { OnOk result ((leaf : LeafNumber)
+            × IsKept leaf (cert_record (declared_text self.old leaf changes.now)) self.old.devices self.new.devices
+            × (self.new ≡ on self.new.devices (declared self.old leaf changes.now (map vec_items laid.now)))) }
         ensures text { IfOk result (λ text. text.items ≡ self.new.text) }
-        ensures no_leaf { IsErrOf result ClientError.NoLeaf ↔ (self.old.leaf ≡ 1024) }
-        ensures no_number { IsErrOf result ClientError.NoNumber ↔ ((self.old.number ≡ 4294967295) × (self.old.leaf ≢ 1024)) }
-        ensures err { OnErr result (self.new ≡ self.old) }
+        // What a crash leaves at any moment of the call, whatever it answers.
+        ensures any_moment { (leaf : LeafNumber) → IsLeastFree self.old.devices.ledger.file.now.text leaf
+            → AnyMoment leaf (cert_record (declared_text self.old leaf changes.now)) self.old.devices self.new.devices }
+        ensures tried { OnErr result (IsTried (λ leaf. cert_record (declared_text self.old leaf changes.now)) self.old.devices self.new.devices) }
+        ensures no_leaf { IsErrOf result ClientError.NoLeaf ↔ IsFull self.old.devices.ledger.file.now.text }
+        ensures no_number { IsErrOf result ClientError.NoNumber ↔ ((self.old.number ≡ 4294967295) × (IsFull self.old.devices.ledger.file.now.text → ⊥)) }
+        ensures device { IsErrOf result ClientError.Device → OneHasRisen self.old.devices self.new.devices
+            × (self.new ≡ on self.new.devices (failed (laying (map vec_items laid.now) self.old))) }
+        ensures only { IfErr result (λ e. (e ≢ ClientError.Foreign) × (e ≢ ClientError.Damaged)) }
+        ensures err { IfErr result (λ e. e ≢ ClientError.Device → self.new ≡ self.old) }
     {
         let number = self.next_number()?;
-        let sealed = self.certify(number, changes)?;
+        let unsigned = self.certificate(number, changes)?;
+        let laid = copies(self.alloc, laid)?;
         self.blocks.keep_all(laid)?;
-        let Sealed {
-            kept,
-            sent,
-            signature: _,
-        } = sealed;
-        self.leaf += 1;
-        self.number = number.get();
-        self.phase = Phase::Declared;
-        self.text = kept;
         self.checked = None;
         self.accepted = None;
-        Ok(sent)
+        self.releases.declare(number, unsigned)
     }
 
     /// A reply is under check, and this block is asked for.
     fn ask(&mut self, stage: Stage<A>, digest: Digest) -> Step<A>
+        requires own { IsSomeAnd (lists_under (checked_in stage)) (λ x. IsOfDeclared (released self.old) x.own.plan) }
         ensures state { self.new ≡ record self.old { checked = Some (checked_in stage); accepted = None } }
         ensures step { result ≡ Step.Need digest }
     {
@@ -333,7 +371,8 @@ impl<A: Allocator + Copy> Client<A> {
 
     /// Goes on with lists that break no rule: a block is asked for, or the reply is accepted.
     fn go(&mut self, good: Good<A>, written: Written<A>) -> Step<A>
-        requires { IsWritten (held self.old.blocks) (view_of self.old.pinned good) good.void written }
+        requires written { IsWritten (held self.old.blocks) (view_of self.old.pinned good) good.void written }
+        requires own { IsOfDeclared (released self.old) good.lists.own.plan }
         ensures { Goes self.old good result self.new }
     {
         match written {
@@ -373,10 +412,10 @@ impl<A: Allocator + Copy> Client<A> {
     {
         let judged = judge(
             self.alloc,
-            self.user,
+            self.releases.user,
             &self.pinned,
-            self.last.as_ref(),
-            &self.text,
+            self.releases.last.as_ref(),
+            &self.releases.text,
             text,
         )?;
         let reply = match judged {
@@ -487,46 +526,52 @@ impl<A: Allocator + Copy> Client<A> {
         }
     }
 
-    /// Signs the structure over the accepted reply, and gives it as it is sent. From here on the view is accepted. It
-    /// uses a leaf, unless it answers an error: NoLeaf, or Memory.
+    /// Signs the structure over the accepted reply, and gives it as it is sent; it stands in the journal by then. From here
+    /// on the view is accepted. All growths come before the leaf is taken. After Device the client has to be opened again.
     pub fn sign(&mut self) -> Result<Vec<u8, A>, ClientError>
         requires { IsSome self.old.accepted }
-        ensures signed { OnOk result (IfSome self.old.accepted (λ r. self.new ≡ signed_over self.old r)) }
+        ensures signed { OnOk result (IfSome self.old.accepted (λ r. (leaf : LeafNumber)
+            × IsKept leaf (structure_record (signed_text self.old leaf r)) self.old.devices self.new.devices
+            × (self.new ≡ on self.new.devices (signed_over self.old leaf r)))) }
         ensures text { IfOk result (λ text. text.items ≡ self.new.text) }
-        ensures no_leaf { IsErrOf result ClientError.NoLeaf ↔ (self.old.leaf ≡ 1024) }
-        ensures only { IfErr result (λ e. e ≢ ClientError.NoNumber) }
-        ensures err { OnErr result (self.new ≡ self.old) }
+        // What a crash leaves at any moment of the call, whatever it answers.
+        ensures any_moment { IfSome self.old.accepted (λ r. (leaf : LeafNumber) → IsLeastFree self.old.devices.ledger.file.now.text leaf
+            → AnyMoment leaf (structure_record (signed_text self.old leaf r)) self.old.devices self.new.devices) }
+        ensures tried { IfSome self.old.accepted (λ r. OnErr result (IsTried (λ leaf. structure_record (signed_text self.old leaf r)) self.old.devices self.new.devices)) }
+        ensures no_leaf { IsErrOf result ClientError.NoLeaf ↔ IsFull self.old.devices.ledger.file.now.text }
+        ensures device { IsErrOf result ClientError.Device → OneHasRisen self.old.devices self.new.devices
+            × (self.new ≡ on self.new.devices (failed self.old)) }
+        ensures only { IfErr result (λ e. (e ≢ ClientError.NoNumber) × ((e ≢ ClientError.Foreign) × (e ≢ ClientError.Damaged))) }
+        ensures err { IfErr result (λ e. e ≢ ClientError.Device → self.new ≡ self.old) }
     {
-        if self.leaf >= LEAF_COUNT {
+        if !self.releases.has_free_leaf() {
             return Err(ClientError::NoLeaf);
         }
         let Some(ready) = &self.accepted else {
             unreachable!()
         };
         let copies = ready.lists.copies(self.alloc)?;
-        let over = sign_over(
+        let draft = draft_over(
             self.alloc,
-            &self.key,
-            self.leaf,
             ready.handle,
             &ready.records,
-            self.last.as_ref(),
+            self.releases.last.as_ref(),
             ready.lists.own().plan(),
         )?;
         let Some(ready) = self.accepted.take() else {
             unreachable!()
         };
-        let SignedOver {
+        self.checked = None;
+        let Draft {
             structure,
             shown,
-            kept,
-            sent,
-        } = over;
-        self.leaf += 1;
-        self.last = Some(structure);
-        self.phase = Phase::Signed;
-        self.text = kept;
-        self.checked = None;
+            text,
+        } = draft;
+        let (sent, signature) = self.releases.sign(structure, text)?;
+        let shown = Signed {
+            value: shown,
+            signature,
+        };
         self.view = Some(AcceptedView {
             lists: ready.lists,
             table: ready.table,
@@ -629,7 +674,7 @@ impl<A: Allocator + Copy> Client<A> {
         ensures { self.new ≡ committed status self.old }
     {
         if status == Status::Ok {
-            self.phase = Phase::Idle;
+            self.releases.commit();
         }
     }
 }

@@ -9,4 +9,6 @@ pub enum Phase {
     Declared,
     /// A structure is signed, and not known to be committed.
     Signed,
+    /// A device failed: the client has to be opened again.
+    Failed,
 }

@@ -1,12 +1,12 @@
 //! Signing a text, once what it needs of memory is there.
 
-ghost use Rattle.std.specs.Prelude.{◌≡◌, ◌+◌, ◌<◌, ◌≤◌, ◌++◌, IfOk, vec_len, vec_capacity, length};
-ghost use Rattle.lms_sign.specs.Signature.{signature_of};
+ghost use Rattle.std.specs.Prelude.{◌≡◌, ◌+◌, ◌≤◌, ◌++◌, IfOk, vec_len, vec_capacity};
 
 use layout::Memory;
-use lms_sign::{Leaf, PrivateKey, SIGNATURE_SIZE, sign};
+use lms_sign::SIGNATURE_SIZE;
 use pending_list::Signature;
 use std::alloc::Allocator;
+use std::marker::Model;
 
 /// A text with its signature, to be kept and to be handed out.
 #[derive(Drop)]
@@ -14,6 +14,24 @@ pub(crate) struct Sealed<A: Allocator> {
     pub(crate) kept: Vec<u8, A>,
     pub(crate) sent: Vec<u8, A>,
     pub(crate) signature: Signature,
+}
+
+/// A text before it is signed, twice, each with room for its signature: so signing it takes no memory.
+#[derive(Drop)]
+pub(crate) struct Unsigned<A: Allocator> {
+    kept: Vec<u8, A>,
+    sent: Vec<u8, A>,
+}
+
+impl<A: Allocator> Model for Unsigned<A> {
+    ghost use Rattle.std.specs.Prelude.{◌≡◌, ◌+◌, ◌≤◌, vec_len, vec_capacity};
+    ghost use Rattle.layout.specs.Types.{Bytes};
+
+    ghost Value = { Bytes };
+
+    ghost view = { λ u. u.kept.items };
+
+    ghost invariant = { λ u. (u.sent.items ≡ u.kept.items) × (vec_len u.kept + 2508 ≤ vec_capacity u.kept) × (vec_len u.sent + 2508 ≤ vec_capacity u.sent) };
 }
 
 /// The text with room for its signature.
@@ -36,34 +54,36 @@ fn with_signature<A: Allocator>(text: Vec<u8, A>, signature: &Signature) -> Vec<
     signed
 }
 
-/// The signature of a text by this leaf, which is spent. It takes no memory.
-fn signature_by<A: Allocator>(key: &PrivateKey<A>, leaf: u32, text: &[u8]) -> Signature
-    requires { leaf < 1024 }
-    ensures { result ≡ signature_of key.now.seed key.now.id leaf text.now }
-{
-    let (signature, spent) = sign(key, Leaf::issue(&key.public(), leaf), text);
-    spent.end();
-    Signature::from_bytes(signature)
+impl<A: Allocator + Copy> Unsigned<A> {
+    /// This text, not signed yet. All growths are here, so that want of memory uses no leaf.
+    pub(crate) fn new(alloc: A, text: Vec<u8, A>) -> Result<Unsigned<A>, Memory>
+        ensures { IfOk result (λ unsigned. unsigned ≡ text.items) }
+    {
+        let sent = with_room(Vec::from_slice(alloc, &text)?)?;
+        let kept = with_room(text)?;
+        Ok(Unsigned { kept, sent })
+    }
 }
 
-/// Signs a text by this leaf. All growths come before the leaf is used, so that want of memory uses none.
-pub(crate) fn seal<A: Allocator + Copy>(
-    alloc: A,
-    key: &PrivateKey<A>,
-    leaf: u32,
-    text: Vec<u8, A>,
-) -> Result<Sealed<A>, Memory>
-    requires { leaf < 1024 }
-    ensures kept { IfOk result (λ s. s.kept.items ≡ text.items ++ signature_of key.now.seed key.now.id leaf text.items) }
-    ensures sent { IfOk result (λ s. s.sent.items ≡ text.items ++ signature_of key.now.seed key.now.id leaf text.items) }
-    ensures signature { IfOk result (λ s. s.signature ≡ signature_of key.now.seed key.now.id leaf text.items) }
-{
-    let copy = with_room(Vec::from_slice(alloc, &text)?)?;
-    let text = with_room(text)?;
-    let signature = signature_by(key, leaf, &text);
-    Ok(Sealed {
-        kept: with_signature(text, &signature),
-        sent: with_signature(copy, &signature),
-        signature,
-    })
+impl<A: Allocator> Unsigned<A> {
+    /// The text.
+    pub(crate) fn text(&self) -> &[u8]
+        ensures { result.now ≡ self.now }
+    {
+        &self.kept
+    }
+
+    /// The text with this signature after it. It takes no memory.
+    pub(crate) fn sealed(self, signature: Signature) -> Sealed<A>
+        ensures kept { result.kept.items ≡ self ++ signature }
+        ensures sent { result.sent.items ≡ self ++ signature }
+        ensures signature { result.signature ≡ signature }
+    {
+        let Unsigned { kept, sent } = self;
+        Sealed {
+            kept: with_signature(kept, &signature),
+            sent: with_signature(sent, &signature),
+            signature,
+        }
+    }
 }
