@@ -220,7 +220,7 @@ signed_over s leaf r = record s {
 
 -- the plan is that of the declared operation
 pub record IsOfDeclared (r : Released) (own : Plan) : Type 0 where
-  pub declared : r.phase ≡ phase.Declared
+  pub is_declared : r.phase ≡ phase.Declared
   pub user : own.user ≡ r.user
   pub number : own.number ≡ r.number
 

@@ -68,7 +68,7 @@ sent r leaf text = text ++ signature_of r.seed r.id leaf text
 
 -- what is released tells so, in this phase
 abbrev pub told_of : Phase → Released → Told
-told_of phase r = record { number = r.number; last = r.last; phase = phase; text = r.text }
+told_of told r = record { number = r.number; last = r.last; phase = told; text = r.text }
 
 -- The file of a journal tells all of it: how a client is when it is opened.
 pub record IsToldBy (file : Bytes) (r : Released) : Type 0 where
