@@ -266,6 +266,8 @@ impl<L: Device, J: Device, A: Allocator> Releases<L, J, A> {
         ensures device { IfErr result (λ e. (e ≡ ClientError.Device) × OneHasRisen self.old.devices self.new.devices) }
         ensures err { OnErr result (self.new ≡ record self.old { devices = self.new.devices; phase = Phase.Failed }) }
     {
+        // Its own contract says that it fits its text.
+        let _plan = structure.plan();
         match keep(
             &mut self.ledger,
             &mut self.journal,

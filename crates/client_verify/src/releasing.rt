@@ -3,6 +3,7 @@
 ghost use Rattle.std.specs.Prelude.{◌≡◌, ◌+◌, ◌<◌, ◌^◌, ◌++◌, length, true, IfErr, IfOk, OnErr};
 ghost use Rattle.lms_sign.specs.Keys.{public_key_of};
 ghost use Rattle.lms_sign.specs.Signature.{signature_of};
+ghost use Rattle.pending_list.specs.Signed.{signature as signature_format};
 ghost use Rattle.leaf_ledger.specs.Device.{at_rest};
 ghost use Rattle.leaf_ledger.specs.Ledger.{IsFull, IsLeastFree, LeafNumber};
 ghost use Rattle.client_journal.specs.Records.{MayCome};
@@ -37,6 +38,7 @@ pub(crate) fn keep<L: Device, J: Device, A: Allocator>(
         × (s.signature ≡ signature_of key.now.seed key.now.id leaf unsigned) × (s.kept.items ≡ unsigned ++ s.signature)
         × IsKept leaf (record { kind = kind; text = s.kept.items }) (record { ledger = ledger.old; journal = journal.old }) (record { ledger = ledger.new; journal = journal.new })) }
     ensures sent { IfOk result (λ s. s.sent.items ≡ s.kept.items) }
+    ensures fits { IfOk result (λ s. signature_format.Fits s.signature) }
     ensures any_moment { (leaf : LeafNumber) → IsLeastFree ledger.old.file.now.text leaf
         → AnyMoment leaf (record { kind = kind; text = unsigned ++ signature_of key.now.seed key.now.id leaf unsigned }) (record { ledger = ledger.old; journal = journal.old }) (record { ledger = ledger.new; journal = journal.new }) }
     ensures tried { OnErr result (IsTried (λ leaf. record { kind = kind; text = unsigned ++ signature_of key.now.seed key.now.id leaf unsigned }) (record { ledger = ledger.old; journal = journal.old }) (record { ledger = ledger.new; journal = journal.new })) }

@@ -1,6 +1,7 @@
 //! Signing a text, once what it needs of memory is there.
 
 ghost use Rattle.std.specs.Prelude.{◌≡◌, ◌+◌, ◌≤◌, ◌++◌, IfOk, vec_len, vec_capacity};
+ghost use Rattle.pending_list.specs.Signed.{signature as signature_format};
 
 use layout::Memory;
 use lms_sign::SIGNATURE_SIZE;
@@ -78,8 +79,10 @@ impl<A: Allocator> Unsigned<A> {
         ensures kept { result.kept.items ≡ self ++ signature }
         ensures sent { result.sent.items ≡ self ++ signature }
         ensures signature { result.signature ≡ signature }
+        ensures fits { signature_format.Fits signature }
     {
         let Unsigned { kept, sent } = self;
+        let _bytes = signature.as_bytes();
         Sealed {
             kept: with_signature(kept, &signature),
             sent: with_signature(sent, &signature),
