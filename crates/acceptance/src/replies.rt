@@ -17,13 +17,24 @@ fn new_device(rt: &impl Host) -> MemoryDevice<Global> {
     MemoryDevice::new(rt.alloc(), Vec::new(rt.alloc())).expect(rt, "memory")
 }
 
-/// The client of a user over new devices.
-fn open(rt: &impl Host, user: User, own: PrivateKey<Global>, pinned: PublicKey) -> MemoryClient {
-    let (ledger, journal) = (new_device(rt), new_device(rt));
+/// The client of a user over these devices.
+pub(crate) fn open_over(
+    rt: &impl Host,
+    user: User,
+    own: PrivateKey<Global>,
+    pinned: PublicKey,
+    ledger: MemoryDevice<Global>,
+    journal: MemoryDevice<Global>,
+) -> MemoryClient {
     match Client::open(rt.alloc(), user, own, pinned, ledger, journal) {
         Ok(client) => client,
         Err((error, _)) => panic!(rt; "{error:?}"),
     }
+}
+
+/// The client of a user over new devices.
+fn open(rt: &impl Host, user: User, own: PrivateKey<Global>, pinned: PublicKey) -> MemoryClient {
+    open_over(rt, user, own, pinned, new_device(rt), new_device(rt))
 }
 
 /// The client of user 1 by this key, which knows this key of user 0's.
