@@ -7,3 +7,5 @@ pub mod GrowingLaws
 pub mod Reaching
 pub mod ByTableLaws
 pub mod Handing
+pub mod Releasing
+pub mod Told

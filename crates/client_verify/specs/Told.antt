@@ -11,7 +11,7 @@ use Rattle.update_cert.specs.Cert.{Cert, cert}
 use Rattle.pending_list.specs.declared.signed.Signed.{Signed}
 use Rattle.pending_list.specs.Signed.{signed}
 use Rattle.leaf_ledger.specs.Device.{at_rest}
-use Rattle.leaf_ledger.specs.Ledger.{LeafNumber}
+use Rattle.leaf_ledger.specs.Ledger.{IsFileOf, LeafNumber}
 use Rattle.client_journal.specs.Records.{State as Recorded, Idle, Declared, Signed as Ended, TellsState}
 use Rattle.client_verify.specs.Releasing.{Devices}
 use Rattle.client_verify.specs.declared.phase.Phase.{Phase}
@@ -90,6 +90,8 @@ IsPhase told now = (now ≡ told) ⊎ ((told ≡ phase.Signed) × (now ≡ phase
 pub record Stands (r : Released) : Type 0 where
   pub ledger_usable : r.devices.ledger.usable ≡ true
   pub journal_usable : r.devices.journal.usable ≡ true
+  pub ledger_rests : r.devices.ledger.file.now ≡ at_rest r.devices.ledger.file.now.text
+  pub own_file : IsFileOf r.devices.ledger.key r.devices.ledger.file.now.text
   pub journal_rests : r.devices.journal.file.now ≡ at_rest r.devices.journal.file.now.text
   pub recorded : Recorded
   pub tells : TellsState recorded r.devices.journal.file.now.text

@@ -3,7 +3,7 @@
 ghost use Rattle.std.specs.Prelude.{◌≡◌, ◌≢◌, ◌⊎◌, ◌↔◌, ◌≤◌, true, false, Some, IfErr, IfOk, IsErrOf, OnErr, OnOk};
 ghost use Rattle.lms_sign.specs.Keys.{public_key_of};
 ghost use Rattle.leaf_ledger.specs.Device.{HasRisen, at_rest};
-ghost use Rattle.leaf_ledger.specs.Ledger.{IsForeign, IsFull, IsLeastFree, LeafNumber};
+ghost use Rattle.leaf_ledger.specs.Ledger.{IsFileOf, IsForeign, IsFull, IsLeastFree, LeafNumber};
 ghost use Rattle.client_journal.specs.Records.{IsDamaged, State as Recorded, TellsState};
 ghost use Rattle.version_order.specs.Structure.{structure as structure_format};
 ghost use Rattle.update_cert.specs.Cert.{Cert as PureCert, cert};
@@ -75,7 +75,8 @@ fn open_both<L: Device, J: Device>(
     journal: J,
 ) -> Result<(Ledger<L>, Journal<J>), (ClientError, L, J)>
     ensures opened { IfOk result (λ d. (d.0.key ≡ key.now) × (d.0.usable ≡ true) × (d.0.outstanding ≡ 0) × (d.1.usable ≡ true)) }
-    ensures rests { IfOk result (λ d. d.1.file.now ≡ at_rest d.1.file.now.text) }
+    ensures rests { IfOk result (λ d. (d.0.file.now ≡ at_rest d.0.file.now.text) × (d.1.file.now ≡ at_rest d.1.file.now.text)) }
+    ensures own_file { IfOk result (λ d. IsFileOf key.now d.0.file.now.text) }
     ensures moments { IfOk result (λ d. IsOpening (L.history ledger) (J.history journal) d.0.file d.1.file) }
     ensures moments_err { IfErr result (λ e. IsOpening (L.history ledger) (J.history journal) (L.history e.1) (J.history e.2)) }
     ensures records { IfOk result (λ d. (recorded : Recorded) → TellsState recorded d.1.file.now.text → TellsState recorded (J.history journal).now.text) }

@@ -5,7 +5,7 @@ ghost use Rattle.lms_sign.specs.Keys.{public_key_of};
 ghost use Rattle.lms_sign.specs.Signature.{signature_of};
 ghost use Rattle.pending_list.specs.Signed.{signature as signature_format};
 ghost use Rattle.leaf_ledger.specs.Device.{at_rest};
-ghost use Rattle.leaf_ledger.specs.Ledger.{IsFull, IsLeastFree, LeafNumber};
+ghost use Rattle.leaf_ledger.specs.Ledger.{IsFileOf, IsFull, IsLeastFree, LeafNumber};
 ghost use Rattle.client_journal.specs.Records.{MayCome};
 ghost use Rattle.client_verify.specs.Releasing.{AnyMoment, IsKept, IsTried, OneHasRisen};
 
@@ -45,6 +45,7 @@ pub(crate) fn keep<L: Device, J: Device, A: Allocator>(
     ensures device { IfErr result (λ e. (e ≡ ClientError.Device)
         × OneHasRisen (record { ledger = ledger.old; journal = journal.old }) (record { ledger = ledger.new; journal = journal.new })) }
     ensures usable { IfOk result (λ _. (ledger.new.usable ≡ true) × (journal.new.usable ≡ true)) }
+    ensures own_file { IsFileOf ledger.old.key ledger.new.file.now.text }
     ensures same_key { ledger.new.key ≡ ledger.old.key }
     ensures none_outstanding { ledger.new.outstanding ≡ 0 }
 {
