@@ -8,7 +8,6 @@ use crate::server::{Server, answers_commit, answers_update, server_of};
 use crate::texts::{Host, certificate, check, check_text, joined, key_of, listed, named, shown};
 use client_verify::Phase;
 use layout::Text;
-use std::alloc::Global;
 use wire::{RequestKind, Status, reply_frame, request_frame};
 
 /// The handle that user 0's i-table has at the beginning under the key of these tests, by another program's LMS and

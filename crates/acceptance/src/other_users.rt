@@ -8,7 +8,6 @@ use crate::texts::{
 };
 use client_verify::{Rule, Step};
 use lms_sign::PublicKey;
-use std::alloc::Global;
 
 /// The structure of user 0's first operation, with an invented handle.
 fn structure_of_super(rt: &impl Host) -> Vec<u8> {

@@ -9,7 +9,6 @@ use crate::texts::{
 };
 use client_verify::Rule;
 use layout::digest;
-use std::alloc::Global;
 use wire::Status;
 
 /// The vectors of user 0's version 1 or 2, and of its version 1 with version 1 of the first group.

@@ -10,7 +10,6 @@ use layout::{Digest, User};
 use lms_sign::PublicKey;
 use plain_user::{Caller, Replied};
 use server_workers::{Accepted, OpenGate, serve};
-use std::alloc::Global;
 use std::net::{SocketAddr, TcpListener, TcpStream};
 use std::sync::Wait;
 use std::thread;
