@@ -13,6 +13,8 @@ mod reply;
 mod server;
 mod shared;
 mod socket;
+#[cfg(test)]
+mod socket_tests;
 mod tally;
 #[cfg(test)]
 mod tests;
