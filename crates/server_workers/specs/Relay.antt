@@ -4,7 +4,7 @@ use mathlib.Core.Option.{some}
 use lib.ListN.{get_elem?}
 use Rattle.atomic_table.specs.Seated.{TableId}
 use Rattle.consistency_server.specs.Answers.{Call}
-use Rattle.server_workers.specs.declared.event_queue.Hand.{Hand}
+use Rattle.server_workers.specs.declared.call_queue.Hand.{Hand}
 use Rattle.crossbeam_queue.specs.Passes.{Pass, view}
 
 -- the name of no queue

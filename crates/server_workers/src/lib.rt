@@ -2,8 +2,8 @@
 #![tactic(auto)]
 
 mod accepted;
+mod call_queue;
 mod connection;
-mod event_queue;
 mod flusher;
 mod gate;
 mod locked;
@@ -22,8 +22,8 @@ mod worker;
 mod writing;
 
 pub use accepted::Accepted;
+pub use call_queue::ServerName;
 pub use connection::{Connection, ConnectionFault, Ended};
-pub use event_queue::Room;
 pub use gate::{Gate, OpenGate};
 pub use memory::MemoryConnection;
 pub use server::{Served, serve};

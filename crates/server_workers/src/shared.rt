@@ -6,7 +6,7 @@ ghost use Rattle.consistency_server.specs.History.{call_of};
 ghost use Rattle.server_workers.specs.Counting.{count_of};
 ghost use Rattle.server_workers.specs.Conversation.{RepliesToCall, RepliesToPut, RepliesToGet, RepliesToBody, count_in};
 
-use crate::event_queue::Room;
+use crate::call_queue::ServerName;
 use crate::gate::Gate;
 use crate::locked::Locked;
 use crate::reply::Reply;
@@ -20,16 +20,16 @@ use std::sync::ledger::Ledger;
 use std::sync::{Mutex, Wait};
 use wire::{RequestKind, Status, request_of};
 
-/// The one order of calls under its lock, the blocks under theirs, and how many calls there were.
+/// The one order of calls under its lock, the blocks under theirs, and the number of the last call at the gate.
 #[derive(Drop)]
-pub struct Shared<'a, B: Room, L: Ledger, R: Wait> {
+pub struct Shared<'a, B: ServerName, L: Ledger, R: Wait> {
     pub(crate) alloc: Global,
     pub(crate) locked: Mutex<Locked<'a, B, L, R>>,
     pub(crate) store: &'a Store<Global>,
-    pub(crate) calls: AtomicU64,
+    pub(crate) last_call: AtomicU64,
 }
 
-impl<'a, B: Room, L: Ledger, R: Wait> Shared<'a, B, L, R> {
+impl<'a, B: ServerName, L: Ledger, R: Wait> Shared<'a, B, L, R> {
     /// The reply to the body of a request's frame.
     pub(crate) fn reply_to<G: Gate>(
         &self,
@@ -68,7 +68,11 @@ impl<'a, B: Room, L: Ledger, R: Wait> Shared<'a, B, L, R> {
         ensures counted { tally.new.answered ≡ tally.old.answered + count_of result.status }
         ensures parts { tally.new.share.parts ≡ tally.old.share.parts }
     {
-        gate.pass(self.calls.fetch_add(1, Ordering::SeqCst).wrapping_add(1));
+        gate.pass(
+            self.last_call
+                .fetch_add(1, Ordering::SeqCst)
+                .wrapping_add(1),
+        );
         let answer = self.locked.lock(rt).call(tally, kind, text);
         Reply::of(answer)
     }
