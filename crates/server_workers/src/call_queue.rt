@@ -48,7 +48,8 @@ pub struct InOrder;
 
 impl Protocol<Call<Global>, Hand> for InOrder {
     ghost use Rattle.std.specs.Prelude.{true, []};
-    ghost use Rattle.server_workers.specs.Relay.{hand, Relayed};
+    ghost use Rattle.server_workers.specs.Hands.{hand};
+    ghost use Rattle.server_workers.specs.Relay.{Relayed};
 
     ghost holds = { Relayed };
 
@@ -60,7 +61,7 @@ pub struct Roles;
 
 impl Split<Hand> for Roles {
     ghost use Rattle.std.specs.Prelude.{true, false, []};
-    ghost use Rattle.server_workers.specs.Relay.{hand};
+    ghost use Rattle.server_workers.specs.Hands.{hand};
 
     ghost left = { λ v. hand true false v.sent [] };
 
@@ -70,7 +71,7 @@ impl Split<Hand> for Roles {
 // The popper takes in the pusher.
 impl Join<Hand> for Roles {
     ghost use Rattle.std.specs.Prelude.{true, false, []};
-    ghost use Rattle.server_workers.specs.Relay.{hand};
+    ghost use Rattle.server_workers.specs.Hands.{hand};
 
     ghost both = { λ v w. hand true true w.sent v.got };
 
@@ -82,7 +83,7 @@ pub struct Pushes;
 
 impl Outcome<Call<Global>, Hand> for Pushes {
     ghost use Rattle.std.specs.Prelude.{◌≡◌, [], ◌∷◌, ◌++◌};
-    ghost use Rattle.server_workers.specs.Relay.{hand};
+    ghost use Rattle.server_workers.specs.Hands.{hand};
 
     ghost then = { λ v x w. w ≡ hand v.pushes v.pops (v.sent ++ x ∷ []) v.got };
 }
@@ -98,7 +99,7 @@ pub struct Takes;
 
 impl Outcome<Call<Global>, Hand> for Takes {
     ghost use Rattle.std.specs.Prelude.{◌≡◌, [], ◌∷◌, ◌++◌};
-    ghost use Rattle.server_workers.specs.Relay.{hand};
+    ghost use Rattle.server_workers.specs.Hands.{hand};
 
     ghost then = { λ v x w. w ≡ hand v.pushes v.pops v.sent (v.got ++ x ∷ []) };
 }

@@ -2,8 +2,8 @@
 
 ghost use Rattle.std.specs.Prelude.{◌≡◌, [], true, false};
 ghost use Rattle.crossbeam_queue.specs.Passes.{IsPassOf};
-ghost use Rattle.server_workers.specs.Relay.{hand, hand_of};
-ghost use Rattle.server_workers.specs.Flushing.{IsFlushed};
+ghost use Rattle.server_workers.specs.Hands.{hand, hand_of};
+ghost use Rattle.server_workers.specs.Flushing.{IsFlushed, Wrote};
 
 use crate::call_queue::{CallPass, CallQueue, Roles, ServerName, Takes};
 use crate::writing::write_record;
@@ -20,7 +20,7 @@ const REST: u64 = 1;
 /// Takes calls from the log and writes their records. Contracts see what its pass knows, and whether a write failed. What
 /// was written is always the records of what was taken, or after a failed write a beginning of them.
 #[derive(Drop)]
-pub(crate) struct Flusher<'a, B: ServerName, R: Wait, W: Write + Drop> {
+pub struct Flusher<'a, B: ServerName, R: Wait, W: Write + Drop> {
     rt: &'a R,
     queue: &'a CallQueue,
     pass: CallPass,
@@ -32,7 +32,7 @@ pub(crate) struct Flusher<'a, B: ServerName, R: Wait, W: Write + Drop> {
 impl<'a, B: ServerName, R: Wait, W: Write + Drop> Model for Flusher<'a, B, R, W> {
     ghost use Rattle.std.specs.Prelude.{◌≡◌, true};
     ghost use Rattle.crossbeam_queue.specs.Passes.{IsPassOf};
-    ghost use Rattle.server_workers.specs.Relay.{hand_of};
+    ghost use Rattle.server_workers.specs.Hands.{hand_of};
     ghost use Rattle.server_workers.specs.Flushing.{Flushing, Wrote};
 
     ghost Value = { Flushing };
@@ -49,13 +49,8 @@ pub(crate) struct Flushed<W> {
 }
 
 impl<'a, B: ServerName, R: Wait, W: Write + Drop> Flusher<'a, B, R, W> {
-    /// Nothing was taken yet.
-    pub(crate) fn new(
-        rt: &'a R,
-        queue: &'a CallQueue,
-        pass: CallPass,
-        writer: W,
-    ) -> Flusher<'a, B, R, W>
+    /// Nothing was taken yet. `pass` is the one that pops.
+    pub fn new(rt: &'a R, queue: &'a CallQueue, pass: CallPass, writer: W) -> Flusher<'a, B, R, W>
         requires queue { IsPassOf queue.now pass × (pass.table_id ≡ B.queue) }
         requires empty { hand_of pass ≡ hand false true [] [] }
         requires before { W.contents writer ≡ B.before }
@@ -99,7 +94,7 @@ impl<'a, B: ServerName, R: Wait, W: Write + Drop> Flusher<'a, B, R, W> {
     }
 
     /// Takes what the log has, until it is empty or a write fails.
-    pub(crate) fn flush(&mut self)
+    pub fn flush(&mut self)
         ensures same { (self.new.hand.pushes ≡ self.old.hand.pushes) × (self.new.hand.sent ≡ self.old.hand.sent) }
         ensures all { self.new.failed ≡ false → self.new.hand.pushes ≡ true → self.new.hand.sent ≡ self.new.hand.got }
     {
@@ -110,6 +105,14 @@ impl<'a, B: ServerName, R: Wait, W: Write + Drop> Flusher<'a, B, R, W> {
             }
         }
         unreachable!()
+    }
+
+    /// The writer, to which the records of what was taken were written, or after a failed write a beginning of them.
+    pub fn into_writer(self) -> W
+        ensures { Wrote self.entry.failed B.before (W.contents result) self.entry.hand.got }
+    {
+        let Flusher { writer, .. } = self;
+        writer
     }
 
     /// Flushes again and again, and once more when the workers have ended. It rests between one flush and the next.

@@ -4,6 +4,7 @@
 mod accepted;
 mod call_queue;
 mod connection;
+mod empty_queue;
 mod flusher;
 mod gate;
 mod locked;
@@ -22,8 +23,10 @@ mod worker;
 mod writing;
 
 pub use accepted::Accepted;
-pub use call_queue::ServerName;
+pub use call_queue::{CallPass, CallQueue, ServerName};
 pub use connection::{Connection, ConnectionFault, Ended};
+pub use empty_queue::empty_queue;
+pub use flusher::Flusher;
 pub use gate::{Gate, OpenGate};
 pub use memory::MemoryConnection;
 pub use server::{Served, serve};

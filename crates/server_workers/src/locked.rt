@@ -3,7 +3,7 @@
 ghost use Rattle.std.specs.Prelude.{◌≡◌, [], ◌∷◌, ◌+◌, ◌<◌, true, false, length, leb, IsTrue};
 ghost use Rattle.consistency_server.specs.History.{call_of, answer_of, log_of, IsServed, IsTurnedAway};
 ghost use Rattle.wire.specs.declared.kinds.Status.TheVariants as status;
-ghost use Rattle.server_workers.specs.Relay.{hand, hand_of};
+ghost use Rattle.server_workers.specs.Hands.{hand, hand_of};
 ghost use Rattle.server_workers.specs.Counting.{is_served, count_of};
 
 use crate::call_queue::{CallPass, ServerName};

@@ -2,7 +2,7 @@
 
 ghost use Rattle.std.specs.Prelude.{◌≡◌, [], ◌∷◌, ◌++◌, true, false, length};
 ghost use Rattle.crossbeam_queue.specs.Passes.{IsPassOf, ruled_capacity};
-ghost use Rattle.server_workers.specs.Relay.{hand, hand_of};
+ghost use Rattle.server_workers.specs.Hands.{hand, hand_of};
 
 use crate::call_queue::{CallPass, CallQueue, Pushes, ServerName};
 use consistency_server::{Call, Log, LogFull};
@@ -23,7 +23,7 @@ impl<'a, B: ServerName, R: Wait> Model for QueueLog<'a, B, R> {
     ghost use Rattle.std.specs.Prelude.{◌≡◌, List, [], true, false};
     ghost use Rattle.crossbeam_queue.specs.Passes.{IsPassOf, ruled_capacity};
     ghost use Rattle.consistency_server.specs.Answers.{Call};
-    ghost use Rattle.server_workers.specs.Relay.{hand, hand_of};
+    ghost use Rattle.server_workers.specs.Hands.{hand, hand_of};
 
     ghost Value = { List Call };
 

@@ -4,15 +4,14 @@ ghost use Rattle.std.specs.Prelude.{◌≡◌, ◌+◌, ◌<◌, ◌≤◌, [], 
 ghost use Rattle.std.specs.Iterator.{IsFinite};
 ghost use Rattle.crossbeam_queue.specs.Passes.{IsPassOf, ruled_capacity};
 ghost use Rattle.consistency_server.specs.History.{log_of};
-ghost use Rattle.server_workers.specs.Relay.{hand, hand_of};
+ghost use Rattle.server_workers.specs.Hands.{hand, hand_of};
 ghost use Rattle.server_workers.specs.Flushing.{IsFlushed};
 
-use crate::call_queue::{CallPass, CallQueue, QUEUE_ROOM, Roles, ServerName};
+use crate::call_queue::{CallPass, CallQueue, ServerName};
 use crate::connection::Connection;
+use crate::empty_queue::empty_queue;
 use crate::flusher::{Flushed, Flusher};
 use crate::gate::Gate;
-use crate::locked::Locked;
-use crate::queue_log::QueueLog;
 use crate::shared::Shared;
 use crate::tally::{Part, Tally};
 use crate::worker::work;
@@ -23,9 +22,9 @@ use lms_sign::PublicKey;
 use std::alloc::Global;
 use std::io::Write;
 use std::marker::Brand;
-use std::sync::atomic::{AtomicBool, AtomicU64, Ordering};
+use std::sync::Wait;
+use std::sync::atomic::{AtomicBool, Ordering};
 use std::sync::ledger::{Blank, Ledger};
-use std::sync::{Mutex, Wait};
 use std::thread;
 use std::thread::{JoinHandle, Scope, Threads};
 use std::time::Clock;
@@ -191,17 +190,9 @@ fn serve_in<
     let running = Vec::with_capacity(alloc, most)?;
     let turned = flags(alloc, most)?;
     let turned = turned.as_slice();
-    let mut pushing = pass;
-    let popping = queue.another::<Roles>(&mut pushing);
-    let (book, share) = blank.open::<L>();
-    let stock = Tally::new(share);
-    let log = QueueLog::<'_, B, R>::new(rt, queue, pushing);
-    let shared = Shared {
-        alloc,
-        locked: Mutex::new(Locked::new(Ordered::genesis(alloc, pinned), log, book)),
-        store,
-        last_call: AtomicU64::new(0),
-    };
+    let (shared, stock, popping) = Shared::<'_, B, L, R>::new(
+        rt, alloc, queue, pass, blank, store, pinned,
+    );
     let flusher = Flusher::<'_, B, R, W>::new(rt, queue, popping, writer);
     let ended = AtomicBool::new(false);
     let workers = &shared;
@@ -255,7 +246,7 @@ pub fn serve<
     // What was taken from the log begins the calls that went to it, and what was written is the records of it.
     ensures flushed { IfOk result (λ s. IsFlushed s.flushed (W.contents writer) (W.contents s.writer) (log_of pinned s.ordered.history)) }
 {
-    let (queue, pass) = CallQueue::ruled(alloc, QUEUE_ROOM)?;
+    let (queue, pass) = empty_queue(alloc)?;
     let blank = Blank::new(most as u64 + 1);
     serve_in::<G, C, I, W, Brand, Brand, R>(
         rt,
