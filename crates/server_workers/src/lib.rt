@@ -2,6 +2,8 @@
 #![tactic(auto)]
 
 mod accepted;
+#[cfg(test)]
+mod by_hand_tests;
 mod call_queue;
 mod connection;
 mod empty_queue;
