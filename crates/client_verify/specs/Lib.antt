@@ -5,3 +5,4 @@ pub mod Judged
 pub mod Looked
 pub mod Laid
 pub mod Grown
+pub mod Verified

@@ -14,6 +14,7 @@ use crate::good::Good;
 use crate::growing::{
     Made, Reached, Shown, Written, reach, reach_with, show, show_with, write_with,
 };
+use crate::known::Known;
 use crate::lists::with_own;
 use crate::look::Look;
 use crate::phase::Phase;
@@ -54,7 +55,9 @@ pub struct Client<A: Allocator> {
 
 impl<A: Allocator> Model for Client<A> {
     ghost use Rattle.std.specs.Prelude.{◌≤◌};
+    ghost use Rattle.lms_sign.specs.Keys.{public_key_of};
     ghost use Rattle.client_verify.specs.State.{State};
+    ghost use Rattle.client_verify.specs.Verified.{AreOwn};
 
     ghost Value = { State };
 
@@ -74,7 +77,7 @@ impl<A: Allocator> Model for Client<A> {
       view = c.view;
     } };
 
-    ghost invariant = { λ c. c.leaf ≤ 1024 };
+    ghost invariant = { λ c. (c.leaf ≤ 1024) × AreOwn (public_key_of c.key.seed c.key.id) c.last c.text.items };
 }
 
 impl<A: Allocator + Copy> Client<A> {
@@ -219,7 +222,7 @@ impl<A: Allocator + Copy> Client<A> {
         ensures { IsSomeAnd self.now.view (λ v. v.table ≡ result.now) }
     {
         match &self.view {
-            Some(view) => &view.table,
+            Some(view) => view.good.table(),
             None => unreachable!(),
         }
     }
@@ -253,11 +256,33 @@ fn told<A: Allocator>(seen: Seen<A>) -> Look<A>
 impl<A: Allocator + Copy> Client<A> {
     ghost use Rattle.client_tree.specs.Held.{held};
     ghost use Rattle.layout.specs.Hash.{hash};
+    ghost use Rattle.lms_sign.specs.Keys.{public_key_of};
+    ghost use Rattle.client_verify.specs.Verified.{IsSealed};
     ghost use Rattle.client_verify.specs.FirstBroken.{view_over};
-    ghost use Rattle.client_verify.specs.State.{asked_of, block_breaks, checked_in, declared, committed, holding, next_cert, sent, signed_over};
+    ghost use Rattle.client_verify.specs.State.{asked_of, block_breaks, checked_in, declared, committed, holding, known, next_cert, sent, signed_over};
     ghost use Rattle.client_verify.specs.Judged.{Goes, GoesOn, Handed, IsReading, IsWriting, Judged, ReadsOn, view_of};
     ghost use Rattle.client_verify.specs.Grown.{IsAnswer, IsWritten};
     ghost use Rattle.client_verify.specs.Looked.{Looked, Given};
+
+    /// What a reply is compared with. Of lists whose signatures were verified it takes those that broke no rule last.
+    fn known(&self) -> Known<'_, A>
+        ensures { result ≡ known self.now }
+    {
+        let latest = match (&self.accepted, &self.checked, &self.view) {
+            (Some(ready), _, _) => Some(&ready.good),
+            (None, Some(checked), _) if !checked.is_reading() => checked.good(),
+            (None, _, Some(view)) => Some(&view.good),
+            (None, _, None) => None,
+        };
+        Known::new(
+            self.user,
+            &self.pinned,
+            self.last.as_ref(),
+            &self.text,
+            self.key.public(),
+            latest,
+        )
+    }
 
     /// The number of the next operation, where a leaf is left.
     fn next_number(&self) -> Result<Version, ClientError>
@@ -282,6 +307,7 @@ impl<A: Allocator + Copy> Client<A> {
         requires few { length changes.items ≤ 16 }
         ensures kept { IfOk result (λ s. s.kept.items ≡ sent self.now (cert.spell (next_cert self.now changes.items))) }
         ensures sent { IfOk result (λ s. s.sent.items ≡ sent self.now (cert.spell (next_cert self.now changes.items))) }
+        ensures sealed { IfOk result (λ s. IsSealed (public_key_of self.now.seed self.now.id) s.kept.items) }
     {
         let last = digest_of_last(self.alloc, self.last.as_ref())?;
         let text = certificate(self.alloc, self.user, number, last, changes)?;
@@ -342,7 +368,6 @@ impl<A: Allocator + Copy> Client<A> {
                 self.ask(Stage::Writing(good, asked), digest)
             }
             Written::Parts(made) => {
-                let Good { lists, table } = good;
                 let Made {
                     handle,
                     records,
@@ -350,8 +375,7 @@ impl<A: Allocator + Copy> Client<A> {
                     lost,
                 } = made;
                 let ready = Ready {
-                    lists,
-                    table: table.table,
+                    good,
                     handle,
                     records,
                     lost,
@@ -371,19 +395,12 @@ impl<A: Allocator + Copy> Client<A> {
         ensures only_memory { IfErr result (λ e. e ≡ ClientError.Memory) }
         ensures err { OnErr result (self.new ≡ self.old) }
     {
-        let judged = judge(
-            self.alloc,
-            self.user,
-            &self.pinned,
-            self.last.as_ref(),
-            &self.text,
-            text,
-        )?;
-        let reply = match judged {
+        let known = self.known();
+        let reply = match judge(self.alloc, &known, text)? {
             Ok(reply) => reply,
             Err(rule) => return Ok(Step::Broken(rule)),
         };
-        match reach(self.alloc, &self.pinned, &reply, &self.blocks)? {
+        match reach(self.alloc, &known, &reply, &self.blocks)? {
             Reached::Breaks(rule) => Ok(Step::Broken(rule)),
             Reached::Lacks(asked) => {
                 let digest = asked.digest;
@@ -410,7 +427,8 @@ impl<A: Allocator + Copy> Client<A> {
         let Stage::Reading(reply, _) = &checked.stage else {
             unreachable!()
         };
-        let reached = reach_with(self.alloc, &self.pinned, reply, &self.blocks, digest, text)?;
+        let known = self.known();
+        let reached = reach_with(self.alloc, &known, reply, &self.blocks, digest, text)?;
         if let Reached::Breaks(rule) = reached {
             return Ok(Step::Broken(rule));
         }
@@ -503,7 +521,7 @@ impl<A: Allocator + Copy> Client<A> {
         let Some(ready) = &self.accepted else {
             unreachable!()
         };
-        let copies = ready.lists.copies(self.alloc)?;
+        let copies = ready.good.lists().copies(self.alloc)?;
         let over = sign_over(
             self.alloc,
             &self.key,
@@ -511,7 +529,7 @@ impl<A: Allocator + Copy> Client<A> {
             ready.handle,
             &ready.records,
             self.last.as_ref(),
-            ready.lists.own().plan(),
+            ready.good.lists().own().plan(),
         )?;
         let Some(ready) = self.accepted.take() else {
             unreachable!()
@@ -528,8 +546,7 @@ impl<A: Allocator + Copy> Client<A> {
         self.text = kept;
         self.checked = None;
         self.view = Some(AcceptedView {
-            lists: ready.lists,
-            table: ready.table,
+            good: ready.good,
             structures: with_own(copies, shown),
             lost: ready.lost,
             looking: None,
@@ -551,8 +568,8 @@ impl<A: Allocator + Copy> Client<A> {
         let shown = show(
             self.alloc,
             &self.pinned,
-            &view.table,
-            &view.lists,
+            view.good.table(),
+            view.good.lists(),
             principal,
             i_number,
             &self.blocks,
@@ -610,8 +627,8 @@ impl<A: Allocator + Copy> Client<A> {
         let shown = show_with(
             self.alloc,
             &self.pinned,
-            &view.table,
-            &view.lists,
+            view.good.table(),
+            view.good.lists(),
             looking.principal,
             looking.i_number,
             &self.blocks,

@@ -2,10 +2,9 @@
 
 use crate::asked::Asked;
 use crate::good::Good;
-use crate::lists::{Admitted, Lists};
+use crate::lists::Admitted;
 use layout::{Digest, INumber, Principal};
 use pending_list::Signed;
-use principals::Table;
 use std::alloc::Allocator;
 use std::marker::Model;
 use version_order::{GroupRecord, Structure};
@@ -60,8 +59,7 @@ impl<A: Allocator> Checked<A> {
 /// that it raises, and the changes that it loses.
 #[derive(Drop)]
 pub(crate) struct Ready<A: Allocator> {
-    pub(crate) lists: Lists<A>,
-    pub(crate) table: Table<A>,
+    pub(crate) good: Good<A>,
     pub(crate) handle: Digest,
     pub(crate) records: Vec<GroupRecord, A>,
     pub(crate) lost: Vec<u8, A>,
@@ -72,7 +70,7 @@ impl<A: Allocator> Model for Ready<A> {
 
     ghost Value = { Ready };
 
-    ghost view = { λ r. record { lists = r.lists; table = r.table; handle = r.handle; records = r.records.items; lost = r.lost.items } };
+    ghost view = { λ r. record { lists = r.good.lists; table = r.good.table; handle = r.handle; records = r.records.items; lost = r.lost.items } };
 }
 
 /// A look that is under way: at what, and the block that is asked for.
@@ -87,8 +85,7 @@ pub(crate) struct Looking {
 /// place, and the changes that the own operation lost.
 #[derive(Drop)]
 pub(crate) struct AcceptedView<A: Allocator> {
-    pub(crate) lists: Lists<A>,
-    pub(crate) table: Table<A>,
+    pub(crate) good: Good<A>,
     pub(crate) structures: Vec<Signed<Structure<A>>, A>,
     pub(crate) lost: Vec<u8, A>,
     pub(crate) looking: Option<Looking>,
@@ -99,5 +96,5 @@ impl<A: Allocator> Model for AcceptedView<A> {
 
     ghost Value = { AcceptedView };
 
-    ghost view = { λ v. record { lists = v.lists; table = v.table; structures = v.structures.items; lost = v.lost.items; looking = v.looking } };
+    ghost view = { λ v. record { lists = v.good.lists; table = v.good.table; structures = v.structures.items; lost = v.lost.items; looking = v.looking } };
 }
