@@ -6,3 +6,4 @@ pub mod Looked
 pub mod Laid
 pub mod Grown
 pub mod Verified
+pub mod JudgedLast

@@ -257,6 +257,7 @@ impl<A: Allocator + Copy> Client<A> {
     ghost use Rattle.client_tree.specs.Held.{held};
     ghost use Rattle.layout.specs.Hash.{hash};
     ghost use Rattle.lms_sign.specs.Keys.{public_key_of};
+    ghost use Rattle.client_verify.specs.JudgedLast.{judged_last, listed};
     ghost use Rattle.client_verify.specs.Verified.{IsSealed};
     ghost use Rattle.client_verify.specs.FirstBroken.{view_over};
     ghost use Rattle.client_verify.specs.State.{asked_of, block_breaks, checked_in, declared, committed, holding, known, next_cert, sent, signed_over};
@@ -264,23 +265,31 @@ impl<A: Allocator + Copy> Client<A> {
     ghost use Rattle.client_verify.specs.Grown.{IsAnswer, IsWritten};
     ghost use Rattle.client_verify.specs.Looked.{Looked, Given};
 
-    /// What a reply is compared with. Of lists whose signatures were verified it takes those that broke no rule last.
+    /// The lists that broke no rule last, whose signatures were verified: of the accepted reply, of the one under check, or
+    /// of the accepted view.
+    fn judged_last(&self) -> Option<&Good<A>>
+        ensures { option_map listed (option_copied result) ≡ judged_last self.now }
+    {
+        if let Some(ready) = &self.accepted {
+            return Some(&ready.good);
+        }
+        if let Some(good) = self.checked.as_ref().and_then(|checked| checked.good()) {
+            return Some(good);
+        }
+        self.view.as_ref().map(|view| &view.good)
+    }
+
+    /// What a reply is compared with.
     fn known(&self) -> Known<'_, A>
         ensures { result ≡ known self.now }
     {
-        let latest = match (&self.accepted, &self.checked, &self.view) {
-            (Some(ready), _, _) => Some(&ready.good),
-            (None, Some(checked), _) if !checked.is_reading() => checked.good(),
-            (None, _, Some(view)) => Some(&view.good),
-            (None, _, None) => None,
-        };
         Known::new(
             self.user,
             &self.pinned,
             self.last.as_ref(),
             &self.text,
             self.key.public(),
-            latest,
+            self.judged_last(),
         )
     }
 

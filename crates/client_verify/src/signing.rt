@@ -43,6 +43,7 @@ fn signature_by<A: Allocator>(key: &PrivateKey<A>, leaf: u32, text: &[u8]) -> Si
     requires { leaf < 1024 }
     ensures same { result ≡ signature_of key.now.seed key.now.id leaf text.now }
     ensures valid { valid (public_key_of key.now.seed key.now.id) text.now result ≡ true }
+    ensures size { length result ≡ 2508 }
 {
     let (signature, spent) = sign(key, Leaf::issue(&key.public(), leaf), text);
     spent.end();

@@ -34,7 +34,9 @@ impl<A: Allocator> Model for Checked<A> {
 
 impl<A: Allocator> Checked<A> {
     ghost use Rattle.std.specs.Prelude.{◌≡◌, true, false};
+    ghost use Rattle.std.specs.Option.{option_copied};
     ghost use Rattle.client_verify.specs.State.{asked_of};
+    ghost use Rattle.client_verify.specs.JudgedLast.{good_in};
     ghost use Rattle.client_verify.specs.Judged.{IsReading, IsWriting};
 
     /// Whether the table of principals is being read.
@@ -43,6 +45,16 @@ impl<A: Allocator> Checked<A> {
         ensures writing { result ≡ false → IsWriting self.now }
     {
         matches!(self.stage, Stage::Reading(_, _))
+    }
+
+    /// Its lists, where they break no rule.
+    pub(crate) fn good(&self) -> Option<&Good<A>>
+        ensures { option_copied result ≡ good_in self.now }
+    {
+        match &self.stage {
+            Stage::Reading(_, _) => None,
+            Stage::Writing(good, _) => Some(good),
+        }
     }
 
     /// The block that is asked for.

@@ -13,7 +13,7 @@ use Rattle.client_verify.proofs.lists.Admitted.into_lists.Goals as goal
 pub invariant_of-result : goal.invariant_of-result
 invariant_of-result g c =
     let r = c.self.inside.reply in
-    subst (Ascends nat_cmp user_of None) (sym c.into_parts-structures.ensures.structures) (ascend r.structures (lists_ascend r c.self.invariant.0))
+    (subst (Ascends nat_cmp user_of None) (sym c.into_parts-structures.ensures.structures) (ascend r.structures (lists_ascend r c.self.invariant.0)), ?)
 
 pub returns : goal.returns
 returns g c =
