@@ -13,7 +13,7 @@ use Rattle.client_verify.specs.FirstBroken.{Known}
 use Rattle.agreement.specs.Runs.{View, user_of}
 use Rattle.agreement.proofs.Members.{In}
 use Rattle.client_runs.specs.State.{State, known}
-use Rattle.client_runs.specs.Steps.{Call, Client, Closed, Open, Owner, journal_of, ledger_of}
+use Rattle.client_runs.specs.Steps.{Call, Client, Closed, IsSound, Open, Owner, journal_of, ledger_of}
 use Rattle.client_runs.specs.Runs.{Event}
 use Rattle.client_runs.specs.Released.{accepted_by, released_by, tried_by}
 use Rattle.client_runs.proofs.Files.{Lies}
@@ -58,6 +58,7 @@ module _ (o : Owner) where
     pub pinned : s.pinned ≡ o.pinned
     pub stands : (s.phase ≡ phase.Failed → ⊥) → IsAt story tried view s
     pub sound : AreSound run s
+    pub always : IsSound (Open s)
 
   abbrev pub IsOwnClient : List Release → List Event → Option Release → Option View → Client → Type 0
   IsOwnClient story run tried view (Closed p) = Unit {0}
@@ -77,10 +78,13 @@ module _ (o : Owner) where
     pub kept : (r : Release) → In r story → In (text o r) texts
     pub viewed : signed ≡ structures story
 
+  abbrev pub event : Call → Client → Event
+  event call after = record { user = o.user; call = call; after = after }
+
   -- what holds after one step more
-  abbrev pub HoldsAfter : Event → List Event → Client → List Bytes → List Structure → Option View → Type 0
-  HoldsAfter e older before texts signed view =
-      Holds (e ∷ older) e.after (released_by e.call e.after ++ texts) (map (λ (x : View). x.signed) (accepted_by e.call before e.after view) ++ signed) (tried_by e.call before view)
+  abbrev pub HoldsAfter : List Event → Client → List Bytes → List Structure → Option View → Call → Client → Type 0
+  HoldsAfter older before texts signed view call after =
+      Holds (event call after ∷ older) after (released_by call after ++ texts) (map (λ (x : View). x.signed) (accepted_by call before after view) ++ signed) (tried_by call before view)
 
   -- ---- later
 
@@ -130,8 +134,8 @@ module _ (o : Owner) where
       pub text : new.text ≡ s.text
 
     pub stays : (s new : State) → Holds older (Open s) texts signed view → IsAlike s new → ((new.phase ≡ phase.Failed → ⊥) → s.phase ≡ phase.Failed → ⊥)
-        → ((told : Phase) → IsPhase told s.phase → IsPhase told new.phase) → AreSound (e ∷ older) new → Holds (e ∷ older) (Open new) texts signed view
-    stays s new h alike failed phases sound = record {
+        → ((told : Phase) → IsPhase told s.phase → IsPhase told new.phase) → AreSound (e ∷ older) new → IsSound (Open new) → Holds (e ∷ older) (Open new) texts signed view
+    stays s new h alike failed phases sound always = record {
       story = h.story;
       tried = h.tried;
       is_story = h.is_story;
@@ -154,14 +158,15 @@ module _ (o : Owner) where
               phase = phases (phase_in h.story) at.phase;
             });
         sound = sound;
+        always = always;
       };
       released = h.released;
       kept = h.kept;
       viewed = h.viewed;
     }
 
-    pub quiet : (s new : State) → Holds older (Open s) texts signed view → IsQuiet s new → AreSound (e ∷ older) new → Holds (e ∷ older) (Open new) texts signed view
-    quiet s new h q sound =
+    pub quiet : (s new : State) → Holds older (Open s) texts signed view → IsQuiet s new → AreSound (e ∷ older) new → IsSound (Open new) → Holds (e ∷ older) (Open new) texts signed view
+    quiet s new h q sound always =
         stays s new h
         (record { devices = q.devices; user = q.user; seed = q.seed; id = q.id; pinned = q.pinned; number = q.number; last = q.last; text = q.text })
-        (λ up down. up (q.phase ∙ down)) (λ told is. subst (λ (p : Phase). IsPhase told p) (sym q.phase) is) sound
+        (λ up down. up (q.phase ∙ down)) (λ told is. subst (λ (p : Phase). IsPhase told p) (sym q.phase) is) sound always
