@@ -11,6 +11,8 @@ mod phase;
 mod releases;
 mod releasing;
 mod signing;
+#[cfg(test)]
+mod tests;
 mod told;
 
 pub use error::ClientError;

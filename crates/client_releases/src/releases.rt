@@ -201,11 +201,11 @@ impl<L: Device, J: Device, A: Allocator> Releases<L, J, A> {
         self.user
     }
 
-    /// The own key, whose leaves sign.
-    pub fn key(&self) -> &PrivateKey<A>
-        ensures { (result.now.seed ≡ self.now.seed) × (result.now.id ≡ self.now.id) }
+    /// The public key whose leaves sign.
+    pub fn key(&self) -> PublicKey
+        ensures { result ≡ public_key_of self.now.seed self.now.id }
     {
-        &self.key
+        self.key.public()
     }
 
     /// The number of the operation that was declared last, 0 where none was.
