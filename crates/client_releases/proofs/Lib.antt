@@ -1,2 +1,2 @@
-mod Releasing
-mod Told
+mod Telling
+mod Untouched
