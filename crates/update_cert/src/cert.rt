@@ -1,6 +1,6 @@
 //! Certificates.
 
-ghost use Rattle.std.specs.Prelude.{◌≡◌, ◌≤◌, IfOk, OnOk, vec_len, length};
+ghost use Rattle.std.specs.Prelude.{◌≡◌, ◌≤◌, IfOk, OnErr, OnOk, vec_len, length};
 ghost use Rattle.std.specs.List.{All};
 ghost use Rattle.layout.specs.Format.{BeginsWith, Reads};
 ghost use Rattle.update_cert.specs.Change.{change};
@@ -48,7 +48,7 @@ fn write_cert<A: Allocator + Copy>(
 ) -> Result<(), Memory>
     requires few { length changes.now ≤ 16 }
     ensures ok { OnOk result (writer.new ≡ cert.onto writer.old (record { user = user; number = number; last = last.now; changes = changes.now })) }
-    ensures front { BeginsWith writer.new writer.old }
+    ensures front { OnErr result (BeginsWith writer.new writer.old) }
 {
     writer.tag(b"SUC1")?;
     writer.user(user)?;
