@@ -2,8 +2,11 @@
 #![tactic(auto)]
 
 mod accepted;
+#[cfg(test)]
+mod by_hand_tests;
+mod call_queue;
 mod connection;
-mod event_queue;
+mod empty_queue;
 mod flusher;
 mod gate;
 mod locked;
@@ -13,6 +16,8 @@ mod reply;
 mod server;
 mod shared;
 mod socket;
+#[cfg(test)]
+mod socket_tests;
 mod tally;
 #[cfg(test)]
 mod tests;
@@ -20,8 +25,10 @@ mod worker;
 mod writing;
 
 pub use accepted::Accepted;
+pub use call_queue::{CallPass, CallQueue, ServerName};
 pub use connection::{Connection, ConnectionFault, Ended};
-pub use event_queue::Room;
+pub use empty_queue::empty_queue;
+pub use flusher::Flusher;
 pub use gate::{Gate, OpenGate};
 pub use memory::MemoryConnection;
 pub use server::{Served, serve};
