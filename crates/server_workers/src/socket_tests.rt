@@ -42,7 +42,9 @@ impl Clock for Restless {
 }
 
 /// A listener that fails while nobody knocks, since it doesn't wait.
-fn hasty<R: Net<Listener = TcpListener>>(rt: &R) -> io::Result<(TcpListener, SocketAddr)> {
+fn hasty<R: Net<Listener = TcpListener, Stream = TcpStream>>(
+    rt: &R,
+) -> io::Result<(TcpListener, SocketAddr)> {
     let listener = TcpListener::bind(rt, "127.0.0.1:0")?;
     listener.set_nonblocking(true)?;
     let address = listener.local_addr()?;
