@@ -9,9 +9,9 @@ ghost use Rattle.server_workers.specs.Flushing.{IsFlushed};
 
 use crate::call_queue::{CallPass, CallQueue, ServerName};
 use crate::connection::Connection;
-use crate::empty_queue::empty_queue;
 use crate::flusher::{Flushed, Flusher};
 use crate::gate::Gate;
+use crate::new_queue::empty_queue;
 use crate::shared::Shared;
 use crate::tally::{Part, Tally};
 use crate::worker::work;
