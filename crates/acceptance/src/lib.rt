@@ -66,6 +66,4 @@ mod tables;
 #[cfg(test)]
 mod texts;
 #[cfg(test)]
-mod two_users;
-#[cfg(test)]
 mod world;
