@@ -1,2 +1,5 @@
-mod Telling
-mod Untouched
+pub mod Keeping
+pub mod Reading
+pub mod Standing
+pub mod Telling
+pub mod Untouched
