@@ -6,7 +6,7 @@ use Rattle.layout.specs.Laws.{whole_again}
 use Rattle.version_order.specs.Structure.{Structure, structure, lawful_structure}
 use Rattle.update_cert.specs.Cert.{Cert, cert, lawful_cert}
 use Rattle.pending_list.specs.declared.signed.Signed.{Signed}
-use Rattle.pending_list.specs.Signed.{signed, lawful_signed}
+use Rattle.pending_list.specs.Signed.{signed, signature as signature_format, lawful_signed}
 use Rattle.client_journal.specs.Records.{State as Recorded, Idle, Declared, Signed as Ended, may_come, next_state}
 use Rattle.client_journal.specs.declared.kind.Kind.TheVariants as kind
 use Rattle.client_releases.specs.Told.{IsPhase, Told, after_cert, after_structure, cert_in, structure_in, told_by}
@@ -22,6 +22,18 @@ cert_read user c fits own = rw (whole_again (signed cert) (lawful_signed cert la
 
 pub structure_read : (user : ℕ) (z : Signed Structure) → (signed structure).Fits z → z.value.plan.user ≡ user → structure_in user ((signed structure).spell z) ≡ Some z
 structure_read user z fits own = rw (whole_again (signed structure) (lawful_signed structure lawful_structure) z fits, same_user z.value.plan.user user own) refl
+
+pub cert_there : (user : ℕ) (c : Cert) (signature unsigned text : List ℕ) → cert.Fits c → signature_format.Fits signature → unsigned ≡ cert.spell c → text ≡ unsigned ++ signature → c.user ≡ user
+    → cert_in user text ≡ Some (record { value = c; signature = signature })
+cert_there user c signature unsigned text fits sign spelled all own =
+    subst (λ (t : List ℕ). cert_in user t ≡ Some (record { value = c; signature = signature })) (sym (all ∙ ap (λ (u : List ℕ). u ++ signature) spelled))
+    (cert_read user (record { value = c; signature = signature }) (fits, sign) own)
+
+pub structure_there : (user : ℕ) (z : Structure) (signature unsigned text : List ℕ) → structure.Fits z → signature_format.Fits signature → unsigned ≡ structure.spell z → text ≡ unsigned ++ signature → z.plan.user ≡ user
+    → structure_in user text ≡ Some (record { value = z; signature = signature })
+structure_there user z signature unsigned text fits sign spelled all own =
+    subst (λ (t : List ℕ). structure_in user t ≡ Some (record { value = z; signature = signature })) (sym (all ∙ ap (λ (u : List ℕ). u ++ signature) spelled))
+    (structure_read user (record { value = z; signature = signature }) (fits, sign) own)
 
 -- ---- which record may come, by the phase
 
