@@ -163,6 +163,8 @@ impl<'a, A: Allocator + Copy> Known<'a, A> {
     fn is_declared(&self, alloc: A, key: &PublicKey, item: &PendingItem<A>) -> Result<bool, Memory>
         ensures { IfOk result (λ is. is ≡ true → valid key.now (cert.spell item.now.cert) item.now.signature ≡ true) }
     {
+        // Of 2,508 bytes.
+        let _signature = item.signature().as_bytes();
         let sent = cert_sent(alloc, item)?;
         Ok(*key == self.own && sent.as_slice() == self.declared)
     }

@@ -5,6 +5,13 @@ use Rattle.client_verify.specs.Verified.{AreOf}
 use Rattle.client_verify.proofs.VerifiedLaws.{of_supers, of_table}
 use Rattle.client_verify.proofs.good.Good.has_key.Goals as goal
 
+pub returns-then-eq : goal.returns-then-eq
+returns-then-eq g c = λ same.
+    let good = c.self.inside in
+    let user : c.args.user ≡ 0 = search rules in
+    let supers = of_supers good.lists c.args.key.now (c.has_pinned.ensures same) in
+    rw user (subst (λ (x : Good). AreOf x.lists 0 c.args.key.now) c.self.view_is supers)
+
 pub returns-in-Some : goal.returns-in-Some
 returns-in-Some g c = λ same.
     let good = c.self.inside in
