@@ -72,9 +72,9 @@ of_table t x user key none other listed =
     let waiting = and_parts (list_all test x.others) _ (sym (list_all-append test x.others (x.own ∷ [])) ∙ parts.1) in
     record {
       structure = found (λ (z : Signed Structure). z.value.plan.user == user) (λ z. verifies t z.value.plan.user (structure.spell z.value) z.signature) (IsSigned key)
-        (λ z is holds. verified t user key other listed z.value.plan.user (structure.spell z.value) z.signature (eqb-true _ _ is) holds) x.structures parts.0;
+          (λ z is holds. verified t user key other listed z.value.plan.user (structure.spell z.value) z.signature (eqb-true _ _ is) holds) x.structures parts.0;
       cert = found (λ (i : PendingItem). i.cert.user == user) test (IsCertSigned key)
-        (λ i is holds. verified t user key other listed i.cert.user (cert.spell i.cert) i.signature (eqb-true _ _ is) holds) x.others waiting.0;
+          (λ i is holds. verified t user key other listed i.cert.user (cert.spell i.cert) i.signature (eqb-true _ _ is) holds) x.others waiting.0;
     }
 
 -- ---- what the client signs itself

@@ -20,7 +20,7 @@ invariant_of-result g c =
     let is : r.pending ≡ others ++ own ∷ [] = sym c.into_parts-structures.ensures.pending ∙ c.in-Some.ensures.items in (
       subst (Ascends nat_cmp user_of None) (sym c.into_parts-structures.ensures.structures) (ascend r.structures (lists_ascend r c.self.invariant.0)),
       subst (λ (zs : List (Signed Structure)). AreSupers (record { structures = zs; others = others; own = own }) c.self.inside.pinned) (sym c.into_parts-structures.ensures.structures)
-        (reply_supers r c.self.inside.pinned others own is c.self.invariant.2),
+          (reply_supers r c.self.inside.pinned others own is c.self.invariant.2),
     )
 
 pub returns : goal.returns
