@@ -1,0 +1,5 @@
+mod Members
+mod Texts
+mod Stories
+mod Once
+mod Files
