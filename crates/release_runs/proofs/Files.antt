@@ -35,7 +35,7 @@ module _ (o : Owner) where
 sure_again : (left : Bytes) (q : LeafNumber) → is_used left q ≡ true → IsSure (started left) q
 sure_again left q used = (used, rests (λ c. is_used c q ≡ true) (at_rest left) left refl used)
 
-only_this : (left file : Bytes) → IsPossible (started left) file → file ≡ left
+pub only_this : (left file : Bytes) → IsPossible (started left) file → file ≡ left
 only_this left file (inl same) = same
 only_this left file (inr may) = rest_only left file may
 

@@ -1,5 +1,9 @@
 mod Members
 mod Texts
-mod Stories
-mod Once
-mod Files
+pub mod Stories
+pub mod Once
+pub mod Files
+pub mod Holds
+mod Releasing
+mod Opening
+pub mod Runs

@@ -1,5 +1,5 @@
 -- Stories: what the client of a user released, one release after another, and what its journal tells of them.
-use Rattle.std.proofs.Common.{◌≡◌, ℕ, ◌+◌, ◌<◌, List, [], ◌∷◌, ◌++◌, map, Option, Some, None, IfSome, refl, sym, ap, ◌∙◌, subst, inl, inr, arith}
+use Rattle.std.proofs.Common.{◌≡◌, ℕ, ◌+◌, ◌<◌, List, [], ◌∷◌, ◌++◌, length, map, Option, Some, None, IfSome, refl, sym, ap, ◌∙◌, subst, inl, inr, arith}
 use Rattle.std.specs.Prelude.{◌⊎◌}
 use Rattle.std.specs.Option.{option_and_then, option_map}
 use Rattle.layout.specs.Types.{Bytes}
@@ -153,7 +153,7 @@ module _ (o : Owner) where
       ∙ ap (option_and_then (λ t. next_state t (record_of o r).kind (record_of o r).text)) (state_is older is.1)
       ∙ step_of older r is.0.next
 
-  size_of : (m : Bytes) (q : LeafNumber) → _
+  size_of : (m : Bytes) (q : LeafNumber) → length (signature_of o.seed o.id q m) ≡ 2508
   size_of m q = length-signature o.seed o.id m q
 
   pub cert_of : (c : Cert) (q : LeafNumber) (older : List Release) → IsNextCert o older c → cert_in o.user (text o (OfCert c q)) ≡ Some (record { value = c; signature = signature_of o.seed o.id q (cert.spell c) })

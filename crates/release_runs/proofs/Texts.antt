@@ -76,17 +76,18 @@ nothing_left n xs size = ap (λ l. drop n l) (sym (append_nil_right xs)) ∙ dro
     append_nil_right (y ∷ ys) = ap (λ l. y ∷ l) (append_nil_right ys)
 
 signature_read : (sig : List ℕ) → length sig ≡ 2508 → signature.read sig ≡ Ok (sig, [])
-signature_read sig size =
-    let long : nat_lt (length sig) 2508 ≡ false = le-ltb _ _ (omega (arith, size)) in
-    rw long (ap (λ l. Ok (l, drop 2508 sig)) (take_all 2508 sig (omega (arith, size))) ∙ ap (λ l. Ok (sig, l)) (nothing_left 2508 sig size))
+signature_read sig sized =
+    let long : nat_lt (length sig) 2508 ≡ false = le-ltb _ _ (omega (arith, sized)) in
+    rw long (ap (λ l. Ok (l, drop 2508 sig)) (take_all 2508 sig (omega (arith, sized))) ∙ ap (λ l. Ok (sig, l)) (nothing_left 2508 sig sized))
 
 pub read_signed : {V : Type 0} (f : Format V) → Lawful f → (v : V) (sig : List ℕ) → f.Fits v → length sig ≡ 2508 → whole (signed f) (f.spell v ++ sig) ≡ Ok (record { value = v; signature = sig })
-read_signed {V} f law v sig fits size =
-    let after : Answer V → Result (Signed V) ReadError = λ r.
-    ((r >>= λ x. signature.read x.1 >>= λ y. Ok ((x.0, y.0), y.1)) >>= λ x. Ok (record { value = x.0.0; signature = x.0.1 }, x.1)) >>= λ x. if ends x.1 then Ok x.0 else Err Trailing in
-    let behind : Answer (List ℕ) → Result (Signed V) ReadError = λ r.
-    ((r >>= λ y. Ok ((v, y.0), y.1)) >>= λ x. Ok (record { value = x.0.0; signature = x.0.1 }, x.1)) >>= λ x. if ends x.1 then Ok x.0 else Err Trailing in
-    ap after (law.again v sig fits) ∙ ap behind (signature_read sig size)
+read_signed {V} f law v sig fits sized =
+    let paired : V × List ℕ → Answer (V × List ℕ) = λ x. signature.read x.1 >>= λ y. Ok ((x.0, y.0), y.1) in
+    let behind : List ℕ × List ℕ → Answer (V × List ℕ) = λ y. Ok ((v, y.0), y.1) in
+    let made : (V × List ℕ) × List ℕ → Answer (Signed V) = λ x. Ok (record { value = x.0.0; signature = x.0.1 }, x.1) in
+    let done : Signed V × List ℕ → Result (Signed V) ReadError = λ x. if ends x.1 then Ok x.0 else Err Trailing in
+    ap (λ (r : Answer V). r >>= paired >>= made >>= done) (law.again v sig fits)
+    ∙ ap (λ (r : Answer (List ℕ)). r >>= behind >>= made >>= done) (signature_read sig sized)
 
 module _ (u : ℕ) (sig : List ℕ) (long : length sig ≡ 2508) where
   pub cert_read : (c : Cert) → cert.Fits c → c.user ≡ u → cert_in u (cert.spell c ++ sig) ≡ Some (record { value = c; signature = sig })
@@ -101,10 +102,13 @@ module _ (u : ℕ) (sig : List ℕ) (long : length sig ≡ 2508) where
 
 -- ---- other tags
 
+abbrev tag_answer : Bool → Bool → List ℕ → Answer (Unit {0})
+tag_answer short is rest = if short then Err Short else if is then Ok (tt, rest) else Err BadTag
+
 tag_refused : {V : Type 0} (tag : List ℕ) (f : Format V) (bytes : List ℕ) → starts_with nat_eq bytes tag ≡ false → (e : ReadError) × ((headed tag f).read bytes ≡ Err e)
 tag_refused {V} tag f bytes other = go (nat_lt (length bytes) (length tag)) (starts_with nat_eq bytes tag) other
   where
-    go : (short is : Bool) → is ≡ false → (e : ReadError) × (((if short then Err Short else if is then Ok (tt, drop (length tag) bytes) else Err BadTag) >>= λ t. f.read t.1) ≡ Err e)
+    go : (short is : Bool) → is ≡ false → (e : ReadError) × ((tag_answer short is (drop (length tag) bytes) >>= λ t. f.read t.1) ≡ Err e)
     go true is h = (Short, refl)
     go false true h = absurd (cc h)
     go false false h = (BadTag, refl)
@@ -112,10 +116,11 @@ tag_refused {V} tag f bytes other = go (nat_lt (length bytes) (length tag)) (sta
 -- what a signed text isn't, where its front isn't read
 not_signed : {V : Type 0} (f : Format V) (user_of : V → ℕ) (u : ℕ) (bytes : List ℕ) → (e : ReadError) × (f.read bytes ≡ Err e) → own_in (signed f) (λ v. user_of v.value) u bytes ≡ None
 not_signed {V} f user_of u bytes refused =
-    let after : Answer V → Option (Signed V) = λ r.
-    option_and_then (λ (v : Signed V). if user_of v.value == u then Some v else None)
-    (result_ok (((r >>= λ x. signature.read x.1 >>= λ y. Ok ((x.0, y.0), y.1)) >>= λ x. Ok (record { value = x.0.0; signature = x.0.1 }, x.1)) >>= λ x. if ends x.1 then Ok x.0 else Err Trailing)) in
-    ap after refused.1
+    let paired : V × List ℕ → Answer (V × List ℕ) = λ x. signature.read x.1 >>= λ y. Ok ((x.0, y.0), y.1) in
+    let made : (V × List ℕ) × List ℕ → Answer (Signed V) = λ x. Ok (record { value = x.0.0; signature = x.0.1 }, x.1) in
+    let done : Signed V × List ℕ → Result (Signed V) ReadError = λ x. if ends x.1 then Ok x.0 else Err Trailing in
+    let own : Signed V → Option (Signed V) = λ v. if user_of v.value == u then Some v else None in
+    ap (λ (r : Answer V). option_and_then own (result_ok (r >>= paired >>= made >>= done))) refused.1
 
 -- the formats behind the tags
 cert_body : Format Cert
