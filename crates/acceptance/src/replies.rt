@@ -51,7 +51,7 @@ pub(crate) fn declare_changes(
     assert!(rt; changes.len() <= 16);
     let are_laid = are_laid(rt.alloc(), &laid, &changes).expect(rt, "memory");
     assert!(rt; are_laid);
-    client.begin(changes, laid).expect(rt, "a certificate")
+    client.begin(&changes, &laid).expect(rt, "a certificate")
 }
 
 /// Declares the client's next operation, without changes.

@@ -11,7 +11,7 @@ use lms_sign::PublicKey;
 use plain_user::{Caller, Replied};
 use server_workers::{Accepted, OpenGate, serve};
 use std::alloc::Global;
-use std::net::{SocketAddr, TcpListener, TcpStream};
+use std::net::{Net, SocketAddr, TcpListener, TcpStream};
 use std::sync::Wait;
 use std::thread;
 use std::thread::Threads;
@@ -150,18 +150,25 @@ fn sees_both(rt: &impl Host, caller: &mut Caller<TcpStream>, superuser: &mut Cli
     sees(rt, caller, superuser, 2, b"two");
 }
 
-/// Users 1 and 2 write at once, and user 0 looks when one of them has committed, and when both have.
-fn write_and_look(rt: &impl Host, caller: &mut Caller<TcpStream>) {
+/// Users 1 and 2 write at once, and user 0 looks when one of them has committed, and when both have. Their keys are made
+/// before the connection, which the server ends where it waits too long.
+fn write_and_look<R: Host + Net<Listener = TcpListener, Stream = TcpStream>>(
+    rt: &R,
+    address: SocketAddr,
+) {
     let mut superuser = client_of(rt, 0, 0);
     let mut first = client_of(rt, 1, 1);
     let mut second = client_of(rt, 2, 2);
-    operate(rt, caller, &mut superuser, two_users(rt));
-    let by_first = begin(rt, caller, &mut first, a_file(rt, 1, b"one"));
-    let by_second = begin(rt, caller, &mut second, a_file(rt, 2, b"two"));
-    commit(rt, caller, &mut second, &by_second);
-    sees_both(rt, caller, &mut superuser);
-    commit(rt, caller, &mut first, &by_first);
-    sees_both(rt, caller, &mut superuser);
+    let listing = two_users(rt);
+    let stream = TcpStream::connect(rt, address).expect(rt, "a connection");
+    let mut caller = Caller::new(rt.alloc(), stream);
+    operate(rt, &mut caller, &mut superuser, listing);
+    let by_first = begin(rt, &mut caller, &mut first, a_file(rt, 1, b"one"));
+    let by_second = begin(rt, &mut caller, &mut second, a_file(rt, 2, b"two"));
+    commit(rt, &mut caller, &mut second, &by_second);
+    sees_both(rt, &mut caller, &mut superuser);
+    commit(rt, &mut caller, &mut first, &by_first);
+    sees_both(rt, &mut caller, &mut superuser);
 }
 
 /// Serves one connection: how many calls were answered.
@@ -172,7 +179,8 @@ fn serve_one<R: Host + Clock + Threads + Wait + Sync>(
 ) -> u64 {
     let alloc = rt.alloc();
     let (store, log) = (Store::new(alloc), Vec::new(alloc));
-    let connections = Accepted::new(listener, 1);
+    let mut fault = None;
+    let connections = Accepted::new(rt, listener, 1, &mut fault);
     let served = serve(rt, alloc, &OpenGate, connections, 1, &store, pinned, log);
     served.expect(rt, "memory").answered
 }
@@ -181,15 +189,11 @@ fn serve_one<R: Host + Clock + Threads + Wait + Sync>(
 fn two_write_at_once(rt: HostRuntime) {
     let pinned = key_of(&rt, 0).public();
     let listener = TcpListener::bind(&rt, "127.0.0.1:0").expect(&rt, "a port");
-    let address: SocketAddr = listener.local_addr().expect(&rt, "its address");
+    let address = listener.local_addr().expect(&rt, "its address");
     let (answered, ()) = thread::join(
         &rt,
         || serve_one(&rt, &listener, pinned),
-        || {
-            let stream = TcpStream::connect(&rt, address).expect(&rt, "a connection");
-            let mut caller = Caller::new(rt.alloc(), stream);
-            write_and_look(&rt, &mut caller);
-        },
+        || write_and_look(&rt, address),
     );
     // Five operations, of two calls each.
     assert_eq!(rt; answered, 10);

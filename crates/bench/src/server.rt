@@ -126,7 +126,8 @@ fn measure<R: Host>(rt: &R, connections: u8) -> Result<(u32, f64)> {
 fn serve_all<R: Host>(rt: &R, listener: &TcpListener, most: u32, pinned: PublicKey) -> bool {
     let alloc = rt.alloc();
     let (store, log) = (Store::new(alloc), Vec::new(alloc));
-    let connections = Accepted::new(listener, most);
+    let mut fault = None;
+    let connections = Accepted::new(rt, listener, most, &mut fault);
     serve(rt, alloc, &OpenGate, connections, most, &store, pinned, log).is_ok()
 }
 

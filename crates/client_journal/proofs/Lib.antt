@@ -1,9 +1,9 @@
-mod Appended
-mod Chains
+pub mod Appended
+pub mod Chains
 mod Found
 mod Fronts
 mod Headers
-mod Lives
+pub mod Lives
 mod Opened
 mod Reached
 mod Staged

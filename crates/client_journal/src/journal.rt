@@ -18,7 +18,8 @@ use std::marker::Model;
 
 /// A user's signed texts in a file: each is there, whatever crash comes, before it is handed out.
 ///
-/// A user has one journal.
+/// A user has one journal. One that is dropped loses its device: its records stay.
+#[derive(Drop)]
 pub struct Journal<D: Device> {
     device: D,
     end: End,

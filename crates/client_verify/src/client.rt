@@ -14,6 +14,7 @@ use crate::good::Good;
 use crate::growing::{
     Made, Reached, Shown, Written, reach, reach_with, show, show_with, write_with,
 };
+use crate::laid::copies;
 use crate::lists::with_own;
 use crate::look::Look;
 use crate::phase::Phase;
@@ -30,7 +31,7 @@ use principals::Table;
 use reply_rules::Rule;
 use std::alloc::Allocator;
 use std::marker::Model;
-use update_cert::{Cert, Change};
+use update_cert::{Change, cert_text};
 use version_order::Structure;
 use wire::Status;
 
@@ -225,20 +226,6 @@ impl<A: Allocator + Copy> Client<A> {
     }
 }
 
-/// The text of a certificate.
-fn certificate<A: Allocator + Copy>(
-    alloc: A,
-    user: User,
-    number: Version,
-    last: Digest,
-    changes: Vec<Change<A>, A>,
-) -> Result<Vec<u8, A>, Memory>
-    requires { length changes.items ≤ 16 }
-    ensures { IfOk result (λ text. text.items ≡ cert.spell (record { user = user; number = number; last = last; changes = changes.items })) }
-{
-    Cert::new(user, number, last, changes).text(alloc)
-}
-
 /// What is seen, as it is told.
 fn told<A: Allocator>(seen: Seen<A>) -> Look<A>
     ensures { IsTold seen result }
@@ -276,15 +263,15 @@ impl<A: Allocator + Copy> Client<A> {
     }
 
     /// The certificate of these changes, signed by the next leaf.
-    fn certify(&self, number: Version, changes: Vec<Change<A>, A>) -> Result<Sealed<A>, Memory>
+    fn certify(&self, number: Version, changes: &[Change<A>]) -> Result<Sealed<A>, Memory>
         requires number { number ≡ self.now.number + 1 }
         requires leaf { self.now.leaf < 1024 }
-        requires few { length changes.items ≤ 16 }
-        ensures kept { IfOk result (λ s. s.kept.items ≡ sent self.now (cert.spell (next_cert self.now changes.items))) }
-        ensures sent { IfOk result (λ s. s.sent.items ≡ sent self.now (cert.spell (next_cert self.now changes.items))) }
+        requires few { length changes.now ≤ 16 }
+        ensures kept { IfOk result (λ s. s.kept.items ≡ sent self.now (cert.spell (next_cert self.now changes.now))) }
+        ensures sent { IfOk result (λ s. s.sent.items ≡ sent self.now (cert.spell (next_cert self.now changes.now))) }
     {
         let last = digest_of_last(self.alloc, self.last.as_ref())?;
-        let text = certificate(self.alloc, self.user, number, last, changes)?;
+        let text = cert_text(self.alloc, self.user, number, last, changes)?;
         seal(self.alloc, &self.key, self.leaf, text)
     }
 
@@ -292,13 +279,13 @@ impl<A: Allocator + Copy> Client<A> {
     /// unless it answers an error: NoLeaf, NoNumber, or Memory.
     pub fn begin(
         &mut self,
-        changes: Vec<Change<A>, A>,
-        laid: Vec<Vec<u8, A>, A>,
+        changes: &[Change<A>],
+        laid: &[Vec<u8, A>],
     ) -> Result<Vec<u8, A>, ClientError>
         requires idle { self.old.phase ≡ Phase.Idle }
-        requires few { length changes.items ≤ 16 }
-        requires laid { are_laid (map vec_items laid.items) changes.items ≡ true }
-        ensures declared { OnOk result (self.new ≡ declared self.old changes.items (map vec_items laid.items)) }
+        requires few { length changes.now ≤ 16 }
+        requires laid { are_laid (map vec_items laid.now) changes.now ≡ true }
+        ensures declared { OnOk result (self.new ≡ declared self.old changes.now (map vec_items laid.now)) }
         ensures text { IfOk result (λ text. text.items ≡ self.new.text) }
         ensures no_leaf { IsErrOf result ClientError.NoLeaf ↔ (self.old.leaf ≡ 1024) }
         ensures no_number { IsErrOf result ClientError.NoNumber ↔ ((self.old.number ≡ 4294967295) × (self.old.leaf ≢ 1024)) }
@@ -306,6 +293,7 @@ impl<A: Allocator + Copy> Client<A> {
     {
         let number = self.next_number()?;
         let sealed = self.certify(number, changes)?;
+        let laid = copies(self.alloc, laid)?;
         self.blocks.keep_all(laid)?;
         let Sealed {
             kept,

@@ -111,7 +111,10 @@ fn all_laid<A: Allocator + Copy>(
 }
 
 /// Copies of these texts.
-fn copies<A: Allocator + Copy>(alloc: A, texts: &[Vec<u8, A>]) -> Result<Vec<Vec<u8, A>, A>, Memory>
+pub(crate) fn copies<A: Allocator + Copy>(
+    alloc: A,
+    texts: &[Vec<u8, A>],
+) -> Result<Vec<Vec<u8, A>, A>, Memory>
     ensures { IfOk result (λ copies. map vec_items copies.items ≡ map vec_items texts.now) }
 {
     let mut copies = Vec::new(alloc);

@@ -36,7 +36,7 @@ fn declare<A: Allocator + Copy>(
         return Ok(Outcome::Error);
     }
     store(alloc, blocks, &laid)?;
-    match client.begin(changes, laid) {
+    match client.begin(&changes, &laid) {
         Ok(_) => Ok(Outcome::Begun(user, client.number())),
         Err(error) => stopped(user, error),
     }

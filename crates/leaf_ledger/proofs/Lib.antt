@@ -1,6 +1,6 @@
 mod Files
-mod Lives
-mod Marked
+pub mod Lives
+pub mod Marked
 mod Parts
 mod Replays
 mod Taken

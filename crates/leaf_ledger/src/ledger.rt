@@ -1,6 +1,6 @@
 //! Ledgers.
 
-ghost use Rattle.std.specs.Prelude.{◌≡◌, ◌≢◌, ◌+◌, ◌-◌, ◌≤◌, true, false, IfErr, IfOk, OnOk, OnErr, IsErrOf, None};
+ghost use Rattle.std.specs.Prelude.{◌≡◌, ◌≢◌, ◌↔◌, ◌+◌, ◌-◌, ◌≤◌, true, false, IfErr, IfOk, OnOk, OnErr, IsErrOf, None};
 ghost use Rattle.leaf_ledger.specs.Device.{at_rest, Throughout, HasRisen};
 ghost use Rattle.leaf_ledger.specs.Ledger.{LeafNumber, with_mark, UsedWith, UsedWithOrWithout, UsedAsBefore, IsLeastFree, IsFull, IsFileOf, IsForeign, KeepsLedger};
 ghost use Rattle.leaf_ledger.specs.Life.{Call, handed_by};
@@ -20,7 +20,9 @@ const USED: u8 = 1;
 
 /// The leaves of a public key, those that are used marked on a device.
 ///
-/// A key has one ledger file: who opens two for a key hands out leaves twice.
+/// A key has one ledger file: who opens two for a key hands out leaves twice. A ledger that is dropped loses its device:
+/// what it marked stays marked.
+#[derive(Drop)]
 pub struct Ledger<D: Device> {
     device: D,
     key: PublicKey,
@@ -131,6 +133,14 @@ impl<D: Device> Ledger<D> {
         self.next = number + 1;
         self.outstanding += 1;
         Ok(Leaf::issue(&self.key, number as u32))
+    }
+
+    /// Whether a leaf is free, so that `take` fails by its device alone.
+    pub fn has_free(&self) -> bool
+        requires { self.now.usable ≡ true }
+        ensures { result ≡ false ↔ IsFull self.now.file.now.text }
+    {
+        first_free(&self.marks, self.next).is_some()
     }
 
     /// Takes a spent leaf back. It takes no memory.

@@ -15,8 +15,10 @@ use wire::Status;
 fn serve_two<R: Host>(rt: &R, listener: &TcpListener, pinned: PublicKey) -> Served<Vec<u8>> {
     let alloc = rt.alloc();
     let (store, log) = (Store::new(alloc), Vec::new(alloc));
-    let connections = Accepted::new(listener, 2);
+    let mut fault = None;
+    let connections = Accepted::new(rt, listener, 2, &mut fault);
     let served = serve(rt, alloc, &OpenGate, connections, 2, &store, pinned, log);
+    assert!(rt; fault.is_none(), "two were accepted");
     served.expect(rt, "memory")
 }
 

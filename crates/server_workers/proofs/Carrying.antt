@@ -4,16 +4,16 @@ use Rattle.wire.specs.declared.kinds.Status.{Status}
 use Rattle.wire.specs.declared.kinds.Status.TheVariants as status
 use Rattle.consistency_server.specs.Answers.{Call}
 use Rattle.consistency_server.specs.History.{Ordered, IsServed, IsTurnedAway, log_of, logged}
-use Rattle.server_workers.specs.Counting.{is_counted}
+use Rattle.server_workers.specs.Counting.{is_served}
 
-turned_is : (s : Status) → IsTurnedAway s → is_counted s ≡ false
-turned_is s (inl busy) = ap is_counted busy
-turned_is s (inr memory) = ap is_counted memory
+turned_is : (s : Status) → IsTurnedAway s → is_served s ≡ false
+turned_is s (inl busy) = ap is_served busy
+turned_is s (inr memory) = ap is_served memory
 
-pub served : (s : Status) → is_counted s ≡ true → IsServed s
+pub served : (s : Status) → is_served s ≡ true → IsServed s
 served s is t = let same = sym is ∙ turned_is s t in absurd cc
 
-pub turned_away : (s : Status) → is_counted s ≡ false → IsTurnedAway s
+pub turned_away : (s : Status) → is_served s ≡ false → IsTurnedAway s
 turned_away status.Busy is = inl refl
 turned_away status.Memory is = inr refl
 turned_away status.Ok is = absurd cc
@@ -26,7 +26,7 @@ turned_away status.TooLarge is = absurd cc
 turned_away status.Absent is = absurd cc
 
 either : (s : Status) → IsServed s ⊎ IsTurnedAway s
-either s = elim (is_counted s) as (λ b. is_counted s ≡ b → IsServed s ⊎ IsTurnedAway s) [ true ↦ λ is. inl (served s is) | false ↦ λ is. inr (turned_away s is) ] refl
+either s = elim (is_served s) as (λ b. is_served s ≡ b → IsServed s ⊎ IsTurnedAway s) [ true ↦ λ is. inl (served s is) | false ↦ λ is. inr (turned_away s is) ] refl
 
 -- the log goes on being what the history leaves in it
 pub log_goes_on : (s : Status) (old new : Ordered) (call : Call) (pushed pushed' : List Call) → pushed ≡ log_of old.pinned old.history

@@ -5,8 +5,9 @@ use lib.ListN.{get_elem?}
 use Rattle.crossbeam_queue.specs.Fifo.{Pushes, Pops, Forks, Merges, Learns}
 use Rattle.crossbeam_queue.proofs.Lists.{at_set, at_snoc}
 use Rattle.consistency_server.specs.Answers.{Call}
-use Rattle.server_workers.specs.declared.event_queue.Hand.{Hand}
-use Rattle.server_workers.specs.Relay.{hand, Fits, Relayed, HoldsEnd}
+use Rattle.server_workers.specs.declared.call_queue.Hand.{Hand}
+use Rattle.server_workers.specs.Hands.{hand}
+use Rattle.server_workers.specs.Relay.{Fits, Relayed, HoldsEnd}
 
 at_end : (l : List Hand) (a b : Hand) (j : ℕ) → get_elem? l j ≢ some b → get_elem? (l ++ a ∷ []) j ≡ some b → j ≡ length l
 at_end [] a b zero n e = refl

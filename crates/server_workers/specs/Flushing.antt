@@ -3,7 +3,7 @@ use Rattle.std.specs.Prelude.{◌≡◌, List, [], ◌∷◌, ◌++◌, Bool, tr
 use Rattle.std.specs.Io.KnownBytes.{Appends}
 use Rattle.layout.specs.Types.{Bytes}
 use Rattle.consistency_server.specs.Answers.{Call}
-use Rattle.server_workers.specs.declared.event_queue.Hand.{Hand}
+use Rattle.server_workers.specs.declared.call_queue.Hand.{Hand}
 use Rattle.server_workers.specs.Records.{records}
 
 -- what a flusher's pass knows, and whether a write failed
@@ -20,7 +20,7 @@ abbrev pub Wrote : Bool → Option Bytes → Option Bytes → List Call → Type
 Wrote false before now taken = Appends before now (records taken)
 Wrote true before now taken = AppendsBeginning before now (records taken)
 
--- What was taken begins the events, and is all of them where it says flushed.
+-- What was taken begins the logged calls, and is all of them where it says flushed.
 abbrev pub IsFlushed : Bool → Option Bytes → Option Bytes → List Call → Type 0
-IsFlushed flushed before now events =
-    (taken left : List Call) × (events ≡ taken ++ left) × Wrote (not flushed) before now taken × (flushed ≡ true → left ≡ [])
+IsFlushed flushed before now logged =
+    (taken left : List Call) × (logged ≡ taken ++ left) × Wrote (not flushed) before now taken × (flushed ≡ true → left ≡ [])

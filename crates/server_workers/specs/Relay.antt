@@ -1,18 +1,15 @@
+-- Nobody has to believe this file: the rule of the queue, by which proofs go.
 -- One pass pushes and one pops: what was popped, and then what the queue holds, is what was pushed.
-use Rattle.std.specs.Prelude.{◌≡◌, ℕ, List, [], ◌++◌, Bool, true, false}
+use Rattle.std.specs.Prelude.{◌≡◌, ℕ, List, [], ◌++◌, true}
 use mathlib.Core.Option.{some}
 use lib.ListN.{get_elem?}
 use Rattle.atomic_table.specs.Seated.{TableId}
 use Rattle.consistency_server.specs.Answers.{Call}
-use Rattle.server_workers.specs.declared.event_queue.Hand.{Hand}
-use Rattle.crossbeam_queue.specs.Passes.{Pass, view}
+use Rattle.server_workers.specs.declared.call_queue.Hand.{Hand}
 
 -- the name of no queue
 abbrev pub no_queue : TableId
 no_queue = record { words = 0; slots = 0; views_name = 0; atom = 0; block = 0; offset = 0; slot_names = [] }
-
-abbrev pub hand : Bool → Bool → List Call → List Call → Hand
-hand pushes pops sent got = record { pushes = pushes; pops = pops; sent = sent; got = got }
 
 -- the pusher has the port `at`, and the popper the port `to`
 abbrev pub Fits : ℕ → ℕ → List Call → List Call → ℕ → Hand → Type 0
@@ -26,7 +23,3 @@ Relayed items views =
 -- the queue holds an end of what was pushed
 abbrev pub HoldsEnd : Hand → List Call → Type 0
 HoldsEnd v items = (got : List Call) × (v.sent ≡ got ++ items)
-
--- what a pass knows
-abbrev pub hand_of : Pass Call Hand → Hand
-hand_of p = view p

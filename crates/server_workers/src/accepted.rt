@@ -4,25 +4,60 @@ ghost use Rattle.std.specs.Iterator.{at_most};
 
 use crate::socket::Socket;
 use std::net::TcpListener;
+use std::time::{Clock, Duration};
+use std::{io, thread};
 
-/// The connections that a listener accepts, so many at most. It ends before them where the listener fails.
+/// How long a fault of the listener is rested upon, in milliseconds.
+const REST: u64 = 10;
+
+/// How often it is tried to accept one connection: for two minutes, in which clients that say nothing are let go.
+const TRIES: u32 = 12_000;
+
+/// The connections that a listener accepts, so many at most. A fault that passes, as too many open files, is waited out. One
+/// that doesn't ends them: it is put where who made this finds it.
 #[derive(Drop)]
-pub struct Accepted<'a> {
+pub struct Accepted<'a, R: Clock> {
+    rt: &'a R,
     listener: &'a TcpListener,
     left: u32,
+    fault: &'a mut Option<io::Error>,
 }
 
-impl<'a> Accepted<'a> {
-    /// Nothing is accepted yet.
-    pub fn new(listener: &'a TcpListener, most: u32) -> Accepted<'a> {
+impl<'a, R: Clock> Accepted<'a, R> {
+    /// Nothing is accepted yet. What stands in `fault` stays unless a fault comes that doesn't pass.
+    pub fn new(
+        rt: &'a R,
+        listener: &'a TcpListener,
+        most: u32,
+        fault: &'a mut Option<io::Error>,
+    ) -> Accepted<'a, R> {
         Accepted {
+            rt,
             listener,
             left: most,
+            fault,
         }
     }
 }
 
-impl<'a> Iterator for Accepted<'a> {
+/// The next connection.
+fn accept_once(listener: &TcpListener) -> io::Result<Socket> {
+    let (stream, _) = listener.accept()?;
+    Socket::new(stream)
+}
+
+/// The next connection, or the fault of the last try.
+fn accept<R: Clock>(rt: &R, listener: &TcpListener) -> io::Result<Socket> {
+    for _try in 1..TRIES {
+        if let Ok(socket) = accept_once(listener) {
+            return Ok(socket);
+        }
+        thread::sleep(rt, Duration::from_millis(REST));
+    }
+    accept_once(listener)
+}
+
+impl<'a, R: Clock> Iterator for Accepted<'a, R> {
     type Item = Socket;
 
     ghost remaining = { λ s. at_most s.left };
@@ -32,9 +67,12 @@ impl<'a> Iterator for Accepted<'a> {
             return None;
         }
         self.left -= 1;
-        match self.listener.accept() {
-            Ok((stream, _)) => Some(Socket::new(stream)),
-            Err(_) => None,
+        match accept(self.rt, self.listener) {
+            Ok(socket) => Some(socket),
+            Err(fault) => {
+                *self.fault = Some(fault);
+                None
+            }
         }
     }
 }

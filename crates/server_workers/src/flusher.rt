@@ -2,10 +2,10 @@
 
 ghost use Rattle.std.specs.Prelude.{◌≡◌, [], true, false};
 ghost use Rattle.crossbeam_queue.specs.Passes.{IsPassOf};
-ghost use Rattle.server_workers.specs.Relay.{hand, hand_of};
-ghost use Rattle.server_workers.specs.Flushing.{IsFlushed};
+ghost use Rattle.server_workers.specs.Hands.{hand, hand_of};
+ghost use Rattle.server_workers.specs.Flushing.{IsFlushed, Wrote};
 
-use crate::event_queue::{EventPass, EventQueue, Roles, Room, Takes};
+use crate::call_queue::{CallPass, CallQueue, Roles, ServerName, Takes};
 use crate::writing::write_record;
 use std::io::Write;
 use std::marker::{Model, PhantomData};
@@ -17,22 +17,22 @@ use std::time::{Clock, Duration};
 /// How long the flusher rests after a flush, in milliseconds.
 const REST: u64 = 1;
 
-/// Takes events from the log and writes their records. Contracts see what its pass knows, and whether a write failed. What
+/// Takes calls from the log and writes their records. Contracts see what its pass knows, and whether a write failed. What
 /// was written is always the records of what was taken, or after a failed write a beginning of them.
 #[derive(Drop)]
-pub(crate) struct Flusher<'a, B: Room, R: Wait, W: Write + Drop> {
+pub struct Flusher<'a, B: ServerName, R: Wait, W: Write + Drop> {
     rt: &'a R,
-    queue: &'a EventQueue,
-    pass: EventPass,
+    queue: &'a CallQueue,
+    pass: CallPass,
     writer: W,
     failed: bool,
-    room: PhantomData<B>,
+    server: PhantomData<B>,
 }
 
-impl<'a, B: Room, R: Wait, W: Write + Drop> Model for Flusher<'a, B, R, W> {
+impl<'a, B: ServerName, R: Wait, W: Write + Drop> Model for Flusher<'a, B, R, W> {
     ghost use Rattle.std.specs.Prelude.{◌≡◌, true};
     ghost use Rattle.crossbeam_queue.specs.Passes.{IsPassOf};
-    ghost use Rattle.server_workers.specs.Relay.{hand_of};
+    ghost use Rattle.server_workers.specs.Hands.{hand_of};
     ghost use Rattle.server_workers.specs.Flushing.{Flushing, Wrote};
 
     ghost Value = { Flushing };
@@ -48,14 +48,9 @@ pub(crate) struct Flushed<W> {
     pub(crate) flushed: bool,
 }
 
-impl<'a, B: Room, R: Wait, W: Write + Drop> Flusher<'a, B, R, W> {
-    /// Nothing was taken yet.
-    pub(crate) fn new(
-        rt: &'a R,
-        queue: &'a EventQueue,
-        pass: EventPass,
-        writer: W,
-    ) -> Flusher<'a, B, R, W>
+impl<'a, B: ServerName, R: Wait, W: Write + Drop> Flusher<'a, B, R, W> {
+    /// Nothing was taken yet. `pass` is the one that pops.
+    pub fn new(rt: &'a R, queue: &'a CallQueue, pass: CallPass, writer: W) -> Flusher<'a, B, R, W>
         requires queue { IsPassOf queue.now pass × (pass.table_id ≡ B.queue) }
         requires empty { hand_of pass ≡ hand false true [] [] }
         requires before { W.contents writer ≡ B.before }
@@ -66,11 +61,11 @@ impl<'a, B: Room, R: Wait, W: Write + Drop> Flusher<'a, B, R, W> {
             pass,
             writer,
             failed: false,
-            room: PhantomData,
+            server: PhantomData,
         }
     }
 
-    /// Takes an event and writes its record. False where the log was empty or a write failed.
+    /// Takes a call and writes its record. False where the log was empty or a write failed.
     fn step(&mut self) -> bool
         ensures same { (self.new.hand.pushes ≡ self.old.hand.pushes) × (self.new.hand.sent ≡ self.old.hand.sent) }
         ensures all { result ≡ false → self.new.failed ≡ false → self.new.hand.pushes ≡ true → self.new.hand.sent ≡ self.new.hand.got }
@@ -81,15 +76,15 @@ impl<'a, B: Room, R: Wait, W: Write + Drop> Flusher<'a, B, R, W> {
             pass,
             writer,
             failed,
-            room: _,
+            server: _,
         } = self;
         if *failed {
             return false;
         }
-        let Some(event) = queue.pop_as::<Takes, R>(*rt, pass) else {
+        let Some(call) = queue.pop_as::<Takes, R>(*rt, pass) else {
             return false;
         };
-        match write_record(writer, &event) {
+        match write_record(writer, &call) {
             Ok(()) => true,
             Err(_) => {
                 *failed = true;
@@ -99,7 +94,7 @@ impl<'a, B: Room, R: Wait, W: Write + Drop> Flusher<'a, B, R, W> {
     }
 
     /// Takes what the log has, until it is empty or a write fails.
-    pub(crate) fn flush(&mut self)
+    pub fn flush(&mut self)
         ensures same { (self.new.hand.pushes ≡ self.old.hand.pushes) × (self.new.hand.sent ≡ self.old.hand.sent) }
         ensures all { self.new.failed ≡ false → self.new.hand.pushes ≡ true → self.new.hand.sent ≡ self.new.hand.got }
     {
@@ -110,6 +105,14 @@ impl<'a, B: Room, R: Wait, W: Write + Drop> Flusher<'a, B, R, W> {
             }
         }
         unreachable!()
+    }
+
+    /// The writer, to which the records of what was taken were written, or after a failed write a beginning of them.
+    pub fn into_writer(self) -> W
+        ensures { Wrote self.entry.failed B.before (W.contents result) self.entry.hand.got }
+    {
+        let Flusher { writer, .. } = self;
+        writer
     }
 
     /// Flushes again and again, and once more when the workers have ended. It rests between one flush and the next.
@@ -131,7 +134,7 @@ impl<'a, B: Room, R: Wait, W: Write + Drop> Flusher<'a, B, R, W> {
     }
 
     /// The last flush, by who holds both ends.
-    pub(crate) fn finish(self, pushing: EventPass) -> Flushed<W>
+    pub(crate) fn finish(self, pushing: CallPass) -> Flushed<W>
         requires queue { (pushing.table_id ≡ B.queue) × (pushing.me.1 ≡ []) }
         requires pushes { (hand_of pushing).pushes ≡ true }
         ensures { IsFlushed result.flushed B.before (W.contents result.writer) (hand_of pushing).sent }
@@ -142,7 +145,7 @@ impl<'a, B: Room, R: Wait, W: Write + Drop> Flusher<'a, B, R, W> {
             mut pass,
             writer,
             failed,
-            room,
+            server,
         } = self;
         queue.absorb::<Roles>(&mut pass, pushing);
         let mut whole: Flusher<'a, B, R, W> = Flusher {
@@ -151,7 +154,7 @@ impl<'a, B: Room, R: Wait, W: Write + Drop> Flusher<'a, B, R, W> {
             pass,
             writer,
             failed,
-            room,
+            server,
         };
         whole.flush();
         let Flusher {

@@ -2,17 +2,22 @@
 #![tactic(auto)]
 
 mod accepted;
+#[cfg(test)]
+mod by_hand_tests;
+mod call_queue;
 mod connection;
-mod event_queue;
 mod flusher;
 mod gate;
 mod locked;
 mod memory;
+mod new_queue;
 mod queue_log;
 mod reply;
 mod server;
 mod shared;
 mod socket;
+#[cfg(test)]
+mod socket_tests;
 mod tally;
 #[cfg(test)]
 mod tests;
@@ -20,10 +25,12 @@ mod worker;
 mod writing;
 
 pub use accepted::Accepted;
+pub use call_queue::{CallPass, CallQueue, ServerName};
 pub use connection::{Connection, ConnectionFault, Ended};
-pub use event_queue::Room;
+pub use flusher::Flusher;
 pub use gate::{Gate, OpenGate};
 pub use memory::MemoryConnection;
+pub use new_queue::empty_queue;
 pub use server::{Served, serve};
 pub use shared::Shared;
 pub use socket::Socket;

@@ -3,10 +3,10 @@
 ghost use Rattle.std.specs.Prelude.{◌≡◌, [], ◌∷◌, ◌+◌, ◌<◌, true, false, length, leb, IsTrue};
 ghost use Rattle.consistency_server.specs.History.{call_of, answer_of, log_of, IsServed, IsTurnedAway};
 ghost use Rattle.wire.specs.declared.kinds.Status.TheVariants as status;
-ghost use Rattle.server_workers.specs.Relay.{hand, hand_of};
-ghost use Rattle.server_workers.specs.Counting.{is_counted, count_of};
+ghost use Rattle.server_workers.specs.Hands.{hand, hand_of};
+ghost use Rattle.server_workers.specs.Counting.{is_served, count_of};
 
-use crate::event_queue::{EventPass, Room};
+use crate::call_queue::{CallPass, ServerName};
 use crate::queue_log::QueueLog;
 use crate::tally::Tally;
 use consistency_server::{Answer, Call, CallKind, Log, Ordered};
@@ -19,13 +19,13 @@ use wire::Status;
 /// The one order of calls, the end of the log that pushes, and the book of the tallies. Contracts see the order. Whenever
 /// the lock is got, the log was pushed what the history leaves in it, and as many calls were counted as it has.
 #[derive(Drop)]
-pub struct Locked<'a, B: Room, L: Ledger, R: Wait> {
+pub struct Locked<'a, B: ServerName, L: Ledger, R: Wait> {
     ordered: Ordered<Global>,
     log: QueueLog<'a, B, R>,
-    calls: Book<L>,
+    book: Book<L>,
 }
 
-impl<'a, B: Room, L: Ledger, R: Wait> Model for Locked<'a, B, L, R> {
+impl<'a, B: ServerName, L: Ledger, R: Wait> Model for Locked<'a, B, L, R> {
     ghost use Rattle.std.specs.Prelude.{◌≡◌, length};
     ghost use Rattle.consistency_server.specs.History.{Ordered, log_of};
 
@@ -33,12 +33,12 @@ impl<'a, B: Room, L: Ledger, R: Wait> Model for Locked<'a, B, L, R> {
 
     ghost view = { λ l. l.ordered };
 
-    ghost invariant = { λ l. (l.ordered.pinned ≡ B.pinned) × (l.log ≡ log_of B.pinned l.ordered.history) × (l.calls.total ≡ length l.ordered.history) };
+    ghost invariant = { λ l. (l.ordered.pinned ≡ B.pinned) × (l.log ≡ log_of B.pinned l.ordered.history) × (l.book.total ≡ length l.ordered.history) };
 }
 
 /// The call was answered otherwise than busy or out of memory.
-pub(crate) fn is_counted(status: Status) -> bool
-    ensures { result ≡ is_counted status }
+pub(crate) fn is_served(status: Status) -> bool
+    ensures { result ≡ is_served status }
 {
     !matches!(status, Status::Busy | Status::Memory)
 }
@@ -51,12 +51,12 @@ fn carry_out<G: Log<Call<Global>>>(
     text: &[u8],
 ) -> Answer<Global>
     requires { G.pushed log.old ≡ log_of ordered.old.pinned ordered.old.history }
-    ensures answer { is_counted result.status ≡ true
+    ensures answer { is_served result.status ≡ true
         → result ≡ answer_of ordered.old.pinned ordered.old.history (call_of kind text.now) }
-    ensures history { is_counted result.status ≡ true
+    ensures history { is_served result.status ≡ true
         → ordered.new ≡ record ordered.old { history = call_of kind text.now ∷ ordered.old.history } }
-    ensures same { is_counted result.status ≡ false → ordered.new ≡ ordered.old }
-    ensures bare { is_counted result.status ≡ false → result.payload ≡ [] }
+    ensures same { is_served result.status ≡ false → ordered.new ≡ ordered.old }
+    ensures bare { is_served result.status ≡ false → result.payload ≡ [] }
     ensures log { G.pushed log.new ≡ log_of ordered.new.pinned ordered.new.history }
     ensures busy { result.status ≡ status.Busy → IsTrue (G.may_be_full log.old) }
 {
@@ -73,21 +73,17 @@ fn call_count(ordered: &Ordered<Global>) -> usize
     ordered.history().len()
 }
 
-impl<'a, B: Room, L: Ledger, R: Wait> Locked<'a, B, L, R> {
+impl<'a, B: ServerName, L: Ledger, R: Wait> Locked<'a, B, L, R> {
     /// Before the first call.
     pub(crate) fn new(
         ordered: Ordered<Global>,
         log: QueueLog<'a, B, R>,
-        calls: Book<L>,
+        book: Book<L>,
     ) -> Locked<'a, B, L, R>
-        requires { (ordered ≡ record { pinned = B.pinned; history = [] }) × (log ≡ []) × (calls.total ≡ 0) }
+        requires { (ordered ≡ record { pinned = B.pinned; history = [] }) × (log ≡ []) × (book.total ≡ 0) }
         ensures { result ≡ record { pinned = B.pinned; history = [] } }
     {
-        Locked {
-            ordered,
-            log,
-            calls,
-        }
+        Locked { ordered, log, book }
     }
 
     /// Carries out a call, and counts it where it is answered otherwise than busy or out of memory.
@@ -98,26 +94,22 @@ impl<'a, B: Room, L: Ledger, R: Wait> Locked<'a, B, L, R> {
         text: &[u8],
     ) -> Answer<Global>
         requires { 0 < mine.old.share.parts }
-        ensures answer { is_counted result.status ≡ true
+        ensures answer { is_served result.status ≡ true
             → result ≡ answer_of B.pinned self.old.history (call_of kind text.now) }
-        ensures history { is_counted result.status ≡ true
+        ensures history { is_served result.status ≡ true
             → self.new ≡ record self.old { history = call_of kind text.now ∷ self.old.history } }
-        ensures same { is_counted result.status ≡ false → self.new ≡ self.old }
-        ensures bare { is_counted result.status ≡ false → result.payload ≡ [] }
+        ensures same { is_served result.status ≡ false → self.new ≡ self.old }
+        ensures bare { is_served result.status ≡ false → result.payload ≡ [] }
         ensures busy { result.status ≡ status.Busy → IsTrue (leb 1024 (length (log_of B.pinned self.old.history))) }
         ensures counted { mine.new.answered ≡ mine.old.answered + count_of result.status }
         ensures parts { mine.new.share.parts ≡ mine.old.share.parts }
     {
-        let Locked {
-            ordered,
-            log,
-            calls,
-        } = self;
+        let Locked { ordered, log, book } = self;
         let Tally { answered, share } = mine;
         let answer = carry_out(ordered, log, kind, text);
-        if is_counted(answer.status()) {
-            calls.add(share, 1);
-            calls.audit(share);
+        if is_served(answer.status()) {
+            book.add(share, 1);
+            book.audit(share);
             let _calls = call_count(ordered);
             *answered += 1;
         }
@@ -131,13 +123,13 @@ impl<'a, B: Room, L: Ledger, R: Wait> Locked<'a, B, L, R> {
     {
         let Tally { answered, share } = one;
         all.share.merge(share);
-        self.calls.audit(&mut all.share);
+        self.book.audit(&mut all.share);
         let _calls = call_count(&self.ordered);
         all.answered += answered;
     }
 
     /// When all workers have ended: the history has as many calls as they answered.
-    pub(crate) fn close(self, all: &mut Tally<L>) -> (Ordered<Global>, EventPass)
+    pub(crate) fn close(self, all: &mut Tally<L>) -> (Ordered<Global>, CallPass)
         requires { all.old.share.parts ≡ L.parts }
         ensures pinned { result.0.pinned ≡ B.pinned }
         ensures counted { length result.0.history ≡ all.new.answered }
@@ -147,9 +139,9 @@ impl<'a, B: Room, L: Ledger, R: Wait> Locked<'a, B, L, R> {
         let Locked {
             ordered,
             log,
-            mut calls,
+            mut book,
         } = self;
-        calls.audit(&mut all.share);
+        book.audit(&mut all.share);
         (ordered, log.into_pass())
     }
 }

@@ -2,9 +2,9 @@
 
 ghost use Rattle.std.specs.Prelude.{◌≡◌, [], ◌∷◌, ◌++◌, true, false, length};
 ghost use Rattle.crossbeam_queue.specs.Passes.{IsPassOf, ruled_capacity};
-ghost use Rattle.server_workers.specs.Relay.{hand, hand_of};
+ghost use Rattle.server_workers.specs.Hands.{hand, hand_of};
 
-use crate::event_queue::{EventPass, EventQueue, Pushes, Room};
+use crate::call_queue::{CallPass, CallQueue, Pushes, ServerName};
 use consistency_server::{Call, Log, LogFull};
 use std::alloc::Global;
 use std::marker::{Model, PhantomData};
@@ -12,18 +12,18 @@ use std::sync::Wait;
 
 /// The end of the queue that pushes. Contracts see what was pushed, the oldest first.
 #[derive(Drop)]
-pub(crate) struct QueueLog<'a, B: Room, R: Wait> {
+pub(crate) struct QueueLog<'a, B: ServerName, R: Wait> {
     rt: &'a R,
-    queue: &'a EventQueue,
-    pass: EventPass,
-    room: PhantomData<B>,
+    queue: &'a CallQueue,
+    pass: CallPass,
+    server: PhantomData<B>,
 }
 
-impl<'a, B: Room, R: Wait> Model for QueueLog<'a, B, R> {
+impl<'a, B: ServerName, R: Wait> Model for QueueLog<'a, B, R> {
     ghost use Rattle.std.specs.Prelude.{◌≡◌, List, [], true, false};
     ghost use Rattle.crossbeam_queue.specs.Passes.{IsPassOf, ruled_capacity};
     ghost use Rattle.consistency_server.specs.Answers.{Call};
-    ghost use Rattle.server_workers.specs.Relay.{hand, hand_of};
+    ghost use Rattle.server_workers.specs.Hands.{hand, hand_of};
 
     ghost Value = { List Call };
 
@@ -32,9 +32,9 @@ impl<'a, B: Room, R: Wait> Model for QueueLog<'a, B, R> {
     ghost invariant = { λ l. IsPassOf l.queue.now l.pass × (l.pass.table_id ≡ B.queue) × (ruled_capacity l.queue.now ≡ 1024) × (hand_of l.pass ≡ hand true false (hand_of l.pass).sent []) };
 }
 
-impl<'a, B: Room, R: Wait> QueueLog<'a, B, R> {
+impl<'a, B: ServerName, R: Wait> QueueLog<'a, B, R> {
     /// The end of a queue into which nothing was pushed.
-    pub(crate) fn new(rt: &'a R, queue: &'a EventQueue, pass: EventPass) -> QueueLog<'a, B, R>
+    pub(crate) fn new(rt: &'a R, queue: &'a CallQueue, pass: CallPass) -> QueueLog<'a, B, R>
         requires queue { IsPassOf queue.now pass × (pass.table_id ≡ B.queue) × (ruled_capacity queue.now ≡ 1024) }
         requires empty { hand_of pass ≡ hand true false [] [] }
         ensures { result ≡ [] }
@@ -43,11 +43,11 @@ impl<'a, B: Room, R: Wait> QueueLog<'a, B, R> {
             rt,
             queue,
             pass,
-            room: PhantomData,
+            server: PhantomData,
         }
     }
 
-    pub(crate) fn into_pass(self) -> EventPass
+    pub(crate) fn into_pass(self) -> CallPass
         ensures queue { (result.table_id ≡ B.queue) × (result.me.1 ≡ []) }
         ensures pushed { hand_of result ≡ hand true false self.entry [] }
     {
@@ -56,12 +56,12 @@ impl<'a, B: Room, R: Wait> QueueLog<'a, B, R> {
     }
 }
 
-impl<'a, B: Room, R: Wait> Log<Call<Global>> for QueueLog<'a, B, R> {
+impl<'a, B: ServerName, R: Wait> Log<Call<Global>> for QueueLog<'a, B, R> {
     ghost use Rattle.std.specs.Prelude.{leb, length};
 
     ghost pushed = { λ l. l };
 
-    // Once it was full, at least 1,024 events were pushed.
+    // Once it was full, at least 1,024 calls were pushed.
     ghost may_be_full = { λ l. leb 1024 (length l) };
 
     fn try_push(&mut self, event: Call<Global>) -> Result<(), LogFull> {

@@ -4,15 +4,14 @@ ghost use Rattle.std.specs.Prelude.{◌≡◌, ◌+◌, ◌<◌, ◌≤◌, [], 
 ghost use Rattle.std.specs.Iterator.{IsFinite};
 ghost use Rattle.crossbeam_queue.specs.Passes.{IsPassOf, ruled_capacity};
 ghost use Rattle.consistency_server.specs.History.{log_of};
-ghost use Rattle.server_workers.specs.Relay.{hand, hand_of};
+ghost use Rattle.server_workers.specs.Hands.{hand, hand_of};
 ghost use Rattle.server_workers.specs.Flushing.{IsFlushed};
 
+use crate::call_queue::{CallPass, CallQueue, ServerName};
 use crate::connection::Connection;
-use crate::event_queue::{EventPass, EventQueue, LOG_ROOM, Roles, Room};
 use crate::flusher::{Flushed, Flusher};
 use crate::gate::Gate;
-use crate::locked::Locked;
-use crate::queue_log::QueueLog;
+use crate::new_queue::empty_queue;
 use crate::shared::Shared;
 use crate::tally::{Part, Tally};
 use crate::worker::work;
@@ -23,9 +22,9 @@ use lms_sign::PublicKey;
 use std::alloc::Global;
 use std::io::Write;
 use std::marker::Brand;
-use std::sync::atomic::{AtomicBool, AtomicU64, Ordering};
+use std::sync::Wait;
+use std::sync::atomic::{AtomicBool, Ordering};
 use std::sync::ledger::{Blank, Ledger};
-use std::sync::{Mutex, Wait};
 use std::thread;
 use std::thread::{JoinHandle, Scope, Threads};
 use std::time::Clock;
@@ -39,13 +38,13 @@ pub struct Served<W> {
     pub answered: u64,
     /// The connections for which no thread could be started, and which were dropped unread.
     pub unserved: usize,
-    /// The records of all events were written.
+    /// The records of all calls of the log were written.
     pub flushed: bool,
     pub writer: W,
 }
 
 /// A worker, unless no thread could be started for it: then its connection is dropped unread.
-fn work_unless<G: Gate, C: Connection, B: Room, L: Ledger, R: Wait>(
+fn work_unless<G: Gate, C: Connection, B: ServerName, L: Ledger, R: Wait>(
     rt: &R,
     turned_away: &AtomicBool,
     connection: C,
@@ -79,7 +78,7 @@ fn gather<
     G: Gate + Sync,
     C: Connection + Send + 's,
     I: Iterator<Item = C> + Drop,
-    B: Room + Send + Sync + 's,
+    B: ServerName + Send + Sync + 's,
     L: Ledger + Send + Sync + 's,
     R: Threads + Wait + Sync,
 >(
@@ -129,7 +128,7 @@ fn serve_all<
     G: Gate + Sync,
     C: Connection + Send,
     I: Iterator<Item = C> + Drop,
-    B: Room + Send + Sync,
+    B: ServerName + Send + Sync,
     L: Ledger + Send + Sync,
     R: Threads + Wait + Sync,
 >(
@@ -162,15 +161,15 @@ fn serve_in<
     C: Connection + Send,
     I: Iterator<Item = C> + Drop,
     W: Write + Drop + Send,
-    B: Room + Send + Sync,
+    B: ServerName + Send + Sync,
     L: Ledger + Send + Sync,
     R: Threads + Wait + Clock + Sync,
 >(
     rt: &R,
     alloc: Global,
     gate: &G,
-    queue: &EventQueue,
-    pass: EventPass,
+    queue: &CallQueue,
+    pass: CallPass,
     blank: Blank,
     connections: I,
     most: usize,
@@ -181,7 +180,7 @@ fn serve_in<
     requires can { I.can_next connections × IsFinite (I.remaining connections) }
     requires queue { IsPassOf queue.now pass × (pass.table_id ≡ B.queue) × (ruled_capacity queue.now ≡ 1024) }
     requires first { hand_of pass ≡ hand true true [] [] }
-    requires room { (W.contents writer ≡ B.before) × (pinned ≡ B.pinned) }
+    requires server { (W.contents writer ≡ B.before) × (pinned ≡ B.pinned) }
     requires name { blank.name ≡ L.name }
     requires parts { (blank.parts ≡ L.parts) × (blank.parts ≡ most + 1) }
     ensures pinned { IfOk result (λ s. s.ordered.pinned ≡ B.pinned) }
@@ -191,17 +190,9 @@ fn serve_in<
     let running = Vec::with_capacity(alloc, most)?;
     let turned = flags(alloc, most)?;
     let turned = turned.as_slice();
-    let mut pushing = pass;
-    let popping = queue.another::<Roles>(&mut pushing);
-    let (calls, share) = blank.open::<L>();
-    let stock = Tally::new(share);
-    let log = QueueLog::<'_, B, R>::new(rt, queue, pushing);
-    let shared = Shared {
-        alloc,
-        locked: Mutex::new(Locked::new(Ordered::genesis(alloc, pinned), log, calls)),
-        store,
-        calls: AtomicU64::new(0),
-    };
+    let (shared, stock, popping) = Shared::<'_, B, L, R>::new(
+        rt, alloc, queue, pass, blank, store, pinned,
+    );
     let flusher = Flusher::<'_, B, R, W>::new(rt, queue, popping, writer);
     let ended = AtomicBool::new(false);
     let workers = &shared;
@@ -252,10 +243,10 @@ pub fn serve<
     ensures pinned { IfOk result (λ s. s.ordered.pinned ≡ pinned) }
     // The workers carried out what they answered.
     ensures counted { IfOk result (λ s. length s.ordered.history ≡ s.answered) }
-    // What was taken from the log begins its events, and what was written is the records of it.
+    // What was taken from the log begins the calls that went to it, and what was written is the records of it.
     ensures flushed { IfOk result (λ s. IsFlushed s.flushed (W.contents writer) (W.contents s.writer) (log_of pinned s.ordered.history)) }
 {
-    let (queue, pass) = EventQueue::ruled(alloc, LOG_ROOM)?;
+    let (queue, pass) = empty_queue(alloc)?;
     let blank = Blank::new(most as u64 + 1);
     serve_in::<G, C, I, W, Brand, Brand, R>(
         rt,

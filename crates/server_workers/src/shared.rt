@@ -1,35 +1,72 @@
 //! What the workers share, and what it answers to a request.
 
-ghost use Rattle.std.specs.Prelude.{◌≡◌, ◌+◌, ◌<◌};
+ghost use Rattle.std.specs.Prelude.{◌≡◌, ◌+◌, ◌<◌, [], true, false};
+ghost use Rattle.crossbeam_queue.specs.Passes.{IsPassOf, ruled_capacity};
 ghost use Rattle.wire.specs.Frame.{request_of};
 ghost use Rattle.consistency_server.specs.History.{call_of};
 ghost use Rattle.server_workers.specs.Counting.{count_of};
+ghost use Rattle.server_workers.specs.Hands.{hand, hand_of};
 ghost use Rattle.server_workers.specs.Conversation.{RepliesToCall, RepliesToPut, RepliesToGet, RepliesToBody, count_in};
 
-use crate::event_queue::Room;
+use crate::call_queue::{CallPass, CallQueue, Roles, ServerName};
 use crate::gate::Gate;
 use crate::locked::Locked;
+use crate::queue_log::QueueLog;
 use crate::reply::Reply;
 use crate::tally::Tally;
 use block_store::{Store, StoreError};
-use consistency_server::CallKind;
+use consistency_server::{CallKind, Ordered};
 use layout::Digest;
+use lms_sign::PublicKey;
 use std::alloc::Global;
 use std::sync::atomic::{AtomicU64, Ordering};
-use std::sync::ledger::Ledger;
+use std::sync::ledger::{Blank, Ledger};
 use std::sync::{Mutex, Wait};
 use wire::{RequestKind, Status, request_of};
 
-/// The one order of calls under its lock, the blocks under theirs, and how many calls there were.
+/// The one order of calls under its lock, the blocks under theirs, and the number of the last call at the gate.
 #[derive(Drop)]
-pub struct Shared<'a, B: Room, L: Ledger, R: Wait> {
+pub struct Shared<'a, B: ServerName, L: Ledger, R: Wait> {
     pub(crate) alloc: Global,
     pub(crate) locked: Mutex<Locked<'a, B, L, R>>,
     pub(crate) store: &'a Store<Global>,
-    pub(crate) calls: AtomicU64,
+    pub(crate) last_call: AtomicU64,
 }
 
-impl<'a, B: Room, L: Ledger, R: Wait> Shared<'a, B, L, R> {
+impl<'a, B: ServerName, L: Ledger, R: Wait> Shared<'a, B, L, R> {
+    /// Before the first call: what workers share, the tally of what they answer, and the pass of who writes the log. `pass`
+    /// is that of an empty queue, and `pinned` the key of user 0.
+    pub fn new(
+        rt: &'a R,
+        alloc: Global,
+        queue: &'a CallQueue,
+        pass: CallPass,
+        blank: Blank,
+        store: &'a Store<Global>,
+        pinned: PublicKey,
+    ) -> (Shared<'a, B, L, R>, Tally<L>, CallPass)
+        requires queue { IsPassOf queue.now pass × (pass.table_id ≡ B.queue) × (ruled_capacity queue.now ≡ 1024) }
+        requires first { hand_of pass ≡ hand true true [] [] }
+        requires key { pinned ≡ B.pinned }
+        requires name { blank.name ≡ L.name }
+        requires parts { blank.parts ≡ L.parts }
+        ensures tally { (result.1.answered ≡ 0) × (result.1.share.parts ≡ L.parts) }
+        ensures queue { IsPassOf queue.now result.2 × (result.2.table_id ≡ B.queue) }
+        ensures pops { hand_of result.2 ≡ hand false true [] [] }
+    {
+        let mut pushing = pass;
+        let popping = queue.another::<Roles>(&mut pushing);
+        let (book, share) = blank.open::<L>();
+        let log = QueueLog::<'a, B, R>::new(rt, queue, pushing);
+        let shared = Shared {
+            alloc,
+            locked: Mutex::new(Locked::new(Ordered::genesis(alloc, pinned), log, book)),
+            store,
+            last_call: AtomicU64::new(0),
+        };
+        (shared, Tally::new(share), popping)
+    }
+
     /// The reply to the body of a request's frame.
     pub(crate) fn reply_to<G: Gate>(
         &self,
@@ -68,7 +105,11 @@ impl<'a, B: Room, L: Ledger, R: Wait> Shared<'a, B, L, R> {
         ensures counted { tally.new.answered ≡ tally.old.answered + count_of result.status }
         ensures parts { tally.new.share.parts ≡ tally.old.share.parts }
     {
-        gate.pass(self.calls.fetch_add(1, Ordering::SeqCst).wrapping_add(1));
+        gate.pass(
+            self.last_call
+                .fetch_add(1, Ordering::SeqCst)
+                .wrapping_add(1),
+        );
         let answer = self.locked.lock(rt).call(tally, kind, text);
         Reply::of(answer)
     }

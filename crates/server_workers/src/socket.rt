@@ -4,10 +4,15 @@ ghost use Rattle.std.specs.Prelude.{◌≤◌, None};
 ghost use Rattle.leaf_ledger.specs.Device.{HasRisen};
 
 use crate::connection::{Connection, ConnectionFault, fault};
-use std::io::{Read, Write};
+use std::io::{self, Read, Write};
 use std::net::TcpStream;
+use std::time::Duration;
 
-/// A client's stream. It doesn't tell its bytes: no clause says what a socket holds or delivers.
+/// How long a read or a write waits for the client, in seconds.
+const PATIENCE: u64 = 60;
+
+/// A client's stream. It doesn't tell its bytes: no clause says what a socket holds or delivers. A client that sends nothing
+/// for a minute, or takes nothing that is sent to it, counts as a fault.
 #[derive(Drop)]
 pub struct Socket {
     stream: TcpStream,
@@ -16,13 +21,16 @@ pub struct Socket {
 }
 
 impl Socket {
-    /// A stream from which nothing was read and to which nothing was written.
-    pub fn new(stream: TcpStream) -> Socket {
-        Socket {
+    /// A stream from which nothing was read and to which nothing was written. An error where it takes no time limit.
+    pub fn new(stream: TcpStream) -> io::Result<Socket> {
+        let limit = Some(Duration::from_secs(PATIENCE));
+        stream.set_read_timeout(limit)?;
+        stream.set_write_timeout(limit)?;
+        Ok(Socket {
             stream,
             ended: false,
             faults: 0,
-        }
+        })
     }
 }
 

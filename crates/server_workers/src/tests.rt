@@ -90,7 +90,10 @@ fn requests_over_memory(rt: HostRuntime) -> Result<(), Fail> {
         let served = served(&rt, &store, &input, piece, &mut output);
         assert_eq!(rt; served.answered, 0);
         assert_eq!(rt; served.unserved, 0);
-        assert!(rt; served.flushed && served.writer.is_empty(), "no events");
+        assert!(rt;
+            served.flushed && served.writer.is_empty(),
+            "nothing was logged"
+        );
         assert!(rt; output == wanted, "pieces of {piece}");
     }
     Ok(())

@@ -7,8 +7,8 @@ ghost use Rattle.server_workers.specs.declared.connection.Ended.TheVariants as e
 ghost use Rattle.server_workers.specs.Conversation.{Conversed, goes_on};
 ghost use Rattle.server_workers.specs.Conversing.{GoesOn, IsCaused};
 
+use crate::call_queue::ServerName;
 use crate::connection::{Connection, ConnectionFault, Ended};
-use crate::event_queue::Room;
 use crate::gate::Gate;
 use crate::reply::Reply;
 use crate::shared::Shared;
@@ -72,7 +72,7 @@ fn read_on<C: Connection>(
 }
 
 /// Replies to the next frame, or reads on where it isn't whole.
-fn step<G: Gate, C: Connection, B: Room, L: Ledger, R: Wait>(
+fn step<G: Gate, C: Connection, B: ServerName, L: Ledger, R: Wait>(
     rt: &R,
     connection: &mut C,
     shared: &Shared<'_, B, L, R>,
@@ -101,7 +101,7 @@ fn step<G: Gate, C: Connection, B: Room, L: Ledger, R: Wait>(
 }
 
 /// Replies to the requests of a connection, up to its end or fault, or to a length at fault.
-pub fn converse<G: Gate, C: Connection, B: Room, L: Ledger, R: Wait>(
+pub fn converse<G: Gate, C: Connection, B: ServerName, L: Ledger, R: Wait>(
     rt: &R,
     connection: &mut C,
     shared: &Shared<'_, B, L, R>,
@@ -138,7 +138,7 @@ pub fn converse<G: Gate, C: Connection, B: Room, L: Ledger, R: Wait>(
 }
 
 /// A worker's whole work.
-pub(crate) fn work<G: Gate, C: Connection, B: Room, L: Ledger, R: Wait>(
+pub(crate) fn work<G: Gate, C: Connection, B: ServerName, L: Ledger, R: Wait>(
     rt: &R,
     mut connection: C,
     shared: &Shared<'_, B, L, R>,

@@ -53,19 +53,16 @@ fn write_whole<W: Write>(writer: &mut W, bytes: &[u8]) -> Result<(), WriteFailed
     Err(WriteFailed)
 }
 
-/// Writes the record of an event, or where the writer fails a beginning of it. A text of 4 GiB, which no frame brings,
+/// Writes the record of a call, or where the writer fails a beginning of it. A text of 4 GiB, which no frame brings,
 /// counts as a failed write.
-pub(crate) fn write_record<W: Write>(
-    writer: &mut W,
-    event: &Call<Global>,
-) -> Result<(), WriteFailed>
-    ensures ok { OnOk result (Appends (W.contents writer.old) (W.contents writer.new) (record_of event.now)) }
-    ensures err { OnErr result (AppendsBeginning (W.contents writer.old) (W.contents writer.new) (record_of event.now)) }
+pub(crate) fn write_record<W: Write>(writer: &mut W, call: &Call<Global>) -> Result<(), WriteFailed>
+    ensures ok { OnOk result (Appends (W.contents writer.old) (W.contents writer.new) (record_of call.now)) }
+    ensures err { OnErr result (AppendsBeginning (W.contents writer.old) (W.contents writer.new) (record_of call.now)) }
 {
-    let text = event.text();
+    let text = call.text();
     let Ok(size) = u32::try_from(text.len()) else {
         return Err(WriteFailed);
     };
-    write_whole(writer, &head_of(event.kind(), size))?;
+    write_whole(writer, &head_of(call.kind(), size))?;
     write_whole(writer, text)
 }

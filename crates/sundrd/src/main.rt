@@ -31,6 +31,8 @@ enum Fault {
     Address(io::Error),
     #[error("the file of the log: {0}")]
     LogFile(io::Error),
+    #[error("the next connection: {0}")]
+    Connection(io::Error),
     #[error("the log wasn't written to its end")]
     Log,
 }
@@ -90,12 +92,16 @@ fn run<
     let log = File::create(rt, matches.get_str("log").unwrap_or("")).map_err(Fault::LogFile)?;
     println!(rt; "listening {}", listener.local_addr()?)?;
     let store = Store::new(alloc);
-    let connections = Accepted::new(&listener, most);
+    let mut fault = None;
+    let connections = Accepted::new(rt, &listener, most, &mut fault);
     let served = serve(rt, alloc, &OpenGate, connections, most, &store, pinned, log)?;
     if !served.flushed {
         return Err(Fault::Log.into());
     }
-    Ok(ExitCode::SUCCESS)
+    match fault {
+        Some(fault) => Err(Fault::Connection(fault).into()),
+        None => Ok(ExitCode::SUCCESS),
+    }
 }
 
 fn main(rt: HostRuntime) -> ExitCode {

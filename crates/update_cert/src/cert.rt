@@ -1,8 +1,8 @@
 //! Certificates.
 
-ghost use Rattle.std.specs.Prelude.{◌≡◌, ◌≤◌, IfOk, vec_len, length};
+ghost use Rattle.std.specs.Prelude.{◌≡◌, ◌≤◌, IfOk, OnErr, OnOk, vec_len, length};
 ghost use Rattle.std.specs.List.{All};
-ghost use Rattle.layout.specs.Format.{Reads};
+ghost use Rattle.layout.specs.Format.{BeginsWith, Reads};
 ghost use Rattle.update_cert.specs.Change.{change};
 ghost use Rattle.update_cert.specs.Cert.{cert, digest_of};
 
@@ -38,6 +38,26 @@ impl<A: Allocator> Model for Cert<A> {
     ghost invariant = { λ c. cert.Fits (record { user = c.user; number = c.number; last = c.last; changes = c.changes.items }) };
 }
 
+/// Writes the fields of a certificate of these parts.
+fn write_cert<A: Allocator + Copy>(
+    writer: &mut Writer<A>,
+    user: User,
+    number: Version,
+    last: &Digest,
+    changes: &[Change<A>],
+) -> Result<(), Memory>
+    requires few { length changes.now ≤ 16 }
+    ensures ok { OnOk result (writer.new ≡ cert.onto writer.old (record { user = user; number = number; last = last.now; changes = changes.now })) }
+    ensures front { OnErr result (BeginsWith writer.new writer.old) }
+{
+    writer.tag(b"SUC1")?;
+    writer.user(user)?;
+    writer.version(number)?;
+    writer.digest(last)?;
+    writer.u8(changes.len() as u8)?;
+    write_rows(writer, &Changes, changes)
+}
+
 impl<A: Allocator + Copy> Text<A> for Cert<A> {
     ghost use Rattle.update_cert.specs.Cert.{cert, lawful_cert};
 
@@ -59,12 +79,7 @@ impl<A: Allocator + Copy> Text<A> for Cert<A> {
     }
 
     fn write_fields(&self, writer: &mut Writer<A>) -> Result<(), Memory> {
-        writer.tag(b"SUC1")?;
-        writer.user(self.user)?;
-        writer.version(self.number)?;
-        writer.digest(&self.last)?;
-        writer.u8(self.changes.len() as u8)?;
-        write_rows(writer, &Changes, &self.changes)
+        write_cert(writer, self.user, self.number, &self.last, &self.changes)
     }
 
     ghost lawful = { lawful_cert };
@@ -77,6 +92,27 @@ fn changes_fit<A: Allocator>(changes: &[Change<A>])
     for change in changes {
         let _principal = change.principal();
     }
+}
+
+/// The text of the certificate of these parts, whose changes are only borrowed.
+pub fn cert_text<A: Allocator + Copy>(
+    alloc: A,
+    user: User,
+    number: Version,
+    last: Digest,
+    changes: &[Change<A>],
+) -> Result<Vec<u8, A>, Memory>
+    requires few { length changes.now ≤ 16 }
+    ensures text { IfOk result (λ text. text.items ≡ cert.spell (record { user = user; number = number; last = last; changes = changes.now })) }
+    // Their own contracts say that the parts fit, so that the text is read again.
+    ensures fits { cert.Fits (record { user = user; number = number; last = last; changes = changes.now }) }
+{
+    let _range = (user.get(), number.get());
+    let _last = last.as_bytes();
+    changes_fit(changes);
+    let mut writer = Writer::new(alloc);
+    write_cert(&mut writer, user, number, &last, changes)?;
+    Ok(writer.finish())
 }
 
 impl<A: Allocator> Cert<A> {

@@ -18,7 +18,7 @@ mod tests;
 
 pub use applying::{Applied, Voids, apply};
 pub use blocks::{Blocks, some_reading_agrees};
-pub use cert::{CERT_SIZE, Cert, MOST_CHANGES};
+pub use cert::{CERT_SIZE, Cert, MOST_CHANGES, cert_text};
 pub use change::{Action, CHANGE_SIZE, Change, Deed, TableChange};
 pub use error::ApplyError;
 pub use laws::{table_in_trees, voids_in_turn};

@@ -1,6 +1,6 @@
 use Rattle.std.proofs.Common.{◌≡◌, true, sym, ap, ◌∙◌, subst}
 use Rattle.crossbeam_queue.specs.Passes.{IsPassOf}
-use Rattle.server_workers.specs.Relay.{hand_of}
+use Rattle.server_workers.specs.Hands.{hand_of}
 use Rattle.server_workers.specs.Flushing.{Wrote}
 use Rattle.server_workers.proofs.Relays.{gets, totals}
 use Rattle.server_workers.proofs.Written.{writes, fails}

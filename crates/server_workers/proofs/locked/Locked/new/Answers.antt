@@ -6,4 +6,4 @@ pub invariant_of-result : goal.invariant_of-result
 unfolding log_of
 invariant_of-result g c =
     let is = c.requires.0 in
-    (ap (λ (o : Ordered). o.pinned) is, c.requires.1 ∙ sym (ap (λ (o : Ordered). log_of g.B.Room.pinned o.history) is), c.requires.2 ∙ sym (ap (λ (o : Ordered). length o.history) is))
+    (ap (λ (o : Ordered). o.pinned) is, c.requires.1 ∙ sym (ap (λ (o : Ordered). log_of g.B.ServerName.pinned o.history) is), c.requires.2 ∙ sym (ap (λ (o : Ordered). length o.history) is))

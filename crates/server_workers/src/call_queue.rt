@@ -7,12 +7,12 @@ use std::alloc::Global;
 use std::collections::LinkedList;
 use std::marker::Brand;
 
-/// How many events the commit log holds.
-pub const LOG_ROOM: usize = 1024;
+/// How many calls the commit log holds.
+pub const QUEUE_ROOM: usize = 1024;
 
-/// One server: its queue of events, the key of user 0, and what the writer of its log held before. It exists in proofs
+/// One server: its queue of calls, the key of user 0, and what the writer of its log held before. It exists in proofs
 /// alone.
-pub trait Room {
+pub trait ServerName {
     ghost use Rattle.std.specs.Prelude.{List, ℕ, Option};
     ghost use Rattle.atomic_table.specs.Seated.{TableId};
     ghost use Rattle.layout.specs.Types.{Key};
@@ -24,7 +24,7 @@ pub trait Room {
     ghost before: { Option (List ℕ) };
 }
 
-impl Room for Brand {
+impl ServerName for Brand {
     ghost use Rattle.std.specs.Prelude.{[], None};
     ghost use Rattle.server_workers.specs.Relay.{no_queue};
 
@@ -48,7 +48,8 @@ pub struct InOrder;
 
 impl Protocol<Call<Global>, Hand> for InOrder {
     ghost use Rattle.std.specs.Prelude.{true, []};
-    ghost use Rattle.server_workers.specs.Relay.{hand, Relayed};
+    ghost use Rattle.server_workers.specs.Hands.{hand};
+    ghost use Rattle.server_workers.specs.Relay.{Relayed};
 
     ghost holds = { Relayed };
 
@@ -60,7 +61,7 @@ pub struct Roles;
 
 impl Split<Hand> for Roles {
     ghost use Rattle.std.specs.Prelude.{true, false, []};
-    ghost use Rattle.server_workers.specs.Relay.{hand};
+    ghost use Rattle.server_workers.specs.Hands.{hand};
 
     ghost left = { λ v. hand true false v.sent [] };
 
@@ -70,19 +71,19 @@ impl Split<Hand> for Roles {
 // The popper takes in the pusher.
 impl Join<Hand> for Roles {
     ghost use Rattle.std.specs.Prelude.{true, false, []};
-    ghost use Rattle.server_workers.specs.Relay.{hand};
+    ghost use Rattle.server_workers.specs.Hands.{hand};
 
     ghost both = { λ v w. hand true true w.sent v.got };
 
     ghost spent = { hand false false [] [] };
 }
 
-/// A push: the event comes behind what was pushed. A full queue holds an end of what was pushed.
+/// A push: the call comes behind what was pushed. A full queue holds an end of what was pushed.
 pub struct Pushes;
 
 impl Outcome<Call<Global>, Hand> for Pushes {
     ghost use Rattle.std.specs.Prelude.{◌≡◌, [], ◌∷◌, ◌++◌};
-    ghost use Rattle.server_workers.specs.Relay.{hand};
+    ghost use Rattle.server_workers.specs.Hands.{hand};
 
     ghost then = { λ v x w. w ≡ hand v.pushes v.pops (v.sent ++ x ∷ []) v.got };
 }
@@ -93,12 +94,12 @@ impl Lesson<Call<Global>, Hand> for Pushes {
     ghost fact = { HoldsEnd };
 }
 
-/// A pop: the event comes behind what was popped. Who holds both ends knows what the queue holds.
+/// A pop: the call comes behind what was popped. Who holds both ends knows what the queue holds.
 pub struct Takes;
 
 impl Outcome<Call<Global>, Hand> for Takes {
     ghost use Rattle.std.specs.Prelude.{◌≡◌, [], ◌∷◌, ◌++◌};
-    ghost use Rattle.server_workers.specs.Relay.{hand};
+    ghost use Rattle.server_workers.specs.Hands.{hand};
 
     ghost then = { λ v x w. w ≡ hand v.pushes v.pops v.sent (v.got ++ x ∷ []) };
 }
@@ -109,8 +110,8 @@ impl Lesson<Call<Global>, Hand> for Takes {
     ghost fact = { λ v items. v.pushes ≡ true → v.pops ≡ true → v.sent ≡ v.got ++ items };
 }
 
-/// The queue of events.
-pub type EventQueue = RuledArrayQueue<Call<Global>, Hand, InOrder>;
+/// The queue of calls.
+pub type CallQueue = RuledArrayQueue<Call<Global>, Hand, InOrder>;
 
 /// A pass of it.
-pub type EventPass = Pass<Call<Global>, Hand>;
+pub type CallPass = Pass<Call<Global>, Hand>;

@@ -1,6 +1,6 @@
 use Rattle.std.proofs.Common.{rules}
 use Rattle.server_workers.proofs.Relays.{begins}
-use Rattle.server_workers.proofs.server.serve.Goals as goal
+use Rattle.server_workers.proofs.new_queue.empty_queue.Goals as goal
 
 pub ruled-requires-clause-rule : goal.ruled-requires-clause-rule
-ruled-requires-clause-rule g c = begins
+ruled-requires-clause-rule c = begins

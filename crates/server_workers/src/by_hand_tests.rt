@@ -1,0 +1,93 @@
+//! A server that is put together by hand: a conversation over memory, and its log.
+
+ghost use Rattle.std.specs.Prelude.{◌≡◌, [], true};
+ghost use Rattle.crossbeam_queue.specs.Passes.{IsPassOf, ruled_capacity};
+ghost use Rattle.server_workers.specs.Hands.{hand, hand_of};
+
+use crate::{
+    CallPass, CallQueue, Ended, Flusher, MemoryConnection, OpenGate, ServerName, Shared, converse,
+    empty_queue,
+};
+use block_store::Store;
+use layout::Memory;
+use lms_sign::PublicKey;
+use std::alloc::Global;
+use std::io::Write;
+use std::marker::Brand;
+use std::process::Abort;
+use std::sync::Wait;
+use std::sync::ledger::{Blank, Ledger};
+use std::test::Fail;
+
+/// One conversation over an empty queue, and a flush after it.
+fn converse_once<W: Write + Drop, B: ServerName, L: Ledger, R: Wait>(
+    rt: &R,
+    alloc: Global,
+    queue: &CallQueue,
+    pass: CallPass,
+    blank: Blank,
+    pinned: PublicKey,
+    input: &[u8],
+    output: &mut Vec<u8>,
+    writer: W,
+) -> (Ended, u64, W)
+    requires queue { IsPassOf queue.now pass × (pass.table_id ≡ B.queue) × (ruled_capacity queue.now ≡ 1024) }
+    requires first { hand_of pass ≡ hand true true [] [] }
+    requires server { (W.contents writer ≡ B.before) × (pinned ≡ B.pinned) }
+    requires name { blank.name ≡ L.name }
+    requires parts { (blank.parts ≡ L.parts) × (blank.parts ≡ 1) }
+{
+    let store = Store::new(alloc);
+    let (shared, mut tally, popping) = Shared::<'_, B, L, R>::new(
+        rt, alloc, queue, pass, blank, &store, pinned,
+    );
+    let mut flusher = Flusher::<'_, B, R, W>::new(rt, queue, popping, writer);
+    let mut connection = MemoryConnection::new(input, 5, output);
+    let ended = converse(rt, &mut connection, &shared, &OpenGate, &mut tally);
+    flusher.flush();
+    (ended, tally.answered(), flusher.into_writer())
+}
+
+/// The same over a queue of its own.
+fn conversed<W: Write + Drop, R: Wait>(
+    rt: &R,
+    alloc: Global,
+    pinned: PublicKey,
+    input: &[u8],
+    output: &mut Vec<u8>,
+    writer: W,
+) -> Result<(Ended, u64, W), Memory> {
+    let (queue, pass) = empty_queue(alloc)?;
+    let blank = Blank::new(1);
+    Ok(converse_once::<W, Brand, Brand, R>(
+        rt, alloc, &queue, pass, blank, pinned, input, output, writer,
+    ))
+}
+
+/// Two requests that no text follows are answered, and then it ends like this.
+fn two_replies<R: AllocGlobal + Abort + Wait>(
+    rt: &R,
+    input: &[u8],
+    how: Ended,
+) -> Result<(), Fail> {
+    let alloc = rt.alloc();
+    let mut key = [0; 56];
+    (key[3], key[7]) = (6, 3);
+    let pinned = PublicKey::from_bytes(key).expect(rt, "a key");
+    let mut output = Vec::new(alloc);
+    let (ended, answered, log) = conversed(rt, alloc, pinned, input, &mut output, Vec::new(alloc))?;
+    assert_eq!(rt; (ended, answered), (how, 2));
+    assert!(rt; log.is_empty(), "nothing was logged");
+    assert!(rt;
+        output.as_slice() == [0, 0, 0, 1, 1, 0, 0, 0, 1, 1].as_slice(),
+        "two replies"
+    );
+    Ok(())
+}
+
+#[test]
+fn a_conversation_by_hand(rt: HostRuntime) -> Result<(), Fail> {
+    two_replies(&rt, b"\0\0\0\x01\x01\0\0\0\x01\x02", Ended::End)?;
+    two_replies(&rt, b"\0\0\0\x01\x01\0\0\0\x01\x02\0\0\0", Ended::End)?;
+    two_replies(&rt, b"\0\0\0\x01\x01\0\0\0\x01\x02\0\0\0\0", Ended::Length)
+}
