@@ -1,0 +1,3 @@
+pub mod Errors
+pub mod Releasing
+pub mod Told

@@ -1,0 +1,62 @@
+//! A text is signed by a leaf of the ledger and put into the journal, before anybody sees it.
+
+ghost use Rattle.std.specs.Prelude.{◌≡◌, ◌+◌, ◌<◌, ◌^◌, ◌++◌, length, true, IfErr, IfOk, OnErr};
+ghost use Rattle.lms_sign.specs.Keys.{public_key_of};
+ghost use Rattle.lms_sign.specs.Signature.{signature_of};
+ghost use Rattle.pending_list.specs.Signed.{signature as signature_format};
+ghost use Rattle.leaf_ledger.specs.Device.{at_rest};
+ghost use Rattle.leaf_ledger.specs.Ledger.{IsFileOf, IsFull, IsLeastFree, LeafNumber};
+ghost use Rattle.client_journal.specs.Records.{MayCome};
+ghost use Rattle.client_releases.specs.Releasing.{AnyMoment, IsKept, IsTried, OneHasRisen};
+
+use crate::error::ClientError;
+use crate::signing::{Sealed, Unsigned};
+use client_journal::{Journal, Kind, Record};
+use leaf_ledger::{Device, Ledger};
+use lms_sign::{PrivateKey, sign};
+use pending_list::Signature;
+use std::alloc::Allocator;
+
+/// Signs a text by the least free leaf and appends it to the journal. From Ok on leaf and record stay, whatever crash
+/// comes, so that the text may be handed out. It takes no memory, and fails by the devices alone.
+pub(crate) fn keep<L: Device, J: Device, A: Allocator>(
+    ledger: &mut Ledger<L>,
+    journal: &mut Journal<J>,
+    key: &PrivateKey<A>,
+    kind: Kind,
+    unsigned: Unsigned<A>,
+) -> Result<Sealed<A>, ClientError>
+    requires ledger_usable { ledger.old.usable ≡ true }
+    requires own_key { ledger.old.key ≡ public_key_of key.now.seed key.now.id }
+    requires settled { ledger.old.outstanding ≡ 0 }
+    requires free { IsFull ledger.old.file.now.text → ⊥ }
+    requires journal_usable { journal.old.usable ≡ true }
+    requires journal_rests { journal.old.file.now ≡ at_rest journal.old.file.now.text }
+    requires turn { MayCome kind journal.old.file.now.text }
+    requires short { length unsigned + 2508 < 2 ^ 32 }
+    ensures kept { IfOk result (λ s. (leaf : LeafNumber)
+        × (s.signature ≡ signature_of key.now.seed key.now.id leaf unsigned) × (s.kept.items ≡ unsigned ++ s.signature)
+        × IsKept leaf (record { kind = kind; text = s.kept.items }) (record { ledger = ledger.old; journal = journal.old }) (record { ledger = ledger.new; journal = journal.new })) }
+    ensures sent { IfOk result (λ s. s.sent.items ≡ s.kept.items) }
+    ensures fits { IfOk result (λ s. signature_format.Fits s.signature) }
+    ensures any_moment { (leaf : LeafNumber) → IsLeastFree ledger.old.file.now.text leaf
+        → AnyMoment leaf (record { kind = kind; text = unsigned ++ signature_of key.now.seed key.now.id leaf unsigned }) (record { ledger = ledger.old; journal = journal.old }) (record { ledger = ledger.new; journal = journal.new }) }
+    ensures tried { OnErr result (IsTried (λ leaf. record { kind = kind; text = unsigned ++ signature_of key.now.seed key.now.id leaf unsigned }) (record { ledger = ledger.old; journal = journal.old }) (record { ledger = ledger.new; journal = journal.new })) }
+    ensures device { IfErr result (λ e. (e ≡ ClientError.Device)
+        × OneHasRisen (record { ledger = ledger.old; journal = journal.old }) (record { ledger = ledger.new; journal = journal.new })) }
+    ensures usable { IfOk result (λ _. (ledger.new.usable ≡ true) × (journal.new.usable ≡ true)) }
+    ensures own_file { IsFileOf ledger.old.key ledger.new.file.now.text }
+    ensures same_key { ledger.new.key ≡ ledger.old.key }
+    ensures none_outstanding { ledger.new.outstanding ≡ 0 }
+{
+    let leaf = ledger.take()?;
+    let (signature, spent) = sign(key, leaf, unsigned.text());
+    ledger.settle(spent);
+    let sealed = unsigned.sealed(Signature::from_bytes(signature));
+    let record = Record {
+        kind,
+        text: &sealed.kept,
+    };
+    journal.append(record)?;
+    Ok(sealed)
+}

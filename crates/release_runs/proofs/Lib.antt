@@ -1,0 +1,9 @@
+pub mod Members
+pub mod Texts
+pub mod Stories
+pub mod Once
+pub mod Files
+pub mod Holds
+pub mod Releasing
+pub mod Opening
+pub mod Runs

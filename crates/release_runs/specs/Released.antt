@@ -1,0 +1,43 @@
+-- The texts that a client releases in a run.
+use Rattle.std.specs.Prelude.{ℕ, ◌-◌, List, [], ◌∷◌, ◌++◌, Ok, length, take, drop}
+use Rattle.layout.specs.Types.{Bytes}
+use Rattle.lms_sign.specs.Signature.{leaf_of}
+use Rattle.leaf_ledger.specs.Ledger.{LeafNumber}
+use Rattle.release_runs.specs.Steps.{Call, Client, Closed, Declares, Open, Opens, Signs}
+use Rattle.release_runs.specs.Runs.{Event}
+
+-- the size of a signature
+abbrev pub signature_size : ℕ
+signature_size = 2508
+
+-- a released text has its signature at its end
+abbrev pub unsigned : Bytes → Bytes
+unsigned text = take (length text - signature_size) text
+
+abbrev pub signature_in : Bytes → Bytes
+signature_in text = drop (length text - signature_size) text
+
+-- the leaf by which it is signed
+abbrev pub leaf_in : Bytes → LeafNumber
+leaf_in text = leaf_of (signature_in text)
+
+-- the text that an opened client found in its journal, to be handed out again, if it found one
+abbrev pub found_text : Bytes → List Bytes
+found_text [] = []
+found_text (b ∷ text) = (b ∷ text) ∷ []
+
+abbrev pub found_by : Client → List Bytes
+found_by (Closed p) = []
+found_by (Open s) = found_text s.text
+
+-- what a call releases: `declare` and `sign` the text that they give, `open` the one that it finds
+abbrev pub released_by : Call → Client → List Bytes
+released_by (Opens (Ok x)) after = found_by after
+released_by (Declares c (Ok text)) after = text ∷ []
+released_by (Signs z (Ok text)) after = text ∷ []
+released_by call after = []
+
+-- the texts that were released in a run, the latest first
+abbrev pub released : List Event → List Bytes
+released [] = []
+released (e ∷ older) = released_by e.call e.after ++ released older

@@ -1,0 +1,11 @@
+//! Laws of runs, for the proofs of callers: functions that do nothing.
+
+ghost use Rattle.release_runs.specs.UsedOnce.{CertificatesOnce, EachRun, LeavesOnce, StructuresOnce};
+
+/// Over every run of what a user's client releases, with any crashes and failures of its devices, no two different texts
+/// that it releases carry one leaf number, no two different certificates one number, and no two different structures one.
+pub fn each_is_used_once()
+    ensures leaves { EachRun LeavesOnce }
+    ensures certificates { EachRun CertificatesOnce }
+    ensures structures { EachRun StructuresOnce }
+{}
