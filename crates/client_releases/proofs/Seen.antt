@@ -64,8 +64,8 @@ module _ (r old : Released) (is : r ≡ old) (unsigned : List ℕ) (new : Device
       leaf,
       kept_of kind.Structure kept,
       ap (λ (o : Released). signed_with o new (with_signature z signature) text) is
-      ∙ ap (λ (s : Signed Structure). signed_with old new s text) (signed_is z spelled)
-      ∙ ap (λ (t : List ℕ). signed_with old new (signed_by old.seed old.id leaf z) t) text_is,
+          ∙ ap (λ (s : Signed Structure). signed_with old new s text) (signed_is z spelled)
+          ∙ ap (λ (t : List ℕ). signed_with old new (signed_by old.seed old.id leaf z) t) text_is,
     )
 
 -- a client of which a device failed
