@@ -1,6 +1,6 @@
 //! What a client compares a reply with, and what of it needn't be verified again.
 
-ghost use Rattle.std.specs.Prelude.{◌≡◌, ◌×◌, true, IfOk, IfSome};
+ghost use Rattle.std.specs.Prelude.{◌≡◌, true, IfOk, IfSome};
 ghost use Rattle.std.specs.Option.{option_copied};
 ghost use Rattle.lms_sign.specs.Signature.{valid};
 ghost use Rattle.update_cert.specs.Cert.{cert};
