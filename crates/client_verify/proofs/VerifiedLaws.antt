@@ -15,7 +15,8 @@ use Rattle.update_cert.specs.Cert.{cert}
 use Rattle.pending_list.specs.declared.signed.Signed.{Signed}
 use Rattle.pending_list.specs.Reply.{PendingItem, Reply}
 use Rattle.reply_rules.specs.Lists.{Lists, items}
-use Rattle.reply_rules.specs.Broken.{least}
+use Rattle.reply_rules.specs.Broken.{later_rules, least}
+use Rattle.reply_rules.specs.Rules.{unknown_user}
 use Rattle.reply_rules.specs.declared.rule.Rule.{Rule}
 use Rattle.reply_rules.specs.declared.rule.Rule.TheVariants as rule
 use Rattle.client_verify.specs.FirstBroken.{cert_sent, cert_verifies, certificates, lists_break, shown_of, signatures, structure_verifies, super_signature, verifies}
@@ -67,7 +68,7 @@ signed_next false b c rest none = absurd cc
 pub of_table : (t : Table) (x : Lists) (user : ℕ) (key : Key) → lists_break t x ≡ None → user ≢ 0 → key_of user t ≡ Some key → AreOf x user key
 unfolding signatures certificates
 of_table t x user key none other listed =
-    let parts = signed_next _ (signatures t x) (certificates t x) _ none in
+    let parts = signed_next (unknown_user t x) (signatures t x) (certificates t x) (later_rules t x) none in
     let test = λ (i : PendingItem). verifies t i.cert.user (cert.spell i.cert) i.signature in
     let waiting = and_parts (list_all test x.others) _ (sym (list_all-append test x.others (x.own ∷ [])) ∙ parts.1) in
     record {

@@ -16,7 +16,7 @@ use crate::growing::{
 };
 use crate::known::Known;
 use crate::laid::copies;
-use crate::lists::with_own;
+use crate::lists::{Admitted, with_own};
 use crate::look::Look;
 use crate::phase::Phase;
 use crate::signing::{Sealed, seal};
@@ -241,15 +241,16 @@ fn told<A: Allocator>(seen: Seen<A>) -> Look<A>
 }
 
 impl<A: Allocator + Copy> Client<A> {
-    ghost use Rattle.client_tree.specs.Held.{held};
+    ghost use Rattle.client_tree.specs.Held.{held, keeping};
     ghost use Rattle.layout.specs.Hash.{hash};
+    ghost use Rattle.reply_rules.specs.Lists.{lists_of};
     ghost use Rattle.lms_sign.specs.Keys.{public_key_of};
     ghost use Rattle.client_verify.specs.JudgedLast.{judged_last, listed};
     ghost use Rattle.client_verify.specs.Verified.{IsSealed};
     ghost use Rattle.client_verify.specs.FirstBroken.{view_over};
     ghost use Rattle.client_verify.specs.State.{asked_of, block_breaks, checked_in, declared, committed, holding, known, next_cert, sent, signed_over};
     ghost use Rattle.client_verify.specs.Judged.{Goes, GoesOn, Handed, IsReading, IsWriting, Judged, ReadsOn, view_of};
-    ghost use Rattle.client_verify.specs.Grown.{IsAnswer, IsWritten};
+    ghost use Rattle.client_verify.specs.Grown.{IsAnswer, IsReached, IsWritten};
     ghost use Rattle.client_verify.specs.Looked.{Looked, Given};
 
     /// The lists that broke no rule last, whose signatures were verified: of the accepted reply, of the one under check, or
@@ -410,6 +411,26 @@ impl<A: Allocator + Copy> Client<A> {
         }
     }
 
+    /// How far a reply under check comes with one block more, whose digest was computed.
+    fn reach_on(
+        &self,
+        reply: &Admitted<A>,
+        digest: Digest,
+        text: &[u8],
+    ) -> Result<Reached<A>, Memory>
+        requires { digest ≡ hash text.now }
+        ensures { IfOk result (λ reached. IsSomeAnd (lists_of reply.now) (λ x. IsReached (held (keeping self.now.blocks text.now)) self.now.pinned x reached)) }
+    {
+        reach_with(
+            self.alloc,
+            &self.known(),
+            reply,
+            &self.blocks,
+            digest,
+            text,
+        )
+    }
+
     /// Takes a block of the table of principals, which was asked for. Only want of memory is an error.
     fn read_on(&mut self, digest: Digest, text: &[u8]) -> Result<Step<A>, ClientError>
         requires hashed { digest ≡ hash text.now }
@@ -424,8 +445,7 @@ impl<A: Allocator + Copy> Client<A> {
         let Stage::Reading(reply, _) = &checked.stage else {
             unreachable!()
         };
-        let known = self.known();
-        let reached = reach_with(self.alloc, &known, reply, &self.blocks, digest, text)?;
+        let reached = self.reach_on(reply, digest, text)?;
         if let Reached::Breaks(rule) = reached {
             return Ok(Step::Broken(rule));
         }

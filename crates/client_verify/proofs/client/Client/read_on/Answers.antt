@@ -17,9 +17,8 @@ returns-in-Breaks-clause-goes g c =
     let r = c.in-Reading.reply in
     let a = c.in-Reading.field-1 in
     let there : old.checked ≡ Some k = search rules in
-    let by : c.known-known.result ≡ known old = search rules in
     let is : Reading r a ≡ k = sym (ap checked_in c.in-Reading.is) ∙ c.checked.view_is in
-    let breaks = reached_more _ old _ text r r c.in_ok-reached.reached (reached.Breaks c.in-Breaks.rule) c.self.view_is by refl c.in-Breaks.is c.in_ok-reached.ensures in
+    let breaks = reached_more old old (known old) text r r c.in_ok-reached.reached (reached.Breaks c.in-Breaks.rule) refl refl refl c.in-Breaks.is c.in_ok-reached.ensures in
     if_some old.checked k _ there (reads_broken old k text r a c.in-Breaks.rule is breaks, refl)
 
 pub returns-in-Lacks : goal.returns-in-Lacks
@@ -32,12 +31,11 @@ returns-in-Lacks g c =
     let s = c.in-Reading-stage.reply in
     let b = c.in-Reading-stage.field-1 in
     let there : old.checked ≡ Some k = search rules in
-    let by : c.known-known.result ≡ known old = search rules in
     let taken : c.in-Some-take.checked ≡ k = search rules in
     let kept : c.keep_as.new.self ≡ keeping old.blocks text = search rules in
     let is : Reading r a ≡ k = sym (ap checked_in c.in-Reading.is) ∙ c.checked.view_is in
     let also : Reading s b ≡ k = sym (ap checked_in c.in-Reading-stage.is) ∙ c.checked-2.view_is ∙ taken in
-    let lacks = reached_more _ old _ text r s c.in_ok-reached.reached (reached.Lacks c.in-Lacks.asked) c.self.view_is by (reading_same r s a b k is also) c.in-Lacks.is c.in_ok-reached.ensures in
+    let lacks = reached_more old old (known old) text r s c.in_ok-reached.reached (reached.Lacks c.in-Lacks.asked) refl refl (reading_same r s a b k is also) c.in-Lacks.is c.in_ok-reached.ensures in
     let asks = c.ask.ensures.state ∙ asked_is _ old c.keep_as.new.self text _ (Reading s c.in-Lacks.asked) c.self.view_is kept (ap (λ (q : Reply). Reading q c.in-Lacks.asked) c.in-Reading-stage.reply-is) in
     record {
       goes = if_some old.checked k _ there (reads_taken old c.ask.new.self k text s b c.ask.result also (taken_lacks _ (holding old text) c.ask.new.self s c.in-Lacks.asked c.ask.result c.ask.ensures.step asks lacks));
@@ -56,12 +54,11 @@ returns-in-Goes g c =
     let b = c.in-Reading-stage.field-1 in
     let t = c.in-Goes.table in
     let there : old.checked ≡ Some k = search rules in
-    let by : c.known-known.result ≡ known old = search rules in
     let taken : c.in-Some-take.checked ≡ k = search rules in
     let kept : c.keep_as.new.self ≡ keeping old.blocks text = search rules in
     let is : Reading r a ≡ k = sym (ap checked_in c.in-Reading.is) ∙ c.checked.view_is in
     let also : Reading s b ≡ k = sym (ap checked_in c.in-Reading-stage.is) ∙ c.checked-2.view_is ∙ taken in
-    let reaches = reached_more _ old _ text r s c.in_ok-reached.reached (reached.Goes t c.in-Goes.written) c.self.view_is by (reading_same r s a b k is also) c.in-Goes.is c.in_ok-reached.ensures in
+    let reaches = reached_more old old (known old) text r s c.in_ok-reached.reached (reached.Goes t c.in-Goes.written) refl refl (reading_same r s a b k is also) c.in-Goes.is c.in_ok-reached.ensures in
     let lists : lists_of s ≡ Some c.into_lists-lists.result = ap lists_of (sym c.in-Reading-stage.reply-is) ∙ c.into_lists-lists.ensures in
     let good : Good = record { lists = c.into_lists-lists.result; table = t.table; void = t.voids } in
     let goes = goes_from _ old c.take.new.self c.keep_as.new.self text good good c.go.result c.go.new.self c.self.view_is kept refl c.go.ensures in

@@ -1,0 +1,4 @@
+use Rattle.client_verify.proofs.client.Client.begin.Goals as goal
+
+pub invariant_of-self-2 : goal.invariant_of-self-2
+invariant_of-self-2 g c = ?
