@@ -11,7 +11,7 @@ use Rattle.layout.specs.Types.{Bytes, Key}
 use Rattle.lms_sign.specs.Signature.{valid}
 use Rattle.principals.specs.Table.{Table, key_of}
 use Rattle.version_order.specs.Structure.{Structure, structure}
-use Rattle.update_cert.specs.Cert.{cert}
+use Rattle.update_cert.specs.Cert.{Cert, cert}
 use Rattle.pending_list.specs.declared.signed.Signed.{Signed}
 use Rattle.pending_list.specs.Reply.{PendingItem, Reply}
 use Rattle.reply_rules.specs.Lists.{Lists, items}
@@ -19,7 +19,7 @@ use Rattle.reply_rules.specs.Broken.{later_rules, least}
 use Rattle.reply_rules.specs.Rules.{unknown_user}
 use Rattle.reply_rules.specs.declared.rule.Rule.{Rule}
 use Rattle.reply_rules.specs.declared.rule.Rule.TheVariants as rule
-use Rattle.client_verify.specs.FirstBroken.{cert_sent, cert_verifies, certificates, lists_break, shown_of, signatures, structure_verifies, super_signature, verifies}
+use Rattle.client_verify.specs.FirstBroken.{cert_verifies, certificates, lists_break, shown_of, signatures, structure_verifies, super_signature, verifies}
 use Rattle.client_verify.specs.Verified.{AreOf, AreSupers, IsCertSigned, IsSealed, IsSigned}
 
 -- what all items have that pass, the first one has that is found
@@ -92,13 +92,9 @@ seals key body signature size holds other ending long is =
     let parts = same_ends body other signature ending (size ∙ sym long) is in
     subst (λ (s : Bytes). valid key other s ≡ true) parts.1 (subst (λ (b : Bytes). valid key b signature ≡ true) parts.0 holds)
 
--- a text with its signature that reads as the one that was signed under the same key
-pub same_signed : (key : Key) (a b s t : Bytes) → a ≡ b → s ≡ t → valid key a s ≡ true → true ≡ valid key b t
-same_signed key a b s t text signature holds = sym (subst (λ (x : Bytes). valid key x t ≡ true) text (subst (λ (y : Bytes). valid key a y ≡ true) signature holds))
-
--- a pending certificate that is the declared one
-pub declared_signed : (own key declared : Bytes) (i : PendingItem) → own ≡ key → length i.signature ≡ 2508 → IsSealed own declared → declared ≡ cert_sent i → IsCertSigned key i
-declared_signed own key declared i same size sealed is = subst (λ (k : Key). IsCertSigned k i) same (sealed (cert.spell i.cert) i.signature size is)
+-- a pending certificate that is signed, with its signature
+pub cert_there : (key : Key) (i : PendingItem) (z : Signed Cert) → z ≡ record { value = i.cert; signature = i.signature } → IsCertSigned key i → valid key (cert.spell z.value) z.signature ≡ true
+cert_there key i z is holds = subst (λ (y : Signed Cert). valid key (cert.spell y.value) y.signature ≡ true) (sym is) holds
 
 -- nothing ends in a signature
 pub seals_nothing : (key : Bytes) → IsSealed key []

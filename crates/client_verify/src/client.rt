@@ -16,7 +16,7 @@ use crate::growing::{
 };
 use crate::known::Known;
 use crate::laid::copies;
-use crate::lists::{Admitted, with_own};
+use crate::lists::with_own;
 use crate::look::Look;
 use crate::phase::Phase;
 use crate::signing::{Sealed, seal};
@@ -243,13 +243,12 @@ fn told<A: Allocator>(seen: Seen<A>) -> Look<A>
 impl<A: Allocator + Copy> Client<A> {
     ghost use Rattle.client_tree.specs.Held.{held, keeping};
     ghost use Rattle.layout.specs.Hash.{hash};
-    ghost use Rattle.reply_rules.specs.Lists.{lists_of};
     ghost use Rattle.lms_sign.specs.Keys.{public_key_of};
     ghost use Rattle.client_verify.specs.JudgedLast.{judged_last, listed};
     ghost use Rattle.client_verify.specs.Verified.{IsSealed};
     ghost use Rattle.client_verify.specs.FirstBroken.{view_over};
     ghost use Rattle.client_verify.specs.State.{asked_of, block_breaks, checked_in, declared, committed, holding, known, next_cert, sent, signed_over};
-    ghost use Rattle.client_verify.specs.Judged.{Goes, GoesOn, Handed, IsReading, IsWriting, Judged, ReadsOn, view_of};
+    ghost use Rattle.client_verify.specs.Judged.{Goes, GoesOn, Handed, IsReading, IsWriting, Judged, ReadsOn, unjudged, view_of};
     ghost use Rattle.client_verify.specs.Grown.{IsAnswer, IsReached, IsWritten};
     ghost use Rattle.client_verify.specs.Looked.{Looked, Given};
 
@@ -411,24 +410,20 @@ impl<A: Allocator + Copy> Client<A> {
         }
     }
 
-    /// How far a reply under check comes with one block more, whose digest was computed.
-    fn reach_on(
-        &self,
-        reply: &Admitted<A>,
-        digest: Digest,
-        text: &[u8],
-    ) -> Result<Reached<A>, Memory>
-        requires { digest ≡ hash text.now }
-        ensures { IfOk result (λ reached. IsSomeAnd (lists_of reply.now) (λ x. IsReached (held (keeping self.now.blocks text.now)) self.now.pinned x reached)) }
+    /// How far the reply under check comes with one block more, whose digest was computed.
+    fn reach_on(&self, digest: Digest, text: &[u8]) -> Result<Reached<A>, Memory>
+        requires hashed { digest ≡ hash text.now }
+        requires reading { IsSomeAnd self.now.checked IsReading }
+        ensures { IfSome self.now.checked (λ k. IfOk result (λ reached. IsSomeAnd (unjudged k) (λ x. IsReached (held (keeping self.now.blocks text.now)) self.now.pinned x reached))) }
     {
-        reach_with(
-            self.alloc,
-            &self.known(),
-            reply,
-            &self.blocks,
-            digest,
-            text,
-        )
+        let known = self.known();
+        let Some(checked) = &self.checked else {
+            unreachable!()
+        };
+        let Stage::Reading(reply, _) = &checked.stage else {
+            unreachable!()
+        };
+        reach_with(self.alloc, &known, reply, &self.blocks, digest, text)
     }
 
     /// Takes a block of the table of principals, which was asked for. Only want of memory is an error.
@@ -439,13 +434,7 @@ impl<A: Allocator + Copy> Client<A> {
         ensures only_memory { IfErr result (λ e. e ≡ ClientError.Memory) }
         ensures err { OnErr result (self.new ≡ self.old) }
     {
-        let Some(checked) = &self.checked else {
-            unreachable!()
-        };
-        let Stage::Reading(reply, _) = &checked.stage else {
-            unreachable!()
-        };
-        let reached = self.reach_on(reply, digest, text)?;
+        let reached = self.reach_on(digest, text)?;
         if let Reached::Breaks(rule) = reached {
             return Ok(Step::Broken(rule));
         }
