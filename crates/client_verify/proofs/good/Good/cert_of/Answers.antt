@@ -12,7 +12,7 @@ returns g c =
     let key = c.args.key.now in
     let item = c.in_ok-item.item.now in
     let of = c.has_key.ensures c.if-not-has_key.false in
-    let was : c.pending_of.result ≡ Some c.in_ok-item.item = c.in_ok-item.was tt in
+    let was : c.pending_of.result ≡ Some c.in_ok-item.item = c.in_ok-item.was in
     let copied : option_copied c.pending_of.result ≡ Some item = rw was refl in
     let same : c.others.result.now ≡ c.args.self.now.lists.others = c.others.ensures ∙ ap (λ (x : Good). x.lists.others) c.self.view_is in
     let found : Some item ≡ find (λ (i : PendingItem). i.cert.user == c.args.user) c.args.self.now.lists.others =
