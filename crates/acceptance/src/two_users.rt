@@ -125,17 +125,6 @@ fn completes(
     structure
 }
 
-/// An operation without changes.
-fn operates(
-    rt: &impl Host,
-    store: &mut Held<Global>,
-    server: &mut Server,
-    client: &mut Client<Global>,
-) -> Vec<u8> {
-    let update = declare(rt, client);
-    completes(rt, store, server, client, &update)
-}
-
 /// The changes that list users 1 and 2.
 fn listing_both(rt: &impl Host) -> Planned {
     let mut planned = nothing(rt);
@@ -147,19 +136,66 @@ fn listing_both(rt: &impl Host) -> Planned {
     planned
 }
 
-/// User 0 lists both users, at this server and in the same way at the other one: its structure.
-fn both_are_listed(
-    rt: &impl Host,
-    users: &mut Users,
-    server: &mut Server,
-    other: &mut Server,
-) -> Vec<u8> {
+/// Both users are listed, by user 0's structure here, at two servers that show the same.
+#[derive(Drop)]
+struct Scene {
+    users: Users,
+    server: Server,
+    other: Server,
+    by_super: Vec<u8>,
+}
+
+/// User 0 lists both users, at one server and in the same way at the other.
+fn both_are_listed(rt: &impl Host) -> Scene {
+    let mut users = new_users(rt);
+    let (mut server, mut other) = (server_of(rt, first_key(rt)), server_of(rt, first_key(rt)));
     let Planned { changes, laid } = listing_both(rt);
     let update = declare_changes(rt, &mut users.superuser, changes, laid);
-    let structure = completes(rt, &mut users.store, server, &mut users.superuser, &update);
-    let _same = answers_update_so(rt, other, &update, Status::Ok);
-    answers_commit(rt, other, &structure, Status::Ok);
-    structure
+    let by_super = completes(
+        rt,
+        &mut users.store,
+        &mut server,
+        &mut users.superuser,
+        &update,
+    );
+    let _same = answers_update_so(rt, &mut other, &update, Status::Ok);
+    answers_commit(rt, &mut other, &by_super, Status::Ok);
+    Scene {
+        users,
+        server,
+        other,
+        by_super,
+    }
+}
+
+impl Scene {
+    /// User 1 makes an operation without changes: its structure.
+    fn first_operates(&mut self, rt: &impl Host) -> Vec<u8> {
+        let Users { first, store, .. } = &mut self.users;
+        let update = declare(rt, first);
+        completes(rt, store, &mut self.server, first, &update)
+    }
+
+    /// And user 2 one at the other server.
+    fn second_operates_apart(&mut self, rt: &impl Host) -> Vec<u8> {
+        let Users { second, store, .. } = &mut self.users;
+        let update = declare(rt, second);
+        completes(rt, store, &mut self.other, second, &update)
+    }
+
+    /// User 1's declared operation, and the honest reply to it.
+    fn first_declares(&mut self, rt: &impl Host) -> (Vec<u8>, Vec<u8>) {
+        let update = declare(rt, &mut self.users.first);
+        let reply = answers_update_so(rt, &mut self.server, &update, Status::Ok);
+        (update, reply)
+    }
+
+    /// User 1 refuses this reply by a rule, and accepts the honest one.
+    fn first_is_shown(&mut self, rt: &impl Host, reply: &[u8], rule: Rule, honest: &[u8]) {
+        let Users { first, store, .. } = &mut self.users;
+        breaks(rt, store, first, reply, rule);
+        let _structure = accepts(rt, store, first, honest);
+    }
 }
 
 /// The entry of a first operation, after the count of one entry.
@@ -173,138 +209,135 @@ fn list(rt: &impl Host, rows: &[&[u8]]) -> Vec<u8> {
     joined(rt, &[&[count], &joined(rt, rows)])
 }
 
+/// The only pending operation of a reply: user 1's of this number, with the plan of this vector and without entries.
+fn only_pending(rt: &impl Host, number: u32, update: &[u8], vector: &[u8]) -> Vec<u8> {
+    let plan = plan(rt, 1, number, &named(update), vector, NONE);
+    listed(rt, &pending(rt, update, &plan))
+}
+
+/// The list of the pending operations of users 1 and 2, both their first.
+fn both_pending(rt: &impl Host, one: &[u8], two: &[u8]) -> Vec<u8> {
+    let plan_one = plan(rt, 1, 1, &named(one), ONE, NONE);
+    let entries = one_entry(rt, 1, &plan_one);
+    let plan_two = plan(rt, 2, 1, &named(two), BOTH, &entries);
+    assert!(rt; plan_two.len() == 95 && entries.len() == 38);
+    let (one, two) = (pending(rt, one, &plan_one), pending(rt, two, &plan_two));
+    list(rt, &[&one, &two])
+}
+
 #[test]
 fn reply_to_two_pending_byte_for_byte(rt: HostRuntime) {
     let rt = &rt;
-    let mut users = new_users(rt);
-    let (mut server, mut other) = (server_of(rt, first_key(rt)), server_of(rt, first_key(rt)));
-    let by_super = both_are_listed(rt, &mut users, &mut server, &mut other);
-    let one = declare(rt, &mut users.first);
-    let _placed = answers_update_so(rt, &mut server, &one, Status::Ok);
-    let two = declare(rt, &mut users.second);
-    let found = answers_update_so(rt, &mut server, &two, Status::Ok);
-    let plan_one = plan(rt, 1, 1, &named(&one), ONE, NONE);
-    let entries = one_entry(rt, 1, &plan_one);
-    let plan_two = plan(rt, 2, 1, &named(&two), BOTH, &entries);
-    assert!(rt; plan_two.len() == 95 && entries.len() == 38);
-    let structures = listed(rt, &shown(rt, &by_super));
-    let both = list(
-        rt,
-        &[&pending(rt, &one, &plan_one), &pending(rt, &two, &plan_two)],
-    );
-    check_text(rt, &found, &reply(rt, &structures, &both));
-    let _structure = accepts(rt, &mut users.store, &mut users.second, &found);
+    let mut scene = both_are_listed(rt);
+    let (one, _reply) = scene.first_declares(rt);
+    let two = declare(rt, &mut scene.users.second);
+    let found = answers_update_so(rt, &mut scene.server, &two, Status::Ok);
+    let structures = listed(rt, &shown(rt, &scene.by_super));
+    let by_hand = reply(rt, &structures, &both_pending(rt, &one, &two));
+    check_text(rt, &found, &by_hand);
+    let Users { second, store, .. } = &mut scene.users;
+    let _structure = accepts(rt, store, second, &found);
+}
+
+/// User 1's second operation, alone pending.
+fn second_pending(rt: &impl Host, update: &[u8]) -> Vec<u8> {
+    only_pending(rt, 2, update, b"\x02\0\0\0\0\x01\x01\0\0\0\x02")
 }
 
 #[test]
 fn forks_that_are_joined(rt: HostRuntime) {
     let rt = &rt;
-    let mut users = new_users(rt);
-    let (mut server, mut other) = (server_of(rt, first_key(rt)), server_of(rt, first_key(rt)));
-    let by_super = both_are_listed(rt, &mut users, &mut server, &mut other);
-    let store = &mut users.store;
-    let one = operates(rt, store, &mut server, &mut users.first);
-    let two = operates(rt, store, &mut other, &mut users.second);
-    let update = declare(rt, &mut users.first);
-    let honest = answers_update_so(rt, &mut server, &update, Status::Ok);
-    let plan = plan(
-        rt,
-        1,
-        2,
-        &named(&update),
-        b"\x02\0\0\0\0\x01\x01\0\0\0\x02",
-        NONE,
-    );
-    let own = listed(rt, &pending(rt, &update, &plan));
-    let rows = [shown(rt, &by_super), shown(rt, &one), shown(rt, &two)];
-    let [zero, one, two] = &rows;
-    let joined = reply(rt, &list(rt, &[zero, one, two]), &own);
-    breaks(rt, store, &mut users.first, &joined, Rule::Numbers);
-    check_text(rt, &honest, &reply(rt, &list(rt, &[zero, one]), &own));
-    let _structure = accepts(rt, store, &mut users.first, &honest);
+    let mut scene = both_are_listed(rt);
+    let one = scene.first_operates(rt);
+    let two = scene.second_operates_apart(rt);
+    let (update, honest) = scene.first_declares(rt);
+    let zero = shown(rt, &scene.by_super);
+    let (one, two) = (shown(rt, &one), shown(rt, &two));
+    let own = second_pending(rt, &update);
+    check_text(rt, &honest, &reply(rt, &list(rt, &[&zero, &one]), &own));
+    let joined = reply(rt, &list(rt, &[&zero, &one, &two]), &own);
+    scene.first_is_shown(rt, &joined, Rule::Numbers, &honest);
+}
+
+/// User 1's fourth operation, alone pending, with these structures.
+fn fourth_reply(rt: &impl Host, update: &[u8], structures: &[&[u8]]) -> Vec<u8> {
+    let own = only_pending(rt, 4, update, b"\x02\0\0\0\0\x01\x01\0\0\0\x04");
+    reply(rt, &list(rt, structures), &own)
 }
 
 #[test]
 fn own_structure_of_two_commits_ago(rt: HostRuntime) {
     let rt = &rt;
-    let mut users = new_users(rt);
-    let (mut server, mut other) = (server_of(rt, first_key(rt)), server_of(rt, first_key(rt)));
-    let by_super = both_are_listed(rt, &mut users, &mut server, &mut other);
-    let (store, client) = (&mut users.store, &mut users.first);
-    let oldest = operates(rt, store, &mut server, client);
-    let _older = operates(rt, store, &mut server, client);
-    let last = operates(rt, store, &mut server, client);
-    let update = declare(rt, client);
-    let honest = answers_update_so(rt, &mut server, &update, Status::Ok);
-    let plan = plan(
-        rt,
-        1,
-        4,
-        &named(&update),
-        b"\x02\0\0\0\0\x01\x01\0\0\0\x04",
-        NONE,
-    );
-    let own = listed(rt, &pending(rt, &update, &plan));
-    let zero = shown(rt, &by_super);
-    let with_oldest = list(rt, &[&zero, &shown(rt, &oldest)]);
-    breaks(
-        rt,
-        store,
-        client,
-        &reply(rt, &with_oldest, &own),
-        Rule::OwnLast,
-    );
-    let with_last = list(rt, &[&zero, &shown(rt, &last)]);
-    check_text(rt, &honest, &reply(rt, &with_last, &own));
-    let _structure = accepts(rt, store, client, &honest);
+    let mut scene = both_are_listed(rt);
+    let oldest = scene.first_operates(rt);
+    let _older = scene.first_operates(rt);
+    let last = scene.first_operates(rt);
+    let (update, honest) = scene.first_declares(rt);
+    let zero = shown(rt, &scene.by_super);
+    let by_hand = fourth_reply(rt, &update, &[&zero, &shown(rt, &last)]);
+    check_text(rt, &honest, &by_hand);
+    let with_oldest = fourth_reply(rt, &update, &[&zero, &shown(rt, &oldest)]);
+    scene.first_is_shown(rt, &with_oldest, Rule::OwnLast, &honest);
 }
 
 /// Where the plan lies in the structure of user 0's first operation: after the tag and its size.
 const PLAN: Range<usize> = 6..54;
 
-/// The reply to user 2's second operation, whose plan has these entries, with these structures.
+/// Another plan of user 1's operation, with an entry of an operation that was committed before it.
+fn swapped_plan(rt: &impl Host, by_super: &[u8], one: &[u8]) -> Vec<u8> {
+    let of_super = by_super.get(PLAN).expect(rt, "a plan");
+    plan(rt, 1, 1, &named(one), ONE, &one_entry(rt, 0, of_super))
+}
+
+/// The reply to user 2's operation of this number, whose plan has this vector and these entries.
 fn second_reply(
     rt: &impl Host,
     update: &[u8],
-    entries: &[u8],
+    (number, vector, entries): (u32, &[u8], &[u8]),
     structures: &[&[u8]],
     before: &[&[u8]],
 ) -> Vec<u8> {
-    let plan = plan(rt, 2, 2, &named(update), SECOND, entries);
+    let plan = plan(rt, 2, number, &named(update), vector, entries);
     let own = pending(rt, update, &plan);
     let [.., count] = before.len().wrapping_add(1).to_be_bytes();
     let rows = joined(rt, &[&[count], &joined(rt, before), &own]);
     reply(rt, &list(rt, structures), &rows)
 }
 
+/// User 2 declares, and accepts a reply in which user 1's operation is pending so: its structure, as replies show it.
+fn second_is_fooled(rt: &impl Host, scene: &mut Scene, entries: &[u8], first: &[u8]) -> Vec<u8> {
+    let update = declare(rt, &mut scene.users.second);
+    let zero = shown(rt, &scene.by_super);
+    let invented = second_reply(rt, &update, (1, BOTH, entries), &[&zero], &[first]);
+    let Users { second, store, .. } = &mut scene.users;
+    let structure = accepts(rt, store, second, &invented);
+    end(rt, second, Status::Ok);
+    shown(rt, &structure)
+}
+
 #[test]
 fn plan_that_was_swapped(rt: HostRuntime) {
     let rt = &rt;
-    let mut users = new_users(rt);
-    let (mut server, mut other) = (server_of(rt, first_key(rt)), server_of(rt, first_key(rt)));
-    let by_super = both_are_listed(rt, &mut users, &mut server, &mut other);
-    let store = &mut users.store;
-    let one = declare(rt, &mut users.first);
-    let honest = answers_update_so(rt, &mut server, &one, Status::Ok);
-    let by_first = accepts(rt, store, &mut users.first, &honest);
-    // User 2 is shown another plan of user 1's operation, with an entry of an operation that was committed before it.
-    let of_super = by_super.get(PLAN).expect(rt, "a plan");
-    let swapped = plan(rt, 1, 1, &named(&one), ONE, &one_entry(rt, 0, of_super));
+    let mut scene = both_are_listed(rt);
+    let (one, honest) = scene.first_declares(rt);
+    let zero = shown(rt, &scene.by_super);
+    let swapped = swapped_plan(rt, &scene.by_super, &one);
     let entries = one_entry(rt, 1, &swapped);
-    let two = declare(rt, &mut users.second);
-    let plan_two = plan(rt, 2, 1, &named(&two), BOTH, &entries);
-    let zero = shown(rt, &by_super);
     let first = pending(rt, &one, &swapped);
-    let both = list(rt, &[&first, &pending(rt, &two, &plan_two)]);
-    let invented = reply(rt, &listed(rt, &zero), &both);
-    let by_second = accepts(rt, store, &mut users.second, &invented);
-    end(rt, &mut users.second, Status::Ok);
+    let by_second = second_is_fooled(rt, &mut scene, &entries, &first);
+    let Users {
+        first: client,
+        second,
+        store,
+        ..
+    } = &mut scene.users;
+    let by_first = shown(rt, &accepts(rt, store, client, &honest));
     // The true structure of user 1 is shown, and then the swapped plan, pending still.
-    let update = declare(rt, &mut users.second);
-    let (by_first, by_second) = (shown(rt, &by_first), shown(rt, &by_second));
+    let update = declare(rt, second);
     let structures = [zero.as_slice(), &by_first, &by_second];
-    let joined = second_reply(rt, &update, NONE, &structures, &[]);
-    breaks(rt, store, &mut users.second, &joined, Rule::Entries);
-    let pending_still = second_reply(rt, &update, &entries, &[&zero, &by_second], &[&first]);
-    let _structure = accepts(rt, store, &mut users.second, &pending_still);
+    let joined = second_reply(rt, &update, (2, SECOND, NONE), &structures, &[]);
+    breaks(rt, store, second, &joined, Rule::Entries);
+    let structures = [zero.as_slice(), &by_second];
+    let pending_still = second_reply(rt, &update, (2, SECOND, &entries), &structures, &[&first]);
+    let _structure = accepts(rt, store, second, &pending_still);
 }
