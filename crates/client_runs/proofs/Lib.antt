@@ -1,3 +1,3 @@
-pub mod Texts
-pub mod Stories
-pub mod Files
+mod Quiet
+mod Mirrors
+mod Once

@@ -9,8 +9,9 @@ use Rattle.principals.specs.Table.{key_of}
 use Rattle.update_cert.specs.Cert.{Cert, cert}
 use Rattle.agreement.specs.Runs.{View}
 use Rattle.agreement.specs.Lines.{line}
+use Rattle.release_runs.specs.Released.{unsigned}
 use Rattle.client_runs.specs.Runs.{Event, IsRun, Keys, public_key}
-use Rattle.client_runs.specs.Released.{Shown, hashed, released, shown_by, unsigned, views}
+use Rattle.client_runs.specs.Released.{Shown, hashed, released, shown_by, views}
 
 -- ---- premises
 

@@ -1,12 +1,10 @@
 -- What happens in a run: the texts that clients release, the views that they accept, the texts that are shown to them with
 -- signatures, and those of which digests are taken.
-use Rattle.std.specs.Prelude.{ℕ, ◌-◌, List, [], ◌∷◌, ◌++◌, Option, Some, None, Result, Ok, Err, ◌==◌, if◌then◌else◌, length, map, take, drop}
+use Rattle.std.specs.Prelude.{List, [], ◌∷◌, ◌++◌, Option, Some, None, Result, Ok, Err, ◌==◌, if◌then◌else◌, map}
 use Rattle.std.specs.List.{flat_map}
 use Rattle.std.specs.Option.{option_map, option_map_or, option_to_list}
 use Rattle.std.specs.Vec.{vec_items}
 use Rattle.layout.specs.Types.{Bytes, User}
-use Rattle.lms_sign.specs.Signature.{leaf_of}
-use Rattle.leaf_ledger.specs.Ledger.{LeafNumber}
 use Rattle.version_order.specs.Plan.{plan}
 use Rattle.version_order.specs.Structure.{Structure, structure}
 use Rattle.update_cert.specs.Cert.{cert}
@@ -21,32 +19,14 @@ use Rattle.client_verify.specs.declared.step.Step.{Step}
 use Rattle.client_verify.specs.declared.step.Step.TheVariants as step
 use Rattle.client_verify.specs.FirstBroken.{reply_in}
 use Rattle.agreement.specs.Runs.{View}
+use Rattle.release_runs.specs.Released.{found_text, unsigned}
 use Rattle.client_runs.specs.State.{Ready, State, next_structure}
 use Rattle.client_runs.specs.Steps.{Asks, Call, Opens, Begins, Hears, Takes, Signs, Gives, Client, Closed, Open}
 use Rattle.client_runs.specs.Runs.{Event, Keys, client_of, public_key}
 
 -- ---- released texts
 
--- the size of a signature
-abbrev pub signature_size : ℕ
-signature_size = 2508
-
--- a released text has its signature at its end
-abbrev pub unsigned : Bytes → Bytes
-unsigned text = take (length text - signature_size) text
-
-abbrev pub signature_in : Bytes → Bytes
-signature_in text = drop (length text - signature_size) text
-
--- the leaf by which it is signed
-abbrev pub leaf_in : Bytes → LeafNumber
-leaf_in text = leaf_of (signature_in text)
-
--- the text that an opened client found in its journal, to be handed out again, if it found one
-abbrev pub found_text : Bytes → List Bytes
-found_text [] = []
-found_text (b ∷ text) = (b ∷ text) ∷ []
-
+-- the text that an opened client finds in its journal, if it finds one
 abbrev pub found_by : Client → List Bytes
 found_by (Closed p) = []
 found_by (Open s) = found_text s.text

@@ -6,8 +6,9 @@ use Rattle.pending_list.specs.declared.signed.Signed.{Signed}
 use Rattle.version_order.specs.Structure.{Structure}
 use Rattle.update_cert.specs.Cert.{Cert}
 use Rattle.client_releases.specs.Told.{cert_in, structure_in}
+use Rattle.release_runs.specs.Released.{leaf_in}
 use Rattle.client_runs.specs.Runs.{Event, IsRun, Keys}
-use Rattle.client_runs.specs.Released.{leaf_in, released}
+use Rattle.client_runs.specs.Released.{released}
 
 -- what holds of each run, for each user
 abbrev pub EachClient : (User → List Event → Type 0) → Type 0

@@ -1,0 +1,198 @@
+-- What a client releases in a run, as a run of client_releases: each call is a step of that, or leaves what was released.
+use Rattle.std.proofs.Common.{◌≡◌, ◌≢◌, ℕ, ◌+◌, Bool, true, false, ◌==◌, List, [], ◌∷◌, ◌++◌, Option, Some, None, Ok, Err, Result, IfErr, IfSome, IsSome, OnOk, OnErr, IfOk, refl, sym, ap, ◌∙◌, subst, inl, inr, if◌then◌else◌}
+use Rattle.std.proofs.lemmas.Bool.{eqb-true}
+use Rattle.layout.specs.Types.{Bytes, Digest, User}
+use Rattle.leaf_ledger.specs.Ledger.{LeafNumber}
+use Rattle.version_order.specs.Structure.{structure}
+use Rattle.update_cert.specs.Change.{Change}
+use Rattle.update_cert.specs.Cert.{cert}
+use Rattle.wire.specs.declared.kinds.Status.{Status}
+use Rattle.wire.specs.declared.kinds.Status.TheVariants as status
+use Rattle.client_releases.specs.declared.error.ClientError.{ClientError}
+use Rattle.client_releases.specs.declared.error.ClientError.TheVariants as error
+use Rattle.client_releases.specs.Releasing.{IsKept, IsTried, structure_record}
+use Rattle.release_runs.specs.Steps as low
+use Rattle.release_runs.specs.Runs as low_run
+use Rattle.release_runs.specs.Released as low_released
+use Rattle.client_runs.specs.State.{IsOfDeclared, Ready, State, next_cert, next_structure, on, released, signed_over, signed_text}
+use Rattle.client_runs.specs.Steps.{Begins, Call, Client, Closed, Closes, Commits, Crashes, Gives, HasBegun, HasCommitted, HasSigned, Hears, IsLeft, IsOpened, IsSound, IsStep, Looks, Open, Opens, Owner, Parts, Signs, Takes, first}
+use Rattle.client_runs.specs.Runs.{Event, IsRun, Keys, client_of, owner}
+use Rattle.client_runs.specs.Released.{released as released_in, released_by}
+use Rattle.client_runs.proofs.Quiet.{IsQuiet, gives, hears, looks, takes}
+
+-- the owner, the devices and the client, as client_releases has them
+abbrev pub low_owner : Owner → low.Owner
+low_owner o = record { user = o.user; seed = o.seed; id = o.id }
+
+abbrev pub low_parts : Parts → low.Parts
+low_parts p = record { ledger = p.ledger.history; journal = p.journal.history }
+
+abbrev pub low_client : Client → low.Client
+low_client (Closed p) = low.Closed (low_parts p)
+low_client (Open s) = low.Open (released s)
+
+-- A run of what is released, after which the client is this one and these texts are released.
+pub record Mirrors (o : Owner) (client : Client) (texts : List Bytes) : Type 0 where
+  pub run : List low_run.Event
+  pub is_run : low_run.IsRun (low_owner o) run
+  pub in_turn : low_run.AreInTurn run
+  pub after : low_run.client_of run ≡ low_client client
+  pub texts_are : low_released.released run ≡ texts
+
+module _ (o : Owner) where
+  at_first : Mirrors o first []
+  at_first = record { run = []; is_run = tt; in_turn = tt; after = refl; texts_are = refl }
+
+  -- ---- a step
+
+  module _ (texts : List Bytes) (before : Client) (m : Mirrors o before texts) where
+    -- a call that leaves what was released
+    quiet : (after : Client) → low_client after ≡ low_client before → Mirrors o after texts
+    quiet after same = record { run = m.run; is_run = m.is_run; in_turn = m.in_turn; after = m.after ∙ sym same; texts_are = m.texts_are }
+
+    -- one that is a step
+    moves : (call : low.Call) (after : Client) → low.IsStep (low_owner o) (low_client before) call (low_client after) → low.IsSound (low_client after) → low_run.IsInTurn (low_client before) call
+        → Mirrors o after (low_released.released_by call (low_client after) ++ texts)
+    moves call after is sound turn = record {
+      run = record { call = call; after = low_client after } ∷ m.run;
+      is_run = (subst (λ (c : low.Client). low.IsStep (low_owner o) c call (low_client after)) (sym m.after) is, sound, m.is_run);
+      in_turn = (subst (λ (c : low.Client). low_run.IsInTurn c call) (sym m.after) turn, m.in_turn);
+      after = refl;
+      texts_are = ap (λ l. low_released.released_by call (low_client after) ++ l) m.texts_are;
+    }
+
+  -- ---- crashes
+
+  left : (before : Client) (p : Parts) → IsLeft before p → low.IsLeft (low_client before) (low_parts p)
+  left (Closed q) p is = record { ledger_text = is.ledger_text; journal_text = is.journal_text; ledger_may = is.ledger_may; journal_may = is.journal_may; ledger = is.ledger; journal = is.journal }
+  left (Open s) p is = record { ledger_text = is.ledger_text; journal_text = is.journal_text; ledger_may = is.ledger_may; journal_may = is.journal_may; ledger = is.ledger; journal = is.journal }
+
+  -- ---- certificates
+
+  module _ (texts : List Bytes) (s : State) (m : Mirrors o (Open s) texts) (new : State) (sound : IsSound (Open new)) where
+    same_as : new ≡ s → Mirrors o (Open new) texts
+    same_as is = quiet texts (Open s) m (Open new) (ap low.Open (ap released is))
+
+    module _ (changes : List (Change Digest)) (laid : List Bytes) where
+      begins : (text : Bytes) → HasBegun s changes laid (Ok text) new → Mirrors o (Open new) (text ∷ texts)
+      begins text b =
+          moves texts (Open s) m (low.Declares (next_cert s changes) (Ok text)) (Open new)
+          (record { idle = b.idle; fits = b.fits; user = refl; declared = (b.declared.0, b.declared.1, ap released b.declared.2); text = b.text; tried = tt; err = tt }) sound.0 refl
+
+      begin_fails : HasBegun s changes laid (Err error.Device) new → Mirrors o (Open new) texts
+      begin_fails b =
+          moves texts (Open s) m (low.Declares (next_cert s changes) (Err error.Device)) (Open new)
+          (record { idle = b.idle; fits = b.fits_device refl; user = refl; declared = tt; text = tt; tried = b.tried; err = ap released (b.fails refl) }) sound.0 refl
+
+      begin_refused : (e : ClientError) → e ≢ error.Device → HasBegun s changes laid (Err e) new → Mirrors o (Open new) texts
+      begin_refused e other b = same_as (b.err other)
+
+    -- ---- structures
+
+    module _ (y : Ready) (ready : s.accepted ≡ Some y) where
+      if_ready : (P : Ready → Type 0) → IfSome s.accepted P → P y
+      if_ready P p = subst (λ (a : Option Ready). IfSome a P) ready p
+
+      of_declared : IsSound (Open s) → IsOfDeclared (released s) y.lists.own.plan
+      of_declared before = if_ready (λ r. IsOfDeclared (released s) r.lists.own.plan) before.1.of_accepted
+
+      signs : (text : Bytes) → IsSound (Open s) → HasSigned s (Ok text) new → Mirrors o (Open new) (text ∷ texts)
+      signs text before b =
+          let declared = of_declared before in
+          let done = if_ready (λ r. (leaf : LeafNumber) × IsKept leaf (structure_record (signed_text s leaf r)) s.devices new.devices × (new ≡ on new.devices (signed_over s leaf r))) b.signed in
+          moves texts (Open s) m (low.Signs (next_structure s y) (Ok text)) (Open new)
+          (record {
+            declared = declared.is_declared;
+            fits = if_ready (λ r. structure.Fits (next_structure s r)) b.fits;
+            user = declared.user;
+            number = declared.number;
+            signed = (done.0, done.1, ap released done.2);
+            text = b.text;
+            tried = tt;
+            err = tt;
+          }) sound.0 tt
+
+      sign_fails : IsSound (Open s) → HasSigned s (Err error.Device) new → Mirrors o (Open new) texts
+      sign_fails before b =
+          let declared = of_declared before in
+          moves texts (Open s) m (low.Signs (next_structure s y) (Err error.Device)) (Open new)
+          (record {
+            declared = declared.is_declared;
+            fits = if_ready (λ r. structure.Fits (next_structure s r)) (b.fits_device refl);
+            user = declared.user;
+            number = declared.number;
+            signed = tt;
+            text = tt;
+            tried = if_ready (λ r. IsTried (λ leaf. structure_record (signed_text s leaf r)) s.devices new.devices) b.tried;
+            err = ap released (b.fails refl);
+          }) sound.0 tt
+
+    with_ready : (P : Type 0) → IsSome s.accepted → ((y : Ready) → s.accepted ≡ Some y → P) → P
+    with_ready P some each = go s.accepted refl some
+      where
+        go : (a : Option Ready) → s.accepted ≡ a → IsSome a → P
+        go None is no = absurd no
+        go (Some y) is yes_some = each y is
+
+    sign_refused : (e : ClientError) → e ≢ error.Device → HasSigned s (Err e) new → Mirrors o (Open new) texts
+    sign_refused e other b = same_as (b.err other)
+
+    commits : (status : Status) → HasCommitted s status new → Mirrors o (Open new) texts
+    commits status.Ok b = moves texts (Open s) m low.Commits (Open new) (record { signed = b.signed; state = ap released b.state }) sound.0 tt
+    commits other b = same_as b.state
+
+  -- ---- steps
+
+  step : (texts : List Bytes) (before : Client) (call : Call) (after : Client) → Mirrors o before texts → IsSound before → IsStep o before call after → IsSound after → Mirrors o after (released_by call after ++ texts)
+  step texts (Closed p) (Opens (Ok x)) (Open s) m was is sound =
+      moves texts (Closed p) m (low.Opens (Ok x)) (Open s) (record { user = is.user; seed = is.seed; id = is.id; told = is.told; moments = is.moments }) sound.0 tt
+  step texts (Closed p) (Opens (Err e)) (Closed q) m was is sound = moves texts (Closed p) m (low.Opens (Err e)) (Closed q) is.moments tt tt
+  step texts (Closed p) Crashes (Closed q) m was is sound = moves texts (Closed p) m low.Crashes (Closed q) (left (Closed p) q is) tt tt
+  step texts (Closed p) call after m was is sound = absurd is
+  step texts (Open s) Closes (Closed p) m was is sound = moves texts (Open s) m low.Closes (Closed p) (record { ledger = is.ledger; journal = is.journal }) tt tt
+  step texts (Open s) Crashes (Closed p) m was is sound = moves texts (Open s) m low.Crashes (Closed p) (left (Open s) p is) tt tt
+  step texts (Open s) (Begins changes laid (Ok text)) (Open new) m was is sound = begins texts s m new sound changes laid text is
+  step texts (Open s) (Begins changes laid (Err error.Memory)) (Open new) m was is sound = begin_refused texts s m new sound changes laid error.Memory (λ d. cc d) is
+  step texts (Open s) (Begins changes laid (Err error.NoLeaf)) (Open new) m was is sound = begin_refused texts s m new sound changes laid error.NoLeaf (λ d. cc d) is
+  step texts (Open s) (Begins changes laid (Err error.Device)) (Open new) m was is sound = begin_fails texts s m new sound changes laid is
+  step texts (Open s) (Begins changes laid (Err error.NoNumber)) (Open new) m was is sound = begin_refused texts s m new sound changes laid error.NoNumber (λ d. cc d) is
+  step texts (Open s) (Begins changes laid (Err error.Foreign)) (Open new) m was is sound = begin_refused texts s m new sound changes laid error.Foreign (λ d. cc d) is
+  step texts (Open s) (Begins changes laid (Err error.Damaged)) (Open new) m was is sound = begin_refused texts s m new sound changes laid error.Damaged (λ d. cc d) is
+  step texts (Open s) (Hears text answer) (Open new) m was is sound = quiet texts (Open s) m (Open new) (ap low.Open (hears s text answer new is))
+  step texts (Open s) (Takes block answer) (Open new) m was is sound = quiet texts (Open s) m (Open new) (ap low.Open (takes s block answer new is))
+  step texts (Open s) (Signs (Ok text)) (Open new) m was is sound =
+      with_ready texts s m new sound (Mirrors o (Open new) (text ∷ texts)) is.ready (λ y ready. signs texts s m new sound y ready text was is)
+  step texts (Open s) (Signs (Err error.Memory)) (Open new) m was is sound = sign_refused texts s m new sound error.Memory (λ d. cc d) is
+  step texts (Open s) (Signs (Err error.NoLeaf)) (Open new) m was is sound = sign_refused texts s m new sound error.NoLeaf (λ d. cc d) is
+  step texts (Open s) (Signs (Err error.Device)) (Open new) m was is sound =
+      with_ready texts s m new sound (Mirrors o (Open new) texts) is.ready (λ y ready. sign_fails texts s m new sound y ready was is)
+  step texts (Open s) (Signs (Err error.NoNumber)) (Open new) m was is sound = sign_refused texts s m new sound error.NoNumber (λ d. cc d) is
+  step texts (Open s) (Signs (Err error.Foreign)) (Open new) m was is sound = sign_refused texts s m new sound error.Foreign (λ d. cc d) is
+  step texts (Open s) (Signs (Err error.Damaged)) (Open new) m was is sound = sign_refused texts s m new sound error.Damaged (λ d. cc d) is
+  step texts (Open s) (Commits status) (Open new) m was is sound = commits texts s m new sound status is
+  step texts (Open s) (Looks p i answer) (Open new) m was is sound = quiet texts (Open s) m (Open new) (ap low.Open (looks s p i answer new is))
+  step texts (Open s) (Gives block answer) (Open new) m was is sound = quiet texts (Open s) m (Open new) (ap low.Open (gives s block answer new is))
+  step texts (Open s) call after m was is sound = absurd is
+
+-- ---- runs
+
+-- the client is sound at all times
+sound_now : (keys : Keys) (u : User) (run : List Event) → IsRun keys run → IsSound (client_of u run)
+sound_now keys u [] is = tt
+sound_now keys u (e ∷ older) is = go (e.user == u) (sound_now keys u older is.2)
+  where
+    go : (b : Bool) → IsSound (client_of u older) → IsSound (if b then e.after else client_of u older)
+    go true before = is.1
+    go false before = before
+
+-- each user's part of a run
+pub mirrors : (keys : Keys) (u : User) (run : List Event) → IsRun keys run → Mirrors (owner keys u) (client_of u run) (released_in u run)
+mirrors keys u [] is = at_first (owner keys u)
+mirrors keys u (e ∷ older) is = go (e.user == u) refl (mirrors keys u older is.2)
+  where
+    go : (b : Bool) → (e.user == u) ≡ b → Mirrors (owner keys u) (client_of u older) (released_in u older)
+        → Mirrors (owner keys u) (if b then e.after else client_of u older) (if b then released_by e.call e.after ++ released_in u older else released_in u older)
+    go true same m =
+        step (owner keys u) (released_in u older) (client_of u older) e.call e.after m (sound_now keys u older is.2)
+        (subst (λ (v : User). IsStep (owner keys v) (client_of v older) e.call e.after) (eqb-true e.user u same) is.0) is.1
+    go false same m = m
