@@ -1,16 +1,16 @@
 -- What lies on the devices of a user: a journal that tells the user's story, and a ledger in which its leaves are used.
-use Rattle.std.proofs.Common.{◌≡◌, ℕ, true, false, List, [], ◌∷◌, ◌++◌, map, Option, Some, None, IfSome, refl, sym, ap, ◌∙◌, subst, inl, inr, arith}
+use Rattle.std.proofs.Common.{◌≡◌, true, false, List, [], ◌∷◌, ◌++◌, map, Option, Some, None, refl, sym, ap, ◌∙◌, subst, inl, inr}
 use Rattle.std.specs.Prelude.{◌⊎◌}
 use Rattle.std.proofs.lemmas.List.{append-nil}
 use Rattle.layout.specs.Types.{Bytes}
-use Rattle.leaf_ledger.specs.Device.{Disk, History, MayLeave, at_rest, started}
+use Rattle.leaf_ledger.specs.Device.{History, MayLeave, at_rest, started}
 use Rattle.leaf_ledger.specs.Ledger.{LeafNumber, is_used}
 use Rattle.leaf_ledger.specs.Life.{Call, IsSure}
 use Rattle.leaf_ledger.specs.Moments.{rest_only, rests}
-use Rattle.client_journal.specs.Life.{Addition, Appended, Follows, IsPossible, MayAdd, Nothing, Tried}
+use Rattle.client_journal.specs.Life.{Appended, Follows, IsPossible, MayAdd, Nothing, Tried}
 use Rattle.client_journal.specs.Life.{Call as Step}
 use Rattle.client_journal.specs.Records.{Record, Tells}
-use Rattle.release_runs.proofs.Members.{In, in-map, map-in}
+use Rattle.release_runs.proofs.Members.{In, in-map}
 use Rattle.release_runs.specs.Steps.{Owner}
 use Rattle.release_runs.proofs.Stories.{Release, leaf, record_of, records}
 

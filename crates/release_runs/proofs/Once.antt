@@ -1,6 +1,5 @@
 -- The releases of a story: each has a leaf of its own, and each certificate and each structure a number of its own.
-use Rattle.std.proofs.Common.{◌≡◌, ℕ, ◌+◌, ◌<◌, List, [], ◌∷◌, ◌++◌, map, Option, Some, None, refl, sym, ap, ◌∙◌, subst, inl, inr, arith}
-use Rattle.layout.specs.Types.{Bytes}
+use Rattle.std.proofs.Common.{◌≡◌, ◌<◌, List, [], ◌∷◌, map, Some, None, refl, sym, ap, ◌∙◌, subst, inl, inr, arith}
 use Rattle.lms_sign.specs.Signature.{signature_of}
 use Rattle.leaf_ledger.specs.Ledger.{LeafNumber}
 use Rattle.version_order.specs.Structure.{Structure, structure}
@@ -10,7 +9,7 @@ use Rattle.client_releases.specs.Told.{cert_in, structure_in}
 use Rattle.release_runs.specs.Steps.{Owner}
 use Rattle.release_runs.specs.Released.{leaf_in}
 use Rattle.release_runs.proofs.Members.{In, map-in}
-use Rattle.release_runs.proofs.Stories.{IsNext, IsNumbered, IsStory, OfCert, OfStructure, Release, cert_of, leaf, number_in, number_within, structure_below, structure_of, structure_within, text}
+use Rattle.release_runs.proofs.Stories.{IsNext, IsNumbered, IsStory, OfCert, OfStructure, Release, cert_of, leaf, number_within, structure_below, structure_of, text}
 use Rattle.release_runs.proofs.Texts.{leaf_in_sent, no_cert, no_structure}
 
 module _ (o : Owner) where

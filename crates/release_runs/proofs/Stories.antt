@@ -1,13 +1,11 @@
 -- Stories: what the client of a user released, one release after another, and what its journal tells of them.
-use Rattle.std.proofs.Common.{◌≡◌, ℕ, ◌+◌, ◌<◌, List, [], ◌∷◌, ◌++◌, length, map, Option, Some, None, IfSome, refl, sym, ap, ◌∙◌, subst, inl, inr, arith}
-use Rattle.std.specs.Prelude.{◌⊎◌}
+use Rattle.std.proofs.Common.{◌≡◌, ℕ, ◌+◌, ◌<◌, List, [], ◌∷◌, ◌++◌, length, map, Option, Some, None, refl, ap, ◌∙◌, inl, inr, arith}
 use Rattle.std.specs.Option.{option_and_then, option_map}
 use Rattle.layout.specs.Types.{Bytes}
 use Rattle.lms_sign.specs.Signature.{signature_of}
 use Rattle.lms_sign.proofs.Validity.{length-signature}
 use Rattle.leaf_ledger.specs.Ledger.{LeafNumber}
 use Rattle.client_journal.specs.Records.{Record, State as Recorded, Idle, Declared, Signed as Ended, next_state, state_after, state_of}
-use Rattle.client_journal.specs.declared.kind.Kind.TheVariants as kind
 use Rattle.version_order.specs.Structure.{Structure, structure}
 use Rattle.update_cert.specs.Cert.{Cert, cert}
 use Rattle.pending_list.specs.declared.signed.Signed.{Signed}

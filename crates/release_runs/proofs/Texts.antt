@@ -1,5 +1,5 @@
 -- Signed texts: their parts, and what is read from them.
-use Rattle.std.proofs.Common.{◌≡◌, ℕ, ◌+◌, ◌-◌, ◌<◌, Bool, true, false, ◌==◌, List, [], ◌∷◌, ◌++◌, length, take, drop, Option, Some, None, Result, Ok, Err, refl, sym, ap, ◌∙◌, subst, arith, nat_eq, nat_lt, if◌then◌else◌}
+use Rattle.std.proofs.Common.{◌≡◌, ℕ, ◌+◌, ◌-◌, ◌<◌, Bool, true, false, ◌==◌, List, [], ◌∷◌, ◌++◌, length, take, drop, Option, Some, None, Result, Ok, Err, refl, sym, ap, ◌∙◌, arith, nat_eq, nat_lt, if◌then◌else◌}
 use Rattle.std.specs.Prelude.{codes}
 use Rattle.std.specs.Int.{w32, from_be_bytes}
 use Rattle.std.specs.List.{starts_with}
@@ -10,9 +10,9 @@ use Rattle.std.proofs.lemmas.List.{append_assoc, length-append, take_all, take_a
 use Rattle.std.proofs.lemmas.Nat.{from_be_bytes-to_be_bytes_4}
 use Rattle.layout.specs.declared.error.ReadError.{ReadError}
 use Rattle.layout.specs.declared.error.ReadError.TheVariants.{Short, BadTag, Trailing}
-use Rattle.layout.specs.Format.{Answer, Format, be, ends, headed, mapped, nested, pair, raw, tagged, whole, ◌>>=◌}
+use Rattle.layout.specs.Format.{Answer, Format, be, ends, headed, mapped, nested, pair, raw, whole, ◌>>=◌}
 use Rattle.layout.specs.Laws.{Lawful}
-use Rattle.lms_sign.specs.Hashing.{joined, part}
+use Rattle.lms_sign.specs.Hashing.{joined}
 use Rattle.lms_sign.specs.Keys.{lms_type, ots_type}
 use Rattle.lms_sign.specs.OneTime.{digest_of, randomizer_of, signed_value}
 use Rattle.lms_sign.specs.Signature.{leaf_of, path_of, signature_of}

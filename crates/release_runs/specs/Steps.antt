@@ -3,7 +3,7 @@
 --
 -- A crash inside a call is a call whose device fails, and then a crash: whatever part of the call was done by then is one
 -- that a device may have done that fails there.
-use Rattle.std.specs.Prelude.{◌≡◌, ℕ, List, [], Some, IfOk, OnOk, OnErr, Result, Ok, Err}
+use Rattle.std.specs.Prelude.{◌≡◌, [], Some, IfOk, OnOk, OnErr, Result, Ok, Err}
 use Rattle.layout.specs.Types.{Bytes, User}
 use Rattle.leaf_ledger.specs.Device.{History, MayLeave, started}
 use Rattle.leaf_ledger.specs.Ledger.{LeafNumber}
