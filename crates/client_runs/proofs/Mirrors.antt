@@ -131,8 +131,8 @@ module _ (o : Owner) where
     with_ready P some each = go s.accepted refl some
       where
         go : (a : Option Ready) → s.accepted ≡ a → IsSome a → P
-        go None is no = absurd no
-        go (Some y) is yes_some = each y is
+        go None is some = absurd (cc some)
+        go (Some y) is some = each y is
 
     sign_refused : (e : ClientError) → e ≢ error.Device → HasSigned s (Err e) new → Mirrors o (Open new) texts
     sign_refused e other b = same_as (b.err other)

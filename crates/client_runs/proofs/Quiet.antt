@@ -72,7 +72,7 @@ takes s block (Err e) new h = ap released h.err
 takes s block (Ok answer) new h = go s.checked h.wants h.handed
   where
     go : (checked : Option Checked) → IsSome checked → IfSome checked (λ k. Handed s k block answer new) → IsQuiet s new
-    go None some h = absurd some
+    go None some h = absurd (cc some)
     go (Some k) some h = handed s k block answer new h
 
 -- ---- looks
@@ -89,7 +89,7 @@ looks s p i (Err e) new h = ap released h.err
 looks s p i (Ok answer) new h = go s.view h.sees h.looked
   where
     go : (view : Option AcceptedView) → IsSome view → IfSome view (λ v. Looked s v p i answer new) → IsQuiet s new
-    go None some h = absurd some
+    go None some h = absurd (cc some)
     go (Some v) some h = looked s v p i answer new h
 
 block_looked : (s : State) (v : AcceptedView) (l : Looking) (block : Option Bytes) (answer : Sees) (new : State) → IsSomeAnd block (λ text. Looked (holding s text) v l.principal l.i_number answer new) → IsQuiet s new
@@ -108,7 +108,7 @@ gives s block (Err e) new h = ap released h.err
 gives s block (Ok answer) new h = go s.view h.looks h.given
   where
     looking : (v : AcceptedView) (l : Option Looking) → IsSome l → IfSome l (λ x. Given s v x block answer new) → IsQuiet s new
-    looking v None some h = absurd some
+    looking v None some h = absurd (cc some)
     looking v (Some l) some h = given s v l block answer new h
 
     go : (view : Option AcceptedView) → IsSomeAnd view (λ v. IsSome v.looking) → IfSome view (λ v. IfSome v.looking (λ l. Given s v l block answer new)) → IsQuiet s new
