@@ -1,3 +1,5 @@
+mod Lowering
 mod Quiet
 mod Mirrors
 mod Once
+mod Replies

@@ -2,34 +2,20 @@
 use Rattle.std.proofs.Common.{◌≡◌, ◌≢◌, ℕ, ◌+◌, Bool, true, false, ◌==◌, List, [], ◌∷◌, ◌++◌, Option, Some, None, Ok, Err, Result, IfErr, IfSome, IsSome, OnOk, OnErr, IfOk, refl, sym, ap, ◌∙◌, subst, inl, inr, if◌then◌else◌}
 use Rattle.std.proofs.lemmas.Bool.{eqb-true}
 use Rattle.layout.specs.Types.{Bytes, Digest, User}
-use Rattle.leaf_ledger.specs.Ledger.{LeafNumber}
-use Rattle.version_order.specs.Structure.{structure}
 use Rattle.update_cert.specs.Change.{Change}
-use Rattle.update_cert.specs.Cert.{cert}
 use Rattle.wire.specs.declared.kinds.Status.{Status}
 use Rattle.wire.specs.declared.kinds.Status.TheVariants as status
 use Rattle.client_releases.specs.declared.error.ClientError.{ClientError}
 use Rattle.client_releases.specs.declared.error.ClientError.TheVariants as error
-use Rattle.client_releases.specs.Releasing.{IsKept, IsTried, structure_record}
 use Rattle.release_runs.specs.Steps as low
 use Rattle.release_runs.specs.Runs as low_run
 use Rattle.release_runs.specs.Released as low_released
-use Rattle.client_runs.specs.State.{IsOfDeclared, Ready, State, next_cert, next_structure, on, released, signed_over, signed_text}
+use Rattle.client_runs.specs.State.{State, next_cert, next_structure, released}
 use Rattle.client_runs.specs.Steps.{Begins, Call, Client, Closed, Closes, Commits, Crashes, Gives, HasBegun, HasCommitted, HasSigned, Hears, IsLeft, IsOpened, IsSound, IsStep, Looks, Open, Opens, Owner, Parts, Signs, Takes, first}
 use Rattle.client_runs.specs.Runs.{Event, IsRun, Keys, client_of, owner}
 use Rattle.client_runs.specs.Released.{released as released_in, released_by}
+use Rattle.client_runs.proofs.Lowering.{low_begin_failed, low_begun, low_client, low_handed_back, low_left, low_opened, low_owner, low_sign_failed, low_signed, with_ready}
 use Rattle.client_runs.proofs.Quiet.{IsQuiet, gives, hears, looks, takes}
-
--- the owner, the devices and the client, as client_releases has them
-abbrev pub low_owner : Owner → low.Owner
-low_owner o = record { user = o.user; seed = o.seed; id = o.id }
-
-abbrev pub low_parts : Parts → low.Parts
-low_parts p = record { ledger = p.ledger.history; journal = p.journal.history }
-
-abbrev pub low_client : Client → low.Client
-low_client (Closed p) = low.Closed (low_parts p)
-low_client (Open s) = low.Open (released s)
 
 -- A run of what is released, after which the client is this one and these texts are released.
 pub record Mirrors (o : Owner) (client : Client) (texts : List Bytes) : Type 0 where
@@ -61,13 +47,7 @@ module _ (o : Owner) where
       texts_are = ap (λ l. low_released.released_by call (low_client after) ++ l) m.texts_are;
     }
 
-  -- ---- crashes
-
-  left : (before : Client) (p : Parts) → IsLeft before p → low.IsLeft (low_client before) (low_parts p)
-  left (Closed q) p is = record { ledger_text = is.ledger_text; journal_text = is.journal_text; ledger_may = is.ledger_may; journal_may = is.journal_may; ledger = is.ledger; journal = is.journal }
-  left (Open s) p is = record { ledger_text = is.ledger_text; journal_text = is.journal_text; ledger_may = is.ledger_may; journal_may = is.journal_may; ledger = is.ledger; journal = is.journal }
-
-  -- ---- certificates
+  -- ---- calls
 
   module _ (texts : List Bytes) (s : State) (m : Mirrors o (Open s) texts) (new : State) (sound : IsSound (Open new)) where
     same_as : new ≡ s → Mirrors o (Open new) texts
@@ -75,64 +55,23 @@ module _ (o : Owner) where
 
     module _ (changes : List (Change Digest)) (laid : List Bytes) where
       begins : (text : Bytes) → HasBegun s changes laid (Ok text) new → Mirrors o (Open new) (text ∷ texts)
-      begins text b =
-          moves texts (Open s) m (low.Declares (next_cert s changes) (Ok text)) (Open new)
-          (record { idle = b.idle; fits = b.fits; user = refl; declared = (b.declared.0, b.declared.1, ap released b.declared.2); text = b.text; tried = tt; err = tt }) sound.0 refl
+      begins text b = moves texts (Open s) m (low.Declares (next_cert s changes) (Ok text)) (Open new) (low_begun s new changes laid text b) sound.0 refl
 
       begin_fails : HasBegun s changes laid (Err error.Device) new → Mirrors o (Open new) texts
-      begin_fails b =
-          moves texts (Open s) m (low.Declares (next_cert s changes) (Err error.Device)) (Open new)
-          (record { idle = b.idle; fits = b.fits_device refl; user = refl; declared = tt; text = tt; tried = b.tried; err = ap released (b.fails refl) }) sound.0 refl
+      begin_fails b = moves texts (Open s) m (low.Declares (next_cert s changes) (Err error.Device)) (Open new) (low_begin_failed s new changes laid b) sound.0 refl
 
       begin_refused : (e : ClientError) → e ≢ error.Device → HasBegun s changes laid (Err e) new → Mirrors o (Open new) texts
       begin_refused e other b = same_as (b.err other)
 
-    -- ---- structures
+    signs : (text : Bytes) → IsSound (Open s) → HasSigned s (Ok text) new → Mirrors o (Open new) (text ∷ texts)
+    signs text before b =
+        with_ready s (Mirrors o (Open new) (text ∷ texts)) b.ready
+        (λ y ready. moves texts (Open s) m (low.Signs (next_structure s y) (Ok text)) (Open new) (low_signed s new y ready text before b) sound.0 tt)
 
-    module _ (y : Ready) (ready : s.accepted ≡ Some y) where
-      if_ready : (P : Ready → Type 0) → IfSome s.accepted P → P y
-      if_ready P p = subst (λ (a : Option Ready). IfSome a P) ready p
-
-      of_declared : IsSound (Open s) → IsOfDeclared (released s) y.lists.own.plan
-      of_declared before = if_ready (λ r. IsOfDeclared (released s) r.lists.own.plan) before.1.of_accepted
-
-      signs : (text : Bytes) → IsSound (Open s) → HasSigned s (Ok text) new → Mirrors o (Open new) (text ∷ texts)
-      signs text before b =
-          let declared = of_declared before in
-          let done = if_ready (λ r. (leaf : LeafNumber) × IsKept leaf (structure_record (signed_text s leaf r)) s.devices new.devices × (new ≡ on new.devices (signed_over s leaf r))) b.signed in
-          moves texts (Open s) m (low.Signs (next_structure s y) (Ok text)) (Open new)
-          (record {
-            declared = declared.is_declared;
-            fits = if_ready (λ r. structure.Fits (next_structure s r)) b.fits;
-            user = declared.user;
-            number = declared.number;
-            signed = (done.0, done.1, ap released done.2);
-            text = b.text;
-            tried = tt;
-            err = tt;
-          }) sound.0 tt
-
-      sign_fails : IsSound (Open s) → HasSigned s (Err error.Device) new → Mirrors o (Open new) texts
-      sign_fails before b =
-          let declared = of_declared before in
-          moves texts (Open s) m (low.Signs (next_structure s y) (Err error.Device)) (Open new)
-          (record {
-            declared = declared.is_declared;
-            fits = if_ready (λ r. structure.Fits (next_structure s r)) (b.fits_device refl);
-            user = declared.user;
-            number = declared.number;
-            signed = tt;
-            text = tt;
-            tried = if_ready (λ r. IsTried (λ leaf. structure_record (signed_text s leaf r)) s.devices new.devices) b.tried;
-            err = ap released (b.fails refl);
-          }) sound.0 tt
-
-    with_ready : (P : Type 0) → IsSome s.accepted → ((y : Ready) → s.accepted ≡ Some y → P) → P
-    with_ready P some each = go s.accepted refl some
-      where
-        go : (a : Option Ready) → s.accepted ≡ a → IsSome a → P
-        go None is some = absurd (cc some)
-        go (Some y) is some = each y is
+    sign_fails : IsSound (Open s) → HasSigned s (Err error.Device) new → Mirrors o (Open new) texts
+    sign_fails before b =
+        with_ready s (Mirrors o (Open new) texts) b.ready
+        (λ y ready. moves texts (Open s) m (low.Signs (next_structure s y) (Err error.Device)) (Open new) (low_sign_failed s new y ready before b) sound.0 tt)
 
     sign_refused : (e : ClientError) → e ≢ error.Device → HasSigned s (Err e) new → Mirrors o (Open new) texts
     sign_refused e other b = same_as (b.err other)
@@ -145,12 +84,12 @@ module _ (o : Owner) where
 
   step : (texts : List Bytes) (before : Client) (call : Call) (after : Client) → Mirrors o before texts → IsSound before → IsStep o before call after → IsSound after → Mirrors o after (released_by call after ++ texts)
   step texts (Closed p) (Opens (Ok x)) (Open s) m was is sound =
-      moves texts (Closed p) m (low.Opens (Ok x)) (Open s) (record { user = is.user; seed = is.seed; id = is.id; told = is.told; moments = is.moments }) sound.0 tt
+      moves texts (Closed p) m (low.Opens (Ok x)) (Open s) (low_opened o p s is) sound.0 tt
   step texts (Closed p) (Opens (Err e)) (Closed q) m was is sound = moves texts (Closed p) m (low.Opens (Err e)) (Closed q) is.moments tt tt
-  step texts (Closed p) Crashes (Closed q) m was is sound = moves texts (Closed p) m low.Crashes (Closed q) (left (Closed p) q is) tt tt
+  step texts (Closed p) Crashes (Closed q) m was is sound = moves texts (Closed p) m low.Crashes (Closed q) (low_left (Closed p) q is) tt tt
   step texts (Closed p) call after m was is sound = absurd is
-  step texts (Open s) Closes (Closed p) m was is sound = moves texts (Open s) m low.Closes (Closed p) (record { ledger = is.ledger; journal = is.journal }) tt tt
-  step texts (Open s) Crashes (Closed p) m was is sound = moves texts (Open s) m low.Crashes (Closed p) (left (Open s) p is) tt tt
+  step texts (Open s) Closes (Closed p) m was is sound = moves texts (Open s) m low.Closes (Closed p) (low_handed_back s p is) tt tt
+  step texts (Open s) Crashes (Closed p) m was is sound = moves texts (Open s) m low.Crashes (Closed p) (low_left (Open s) p is) tt tt
   step texts (Open s) (Begins changes laid (Ok text)) (Open new) m was is sound = begins texts s m new sound changes laid text is
   step texts (Open s) (Begins changes laid (Err error.Memory)) (Open new) m was is sound = begin_refused texts s m new sound changes laid error.Memory (λ d. cc d) is
   step texts (Open s) (Begins changes laid (Err error.NoLeaf)) (Open new) m was is sound = begin_refused texts s m new sound changes laid error.NoLeaf (λ d. cc d) is
@@ -160,12 +99,10 @@ module _ (o : Owner) where
   step texts (Open s) (Begins changes laid (Err error.Damaged)) (Open new) m was is sound = begin_refused texts s m new sound changes laid error.Damaged (λ d. cc d) is
   step texts (Open s) (Hears text answer) (Open new) m was is sound = quiet texts (Open s) m (Open new) (ap low.Open (hears s text answer new is))
   step texts (Open s) (Takes block answer) (Open new) m was is sound = quiet texts (Open s) m (Open new) (ap low.Open (takes s block answer new is))
-  step texts (Open s) (Signs (Ok text)) (Open new) m was is sound =
-      with_ready texts s m new sound (Mirrors o (Open new) (text ∷ texts)) is.ready (λ y ready. signs texts s m new sound y ready text was is)
+  step texts (Open s) (Signs (Ok text)) (Open new) m was is sound = signs texts s m new sound text was is
   step texts (Open s) (Signs (Err error.Memory)) (Open new) m was is sound = sign_refused texts s m new sound error.Memory (λ d. cc d) is
   step texts (Open s) (Signs (Err error.NoLeaf)) (Open new) m was is sound = sign_refused texts s m new sound error.NoLeaf (λ d. cc d) is
-  step texts (Open s) (Signs (Err error.Device)) (Open new) m was is sound =
-      with_ready texts s m new sound (Mirrors o (Open new) texts) is.ready (λ y ready. sign_fails texts s m new sound y ready was is)
+  step texts (Open s) (Signs (Err error.Device)) (Open new) m was is sound = sign_fails texts s m new sound was is
   step texts (Open s) (Signs (Err error.NoNumber)) (Open new) m was is sound = sign_refused texts s m new sound error.NoNumber (λ d. cc d) is
   step texts (Open s) (Signs (Err error.Foreign)) (Open new) m was is sound = sign_refused texts s m new sound error.Foreign (λ d. cc d) is
   step texts (Open s) (Signs (Err error.Damaged)) (Open new) m was is sound = sign_refused texts s m new sound error.Damaged (λ d. cc d) is

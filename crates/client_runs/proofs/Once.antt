@@ -7,7 +7,8 @@ use Rattle.release_runs.proofs.Runs.{certificates_once as low_certificates, leav
 use Rattle.client_runs.specs.Released.{released}
 use Rattle.client_runs.specs.Runs.{owner}
 use Rattle.client_runs.specs.UsedOnce.{CertificatesOnce, EachClient, LeavesOnce, StructuresOnce}
-use Rattle.client_runs.proofs.Mirrors.{low_owner, mirrors}
+use Rattle.client_runs.proofs.Lowering.{low_owner}
+use Rattle.client_runs.proofs.Mirrors.{mirrors}
 
 -- one of the texts of the mirror
 in_mirror : (low texts : List Bytes) (a : Bytes) → low ≡ texts → Contains texts a → Contains low a

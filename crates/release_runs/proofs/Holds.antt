@@ -1,6 +1,8 @@
 -- What holds of a user's client after each step of a run.
-use Rattle.std.proofs.Common.{◌≡◌, List, ◌++◌, Option, Some, None, IfSome, sym, ap, ◌∙◌, subst, inl, inr}
+use Rattle.std.proofs.Common.{◌≡◌, ℕ, ◌+◌, List, [], ◌∷◌, ◌++◌, Option, Some, None, IfSome, refl, sym, ap, ◌∙◌, subst, inl, inr}
+use Rattle.std.specs.Prelude.{◌⊎◌}
 use Rattle.layout.specs.Types.{Bytes}
+use Rattle.client_releases.specs.declared.phase.Phase.{Phase}
 use Rattle.client_releases.specs.declared.phase.Phase.TheVariants as phase
 use Rattle.client_releases.specs.Releasing.{Devices}
 use Rattle.client_releases.specs.Told.{IsPhase, Released}
@@ -36,11 +38,9 @@ module _ (o : Owner) where
   IsOwnClient story tried (Closed p) = Unit {0}
   IsOwnClient story tried (Open s) = IsOwn story tried s
 
-  -- After a run the client has a story, which its devices tell, and the texts that it released are those of the story. Where
-  -- all certificates of the run are in turn, so are those of the story.
-  pub record Holds (InTurn : Type 0) (client : Client) (texts : List Bytes) : Type 0 where
-    pub story : List Release
-    pub tried : Option Release
+  -- After a run the client has this story, which its devices tell, and this was tried since: the texts that it released are
+  -- those of the story. Where all certificates of the run are in turn, so are those of the story.
+  pub record Holds (InTurn : Type 0) (story : List Release) (tried : Option Release) (client : Client) (texts : List Bytes) : Type 0 where
     pub is_story : IsStory o story
     pub is_tried : IfSome tried (IsAfter o story)
     pub numbered : InTurn → IsNumbered (with_tried tried story)
@@ -49,18 +49,28 @@ module _ (o : Owner) where
     pub released : (a : Bytes) → In a texts → (r : Release) × In r story × (a ≡ text o r)
     pub kept : (r : Release) → In r story → In (text o r) texts
 
+  -- what holds on weaker terms
+  pub where_in_turn : (A B : Type 0) (story : List Release) (tried : Option Release) (client : Client) (texts : List Bytes) → (B → A) → Holds A story tried client texts → Holds B story tried client texts
+  where_in_turn A B story tried client texts turn h = record {
+    is_story = h.is_story;
+    is_tried = h.is_tried;
+    numbered = λ t. h.numbered (turn t);
+    lies = h.lies;
+    own = h.own;
+    released = h.released;
+    kept = h.kept;
+  }
+
   -- what holds after one step more
-  abbrev pub HoldsAfter : Type 0 → Client → List Bytes → Call → Client → Type 0
-  HoldsAfter InTurn before texts call after = Holds (IsInTurn before call × InTurn) after (released_by call after ++ texts)
+  abbrev pub HoldsAfter : Type 0 → List Release → Option Release → Client → List Bytes → Call → Client → Type 0
+  HoldsAfter InTurn story tried before texts call after = Holds (IsInTurn before call × InTurn) story tried after (released_by call after ++ texts)
 
   -- ---- a step that releases nothing
 
-  module _ (InTurn Now : Type 0) (texts : List Bytes) (turn : Now → InTurn) where
+  module _ (InTurn Now : Type 0) (story : List Release) (tried : Option Release) (texts : List Bytes) (turn : Now → InTurn) where
     -- it leaves the client closed
-    pub closes : (before : Client) (p : Parts) → (h : Holds InTurn before texts) → Lies o h.story h.tried p.ledger p.journal → Holds Now (Closed p) texts
+    pub closes : (before : Client) (p : Parts) → (h : Holds InTurn story tried before texts) → Lies o story tried p.ledger p.journal → Holds Now story tried (Closed p) texts
     closes before p h lies = record {
-      story = h.story;
-      tried = h.tried;
       is_story = h.is_story;
       is_tried = h.is_tried;
       numbered = λ t. h.numbered (turn t);
@@ -71,14 +81,12 @@ module _ (o : Owner) where
     }
 
     -- or the structure is committed
-    pub commits : (s new : Released) → Holds InTurn (Open s) texts → HasCommitted s new → Holds Now (Open new) texts
+    pub commits : (s new : Released) → Holds InTurn story tried (Open s) texts → HasCommitted s new → Holds Now story tried (Open new) texts
     commits s new h is = record {
-      story = h.story;
-      tried = h.tried;
       is_story = h.is_story;
       is_tried = h.is_tried;
       numbered = λ t. h.numbered (turn t);
-      lies = subst (λ (d : Devices). Lies o h.story h.tried d.ledger.file d.journal.file) (sym (ap (λ (r : Released). r.devices) is.state)) h.lies;
+      lies = subst (λ (d : Devices). Lies o story tried d.ledger.file d.journal.file) (sym (ap (λ (r : Released). r.devices) is.state)) h.lies;
       own = record {
         user = ap (λ (r : Released). r.user) is.state ∙ h.own.user;
         seed = ap (λ (r : Released). r.seed) is.state ∙ h.own.seed;
@@ -89,14 +97,14 @@ module _ (o : Owner) where
       kept = h.kept;
     }
       where
-        at : IsAt h.story h.tried s
+        at : IsAt story tried s
         at = h.own.stands (λ down. let two : phase.Signed ≡ phase.Failed = sym is.signed ∙ down in cc two)
 
-        idle : IsPhase (phase_in h.story) s.phase → IsPhase (phase_in h.story) new.phase
+        idle : IsPhase (phase_in story) s.phase → IsPhase (phase_in story) new.phase
         idle (inl same) = inr (sym same ∙ is.signed, ap (λ (r : Released). r.phase) is.state)
         idle (inr other) = absurd (let two : phase.Signed ≡ phase.Idle = sym is.signed ∙ other.1 in cc two)
 
-        committed : IsAt h.story h.tried new
+        committed : IsAt story tried new
         committed = record {
           none_tried = at.none_tried;
           number = ap (λ (r : Released). r.number) is.state ∙ at.number;

@@ -1,9 +1,9 @@
-mod Members
-mod Texts
+pub mod Members
+pub mod Texts
 pub mod Stories
 pub mod Once
 pub mod Files
 pub mod Holds
-mod Releasing
-mod Opening
+pub mod Releasing
+pub mod Opening
 pub mod Runs

@@ -1,5 +1,5 @@
 -- What holds after a client is opened.
-use Rattle.std.proofs.Common.{◌≡◌, ◌<◌, List, [], ◌∷◌, ◌++◌, length, Option, Some, None, Ok, IfSome, refl, sym, ap, ◌∙◌, subst, inl, inr, arith}
+use Rattle.std.proofs.Common.{◌≡◌, ℕ, ◌+◌, ◌<◌, List, [], ◌∷◌, ◌++◌, length, Option, Some, None, Ok, IfSome, refl, sym, ap, ◌∙◌, subst, inl, inr, arith}
 use Rattle.std.specs.Prelude.{◌⊎◌}
 use Rattle.layout.specs.Types.{Bytes}
 use Rattle.lms_sign.specs.Signature.{signature_of}
@@ -8,7 +8,7 @@ use Rattle.leaf_ledger.specs.Device.{Disk, MayLeave}
 use Rattle.leaf_ledger.specs.Life.{IsSure}
 use Rattle.leaf_ledger.specs.Moments.{rest_only}
 use Rattle.client_journal.specs.Life.{IsPossible}
-use Rattle.client_journal.specs.Records.{State as Recorded, Tells, TellsState, state_of}
+use Rattle.client_journal.specs.Records.{Record, State as Recorded, Tells, TellsState, state_of}
 use Rattle.client_journal.proofs.Chains.{one_telling}
 use Rattle.version_order.specs.Structure.{structure}
 use Rattle.update_cert.specs.Cert.{cert}
@@ -25,11 +25,11 @@ use Rattle.release_runs.proofs.Texts.{long_text}
 -- ---- what a file tells of a story
 
 -- a story, or one with what was tried
-abbrev IsOf : List Release → Option Release → List Release → Type 0
+abbrev pub IsOf : List Release → Option Release → List Release → Type 0
 IsOf story tried one = (one ≡ story) ⊎ ((r : Release) × (tried ≡ Some r) × (one ≡ r ∷ story))
 
 -- The file tells this story of the two.
-record Reads (o : Owner) (story : List Release) (tried : Option Release) (file : Bytes) (told : Told) : Type 0 where
+pub record Reads (o : Owner) (story : List Release) (tried : Option Release) (file : Bytes) (told : Told) : Type 0 where
   one : List Release
   is_of : IsOf story tried one
   is_story : IsStory o one
@@ -96,13 +96,13 @@ signed_long o (r ∷ older) e = long_release o r
 
 -- ---- the step
 
-module _ (o : Owner) (InTurn : Type 0) (texts : List Bytes) (p : Parts) (h : Holds o InTurn (Closed p) texts) (s : Released) (opens : IsOpened o p s) (sound : IsReleased s) where
-  after : Lies o h.story h.tried s.devices.ledger.file s.devices.journal.file
-  after = lies_on o h.story h.tried p.ledger p.journal s.devices.ledger.file s.devices.journal.file h.lies opens.moments.leaves opens.moments.records
+module _ (o : Owner) (InTurn : Type 0) (story : List Release) (tried : Option Release) (texts : List Bytes) (p : Parts) (h : Holds o InTurn story tried (Closed p) texts) (s : Released) (opens : IsOpened o p s) (sound : IsReleased s) where
+  after : Lies o story tried s.devices.ledger.file s.devices.journal.file
+  after = lies_on o story tried p.ledger p.journal s.devices.ledger.file s.devices.journal.file h.lies opens.moments.leaves opens.moments.records
 
-  before_told : Reads o h.story h.tried p.journal.now.text (told_of s.phase s)
+  before_told : Reads o story tried p.journal.now.text (told_of s.phase s)
   before_told =
-      read_file o h.story h.tried h.is_story h.is_tried p.journal.now.text (h.lies.tells p.journal.now.text (inl refl))
+      read_file o story tried h.is_story h.is_tried p.journal.now.text (h.lies.tells p.journal.now.text (inl refl))
       opens.told.recorded opens.told.tells (told_of s.phase s) (ap (λ u. told_by u opens.told.recorded) (sym opens.user) ∙ opens.told.told)
 
   phase_before : s.phase ≡ phase_in before_told.one
@@ -114,9 +114,9 @@ module _ (o : Owner) (InTurn : Type 0) (texts : List Bytes) (p : Parts) (h : Hol
   stands : Stands s
   stands = sound.stands up
 
-  now_told : Reads o h.story h.tried s.devices.journal.file.now.text (told_of stands.told_phase s)
+  now_told : Reads o story tried s.devices.journal.file.now.text (told_of stands.told_phase s)
   now_told =
-      read_file o h.story h.tried h.is_story h.is_tried s.devices.journal.file.now.text (after.tells s.devices.journal.file.now.text (inl refl))
+      read_file o story tried h.is_story h.is_tried s.devices.journal.file.now.text (after.tells s.devices.journal.file.now.text (inl refl))
       stands.recorded stands.tells (told_of stands.told_phase s) (ap (λ u. told_by u stands.recorded) (sym opens.user) ∙ stands.told)
 
   told_phase : stands.told_phase ≡ phase_in now_told.one
@@ -131,32 +131,32 @@ module _ (o : Owner) (InTurn : Type 0) (texts : List Bytes) (p : Parts) (h : Hol
       absurd (omega arith)
 
   -- What is so of the story that the journal tells now.
-  record Found (story : List Release) : Type 0 where
-    is_story : IsStory o story
-    numbered : InTurn → IsNumbered story
-    lies : Lies o story None s.devices.ledger.file s.devices.journal.file
-    number : s.number ≡ number_in story
-    last : s.last ≡ last_in o story
-    text : s.text ≡ text_in o story
-    phase : s.phase ≡ phase_in story
+  record Found (one : List Release) : Type 0 where
+    is_story : IsStory o one
+    numbered : InTurn → IsNumbered one
+    lies : Lies o one None s.devices.ledger.file s.devices.journal.file
+    number : s.number ≡ number_in one
+    last : s.last ≡ last_in o one
+    text : s.text ≡ text_in o one
+    phase : s.phase ≡ phase_in one
 
   only_file : (file : Bytes) → IsPossible s.devices.journal.file file → file ≡ s.devices.journal.file.now.text
   only_file file (inl same) = same
   only_file file (inr may) = rest_only s.devices.journal.file.now.text file (subst (λ (d : Disk). MayLeave d file) stands.journal_rests may)
 
-  still_used : (one : List Release) → IsOf h.story h.tried one → (r : Release) → In r one → IsSure s.devices.ledger.file (leaf r)
-  still_used one (inl same) r i = after.used r (in_either h.tried (subst (λ (l : List Release). In r l) same i))
+  still_used : (one : List Release) → IsOf story tried one → (r : Release) → In r one → IsSure s.devices.ledger.file (leaf r)
+  still_used one (inl same) r i = after.used r (in_either tried (subst (λ (l : List Release). In r l) same i))
     where
-      in_either : (tried : Option Release) → In r h.story → In r (with_tried tried h.story)
+      in_either : (some : Option Release) → In r story → In r (with_tried some story)
       in_either None j = j
       in_either (Some x) j = inr j
-  still_used one (inr (x, tried, same)) r i =
-      after.used r (subst (λ (t : Option Release). In r (with_tried t h.story)) (sym tried) (subst (λ (l : List Release). In r l) same i))
+  still_used one (inr (x, some, same)) r i =
+      after.used r (subst (λ (t : Option Release). In r (with_tried t story)) (sym some) (subst (λ (l : List Release). In r l) same i))
 
-  one_numbered : (one : List Release) → IsOf h.story h.tried one → InTurn → IsNumbered one
-  one_numbered one (inl same) t = subst (λ (l : List Release). IsNumbered l) (sym same) (numbered_older h.story h.tried (h.numbered t))
-  one_numbered one (inr (x, tried, same)) t =
-      subst (λ (l : List Release). IsNumbered l) (sym same) (subst (λ (y : Option Release). IsNumbered (with_tried y h.story)) tried (h.numbered t))
+  one_numbered : (one : List Release) → IsOf story tried one → InTurn → IsNumbered one
+  one_numbered one (inl same) t = subst (λ (l : List Release). IsNumbered l) (sym same) (numbered_older story tried (h.numbered t))
+  one_numbered one (inr (x, some, same)) t =
+      subst (λ (l : List Release). IsNumbered l) (sym same) (subst (λ (y : Option Release). IsNumbered (with_tried y story)) some (h.numbered t))
 
   found : Found now_told.one
   found = record {
@@ -173,11 +173,9 @@ module _ (o : Owner) (InTurn : Type 0) (texts : List Bytes) (p : Parts) (h : Hol
   }
 
   module _ (x : Unit {0}) where
-    holds : (story : List Release) → Found story → ((a : Bytes) → In a texts → (r : Release) × In r story × (a ≡ text o r)) → ((r : Release) → In r story → In (text o r) (found_text s.text ++ texts))
-        → HoldsAfter o InTurn (Closed p) texts (Opens (Ok x)) (Open s)
-    holds story f released kept = record {
-      story = story;
-      tried = None;
+    holds : (one : List Release) → Found one → ((a : Bytes) → In a texts → (r : Release) × In r one × (a ≡ text o r)) → ((r : Release) → In r one → In (text o r) (found_text s.text ++ texts))
+        → HoldsAfter o InTurn one None (Closed p) texts (Opens (Ok x)) (Open s)
+    holds one f released kept = record {
       is_story = f.is_story;
       is_tried = tt;
       numbered = λ t. f.numbered t.1;
@@ -189,27 +187,28 @@ module _ (o : Owner) (InTurn : Type 0) (texts : List Bytes) (p : Parts) (h : Hol
         stands = λ _. record { none_tried = refl; number = f.number; last = f.last; text = f.text; phase = inl f.phase };
       };
       released = λ a i. elim (in-append a (found_text s.text) texts i) [
-        | inl j ↦ found_of o story a (subst (λ (t : Bytes). In a (found_text t)) f.text j)
+        | inl j ↦ found_of o one a (subst (λ (t : Bytes). In a (found_text t)) f.text j)
         | inr j ↦ released a j
       ];
       kept = kept;
     }
 
-    old_story : Found h.story → HoldsAfter o InTurn (Closed p) texts (Opens (Ok x)) (Open s)
-    old_story f = holds h.story f h.released (λ r i. in-right (text o r) (found_text s.text) texts (h.kept r i))
+    old_story : Found story → HoldsAfter o InTurn story None (Closed p) texts (Opens (Ok x)) (Open s)
+    old_story f = holds story f h.released (λ r i. in-right (text o r) (found_text s.text) texts (h.kept r i))
 
-    new_story : (r : Release) → Found (r ∷ h.story) → HoldsAfter o InTurn (Closed p) texts (Opens (Ok x)) (Open s)
-    new_story r f = holds (r ∷ h.story) f (λ a i. let k = h.released a i in (k.0, inr k.1, k.2)) kept
+    new_story : (r : Release) → Found (r ∷ story) → HoldsAfter o InTurn (r ∷ story) None (Closed p) texts (Opens (Ok x)) (Open s)
+    new_story r f = holds (r ∷ story) f (λ a i. let k = h.released a i in (k.0, inr k.1, k.2)) kept
       where
-        kept : (y : Release) → In y (r ∷ h.story) → In (text o y) (found_text s.text ++ texts)
+        kept : (y : Release) → In y (r ∷ story) → In (text o y) (found_text s.text ++ texts)
         kept y (inl e) =
             in-left (text o y) (found_text s.text) texts
             (subst (λ (t : Bytes). In (text o y) (found_text t)) (ap (text o) e ∙ sym f.text) (found_has (text o y) (long_release o y)))
         kept y (inr i) = in-right (text o y) (found_text s.text) texts (h.kept y i)
 
-    pub opened_holds : HoldsAfter o InTurn (Closed p) texts (Opens (Ok x)) (Open s)
+    -- the story is the one of before, or that and what was tried
+    pub opened_holds : (one : List Release) × IsOf story tried one × (s.phase ≡ phase_in one) × HoldsAfter o InTurn one None (Closed p) texts (Opens (Ok x)) (Open s)
     opened_holds = go now_told.is_of
       where
-        go : IsOf h.story h.tried now_told.one → HoldsAfter o InTurn (Closed p) texts (Opens (Ok x)) (Open s)
-        go (inl same) = old_story (subst (λ (l : List Release). Found l) same found)
-        go (inr (r, tried, same)) = new_story r (subst (λ (l : List Release). Found l) same found)
+        go : IsOf story tried now_told.one → (one : List Release) × IsOf story tried one × (s.phase ≡ phase_in one) × HoldsAfter o InTurn one None (Closed p) texts (Opens (Ok x)) (Open s)
+        go (inl same) = let f = subst (λ (l : List Release). Found l) same found in (story, inl refl, f.phase, old_story f)
+        go (inr (r, some, same)) = let f = subst (λ (l : List Release). Found l) same found in (r ∷ story, inr (r, some, refl), f.phase, new_story r f)

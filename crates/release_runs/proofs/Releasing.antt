@@ -1,5 +1,6 @@
 -- What holds after a certificate is declared, and after a structure is signed.
-use Rattle.std.proofs.Common.{◌≡◌, ◌+◌, ◌<◌, List, ◌∷◌, ◌++◌, Option, Some, None, Ok, Err, IfSome, refl, sym, ap, ◌∙◌, subst, inl, inr}
+use Rattle.std.proofs.Common.{◌≡◌, ℕ, ◌+◌, ◌<◌, List, [], ◌∷◌, ◌++◌, Option, Some, None, Ok, Err, IfSome, refl, sym, ap, ◌∙◌, subst, inl, inr}
+use Rattle.std.specs.Prelude.{◌⊎◌}
 use Rattle.layout.specs.Types.{Bytes}
 use Rattle.lms_sign.specs.Signature.{signature_of}
 use Rattle.leaf_ledger.specs.Ledger.{LeafNumber}
@@ -15,10 +16,11 @@ use Rattle.client_releases.specs.declared.phase.Phase.{Phase}
 use Rattle.client_releases.specs.declared.phase.Phase.TheVariants as phase
 use Rattle.client_releases.specs.Releasing.{IsTried, cert_record, structure_record}
 use Rattle.client_releases.specs.Told.{IsPhase, Released, sent}
-use Rattle.release_runs.specs.Steps.{Declares, HasDeclared, HasSigned, Open, Owner, Signs, failed}
+use Rattle.release_runs.specs.Steps.{Call, Client, Declares, HasDeclared, HasSigned, Open, Owner, Signs, failed}
 use Rattle.release_runs.proofs.Files.{Lies, fresh_leaf, lies_on, lies_tried, lies_with, with_tried}
 use Rattle.release_runs.proofs.Holds.{Holds, HoldsAfter, IsAt, numbered_older}
-use Rattle.release_runs.proofs.Stories.{IsAfter, IsNumbered, OfCert, OfStructure, Release, phase_in, record_of, text}
+use Rattle.release_runs.proofs.Members.{In}
+use Rattle.release_runs.proofs.Stories.{IsAfter, IsNumbered, OfCert, OfStructure, Release, last_in, number_in, phase_in, record_of, text, text_in}
 
 -- a client that is idle declares nothing
 not_declared : (told now : Phase) → IsPhase told now → now ≡ phase.Idle → told ≡ phase.Declared → ⊥
@@ -30,12 +32,20 @@ is_declared : (told now : Phase) → IsPhase told now → now ≡ phase.Declared
 is_declared told now (inl same) declared = sym same ∙ declared
 is_declared told now (inr other) declared = let two : phase.Declared ≡ phase.Idle = sym declared ∙ other.1 in absurd (cc two)
 
-module _ (o : Owner) (InTurn : Type 0) (texts : List Bytes) (s : Released) (h : Holds o InTurn (Open s) texts) where
-  lies_none : h.tried ≡ None → Lies o h.story None s.devices.ledger.file s.devices.journal.file
-  lies_none none = subst (λ (t : Option Release). Lies o h.story t s.devices.ledger.file s.devices.journal.file) none h.lies
+-- nothing was tried, or this certificate
+abbrev pub IsTriedCert : Cert → Option Release → Type 0
+IsTriedCert c some = (some ≡ None) ⊎ ((q : LeafNumber) × (some ≡ Some (OfCert c q)))
 
-  story_numbered : InTurn → IsNumbered h.story
-  story_numbered t = numbered_older h.story h.tried (h.numbered t)
+-- nothing was tried, or this structure
+abbrev pub IsTriedStructure : Structure → Option Release → Type 0
+IsTriedStructure z some = (some ≡ None) ⊎ ((q : LeafNumber) × (some ≡ Some (OfStructure z q)))
+
+module _ (o : Owner) (InTurn : Type 0) (story : List Release) (tried : Option Release) (texts : List Bytes) (s : Released) (h : Holds o InTurn story tried (Open s) texts) where
+  lies_none : tried ≡ None → Lies o story None s.devices.ledger.file s.devices.journal.file
+  lies_none none = subst (λ (t : Option Release). Lies o story t s.devices.ledger.file s.devices.journal.file) none h.lies
+
+  story_numbered : InTurn → IsNumbered story
+  story_numbered t = numbered_older story tried (h.numbered t)
 
   -- a text that was signed by the client is one signed by its owner
   same_sent : (m : Bytes) (q : LeafNumber) → sent s q m ≡ m ++ signature_of o.seed o.id q m
@@ -45,10 +55,8 @@ module _ (o : Owner) (InTurn : Type 0) (texts : List Bytes) (s : Released) (h : 
 
   module _ (new : Released) (is : new ≡ failed new.devices s) where
     -- a call that released nothing, and after which no client stands
-    fails : (tried : Option Release) (Now : Type 0) → IfSome tried (IsAfter o h.story) → (Now → IsNumbered (with_tried tried h.story)) → Lies o h.story tried new.devices.ledger.file new.devices.journal.file → Holds o Now (Open new) texts
-    fails tried Now is_tried numbered lies = record {
-      story = h.story;
-      tried = tried;
+    fails : (some : Option Release) (Now : Type 0) → IfSome some (IsAfter o story) → (Now → IsNumbered (with_tried some story)) → Lies o story some new.devices.ledger.file new.devices.journal.file → Holds o Now story some (Open new) texts
+    fails some Now is_tried numbered lies = record {
       is_story = h.is_story;
       is_tried = is_tried;
       numbered = numbered;
@@ -67,23 +75,23 @@ module _ (o : Owner) (InTurn : Type 0) (texts : List Bytes) (s : Released) (h : 
 
   module _ (c : Cert) (new : Released) where
     module _ (idle : s.phase ≡ phase.Idle) where
-      at_idle : IsAt o h.story h.tried s
+      at_idle : IsAt o story tried s
       at_idle = h.own.stands (λ down. let two : phase.Idle ≡ phase.Failed = sym idle ∙ down in cc two)
 
       cert_is : (q : LeafNumber) → cert_record (sent s q (cert.spell c)) ≡ record_of o (OfCert c q)
       cert_is q = ap cert_record (same_sent (cert.spell c) q)
 
-      cert_after : (q : LeafNumber) → q < 1024 → cert.Fits c → c.user ≡ s.user → Handed (Some q) s.devices.ledger.file new.devices.ledger.file → IsAfter o h.story (OfCert c q)
+      cert_after : (q : LeafNumber) → q < 1024 → cert.Fits c → c.user ≡ s.user → Handed (Some q) s.devices.ledger.file new.devices.ledger.file → IsAfter o story (OfCert c q)
       cert_after q small fits user taken = record {
-        next = record { turn = not_declared (phase_in h.story) s.phase at_idle.phase idle; fits = fits; user = user ∙ h.own.user };
+        next = record { turn = not_declared (phase_in story) s.phase at_idle.phase idle; fits = fits; user = user ∙ h.own.user };
         small = small;
-        fresh = fresh_leaf o h.story s.devices.ledger.file s.devices.journal.file new.devices.ledger.file q (lies_none at_idle.none_tried) taken;
+        fresh = fresh_leaf o story s.devices.ledger.file s.devices.journal.file new.devices.ledger.file q (lies_none at_idle.none_tried) taken;
       }
 
-      cert_numbered : (q : LeafNumber) → c.number ≡ s.number + 1 → InTurn → IsNumbered (OfCert c q ∷ h.story)
+      cert_numbered : (q : LeafNumber) → c.number ≡ s.number + 1 → InTurn → IsNumbered (OfCert c q ∷ story)
       cert_numbered q next t = (next ∙ ap (λ n. n + 1) at_idle.number, story_numbered t)
 
-    pub declares : (answer : Bytes) → HasDeclared s c (Ok answer) new → HoldsAfter o InTurn (Open s) texts (Declares c (Ok answer)) (Open new)
+    pub declares : (answer : Bytes) → HasDeclared s c (Ok answer) new → (q : LeafNumber) × HoldsAfter o InTurn (OfCert c q ∷ story) None (Open s) texts (Declares c (Ok answer)) (Open new)
     declares answer b =
         let at = at_idle b.idle in
         let q = b.declared.0 in
@@ -91,14 +99,12 @@ module _ (o : Owner) (InTurn : Type 0) (texts : List Bytes) (s : Released) (h : 
         let is = b.declared.2 in
         let r = OfCert c q in
         let given : answer ≡ text o r = b.text ∙ ap (λ (n : Released). n.text) is ∙ same_sent (cert.spell c) q in
-        record {
-          story = r ∷ h.story;
-          tried = None;
+        (q, record {
           is_story = (cert_after b.idle q kept.least.below b.fits b.user kept.taken, h.is_story);
           is_tried = tt;
           numbered = λ t. cert_numbered b.idle q t.0 t.1;
           lies =
-              lies_with o h.story r s.devices.ledger.file s.devices.journal.file new.devices.ledger.file new.devices.journal.file (lies_none at.none_tried) kept.taken
+              lies_with o story r s.devices.ledger.file s.devices.journal.file new.devices.ledger.file new.devices.journal.file (lies_none at.none_tried) kept.taken
               (subst (λ (x : Record). Added (Appended x) s.devices.journal.file new.devices.journal.file) (cert_is b.idle q) kept.added);
           own = record {
             user = ap (λ (n : Released). n.user) is ∙ h.own.user;
@@ -114,47 +120,47 @@ module _ (o : Owner) (InTurn : Type 0) (texts : List Bytes) (s : Released) (h : 
           };
           released = λ a i. elim i [ | inl e ↦ (r, inl refl, e ∙ given) | inr j ↦ (let k = h.released a j in (k.0, inr k.1, k.2)) ];
           kept = λ x i. elim i [ | inl e ↦ inl (ap (text o) e ∙ sym given) | inr j ↦ inr (h.kept x j) ];
-        }
+        })
 
-    pub declare_fails : (e : ClientError) → HasDeclared s c (Err e) new → HoldsAfter o InTurn (Open s) texts (Declares c (Err e)) (Open new)
+    pub declare_fails : (e : ClientError) → HasDeclared s c (Err e) new → (some : Option Release) × IsTriedCert c some × HoldsAfter o InTurn story some (Open s) texts (Declares c (Err e)) (Open new)
     declare_fails e b = go b.tried
       where
-        at : IsAt o h.story h.tried s
+        at : IsAt o story tried s
         at = at_idle b.idle
 
-        go : IsTried (λ q. cert_record (sent s q (cert.spell c))) s.devices new.devices → HoldsAfter o InTurn (Open s) texts (Declares c (Err e)) (Open new)
+        go : IsTried (λ q. cert_record (sent s q (cert.spell c))) s.devices new.devices → (some : Option Release) × IsTriedCert c some × HoldsAfter o InTurn story some (Open s) texts (Declares c (Err e)) (Open new)
         go (inl none) =
-            fails new b.err None ((c.number ≡ s.number + 1) × InTurn) tt (λ t. story_numbered t.1)
-            (lies_on o h.story None s.devices.ledger.file s.devices.journal.file new.devices.ledger.file new.devices.journal.file (lies_none at.none_tried) none.0 none.1)
+            (None, inl refl, fails new b.err None ((c.number ≡ s.number + 1) × InTurn) tt (λ t. story_numbered t.1)
+            (lies_on o story None s.devices.ledger.file s.devices.journal.file new.devices.ledger.file new.devices.journal.file (lies_none at.none_tried) none.0 none.1))
         go (inr (q, least, taken, added)) =
-            fails new b.err (Some (OfCert c q)) ((c.number ≡ s.number + 1) × InTurn)
+            (Some (OfCert c q), inr (q, refl), fails new b.err (Some (OfCert c q)) ((c.number ≡ s.number + 1) × InTurn)
             (cert_after b.idle q least.below b.fits b.user taken) (λ t. cert_numbered b.idle q t.0 t.1)
-            (lies_tried o h.story (OfCert c q) s.devices.ledger.file s.devices.journal.file new.devices.ledger.file new.devices.journal.file (lies_none at.none_tried) taken
-            (subst (λ (x : Record). Added (Tried x) s.devices.journal.file new.devices.journal.file) (cert_is b.idle q) added))
+            (lies_tried o story (OfCert c q) s.devices.ledger.file s.devices.journal.file new.devices.ledger.file new.devices.journal.file (lies_none at.none_tried) taken
+            (subst (λ (x : Record). Added (Tried x) s.devices.journal.file new.devices.journal.file) (cert_is b.idle q) added)))
 
   -- ---- structures
 
   module _ (z : Structure) (new : Released) where
     module _ (declared : s.phase ≡ phase.Declared) where
-      at_declared : IsAt o h.story h.tried s
+      at_declared : IsAt o story tried s
       at_declared = h.own.stands (λ down. let two : phase.Declared ≡ phase.Failed = sym declared ∙ down in cc two)
 
       structure_is : (q : LeafNumber) → structure_record (sent s q (structure.spell z)) ≡ record_of o (OfStructure z q)
       structure_is q = ap structure_record (same_sent (structure.spell z) q)
 
-      structure_after : (q : LeafNumber) → q < 1024 → structure.Fits z → z.plan.user ≡ s.user → z.plan.number ≡ s.number → Handed (Some q) s.devices.ledger.file new.devices.ledger.file → IsAfter o h.story (OfStructure z q)
+      structure_after : (q : LeafNumber) → q < 1024 → structure.Fits z → z.plan.user ≡ s.user → z.plan.number ≡ s.number → Handed (Some q) s.devices.ledger.file new.devices.ledger.file → IsAfter o story (OfStructure z q)
       structure_after q small fits user number taken = record {
         next = record {
-          turn = is_declared (phase_in h.story) s.phase at_declared.phase declared;
+          turn = is_declared (phase_in story) s.phase at_declared.phase declared;
           fits = fits;
           user = user ∙ h.own.user;
           number = number ∙ at_declared.number;
         };
         small = small;
-        fresh = fresh_leaf o h.story s.devices.ledger.file s.devices.journal.file new.devices.ledger.file q (lies_none at_declared.none_tried) taken;
+        fresh = fresh_leaf o story s.devices.ledger.file s.devices.journal.file new.devices.ledger.file q (lies_none at_declared.none_tried) taken;
       }
 
-    pub signs : (answer : Bytes) → HasSigned s z (Ok answer) new → HoldsAfter o InTurn (Open s) texts (Signs z (Ok answer)) (Open new)
+    pub signs : (answer : Bytes) → HasSigned s z (Ok answer) new → (q : LeafNumber) × HoldsAfter o InTurn (OfStructure z q ∷ story) None (Open s) texts (Signs z (Ok answer)) (Open new)
     signs answer b =
         let at = at_declared b.declared in
         let q = b.signed.0 in
@@ -162,14 +168,12 @@ module _ (o : Owner) (InTurn : Type 0) (texts : List Bytes) (s : Released) (h : 
         let is = b.signed.2 in
         let r = OfStructure z q in
         let given : answer ≡ text o r = b.text ∙ ap (λ (n : Released). n.text) is ∙ same_sent (structure.spell z) q in
-        record {
-          story = r ∷ h.story;
-          tried = None;
+        (q, record {
           is_story = (structure_after b.declared q kept.least.below b.fits b.user b.number kept.taken, h.is_story);
           is_tried = tt;
           numbered = λ t. story_numbered t.1;
           lies =
-              lies_with o h.story r s.devices.ledger.file s.devices.journal.file new.devices.ledger.file new.devices.journal.file (lies_none at.none_tried) kept.taken
+              lies_with o story r s.devices.ledger.file s.devices.journal.file new.devices.ledger.file new.devices.journal.file (lies_none at.none_tried) kept.taken
               (subst (λ (x : Record). Added (Appended x) s.devices.journal.file new.devices.journal.file) (structure_is b.declared q) kept.added);
           own = record {
             user = ap (λ (n : Released). n.user) is ∙ h.own.user;
@@ -188,20 +192,20 @@ module _ (o : Owner) (InTurn : Type 0) (texts : List Bytes) (s : Released) (h : 
           };
           released = λ a i. elim i [ | inl e ↦ (r, inl refl, e ∙ given) | inr j ↦ (let k = h.released a j in (k.0, inr k.1, k.2)) ];
           kept = λ x i. elim i [ | inl e ↦ inl (ap (text o) e ∙ sym given) | inr j ↦ inr (h.kept x j) ];
-        }
+        })
 
-    pub sign_fails : (e : ClientError) → HasSigned s z (Err e) new → HoldsAfter o InTurn (Open s) texts (Signs z (Err e)) (Open new)
+    pub sign_fails : (e : ClientError) → HasSigned s z (Err e) new → (some : Option Release) × IsTriedStructure z some × HoldsAfter o InTurn story some (Open s) texts (Signs z (Err e)) (Open new)
     sign_fails e b = go b.tried
       where
-        at : IsAt o h.story h.tried s
+        at : IsAt o story tried s
         at = at_declared b.declared
 
-        go : IsTried (λ q. structure_record (sent s q (structure.spell z))) s.devices new.devices → HoldsAfter o InTurn (Open s) texts (Signs z (Err e)) (Open new)
+        go : IsTried (λ q. structure_record (sent s q (structure.spell z))) s.devices new.devices → (some : Option Release) × IsTriedStructure z some × HoldsAfter o InTurn story some (Open s) texts (Signs z (Err e)) (Open new)
         go (inl none) =
-            fails new b.err None (Unit {0} × InTurn) tt (λ t. story_numbered t.1)
-            (lies_on o h.story None s.devices.ledger.file s.devices.journal.file new.devices.ledger.file new.devices.journal.file (lies_none at.none_tried) none.0 none.1)
+            (None, inl refl, fails new b.err None (Unit {0} × InTurn) tt (λ t. story_numbered t.1)
+            (lies_on o story None s.devices.ledger.file s.devices.journal.file new.devices.ledger.file new.devices.journal.file (lies_none at.none_tried) none.0 none.1))
         go (inr (q, least, taken, added)) =
-            fails new b.err (Some (OfStructure z q)) (Unit {0} × InTurn)
+            (Some (OfStructure z q), inr (q, refl), fails new b.err (Some (OfStructure z q)) (Unit {0} × InTurn)
             (structure_after b.declared q least.below b.fits b.user b.number taken) (λ t. story_numbered t.1)
-            (lies_tried o h.story (OfStructure z q) s.devices.ledger.file s.devices.journal.file new.devices.ledger.file new.devices.journal.file (lies_none at.none_tried) taken
-            (subst (λ (x : Record). Added (Tried x) s.devices.journal.file new.devices.journal.file) (structure_is b.declared q) added))
+            (lies_tried o story (OfStructure z q) s.devices.ledger.file s.devices.journal.file new.devices.ledger.file new.devices.journal.file (lies_none at.none_tried) taken
+            (subst (λ (x : Record). Added (Tried x) s.devices.journal.file new.devices.journal.file) (structure_is b.declared q) added)))
