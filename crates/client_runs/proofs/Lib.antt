@@ -1,5 +1,6 @@
 mod Lowering
+mod Replies
 mod Quiet
 mod Mirrors
 mod Once
-mod Replies
+mod Holds

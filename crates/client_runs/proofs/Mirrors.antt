@@ -15,7 +15,8 @@ use Rattle.client_runs.specs.Steps.{Begins, Call, Client, Closed, Closes, Commit
 use Rattle.client_runs.specs.Runs.{Event, IsRun, Keys, client_of, owner}
 use Rattle.client_runs.specs.Released.{released as released_in, released_by}
 use Rattle.client_runs.proofs.Lowering.{low_begin_failed, low_begun, low_client, low_handed_back, low_left, low_opened, low_owner, low_sign_failed, low_signed, with_ready}
-use Rattle.client_runs.proofs.Quiet.{IsQuiet, gives, hears, looks, takes}
+use Rattle.client_runs.proofs.Quiet.{gives, hears, looks, takes}
+use Rattle.client_runs.proofs.Replies.{Kept}
 
 -- A run of what is released, after which the client is this one and these texts are released.
 pub record Mirrors (o : Owner) (client : Client) (texts : List Bytes) : Type 0 where
@@ -107,8 +108,8 @@ module _ (o : Owner) where
   step texts (Open s) (Signs (Err error.Foreign)) (Open new) m was is sound = sign_refused texts s m new sound error.Foreign (λ d. cc d) is
   step texts (Open s) (Signs (Err error.Damaged)) (Open new) m was is sound = sign_refused texts s m new sound error.Damaged (λ d. cc d) is
   step texts (Open s) (Commits status) (Open new) m was is sound = commits texts s m new sound status is
-  step texts (Open s) (Looks p i answer) (Open new) m was is sound = quiet texts (Open s) m (Open new) (ap low.Open (looks s p i answer new is))
-  step texts (Open s) (Gives block answer) (Open new) m was is sound = quiet texts (Open s) m (Open new) (ap low.Open (gives s block answer new is))
+  step texts (Open s) (Looks p i answer) (Open new) m was is sound = quiet texts (Open s) m (Open new) (ap low.Open (ap (λ (k : Kept). k.0) (looks s p i answer new is)))
+  step texts (Open s) (Gives block answer) (Open new) m was is sound = quiet texts (Open s) m (Open new) (ap low.Open (ap (λ (k : Kept). k.0) (gives s block answer new is)))
   step texts (Open s) call after m was is sound = absurd is
 
 -- ---- runs

@@ -16,6 +16,7 @@ use Rattle.client_verify.specs.Good.{Good}
 use Rattle.client_runs.specs.State.{AcceptedView, Checked, Reading, State, Writing, holding, released}
 use Rattle.client_runs.specs.Judged.{Goes, GoesOn, Handed, Judged, Taken}
 use Rattle.client_runs.specs.Looked.{Given, IsShown, Looked}
+use Rattle.client_runs.proofs.Replies.{kept}
 use Rattle.client_runs.specs.Steps.{Asks, HasGiven, HasHeard, HasLooked, HasTaken, Sees}
 
 -- what was released is as it was
@@ -77,40 +78,42 @@ takes s block (Ok answer) new h = go s.checked h.wants h.handed
 
 -- ---- looks
 
-looked : (s : State) (v : AcceptedView) (p : Principal) (i : INumber) (answer : Sees) (new : State) → Looked s v p i answer new → IsQuiet s new
-looked s v p i (look.Need digest) new h = ap released h.2
-looked s v p i (look.File bytes) new h = ap released h.0
-looked s v p i (look.Dir entries) new h = ap released h.0
-looked s v p i look.None new h = ap released h.0
+-- a look leaves what was released, and what is under check or accepted
+
+looked : (s : State) (v : AcceptedView) (p : Principal) (i : INumber) (answer : Sees) (new : State) → Looked s v p i answer new → kept new ≡ kept s
+looked s v p i (look.Need digest) new h = ap kept h.2
+looked s v p i (look.File bytes) new h = ap kept h.0
+looked s v p i (look.Dir entries) new h = ap kept h.0
+looked s v p i look.None new h = ap kept h.0
 looked s v p i (look.Broken rule) new h = absurd h
 
-pub looks : (s : State) (p : Principal) (i : INumber) (answer : Result Sees ClientError) (new : State) → HasLooked s p i answer new → IsQuiet s new
-looks s p i (Err e) new h = ap released h.err
+pub looks : (s : State) (p : Principal) (i : INumber) (answer : Result Sees ClientError) (new : State) → HasLooked s p i answer new → kept new ≡ kept s
+looks s p i (Err e) new h = ap kept h.err
 looks s p i (Ok answer) new h = go s.view h.sees h.looked
   where
-    go : (view : Option AcceptedView) → IsSome view → IfSome view (λ v. Looked s v p i answer new) → IsQuiet s new
+    go : (view : Option AcceptedView) → IsSome view → IfSome view (λ v. Looked s v p i answer new) → kept new ≡ kept s
     go None some h = absurd (cc some)
     go (Some v) some h = looked s v p i answer new h
 
-block_looked : (s : State) (v : AcceptedView) (l : Looking) (block : Option Bytes) (answer : Sees) (new : State) → IsSomeAnd block (λ text. Looked (holding s text) v l.principal l.i_number answer new) → IsQuiet s new
+block_looked : (s : State) (v : AcceptedView) (l : Looking) (block : Option Bytes) (answer : Sees) (new : State) → IsSomeAnd block (λ text. Looked (holding s text) v l.principal l.i_number answer new) → kept new ≡ kept s
 block_looked s v l None answer new h = absurd h
 block_looked s v l (Some text) answer new h = looked (holding s text) v l.principal l.i_number answer new h
 
-given : (s : State) (v : AcceptedView) (l : Looking) (block : Option Bytes) (answer : Sees) (new : State) → Given s v l block answer new → IsQuiet s new
+given : (s : State) (v : AcceptedView) (l : Looking) (block : Option Bytes) (answer : Sees) (new : State) → Given s v l block answer new → kept new ≡ kept s
 given s v l block (look.Need digest) new h = block_looked s v l block (look.Need digest) new h.1
 given s v l block (look.File bytes) new h = block_looked s v l block (look.File bytes) new h.1
 given s v l block (look.Dir entries) new h = block_looked s v l block (look.Dir entries) new h.1
 given s v l block look.None new h = block_looked s v l block look.None new h.1
-given s v l block (look.Broken rule) new h = ap released h.1
+given s v l block (look.Broken rule) new h = ap kept h.1
 
-pub gives : (s : State) (block : Option Bytes) (answer : Result Sees ClientError) (new : State) → HasGiven s block answer new → IsQuiet s new
-gives s block (Err e) new h = ap released h.err
+pub gives : (s : State) (block : Option Bytes) (answer : Result Sees ClientError) (new : State) → HasGiven s block answer new → kept new ≡ kept s
+gives s block (Err e) new h = ap kept h.err
 gives s block (Ok answer) new h = go s.view h.looks h.given
   where
-    looking : (v : AcceptedView) (l : Option Looking) → IsSome l → IfSome l (λ x. Given s v x block answer new) → IsQuiet s new
+    looking : (v : AcceptedView) (l : Option Looking) → IsSome l → IfSome l (λ x. Given s v x block answer new) → kept new ≡ kept s
     looking v None some h = absurd (cc some)
     looking v (Some l) some h = given s v l block answer new h
 
-    go : (view : Option AcceptedView) → IsSomeAnd view (λ v. IsSome v.looking) → IfSome view (λ v. IfSome v.looking (λ l. Given s v l block answer new)) → IsQuiet s new
+    go : (view : Option AcceptedView) → IsSomeAnd view (λ v. IsSome v.looking) → IfSome view (λ v. IfSome v.looking (λ l. Given s v l block answer new)) → kept new ≡ kept s
     go None some h = absurd some
     go (Some v) some h = looking v v.looking some h

@@ -10,13 +10,14 @@ use Rattle.principals.specs.Table.{Table}
 use Rattle.pending_list.specs.Reply.{PendingItem, Reply, lawful_reply, reply}
 use Rattle.reply_rules.specs.Lists.{Lists, items, lists_of}
 use Rattle.reply_rules.specs.ListsLaws.{lists_are, no_lists}
+use Rattle.client_releases.specs.Told.{Released}
 use Rattle.client_verify.specs.declared.step.Step.{Step}
 use Rattle.client_verify.specs.declared.step.Step.TheVariants.{Need, Store, Broken}
 use Rattle.client_verify.specs.FirstBroken.{Known, lists_break, of_read, of_reply, reply_breaks}
 use Rattle.client_verify.specs.Good.{Good}
 use Rattle.client_verify.specs.declared.asked.Asked.{Asked}
 use Rattle.agreement.proofs.Members.{In, in-left, in-right, last_or_nil}
-use Rattle.client_runs.specs.State.{Checked, Reading, Ready, State, Writing, holding, known}
+use Rattle.client_runs.specs.State.{Checked, Reading, Ready, State, Writing, holding, known, released}
 use Rattle.client_runs.specs.Judged.{Goes, GoesOn, Handed, Judged, Taken}
 use Rattle.client_runs.specs.Runs.{Event}
 use Rattle.client_runs.specs.Released.{Shown, hashed_at, hashed_by, reply_texts, shown, shown_by, shown_in}
@@ -45,6 +46,22 @@ IsUnder run k (Writing x a) = IsGoodBy run k x.lists x.table
 pub record AreSound (run : List Event) (s : State) : Type 0 where
   pub checked : IfSome s.checked (IsUnder run (known s))
   pub accepted : IfSome s.accepted (λ y. IsGoodBy run (known s) y.lists y.table)
+
+-- what these depend on, with what was released
+abbrev pub Kept : Type 0
+Kept = Released × Bytes × Option Checked × Option Ready
+
+abbrev pub kept : State → Kept
+kept s = (released s, s.pinned, s.checked, s.accepted)
+
+abbrev known_of : Kept → Known
+known_of k = record { user = k.0.user; pinned = k.1; last = k.0.last; declared = k.0.text }
+
+pub kept_sound : (run : List Event) (s new : State) → kept new ≡ kept s → AreSound run s → AreSound run new
+kept_sound run s new same a = record {
+  checked = subst (λ (k : Kept). IfSome k.2 (IsUnder run (known_of k))) (sym same) a.checked;
+  accepted = subst (λ (k : Kept). IfSome k.3 (λ y. IsGoodBy run (known_of k) y.lists y.table)) (sym same) a.accepted;
+}
 
 -- what a call leaves that releases nothing
 pub record IsQuiet (s new : State) : Type 0 where
@@ -175,8 +192,8 @@ module _ (e : Event) (older : List Event) (s : State) (text : Bytes) (bytes : Is
 
   pub judged_on : {A : Type 0} (step : Step A) (new : State) → AreSound older s → Judged s text step new → GoesSoundly (e ∷ older) s new
   judged_on (Broken rule) new sound h = subst (λ (n : State). GoesSoundly (e ∷ older) s n) (sym h.1) (record { quiet = still s; sound = sound_later e older s sound })
-  judged_on (Need digest) new sound h = read_on (Need digest) new (whole reply text) refl h.0 h.1
-  judged_on (Store texts) new sound h = read_on (Store texts) new (whole reply text) refl h.0 h.1
+  judged_on {A} (Need digest) new sound h = read_on {A = A} (Need digest) new (whole reply text) refl h.0 h.1
+  judged_on {A} (Store texts) new sound h = read_on {A = A} (Store texts) new (whole reply text) refl h.0 h.1
 
 -- ---- a block
 
