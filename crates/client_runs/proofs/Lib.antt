@@ -4,3 +4,5 @@ mod Quiet
 mod Mirrors
 mod Once
 mod Holds
+mod Judging
+mod Moves
