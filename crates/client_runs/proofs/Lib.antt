@@ -6,3 +6,5 @@ mod Once
 mod Holds
 mod Judging
 mod Moves
+mod Genuine
+mod Views
