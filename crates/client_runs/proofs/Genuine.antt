@@ -60,6 +60,18 @@ module _ (o : low.Owner) where
   message_of (OfCert c q) = unsigned_of (cert.spell c) (signature_of o.seed o.id q (cert.spell c)) (length-signature o.seed o.id (cert.spell c) q)
   message_of (OfStructure z q) = unsigned_of (structure.spell z) (signature_of o.seed o.id q (structure.spell z)) (length-signature o.seed o.id (structure.spell z) q)
 
+module _ (o : low.Owner) (z : Structure) (fits : structure.Fits z) where
+  of_release : (story : List Release) → IsStory o story → (r : Release) → In r story → structure.spell z ≡ message r → In z (structures story)
+  of_release story is_story (OfStructure y q) j spelled =
+      let before = came o story is_story (OfStructure y q) j in
+      let one = same_spelled structure lawful_structure z y fits before.1.fits spelled in
+      subst (λ (x : Structure). In x (structures story)) (sym one) (in_structures story y q j)
+  of_release story is_story (OfCert c q) j spelled =
+      let before = came o story is_story (OfCert c q) j in
+      let some = cert_of o c q before.0 before.1 in
+      let none = ap (λ (m : Bytes). cert_in o.user (m ++ signature_of o.seed o.id q (cert.spell c))) (sym spelled) ∙ no_cert o.user z (signature_of o.seed o.id q (cert.spell c)) in
+      absurd (cc (sym some ∙ none))
+
 -- a structure whose text was released is signed over an accepted view
 pub released_structure : (keys : Keys) (run : List Event) → IsRun keys run → (u : User) (z : Structure) → structure.Fits z → HasReleased u run (structure.spell z) → In z (signed_of u run)
 released_structure keys run is u z fits has =
@@ -67,18 +79,4 @@ released_structure keys run is u z fits has =
     let (a, i, same) = in-map unsigned (released u run) (structure.spell z) (contains_in (structure.spell z) (map unsigned (released u run)) has) in
     let (r, j, at) = h.low.released a i in
     subst (λ (l : List Structure). In z l) (sym h.viewed)
-    (of_release h.story h.low.is_story r j (same ∙ ap unsigned at ∙ message_of o r))
-  where
-    abbrev o : low.Owner
-    o = low_owner (owner keys u)
-
-    of_release : (story : List Release) → IsStory o story → (r : Release) → In r story → structure.spell z ≡ message r → In z (structures story)
-    of_release story is_story (OfStructure y q) j spelled =
-        let before = came o story is_story (OfStructure y q) j in
-        let one = same_spelled structure lawful_structure z y fits before.1.fits spelled in
-        subst (λ (x : Structure). In x (structures story)) (sym one) (in_structures story y q j)
-    of_release story is_story (OfCert c q) j spelled =
-        let before = came o story is_story (OfCert c q) j in
-        let some = cert_of o c q before.0 before.1 in
-        let none = ap (λ (m : Bytes). cert_in u (m ++ signature_of o.seed o.id q (cert.spell c))) (sym spelled) ∙ no_cert u z (signature_of o.seed o.id q (cert.spell c)) in
-        absurd (cc (sym some ∙ none))
+    (of_release (low_owner (owner keys u)) z fits h.story h.low.is_story r j (same ∙ ap unsigned at ∙ message_of (low_owner (owner keys u)) r))

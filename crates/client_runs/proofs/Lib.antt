@@ -8,3 +8,4 @@ mod Judging
 mod Moves
 mod Genuine
 mod Views
+mod Agreed

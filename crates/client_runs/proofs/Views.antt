@@ -67,7 +67,7 @@ module _ (o : Owner) (older : List Event) where
     over before call after h is sound x i = absurd i
 
 -- at most one view is accepted
-one_at_most : (call : Call) (before after : Client) (view : Option View) → (accepted_by call before after view ≡ []) ⊎ ((x : View) × (accepted_by call before after view ≡ x ∷ []))
+pub one_at_most : (call : Call) (before after : Client) (view : Option View) → (accepted_by call before after view ≡ []) ⊎ ((x : View) × (accepted_by call before after view ≡ x ∷ []))
 one_at_most (Signs (Ok text)) before after view = go (in_hand before)
   where
     go : (v : Option View) → (option_to_list v ≡ []) ⊎ ((x : View) × (option_to_list v ≡ x ∷ []))
@@ -84,11 +84,11 @@ one_at_most call before after view = inl refl
 
 -- ---- the structure that was signed last
 
-abbrev first_of : List Structure → Option Structure
+abbrev pub first_of : List Structure → Option Structure
 first_of [] = None
 first_of (z ∷ zs) = Some z
 
-first_in : (o : low.Owner) (story : List Release) → first_of (structures story) ≡ option_map value_of (last_in o story)
+pub first_in : (o : low.Owner) (story : List Release) → first_of (structures story) ≡ option_map value_of (last_in o story)
 first_in o [] = refl
 first_in o (OfCert c q ∷ older) = first_in o older
 first_in o (OfStructure z q ∷ older) = refl
@@ -108,7 +108,7 @@ module _ (u : User) (vs : List View) (rest : List Structure) (ih : last_signed u
       go false true same more = absurd (cc same)
 
 module _ (keys : Keys) where
-  over_here : (e : Event) (older : List Event) → (is : IsRun keys (e ∷ older)) → (x : View) → In x (accepted_by e.call (client_of e.user older) e.after (tried_view e.user older))
+  pub over_here : (e : Event) (older : List Event) → (is : IsRun keys (e ∷ older)) → (x : View) → In x (accepted_by e.call (client_of e.user older) e.after (tried_view e.user older))
       → IsTriedOver (owner keys e.user) (holds_at keys e.user older is.2).story older x
   over_here e older is x i =
       over (owner keys e.user) older (released e.user older) (signed_of e.user older) (tried_view e.user older) (client_of e.user older) e.call e.after (holds_at keys e.user older is.2) is.0 is.1 x i
