@@ -1,5 +1,5 @@
 -- The accepted views of a run agree.
-use Rattle.std.proofs.Common.{◌≡◌, ℕ, List, [], ◌∷◌, ◌++◌, map, Option, Some, None, IfSome, refl, sym, ap, ◌∙◌, subst, inl, inr, option_map}
+use Rattle.std.proofs.Common.{◌≡◌, List, [], ◌∷◌, ◌++◌, map, IfSome, refl, sym, ap, ◌∙◌, subst, inl, inr, option_map}
 use Rattle.std.specs.Prelude.{◌⊎◌}
 use Rattle.std.specs.List.{All, Contains, flat_map}
 use Rattle.layout.specs.Types.{Bytes, User}
@@ -11,7 +11,7 @@ use Rattle.pending_list.specs.Reply.{PendingItem}
 use Rattle.reply_rules.specs.Lists.{Lists, items, pending, structure_of}
 use Rattle.reply_rules.specs.Lists.{shown as plans_shown}
 use Rattle.client_tree.specs.Genesis.{first_texts}
-use Rattle.agreement.specs.Lines.{Agree, AreNumbered, EndWithOwn, Grow, line, line_at}
+use Rattle.agreement.specs.Lines.{Agree, AreNumbered, EndWithOwn, Grow, line}
 use Rattle.agreement.specs.Runs.{Accepted, View, last_signed, number_of, texts_of, user_of}
 use Rattle.agreement.specs.Runs.{IsRun as AreAccepted}
 use Rattle.agreement.specs.Runs.{NoCollision as NoViewCollision}
@@ -21,8 +21,8 @@ use Rattle.agreement.proofs.Members.{In, contains_in, flat_map-in, in-append, in
 use Rattle.release_runs.specs.Steps as low
 use Rattle.release_runs.proofs.Stories.{IsStory, OfCert, OfStructure, Release, last_in}
 use Rattle.client_runs.specs.Runs.{Event, IsRun, Keys, client_of, owner, public_key}
-use Rattle.client_runs.specs.Released.{Shown, accepted_by, hashed, hashed_at, pending_texts, reply_texts, shown_by, shown_cert, shown_structure, structure_texts, tried_view, views}
-use Rattle.client_runs.specs.Agreeing.{AreReleased, EachRun, HasReleased, IsTrueTable, NoForgery, Premises}
+use Rattle.client_runs.specs.Released.{accepted_by, hashed, hashed_at, pending_texts, reply_texts, shown_cert, shown_structure, structure_texts, tried_view, views}
+use Rattle.client_runs.specs.Agreeing.{AreReleased, HasReleased, IsTrueTable, NoForgery, Premises}
 use Rattle.client_runs.proofs.Genuine.{genuine, released_later, released_structure}
 use Rattle.client_runs.proofs.Holds.{IsTriedOver, known_in, signed_in}
 use Rattle.client_runs.proofs.Judging.{cert_by_super, cert_verified, own_last_is, structure_by_super, structure_fits, structure_verified, unbroken, unbroken_by, value_of, verified}

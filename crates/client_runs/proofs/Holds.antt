@@ -1,6 +1,5 @@
 -- What holds of a user's client after each step of a run: its story, and the views over which its structures were signed.
-use Rattle.std.proofs.Common.{◌≡◌, ◌≢◌, ℕ, ◌+◌, List, [], ◌∷◌, ◌++◌, map, Option, Some, None, Ok, Err, IfSome, IsSome, refl, sym, ap, ◌∙◌, subst, inl, inr, option_map, option_to_list}
-use Rattle.std.specs.Prelude.{◌⊎◌}
+use Rattle.std.proofs.Common.{◌≡◌, ℕ, ◌+◌, List, [], ◌∷◌, ◌++◌, map, Option, Some, None, Ok, Err, refl, sym, ap, ◌∙◌, subst, inl, inr, option_map, option_to_list}
 use Rattle.layout.specs.Types.{Bytes, Digest}
 use Rattle.leaf_ledger.specs.Ledger.{LeafNumber}
 use Rattle.version_order.specs.Structure.{Structure}
@@ -8,7 +7,6 @@ use Rattle.update_cert.specs.Change.{Change}
 use Rattle.pending_list.specs.declared.signed.Signed.{Signed}
 use Rattle.wire.specs.declared.kinds.Status.{Status}
 use Rattle.wire.specs.declared.kinds.Status.TheVariants as status
-use Rattle.client_releases.specs.declared.error.ClientError.{ClientError}
 use Rattle.client_releases.specs.declared.error.ClientError.TheVariants as error
 use Rattle.client_releases.specs.declared.phase.Phase.{Phase}
 use Rattle.client_releases.specs.declared.phase.Phase.TheVariants as phase
@@ -17,18 +15,16 @@ use Rattle.client_releases.specs.Told.{IsPhase, Released}
 use Rattle.client_verify.specs.FirstBroken.{Known}
 use Rattle.agreement.specs.Runs.{View, user_of}
 use Rattle.release_runs.specs.Steps as low
-use Rattle.release_runs.proofs.Files.{Lies, lies_on}
 use Rattle.release_runs.proofs.Holds.{IsAt, where_in_turn}
 use Rattle.release_runs.proofs.Holds as low_holds
 use Rattle.release_runs.proofs.Opening.{IsOf, opened_holds}
 use Rattle.release_runs.proofs.Releasing.{IsTriedCert, IsTriedStructure, declare_fails, declares, sign_fails, signs}
-use Rattle.release_runs.proofs.Runs as low_runs
-use Rattle.release_runs.proofs.Stories.{IsStory, OfCert, OfStructure, Release, last_in, phase_in, text_in}
-use Rattle.client_runs.specs.State.{Ready, State, declared, failed, laying, next_cert, next_structure, on, released, signed_over, signed_text}
-use Rattle.client_runs.specs.Steps.{Begins, Call, Client, Closed, Closes, Commits, Crashes, HasBegun, HasCommitted, HasSigned, IsHandedBack, IsLeft, IsOpened, IsRefused, IsSound, Open, Opens, Owner, Parts, Signs}
+use Rattle.release_runs.proofs.Stories.{OfCert, OfStructure, Release, last_in, phase_in, text_in}
+use Rattle.client_runs.specs.State.{Ready, State, declared, next_cert, next_structure, on, released, signed_over, signed_text}
+use Rattle.client_runs.specs.Steps.{Begins, Call, Client, Closed, Commits, HasBegun, HasCommitted, HasSigned, IsOpened, IsSound, Open, Opens, Owner, Parts, Signs}
 use Rattle.client_runs.specs.Runs.{Event}
 use Rattle.client_runs.specs.Released.{accepted_by, in_hand, released_by, tried_by, view_over, where_signed}
-use Rattle.client_runs.proofs.Lowering.{if_ready, low_begin_failed, low_begun, low_client, low_handed_back, low_left, low_opened, low_owner, low_parts, low_sign_failed, low_signed, of_declared}
+use Rattle.client_runs.proofs.Lowering.{if_ready, low_begin_failed, low_begun, low_client, low_opened, low_owner, low_parts, low_sign_failed, low_signed, of_declared}
 use Rattle.client_runs.proofs.Replies.{AreSound, IsGoodBy, good_later, none_sound, sound_later}
 
 -- the structures of a story

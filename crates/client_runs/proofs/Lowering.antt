@@ -1,5 +1,5 @@
 -- What a client's calls are to client_releases.
-use Rattle.std.proofs.Common.{◌≡◌, ℕ, ◌+◌, List, Option, Some, None, Ok, Err, IfSome, IsSome, refl, sym, ap, ◌∙◌, subst}
+use Rattle.std.proofs.Common.{◌≡◌, List, Option, Some, None, Ok, Err, IfSome, IsSome, refl, ap, subst}
 use Rattle.layout.specs.Types.{Bytes, Digest}
 use Rattle.leaf_ledger.specs.Ledger.{LeafNumber}
 use Rattle.version_order.specs.Structure.{structure}

@@ -1,5 +1,5 @@
 -- What a client releases in a run, as a run of client_releases: each call is a step of that, or leaves what was released.
-use Rattle.std.proofs.Common.{◌≡◌, ◌≢◌, ℕ, ◌+◌, Bool, true, false, ◌==◌, List, [], ◌∷◌, ◌++◌, Option, Some, None, Ok, Err, Result, IfErr, IfSome, IsSome, OnOk, OnErr, IfOk, refl, sym, ap, ◌∙◌, subst, inl, inr, if◌then◌else◌}
+use Rattle.std.proofs.Common.{◌≡◌, ◌≢◌, Bool, true, false, ◌==◌, List, [], ◌∷◌, ◌++◌, Ok, Err, refl, sym, ap, ◌∙◌, subst, if◌then◌else◌}
 use Rattle.std.proofs.lemmas.Bool.{eqb-true}
 use Rattle.layout.specs.Types.{Bytes, Digest, User}
 use Rattle.update_cert.specs.Change.{Change}
@@ -11,7 +11,7 @@ use Rattle.release_runs.specs.Steps as low
 use Rattle.release_runs.specs.Runs as low_run
 use Rattle.release_runs.specs.Released as low_released
 use Rattle.client_runs.specs.State.{State, next_cert, next_structure, released}
-use Rattle.client_runs.specs.Steps.{Begins, Call, Client, Closed, Closes, Commits, Crashes, Gives, HasBegun, HasCommitted, HasSigned, Hears, IsLeft, IsOpened, IsSound, IsStep, Looks, Open, Opens, Owner, Parts, Signs, Takes, first}
+use Rattle.client_runs.specs.Steps.{Begins, Call, Client, Closed, Closes, Commits, Crashes, Gives, HasBegun, HasCommitted, HasSigned, Hears, IsSound, IsStep, Looks, Open, Opens, Owner, Signs, Takes, first}
 use Rattle.client_runs.specs.Runs.{Event, IsRun, Keys, client_of, owner}
 use Rattle.client_runs.specs.Released.{released as released_in, released_by}
 use Rattle.client_runs.proofs.Lowering.{low_begin_failed, low_begun, low_client, low_handed_back, low_left, low_opened, low_owner, low_sign_failed, low_signed, with_ready}

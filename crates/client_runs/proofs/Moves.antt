@@ -1,6 +1,5 @@
 -- What holds of a user's client after each run.
-use Rattle.std.proofs.Common.{◌≡◌, ◌≢◌, ℕ, Bool, true, false, ◌==◌, List, [], ◌∷◌, ◌++◌, map, Option, Some, None, Ok, Err, Result, IfSome, IsSome, refl, sym, ap, ◌∙◌, subst, inl, inr, if◌then◌else◌, option_map, option_to_list}
-use Rattle.std.specs.Prelude.{◌⊎◌}
+use Rattle.std.proofs.Common.{◌≡◌, Bool, true, false, ◌==◌, List, [], ◌∷◌, ◌++◌, map, Option, Some, None, Ok, Err, Result, IfSome, IsSome, refl, sym, ap, subst, if◌then◌else◌}
 use Rattle.std.specs.Option.{option_map_or}
 use Rattle.std.specs.Result.{result_ok}
 use Rattle.std.proofs.lemmas.Bool.{eqb-true}
@@ -11,22 +10,17 @@ use Rattle.version_order.specs.Structure.{Structure}
 use Rattle.pending_list.specs.Reply.{Reply, reply}
 use Rattle.client_releases.specs.declared.error.ClientError.{ClientError}
 use Rattle.client_releases.specs.declared.error.ClientError.TheVariants as error
-use Rattle.client_releases.specs.declared.phase.Phase.{Phase}
-use Rattle.client_releases.specs.declared.phase.Phase.TheVariants as phase
-use Rattle.client_releases.specs.Told.{Released}
 use Rattle.agreement.specs.Runs.{View}
 use Rattle.agreement.proofs.Members.{In, in-left}
-use Rattle.release_runs.specs.Steps as low
 use Rattle.release_runs.proofs.Files.{lies_on}
 use Rattle.release_runs.proofs.Holds as low_holds
 use Rattle.release_runs.proofs.Runs as low_runs
-use Rattle.release_runs.proofs.Stories.{Release}
-use Rattle.client_runs.specs.State.{Checked, Ready, State, asked_of, released}
+use Rattle.client_runs.specs.State.{Checked, State, released}
 use Rattle.client_runs.specs.Judged.{Handed}
-use Rattle.client_runs.specs.Steps.{Asks, Begins, Call, Client, Closed, Closes, Commits, Crashes, Gives, HasBegun, HasGiven, HasHeard, HasLooked, HasSigned, HasTaken, Hears, IsHandedBack, IsLeft, IsRefused, IsSound, IsStep, Looks, Open, Opens, Owner, Parts, Signs, Takes, first}
+use Rattle.client_runs.specs.Steps.{Asks, Begins, Call, Client, Closed, Closes, Commits, Crashes, Gives, HasHeard, HasTaken, Hears, IsHandedBack, IsLeft, IsRefused, IsSound, IsStep, Looks, Open, Opens, Owner, Parts, Signs, Takes, first}
 use Rattle.client_runs.specs.Runs.{Event, IsRun, Keys, client_of, owner}
-use Rattle.client_runs.specs.Released.{Shown, accepted_by, hashed_by, in_hand, released as released_in, released_by, reply_texts, shown_by, shown_in, stored_texts, tried_by, tried_view, view_over, where_signed}
-use Rattle.client_runs.proofs.Holds.{Holds, HoldsAfter, IsTriedOver, Low, Tries, begin_fails, begins, closes, commits, event, is_over, later, opens, sign_fails_here, signed_in, signs_ok, stays}
+use Rattle.client_runs.specs.Released.{accepted_by, released as released_in, released_by, reply_texts, shown_in, stored_texts, tried_by, tried_view}
+use Rattle.client_runs.proofs.Holds.{Holds, HoldsAfter, begin_fails, begins, closes, commits, event, later, opens, sign_fails_here, signed_in, signs_ok, stays}
 use Rattle.client_runs.proofs.Lowering.{low_client, low_left, low_owner, low_parts, with_ready}
 use Rattle.client_runs.proofs.Quiet.{gives, hears, looks, takes}
 use Rattle.client_runs.proofs.Replies.{AreSound, GoesSoundly, IsUnder, Kept, handed_on, judged_on, kept_sound, sound_later}

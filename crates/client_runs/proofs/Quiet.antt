@@ -1,21 +1,17 @@
 -- Calls that release nothing leave what was released as it was.
-use Rattle.std.proofs.Common.{◌≡◌, ℕ, List, Option, Some, None, Ok, Err, Result, IfOk, IfSome, IsSome, IsSomeAnd, OnErr, refl, sym, ap, ◌∙◌, inl, inr}
+use Rattle.std.proofs.Common.{◌≡◌, Option, Some, None, Ok, Err, Result, IfSome, IsSome, IsSomeAnd, ap, inl, inr}
 use Rattle.layout.specs.Types.{Bytes, INumber, Principal}
-use Rattle.update_cert.specs.World.{Content}
 use Rattle.pending_list.specs.Reply.{Reply}
 use Rattle.reply_rules.specs.Lists.{Lists, lists_of}
 use Rattle.client_releases.specs.declared.error.ClientError.{ClientError}
-use Rattle.client_releases.specs.Told.{Released}
-use Rattle.client_verify.specs.declared.look.Look.{Look}
 use Rattle.client_verify.specs.declared.look.Look.TheVariants as look
-use Rattle.client_verify.specs.declared.step.Step.{Step}
 use Rattle.client_verify.specs.declared.step.Step.TheVariants as step
 use Rattle.client_verify.specs.declared.view.Looking.{Looking}
 use Rattle.client_verify.specs.FirstBroken.{reply_in}
 use Rattle.client_verify.specs.Good.{Good}
 use Rattle.client_runs.specs.State.{AcceptedView, Checked, Reading, State, Writing, holding, released}
 use Rattle.client_runs.specs.Judged.{Goes, GoesOn, Handed, Judged, Taken}
-use Rattle.client_runs.specs.Looked.{Given, IsShown, Looked}
+use Rattle.client_runs.specs.Looked.{Given, Looked}
 use Rattle.client_runs.proofs.Replies.{kept}
 use Rattle.client_runs.specs.Steps.{Asks, HasGiven, HasHeard, HasLooked, HasTaken, Sees}
 

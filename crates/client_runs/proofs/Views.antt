@@ -1,36 +1,23 @@
 -- The accepted views of a run are a run of accepted views.
-use Rattle.std.proofs.Common.{◌≡◌, ℕ, Bool, true, false, ◌==◌, List, [], ◌∷◌, ◌++◌, map, find, Option, Some, None, Ok, Err, IfSome, refl, sym, ap, ◌∙◌, subst, inl, inr, if◌then◌else◌, option_map, option_to_list}
+use Rattle.std.proofs.Common.{◌≡◌, Bool, true, false, ◌==◌, List, [], ◌∷◌, ◌++◌, map, find, Option, Some, None, Ok, refl, sym, ap, ◌∙◌, subst, inl, inr, if◌then◌else◌, option_map, option_to_list}
 use Rattle.std.specs.Prelude.{◌⊎◌}
-use Rattle.std.specs.List.{All, Contains}
 use Rattle.std.proofs.lemmas.Bool.{eqb-true}
-use Rattle.layout.specs.Types.{Bytes, Key, User}
-use Rattle.version_order.specs.Structure.{Structure, structure}
-use Rattle.pending_list.specs.declared.signed.Signed.{Signed}
-use Rattle.pending_list.specs.Reply.{PendingItem}
-use Rattle.update_cert.specs.Cert.{cert}
-use Rattle.principals.specs.Table.{key_of}
-use Rattle.reply_rules.specs.Lists.{items}
-use Rattle.client_releases.specs.declared.error.ClientError.TheVariants as error
+use Rattle.layout.specs.Types.{Bytes, User}
+use Rattle.version_order.specs.Structure.{Structure}
 use Rattle.client_releases.specs.declared.phase.Phase.{Phase}
 use Rattle.client_releases.specs.declared.phase.Phase.TheVariants as phase
-use Rattle.agreement.specs.Runs.{Accepted, View, last_signed, user_of}
-use Rattle.agreement.specs.Runs.{IsRun as AreAccepted}
-use Rattle.agreement.specs.Runs.{structures as structures_of}
-use Rattle.agreement.proofs.Members.{In, in-append, in-left, in-map, in-right, in_contains, map-in, of_all, to_all}
-use Rattle.release_runs.proofs.Once.{came}
-use Rattle.release_runs.proofs.Stories.{IsStory, OfCert, OfStructure, Release, last_in}
+use Rattle.agreement.specs.Runs.{View, last_signed, user_of}
+use Rattle.agreement.proofs.Members.{In, in-append, in-left, in-map, in-right, map-in}
+use Rattle.release_runs.proofs.Stories.{OfCert, OfStructure, Release, last_in}
 use Rattle.release_runs.specs.Steps as low
-use Rattle.client_runs.specs.State.{Ready, State}
+use Rattle.client_runs.specs.State.{Ready}
 use Rattle.client_runs.specs.Steps.{Call, Client, Closed, IsSound, IsStep, Open, Opens, Owner, Signs}
-use Rattle.client_runs.specs.Runs.{Event, IsRun, Keys, client_of, owner, public_key}
-use Rattle.client_runs.specs.Released.{Shown, accepted_by, in_hand, released, shown_cert, shown_structure, tried_view, view_over, views, where_signed}
-use Rattle.client_runs.specs.Agreeing.{HasReleased, IsTrueTable, NoForgery}
-use Rattle.client_runs.proofs.Genuine.{genuine, released_structure}
+use Rattle.client_runs.specs.Runs.{Event, IsRun, Keys, client_of, owner}
+use Rattle.client_runs.specs.Released.{accepted_by, in_hand, released, tried_view, view_over, views, where_signed}
 use Rattle.client_runs.proofs.Holds.{Holds, IsTriedOver, Tries, is_over, signed_in, structures}
-use Rattle.client_runs.proofs.Judging.{cert_by_super, cert_verified, own_last_is, structure_by_super, structure_fits, structure_verified, unbroken, unbroken_by, value_of, verified}
-use Rattle.client_runs.proofs.Lowering.{low_owner, with_ready}
+use Rattle.client_runs.proofs.Judging.{value_of}
+use Rattle.client_runs.proofs.Lowering.{with_ready}
 use Rattle.client_runs.proofs.Moves.{holds_at, signed_of}
-use Rattle.client_runs.proofs.Replies.{of_lists}
 
 -- ---- over which views
 

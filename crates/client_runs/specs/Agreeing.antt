@@ -6,7 +6,7 @@ use Rattle.layout.specs.Types.{Bytes, Key, User}
 use Rattle.lms_sign.specs.Signature.{valid}
 use Rattle.itable.specs.File.{NoneCollide}
 use Rattle.principals.specs.Table.{key_of}
-use Rattle.update_cert.specs.Cert.{Cert, cert}
+use Rattle.update_cert.specs.Cert.{cert}
 use Rattle.agreement.specs.Runs.{View}
 use Rattle.agreement.specs.Lines.{line}
 use Rattle.release_runs.specs.Released.{unsigned}

@@ -1,9 +1,8 @@
 -- Stand-in until client_verify goes over to client_releases: its Judged, over the stand-in of its State.
 -- What a client makes of a reply, and of the blocks that it asks for.
-use Rattle.std.specs.Prelude.{◌≡◌, ◌⊎◌, ℕ, List, [], ◌∷◌, ◌++◌, Option, Some, None, IsSomeAnd, true, map}
+use Rattle.std.specs.Prelude.{◌≡◌, ◌⊎◌, ℕ, List, ◌∷◌, ◌++◌, Option, Some, None, IsSomeAnd, true, map}
 use Rattle.std.specs.List.{flat_map}
 use Rattle.std.specs.Vec.{vec_items}
-use Rattle.principals.specs.Table.{Table}
 use Rattle.version_order.specs.declared.structure.GroupRecord.{GroupRecord}
 use Rattle.version_order.specs.Plan.{Plan}
 use Rattle.version_order.specs.Vector.{version_of}

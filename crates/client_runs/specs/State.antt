@@ -1,7 +1,7 @@
 -- Stand-in until client_verify goes over to client_releases: its State, over what client_releases has. Then this file goes,
 -- and those that import it import Rattle.client_verify.specs.State in its place.
 -- A client as a machine: its state, and what each call makes of it.
-use Rattle.std.specs.Prelude.{◌≡◌, ℕ, ◌+◌, List, [], ◌∷◌, ◌++◌, fold, Option, Some, None, IfSome, IsSomeAnd}
+use Rattle.std.specs.Prelude.{◌≡◌, ℕ, ◌+◌, List, [], fold, Option, Some, None, IfSome, IsSomeAnd}
 use Rattle.std.specs.Option.{option_map_or}
 use Rattle.std.specs.Ordering.{nat_cmp}
 use Rattle.layout.specs.Ascending.{with_row}

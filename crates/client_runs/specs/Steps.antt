@@ -2,7 +2,7 @@
 --
 -- A crash inside a call is a call whose device fails, and then a crash: whatever part of the call was done by then is one
 -- that a device may have done that fails there.
-use Rattle.std.specs.Prelude.{◌≡◌, ◌≢◌, ◌⊎◌, ◌↔◌, ℕ, ◌≤◌, List, [], length, Option, Some, None, IfOk, IfErr, IsErrOf, IfSome, IsSome, IsSomeAnd, OnOk, OnErr, Result, Ok, Err, true, IsOk}
+use Rattle.std.specs.Prelude.{◌≡◌, ◌≢◌, ◌⊎◌, ◌↔◌, ℕ, ◌≤◌, List, [], length, Option, Some, IfOk, IfErr, IsErrOf, IfSome, IsSome, IsSomeAnd, OnOk, OnErr, Result, Ok, Err, true, IsOk}
 use Rattle.layout.specs.Format.{IsBytes}
 use Rattle.layout.specs.Types.{Bytes, Digest, INumber, Key, Principal, User}
 use Rattle.lms_sign.specs.Keys.{public_key_of}

@@ -1,8 +1,6 @@
 -- What holds of a user's client after each step of a run.
-use Rattle.std.proofs.Common.{◌≡◌, ℕ, ◌+◌, List, [], ◌∷◌, ◌++◌, Option, Some, None, IfSome, refl, sym, ap, ◌∙◌, subst, inl, inr}
-use Rattle.std.specs.Prelude.{◌⊎◌}
+use Rattle.std.proofs.Common.{◌≡◌, List, ◌++◌, Option, Some, None, IfSome, sym, ap, ◌∙◌, subst, inl, inr}
 use Rattle.layout.specs.Types.{Bytes}
-use Rattle.client_releases.specs.declared.phase.Phase.{Phase}
 use Rattle.client_releases.specs.declared.phase.Phase.TheVariants as phase
 use Rattle.client_releases.specs.Releasing.{Devices}
 use Rattle.client_releases.specs.Told.{IsPhase, Released}

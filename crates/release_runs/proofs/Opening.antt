@@ -1,5 +1,5 @@
 -- What holds after a client is opened.
-use Rattle.std.proofs.Common.{◌≡◌, ℕ, ◌+◌, ◌<◌, List, [], ◌∷◌, ◌++◌, length, Option, Some, None, Ok, IfSome, refl, sym, ap, ◌∙◌, subst, inl, inr, arith}
+use Rattle.std.proofs.Common.{◌≡◌, ◌<◌, List, [], ◌∷◌, ◌++◌, length, Option, Some, None, Ok, IfSome, refl, sym, ap, ◌∙◌, subst, inl, inr, arith}
 use Rattle.std.specs.Prelude.{◌⊎◌}
 use Rattle.layout.specs.Types.{Bytes}
 use Rattle.lms_sign.specs.Signature.{signature_of}
@@ -8,7 +8,7 @@ use Rattle.leaf_ledger.specs.Device.{Disk, MayLeave}
 use Rattle.leaf_ledger.specs.Life.{IsSure}
 use Rattle.leaf_ledger.specs.Moments.{rest_only}
 use Rattle.client_journal.specs.Life.{IsPossible}
-use Rattle.client_journal.specs.Records.{Record, State as Recorded, Tells, TellsState, state_of}
+use Rattle.client_journal.specs.Records.{State as Recorded, Tells, TellsState, state_of}
 use Rattle.client_journal.proofs.Chains.{one_telling}
 use Rattle.version_order.specs.Structure.{structure}
 use Rattle.update_cert.specs.Cert.{cert}

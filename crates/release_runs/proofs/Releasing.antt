@@ -1,5 +1,5 @@
 -- What holds after a certificate is declared, and after a structure is signed.
-use Rattle.std.proofs.Common.{◌≡◌, ℕ, ◌+◌, ◌<◌, List, [], ◌∷◌, ◌++◌, Option, Some, None, Ok, Err, IfSome, refl, sym, ap, ◌∙◌, subst, inl, inr}
+use Rattle.std.proofs.Common.{◌≡◌, ◌+◌, ◌<◌, List, ◌∷◌, ◌++◌, Option, Some, None, Ok, Err, IfSome, refl, sym, ap, ◌∙◌, subst, inl, inr}
 use Rattle.std.specs.Prelude.{◌⊎◌}
 use Rattle.layout.specs.Types.{Bytes}
 use Rattle.lms_sign.specs.Signature.{signature_of}
@@ -16,11 +16,10 @@ use Rattle.client_releases.specs.declared.phase.Phase.{Phase}
 use Rattle.client_releases.specs.declared.phase.Phase.TheVariants as phase
 use Rattle.client_releases.specs.Releasing.{IsTried, cert_record, structure_record}
 use Rattle.client_releases.specs.Told.{IsPhase, Released, sent}
-use Rattle.release_runs.specs.Steps.{Call, Client, Declares, HasDeclared, HasSigned, Open, Owner, Signs, failed}
+use Rattle.release_runs.specs.Steps.{Declares, HasDeclared, HasSigned, Open, Owner, Signs, failed}
 use Rattle.release_runs.proofs.Files.{Lies, fresh_leaf, lies_on, lies_tried, lies_with, with_tried}
 use Rattle.release_runs.proofs.Holds.{Holds, HoldsAfter, IsAt, numbered_older}
-use Rattle.release_runs.proofs.Members.{In}
-use Rattle.release_runs.proofs.Stories.{IsAfter, IsNumbered, OfCert, OfStructure, Release, last_in, number_in, phase_in, record_of, text, text_in}
+use Rattle.release_runs.proofs.Stories.{IsAfter, IsNumbered, OfCert, OfStructure, Release, phase_in, record_of, text}
 
 -- a client that is idle declares nothing
 not_declared : (told now : Phase) → IsPhase told now → now ≡ phase.Idle → told ≡ phase.Declared → ⊥
