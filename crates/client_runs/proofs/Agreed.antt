@@ -107,8 +107,8 @@ module _ (keys : Keys) where
         released =
             to_all (Contains (map signed_in (views older))) (structures_of x)
             (λ z i. (
-                let (s, j, same) = in-map value_of x.lists.structures z i in
-                in_contains z (map signed_in (views older)) (subst (λ (y : Structure). In y (map signed_in (views older))) (sym same) (was_signed s j))));
+            let (s, j, same) = in-map value_of x.lists.structures z i in
+            in_contains z (map signed_in (views older)) (subst (λ (y : Structure). In y (map signed_in (views older))) (sym same) (was_signed s j))));
       }
 
       -- the certificate of an operation that is pending in the view was released

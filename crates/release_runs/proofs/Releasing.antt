@@ -97,29 +97,31 @@ module _ (o : Owner) (InTurn : Type 0) (story : List Release) (tried : Option Re
         let kept = b.declared.1 in
         let is = b.declared.2 in
         let r = OfCert c q in
-        let given : answer ≡ text o r = b.text ∙ ap (λ (n : Released). n.text) is ∙ same_sent (cert.spell c) q in
-        (q, record {
-          is_story = (cert_after b.idle q kept.least.below b.fits b.user kept.taken, h.is_story);
-          is_tried = tt;
-          numbered = λ t. cert_numbered b.idle q t.0 t.1;
-          lies =
-              lies_with o story r s.devices.ledger.file s.devices.journal.file new.devices.ledger.file new.devices.journal.file (lies_none at.none_tried) kept.taken
-              (subst (λ (x : Record). Added (Appended x) s.devices.journal.file new.devices.journal.file) (cert_is b.idle q) kept.added);
-          own = record {
-            user = ap (λ (n : Released). n.user) is ∙ h.own.user;
-            seed = ap (λ (n : Released). n.seed) is ∙ h.own.seed;
-            id = ap (λ (n : Released). n.id) is ∙ h.own.id;
-            stands = λ up. record {
-              none_tried = refl;
-              number = ap (λ (n : Released). n.number) is;
-              last = ap (λ (n : Released). n.last) is ∙ at.last;
-              text = ap (λ (n : Released). n.text) is ∙ same_sent (cert.spell c) q;
-              phase = inl (ap (λ (n : Released). n.phase) is);
+        let given : answer ≡ text o r = b.text ∙ ap (λ (n : Released). n.text) is ∙ same_sent (cert.spell c) q in (
+          q,
+          record {
+            is_story = (cert_after b.idle q kept.least.below b.fits b.user kept.taken, h.is_story);
+            is_tried = tt;
+            numbered = λ t. cert_numbered b.idle q t.0 t.1;
+            lies =
+                lies_with o story r s.devices.ledger.file s.devices.journal.file new.devices.ledger.file new.devices.journal.file (lies_none at.none_tried) kept.taken
+                (subst (λ (x : Record). Added (Appended x) s.devices.journal.file new.devices.journal.file) (cert_is b.idle q) kept.added);
+            own = record {
+              user = ap (λ (n : Released). n.user) is ∙ h.own.user;
+              seed = ap (λ (n : Released). n.seed) is ∙ h.own.seed;
+              id = ap (λ (n : Released). n.id) is ∙ h.own.id;
+              stands = λ up. record {
+                none_tried = refl;
+                number = ap (λ (n : Released). n.number) is;
+                last = ap (λ (n : Released). n.last) is ∙ at.last;
+                text = ap (λ (n : Released). n.text) is ∙ same_sent (cert.spell c) q;
+                phase = inl (ap (λ (n : Released). n.phase) is);
+              };
             };
-          };
-          released = λ a i. elim i [ | inl e ↦ (r, inl refl, e ∙ given) | inr j ↦ (let k = h.released a j in (k.0, inr k.1, k.2)) ];
-          kept = λ x i. elim i [ | inl e ↦ inl (ap (text o) e ∙ sym given) | inr j ↦ inr (h.kept x j) ];
-        })
+            released = λ a i. elim i [ inl e ↦ (r, inl refl, e ∙ given) | inr j ↦ (let k = h.released a j in (k.0, inr k.1, k.2)) ];
+            kept = λ x i. elim i [ inl e ↦ inl (ap (text o) e ∙ sym given) | inr j ↦ inr (h.kept x j) ];
+          },
+        )
 
     pub declare_fails : (e : ClientError) → HasDeclared s c (Err e) new → (some : Option Release) × IsTriedCert c some × HoldsAfter o InTurn story some (Open s) texts (Declares c (Err e)) (Open new)
     declare_fails e b = go b.tried
@@ -128,14 +130,20 @@ module _ (o : Owner) (InTurn : Type 0) (story : List Release) (tried : Option Re
         at = at_idle b.idle
 
         go : IsTried (λ q. cert_record (sent s q (cert.spell c))) s.devices new.devices → (some : Option Release) × IsTriedCert c some × HoldsAfter o InTurn story some (Open s) texts (Declares c (Err e)) (Open new)
-        go (inl none) =
-            (None, inl refl, fails new b.err None ((c.number ≡ s.number + 1) × InTurn) tt (λ t. story_numbered t.1)
-            (lies_on o story None s.devices.ledger.file s.devices.journal.file new.devices.ledger.file new.devices.journal.file (lies_none at.none_tried) none.0 none.1))
-        go (inr (q, least, taken, added)) =
-            (Some (OfCert c q), inr (q, refl), fails new b.err (Some (OfCert c q)) ((c.number ≡ s.number + 1) × InTurn)
-            (cert_after b.idle q least.below b.fits b.user taken) (λ t. cert_numbered b.idle q t.0 t.1)
-            (lies_tried o story (OfCert c q) s.devices.ledger.file s.devices.journal.file new.devices.ledger.file new.devices.journal.file (lies_none at.none_tried) taken
-            (subst (λ (x : Record). Added (Tried x) s.devices.journal.file new.devices.journal.file) (cert_is b.idle q) added)))
+        go (inl none) = (
+          None,
+          inl refl,
+          fails new b.err None ((c.number ≡ s.number + 1) × InTurn) tt (λ t. story_numbered t.1)
+              (lies_on o story None s.devices.ledger.file s.devices.journal.file new.devices.ledger.file new.devices.journal.file (lies_none at.none_tried) none.0 none.1),
+        )
+        go (inr (q, least, taken, added)) = (
+          Some (OfCert c q),
+          inr (q, refl),
+          fails new b.err (Some (OfCert c q)) ((c.number ≡ s.number + 1) × InTurn)
+              (cert_after b.idle q least.below b.fits b.user taken) (λ t. cert_numbered b.idle q t.0 t.1)
+              (lies_tried o story (OfCert c q) s.devices.ledger.file s.devices.journal.file new.devices.ledger.file new.devices.journal.file (lies_none at.none_tried) taken
+              (subst (λ (x : Record). Added (Tried x) s.devices.journal.file new.devices.journal.file) (cert_is b.idle q) added)),
+        )
 
   -- ---- structures
 
@@ -166,32 +174,34 @@ module _ (o : Owner) (InTurn : Type 0) (story : List Release) (tried : Option Re
         let kept = b.signed.1 in
         let is = b.signed.2 in
         let r = OfStructure z q in
-        let given : answer ≡ text o r = b.text ∙ ap (λ (n : Released). n.text) is ∙ same_sent (structure.spell z) q in
-        (q, record {
-          is_story = (structure_after b.declared q kept.least.below b.fits b.user b.number kept.taken, h.is_story);
-          is_tried = tt;
-          numbered = λ t. story_numbered t.1;
-          lies =
-              lies_with o story r s.devices.ledger.file s.devices.journal.file new.devices.ledger.file new.devices.journal.file (lies_none at.none_tried) kept.taken
-              (subst (λ (x : Record). Added (Appended x) s.devices.journal.file new.devices.journal.file) (structure_is b.declared q) kept.added);
-          own = record {
-            user = ap (λ (n : Released). n.user) is ∙ h.own.user;
-            seed = ap (λ (n : Released). n.seed) is ∙ h.own.seed;
-            id = ap (λ (n : Released). n.id) is ∙ h.own.id;
-            stands = λ up. record {
-              none_tried = refl;
-              number = ap (λ (n : Released). n.number) is ∙ at.number;
-              last =
-                  ap (λ (n : Released). n.last) is
-                  ∙ ap (λ (g : Bytes). let last : Option (Signed Structure) = Some (record { value = z; signature = g }) in last)
-                  (ap (λ (seed : Bytes). signature_of seed s.id q (structure.spell z)) h.own.seed ∙ ap (λ (id : Bytes). signature_of o.seed id q (structure.spell z)) h.own.id);
-              text = ap (λ (n : Released). n.text) is ∙ same_sent (structure.spell z) q;
-              phase = inl (ap (λ (n : Released). n.phase) is);
+        let given : answer ≡ text o r = b.text ∙ ap (λ (n : Released). n.text) is ∙ same_sent (structure.spell z) q in (
+          q,
+          record {
+            is_story = (structure_after b.declared q kept.least.below b.fits b.user b.number kept.taken, h.is_story);
+            is_tried = tt;
+            numbered = λ t. story_numbered t.1;
+            lies =
+                lies_with o story r s.devices.ledger.file s.devices.journal.file new.devices.ledger.file new.devices.journal.file (lies_none at.none_tried) kept.taken
+                (subst (λ (x : Record). Added (Appended x) s.devices.journal.file new.devices.journal.file) (structure_is b.declared q) kept.added);
+            own = record {
+              user = ap (λ (n : Released). n.user) is ∙ h.own.user;
+              seed = ap (λ (n : Released). n.seed) is ∙ h.own.seed;
+              id = ap (λ (n : Released). n.id) is ∙ h.own.id;
+              stands = λ up. record {
+                none_tried = refl;
+                number = ap (λ (n : Released). n.number) is ∙ at.number;
+                last =
+                    ap (λ (n : Released). n.last) is
+                    ∙ ap (λ (g : Bytes). let last : Option (Signed Structure) = Some (record { value = z; signature = g }) in last)
+                    (ap (λ (seed : Bytes). signature_of seed s.id q (structure.spell z)) h.own.seed ∙ ap (λ (id : Bytes). signature_of o.seed id q (structure.spell z)) h.own.id);
+                text = ap (λ (n : Released). n.text) is ∙ same_sent (structure.spell z) q;
+                phase = inl (ap (λ (n : Released). n.phase) is);
+              };
             };
-          };
-          released = λ a i. elim i [ | inl e ↦ (r, inl refl, e ∙ given) | inr j ↦ (let k = h.released a j in (k.0, inr k.1, k.2)) ];
-          kept = λ x i. elim i [ | inl e ↦ inl (ap (text o) e ∙ sym given) | inr j ↦ inr (h.kept x j) ];
-        })
+            released = λ a i. elim i [ inl e ↦ (r, inl refl, e ∙ given) | inr j ↦ (let k = h.released a j in (k.0, inr k.1, k.2)) ];
+            kept = λ x i. elim i [ inl e ↦ inl (ap (text o) e ∙ sym given) | inr j ↦ inr (h.kept x j) ];
+          },
+        )
 
     pub sign_fails : (e : ClientError) → HasSigned s z (Err e) new → (some : Option Release) × IsTriedStructure z some × HoldsAfter o InTurn story some (Open s) texts (Signs z (Err e)) (Open new)
     sign_fails e b = go b.tried
@@ -200,11 +210,17 @@ module _ (o : Owner) (InTurn : Type 0) (story : List Release) (tried : Option Re
         at = at_declared b.declared
 
         go : IsTried (λ q. structure_record (sent s q (structure.spell z))) s.devices new.devices → (some : Option Release) × IsTriedStructure z some × HoldsAfter o InTurn story some (Open s) texts (Signs z (Err e)) (Open new)
-        go (inl none) =
-            (None, inl refl, fails new b.err None (Unit {0} × InTurn) tt (λ t. story_numbered t.1)
-            (lies_on o story None s.devices.ledger.file s.devices.journal.file new.devices.ledger.file new.devices.journal.file (lies_none at.none_tried) none.0 none.1))
-        go (inr (q, least, taken, added)) =
-            (Some (OfStructure z q), inr (q, refl), fails new b.err (Some (OfStructure z q)) (Unit {0} × InTurn)
-            (structure_after b.declared q least.below b.fits b.user b.number taken) (λ t. story_numbered t.1)
-            (lies_tried o story (OfStructure z q) s.devices.ledger.file s.devices.journal.file new.devices.ledger.file new.devices.journal.file (lies_none at.none_tried) taken
-            (subst (λ (x : Record). Added (Tried x) s.devices.journal.file new.devices.journal.file) (structure_is b.declared q) added)))
+        go (inl none) = (
+          None,
+          inl refl,
+          fails new b.err None (Unit {0} × InTurn) tt (λ t. story_numbered t.1)
+              (lies_on o story None s.devices.ledger.file s.devices.journal.file new.devices.ledger.file new.devices.journal.file (lies_none at.none_tried) none.0 none.1),
+        )
+        go (inr (q, least, taken, added)) = (
+          Some (OfStructure z q),
+          inr (q, refl),
+          fails new b.err (Some (OfStructure z q)) (Unit {0} × InTurn)
+              (structure_after b.declared q least.below b.fits b.user b.number taken) (λ t. story_numbered t.1)
+              (lies_tried o story (OfStructure z q) s.devices.ledger.file s.devices.journal.file new.devices.ledger.file new.devices.journal.file (lies_none at.none_tried) taken
+              (subst (λ (x : Record). Added (Tried x) s.devices.journal.file new.devices.journal.file) (structure_is b.declared q) added)),
+        )
