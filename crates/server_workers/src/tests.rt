@@ -166,7 +166,7 @@ impl<'a> Iterator for Offered<'a> {
 }
 
 /// Offers so many connections of the same bytes to a server of at most so many: how many it took, and what each was replied.
-fn offered<R: AllocGlobal + Abort + Clock + Threads + Wait + Sync>(
+fn offer<R: AllocGlobal + Abort + Clock + Threads + Wait + Sync>(
     rt: &R,
     input: &[u8],
     count: usize,
@@ -204,7 +204,7 @@ fn connections_past_the_most_stay(rt: HostRuntime) -> Result<(), Fail> {
     let mut wanted = Vec::from_slice(alloc, &[0, 0, 0, 0x21, 0])?;
     wanted.extend_from_slice(&EMPTY)?;
     for (count, most) in [(3usize, 2u32), (3, 0), (8, 8), (9, 8), (8, 1)] {
-        let (taken, outputs) = offered(&rt, &input, count, most)?;
+        let (taken, outputs) = offer(&rt, &input, count, most)?;
         assert_eq!(rt; taken, most);
         for (number, output) in outputs.iter().enumerate() {
             let is_served = number < most as usize;
@@ -219,7 +219,7 @@ fn connections_past_the_most_stay(rt: HostRuntime) -> Result<(), Fail> {
 
 #[test]
 fn fewer_connections_than_the_most(rt: HostRuntime) -> Result<(), Fail> {
-    let (taken, outputs) = offered(&rt, &[0, 0, 0, 1, 5], 2, 5)?;
+    let (taken, outputs) = offer(&rt, &[0, 0, 0, 1, 5], 2, 5)?;
     // The third time none came.
     assert_eq!(rt; taken, 3);
     for output in outputs {
