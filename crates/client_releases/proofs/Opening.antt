@@ -1,5 +1,5 @@
 -- Opening both devices, and what the journal tells then.
-use Rattle.std.proofs.Common.{◌≡◌, ◌≢◌, ◌⊎◌, ◌≤◌, ℕ, List, Option, Some, None, true, refl, sym, ◌∙◌, ap, subst, inl, inr, le_trans}
+use Rattle.std.proofs.Common.{◌≡◌, ◌≢◌, ◌⊎◌, ◌≤◌, ℕ, List, Option, Some, None, true, refl, sym, ◌∙◌, ap, subst, inl, inr}
 use Rattle.lms_sign.specs.Keys.{public_key_of}
 use Rattle.leaf_ledger.specs.Device.{HasRisen, History, Leaves, Throughout, at_rest}
 use Rattle.leaf_ledger.specs.Ledger.{IsFileOf, KeepsLedger, LedgerState}
@@ -84,9 +84,9 @@ ledger_refused l new j call kept = record {
   any_moment = λ rs tells leaves. stayed (Tells rs) j leaves;
 }
 
-pub both_tried : (l ledger new : History) (j journal : History) → ledger ≡ new → Call None l new → KeepsLedger l new → Step Nothing j journal → KeepsJournal j journal → Throughout (MayBeLeft j) j journal
-    → ((rs : List Record) → Tells rs j.now.text → Leaves (Tells rs) j.now → Throughout (Tells rs) j journal) → IsOpening l j ledger journal
-both_tried l ledger new j journal same call kept step kept_too left any = subst (λ (h : History). IsOpening l j h journal) (sym same) (record {
+pub both_tried : (l closed new : History) (j after : History) → closed ≡ new → Call None l new → KeepsLedger l new → Step Nothing j after → KeepsJournal j after → Throughout (MayBeLeft j) j after
+    → ((rs : List Record) → Tells rs j.now.text → Leaves (Tells rs) j.now → Throughout (Tells rs) j after) → IsOpening l j closed after
+both_tried l closed new j after same call kept step kept_too left any = subst (λ (h : History). IsOpening l j h after) (sym same) (record {
   leaves = call;
   ledger_kept = kept;
   records = step;
@@ -105,11 +105,11 @@ told_before before after rs a b s t = record {
 
 -- ---- the client
 
-pub opened : (user : ℕ) (seed id : List ℕ) (l : LedgerState) (j old : JournalFile) (n : ℕ) (last : Option (Signed Structure)) (phase : Phase) (text : List ℕ) → l.key ≡ public_key_of seed id → l.usable ≡ true → l.outstanding ≡ 0
+pub opened : (user : ℕ) (seed id : List ℕ) (l : LedgerState) (j old : JournalFile) (n : ℕ) (last : Option (Signed Structure)) (how : Phase) (text : List ℕ) → l.key ≡ public_key_of seed id → l.usable ≡ true → l.outstanding ≡ 0
     → l.file.now ≡ at_rest l.file.now.text → IsFileOf (public_key_of seed id) l.file.now.text → j.usable ≡ true → old.file.now ≡ at_rest old.file.now.text → j.file ≡ old.file
-    → (recorded : Recorded) → TellsState recorded old.file.now.text → told_by user recorded ≡ Some (record { number = n; last = last; phase = phase; text = text })
-    → IsReleased (record { user = user; seed = seed; id = id; devices = record { ledger = l; journal = j }; number = n; last = last; phase = phase; text = text })
-opened user seed id l j old n last phase text key usable settled rest own journal_usable journal_rest same recorded tells told = record {
+    → (recorded : Recorded) → TellsState recorded old.file.now.text → told_by user recorded ≡ Some (record { number = n; last = last; phase = how; text = text })
+    → IsReleased (record { user = user; seed = seed; id = id; devices = record { ledger = l; journal = j }; number = n; last = last; phase = how; text = text })
+opened user seed id l j old n last how text key usable settled rest own journal_usable journal_rest same recorded tells told = record {
   own_key = key;
   settled = settled;
   stands = λ _. record {
@@ -120,7 +120,7 @@ opened user seed id l j old n last phase text key usable settled rest own journa
     journal_rests = subst (λ (h : History). h.now ≡ at_rest h.now.text) (sym same) journal_rest;
     recorded = recorded;
     tells = subst (λ (h : History). TellsState recorded h.now.text) (sym same) tells;
-    told_phase = phase;
+    told_phase = how;
     told = told;
     is_phase = inl refl;
   };

@@ -6,10 +6,10 @@ use Rattle.layout.specs.declared.error.ReadError.{ReadError}
 use Rattle.client_releases.specs.Told.{own_in}
 
 same_user : (a b : ℕ) → a ≡ b → (a == b) ≡ true
-same_user a b = grind (arith, nat_tests)
+same_user a b same = grind (arith, nat_tests)
 
 other_user : (a b : ℕ) → (a ≡ b → ⊥) → (a == b) ≡ false
-other_user a b = grind (arith, nat_tests)
+other_user a b apart = grind (arith, nat_tests)
 
 module _ {V : Type 0} (f : Format V) (user_of : V → ℕ) (user : ℕ) (text : List ℕ) where
   -- something of this user

@@ -12,6 +12,19 @@ use Rattle.client_releases.specs.Told.{Released, sent, signed_by}
 use Rattle.client_releases.specs.declared.phase.Phase.{Phase}
 use Rattle.client_releases.specs.declared.phase.Phase.TheVariants as phase
 
+-- a client with what a call changes
+abbrev pub declared_with : Released → Devices → ℕ → List ℕ → Released
+declared_with r new n text = record { user = r.user; seed = r.seed; id = r.id; devices = new; number = n; last = r.last; phase = phase.Declared; text = text }
+
+abbrev pub signed_with : Released → Devices → Signed Structure → List ℕ → Released
+signed_with r new z text = record { user = r.user; seed = r.seed; id = r.id; devices = new; number = r.number; last = Some z; phase = phase.Signed; text = text }
+
+abbrev pub failed_with : Released → Devices → Released
+failed_with r new = record { user = r.user; seed = r.seed; id = r.id; devices = new; number = r.number; last = r.last; phase = phase.Failed; text = r.text }
+
+abbrev pub with_signature : Structure → List ℕ → Signed Structure
+with_signature z signature = record { value = z; signature = signature }
+
 module _ (r old : Released) (is : r ≡ old) (unsigned : List ℕ) (new : Devices) where
   pub moments_of : (k : Kind) → ((leaf : LeafNumber) → IsLeastFree r.devices.ledger.file.now.text leaf → AnyMoment leaf (record { kind = k; text = sent r leaf unsigned }) r.devices new)
       → (leaf : LeafNumber) → IsLeastFree old.devices.ledger.file.now.text leaf → AnyMoment leaf (record { kind = k; text = sent old leaf unsigned }) old.devices new
@@ -31,37 +44,30 @@ module _ (r old : Released) (is : r ≡ old) (unsigned : List ℕ) (new : Device
     kept_of k kept = subst (λ (o : Released). IsKept leaf (record { kind = k; text = sent old leaf unsigned }) o.devices new) is
         (subst (λ (t : List ℕ). IsKept leaf (record { kind = k; text = t }) r.devices new) text_is kept)
 
-    pub declared_of : (n : ℕ) → IsKept leaf (record { kind = kind.Certificate; text = text }) r.devices new
-        → (k : LeafNumber) × IsKept k (cert_record (sent old k unsigned)) old.devices new
-        × (record { user = r.user; seed = r.seed; id = r.id; devices = new; number = n; last = r.last; phase = phase.Declared; text = text }
-        ≡ record { user = old.user; seed = old.seed; id = old.id; devices = new; number = n; last = old.last; phase = phase.Declared; text = sent old k unsigned })
-    declared_of n kept = (
+    pub declared_of : (n m : ℕ) → n ≡ m → IsKept leaf (record { kind = kind.Certificate; text = text }) r.devices new
+        → (k : LeafNumber) × IsKept k (cert_record (sent old k unsigned)) old.devices new × (declared_with r new n text ≡ declared_with old new m (sent old k unsigned))
+    declared_of n m number kept = (
       leaf,
       kept_of kind.Certificate kept,
-      ap (λ (o : Released). record { user = o.user; seed = o.seed; id = o.id; devices = new; number = n; last = o.last; phase = phase.Declared; text = text }) is
-      ∙ ap (λ (t : List ℕ). record { user = old.user; seed = old.seed; id = old.id; devices = new; number = n; last = old.last; phase = phase.Declared; text = t }) text_is,
+      ap (λ (o : Released). declared_with o new n text) is ∙ ap (λ (t : List ℕ). declared_with old new n t) text_is ∙ ap (λ (k : ℕ). declared_with old new k (sent old leaf unsigned)) number,
     )
 
-    signed_is : (z : Structure) → unsigned ≡ structure.spell z → record { value = z; signature = signature } ≡ signed_by old.seed old.id leaf z
+    signed_is : (z : Structure) → unsigned ≡ structure.spell z → with_signature z signature ≡ signed_by old.seed old.id leaf z
     signed_is z spelled =
         let there : signature ≡ signature_of old.seed old.id leaf (structure.spell z) =
         made ∙ ap (λ (o : Released). signature_of o.seed o.id leaf unsigned) is ∙ ap (λ (u : List ℕ). signature_of old.seed old.id leaf u) spelled in
-        ap (λ (s : List ℕ). record { value = z; signature = s }) there
+        ap (λ (s : List ℕ). with_signature z s) there
 
     pub signed_of : (z : Structure) → unsigned ≡ structure.spell z → IsKept leaf (record { kind = kind.Structure; text = text }) r.devices new
-        → (k : LeafNumber) × IsKept k (structure_record (sent old k unsigned)) old.devices new
-        × (record { user = r.user; seed = r.seed; id = r.id; devices = new; number = r.number; last = Some (record { value = z; signature = signature }); phase = phase.Signed; text = text }
-        ≡ record { user = old.user; seed = old.seed; id = old.id; devices = new; number = old.number; last = Some (signed_by old.seed old.id k z); phase = phase.Signed; text = sent old k unsigned })
+        → (k : LeafNumber) × IsKept k (structure_record (sent old k unsigned)) old.devices new × (signed_with r new (with_signature z signature) text ≡ signed_with old new (signed_by old.seed old.id k z) (sent old k unsigned))
     signed_of z spelled kept = (
       leaf,
       kept_of kind.Structure kept,
-      ap (λ (o : Released). record { user = o.user; seed = o.seed; id = o.id; devices = new; number = o.number; last = Some (record { value = z; signature = signature }); phase = phase.Signed; text = text }) is
-      ∙ ap (λ (s : Signed Structure). record { user = old.user; seed = old.seed; id = old.id; devices = new; number = old.number; last = Some s; phase = phase.Signed; text = text }) (signed_is z spelled)
-      ∙ ap (λ (t : List ℕ). record { user = old.user; seed = old.seed; id = old.id; devices = new; number = old.number; last = Some (signed_by old.seed old.id leaf z); phase = phase.Signed; text = t }) text_is,
+      ap (λ (o : Released). signed_with o new (with_signature z signature) text) is
+      ∙ ap (λ (s : Signed Structure). signed_with old new s text) (signed_is z spelled)
+      ∙ ap (λ (t : List ℕ). signed_with old new (signed_by old.seed old.id leaf z) t) text_is,
     )
 
 -- a client of which a device failed
-pub failed_of : (r old : Released) → r ≡ old → (new : Devices)
-    → record { user = r.user; seed = r.seed; id = r.id; devices = new; number = r.number; last = r.last; phase = phase.Failed; text = r.text }
-    ≡ record { user = old.user; seed = old.seed; id = old.id; devices = new; number = old.number; last = old.last; phase = phase.Failed; text = old.text }
-failed_of r old is new = ap (λ (o : Released). record { user = o.user; seed = o.seed; id = o.id; devices = new; number = o.number; last = o.last; phase = phase.Failed; text = o.text }) is
+pub failed_of : (r old : Released) → r ≡ old → (new : Devices) → failed_with r new ≡ failed_with old new
+failed_of r old is new = ap (λ (o : Released). failed_with o new) is

@@ -15,6 +15,9 @@ use Rattle.client_releases.specs.declared.phase.Phase.{Phase}
 use Rattle.client_releases.specs.declared.phase.Phase.TheVariants as phase
 use Rattle.client_releases.proofs.Telling.{idle_may, declared_may, told_cert, told_structure}
 
+abbrev pub told_with : ℕ → Option (Signed Structure) → Phase → List ℕ → Told
+told_with n last how text = record { number = n; last = last; phase = how; text = text }
+
 -- the state after a record that may come
 pub next_of : (s : Recorded) (k : Kind) (text : List ℕ) → may_come k s ≡ true → (next : Recorded) × (next_state s k text ≡ Some next)
 next_of Idle kind.Certificate text may = (Declared None text, refl)
@@ -77,7 +80,7 @@ module _ (r : Released) (is : IsReleased r) (new : Devices) (usable : new.ledger
       recorded = next.0;
       tells = tells_next leaf (cert_record text) r.devices new s.recorded next.0 kept s.tells next.1;
       told_phase = phase.Declared;
-      told = told_cert r.user s.recorded next.0 (told_of s.told_phase r) text c s.told read next.1 ∙ ap (λ (k : ℕ). Some (record { number = k; last = r.last; phase = phase.Declared; text = text })) (sym number);
+      told = told_cert r.user s.recorded next.0 (told_of s.told_phase r) text c s.told read next.1 ∙ ap (λ (k : ℕ). Some (told_with k r.last phase.Declared text)) (sym number);
       is_phase = inl refl;
     };
   }
@@ -103,7 +106,7 @@ module _ (r : Released) (is : IsReleased r) (new : Devices) (usable : new.ledger
       recorded = next.0;
       tells = tells_next leaf (structure_record text) r.devices new s.recorded next.0 kept s.tells next.1;
       told_phase = phase.Signed;
-      told = told_structure r.user s.recorded next.0 text z read next.1 ∙ ap (λ (k : ℕ). Some (record { number = k; last = Some z; phase = phase.Signed; text = text })) (sym number);
+      told = told_structure r.user s.recorded next.0 text z read next.1 ∙ ap (λ (k : ℕ). Some (told_with k (Some z) phase.Signed text)) (sym number);
       is_phase = inl refl;
     };
   }
