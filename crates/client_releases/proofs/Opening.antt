@@ -1,7 +1,7 @@
 -- Opening both devices, and what the journal tells then.
-use Rattle.std.proofs.Common.{◌≡◌, ◌≢◌, ◌⊎◌, ◌≤◌, ℕ, List, Option, Some, None, true, refl, sym, ◌∙◌, ap, subst, inl, inr}
+use Rattle.std.proofs.Common.{◌≡◌, ◌≢◌, ◌⊎◌, ◌<◌, ◌≤◌, arith, ℕ, List, Option, Some, None, true, refl, sym, ◌∙◌, ap, subst, inl, inr}
 use Rattle.lms_sign.specs.Keys.{public_key_of}
-use Rattle.leaf_ledger.specs.Device.{HasRisen, History, Leaves, Throughout, at_rest}
+use Rattle.leaf_ledger.specs.Device.{HasRisen, History, Leaves, Throughout, at_rest, last_count}
 use Rattle.leaf_ledger.specs.Ledger.{IsFileOf, KeepsLedger, LedgerState}
 use Rattle.leaf_ledger.specs.Life.{Call}
 use Rattle.leaf_ledger.specs.Moments.{stayed}
@@ -129,3 +129,13 @@ opened user seed id l j old n last how text key usable settled rest own journal_
 -- another's text was told before
 pub other_before : (user : ℕ) (before after : List ℕ) → ((s : Recorded) → TellsState s after → TellsState s before) → TellsOfOther user after → TellsOfOther user before
 other_before user before after back other = record { recorded = other.recorded; tells = back other.recorded other.tells; untold = other.untold }
+
+-- the same files
+pub opening_of : (l j a b x y : History) → x ≡ a → y ≡ b → IsOpening l j a b → IsOpening l j x y
+opening_of l j a b x y s t opening = subst (λ (h : History). IsOpening l j h y) (sym s) (subst (λ (h : History). IsOpening l j a h) (sym t) opening)
+
+-- faults since an earlier moment
+pub risen_since : (a b c d : ℕ) → a ≤ b → d ≡ c → HasRisen b c → HasRisen a d
+risen_since a b c d less is risen below =
+    let small : c < last_count = subst (λ (x : ℕ). x < last_count) is below in
+    let up : b < c = risen small in omega (arith, up, less, is)

@@ -69,7 +69,6 @@ impl<L: Device, J: Device, A: Allocator> Model for Releases<L, J, A> {
 }
 
 /// Opens both devices, the ledger first.
-#[tactic(none)]
 fn open_both<L: Device, J: Device>(
     key: &PublicKey,
     ledger: L,
@@ -101,7 +100,6 @@ fn open_both<L: Device, J: Device>(
 }
 
 /// What a journal tells of the client of this user.
-#[tactic(none)]
 fn remembered<J: Device, A: Allocator + Copy>(
     alloc: A,
     user: User,
@@ -122,7 +120,6 @@ fn remembered<J: Device, A: Allocator + Copy>(
 
 impl<L: Device, J: Device, A: Allocator + Copy> Releases<L, J, A> {
     /// Opens both devices, and reads from the journal what was released. A refusal hands back what was handed in.
-    #[tactic(none)]
     pub fn open(
         alloc: A,
         user: User,
@@ -256,7 +253,6 @@ impl<L: Device, J: Device, A: Allocator> Releases<L, J, A> {
 
     /// Releases the certificate of the next operation, of this number: it is signed and journaled, and then handed out. It
     /// takes no memory, and fails by the devices alone.
-    #[tactic(none)]
     pub fn declare(
         &mut self,
         number: Version,
@@ -302,7 +298,6 @@ impl<L: Device, J: Device, A: Allocator> Releases<L, J, A> {
 
     /// Releases the structure of the declared operation: its text is signed and journaled, and then handed out with its
     /// signature. It takes no memory, and fails by the devices alone.
-    #[tactic(none)]
     pub fn sign(
         &mut self,
         structure: Structure<A>,

@@ -45,7 +45,6 @@ fn misread(error: ReadError) -> ClientError
 }
 
 /// The signed certificate of this user that a text is.
-#[tactic(none)]
 fn cert_in<A: Allocator + Copy>(
     alloc: A,
     user: User,
@@ -66,7 +65,6 @@ fn cert_in<A: Allocator + Copy>(
 }
 
 /// The signed structure of this user that a text is.
-#[tactic(none)]
 fn structure_in<A: Allocator + Copy>(
     alloc: A,
     user: User,
@@ -87,7 +85,6 @@ fn structure_in<A: Allocator + Copy>(
 }
 
 /// What a certificate tells that was declared after this structure, if there is one.
-#[tactic(none)]
 fn told_by_cert<A: Allocator + Copy>(
     alloc: A,
     user: User,
@@ -108,7 +105,6 @@ fn told_by_cert<A: Allocator + Copy>(
 }
 
 /// What the last records tell of the client of this user, if their texts are this user's.
-#[tactic(none)]
 pub(crate) fn told_by<A: Allocator + Copy>(
     alloc: A,
     user: User,

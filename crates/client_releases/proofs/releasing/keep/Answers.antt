@@ -1,0 +1,46 @@
+use Rattle.std.proofs.Common.{◌≡◌, List, ◌++◌, Result, Ok, Err, OnErr, sym, ◌∙◌, ap, subst, inl, inr}
+use Rattle.std.proofs.lemmas.Result.{err_from_is_err_and}
+use Rattle.lms_sign.specs.Signature.{signature_of}
+use Rattle.leaf_ledger.specs.Ledger.{LedgerState}
+use Rattle.client_journal.specs.Records.{Record}
+use Rattle.client_releases.specs.Errors.{of_ledger, of_journal}
+use Rattle.client_releases.proofs.Keeping.{device_only, kept_now, not_taken, not_tried, taken, tried_one}
+use Rattle.client_releases.proofs.releasing.keep.Goals as goal
+
+on_err : {T E P : Type 0} (r : Result T E) → P → OnErr r P
+on_err (Ok x) p = tt
+on_err (Err e) p = p
+
+-- ---- no leaf was taken
+
+pub returns-in_err-leaf-clause-any_moment : goal.returns-in_err-leaf-clause-any_moment
+returns-in_err-leaf-clause-any_moment g c leaf least =
+    let t = c.in_err-leaf.ensures in
+    not_taken leaf _ c.args.ledger.now c.take.new.self c.args.journal.now c.requires.journal_rests t.own_file (t.any_moment leaf least) (t.reads leaf least)
+
+pub returns-in_err-leaf-clause-tried : goal.returns-in_err-leaf-clause-tried
+returns-in_err-leaf-clause-tried g c = on_err c.from_residual.result (not_tried _ c.args.ledger.now c.take.new.self c.args.journal.now c.in_err-leaf.ensures.step)
+
+pub returns-in_err-leaf-clause-device : goal.returns-in_err-leaf-clause-device
+returns-in_err-leaf-clause-device g c =
+    let p = err_from_is_err_and c.from_residual.result c.from_residual.ensures.1 in
+    let t = c.in_err-leaf.ensures in
+    let is = device_only c.in_err-leaf.field-0.0 (λ none. c.requires.free (t.no_leaf (ap Err none)).0) (λ foreign. t.ours (ap Err foreign)) in
+    rw p.1 (p.2 ∙ ap of_ledger is, inl (t.device (ap Err is)).1)
+
+-- ---- a leaf was taken
+
+pub returns-in_err-append-clause-any_moment : goal.returns-in_err-append-clause-any_moment
+returns-in_err-append-clause-any_moment g c = ?
+
+pub returns-in_err-append-clause-tried : goal.returns-in_err-append-clause-tried
+returns-in_err-append-clause-tried g c = ?
+
+pub returns-in_err-append-clause-device : goal.returns-in_err-append-clause-device
+returns-in_err-append-clause-device g c = ?
+
+pub returns-clause-kept : goal.returns-clause-kept
+returns-clause-kept g c = ?
+
+pub returns-clause-any_moment : goal.returns-clause-any_moment
+returns-clause-any_moment g c = ?
