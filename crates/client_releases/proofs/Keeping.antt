@@ -1,5 +1,5 @@
 -- What both devices went through where a text was signed and put into the journal, or that was tried.
-use Rattle.std.proofs.Common.{◌≡◌, List, [], ◌∷◌, ◌++◌, Some, None, inl, inr, refl, subst}
+use Rattle.std.proofs.Common.{◌≡◌, ℕ, List, [], ◌∷◌, ◌++◌, Some, None, inl, inr, refl, subst}
 use Rattle.leaf_ledger.specs.Device.{History, Throughout, at_rest}
 use Rattle.leaf_ledger.specs.Ledger.{IsFileOf, IsLeastFree, LeafNumber, LedgerState, UsedWith, UsedWithOrWithout, with_mark}
 use Rattle.leaf_ledger.specs.Life.{Call}
@@ -8,9 +8,14 @@ use Rattle.leaf_ledger.specs.declared.error.LedgerError.TheVariants as ledger
 use Rattle.client_journal.proofs.Lives.{no_call as no_step}
 use Rattle.client_journal.specs.Life.{Appended, Tried}
 use Rattle.client_journal.specs.Life.{Call as Step}
+use Rattle.client_journal.specs.declared.kind.Kind.{Kind}
 use Rattle.client_journal.specs.Records.{JournalFile, Record, Tells, TellsWithOrWithout}
 use Rattle.client_releases.specs.Releasing.{AnyMoment, IsKept, IsTried}
 use Rattle.client_releases.proofs.Untouched.{records_still, of_least}
+
+-- a record
+abbrev pub entry : Kind → List ℕ → Record
+entry kind text = record { kind = kind; text = text }
 
 -- the device of the ledger failed
 pub not_taken : (leaf : LeafNumber) (r : Record) (old new : LedgerState) (j : JournalFile) → j.file.now ≡ at_rest j.file.now.text → Throughout (IsFileOf old.key) old.file new.file

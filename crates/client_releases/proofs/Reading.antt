@@ -16,6 +16,12 @@ module _ {V : Type 0} (f : Format V) (user_of : V → ℕ) (user : ℕ) (text : 
   pub own_found : (v : V) → whole f text ≡ Ok v → user_of v ≡ user → own_in f user_of user text ≡ Some v
   own_found v read own = rw (read, same_user (user_of v) user own) refl
 
+  pub own_tested : (v : V) → whole f text ≡ Ok v → (user_of v == user) ≡ true → own_in f user_of user text ≡ Some v
+  own_tested v read own = rw (read, own) refl
+
+  pub other_tested : (v : V) → whole f text ≡ Ok v → (user_of v == user) ≡ false → own_in f user_of user text ≡ None
+  other_tested v read other = rw (read, other) refl
+
   -- something of another user
   pub own_other : (v : V) → whole f text ≡ Ok v → (user_of v ≡ user → ⊥) → own_in f user_of user text ≡ None
   own_other v read other = rw (read, other_user (user_of v) user other) refl

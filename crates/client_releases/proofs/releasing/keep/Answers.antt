@@ -1,10 +1,10 @@
-use Rattle.std.proofs.Common.{◌≡◌, List, ◌++◌, Result, Ok, Err, OnErr, sym, ◌∙◌, ap, subst, inl, inr}
+use Rattle.std.proofs.Common.{◌≡◌, ℕ, List, ◌++◌, Result, Ok, Err, OnErr, sym, ◌∙◌, ap, subst, inl, inr}
 use Rattle.std.proofs.lemmas.Result.{err_from_is_err_and}
 use Rattle.lms_sign.specs.Signature.{signature_of}
 use Rattle.leaf_ledger.specs.Ledger.{LedgerState}
-use Rattle.client_journal.specs.Records.{Record}
+use Rattle.client_journal.specs.declared.error.JournalError.TheVariants as journal
 use Rattle.client_releases.specs.Errors.{of_ledger, of_journal}
-use Rattle.client_releases.proofs.Keeping.{device_only, kept_now, not_taken, not_tried, taken, tried_one}
+use Rattle.client_releases.proofs.Keeping.{device_only, entry, kept_now, not_taken, not_tried, taken, tried_one}
 use Rattle.client_releases.proofs.releasing.keep.Goals as goal
 
 on_err : {T E P : Type 0} (r : Result T E) → P → OnErr r P
@@ -31,16 +31,55 @@ returns-in_err-leaf-clause-device g c =
 -- ---- a leaf was taken
 
 pub returns-in_err-append-clause-any_moment : goal.returns-in_err-append-clause-any_moment
-returns-in_err-append-clause-any_moment g c = ?
+returns-in_err-append-clause-any_moment g c =
+    let t = c.in_ok-leaf.ensures in
+    let n = c.in_ok-leaf.leaf.number in
+    let same : c.take.new.self.file ≡ c.settle.new.self.file = sym (ap (λ (l : LedgerState). l.file) c.settle.ensures.settled) in
+    let whole : c.deref.result.now ≡ c.args.unsigned ++ signature_of c.args.key.now.seed c.args.key.now.id n c.args.unsigned = cc in
+    let a = c.in_err-append.ensures in
+    taken (λ leaf. entry c.args.kind (c.args.unsigned ++ signature_of c.args.key.now.seed c.args.key.now.id leaf c.args.unsigned))
+    c.args.ledger.now c.settle.new.self c.args.journal.now c.append.new.self c.take.new.self.file same n t.leaf (entry c.args.kind c.deref.result.now) (ap (λ (x : List ℕ). entry c.args.kind x) whole) t.own_file t.any_moment t.used a.any_moment a.reads
 
 pub returns-in_err-append-clause-tried : goal.returns-in_err-append-clause-tried
-returns-in_err-append-clause-tried g c = ?
+returns-in_err-append-clause-tried g c =
+    let t = c.in_ok-leaf.ensures in
+    let n = c.in_ok-leaf.leaf.number in
+    let same : c.take.new.self.file ≡ c.settle.new.self.file = sym (ap (λ (l : LedgerState). l.file) c.settle.ensures.settled) in
+    let whole : c.deref.result.now ≡ c.args.unsigned ++ signature_of c.args.key.now.seed c.args.key.now.id n c.args.unsigned = cc in
+    on_err c.from_residual-in_err-append.result
+    (tried_one (λ leaf. entry c.args.kind (c.args.unsigned ++ signature_of c.args.key.now.seed c.args.key.now.id leaf c.args.unsigned))
+    c.args.ledger.now c.settle.new.self c.args.journal.now c.append.new.self c.take.new.self.file same n t.leaf (entry c.args.kind c.deref.result.now) (ap (λ (x : List ℕ). entry c.args.kind x) whole) t.step c.in_err-append.ensures.step)
 
 pub returns-in_err-append-clause-device : goal.returns-in_err-append-clause-device
-returns-in_err-append-clause-device g c = ?
+returns-in_err-append-clause-device g c =
+    let p = err_from_is_err_and c.from_residual-in_err-append.result c.from_residual-in_err-append.ensures.1 in
+    let a = c.in_err-append.ensures in
+    let ours = a.ours in
+    let is : c.in_err-append.field-0.0 ≡ journal.Device = cc in
+    rw p.1 (p.2 ∙ ap of_journal is, inr (a.device ours))
+
+-- ---- the record was appended
 
 pub returns-clause-kept : goal.returns-clause-kept
-returns-clause-kept g c = ?
+returns-clause-kept g c =
+    let t = c.in_ok-leaf.ensures in
+    let a = c.in_ok-append.ensures in
+    let n = c.in_ok-leaf.leaf.number in
+    let same : c.take.new.self.file ≡ c.settle.new.self.file = sym (ap (λ (l : LedgerState). l.file) c.settle.ensures.settled) in
+    let signed : c.sealed-sealed.result.signature ≡ signature_of c.args.key.now.seed c.args.key.now.id n c.args.unsigned = cc in
+    let all : c.sealed-sealed.result.kept.items ≡ c.args.unsigned ++ c.sealed-sealed.result.signature = cc in (
+      n,
+      signed,
+      all,
+      kept_now c.args.ledger.now c.settle.new.self c.args.journal.now c.append.new.self c.take.new.self.file same n t.leaf (entry c.args.kind c.deref.result.now) (entry c.args.kind c.sealed-sealed.result.kept.items) (ap (λ (x : List ℕ). entry c.args.kind x) c.deref.ensures.value) t.marked t.step a.appended a.at_rest a.step,
+    )
 
 pub returns-clause-any_moment : goal.returns-clause-any_moment
-returns-clause-any_moment g c = ?
+returns-clause-any_moment g c =
+    let t = c.in_ok-leaf.ensures in
+    let n = c.in_ok-leaf.leaf.number in
+    let same : c.take.new.self.file ≡ c.settle.new.self.file = sym (ap (λ (l : LedgerState). l.file) c.settle.ensures.settled) in
+    let whole : c.deref.result.now ≡ c.args.unsigned ++ signature_of c.args.key.now.seed c.args.key.now.id n c.args.unsigned = cc in
+    let a = c.in_ok-append.ensures in
+    taken (λ leaf. entry c.args.kind (c.args.unsigned ++ signature_of c.args.key.now.seed c.args.key.now.id leaf c.args.unsigned))
+    c.args.ledger.now c.settle.new.self c.args.journal.now c.append.new.self c.take.new.self.file same n t.leaf (entry c.args.kind c.deref.result.now) (ap (λ (x : List ℕ). entry c.args.kind x) whole) t.own_file t.any_moment t.used a.any_moment a.reads

@@ -1,8 +1,9 @@
-use Rattle.std.proofs.Common.{rules, ◌≡◌, ◌∙◌}
+use Rattle.std.proofs.Common.{rules, arith, ◌≡◌, ◌==◌, ◌∙◌, true, false}
+use Rattle.std.proofs.lemmas.Bool.Decides.{nat_tests}
 use Rattle.pending_list.specs.Signed.{signed}
 use Rattle.update_cert.specs.Cert.{cert}
 use Rattle.client_releases.specs.declared.error.ClientError.TheVariants as client
-use Rattle.client_releases.proofs.Reading.{own_fault, own_found, own_other}
+use Rattle.client_releases.proofs.Reading.{own_fault, own_found, own_tested, other_tested}
 use Rattle.client_releases.proofs.told.cert_in.Goals as goal
 
 pub returns-in-Err-clause-damaged : goal.returns-in-Err-clause-damaged
@@ -12,8 +13,11 @@ returns-in-Err-clause-damaged g c is =
 
 pub returns-then-ne-clause-damaged : goal.returns-then-ne-clause-damaged
 returns-then-ne-clause-damaged g c _ =
-    let other : c.in-Ok.cert.value.user ≡ c.args.user → ⊥ = search rules in own_other (signed cert) (λ x. x.value.user) c.args.user c.args.text.now c.in-Ok.cert c.in-Ok.ensures.exact other
+    let other : (c.in-Ok.cert.value.user == c.args.user) ≡ false = grind (arith, nat_tests) in other_tested (signed cert) (λ x. x.value.user) c.args.user c.args.text.now c.in-Ok.cert c.in-Ok.ensures.exact other
+
+seen : goal.returns-then-ne-clause-damaged
+seen g c _ = let h = c.ne in ?
 
 pub returns-clause-found : goal.returns-clause-found
 returns-clause-found g c =
-    let same : c.in-Ok.cert.value.user ≡ c.args.user = search rules in own_found (signed cert) (λ x. x.value.user) c.args.user c.args.text.now c.in-Ok.cert c.in-Ok.ensures.exact same
+    let same : (c.in-Ok.cert.value.user == c.args.user) ≡ true = grind (arith, nat_tests) in own_tested (signed cert) (λ x. x.value.user) c.args.user c.args.text.now c.in-Ok.cert c.in-Ok.ensures.exact same
