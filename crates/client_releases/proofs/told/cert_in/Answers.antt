@@ -15,9 +15,6 @@ pub returns-then-ne-clause-damaged : goal.returns-then-ne-clause-damaged
 returns-then-ne-clause-damaged g c _ =
     let other : (c.in-Ok.cert.value.user == c.args.user) ≡ false = grind (arith, nat_tests) in other_tested (signed cert) (λ x. x.value.user) c.args.user c.args.text.now c.in-Ok.cert c.in-Ok.ensures.exact other
 
-seen : goal.returns-then-ne-clause-damaged
-seen g c _ = let h = c.ne in ?
-
 pub returns-clause-found : goal.returns-clause-found
 returns-clause-found g c =
     let same : (c.in-Ok.cert.value.user == c.args.user) ≡ true = grind (arith, nat_tests) in own_tested (signed cert) (λ x. x.value.user) c.args.user c.args.text.now c.in-Ok.cert c.in-Ok.ensures.exact same

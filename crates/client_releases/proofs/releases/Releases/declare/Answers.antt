@@ -39,7 +39,7 @@ keep-requires-clause-short g c =
 pub returns-in-Ok-clause-declared : goal.returns-in-Ok-clause-declared
 returns-in-Ok-clause-declared g c =
     let k = c.in-Ok.ensures.kept in
-    declared_of _ c.args.self.now c.self.view_is c.args.unsigned _ _ _ k.0 k.1 k.2 _ _ c.get-self-inside.ensures k.3
+    declared_of _ c.args.self.now c.self.view_is c.args.unsigned _ _ _ k.0 k.1 k.2 _ _ c.get-self-inside.ensures.same k.3
 
 pub returns-in-Ok-clause-any_moment : goal.returns-in-Ok-clause-any_moment
 returns-in-Ok-clause-any_moment g c = moments_of _ c.args.self.now c.self.view_is c.args.unsigned (record { ledger = c.keep.new.ledger; journal = c.keep.new.journal }) kind.Certificate c.keep.ensures.any_moment
@@ -65,7 +65,7 @@ invariant_of-self g c =
     let own = c.requires.own in
     let u = c.in-Ok.ensures.usable in
     after_declare _ c.self.invariant _ u.0 u.1 c.keep.ensures.same_key c.keep.ensures.own_file c.keep.ensures.none_outstanding k.0 _ _ k.3 now (record { value = own.0; signature = c.in-Ok.sealed.signature })
-    (cert_there _ own.0 _ c.args.unsigned _ own.2 c.in-Ok.ensures.fits own.1 k.2 (own.3 ∙ sym (ap (λ (r : Released). r.user) c.self.view_is))) (c.get-self-inside.ensures ∙ sym own.4)
+    (cert_there _ own.0 _ c.args.unsigned _ own.2 c.in-Ok.ensures.fits own.1 k.2 (own.3 ∙ sym (ap (λ (r : Released). r.user) c.self.view_is))) (c.get-self-inside.ensures.same ∙ sym own.4)
 
 pub invariant_of-self-in-Err : goal.invariant_of-self-in-Err
 invariant_of-self-in-Err g c = after_fault _ c.self.invariant _ c.keep.ensures.same_key c.keep.ensures.none_outstanding
