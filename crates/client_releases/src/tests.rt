@@ -231,6 +231,7 @@ fn the_last_leaf_declares(rt: HostRuntime) {
     parts.ledger = device_of(&rt, &file);
     let mut releases = opened(&rt, parts);
     let _update = declare(&rt, &mut releases, 1).expect(&rt, "declared");
+    assert!(rt; releases.phase() == Phase::Declared);
     assert!(rt; !releases.has_free_leaf());
 }
 

@@ -16,7 +16,7 @@ on_err (Err e) p = p
 pub returns-in_err-leaf-clause-any_moment : goal.returns-in_err-leaf-clause-any_moment
 returns-in_err-leaf-clause-any_moment g c leaf least =
     let t = c.in_err-leaf.ensures in
-    not_taken leaf _ c.args.ledger.now c.take.new.self c.args.journal.now c.requires.journal_rests t.own_file (t.any_moment leaf least) (t.reads leaf least)
+    not_taken leaf (entry c.args.kind (c.args.unsigned ++ signature_of c.args.key.now.seed c.args.key.now.id leaf c.args.unsigned)) c.args.ledger.now c.take.new.self c.args.journal.now c.requires.journal_rests t.own_file (t.any_moment leaf least) (t.reads leaf least)
 
 pub returns-in_err-leaf-clause-tried : goal.returns-in_err-leaf-clause-tried
 returns-in_err-leaf-clause-tried g c = on_err c.from_residual.result (not_tried _ c.args.ledger.now c.take.new.self c.args.journal.now c.in_err-leaf.ensures.step)
