@@ -1,5 +1,5 @@
 -- Opening both devices, and what the journal tells then.
-use Rattle.std.proofs.Common.{◌≡◌, ◌≢◌, ◌⊎◌, ◌<◌, ◌≤◌, arith, ℕ, List, Option, Some, None, true, refl, sym, ◌∙◌, ap, subst, inl, inr}
+use Rattle.std.proofs.Common.{◌≡◌, ◌≢◌, ◌⊎◌, ◌<◌, ◌≤◌, arith, ℕ, List, Option, Some, None, true, refl, sym, subst, inl, inr}
 use Rattle.lms_sign.specs.Keys.{public_key_of}
 use Rattle.leaf_ledger.specs.Device.{HasRisen, History, Leaves, Throughout, at_rest, last_count}
 use Rattle.leaf_ledger.specs.Ledger.{IsFileOf, KeepsLedger, LedgerState}
@@ -16,12 +16,11 @@ use Rattle.client_journal.specs.declared.error.JournalError.{JournalError}
 use Rattle.client_journal.specs.declared.error.JournalError.TheVariants as journal
 use Rattle.version_order.specs.Structure.{Structure}
 use Rattle.pending_list.specs.declared.signed.Signed.{Signed}
-use Rattle.client_releases.specs.declared.error.ClientError.{ClientError}
 use Rattle.client_releases.specs.declared.error.ClientError.TheVariants as client
 use Rattle.client_releases.specs.declared.phase.Phase.{Phase}
 use Rattle.client_releases.specs.Errors.{of_journal, of_ledger}
 use Rattle.client_releases.specs.Releasing.{IsOpening}
-use Rattle.client_releases.specs.Told.{IsReleased, Told, TellsOfOther, told_by}
+use Rattle.client_releases.specs.Told.{IsReleased, TellsOfOther, told_by}
 
 -- ---- errors
 

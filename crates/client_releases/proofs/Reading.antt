@@ -1,5 +1,5 @@
 -- What a text of a journal is read as.
-use Rattle.std.proofs.Common.{◌≡◌, ℕ, List, Option, Some, None, Result, Ok, Err, ◌==◌, true, false, refl, arith}
+use Rattle.std.proofs.Common.{◌≡◌, ℕ, List, Some, None, Ok, Err, ◌==◌, true, false, refl, arith}
 use Rattle.std.proofs.lemmas.Bool.Decides.{nat_tests}
 use Rattle.layout.specs.Format.{Format, whole}
 use Rattle.layout.specs.declared.error.ReadError.{ReadError}

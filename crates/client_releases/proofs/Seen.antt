@@ -1,15 +1,13 @@
 -- The same of a client's fields and of what its callers see.
-use Rattle.std.proofs.Common.{◌≡◌, ℕ, List, ◌++◌, Option, Some, refl, sym, ◌∙◌, ap, subst}
+use Rattle.std.proofs.Common.{◌≡◌, ℕ, List, ◌++◌, Some, ◌∙◌, ap, subst}
 use Rattle.lms_sign.specs.Signature.{signature_of}
 use Rattle.leaf_ledger.specs.Ledger.{IsLeastFree, LeafNumber}
-use Rattle.client_journal.specs.Records.{Record}
 use Rattle.client_journal.specs.declared.kind.Kind.{Kind}
 use Rattle.client_journal.specs.declared.kind.Kind.TheVariants as kind
 use Rattle.version_order.specs.Structure.{Structure, structure}
 use Rattle.pending_list.specs.declared.signed.Signed.{Signed}
 use Rattle.client_releases.specs.Releasing.{AnyMoment, Devices, IsKept, IsTried, OneHasRisen, cert_record, structure_record}
 use Rattle.client_releases.specs.Told.{Released, sent, signed_by}
-use Rattle.client_releases.specs.declared.phase.Phase.{Phase}
 use Rattle.client_releases.specs.declared.phase.Phase.TheVariants as phase
 
 -- a client with what a call changes
@@ -64,8 +62,8 @@ module _ (r old : Released) (is : r ≡ old) (unsigned : List ℕ) (new : Device
       leaf,
       kept_of kind.Structure kept,
       ap (λ (o : Released). signed_with o new (with_signature z signature) text) is
-      ∙ ap (λ (s : Signed Structure). signed_with old new s text) (signed_is z spelled)
-      ∙ ap (λ (t : List ℕ). signed_with old new (signed_by old.seed old.id leaf z) t) text_is,
+          ∙ ap (λ (s : Signed Structure). signed_with old new s text) (signed_is z spelled)
+          ∙ ap (λ (t : List ℕ). signed_with old new (signed_by old.seed old.id leaf z) t) text_is,
     )
 
 -- a client of which a device failed

@@ -10,7 +10,7 @@ use Rattle.version_order.specs.Structure.{Structure}
 use Rattle.update_cert.specs.Cert.{Cert}
 use Rattle.pending_list.specs.declared.signed.Signed.{Signed}
 use Rattle.client_releases.specs.Releasing.{Devices, IsKept, cert_record, structure_record}
-use Rattle.client_releases.specs.Told.{IsPhase, IsReleased, Released, Stands, Told, after_cert, after_structure, cert_in, structure_in, told_by, told_of}
+use Rattle.client_releases.specs.Told.{IsPhase, IsReleased, Released, Stands, Told, cert_in, structure_in, told_of}
 use Rattle.client_releases.specs.declared.phase.Phase.{Phase}
 use Rattle.client_releases.specs.declared.phase.Phase.TheVariants as phase
 use Rattle.client_releases.proofs.Telling.{idle_may, declared_may, told_cert, told_structure}

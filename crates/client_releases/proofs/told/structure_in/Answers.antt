@@ -1,9 +1,9 @@
-use Rattle.std.proofs.Common.{rules, arith, ◌≡◌, ◌==◌, ◌∙◌, true, false}
+use Rattle.std.proofs.Common.{rules, arith, ◌≡◌, ◌==◌, false}
 use Rattle.std.proofs.lemmas.Bool.Decides.{nat_tests}
 use Rattle.pending_list.specs.Signed.{signed}
 use Rattle.version_order.specs.Structure.{structure}
 use Rattle.client_releases.specs.declared.error.ClientError.TheVariants as client
-use Rattle.client_releases.proofs.Reading.{own_fault, own_found, own_tested, other_tested}
+use Rattle.client_releases.proofs.Reading.{own_fault, own_found, other_tested}
 use Rattle.client_releases.proofs.told.structure_in.Goals as goal
 
 pub returns-in-Err-clause-damaged : goal.returns-in-Err-clause-damaged

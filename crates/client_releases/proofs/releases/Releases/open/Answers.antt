@@ -1,4 +1,4 @@
-use Rattle.std.proofs.Common.{◌≡◌, ℕ, List, Some, Err, refl, sym, ◌∙◌, ap, subst, inl, inr}
+use Rattle.std.proofs.Common.{◌≡◌, ℕ, List, Some, Err, refl, sym, ◌∙◌, ap, subst, inr}
 use Rattle.lms_sign.specs.Keys.{public_key_of}
 use Rattle.leaf_ledger.specs.Ledger.{IsFileOf, IsForeign}
 use Rattle.client_releases.proofs.Opening.{opened, opening_of, other_before, risen_since}
