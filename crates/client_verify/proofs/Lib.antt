@@ -7,3 +7,4 @@ pub mod GrowingLaws
 pub mod Reaching
 pub mod ByTableLaws
 pub mod Handing
+pub mod VerifiedLaws

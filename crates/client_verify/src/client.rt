@@ -14,6 +14,7 @@ use crate::good::Good;
 use crate::growing::{
     Made, Reached, Shown, Written, reach, reach_with, show, show_with, write_with,
 };
+use crate::known::Known;
 use crate::laid::copies;
 use crate::lists::with_own;
 use crate::look::Look;
@@ -55,7 +56,9 @@ pub struct Client<A: Allocator> {
 
 impl<A: Allocator> Model for Client<A> {
     ghost use Rattle.std.specs.Prelude.{◌≤◌};
+    ghost use Rattle.lms_sign.specs.Keys.{public_key_of};
     ghost use Rattle.client_verify.specs.State.{State};
+    ghost use Rattle.client_verify.specs.Verified.{AreOwn};
 
     ghost Value = { State };
 
@@ -75,7 +78,7 @@ impl<A: Allocator> Model for Client<A> {
       view = c.view;
     } };
 
-    ghost invariant = { λ c. c.leaf ≤ 1024 };
+    ghost invariant = { λ c. (c.leaf ≤ 1024) × AreOwn (public_key_of c.key.seed c.key.id) c.last c.text.items };
 }
 
 impl<A: Allocator + Copy> Client<A> {
@@ -220,7 +223,7 @@ impl<A: Allocator + Copy> Client<A> {
         ensures { IsSomeAnd self.now.view (λ v. v.table ≡ result.now) }
     {
         match &self.view {
-            Some(view) => &view.table,
+            Some(view) => view.good.table(),
             None => unreachable!(),
         }
     }
@@ -238,13 +241,44 @@ fn told<A: Allocator>(seen: Seen<A>) -> Look<A>
 }
 
 impl<A: Allocator + Copy> Client<A> {
-    ghost use Rattle.client_tree.specs.Held.{held};
+    ghost use Rattle.client_tree.specs.Held.{held, keeping};
     ghost use Rattle.layout.specs.Hash.{hash};
+    ghost use Rattle.lms_sign.specs.Keys.{public_key_of};
+    ghost use Rattle.client_verify.specs.JudgedLast.{judged_last, listed};
+    ghost use Rattle.client_verify.specs.Verified.{IsSealed};
     ghost use Rattle.client_verify.specs.FirstBroken.{view_over};
-    ghost use Rattle.client_verify.specs.State.{asked_of, block_breaks, checked_in, declared, committed, holding, next_cert, sent, signed_over};
-    ghost use Rattle.client_verify.specs.Judged.{Goes, GoesOn, Handed, IsReading, IsWriting, Judged, ReadsOn, view_of};
-    ghost use Rattle.client_verify.specs.Grown.{IsAnswer, IsWritten};
+    ghost use Rattle.client_verify.specs.State.{asked_of, block_breaks, checked_in, declared, committed, holding, known, next_cert, sent, signed_over};
+    ghost use Rattle.client_verify.specs.Judged.{Goes, GoesOn, Handed, IsReading, IsWriting, Judged, ReadsOn, unjudged, view_of};
+    ghost use Rattle.client_verify.specs.Grown.{IsAnswer, IsReached, IsWritten};
     ghost use Rattle.client_verify.specs.Looked.{Looked, Given};
+
+    /// The lists that broke no rule last, whose signatures were verified: of the accepted reply, of the one under check, or
+    /// of the accepted view.
+    fn judged_last(&self) -> Option<&Good<A>>
+        ensures { option_map listed (option_copied result) ≡ judged_last self.now }
+    {
+        if let Some(ready) = &self.accepted {
+            return Some(&ready.good);
+        }
+        if let Some(good) = self.checked.as_ref().and_then(|checked| checked.good()) {
+            return Some(good);
+        }
+        self.view.as_ref().map(|view| &view.good)
+    }
+
+    /// What a reply is compared with.
+    fn known(&self) -> Known<'_, A>
+        ensures { result ≡ known self.now }
+    {
+        Known::new(
+            self.user,
+            &self.pinned,
+            self.last.as_ref(),
+            &self.text,
+            self.key.public(),
+            self.judged_last(),
+        )
+    }
 
     /// The number of the next operation, where a leaf is left.
     fn next_number(&self) -> Result<Version, ClientError>
@@ -269,6 +303,7 @@ impl<A: Allocator + Copy> Client<A> {
         requires few { length changes.now ≤ 16 }
         ensures kept { IfOk result (λ s. s.kept.items ≡ sent self.now (cert.spell (next_cert self.now changes.now))) }
         ensures sent { IfOk result (λ s. s.sent.items ≡ sent self.now (cert.spell (next_cert self.now changes.now))) }
+        ensures sealed { IfOk result (λ s. IsSealed (public_key_of self.now.seed self.now.id) s.kept.items) }
     {
         let last = digest_of_last(self.alloc, self.last.as_ref())?;
         let text = cert_text(self.alloc, self.user, number, last, changes)?;
@@ -330,7 +365,6 @@ impl<A: Allocator + Copy> Client<A> {
                 self.ask(Stage::Writing(good, asked), digest)
             }
             Written::Parts(made) => {
-                let Good { lists, table } = good;
                 let Made {
                     handle,
                     records,
@@ -338,8 +372,7 @@ impl<A: Allocator + Copy> Client<A> {
                     lost,
                 } = made;
                 let ready = Ready {
-                    lists,
-                    table: table.table,
+                    good,
                     handle,
                     records,
                     lost,
@@ -359,19 +392,12 @@ impl<A: Allocator + Copy> Client<A> {
         ensures only_memory { IfErr result (λ e. e ≡ ClientError.Memory) }
         ensures err { OnErr result (self.new ≡ self.old) }
     {
-        let judged = judge(
-            self.alloc,
-            self.user,
-            &self.pinned,
-            self.last.as_ref(),
-            &self.text,
-            text,
-        )?;
-        let reply = match judged {
+        let known = self.known();
+        let reply = match judge(self.alloc, &known, text)? {
             Ok(reply) => reply,
             Err(rule) => return Ok(Step::Broken(rule)),
         };
-        match reach(self.alloc, &self.pinned, &reply, &self.blocks)? {
+        match reach(self.alloc, &known, &reply, &self.blocks)? {
             Reached::Breaks(rule) => Ok(Step::Broken(rule)),
             Reached::Lacks(asked) => {
                 let digest = asked.digest;
@@ -384,6 +410,22 @@ impl<A: Allocator + Copy> Client<A> {
         }
     }
 
+    /// How far the reply under check comes with one block more, whose digest was computed.
+    fn reach_on(&self, digest: Digest, text: &[u8]) -> Result<Reached<A>, Memory>
+        requires hashed { digest ≡ hash text.now }
+        requires reading { IsSomeAnd self.now.checked IsReading }
+        ensures { IfSome self.now.checked (λ k. IfOk result (λ reached. IsSomeAnd (unjudged k) (λ x. IsReached (held (keeping self.now.blocks text.now)) self.now.pinned x reached))) }
+    {
+        let known = self.known();
+        let Some(checked) = &self.checked else {
+            unreachable!()
+        };
+        let Stage::Reading(reply, _) = &checked.stage else {
+            unreachable!()
+        };
+        reach_with(self.alloc, &known, reply, &self.blocks, digest, text)
+    }
+
     /// Takes a block of the table of principals, which was asked for. Only want of memory is an error.
     fn read_on(&mut self, digest: Digest, text: &[u8]) -> Result<Step<A>, ClientError>
         requires hashed { digest ≡ hash text.now }
@@ -392,13 +434,7 @@ impl<A: Allocator + Copy> Client<A> {
         ensures only_memory { IfErr result (λ e. e ≡ ClientError.Memory) }
         ensures err { OnErr result (self.new ≡ self.old) }
     {
-        let Some(checked) = &self.checked else {
-            unreachable!()
-        };
-        let Stage::Reading(reply, _) = &checked.stage else {
-            unreachable!()
-        };
-        let reached = reach_with(self.alloc, &self.pinned, reply, &self.blocks, digest, text)?;
+        let reached = self.reach_on(digest, text)?;
         if let Reached::Breaks(rule) = reached {
             return Ok(Step::Broken(rule));
         }
@@ -491,7 +527,7 @@ impl<A: Allocator + Copy> Client<A> {
         let Some(ready) = &self.accepted else {
             unreachable!()
         };
-        let copies = ready.lists.copies(self.alloc)?;
+        let copies = ready.good.lists().copies(self.alloc)?;
         let over = sign_over(
             self.alloc,
             &self.key,
@@ -499,7 +535,7 @@ impl<A: Allocator + Copy> Client<A> {
             ready.handle,
             &ready.records,
             self.last.as_ref(),
-            ready.lists.own().plan(),
+            ready.good.lists().own().plan(),
         )?;
         let Some(ready) = self.accepted.take() else {
             unreachable!()
@@ -516,8 +552,7 @@ impl<A: Allocator + Copy> Client<A> {
         self.text = kept;
         self.checked = None;
         self.view = Some(AcceptedView {
-            lists: ready.lists,
-            table: ready.table,
+            good: ready.good,
             structures: with_own(copies, shown),
             lost: ready.lost,
             looking: None,
@@ -539,8 +574,8 @@ impl<A: Allocator + Copy> Client<A> {
         let shown = show(
             self.alloc,
             &self.pinned,
-            &view.table,
-            &view.lists,
+            view.good.table(),
+            view.good.lists(),
             principal,
             i_number,
             &self.blocks,
@@ -598,8 +633,8 @@ impl<A: Allocator + Copy> Client<A> {
         let shown = show_with(
             self.alloc,
             &self.pinned,
-            &view.table,
-            &view.lists,
+            view.good.table(),
+            view.good.lists(),
             looking.principal,
             looking.i_number,
             &self.blocks,

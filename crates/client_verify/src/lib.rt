@@ -9,6 +9,7 @@ mod client;
 mod error;
 mod good;
 mod growing;
+mod known;
 mod laid;
 mod lists;
 mod look;

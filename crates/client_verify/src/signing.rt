@@ -1,7 +1,9 @@
 //! Signing a text, once what it needs of memory is there.
 
-ghost use Rattle.std.specs.Prelude.{◌≡◌, ◌+◌, ◌<◌, ◌≤◌, ◌++◌, IfOk, vec_len, vec_capacity, length};
-ghost use Rattle.lms_sign.specs.Signature.{signature_of};
+ghost use Rattle.std.specs.Prelude.{◌≡◌, true, ◌+◌, ◌<◌, ◌≤◌, ◌++◌, IfOk, vec_len, vec_capacity, length};
+ghost use Rattle.lms_sign.specs.Keys.{public_key_of};
+ghost use Rattle.lms_sign.specs.Signature.{signature_of, valid};
+ghost use Rattle.client_verify.specs.Verified.{IsSealed};
 
 use layout::Memory;
 use lms_sign::{Leaf, PrivateKey, SIGNATURE_SIZE, sign};
@@ -39,7 +41,9 @@ fn with_signature<A: Allocator>(text: Vec<u8, A>, signature: &Signature) -> Vec<
 /// The signature of a text by this leaf, which is spent. It takes no memory.
 fn signature_by<A: Allocator>(key: &PrivateKey<A>, leaf: u32, text: &[u8]) -> Signature
     requires { leaf < 1024 }
-    ensures { result ≡ signature_of key.now.seed key.now.id leaf text.now }
+    ensures same { result ≡ signature_of key.now.seed key.now.id leaf text.now }
+    ensures valid { valid (public_key_of key.now.seed key.now.id) text.now result ≡ true }
+    ensures size { length result ≡ 2508 }
 {
     let (signature, spent) = sign(key, Leaf::issue(&key.public(), leaf), text);
     spent.end();
@@ -57,6 +61,8 @@ pub(crate) fn seal<A: Allocator + Copy>(
     ensures kept { IfOk result (λ s. s.kept.items ≡ text.items ++ signature_of key.now.seed key.now.id leaf text.items) }
     ensures sent { IfOk result (λ s. s.sent.items ≡ text.items ++ signature_of key.now.seed key.now.id leaf text.items) }
     ensures signature { IfOk result (λ s. s.signature ≡ signature_of key.now.seed key.now.id leaf text.items) }
+    ensures valid { IfOk result (λ s. valid (public_key_of key.now.seed key.now.id) text.items s.signature ≡ true) }
+    ensures sealed { IfOk result (λ s. IsSealed (public_key_of key.now.seed key.now.id) s.kept.items) }
 {
     let copy = with_room(Vec::from_slice(alloc, &text)?)?;
     let text = with_room(text)?;

@@ -2,10 +2,12 @@
 
 ghost use Rattle.std.specs.Prelude.{◌≡◌, ◌<◌, IfOk};
 ghost use Rattle.std.specs.Option.{option_copied};
+ghost use Rattle.lms_sign.specs.Keys.{public_key_of};
 ghost use Rattle.lms_sign.specs.Signature.{signature_of};
 ghost use Rattle.version_order.specs.Structure.{structure};
 ghost use Rattle.pending_list.specs.Signed.{signed};
 ghost use Rattle.client_verify.specs.State.{structure_over, signed_by};
+ghost use Rattle.client_verify.specs.Verified.{IsSealed, IsSigned};
 
 use crate::signing::{Sealed, seal};
 use layout::{Digest, Memory, Text};
@@ -60,6 +62,8 @@ pub(crate) fn sign_over<A: Allocator + Copy>(
     ensures shown { IfOk result (λ over. over.shown ≡ over.structure) }
     ensures kept { IfOk result (λ over. over.kept.items ≡ (signed structure).spell over.structure) }
     ensures sent { IfOk result (λ over. over.sent.items ≡ (signed structure).spell over.structure) }
+    ensures own { IfOk result (λ over. IsSigned (public_key_of key.now.seed key.now.id) over.structure) }
+    ensures sealed { IfOk result (λ over. IsSealed (public_key_of key.now.seed key.now.id) over.kept.items) }
 {
     let value = structure_over(alloc, handle, records, last, plan)?;
     let copy = value.copy(alloc)?;

@@ -1,4 +1,4 @@
-use Rattle.std.proofs.Common.{◌≡◌, List, map, subst}
+use Rattle.std.proofs.Common.{◌≡◌, List, map, refl, subst}
 use Rattle.client_tree.specs.Held.{held}
 use Rattle.client_verify.specs.declared.growing.Written.{Written}
 use Rattle.client_verify.specs.Grown.{IsWritten}
@@ -22,4 +22,4 @@ returns-in-Parts g c =
     let own = w.0 in
     let groups = w.1 in
     let is = w.2 in
-    (own, groups, made.lost.items, ready_is _ old _ x made.handle own.handle made.records.items (map (record_over x.lists.own.plan) groups) made.lost.items c.self.view_is c.good.view_is is.0 is.1, w.3, w.4, is.2)
+    (own, groups, made.lost.items, ready_is _ old x x made.handle own.handle made.records.items (map (record_over x.lists.own.plan) groups) made.lost.items c.self.view_is refl is.0 is.1, w.3, w.4, is.2)
