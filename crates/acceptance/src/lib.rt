@@ -66,4 +66,6 @@ mod tables;
 #[cfg(test)]
 mod texts;
 #[cfg(test)]
+mod two_users;
+#[cfg(test)]
 mod world;
