@@ -5,6 +5,8 @@ mod caller;
 #[cfg(test)]
 mod connections;
 #[cfg(test)]
+mod logs;
+#[cfg(test)]
 mod loopback;
 #[cfg(test)]
 mod operations;

@@ -24,6 +24,8 @@ pub struct PlainUser {
     number: u32,
     /// The digest of its last structure.
     last: [u8; 32],
+    /// How often a call was answered Busy.
+    busy: u32,
 }
 
 /// The size of a text, as it stands before it in another one.
@@ -42,12 +44,18 @@ impl PlainUser {
             leaf: 0,
             number: 0,
             last: [0; 32],
+            busy: 0,
         })
     }
 
     /// Its public key.
     pub fn public(&self) -> PublicKey {
         self.key.public()
+    }
+
+    /// How often a call of its operations was answered Busy, and sent again.
+    pub fn busy(&self) -> u32 {
+        self.busy
     }
 
     /// These texts one after another, and their signature by the next leaf.
@@ -96,12 +104,12 @@ impl PlainUser {
         changes: &[u8],
     ) -> Result<(Status, Status), CallError> {
         let certificate = self.certificate(changes)?;
-        let (placed, reply) = insist(caller, RequestKind::Update, &certificate)?;
+        let (placed, reply) = insist(caller, RequestKind::Update, &certificate, &mut self.busy)?;
         if placed != Status::Ok {
             return Ok((placed, placed));
         }
         let structure = self.structure(&reply)?;
-        let (committed, _) = insist(caller, RequestKind::Commit, &structure)?;
+        let (committed, _) = insist(caller, RequestKind::Commit, &structure, &mut self.busy)?;
         Ok((placed, committed))
     }
 }
@@ -119,11 +127,12 @@ pub fn listing(alloc: Global, users: &[PlainUser]) -> Result<Vec<u8>, CallError>
     Ok(changes)
 }
 
-/// Asks, and again where the answer is Busy.
+/// Asks, and again where the answer is Busy, which is counted.
 fn insist<S: Read + Write + Drop>(
     caller: &mut Caller<S>,
     kind: RequestKind,
     text: &[u8],
+    busy: &mut u32,
 ) -> Result<(Status, Vec<u8>), CallError> {
     if text.len() >= 2_097_152 {
         return Err(CallError::Form);
@@ -133,6 +142,7 @@ fn insist<S: Read + Write + Drop>(
         if replied.status != Status::Busy {
             return Ok((replied.status, replied.payload));
         }
+        *busy = busy.saturating_add(1);
     }
     Err(CallError::Lost)
 }

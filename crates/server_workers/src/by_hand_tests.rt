@@ -4,6 +4,7 @@ ghost use Rattle.std.specs.Prelude.{◌≡◌, [], true};
 ghost use Rattle.crossbeam_queue.specs.Passes.{IsPassOf, ruled_capacity};
 ghost use Rattle.server_workers.specs.Hands.{hand, hand_of};
 
+use crate::tests::{replies, requests};
 use crate::{
     CallPass, CallQueue, Ended, Flusher, MemoryConnection, OpenGate, ServerName, Shared, converse,
     empty_queue,
@@ -64,11 +65,13 @@ fn conversed<W: Write + Drop, R: Wait>(
     ))
 }
 
-/// Two requests that no text follows are answered, and then it ends like this.
-fn two_replies<R: AllocGlobal + Abort + Wait>(
+/// A conversation over these bytes is replied this, ends like this, and has so many calls answered.
+fn converses<R: AllocGlobal + Abort + Wait>(
     rt: &R,
     input: &[u8],
+    wanted: &[u8],
     how: Ended,
+    calls: u64,
 ) -> Result<(), Fail> {
     let alloc = rt.alloc();
     let mut key = [0; 56];
@@ -76,18 +79,42 @@ fn two_replies<R: AllocGlobal + Abort + Wait>(
     let pinned = PublicKey::from_bytes(key).expect(rt, "a key");
     let mut output = Vec::new(alloc);
     let (ended, answered, log) = conversed(rt, alloc, pinned, input, &mut output, Vec::new(alloc))?;
-    assert_eq!(rt; (ended, answered), (how, 2));
+    assert_eq!(rt; (ended, answered), (how, calls));
     assert!(rt; log.is_empty(), "nothing was logged");
-    assert!(rt;
-        output.as_slice() == [0, 0, 0, 1, 1, 0, 0, 0, 1, 1].as_slice(),
-        "two replies"
-    );
+    assert!(rt; output.as_slice() == wanted, "the replies");
     Ok(())
+}
+
+/// Two requests that no text follows are answered, and then it ends like this.
+fn two_replies<R: AllocGlobal + Abort + Wait>(
+    rt: &R,
+    input: &[u8],
+    how: Ended,
+) -> Result<(), Fail> {
+    converses(rt, input, b"\0\0\0\x01\x01\0\0\0\x01\x01", how, 2)
 }
 
 #[test]
 fn a_conversation_by_hand(rt: HostRuntime) -> Result<(), Fail> {
     two_replies(&rt, b"\0\0\0\x01\x01\0\0\0\x01\x02", Ended::End)?;
     two_replies(&rt, b"\0\0\0\x01\x01\0\0\0\x01\x02\0\0\0", Ended::End)?;
-    two_replies(&rt, b"\0\0\0\x01\x01\0\0\0\x01\x02\0\0\0\0", Ended::Length)
+    two_replies(&rt, b"\0\0\0\x01\x01\0\0\0\x01\x02\0\0\0\0", Ended::Length)?;
+    // 2,097,153 bytes, and a request that isn't read any more.
+    two_replies(
+        &rt,
+        b"\0\0\0\x01\x01\0\0\0\x01\x02\0\x20\0\x01\0\0\0\x01\x03",
+        Ended::Length,
+    )?;
+    converses(&rt, b"", b"", Ended::End, 0)?;
+    converses(&rt, b"\0\0\0\0", b"", Ended::Length, 0)
+}
+
+/// No such kind; a digest of 31 bytes; the empty block put, and got; a digest that no block has.
+#[test]
+fn blocks_by_hand(rt: HostRuntime) -> Result<(), Fail> {
+    let alloc = rt.alloc();
+    let (mut input, wanted) = (requests(alloc)?, replies(alloc)?);
+    converses(&rt, &input, &wanted, Ended::End, 0)?;
+    input.extend_from_slice(&[0; 4])?;
+    converses(&rt, &input, &wanted, Ended::Length, 0)
 }

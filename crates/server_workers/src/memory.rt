@@ -1,6 +1,8 @@
 //! A connection in memory.
 
-ghost use Rattle.std.specs.Prelude.{◌≡◌, ◌<◌, ◌≤◌, Some, take, length, nat_eq};
+ghost use Rattle.std.specs.Prelude.{◌≡◌, ◌<◌, ◌≤◌, ◌-◌, [], Ok, Some, true, take, length, min, nat_eq, IfOk, OnErr};
+ghost use Rattle.leaf_ledger.specs.Device.{HasCause};
+ghost use Rattle.server_workers.specs.Conversation.{goes_on};
 
 use crate::connection::{Connection, ConnectionFault, fault};
 
@@ -41,7 +43,16 @@ impl<'a> Connection for MemoryConnection<'a> {
 
     ghost fault_count = { λ c. c.faults };
 
-    fn read(&mut self, buffer: &mut [u8]) -> Result<usize, ConnectionFault> {
+    fn read(&mut self, buffer: &mut [u8]) -> Result<usize, ConnectionFault>
+        ensures bound { IfOk result (λ count. count ≤ length buffer.new) }
+        ensures ok { IfOk result (λ count. told self.new ≡ goes_on (take count buffer.new) [] (told self.old)) }
+        ensures end { result ≡ Ok 0 → 0 < length buffer.new → is_at_end self.new ≡ true }
+        ensures err { OnErr result (told self.new ≡ told self.old) }
+        ensures cause { HasCause (fault_count self.old) (fault_count self.new) result }
+        // So many come at once, and not more.
+        ensures count { result ≡ Ok (min (min (length self.old.input.now - self.old.given) (length buffer.old)) self.old.piece) }
+        ensures same { (self.new.input ≡ self.old.input) × (self.new.piece ≡ self.old.piece) }
+    {
         let left = self.input.len() - self.given;
         let count = left.min(buffer.len()).min(self.piece);
         buffer[..count].copy_from_slice(&self.input[self.given..self.given + count]);
