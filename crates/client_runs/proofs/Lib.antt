@@ -1,0 +1,11 @@
+mod Lowering
+mod Replies
+mod Quiet
+mod Mirrors
+mod Once
+mod Holds
+mod Judging
+mod Moves
+mod Genuine
+mod Views
+mod Agreed
