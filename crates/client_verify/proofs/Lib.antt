@@ -8,3 +8,4 @@ pub mod Reaching
 pub mod ByTableLaws
 pub mod Handing
 pub mod VerifiedLaws
+pub mod Declared
