@@ -9,3 +9,4 @@ pub mod ByTableLaws
 pub mod Handing
 pub mod VerifiedLaws
 pub mod Declared
+pub mod Releasing

@@ -434,6 +434,7 @@ impl<L: Device, J: Device, A: Allocator + Copy> Client<L, J, A> {
         ensures err { IfErr result (λ e. e ≢ ClientError.Device → self.new ≡ self.old) }
     {
         self.releases.stands();
+        let _size = self.releases.key().as_bytes();
         let (number, unsigned) = match self.prepare(changes, laid) {
             Ok(prepared) => prepared,
             Err(error) => return Err(error),
@@ -682,6 +683,7 @@ impl<L: Device, J: Device, A: Allocator + Copy> Client<L, J, A> {
         ensures err { IfErr result (λ e. e ≢ ClientError.Device → self.new ≡ self.old) }
     {
         self.releases.stands();
+        let _size = self.releases.key().as_bytes();
         let (draft, copies) = match self.draft() {
             Ok(drawn) => drawn,
             Err(error) => return Err(error),
