@@ -1,27 +1,10 @@
-use Rattle.std.proofs.Common.{rules, ◌≡◌, ◌≢◌, ◌⊎◌, ◌+◌, ◌<◌, ◌≤◌, None, Some, vec_capacity, vec_len, IfOk, IfErr, IsErrOf, IfSome, IsOk, OnOk, OnErr, IsSome, IsSomeAnd, IsTrue, ◌↔◌, true, false, length, map, ℕ, ◌-◌, ◌*◌, ◌/◌, ◌%◌, Bool, nat_eq, nat_lt, List, [], ◌∷◌, ◌++◌, slice_index_or, slice_set, bit_and, bit_or, Fits, w8, w32, w64, Bor, MutBor}
-use Rattle.std.specs.Option.{option_copied, option_map}
-use Rattle.std.specs.Ordering.{nat_cmp}
-use Rattle.std.specs.Vec.{vec_items}
-use Rattle.layout.specs.Ascending.{Ascends}
-use Rattle.leaf_ledger.specs.Ledger.{IsFull, IsLeastFree, LeafNumber}
-use Rattle.version_order.specs.Structure.{structure}
-use Rattle.update_cert.specs.Cert.{cert}
-use Rattle.pending_list.specs.Reply.{user_of}
-use Rattle.client_verify.specs.Grown.{IsTold, IsAnswer, IsReached, IsWritten}
-use Rattle.client_verify.specs.Laid.{are_laid}
-use Rattle.client_tree.specs.Held.{held, keeping}
-use Rattle.layout.specs.Hash.{hash}
-use Rattle.lms_sign.specs.Keys.{public_key_of}
-use Rattle.client_verify.specs.JudgedLast.{judged_last, listed}
-use Rattle.client_verify.specs.Verified.{AreOwn}
-use Rattle.client_verify.specs.FirstBroken.{reply_breaks, reply_in, view_over}
-use Rattle.reply_rules.specs.Lists.{lists_of}
-use Rattle.client_releases.specs.Releasing.{AnyMoment, IsKept, IsTried, OneHasRisen, cert_record, structure_record}
-use Rattle.client_verify.specs.State.{IsOfDeclared, asked_of, block_breaks, checked_in, committed, declared, declared_text, failed, holding, known, laying, lists_under, next_cert, next_structure, on, released, signed_over, signed_text}
-use Rattle.client_verify.specs.Judged.{Goes, GoesOn, Handed, IsReading, IsWriting, Judged, ReadsOn, unjudged, view_of}
-use Rattle.client_verify.specs.Looked.{Looked, Given}
+use Rattle.std.proofs.Common.{ap, ◌∙◌}
+use Rattle.pending_list.specs.Reply.{digest_of_last}
+use Rattle.client_verify.specs.State.{State}
+use Rattle.client_verify.proofs.Releasing.{fits_next}
 use Rattle.client_verify.proofs.client.Client.certificate.Goals as goal
 
--- src/client.rt:372:5
 pub returns-clause-fits : goal.returns-clause-fits
-returns-clause-fits g c = ?
+returns-clause-fits g c =
+    fits_next c.args.self.now c.user.result c.args.number c.in_ok-last.last c.args.changes.now (c.user.ensures ∙ ap (λ (s : State). s.user) c.self.view_is) c.requires.number
+    (c.in_ok-last.ensures.same ∙ ap digest_of_last (c.last.ensures ∙ ap (λ (s : State). s.last) c.self.view_is)) c.cert_text.ensures.fits

@@ -1,39 +1,15 @@
-use Rattle.std.proofs.Common.{rules, ◌≡◌, ◌≢◌, ◌⊎◌, ◌+◌, ◌<◌, ◌≤◌, None, Some, vec_capacity, vec_len, IfOk, IfErr, IsErrOf, IfSome, IsOk, OnOk, OnErr, IsSome, IsSomeAnd, IsTrue, ◌↔◌, true, false, length, map, ℕ, ◌-◌, ◌*◌, ◌/◌, ◌%◌, Bool, nat_eq, nat_lt, List, [], ◌∷◌, ◌++◌, slice_index_or, slice_set, bit_and, bit_or, Fits, w8, w32, w64, Bor, MutBor}
-use Rattle.std.specs.Option.{option_copied, option_map}
-use Rattle.std.specs.Ordering.{nat_cmp}
-use Rattle.std.specs.Vec.{vec_items}
-use Rattle.layout.specs.Ascending.{Ascends}
-use Rattle.leaf_ledger.specs.Ledger.{IsFull, IsLeastFree, LeafNumber}
-use Rattle.version_order.specs.Structure.{structure}
-use Rattle.update_cert.specs.Cert.{cert}
-use Rattle.pending_list.specs.Reply.{user_of}
-use Rattle.client_verify.specs.Grown.{IsTold, IsAnswer, IsReached, IsWritten}
-use Rattle.client_verify.specs.Laid.{are_laid}
-use Rattle.client_tree.specs.Held.{held, keeping}
-use Rattle.layout.specs.Hash.{hash}
-use Rattle.lms_sign.specs.Keys.{public_key_of}
-use Rattle.client_verify.specs.JudgedLast.{judged_last, listed}
-use Rattle.client_verify.specs.Verified.{AreOwn}
-use Rattle.client_verify.specs.FirstBroken.{reply_breaks, reply_in, view_over}
-use Rattle.reply_rules.specs.Lists.{lists_of}
-use Rattle.client_releases.specs.Releasing.{AnyMoment, IsKept, IsTried, OneHasRisen, cert_record, structure_record}
-use Rattle.client_verify.specs.State.{IsOfDeclared, asked_of, block_breaks, checked_in, committed, declared, declared_text, failed, holding, known, laying, lists_under, next_cert, next_structure, on, released, signed_over, signed_text}
-use Rattle.client_verify.specs.Judged.{Goes, GoesOn, Handed, IsReading, IsWriting, Judged, ReadsOn, unjudged, view_of}
-use Rattle.client_verify.specs.Looked.{Looked, Given}
+use Rattle.client_releases.specs.declared.error.ClientError.TheVariants as error
+use Rattle.client_verify.proofs.Releasing.{early_only, not_so, same_error}
 use Rattle.client_verify.proofs.client.Client.prepare.Goals as goal
 
--- src/client.rt:415:27
 pub returns-in-Err-clause-no_number : goal.returns-in-Err-clause-no_number
-returns-in-Err-clause-no_number g c = ?
+returns-in-Err-clause-no_number g c = same_error c.in-Err.error error.NoNumber _ c.in-Err.ensures.no_number
 
--- src/client.rt:415:27
 pub returns-in-Err-clause-only : goal.returns-in-Err-clause-only
-returns-in-Err-clause-only g c = ?
+returns-in-Err-clause-only g c = early_only c.in-Err.error c.in-Err.ensures.only
 
--- src/client.rt:395:5
 pub returns-in-Ok-certificate-clause-free : goal.returns-in-Ok-certificate-clause-free
-returns-in-Ok-certificate-clause-free g c = ?
+returns-in-Ok-certificate-clause-free g c full = not_so c.in-Ok.number error.NoLeaf _ c.in-Ok.ensures.no_leaf full
 
--- src/client.rt:395:5
 pub returns-in-Ok-certificate-clause-no_leaf : goal.returns-in-Ok-certificate-clause-no_leaf
-returns-in-Ok-certificate-clause-no_leaf g c = ?
+returns-in-Ok-certificate-clause-no_leaf g c = (λ is. absurd (cc is), λ full. absurd (not_so c.in-Ok.number error.NoLeaf _ c.in-Ok.ensures.no_leaf full))
