@@ -63,24 +63,24 @@ pub not_so : {S E : Type 0} (v : S) (x : E) (P : Type 0) → (IsErrOf (Ok v) x �
 not_so v x P told holds = let is = told.1 holds in cc is
 
 -- a call that answers Device alone
-pub at_device : {T : Type 0} {Q : Type 0} (r : Result T ClientError) → IfErr r (λ e. (e ≡ error.Device) × Q) → IsErrOf r error.Device → Q
-at_device (Ok v) told is = absurd (cc is)
-at_device (Err e) told is = told.1
+pub at_device : {T : Type 0} (Q : Type 0) (r : Result T ClientError) → IfErr r (λ e. (e ≡ error.Device) × Q) → IsErrOf r error.Device → Q
+at_device Q (Ok v) told is = absurd (cc is)
+at_device Q (Err e) told is = told.1
 
-pub never_else : {T : Type 0} {Q : Type 0} (r : Result T ClientError) (x : ClientError) → x ≢ error.Device → IfErr r (λ e. (e ≡ error.Device) × Q) → IsErrOf r x → ⊥
-never_else (Ok v) x other told is = cc is
-never_else (Err e) x other told is = let same : e ≡ x = cc in other (sym same ∙ told.0)
+pub never_else : {T : Type 0} (Q : Type 0) (r : Result T ClientError) (x : ClientError) → x ≢ error.Device → IfErr r (λ e. (e ≡ error.Device) × Q) → IsErrOf r x → ⊥
+never_else Q (Ok v) x other told is = cc is
+never_else Q (Err e) x other told is = let same : e ≡ x = cc in other (sym same ∙ told.0)
 
-pub only_device : {T : Type 0} {Q : Type 0} (r : Result T ClientError) → IfErr r (λ e. (e ≡ error.Device) × Q) → IfErr r (λ e. (e ≢ error.Foreign) × (e ≢ error.Damaged))
-only_device (Ok v) told = tt
-only_device (Err e) told = (
+pub only_device : {T : Type 0} (Q : Type 0) (r : Result T ClientError) → IfErr r (λ e. (e ≡ error.Device) × Q) → IfErr r (λ e. (e ≢ error.Foreign) × (e ≢ error.Damaged))
+only_device Q (Ok v) told = tt
+only_device Q (Err e) told = (
   λ is. let two : error.Device ≡ error.Foreign = sym told.0 ∙ is in cc two,
   λ is. let two : error.Device ≡ error.Damaged = sym told.0 ∙ is in cc two,
 )
 
-pub but_device : {T : Type 0} {Q P : Type 0} (r : Result T ClientError) → IfErr r (λ e. (e ≡ error.Device) × Q) → IfErr r (λ e. e ≢ error.Device → P)
-but_device (Ok v) told = tt
-but_device (Err e) told = λ other. absurd (other told.0)
+pub but_device : {T : Type 0} (Q P : Type 0) (r : Result T ClientError) → IfErr r (λ e. (e ≡ error.Device) × Q) → IfErr r (λ e. e ≢ error.Device → P)
+but_device Q P (Ok v) told = tt
+but_device Q P (Err e) told = λ other. absurd (other told.0)
 
 pub early_only : (e : ClientError) → (e ≡ error.NoLeaf) ⊎ (e ≡ error.NoNumber) → (e ≢ error.Device) × (e ≢ error.Foreign) × (e ≢ error.Damaged)
 early_only e (inl is) = (
@@ -93,6 +93,12 @@ early_only e (inr is) = (
   λ s. let two : error.NoNumber ≡ error.Foreign = sym is ∙ s in cc two,
   λ s. let two : error.NoNumber ≡ error.Damaged = sym is ∙ s in cc two,
 )
+
+pub not_full_error : {T : Type 0} (e : ClientError) → e ≡ error.Device → IsErrOf {T = T} (Err e) error.NoLeaf → ⊥
+not_full_error e device is =
+    let same : e ≡ error.NoLeaf = cc in
+    let two : error.Device ≡ error.NoLeaf = sym device ∙ same in
+    cc two
 
 pub ok_either : {T E P : Type 0} (r : Result T E) → P → OnOk r P
 ok_either (Ok v) holds = holds

@@ -1,6 +1,6 @@
 //! The client.
 
-ghost use Rattle.std.specs.Prelude.{◌≡◌, ◌≢◌, ◌⊎◌, ◌+◌, ◌<◌, ◌≤◌, None, Some, vec_capacity, vec_len, IfOk, IfErr, IsErrOf, IfSome, IsOk, OnOk, OnErr, IsSome, IsSomeAnd, IsTrue, ◌↔◌, true, false, length, map};
+ghost use Rattle.std.specs.Prelude.{◌≡◌, ◌≢◌, ◌⊎◌, ◌+◌, ◌<◌, ◌≤◌, [], None, Some, vec_capacity, vec_len, IfOk, IfErr, IsErrOf, IfSome, IsOk, OnOk, OnErr, IsSome, IsSomeAnd, IsTrue, ◌↔◌, true, false, length, map};
 ghost use Rattle.std.specs.Option.{option_copied, option_map};
 ghost use Rattle.std.specs.Ordering.{nat_cmp};
 ghost use Rattle.std.specs.Vec.{vec_items};
@@ -85,6 +85,13 @@ impl<L: Device, J: Device, A: Allocator> Model for Client<L, J, A> {
         × (c.is_own ≡ true → AreOwn (public_key_of c.releases.seed c.releases.id) c.releases.last c.releases.text) };
 }
 
+/// Whether nothing was released yet.
+fn is_first<L: Device, J: Device, A: Allocator>(releases: &Releases<L, J, A>) -> bool
+    ensures { result ≡ true → (releases.now.last ≡ None) × (releases.now.text ≡ []) }
+{
+    releases.last().is_none() && releases.text().is_empty()
+}
+
 impl<L: Device, J: Device, A: Allocator + Copy> Client<L, J, A> {
     ghost use Rattle.std.specs.Prelude.{ℕ, List};
     ghost use Rattle.itable.specs.File.{NoneCollide};
@@ -150,7 +157,7 @@ impl<L: Device, J: Device, A: Allocator + Copy> Client<L, J, A> {
         };
         match Releases::open(alloc, user, key, ledger, journal) {
             Ok(releases) => {
-                let is_own = releases.last().is_none() && releases.text().is_empty();
+                let is_own = is_first(&releases);
                 Ok(Client {
                     alloc,
                     pinned,

@@ -80,10 +80,10 @@ returns-clause-tried g c =
     (seen (λ (o : Released) (t : Bytes). IsTried (λ leaf. cert_record (sent o leaf t)) o.devices new.devices) r (released s) c.in-Ok.prepared.1 (cert.spell (next_cert s c.args.changes.now)) (ap released is) c.in-Ok.ensures.text) c.declare.ensures.tried
 
 pub returns-clause-no_leaf : goal.returns-clause-no_leaf
-returns-clause-no_leaf g c = (λ is. absurd (never_else c.declare.result error.NoLeaf (λ two. cc two) c.declare.ensures.device is), λ full. absurd (c.in-Ok.ensures.free full))
+returns-clause-no_leaf g c = (λ is. absurd (never_else _ c.declare.result error.NoLeaf (λ two. cc two) c.declare.ensures.device is), λ full. absurd (c.in-Ok.ensures.free full))
 
 pub returns-clause-no_number : goal.returns-clause-no_number
-returns-clause-no_number g c = (λ is. absurd (never_else c.declare.result error.NoNumber (λ two. cc two) c.declare.ensures.device is), λ both. absurd (c.in-Ok.ensures.below both.0))
+returns-clause-no_number g c = (λ is. absurd (never_else _ c.declare.result error.NoNumber (λ two. cc two) c.declare.ensures.device is), λ both. absurd (c.in-Ok.ensures.below both.0))
 
 pub returns-clause-rose : goal.returns-clause-rose
 returns-clause-rose g c fault =
@@ -92,7 +92,7 @@ returns-clause-rose g c fault =
     let new = c.declare.new.self in
     let laid = map vec_items c.args.laid.now in
     let is = c.self-2.view_is ∙ c.in-Ok.ensures.laying in
-    subst (λ (o : Released). OneHasRisen o.devices new.devices) (ap released is) (at_device c.declare.result c.declare.ensures.device fault)
+    subst (λ (o : Released). OneHasRisen o.devices new.devices) (ap released is) (at_device _ c.declare.result c.declare.ensures.device fault)
 
 pub returns-clause-fails : goal.returns-clause-fails
 returns-clause-fails g c fault =
@@ -107,7 +107,7 @@ pub returns-clause-fits : goal.returns-clause-fits
 returns-clause-fits g c = ok_either c.declare.result c.in-Ok.ensures.fits
 
 pub returns-clause-only : goal.returns-clause-only
-returns-clause-only g c = only_device c.declare.result c.declare.ensures.device
+returns-clause-only g c = only_device _ c.declare.result c.declare.ensures.device
 
 pub returns-clause-err : goal.returns-clause-err
-returns-clause-err g c = but_device c.declare.result c.declare.ensures.device
+returns-clause-err g c = but_device _ _ c.declare.result c.declare.ensures.device

@@ -1,4 +1,4 @@
-use Rattle.std.proofs.Common.{◌≡◌, ℕ, List, Some, None, Option, ap, refl, rules, subst, sym, ◌∙◌}
+use Rattle.std.proofs.Common.{◌≡◌, ℕ, IsSome, List, Some, None, Option, ap, refl, rules, subst, sym, ◌∙◌}
 use Rattle.layout.specs.Types.{Bytes}
 use Rattle.lms_sign.specs.Keys.{public_key_of}
 use Rattle.leaf_ledger.specs.Ledger.{IsFull, IsLeastFree, LeafNumber}
@@ -10,7 +10,7 @@ use Rattle.client_releases.specs.Told.{Released, sent}
 use Rattle.client_verify.specs.State.{IsOfDeclared, Ready, State, next_structure, released, signed_text}
 use Rattle.client_verify.proofs.Handing.{if_at}
 use Rattle.client_verify.proofs.Steps.{if_some}
-use Rattle.client_verify.proofs.Releasing.{always, no_full, nothing_replied, own_signed, refused_moments, refused_tried, seen, shown_is, signed_of, stands_ready, view_is}
+use Rattle.client_verify.proofs.Releasing.{always, no_full, not_full_error, nothing_replied, own_signed, refused_moments, refused_tried, seen, shown_is, signed_of, stands_ready, view_is}
 use Rattle.client_verify.proofs.client.Client.sign.Goals as goal
 
 pub returns-then-not-has_free_leaf-clause-tried : goal.returns-then-not-has_free_leaf-clause-tried
@@ -43,7 +43,7 @@ returns-in-Ok-sign-clause-signed g c =
     let r = c.self.inside.releases in
     let new = c.sign.new.self in
     let y = c.in-Some.ready in
-    let inner : c.self.inside.accepted ≡ Some y = search rules in
+    let inner : c.self.inside.accepted ≡ Some y = sym c.take.ensures.value ∙ c.in-Some.is in
     let there : s.accepted ≡ Some y = ap (λ (q : State). q.accepted) (sym c.self.view_is) ∙ inner in
     let next = if_at s.accepted y _ there c.in-Ok.ensures.structure in
     let copied = if_at s.accepted y _ there c.in-Ok.ensures.structures in
@@ -59,7 +59,7 @@ returns-in-Ok-sign-clause-any_moment g c =
     let r = c.self.inside.releases in
     let new = c.sign.new.self in
     let y = c.in-Some.ready in
-    let inner : c.self.inside.accepted ≡ Some y = search rules in
+    let inner : c.self.inside.accepted ≡ Some y = sym c.take.ensures.value ∙ c.in-Some.is in
     let there : s.accepted ≡ Some y = ap (λ (q : State). q.accepted) (sym c.self.view_is) ∙ inner in
     let next = if_at s.accepted y _ there c.in-Ok.ensures.structure in
     let spelled : c.in-Ok.drawn.0.text ≡ structure.spell (next_structure s y) = c.in-Ok.ensures.text ∙ ap structure.spell next in
@@ -75,7 +75,7 @@ returns-in-Ok-sign-clause-fits g c =
     let r = c.self.inside.releases in
     let new = c.sign.new.self in
     let y = c.in-Some.ready in
-    let inner : c.self.inside.accepted ≡ Some y = search rules in
+    let inner : c.self.inside.accepted ≡ Some y = sym c.take.ensures.value ∙ c.in-Some.is in
     let there : s.accepted ≡ Some y = ap (λ (q : State). q.accepted) (sym c.self.view_is) ∙ inner in
     let next = if_at s.accepted y _ there c.in-Ok.ensures.structure in
     if_some s.accepted y _ there (subst structure.Fits next c.in-Ok.ensures.fits)
@@ -86,7 +86,7 @@ returns-in-Err-sign-clause-any_moment g c =
     let r = c.self.inside.releases in
     let new = c.sign.new.self in
     let y = c.in-Some.ready in
-    let inner : c.self.inside.accepted ≡ Some y = search rules in
+    let inner : c.self.inside.accepted ≡ Some y = sym c.take.ensures.value ∙ c.in-Some.is in
     let there : s.accepted ≡ Some y = ap (λ (q : State). q.accepted) (sym c.self.view_is) ∙ inner in
     let next = if_at s.accepted y _ there c.in-Ok.ensures.structure in
     let spelled : c.in-Ok.drawn.0.text ≡ structure.spell (next_structure s y) = c.in-Ok.ensures.text ∙ ap structure.spell next in
@@ -99,7 +99,7 @@ returns-in-Err-sign-clause-tried g c =
     let r = c.self.inside.releases in
     let new = c.sign.new.self in
     let y = c.in-Some.ready in
-    let inner : c.self.inside.accepted ≡ Some y = search rules in
+    let inner : c.self.inside.accepted ≡ Some y = sym c.take.ensures.value ∙ c.in-Some.is in
     let there : s.accepted ≡ Some y = ap (λ (q : State). q.accepted) (sym c.self.view_is) ∙ inner in
     let next = if_at s.accepted y _ there c.in-Ok.ensures.structure in
     let spelled : c.in-Ok.drawn.0.text ≡ structure.spell (next_structure s y) = c.in-Ok.ensures.text ∙ ap structure.spell next in
@@ -107,9 +107,10 @@ returns-in-Err-sign-clause-tried g c =
     r (released s) c.in-Ok.drawn.0.text (structure.spell (next_structure s y)) (ap released c.self.view_is) spelled c.in-Err-sign.ensures.tried)
 
 pub returns-in-Err-sign-clause-no_leaf : goal.returns-in-Err-sign-clause-no_leaf
-returns-in-Err-sign-clause-no_leaf g c =
-    let device = c.in-Err-sign.ensures.device.0 in
-    (λ is. let same : c.in-Err-sign.error ≡ error.NoLeaf = cc in let two : error.Device ≡ error.NoLeaf = sym device ∙ same in absurd (cc two), λ full. absurd (no_full c.self.inside.releases (released c.args.self.now) c.has_free_leaf.result (ap released c.self.view_is) c.has_free_leaf.ensures c.if-not-has_free_leaf.false full))
+returns-in-Err-sign-clause-no_leaf g c = (
+  λ is. absurd (not_full_error c.in-Err-sign.error c.in-Err-sign.ensures.device.0 is),
+  λ full. absurd (no_full c.self.inside.releases (released c.args.self.now) c.has_free_leaf.result (ap released c.self.view_is) c.has_free_leaf.ensures c.if-not-has_free_leaf.false full),
+)
 
 pub returns-in-Err-sign-clause-rose : goal.returns-in-Err-sign-clause-rose
 returns-in-Err-sign-clause-rose g c fault = subst (λ (o : Released). OneHasRisen o.devices c.sign.new.self.devices) (ap released c.self.view_is) c.in-Err-sign.ensures.device.1
