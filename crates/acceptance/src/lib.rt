@@ -48,6 +48,8 @@ mod refusals;
 #[cfg(test)]
 mod replies;
 #[cfg(test)]
+mod restarts;
+#[cfg(test)]
 mod rule_parts;
 #[cfg(test)]
 mod scripts;

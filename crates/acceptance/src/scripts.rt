@@ -10,7 +10,7 @@ struct Case {
     lines: &'static [u8],
 }
 
-static CASES: [Case; 9] = [
+static CASES: [Case; 10] = [
     // The first operation.
     Case {
         script: b"begin 0\n\
@@ -67,6 +67,49 @@ static CASES: [Case; 9] = [
             0 busy\n\
             0 begin 2\n\
             0 accepted 2\n",
+    },
+    // Restarts in each phase. The journal doesn't tell of a commit, and no view outlives a crash.
+    Case {
+        script: b"restart\n\
+            restart 64\n\
+            restart 0 a\n\
+            restart 0\n\
+            restart 1\n\
+            begin 0\n\
+            restart 0\n\
+            begin 0\n\
+            update 0 a\n\
+            show 0 0 2\n\
+            restart 0\n\
+            show 0 0 2\n\
+            update 0 a\n\
+            commit 0 a\n\
+            restart 0\n\
+            begin 0\n\
+            commit 0 a\n\
+            begin 0\n\
+            update 0 a\n\
+            show 0 0 2\n",
+        lines: b"error\n\
+            error\n\
+            error\n\
+            0 idle\n\
+            1 idle\n\
+            0 begin 1\n\
+            0 declared\n\
+            0 busy\n\
+            0 accepted 1\n\
+            0 dir\n\
+            0 signed\n\
+            0 none\n\
+            0 busy\n\
+            0 committed\n\
+            0 signed\n\
+            0 busy\n\
+            0 committed\n\
+            0 begin 2\n\
+            0 accepted 2\n\
+            0 dir\n",
     },
     // Another user.
     Case {

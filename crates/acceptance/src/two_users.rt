@@ -2,13 +2,15 @@
 //! older structure and of a plan that it swapped.
 
 use crate::changes::{Planned, nothing};
-use crate::replies::{client_of, declare, declare_changes, end, first_key, sign, step_on};
+use crate::replies::{
+    MemoryClient, client_of, declare, declare_changes, end, first_key, sign, step_on,
+};
 use crate::server::{Server, answers_commit, answers_update_so, server_of};
 use crate::texts::{
     Host, check, check_text, joined, key_of, listed, named, pending, plan, reply, shown,
 };
 use client_tree::Held;
-use client_verify::{Client, Rule, Step};
+use client_verify::{Rule, Step};
 use layout::{User, digest};
 use std::alloc::Global;
 use std::ops::Range;
@@ -35,9 +37,9 @@ const NONE: &[u8] = b"\0";
 /// The clients of users 0 to 2, and the blocks that all servers share.
 #[derive(Drop)]
 struct Users {
-    superuser: Client<Global>,
-    first: Client<Global>,
-    second: Client<Global>,
+    superuser: MemoryClient,
+    first: MemoryClient,
+    second: MemoryClient,
     store: Held<Global>,
 }
 
@@ -61,7 +63,7 @@ fn keep(rt: &impl Host, store: &mut Held<Global>, texts: Vec<Vec<u8>>) {
 fn judged(
     rt: &impl Host,
     store: &mut Held<Global>,
-    client: &mut Client<Global>,
+    client: &mut MemoryClient,
     reply: &[u8],
 ) -> Option<Rule> {
     let mut step = step_on(rt, client, reply);
@@ -85,7 +87,7 @@ fn judged(
 fn accepts(
     rt: &impl Host,
     store: &mut Held<Global>,
-    client: &mut Client<Global>,
+    client: &mut MemoryClient,
     reply: &[u8],
 ) -> Vec<u8> {
     let broken = judged(rt, store, client, reply);
@@ -97,7 +99,7 @@ fn accepts(
 fn breaks(
     rt: &impl Host,
     store: &mut Held<Global>,
-    client: &mut Client<Global>,
+    client: &mut MemoryClient,
     reply: &[u8],
     rule: Rule,
 ) {
@@ -106,7 +108,7 @@ fn breaks(
 }
 
 /// The server commits the structure that the client signed.
-fn commits(rt: &impl Host, server: &mut Server, client: &mut Client<Global>, structure: &[u8]) {
+fn commits(rt: &impl Host, server: &mut Server, client: &mut MemoryClient, structure: &[u8]) {
     answers_commit(rt, server, structure, Status::Ok);
     end(rt, client, Status::Ok);
 }
@@ -116,7 +118,7 @@ fn completes(
     rt: &impl Host,
     store: &mut Held<Global>,
     server: &mut Server,
-    client: &mut Client<Global>,
+    client: &mut MemoryClient,
     update: &[u8],
 ) -> Vec<u8> {
     let reply = answers_update_so(rt, server, update, Status::Ok);
