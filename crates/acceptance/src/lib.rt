@@ -10,6 +10,10 @@ mod certificates;
 #[cfg(test)]
 mod changes;
 #[cfg(test)]
+mod crashed_users;
+#[cfg(test)]
+mod device_faults;
+#[cfg(test)]
 mod directories;
 #[cfg(test)]
 mod faults;

@@ -1,7 +1,7 @@
 //! A client, and what it answers to replies that are made by hand.
 
 use crate::texts::{Host, check, key_of, listed, named, pending, plan, reply};
-use client_verify::{Client, Phase, Rule, Step, are_laid};
+use client_verify::{Client, ClientError, Parts, Phase, Rule, Step, are_laid};
 use layout::User;
 use leaf_ledger::MemoryDevice;
 use lms_sign::{PrivateKey, PublicKey};
@@ -12,29 +12,35 @@ use wire::Status;
 /// A client whose devices are in memory.
 pub(crate) type MemoryClient = Client<MemoryDevice<Global>, MemoryDevice<Global>, Global>;
 
-/// A device in memory on which nothing stands.
-fn new_device(rt: &impl Host) -> MemoryDevice<Global> {
-    MemoryDevice::new(rt.alloc(), Vec::new(rt.alloc())).expect(rt, "memory")
+/// What it is opened over, and hands back: its key and its devices.
+pub(crate) type Kept = Parts<MemoryDevice<Global>, MemoryDevice<Global>, Global>;
+
+/// A device in memory with this text.
+pub(crate) fn device_of(rt: &impl Host, text: &[u8]) -> MemoryDevice<Global> {
+    let text = Vec::from_slice(rt.alloc(), text).expect(rt, "memory");
+    MemoryDevice::new(rt.alloc(), text).expect(rt, "memory")
 }
 
-/// The client of a user over these devices.
-pub(crate) fn open_over(
-    rt: &impl Host,
-    user: User,
-    own: PrivateKey<Global>,
-    pinned: PublicKey,
-    ledger: MemoryDevice<Global>,
-    journal: MemoryDevice<Global>,
-) -> MemoryClient {
-    match Client::open(rt.alloc(), user, own, pinned, ledger, journal) {
-        Ok(client) => client,
-        Err((error, _)) => panic!(rt; "{error:?}"),
+/// This key, and devices on which nothing stands.
+pub(crate) fn nothing_yet(rt: &impl Host, key: PrivateKey<Global>) -> Kept {
+    Parts {
+        key,
+        ledger: device_of(rt, b""),
+        journal: device_of(rt, b""),
     }
 }
 
-/// The client of a user over new devices.
-fn open(rt: &impl Host, user: User, own: PrivateKey<Global>, pinned: PublicKey) -> MemoryClient {
-    open_over(rt, user, own, pinned, new_device(rt), new_device(rt))
+/// The client of a user over what was kept. It takes this key for user 0's.
+pub(crate) fn open_over(rt: &impl Host, user: User, pinned: PublicKey, kept: Kept) -> MemoryClient {
+    let Parts {
+        key,
+        ledger,
+        journal,
+    } = kept;
+    match Client::open(rt.alloc(), user, key, pinned, ledger, journal) {
+        Ok(client) => client,
+        Err((error, _)) => panic!(rt; "{error}"),
+    }
 }
 
 /// The client of user 1 by this key, which knows this key of user 0's.
@@ -44,7 +50,7 @@ pub(crate) fn client_with(
     pinned: PublicKey,
 ) -> MemoryClient {
     let user = User::new(1).expect(rt, "a user");
-    open(rt, user, own, pinned)
+    open_over(rt, user, pinned, nothing_yet(rt, own))
 }
 
 /// The client of a user by its key, which takes the first key for user 0's.
@@ -56,7 +62,7 @@ pub(crate) fn client_of(rt: &impl Host, user: u8, key: u8) -> MemoryClient {
         first_key(rt)
     };
     let user = User::new(user).expect(rt, "a user");
-    open(rt, user, own, pinned)
+    open_over(rt, user, pinned, nothing_yet(rt, own))
 }
 
 /// The key that every client knows, user 0's.
@@ -69,6 +75,20 @@ pub(crate) fn superuser(rt: &impl Host) -> MemoryClient {
     client_of(rt, 0, 0)
 }
 
+/// What the client answers to the declaration of its next operation, of these changes, for which these texts were laid out.
+fn begun(
+    rt: &impl Host,
+    client: &mut MemoryClient,
+    changes: &[Change<Global>],
+    laid: &[Vec<u8>],
+) -> Result<Vec<u8>, ClientError> {
+    assert!(rt; client.phase() == Phase::Idle);
+    assert!(rt; changes.len() <= 16);
+    let are_laid = are_laid(rt.alloc(), laid, changes).expect(rt, "memory");
+    assert!(rt; are_laid);
+    client.begin(changes, laid)
+}
+
 /// Declares the client's next operation, of these changes, for which these texts were laid out.
 pub(crate) fn declare_changes(
     rt: &impl Host,
@@ -76,17 +96,20 @@ pub(crate) fn declare_changes(
     changes: Vec<Change<Global>>,
     laid: Vec<Vec<u8>>,
 ) -> Vec<u8> {
-    assert!(rt; client.phase() == Phase::Idle);
-    assert!(rt; changes.len() <= 16);
-    let are_laid = are_laid(rt.alloc(), &laid, &changes).expect(rt, "memory");
-    assert!(rt; are_laid);
-    client.begin(&changes, &laid).expect(rt, "a certificate")
+    begun(rt, client, &changes, &laid).expect(rt, "a certificate")
+}
+
+/// What the client answers to the declaration of its next operation, without changes.
+pub(crate) fn begun_without_changes(
+    rt: &impl Host,
+    client: &mut MemoryClient,
+) -> Result<Vec<u8>, ClientError> {
+    begun(rt, client, &[], &[])
 }
 
 /// Declares the client's next operation, without changes.
 pub(crate) fn declare(rt: &impl Host, client: &mut MemoryClient) -> Vec<u8> {
-    let (changes, laid) = (Vec::new(rt.alloc()), Vec::new(rt.alloc()));
-    declare_changes(rt, client, changes, laid)
+    begun_without_changes(rt, client).expect(rt, "a certificate")
 }
 
 /// Hands a reply to the client.

@@ -24,23 +24,23 @@ const BOUND: usize = 10;
 /// count.
 const ZERO: &[u8] = b"\x01\0\0\0\0\x01";
 
-const ONE: &[u8] = b"\x02\0\0\0\0\x01\x01\0\0\0\x01";
+pub(crate) const ONE: &[u8] = b"\x02\0\0\0\0\x01\x01\0\0\0\x01";
 
-const BOTH: &[u8] = b"\x03\0\0\0\0\x01\x01\0\0\0\x01\x02\0\0\0\x01";
+pub(crate) const BOTH: &[u8] = b"\x03\0\0\0\0\x01\x01\0\0\0\x01\x02\0\0\0\x01";
 
 /// And that of user 2's second operation after these.
 const SECOND: &[u8] = b"\x03\0\0\0\0\x01\x01\0\0\0\x01\x02\0\0\0\x02";
 
 /// No entry.
-const NONE: &[u8] = b"\0";
+pub(crate) const NONE: &[u8] = b"\0";
 
 /// The clients of users 0 to 2, and the blocks that all servers share.
 #[derive(Drop)]
-struct Users {
-    superuser: MemoryClient,
-    first: MemoryClient,
-    second: MemoryClient,
-    store: Held<Global>,
+pub(crate) struct Users {
+    pub(crate) superuser: MemoryClient,
+    pub(crate) first: MemoryClient,
+    pub(crate) second: MemoryClient,
+    pub(crate) store: Held<Global>,
 }
 
 /// The users before their first operations.
@@ -60,7 +60,7 @@ fn keep(rt: &impl Host, store: &mut Held<Global>, texts: Vec<Vec<u8>>) {
 
 /// Hands a reply in, and each block that it asks for: the rule that is broken, or none, where it is accepted and the new
 /// texts are stored.
-fn judged(
+pub(crate) fn judged(
     rt: &impl Host,
     store: &mut Held<Global>,
     client: &mut MemoryClient,
@@ -84,7 +84,7 @@ fn judged(
 }
 
 /// The client accepts the reply, and signs.
-fn accepts(
+pub(crate) fn accepts(
     rt: &impl Host,
     store: &mut Held<Global>,
     client: &mut MemoryClient,
@@ -96,7 +96,7 @@ fn accepts(
 }
 
 /// The reply breaks this rule first.
-fn breaks(
+pub(crate) fn breaks(
     rt: &impl Host,
     store: &mut Held<Global>,
     client: &mut MemoryClient,
@@ -140,15 +140,15 @@ fn listing_both(rt: &impl Host) -> Planned {
 
 /// Both users are listed, by user 0's structure here, at two servers that show the same.
 #[derive(Drop)]
-struct Scene {
-    users: Users,
-    server: Server,
-    other: Server,
-    by_super: Vec<u8>,
+pub(crate) struct Scene {
+    pub(crate) users: Users,
+    pub(crate) server: Server,
+    pub(crate) other: Server,
+    pub(crate) by_super: Vec<u8>,
 }
 
 /// User 0 lists both users, at one server and in the same way at the other.
-fn both_are_listed(rt: &impl Host) -> Scene {
+pub(crate) fn both_are_listed(rt: &impl Host) -> Scene {
     let mut users = new_users(rt);
     let (mut server, mut other) = (server_of(rt, first_key(rt)), server_of(rt, first_key(rt)));
     let Planned { changes, laid } = listing_both(rt);
@@ -179,14 +179,14 @@ impl Scene {
     }
 
     /// And user 2 one at the other server.
-    fn second_operates_apart(&mut self, rt: &impl Host) -> Vec<u8> {
+    pub(crate) fn second_operates_apart(&mut self, rt: &impl Host) -> Vec<u8> {
         let Users { second, store, .. } = &mut self.users;
         let update = declare(rt, second);
         completes(rt, store, &mut self.other, second, &update)
     }
 
     /// User 1's declared operation, and the honest reply to it.
-    fn first_declares(&mut self, rt: &impl Host) -> (Vec<u8>, Vec<u8>) {
+    pub(crate) fn first_declares(&mut self, rt: &impl Host) -> (Vec<u8>, Vec<u8>) {
         let update = declare(rt, &mut self.users.first);
         let reply = answers_update_so(rt, &mut self.server, &update, Status::Ok);
         (update, reply)
@@ -206,13 +206,13 @@ fn one_entry(rt: &impl Host, user: u8, plan: &[u8]) -> Vec<u8> {
 }
 
 /// Rows of a list after their count.
-fn list(rt: &impl Host, rows: &[&[u8]]) -> Vec<u8> {
+pub(crate) fn list(rt: &impl Host, rows: &[&[u8]]) -> Vec<u8> {
     let [.., count] = rows.len().to_be_bytes();
     joined(rt, &[&[count], &joined(rt, rows)])
 }
 
 /// The only pending operation of a reply: user 1's of this number, with the plan of this vector and without entries.
-fn only_pending(rt: &impl Host, number: u32, update: &[u8], vector: &[u8]) -> Vec<u8> {
+pub(crate) fn only_pending(rt: &impl Host, number: u32, update: &[u8], vector: &[u8]) -> Vec<u8> {
     let plan = plan(rt, 1, number, &named(update), vector, NONE);
     listed(rt, &pending(rt, update, &plan))
 }
