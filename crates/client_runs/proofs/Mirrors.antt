@@ -10,7 +10,7 @@ use Rattle.client_releases.specs.declared.error.ClientError.TheVariants as error
 use Rattle.release_runs.specs.Steps as low
 use Rattle.release_runs.specs.Runs as low_run
 use Rattle.release_runs.specs.Released as low_released
-use Rattle.client_runs.specs.State.{State, next_cert, next_structure, released}
+use Rattle.client_verify.specs.State.{State, next_cert, next_structure, released}
 use Rattle.client_runs.specs.Steps.{Begins, Call, Client, Closed, Closes, Commits, Crashes, Gives, HasBegun, HasCommitted, HasSigned, Hears, IsSound, IsStep, Looks, Open, Opens, Owner, Signs, Takes, first}
 use Rattle.client_runs.specs.Runs.{Event, IsRun, Keys, client_of, owner}
 use Rattle.client_runs.specs.Released.{released as released_in, released_by}

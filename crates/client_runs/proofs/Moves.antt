@@ -15,8 +15,8 @@ use Rattle.agreement.proofs.Members.{In, in-left}
 use Rattle.release_runs.proofs.Files.{lies_on}
 use Rattle.release_runs.proofs.Holds as low_holds
 use Rattle.release_runs.proofs.Runs as low_runs
-use Rattle.client_runs.specs.State.{Checked, State, released}
-use Rattle.client_runs.specs.Judged.{Handed}
+use Rattle.client_verify.specs.State.{Checked, State, released}
+use Rattle.client_verify.specs.Judged.{Handed}
 use Rattle.client_runs.specs.Steps.{Asks, Begins, Call, Client, Closed, Closes, Commits, Crashes, Gives, HasHeard, HasTaken, Hears, IsHandedBack, IsLeft, IsRefused, IsSound, IsStep, Looks, Open, Opens, Owner, Parts, Signs, Takes, first}
 use Rattle.client_runs.specs.Runs.{Event, IsRun, Keys, client_of, owner}
 use Rattle.client_runs.specs.Released.{accepted_by, released as released_in, released_by, reply_texts, shown_in, stored_texts, tried_by, tried_view}

@@ -9,9 +9,9 @@ use Rattle.client_verify.specs.declared.step.Step.TheVariants as step
 use Rattle.client_verify.specs.declared.view.Looking.{Looking}
 use Rattle.client_verify.specs.FirstBroken.{reply_in}
 use Rattle.client_verify.specs.Good.{Good}
-use Rattle.client_runs.specs.State.{AcceptedView, Checked, Reading, State, Writing, holding, released}
-use Rattle.client_runs.specs.Judged.{Goes, GoesOn, Handed, Judged, Taken}
-use Rattle.client_runs.specs.Looked.{Given, Looked}
+use Rattle.client_verify.specs.State.{AcceptedView, Checked, Reading, State, Writing, holding, released}
+use Rattle.client_verify.specs.Judged.{Goes, GoesOn, Handed, Judged, Taken}
+use Rattle.client_verify.specs.Looked.{Given, Looked}
 use Rattle.client_runs.proofs.Replies.{kept}
 use Rattle.client_runs.specs.Steps.{Asks, HasGiven, HasHeard, HasLooked, HasTaken, Sees}
 

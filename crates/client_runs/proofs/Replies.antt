@@ -17,8 +17,8 @@ use Rattle.client_verify.specs.FirstBroken.{Known, lists_break, of_read, of_repl
 use Rattle.client_verify.specs.Good.{Good}
 use Rattle.client_verify.specs.declared.asked.Asked.{Asked}
 use Rattle.agreement.proofs.Members.{In, in-left, in-right, last_or_nil}
-use Rattle.client_runs.specs.State.{Checked, Reading, Ready, State, Writing, holding, known, released}
-use Rattle.client_runs.specs.Judged.{Goes, GoesOn, Handed, Judged, Taken}
+use Rattle.client_verify.specs.State.{Checked, Reading, Ready, State, Writing, holding, known, released}
+use Rattle.client_verify.specs.Judged.{Goes, GoesOn, Handed, Judged, Taken}
 use Rattle.client_runs.specs.Runs.{Event}
 use Rattle.client_runs.specs.Released.{Shown, hashed_at, hashed_by, reply_texts, shown, shown_by, shown_in}
 

@@ -10,7 +10,7 @@ use Rattle.agreement.specs.Runs.{View, last_signed, user_of}
 use Rattle.agreement.proofs.Members.{In, in-append, in-left, in-map, in-right, map-in}
 use Rattle.release_runs.proofs.Stories.{OfCert, OfStructure, Release, last_in}
 use Rattle.release_runs.specs.Steps as low
-use Rattle.client_runs.specs.State.{Ready}
+use Rattle.client_verify.specs.State.{Ready}
 use Rattle.client_runs.specs.Steps.{Call, Client, Closed, IsSound, IsStep, Open, Opens, Owner, Signs}
 use Rattle.client_runs.specs.Runs.{Event, IsRun, Keys, client_of, owner}
 use Rattle.client_runs.specs.Released.{accepted_by, in_hand, released, tried_view, view_over, views, where_signed}

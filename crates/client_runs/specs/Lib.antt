@@ -1,6 +1,3 @@
-pub mod State
-pub mod Judged
-pub mod Looked
 pub mod Steps
 pub mod Runs
 pub mod Released

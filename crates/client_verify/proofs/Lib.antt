@@ -8,3 +8,5 @@ pub mod Reaching
 pub mod ByTableLaws
 pub mod Handing
 pub mod VerifiedLaws
+pub mod Declared
+pub mod Releasing

@@ -1,6 +1,6 @@
 //! What a client compares a reply with, and what of it needn't be verified again.
 
-ghost use Rattle.std.specs.Prelude.{◌≡◌, true, IfOk, IfSome};
+ghost use Rattle.std.specs.Prelude.{◌≡◌, true, IfOk, IfSome, IsTrue};
 ghost use Rattle.std.specs.Option.{option_copied};
 ghost use Rattle.lms_sign.specs.Signature.{valid};
 ghost use Rattle.update_cert.specs.Cert.{cert};
@@ -18,19 +18,20 @@ use update_cert::Cert;
 use version_order::Structure;
 
 /// What a client compares a reply with: who it is, user 0's key, the structure that it signed last and its declared
-/// certificate as it was sent. Beside them its own public key, by which it signed both, and the lists of the view that it
-/// accepted last, whose signatures it verified.
+/// certificate as it was sent. Beside them its own public key, where it is known that it signed both, and the lists that
+/// broke no rule last, whose signatures were verified.
 #[derive(Drop)]
 pub(crate) struct Known<'a, A: Allocator> {
     user: User,
     pinned: &'a PublicKey,
     last: Option<&'a Signed<Structure<A>>>,
     declared: &'a [u8],
-    own: PublicKey,
+    own: Option<PublicKey>,
     accepted: Option<&'a Good<A>>,
 }
 
 impl<'a, A: Allocator> Model for Known<'a, A> {
+    ghost use Rattle.std.specs.Prelude.{IfSome};
     ghost use Rattle.std.specs.Option.{option_copied};
     ghost use Rattle.client_verify.specs.FirstBroken.{Known};
     ghost use Rattle.client_verify.specs.Verified.{AreOwn};
@@ -39,7 +40,7 @@ impl<'a, A: Allocator> Model for Known<'a, A> {
 
     ghost view = { λ k. record { user = k.user; pinned = k.pinned.now; last = option_copied k.last; declared = k.declared.now } };
 
-    ghost invariant = { λ k. AreOwn k.own (option_copied k.last) k.declared.now };
+    ghost invariant = { λ k. IfSome k.own (λ key. AreOwn key (option_copied k.last) k.declared.now) };
 }
 
 /// A certificate with its signature, as it was sent.
@@ -75,16 +76,16 @@ fn is_signed<A: Allocator + Copy, T: Text<A>>(
 impl<'a, A: Allocator> Known<'a, A> {
     ghost use Rattle.client_verify.specs.FirstBroken.{Known};
 
-    /// This is known: the structure and the certificate were signed by the own key.
+    /// This is known: the structure and the certificate were signed by the own key, if there is one.
     pub(crate) fn new(
         user: User,
         pinned: &'a PublicKey,
         last: Option<&'a Signed<Structure<A>>>,
         declared: &'a [u8],
-        own: PublicKey,
+        own: Option<PublicKey>,
         accepted: Option<&'a Good<A>>,
     ) -> Known<'a, A>
-        requires { AreOwn own (option_copied last) declared.now }
+        requires { IfSome own (λ key. AreOwn key (option_copied last) declared.now) }
         ensures { result ≡ record { user = user; pinned = pinned.now; last = option_copied last.entry; declared = declared.now } }
     {
         Known {
@@ -125,11 +126,21 @@ impl<'a, A: Allocator> Known<'a, A> {
         self.declared
     }
 
+    /// Whether it is known that this key signed the own last structure and the declared certificate.
+    fn is_own(&self, key: &PublicKey) -> bool
+        ensures { IsTrue result → AreOwn key.now self.now.last self.now.declared }
+    {
+        match &self.own {
+            Some(own) => *own == *key,
+            None => false,
+        }
+    }
+
     /// A structure of this user that was signed under this key: the own last one, or that of the accepted view.
     fn structure_of(&self, key: &PublicKey, user: User) -> Option<&'a Signed<Structure<A>>>
         ensures { IfSome (option_copied result) (λ z. valid key.now (structure.spell z.value) z.signature ≡ true) }
     {
-        if user == self.user && *key == self.own {
+        if user == self.user && self.is_own(key) {
             self.last
         } else {
             self.accepted?.structure_of(key, user)
@@ -166,7 +177,7 @@ impl<'a, A: Allocator + Copy> Known<'a, A> {
         // Of 2,508 bytes.
         let _signature = item.signature().as_bytes();
         let sent = cert_sent(alloc, item)?;
-        Ok(*key == self.own && sent.as_slice() == self.declared)
+        Ok(self.is_own(key) && sent.as_slice() == self.declared)
     }
 
     /// Whether a pending certificate is signed under this key. The declared one, and one that was pending so in the

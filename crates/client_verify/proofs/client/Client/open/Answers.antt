@@ -1,5 +1,5 @@
 use Rattle.client_verify.proofs.GenesisLaws.{has_genesis, has_table}
-use Rattle.client_verify.proofs.client.Client.new.Goals as goal
+use Rattle.client_verify.proofs.client.Client.open.Goals as goal
 
 pub returns-clause-genesis : goal.returns-clause-genesis
 returns-clause-genesis g c =
