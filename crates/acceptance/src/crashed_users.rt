@@ -174,7 +174,7 @@ fn another_reply_after_a_crash_in_sign(rt: HostRuntime) {
 fn no_other_reply_once_a_structure_stands(rt: HostRuntime) {
     let (mut fork, kept) = new_fork(&rt);
     let client = fails_to_sign(&rt, &mut fork, kept, BEFORE_GATE, Left::Written);
-    assert!(&rt; client.phase() == Phase::Signed);
+    assert!(rt; client.phase() == Phase::Signed);
     is_over(&rt, client.signed(), &fork.replies.update, ONE);
     answers_commit(&rt, &mut fork.other, client.signed(), Status::NotPending);
     answers_commit(&rt, &mut fork.server, client.signed(), Status::Ok);

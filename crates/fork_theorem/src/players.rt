@@ -10,14 +10,14 @@ use std::alloc::Allocator;
 
 /// A client whose devices are in memory, and its first key.
 #[derive(Drop)]
-pub(crate) struct Player<A: Allocator> {
+pub(crate) struct Player<A: Allocator + Copy> {
     pub(crate) client: Client<MemoryDevice<A>, MemoryDevice<A>, A>,
     key: PublicKey,
 }
 
 /// The clients that were named so far.
 #[derive(Drop)]
-pub(crate) struct Players<A: Allocator> {
+pub(crate) struct Players<A: Allocator + Copy> {
     alloc: A,
     pinned: PublicKey,
     pub(crate) list: Vec<Player<A>, A>,

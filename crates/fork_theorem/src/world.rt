@@ -14,7 +14,7 @@ use std::alloc::Allocator;
 
 /// The clients that were named so far, the server, and the stored blocks.
 #[derive(Drop)]
-pub(crate) struct World<A: Allocator> {
+pub(crate) struct World<A: Allocator + Copy> {
     alloc: A,
     players: Players<A>,
     server: Server<A>,
