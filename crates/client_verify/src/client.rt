@@ -58,6 +58,7 @@ pub struct Client<L: Device, J: Device, A: Allocator> {
 }
 
 impl<L: Device, J: Device, A: Allocator> Model for Client<L, J, A> {
+    ghost use Rattle.std.specs.Prelude.{◌≡◌, true};
     ghost use Rattle.lms_sign.specs.Keys.{public_key_of};
     ghost use Rattle.client_verify.specs.State.{AreReplies, State};
     ghost use Rattle.client_verify.specs.Verified.{AreOwn};
