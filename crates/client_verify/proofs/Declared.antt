@@ -1,6 +1,6 @@
 -- A reply that breaks none of the rules on itself is one to the declared operation.
 use Rattle.std.proofs.Common.{◌≡◌, ℕ, Bool, ◌&&◌, true, false, List, [], ◌∷◌, ◌++◌, length, Option, Some, None, Result, Ok, Err, refl, sym, ap, subst, ◌∙◌, inl, inr}
-use Rattle.std.specs.Prelude.{◌==◌, IsSome, IsSomeAnd, if◌then◌else◌, slice_get}
+use Rattle.std.specs.Prelude.{◌==◌, bytes_eq, IsSome, IsSomeAnd, if◌then◌else◌, slice_get}
 use Rattle.std.specs.List.{list_all}
 use Rattle.std.specs.Option.{option_and_then, option_map, option_map_or}
 use Rattle.std.specs.Result.{result_ok}
@@ -24,7 +24,7 @@ use Rattle.reply_rules.specs.declared.rule.Rule.{Rule}
 use Rattle.reply_rules.specs.declared.rule.Rule.TheVariants as rule
 use Rattle.reply_rules.specs.Lists.{Lists, lists_of}
 use Rattle.reply_rules.specs.ListsLaws.{lists_are}
-use Rattle.reply_rules.specs.Rules.{is_planned, lists}
+use Rattle.reply_rules.specs.Rules.{is_planned, lists, pending_ascends, pending_once, structures_ascend}
 use Rattle.reply_rules.specs.Broken.{least}
 use Rattle.client_verify.specs.FirstBroken.{Known, cert_sent, of_read, of_reply, own_last, own_pending, reply_breaks, reply_in, super_signature}
 use Rattle.client_verify.specs.State.{IsOfDeclared}
@@ -69,7 +69,9 @@ last_declared declared r front own is holds =
 last_planned : (r : Reply) (front : List PendingItem) (own : PendingItem) → r.pending ≡ front ++ own ∷ [] → lists r ≡ true → (own.plan.user ≡ own.cert.user) × (own.plan.number ≡ own.cert.number)
 unfolding lists
 last_planned r front own is holds =
-    let all : list_all is_planned r.pending ≡ true = (and_parts _ _ (and_parts _ _ (and_parts _ _ holds).1).1).1 in
+    let one = and_parts (structures_ascend r) (pending_ascends r && (pending_once r && list_all is_planned r.pending)) holds in
+    let two = and_parts (pending_ascends r) (pending_once r && list_all is_planned r.pending) one.1 in
+    let all : list_all is_planned r.pending ≡ true = (and_parts (pending_once r) (list_all is_planned r.pending) two.1).1 in
     let last = and_parts (list_all is_planned front) _ (sym (list_all-append is_planned front (own ∷ [])) ∙ subst (λ (items : List PendingItem). list_all is_planned items ≡ true) is all) in
     let own_is : (is_planned own && true) ≡ true = last.1 in
     let tests = and_parts (own.plan.user == own.cert.user) (own.plan.number == own.cert.number) (and_parts (is_planned own) true own_is).0 in
@@ -146,3 +148,8 @@ of_declared k r text q same is released none read fits =
       user = planned.0 ∙ ap (λ (c : Cert). c.user) own.0 ∙ own.1;
       number = planned.1 ∙ ap (λ (c : Cert). c.number) own.0 ∙ declared.2;
     })
+
+-- the own item of these lists fits a reply
+pub own_fits : (o : Option Lists) (own : PendingItem) (others : List PendingItem) → IsSomeAnd o (λ x. (x.own ≡ own) × (x.others ≡ others)) → pending_item.Fits own → IsSomeAnd o (λ x. pending_item.Fits x.own)
+own_fits None own others none fits = none
+own_fits (Some x) own others is fits = subst pending_item.Fits (sym is.0) fits

@@ -135,6 +135,12 @@ breaks_before inner old a b block o same is breaks =
     let of_asked : block_breaks (held old.blocks) a block ≡ o = subst (λ (c : Asked). block_breaks (held old.blocks) c block ≡ o) (sym is) breaks in
     subst (λ (s : State). block_breaks (held s.blocks) a block ≡ o) (sym same) of_asked
 
+-- and the other way about
+pub breaks_after : (inner old : State) (a b : Asked) (block : Option (List ℕ)) (o : Option Rule) → inner ≡ old → a ≡ b → block_breaks (held inner.blocks) a block ≡ o → block_breaks (held old.blocks) b block ≡ o
+breaks_after inner old a b block o same is breaks =
+    let of_asked : block_breaks (held inner.blocks) b block ≡ o = subst (λ (c : Asked). block_breaks (held inner.blocks) c block ≡ o) is breaks in
+    subst (λ (s : State). block_breaks (held s.blocks) b block ≡ o) same of_asked
+
 pub handed_reads : {A : Type 0} (old new : State) (k : Checked) (block : Option (List ℕ)) (text : List ℕ) (st : Step A) → block_breaks (held old.blocks) (asked_of k) block ≡ None → block ≡ Some text → ReadsOn old k text st new → Handed old k block st new
 handed_reads old new k block text (step.Need d) none is reads = (none, some_one block text _ is reads)
 handed_reads old new k block text (step.Store texts) none is reads = (none, some_one block text _ is reads)

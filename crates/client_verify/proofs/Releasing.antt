@@ -1,6 +1,6 @@
 -- What a client's releases do, seen from the client.
-use Rattle.std.proofs.Common.{◌≡◌, ◌≢◌, ℕ, ◌+◌, List, ◌++◌, length, Option, Some, None, Bool, true, refl, sym, ap, subst, ◌<◌, ◌∙◌, length-append, arith}
-use Rattle.std.specs.Prelude.{IfSome}
+use Rattle.std.proofs.Common.{◌≡◌, ◌≢◌, ℕ, ◌+◌, List, ◌++◌, length, Option, Some, None, Ok, Err, Bool, true, refl, sym, ap, subst, ◌<◌, ◌∙◌, length-append, arith}
+use Rattle.std.specs.Prelude.{◌↔◌, IfSome, IsErrOf, IsSomeAnd}
 use Rattle.layout.specs.Types.{Bytes, Key}
 use Rattle.layout.specs.Format.{be}
 use Rattle.layout.specs.Hash.{length-hash}
@@ -23,7 +23,7 @@ use Rattle.client_releases.specs.Told.{IsReleased, Released, sent, signed_by}
 use Rattle.client_releases.specs.declared.phase.Phase.TheVariants as phase
 use Rattle.client_releases.proofs.Seen.{declared_with, failed_with, signed_with, with_signature}
 use Rattle.client_releases.proofs.Untouched.{none_tried, untouched}
-use Rattle.client_verify.specs.State.{AcceptedView, Checked, Ready, State, declared, declared_text, failed, laying, next_cert, next_structure, on, released, signed_over, signed_structure, signed_text, view_of, with_own}
+use Rattle.client_verify.specs.State.{AcceptedView, Checked, IsOfDeclared, Ready, State, declared, declared_text, failed, laying, next_cert, next_structure, on, released, signed_over, signed_structure, signed_text, view_of, with_own}
 use Rattle.client_verify.specs.Verified.{AreOwn, IsSealed, IsSigned}
 use Rattle.client_verify.proofs.VerifiedLaws.{seals}
 
@@ -44,6 +44,19 @@ over r pinned blocks checked accepted view = record {
   accepted = accepted;
   view = view;
 }
+
+-- ---- errors
+
+-- an error that another call answered
+pub same_error : {S T E : Type 0} (e x : E) (P : Type 0) → (IsErrOf {T = S} (Err e) x ↔ P) → (IsErrOf {T = T} (Err e) x ↔ P)
+same_error {S} {T} e x P told = (
+  λ is. let same : e ≡ x = cc in told.0 (ap Err same),
+  λ holds. let is : IsErrOf {T = S} (Err e) x = told.1 holds in let same : e ≡ x = cc in ap Err same,
+)
+
+-- where a call is Ok what it says of this error isn't so
+pub not_so : {S E : Type 0} (v : S) (x : E) (P : Type 0) → (IsErrOf (Ok v) x ↔ P) → P → ⊥
+not_so v x P told holds = let is = told.1 holds in cc is
 
 -- ---- nothing was released
 
@@ -151,6 +164,12 @@ module _ (r : Released) (key : List ℕ) (is : key ≡ public_key_of r.seed r.id
   own_signed new z unsigned made =
       subst (λ (o : Released). AreOwn (public_key_of o.seed o.id) o.last o.text) (sym made)
       (record { structure = signed_valid r.seed r.id (structure.spell z) leaf (id_size r.seed r.id key is size) small; sealed = seals_sent unsigned })
+
+-- ---- what is under way
+
+-- what is under check is a reply to the declared operation, as its callers see it or by its fields
+pub replied : (r q : Released) (o : Option Lists) → r ≡ q → IsSomeAnd o (λ x. IsOfDeclared q x.own.plan) → IsSomeAnd o (λ x. IsOfDeclared r x.own.plan)
+replied r q o is own = subst (λ (k : Released). IsSomeAnd o (λ x. IsOfDeclared k x.own.plan)) (sym is) own
 
 -- after a device failed both are as they were
 pub own_failed : (r new : Released) → new ≡ failed_with r new.devices → AreOwn (public_key_of r.seed r.id) r.last r.text → AreOwn (public_key_of new.seed new.id) new.last new.text

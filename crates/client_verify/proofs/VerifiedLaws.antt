@@ -20,7 +20,7 @@ use Rattle.reply_rules.specs.Rules.{unknown_user}
 use Rattle.reply_rules.specs.declared.rule.Rule.{Rule}
 use Rattle.reply_rules.specs.declared.rule.Rule.TheVariants as rule
 use Rattle.client_verify.specs.FirstBroken.{cert_verifies, certificates, lists_break, shown_of, signatures, structure_verifies, super_signature, verifies}
-use Rattle.client_verify.specs.Verified.{AreOf, AreSupers, IsCertSigned, IsSealed, IsSigned}
+use Rattle.client_verify.specs.Verified.{AreOf, AreOwn, AreSupers, IsCertSigned, IsSealed, IsSigned}
 
 -- what all items have that pass, the first one has that is found
 found : {X : Type 0} (f p : X → Bool) (P : X → Type 0) → ((x : X) → f x ≡ true → p x ≡ true → P x) → (xs : List X) → list_all p xs ≡ true → IfSome (find f xs) P
@@ -99,3 +99,7 @@ cert_there key i z is holds = subst (λ (y : Signed Cert). valid key (cert.spell
 -- nothing ends in a signature
 pub seals_nothing : (key : Bytes) → IsSealed key []
 seals_nothing key body signature long is = absurd (omega (arith, long, ap length is, length-append body signature))
+
+-- who signed nothing yet
+pub owns_nothing : (key : Key) (last : Option (Signed Structure)) (text : Bytes) → last ≡ None → text ≡ [] → AreOwn key last text
+owns_nothing key last text none empty = rw (none, empty) (record { structure = tt; sealed = seals_nothing key })

@@ -368,16 +368,26 @@ impl<L: Device, J: Device, A: Allocator + Copy> Client<L, J, A> {
         }
     }
 
-    /// The certificate of these changes, not signed yet.
-    fn certificate(&self, number: Version, changes: &[Change<A>]) -> Result<Unsigned<A>, Memory>
-        requires number { number ≡ self.now.number + 1 }
+    /// The certificate of these changes, not signed yet. What was laid out for it is held.
+    fn certificate(
+        &mut self,
+        number: Version,
+        changes: &[Change<A>],
+        laid: &[Vec<u8, A>],
+    ) -> Result<Unsigned<A>, Memory>
+        requires number { number ≡ self.old.number + 1 }
         requires few { length changes.now ≤ 16 }
-        ensures text { IfOk result (λ unsigned. unsigned ≡ cert.spell (next_cert self.now changes.now)) }
-        ensures fits { IfOk result (λ _. cert.Fits (next_cert self.now changes.now)) }
+        ensures laying { OnOk result (self.new ≡ laying (map vec_items laid.now) self.old) }
+        ensures text { IfOk result (λ unsigned. unsigned ≡ cert.spell (next_cert self.old changes.now)) }
+        ensures fits { OnOk result (cert.Fits (next_cert self.old changes.now)) }
+        ensures err { OnErr result (self.new ≡ self.old) }
     {
         let last = digest_of_last(self.alloc, self.releases.last())?;
         let text = cert_text(self.alloc, self.releases.user(), number, last, changes)?;
-        Unsigned::new(self.alloc, text)
+        let unsigned = Unsigned::new(self.alloc, text)?;
+        let laid = copies(self.alloc, laid)?;
+        self.blocks.keep_all(laid)?;
+        Ok(unsigned)
     }
 
     /// The next certificate, of these changes, with its number: all that it takes of memory is there, and what was laid out
@@ -394,16 +404,20 @@ impl<L: Device, J: Device, A: Allocator + Copy> Client<L, J, A> {
         ensures text { IfOk result (λ p. p.1 ≡ cert.spell (next_cert self.old changes.now)) }
         ensures fits { OnOk result (cert.Fits (next_cert self.old changes.now)) }
         ensures free { OnOk result (IsFull self.old.devices.ledger.file.now.text → ⊥) }
+        ensures below { OnOk result (self.old.number ≢ 4294967295) }
         ensures no_leaf { IsErrOf result ClientError.NoLeaf ↔ IsFull self.old.devices.ledger.file.now.text }
         ensures no_number { IsErrOf result ClientError.NoNumber ↔ ((self.old.number ≡ 4294967295) × (IsFull self.old.devices.ledger.file.now.text → ⊥)) }
         ensures only { IfErr result (λ e. (e ≢ ClientError.Device) × (e ≢ ClientError.Foreign) × (e ≢ ClientError.Damaged)) }
         ensures err { OnErr result (self.new ≡ self.old) }
     {
-        let number = self.next_number()?;
-        let unsigned = self.certificate(number, changes)?;
-        let laid = copies(self.alloc, laid)?;
-        self.blocks.keep_all(laid)?;
-        Ok((number, unsigned))
+        let number = match self.next_number() {
+            Ok(number) => number,
+            Err(error) => return Err(error),
+        };
+        match self.certificate(number, changes, laid) {
+            Ok(unsigned) => Ok((number, unsigned)),
+            Err(_) => Err(ClientError::Memory),
+        }
     }
 
     /// Declares the next operation, and gives its signed certificate, which stands in the journal by then. What was laid
@@ -496,7 +510,9 @@ impl<L: Device, J: Device, A: Allocator + Copy> Client<L, J, A> {
         requires declared { self.now.phase ≡ Phase.Declared }
         requires unbroken { reply_breaks (known self.now) text.now ≡ None }
         requires read { reply_in text.now ≡ Some reply.now }
-        ensures { IsSomeAnd (lists_of reply.now) (λ x. IsOfDeclared (released self.now) x.own.plan) }
+        ensures own { IsSomeAnd (lists_of reply.now) (λ x. IsOfDeclared (released self.now) x.own.plan) }
+        ensures unbroken { reply_breaks (known self.now) text.now ≡ None }
+        ensures read { reply_in text.now ≡ Some reply.now }
     {
         self.releases.stands();
         let _certificate = reply.split().0.cert();
@@ -631,9 +647,8 @@ impl<L: Device, J: Device, A: Allocator + Copy> Client<L, J, A> {
         }
     }
 
-    /// The structure over the accepted reply, before it is signed: all that it takes of memory is there, and a leaf is
-    /// free. With it come the structures of the reply.
-    fn draft(&self) -> Result<(Draft<A>, Vec<Signed<Structure<A>>, A>), ClientError>
+    /// The structure over the accepted reply, not signed yet, and the structures of the reply.
+    fn draft(&self) -> Result<(Draft<A>, Vec<Signed<Structure<A>>, A>), Memory>
         requires { IsSome self.now.accepted }
         ensures structure { IfSome self.now.accepted (λ r. IfOk result (λ d. d.0.structure ≡ next_structure self.now r)) }
         ensures shown { IfOk result (λ d. d.0.shown ≡ d.0.structure) }
@@ -641,13 +656,7 @@ impl<L: Device, J: Device, A: Allocator + Copy> Client<L, J, A> {
         ensures structures { IfSome self.now.accepted (λ r. IfOk result (λ d. d.1.items ≡ r.lists.structures)) }
         ensures room { IfOk result (λ d. vec_len d.1 < vec_capacity d.1) }
         ensures ascending { IfOk result (λ d. Ascends nat_cmp user_of None d.1.items) }
-        ensures free { OnOk result (IsFull self.now.devices.ledger.file.now.text → ⊥) }
-        ensures no_leaf { IsErrOf result ClientError.NoLeaf ↔ IsFull self.now.devices.ledger.file.now.text }
-        ensures only { IfErr result (λ e. (e ≡ ClientError.NoLeaf) ⊎ (e ≡ ClientError.Memory)) }
     {
-        if !self.releases.has_free_leaf() {
-            return Err(ClientError::NoLeaf);
-        }
         let Some(ready) = &self.accepted else {
             unreachable!()
         };
@@ -685,9 +694,12 @@ impl<L: Device, J: Device, A: Allocator + Copy> Client<L, J, A> {
     {
         self.releases.stands();
         let _size = self.releases.key().as_bytes();
+        if !self.releases.has_free_leaf() {
+            return Err(ClientError::NoLeaf);
+        }
         let (draft, copies) = match self.draft() {
             Ok(drawn) => drawn,
-            Err(error) => return Err(error),
+            Err(_) => return Err(ClientError::Memory),
         };
         let Some(ready) = self.accepted.take() else {
             unreachable!()

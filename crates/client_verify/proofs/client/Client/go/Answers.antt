@@ -10,7 +10,7 @@ pub returns-in-Lacks : goal.returns-in-Lacks
 returns-in-Lacks g c =
     let old = c.args.self.now in
     let x = c.args.good in
-    let wanted = subst (λ (w : Written _). IsWritten (held old.blocks) (view_of old.pinned x) x.void w) c.in-Lacks.is c.requires in
+    let wanted = subst (λ (w : Written _). IsWritten (held old.blocks) (view_of old.pinned x) x.void w) c.in-Lacks.is c.requires.written in
     goes_need _ old c.ask.new.self x c.in-Lacks.asked c.ask.result c.ask.ensures.step c.ask.ensures.state wanted
 
 pub returns-in-Parts : goal.returns-in-Parts
@@ -18,7 +18,7 @@ returns-in-Parts g c =
     let old = c.args.self.now in
     let x = c.args.good in
     let made = c.in-Parts.made in
-    let w = subst (λ (w : Written _). IsWritten (held old.blocks) (view_of old.pinned x) x.void w) c.in-Parts.is c.requires in
+    let w = subst (λ (w : Written _). IsWritten (held old.blocks) (view_of old.pinned x) x.void w) c.in-Parts.is c.requires.written in
     let own = w.0 in
     let groups = w.1 in
     let is = w.2 in
