@@ -456,10 +456,7 @@ impl<L: Device, J: Device, A: Allocator + Copy> Client<L, J, A> {
         };
         self.checked = None;
         self.accepted = None;
-        match self.releases.declare(number, unsigned) {
-            Ok(sent) => Ok(sent),
-            Err(error) => Err(error),
-        }
+        self.releases.declare(number, unsigned)
     }
 
     /// A reply is under check, and this block is asked for.
@@ -653,6 +650,7 @@ impl<L: Device, J: Device, A: Allocator + Copy> Client<L, J, A> {
         ensures structure { IfSome self.now.accepted (λ r. IfOk result (λ d. d.0.structure ≡ next_structure self.now r)) }
         ensures shown { IfOk result (λ d. d.0.shown ≡ d.0.structure) }
         ensures text { IfOk result (λ d. d.0.text ≡ structure.spell d.0.structure) }
+        ensures fits { IfOk result (λ d. structure.Fits d.0.structure) }
         ensures structures { IfSome self.now.accepted (λ r. IfOk result (λ d. d.1.items ≡ r.lists.structures)) }
         ensures room { IfOk result (λ d. vec_len d.1 < vec_capacity d.1) }
         ensures ascending { IfOk result (λ d. Ascends nat_cmp user_of None d.1.items) }

@@ -52,8 +52,11 @@ pub(crate) fn draft_over<A: Allocator + Copy>(
     ensures structure { IfOk result (λ d. d.structure ≡ structure_over handle records.now (option_copied last.entry) plan.now) }
     ensures shown { IfOk result (λ d. d.shown ≡ d.structure) }
     ensures text { IfOk result (λ d. d.text ≡ structure.spell d.structure) }
+    ensures fits { IfOk result (λ d. structure.Fits d.structure) }
 {
     let structure = structure_over(alloc, handle, records, last, plan)?;
+    // Its own contract says that it fits its text.
+    let _plan = structure.plan();
     let shown = structure.copy(alloc)?;
     let text = Unsigned::new(alloc, structure.text(alloc)?)?;
     Ok(Draft {
