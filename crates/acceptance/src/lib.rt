@@ -10,6 +10,10 @@ mod certificates;
 #[cfg(test)]
 mod changes;
 #[cfg(test)]
+mod crashed_users;
+#[cfg(test)]
+mod device_faults;
+#[cfg(test)]
 mod directories;
 #[cfg(test)]
 mod faults;
@@ -47,6 +51,8 @@ mod plans;
 mod refusals;
 #[cfg(test)]
 mod replies;
+#[cfg(test)]
+mod restarts;
 #[cfg(test)]
 mod rule_parts;
 #[cfg(test)]

@@ -1,12 +1,12 @@
 //! A table of principals of two blocks, through a client: each of its blocks absent, cut, flipped and another one, in the
 //! place of what was asked for, and named by the i-node itself.
 
-use crate::replies::{client_with, declare, step_on};
+use crate::replies::{MemoryClient, client_with, declare, step_on};
 use crate::several_users::{broken_by, keep_each};
 use crate::tables::{FORM, Texts, listing, structure_over, texts_over};
 use crate::texts::{Host, check, joined, key_of, listed, named, pending, plan, reply, shown};
 use client_tree::Held;
-use client_verify::{Client, Rule, Step};
+use client_verify::{Rule, Step};
 use layout::digest;
 use lms_sign::{PrivateKey, PublicKey};
 use std::alloc::Global;
@@ -47,7 +47,7 @@ fn blocks_of(rt: &impl Host, zero: &PublicKey, one: &PublicKey) -> [Vec<u8>; 2] 
 struct Scene {
     key: PrivateKey<Global>,
     blocks: [Vec<u8>; 2],
-    client: Client<Global>,
+    client: MemoryClient,
     update: Vec<u8>,
 }
 
@@ -98,7 +98,7 @@ fn reply_over(rt: &impl Host, key: &PrivateKey<Global>, root: &[u8], update: &[u
 }
 
 /// What is handed in breaks the rule on blocks.
-fn refuses(rt: &impl Host, client: &mut Client<Global>, block: Option<&[u8]>) {
+fn refuses(rt: &impl Host, client: &mut MemoryClient, block: Option<&[u8]>) {
     assert!(rt; client.wants());
     let step = client.on_block(block).expect(rt, "memory");
     check(
@@ -109,12 +109,12 @@ fn refuses(rt: &impl Host, client: &mut Client<Global>, block: Option<&[u8]>) {
 }
 
 /// This text, handed in, breaks it.
-fn refuses_text(rt: &impl Host, client: &mut Client<Global>, text: Vec<u8>) {
+fn refuses_text(rt: &impl Host, client: &mut MemoryClient, text: Vec<u8>) {
     refuses(rt, client, Some(&text));
 }
 
 /// Each fault is handed in in the place of a block, where the other block of the table is this.
-fn refuses_each(rt: &impl Host, client: &mut Client<Global>, block: &[u8], other: &[u8]) {
+fn refuses_each(rt: &impl Host, client: &mut MemoryClient, block: &[u8], other: &[u8]) {
     refuses(rt, client, None);
     refuses_text(rt, client, cut(rt, block));
     refuses_text(rt, client, flipped(rt, block));
@@ -124,7 +124,7 @@ fn refuses_each(rt: &impl Host, client: &mut Client<Global>, block: &[u8], other
 /// The block is asked for, is handed in after each fault, and what comes next is answered.
 fn takes_block(
     rt: &impl Host,
-    client: &mut Client<Global>,
+    client: &mut MemoryClient,
     step: Step<Global>,
     block: &[u8],
     other: &[u8],

@@ -1,12 +1,13 @@
 //! User 0's first two operations between a client and a server, byte for byte: their certificates, replies, structures
 //! and frames, and what the client shows of them.
 
-use crate::replies::{breaks, declare, end, first_key, plan_of, reply_to, sign, superuser};
+use crate::replies::{
+    MemoryClient, breaks, declare, end, first_key, plan_of, reply_to, sign, superuser,
+};
 use crate::server::{Server, answers_commit, answers_update, server_of};
 use crate::texts::{Host, certificate, check, check_text, joined, key_of, listed, named, shown};
-use client_verify::{Client, Phase};
+use client_verify::Phase;
 use layout::Text;
-use std::alloc::Global;
 use wire::{RequestKind, Status, reply_frame, request_frame};
 
 /// The handle that user 0's i-table has at the beginning under the key of these tests, by another program's LMS and
@@ -34,7 +35,7 @@ struct Texts {
 }
 
 /// The client declares the operation, whose certificate names the structure after which it stands.
-fn declares(rt: &impl Host, client: &mut Client<Global>, operation: &Operation<'_>) -> Vec<u8> {
+fn declares(rt: &impl Host, client: &mut MemoryClient, operation: &Operation<'_>) -> Vec<u8> {
     let update = declare(rt, client);
     let by_hand = certificate(rt, 0, u32::from(operation.number), operation.last);
     check(rt, update.starts_with(&by_hand), "the certificate");
@@ -42,7 +43,7 @@ fn declares(rt: &impl Host, client: &mut Client<Global>, operation: &Operation<'
 }
 
 /// The client signs the structure of the plan made by hand, with the handle of the beginning and no records.
-fn signs(rt: &impl Host, client: &mut Client<Global>, plan: &[u8]) -> Vec<u8> {
+fn signs(rt: &impl Host, client: &mut MemoryClient, plan: &[u8]) -> Vec<u8> {
     let commit = sign(rt, client);
     let by_hand = joined(rt, &[b"SVS1\0\x30", plan, &FIRST_HANDLE, &[0]]);
     check(rt, commit.starts_with(&by_hand), "the structure");
@@ -53,7 +54,7 @@ fn signs(rt: &impl Host, client: &mut Client<Global>, plan: &[u8]) -> Vec<u8> {
 /// that it comes, and the client accepts that.
 fn completes(
     rt: &impl Host,
-    client: &mut Client<Global>,
+    client: &mut MemoryClient,
     server: &mut Server,
     operation: &Operation<'_>,
 ) -> Texts {
@@ -83,7 +84,7 @@ const FIRST: Operation<'static> = Operation {
 /// Completes the second operation, after the structure of the first one.
 fn completes_second(
     rt: &impl Host,
-    client: &mut Client<Global>,
+    client: &mut MemoryClient,
     server: &mut Server,
     first: &[u8],
 ) -> Vec<u8> {
@@ -97,7 +98,7 @@ fn completes_second(
 }
 
 /// The client shows this structure alone, and user 0's key.
-fn shows(rt: &impl Host, client: &Client<Global>, structure: &[u8]) {
+fn shows(rt: &impl Host, client: &MemoryClient, structure: &[u8]) {
     check(rt, !client.wants(), "no block is asked for");
     assert!(rt; client.has_view());
     let [own] = client.structures() else {

@@ -1,14 +1,13 @@
 //! The client of another user, to which user 0's structure is shown.
 
-use crate::replies::{breaks, client_of, declare, plan_of, step_on};
+use crate::replies::{MemoryClient, breaks, client_of, declare, plan_of, step_on};
 use crate::tables::{listing, structure_over, texts_over};
 use crate::texts::{
     Host, certificate, check, check_text, joined, key_of, listed, named, pending, plan, reply,
     shown, signed, structure,
 };
-use client_verify::{Client, Rule, Step};
+use client_verify::{Rule, Step};
 use lms_sign::PublicKey;
-use std::alloc::Global;
 
 /// The structure of user 0's first operation, with an invented handle.
 fn structure_of_super(rt: &impl Host) -> Vec<u8> {
@@ -26,13 +25,13 @@ fn reply_after(rt: &impl Host, structure: &[u8], update: &[u8]) -> Vec<u8> {
 }
 
 /// A reply after user 0's structure with this signature breaks the rule.
-fn breaks_after(rt: &impl Host, client: &mut Client<Global>, structure: &[u8], rule: Rule) {
+fn breaks_after(rt: &impl Host, client: &mut MemoryClient, structure: &[u8], rule: Rule) {
     let update = declare(rt, client);
     breaks(rt, client, &reply_after(rt, structure, &update), Some(rule));
 }
 
 /// A new client of user 1.
-fn user_1(rt: &impl Host) -> Client<Global> {
+fn user_1(rt: &impl Host) -> MemoryClient {
     client_of(rt, 1, 1)
 }
 

@@ -4,14 +4,14 @@
 use crate::blocks::{HELLO, HELLO_INODE};
 use crate::certificates::{i_number, principal};
 use crate::changes::{nothing, plan_change};
-use crate::replies::{declare, declare_changes, sign};
+use crate::replies::{MemoryClient, declare, declare_changes, sign};
 use crate::several_users::{
     Operation, SECOND_OF_GROUP, Scene, THIRD, broken_by, first_handle, keep_each, list_of,
     new_scene, own_row, structure_row,
 };
 use crate::texts::{Host, check, check_text, joined, listed, reply};
 use client_tree::Held;
-use client_verify::{Client, Look, Rule};
+use client_verify::{Look, Rule};
 use layout::digest;
 use std::alloc::Global;
 use update_cert::{Action, Blocks, Change};
@@ -110,7 +110,7 @@ fn store_part(rt: &impl Host, store: &mut Held<Global>, part: &Part) -> [u8; 32]
 }
 
 /// The certificate of an operation that removes 64:5.
-fn removes(rt: &impl Host, client: &mut Client<Global>) -> Vec<u8> {
+fn removes(rt: &impl Host, client: &mut MemoryClient) -> Vec<u8> {
     let mut planned = nothing(rt);
     let change = Change::new(principal(rt, 64), i_number(rt, 5), Action::Remove);
     plan_change(rt, &mut planned, change);
@@ -154,12 +154,7 @@ fn reply_beside(rt: &impl Host, scene: &Scene, handles: &[[u8; 32]; 3], update: 
 }
 
 /// What stands at i-number 5 of a principal.
-fn see(
-    rt: &impl Host,
-    client: &mut Client<Global>,
-    store: &Held<Global>,
-    owner: u8,
-) -> Look<Global> {
+fn see(rt: &impl Host, client: &mut MemoryClient, store: &Held<Global>, owner: u8) -> Look<Global> {
     assert!(rt; client.has_view());
     let look = client.look(principal(rt, owner), i_number(rt, 5));
     let mut look = look.expect(rt, "memory");
@@ -187,7 +182,7 @@ fn handles_of(rt: &impl Host, scene: &mut Scene) -> [[u8; 32]; 3] {
 }
 
 /// What the looks see.
-fn sees_each(rt: &impl Host, client: &mut Client<Global>, store: &Held<Global>) {
+fn sees_each(rt: &impl Host, client: &mut MemoryClient, store: &Held<Global>) {
     let seen = see(rt, client, store, 2);
     check(
         rt,

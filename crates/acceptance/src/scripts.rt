@@ -10,7 +10,7 @@ struct Case {
     lines: &'static [u8],
 }
 
-static CASES: [Case; 9] = [
+static CASES: [Case; 11] = [
     // The first operation.
     Case {
         script: b"begin 0\n\
@@ -67,6 +67,84 @@ static CASES: [Case; 9] = [
             0 busy\n\
             0 begin 2\n\
             0 accepted 2\n",
+    },
+    // Restarts in each phase. The journal doesn't tell of a commit, and no view outlives a crash.
+    Case {
+        script: b"restart\n\
+            restart 64\n\
+            restart 0 a\n\
+            restart 0\n\
+            restart 1\n\
+            begin 0\n\
+            restart 0\n\
+            begin 0\n\
+            update 0 a\n\
+            show 0 0 2\n\
+            restart 0\n\
+            show 0 0 2\n\
+            update 0 a\n\
+            commit 0 a\n\
+            restart 0\n\
+            begin 0\n\
+            commit 0 a\n\
+            begin 0\n\
+            update 0 a\n\
+            show 0 0 2\n",
+        lines: b"error\n\
+            error\n\
+            error\n\
+            0 idle\n\
+            1 idle\n\
+            0 begin 1\n\
+            0 declared\n\
+            0 busy\n\
+            0 accepted 1\n\
+            0 dir\n\
+            0 signed\n\
+            0 none\n\
+            0 busy\n\
+            0 committed\n\
+            0 signed\n\
+            0 busy\n\
+            0 committed\n\
+            0 begin 2\n\
+            0 accepted 2\n\
+            0 dir\n",
+    },
+    // What was laid out before a restart is asked for after it; a commit whose answer was lost is sent again.
+    Case {
+        script: b"begin 0 make 0 3 file hello; link 0 2 f 0 3\n\
+            restart 0\n\
+            update 0 a\n\
+            commit 0 a\n\
+            show 0 0 3\n\
+            restart 0\n\
+            show 0 0 3\n\
+            commit 0 a\n\
+            begin 0 put 0 3 bye\n\
+            update 0 a\n\
+            restart 0\n\
+            commit 0 a\n\
+            begin 0\n\
+            update 0 a\n\
+            show 0 0 3\n\
+            show 0 0 2\n",
+        lines: b"0 begin 1\n\
+            0 declared\n\
+            0 accepted 1\n\
+            0 committed\n\
+            0 file hello\n\
+            0 signed\n\
+            0 none\n\
+            0 committed\n\
+            0 begin 2\n\
+            0 accepted 2\n\
+            0 signed\n\
+            0 committed\n\
+            0 begin 3\n\
+            0 accepted 3\n\
+            0 file bye\n\
+            0 dir f 0:3\n",
     },
     // Another user.
     Case {

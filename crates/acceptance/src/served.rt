@@ -2,15 +2,14 @@
 
 use crate::certificates::{i_number, principal};
 use crate::changes::{Planned, lay, nothing};
-use crate::replies::{client_of, declare_changes, end, sign, step_on};
+use crate::replies::{MemoryClient, client_of, declare_changes, end, sign, step_on};
 use crate::texts::{Host, check, check_text, key_of};
 use block_store::Store;
-use client_verify::{Client, Look, Step};
+use client_verify::{Look, Step};
 use layout::{Digest, User};
 use lms_sign::PublicKey;
 use plain_user::{Caller, Replied};
 use server_workers::{Accepted, OpenGate, serve};
-use std::alloc::Global;
 use std::net::{Net, SocketAddr, TcpListener, TcpStream};
 use std::sync::Wait;
 use std::thread;
@@ -47,7 +46,7 @@ fn get(rt: &impl Host, caller: &mut Caller<TcpStream>, digest: Digest) -> Vec<u8
 fn begin(
     rt: &impl Host,
     caller: &mut Caller<TcpStream>,
-    client: &mut Client<Global>,
+    client: &mut MemoryClient,
     planned: Planned,
 ) -> Vec<u8> {
     let Planned { changes, laid } = planned;
@@ -76,7 +75,7 @@ fn begin(
 fn commit(
     rt: &impl Host,
     caller: &mut Caller<TcpStream>,
-    client: &mut Client<Global>,
+    client: &mut MemoryClient,
     structure: &[u8],
 ) {
     let payload = ask(rt, caller, RequestKind::Commit, structure);
@@ -88,7 +87,7 @@ fn commit(
 fn operate(
     rt: &impl Host,
     caller: &mut Caller<TcpStream>,
-    client: &mut Client<Global>,
+    client: &mut MemoryClient,
     planned: Planned,
 ) {
     let structure = begin(rt, caller, client, planned);
@@ -99,7 +98,7 @@ fn operate(
 fn sees(
     rt: &impl Host,
     caller: &mut Caller<TcpStream>,
-    client: &mut Client<Global>,
+    client: &mut MemoryClient,
     user: u8,
     bytes: &[u8],
 ) {
@@ -144,7 +143,7 @@ fn two_users(rt: &impl Host) -> Planned {
 }
 
 /// User 0 makes an operation without changes, and sees the files of both.
-fn sees_both(rt: &impl Host, caller: &mut Caller<TcpStream>, superuser: &mut Client<Global>) {
+fn sees_both(rt: &impl Host, caller: &mut Caller<TcpStream>, superuser: &mut MemoryClient) {
     operate(rt, caller, superuser, nothing(rt));
     sees(rt, caller, superuser, 1, b"one");
     sees(rt, caller, superuser, 2, b"two");

@@ -2,14 +2,14 @@
 //! principals made by hand: replies that break no rule, and replies that differ from those in one part and break the rule
 //! of that part.
 
-use crate::replies::{client_with, declare, step_on};
+use crate::replies::{MemoryClient, client_with, declare, step_on};
 use crate::tables::{FORM, Texts, listing, structure_over, texts_over};
 use crate::texts::{
     Host, certificate_of, check, joined, key_of, named, pending, plan, reply, shown, signed,
     structure_of,
 };
 use client_tree::Held;
-use client_verify::{Client, Rule, Step};
+use client_verify::{Rule, Step};
 use layout::digest;
 use lms_sign::{PrivateKey, PublicKey};
 use std::alloc::Global;
@@ -345,7 +345,7 @@ fn scene_of(rt: &impl Host, keys: [PrivateKey<Global>; 3], one: &PublicKey) -> S
 }
 
 /// A scene, and a new client of user 1.
-pub(crate) fn new_scene(rt: &impl Host) -> (Scene, Client<Global>) {
+pub(crate) fn new_scene(rt: &impl Host) -> (Scene, MemoryClient) {
     let (zero, one) = (key_of(rt, 0), key_of(rt, 1));
     let (pinned, public) = (zero.public(), one.public());
     let keys = [zero, key_of(rt, 2), key_of(rt, 3)];
@@ -463,7 +463,7 @@ fn pending_of(rt: &impl Host, scene: &Scene, case: &Case, update: &[u8]) -> Vec<
 /// Hands a reply in, and each block that it asks for: the rule that is broken.
 pub(crate) fn broken_by(
     rt: &impl Host,
-    client: &mut Client<Global>,
+    client: &mut MemoryClient,
     store: &Held<Global>,
     reply: &[u8],
 ) -> Option<Rule> {
@@ -485,7 +485,7 @@ pub(crate) fn broken_by(
 fn breaks_case(
     rt: &impl Host,
     scene: &Scene,
-    client: &mut Client<Global>,
+    client: &mut MemoryClient,
     update: &[u8],
     case: &Case,
 ) {

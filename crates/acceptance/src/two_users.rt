@@ -2,13 +2,15 @@
 //! older structure and of a plan that it swapped.
 
 use crate::changes::{Planned, nothing};
-use crate::replies::{client_of, declare, declare_changes, end, first_key, sign, step_on};
+use crate::replies::{
+    MemoryClient, client_of, declare, declare_changes, end, first_key, sign, step_on,
+};
 use crate::server::{Server, answers_commit, answers_update_so, server_of};
 use crate::texts::{
     Host, check, check_text, joined, key_of, listed, named, pending, plan, reply, shown,
 };
 use client_tree::Held;
-use client_verify::{Client, Rule, Step};
+use client_verify::{Rule, Step};
 use layout::{User, digest};
 use std::alloc::Global;
 use std::ops::Range;
@@ -22,23 +24,23 @@ const BOUND: usize = 10;
 /// count.
 const ZERO: &[u8] = b"\x01\0\0\0\0\x01";
 
-const ONE: &[u8] = b"\x02\0\0\0\0\x01\x01\0\0\0\x01";
+pub(crate) const ONE: &[u8] = b"\x02\0\0\0\0\x01\x01\0\0\0\x01";
 
-const BOTH: &[u8] = b"\x03\0\0\0\0\x01\x01\0\0\0\x01\x02\0\0\0\x01";
+pub(crate) const BOTH: &[u8] = b"\x03\0\0\0\0\x01\x01\0\0\0\x01\x02\0\0\0\x01";
 
 /// And that of user 2's second operation after these.
 const SECOND: &[u8] = b"\x03\0\0\0\0\x01\x01\0\0\0\x01\x02\0\0\0\x02";
 
 /// No entry.
-const NONE: &[u8] = b"\0";
+pub(crate) const NONE: &[u8] = b"\0";
 
 /// The clients of users 0 to 2, and the blocks that all servers share.
 #[derive(Drop)]
-struct Users {
-    superuser: Client<Global>,
-    first: Client<Global>,
-    second: Client<Global>,
-    store: Held<Global>,
+pub(crate) struct Users {
+    pub(crate) superuser: MemoryClient,
+    pub(crate) first: MemoryClient,
+    pub(crate) second: MemoryClient,
+    pub(crate) store: Held<Global>,
 }
 
 /// The users before their first operations.
@@ -58,10 +60,10 @@ fn keep(rt: &impl Host, store: &mut Held<Global>, texts: Vec<Vec<u8>>) {
 
 /// Hands a reply in, and each block that it asks for: the rule that is broken, or none, where it is accepted and the new
 /// texts are stored.
-fn judged(
+pub(crate) fn judged(
     rt: &impl Host,
     store: &mut Held<Global>,
-    client: &mut Client<Global>,
+    client: &mut MemoryClient,
     reply: &[u8],
 ) -> Option<Rule> {
     let mut step = step_on(rt, client, reply);
@@ -82,10 +84,10 @@ fn judged(
 }
 
 /// The client accepts the reply, and signs.
-fn accepts(
+pub(crate) fn accepts(
     rt: &impl Host,
     store: &mut Held<Global>,
-    client: &mut Client<Global>,
+    client: &mut MemoryClient,
     reply: &[u8],
 ) -> Vec<u8> {
     let broken = judged(rt, store, client, reply);
@@ -94,10 +96,10 @@ fn accepts(
 }
 
 /// The reply breaks this rule first.
-fn breaks(
+pub(crate) fn breaks(
     rt: &impl Host,
     store: &mut Held<Global>,
-    client: &mut Client<Global>,
+    client: &mut MemoryClient,
     reply: &[u8],
     rule: Rule,
 ) {
@@ -106,7 +108,7 @@ fn breaks(
 }
 
 /// The server commits the structure that the client signed.
-fn commits(rt: &impl Host, server: &mut Server, client: &mut Client<Global>, structure: &[u8]) {
+fn commits(rt: &impl Host, server: &mut Server, client: &mut MemoryClient, structure: &[u8]) {
     answers_commit(rt, server, structure, Status::Ok);
     end(rt, client, Status::Ok);
 }
@@ -116,7 +118,7 @@ fn completes(
     rt: &impl Host,
     store: &mut Held<Global>,
     server: &mut Server,
-    client: &mut Client<Global>,
+    client: &mut MemoryClient,
     update: &[u8],
 ) -> Vec<u8> {
     let reply = answers_update_so(rt, server, update, Status::Ok);
@@ -138,15 +140,15 @@ fn listing_both(rt: &impl Host) -> Planned {
 
 /// Both users are listed, by user 0's structure here, at two servers that show the same.
 #[derive(Drop)]
-struct Scene {
-    users: Users,
-    server: Server,
-    other: Server,
-    by_super: Vec<u8>,
+pub(crate) struct Scene {
+    pub(crate) users: Users,
+    pub(crate) server: Server,
+    pub(crate) other: Server,
+    pub(crate) by_super: Vec<u8>,
 }
 
 /// User 0 lists both users, at one server and in the same way at the other.
-fn both_are_listed(rt: &impl Host) -> Scene {
+pub(crate) fn both_are_listed(rt: &impl Host) -> Scene {
     let mut users = new_users(rt);
     let (mut server, mut other) = (server_of(rt, first_key(rt)), server_of(rt, first_key(rt)));
     let Planned { changes, laid } = listing_both(rt);
@@ -177,14 +179,14 @@ impl Scene {
     }
 
     /// And user 2 one at the other server.
-    fn second_operates_apart(&mut self, rt: &impl Host) -> Vec<u8> {
+    pub(crate) fn second_operates_apart(&mut self, rt: &impl Host) -> Vec<u8> {
         let Users { second, store, .. } = &mut self.users;
         let update = declare(rt, second);
         completes(rt, store, &mut self.other, second, &update)
     }
 
     /// User 1's declared operation, and the honest reply to it.
-    fn first_declares(&mut self, rt: &impl Host) -> (Vec<u8>, Vec<u8>) {
+    pub(crate) fn first_declares(&mut self, rt: &impl Host) -> (Vec<u8>, Vec<u8>) {
         let update = declare(rt, &mut self.users.first);
         let reply = answers_update_so(rt, &mut self.server, &update, Status::Ok);
         (update, reply)
@@ -204,13 +206,13 @@ fn one_entry(rt: &impl Host, user: u8, plan: &[u8]) -> Vec<u8> {
 }
 
 /// Rows of a list after their count.
-fn list(rt: &impl Host, rows: &[&[u8]]) -> Vec<u8> {
+pub(crate) fn list(rt: &impl Host, rows: &[&[u8]]) -> Vec<u8> {
     let [.., count] = rows.len().to_be_bytes();
     joined(rt, &[&[count], &joined(rt, rows)])
 }
 
 /// The only pending operation of a reply: user 1's of this number, with the plan of this vector and without entries.
-fn only_pending(rt: &impl Host, number: u32, update: &[u8], vector: &[u8]) -> Vec<u8> {
+pub(crate) fn only_pending(rt: &impl Host, number: u32, update: &[u8], vector: &[u8]) -> Vec<u8> {
     let plan = plan(rt, 1, number, &named(update), vector, NONE);
     listed(rt, &pending(rt, update, &plan))
 }

@@ -1,6 +1,7 @@
 //! Times of an operation of user 0's among 63 other users, of whom some have operations pending: how much of it isn't
 //! signing and verifying. A signature that the client has seen under its key before isn't verified again, so that it
-//! verifies the certificates of those that are pending.
+//! verifies the certificates of those that are pending. Its ledger and its journal lie in memory, where each sync copies
+//! all that they hold: this counts as the rest.
 
 use crate::server::Host;
 use anyhow::{Result, anyhow};
@@ -8,6 +9,7 @@ use client_tree::Held;
 use client_verify::{Client, Phase, Step, are_laid};
 use consistency_server::{Answer, MemoryLog, Ordered};
 use layout::User;
+use leaf_ledger::MemoryDevice;
 use lms_sign::{Leaf, PrivateKey, sign, verify};
 use plain_user::PlainUser;
 use std::alloc::Global;
@@ -35,13 +37,16 @@ const LEAVES: u32 = 256;
 /// How many changes a certificate has at most.
 const MOST_CHANGES: usize = 16;
 
+/// A client whose devices are in memory.
+type MemoryClient = Client<MemoryDevice<Global>, MemoryDevice<Global>, Global>;
+
 /// A server in memory, user 0's client, the stored blocks, and others who sign what they are shown.
 #[derive(Drop)]
 struct Scene {
     alloc: Global,
     ordered: Ordered<Global>,
     log: MemoryLog<Global>,
-    client: Client<Global>,
+    client: MemoryClient,
     store: Held<Global>,
     others: Vec<PlainUser>,
 }
@@ -214,6 +219,17 @@ fn list_others(rt: &impl Host, scene: &mut Scene) -> Result<()> {
     Ok(())
 }
 
+/// User 0's client by this key, over devices on which nothing stands.
+fn new_client(alloc: Global, key: PrivateKey<Global>) -> Result<MemoryClient> {
+    let pinned = key.public();
+    let ledger = MemoryDevice::new(alloc, Vec::new(alloc))?;
+    let journal = MemoryDevice::new(alloc, Vec::new(alloc))?;
+    match Client::open(alloc, User::superuser(), key, pinned, ledger, journal) {
+        Ok(client) => Ok(client),
+        Err((error, _)) => Err(error.into()),
+    }
+}
+
 /// A server, all of whose users have committed an operation.
 fn new_scene(rt: &impl Host) -> Result<Scene> {
     let alloc = rt.alloc();
@@ -227,7 +243,7 @@ fn new_scene(rt: &impl Host) -> Result<Scene> {
         alloc,
         ordered: Ordered::genesis(alloc, pinned),
         log: MemoryLog::new(alloc)?,
-        client: Client::new(alloc, User::superuser(), key, pinned)?,
+        client: new_client(alloc, key)?,
         store: Held::empty(alloc),
         others,
     };
