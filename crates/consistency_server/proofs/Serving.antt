@@ -1,5 +1,5 @@
 -- What a call leaves that was carried out, in the words of the history.
-use Rattle.std.proofs.Common.{◌≡◌, ℕ, Bool, true, false, cond, List, [], ◌∷◌, ◌++◌, Option, Some, None, Result, Ok, Err, refl, sym, ap, ◌∙◌, subst, inl, inr}
+use Rattle.std.proofs.Common.{◌≡◌, ℕ, Bool, true, false, cond, List, [], ◌∷◌, ◌++◌, Option, Some, None, Result, Ok, Err, refl, sym, ap, ◌∙◌, subst}
 use Rattle.std.specs.Prelude.{OnOk, OnErr, not, find, reverse}
 use Rattle.std.specs.Option.{option_map_or}
 use Rattle.std.proofs.lemmas.List.{reverse-append}
@@ -16,14 +16,11 @@ use Rattle.wire.specs.declared.kinds.Status.TheVariants as status
 use Rattle.consistency_server.specs.declared.call.CallKind.{CallKind}
 use Rattle.consistency_server.specs.declared.call.CallKind.TheVariants.{Update, Commit}
 use Rattle.consistency_server.specs.declared.state.Judged.{Judged}
-use Rattle.consistency_server.specs.declared.refusal.Refusal.{Refusal}
-use Rattle.consistency_server.specs.declared.refusal.Refusal.TheVariants as refusal
 use Rattle.consistency_server.specs.Event.{Placed, Committed}
 use Rattle.consistency_server.specs.State.{Placement, State, next_reply}
 use Rattle.consistency_server.specs.Answers.{Call, Outcome, Refused, Repeated, Happens, answer, outcome_of, by_kind, same_cert, is_next, at_limit, placing_beside, placing, verified_update, read_update, structure_of, same_structure, is_pending, committing, verified_commit, read_commit}
 use Rattle.consistency_server.specs.History.{Ordered, events, kept, is_carried_out}
 use Rattle.consistency_server.specs.Judged.{JudgedAs, state_after}
-use Rattle.consistency_server.specs.Serving.{status_of}
 use Rattle.consistency_server.proofs.Kept.{kept_at_first, kept_after}
 
 -- ---- each outcome is carried out
@@ -71,10 +68,6 @@ by_kind_serves state text Commit = read_commit_serves state (whole (signed struc
 pub serves : (state : State) (call : Call) → Serves (outcome_of state call)
 unfolding outcome_of
 serves state call = by_kind_serves state call.text call.kind
-
-pub not_carried_out : (r : Refusal) → is_carried_out (status_of r) ≡ false
-not_carried_out refusal.Busy = refl
-not_carried_out refusal.Memory = refl
 
 -- ---- a call that was settled
 
