@@ -1,5 +1,5 @@
 -- Connections: the frames of requests are read, and the frames of their replies are written.
-use Rattle.std.specs.Prelude.{◌≡◌, ◌≢◌, ◌⊎◌, ◌≤◌, ◌<◌, ◌+◌, ℕ, List, [], ◌∷◌, ◌++◌, length, take, map, Option, Some, None, Bool, true, option_map}
+use Rattle.std.specs.Prelude.{◌≡◌, ◌≢◌, ◌⊎◌, ◌≤◌, ◌<◌, ◌+◌, ℕ, List, [], ◌∷◌, ◌++◌, length, take, map, Option, Some, None, option_map}
 use Rattle.std.specs.List.{All}
 use Rattle.layout.specs.Hash.{hash}
 use Rattle.layout.specs.Types.{Bytes, Key}
@@ -7,7 +7,7 @@ use Rattle.wire.specs.declared.kinds.Status.{Status}
 use Rattle.wire.specs.declared.kinds.Status.TheVariants as status
 use Rattle.wire.specs.declared.kinds.RequestKind.{RequestKind}
 use Rattle.wire.specs.declared.kinds.RequestKind.TheVariants.{Update, Commit, Put, Get}
-use Rattle.wire.specs.Frame.{frame, request_of, reply_body, may_carry}
+use Rattle.wire.specs.Frame.{frame, request_of, reply_body}
 use Rattle.wire.specs.Stream.{frames_of, BeginsFrame, BeginsAtFault}
 use Rattle.consistency_server.specs.Answers.{Call, Answer}
 use Rattle.consistency_server.specs.History.{update_of, commit_of, answer_of}
