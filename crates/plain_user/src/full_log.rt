@@ -23,6 +23,7 @@ use wire::{RequestKind, Status, body_of, reply_of, request_frame};
 const FILLING: u32 = 512;
 
 /// A server without threads, whose log somebody else empties.
+#[derive(Drop)]
 struct ByHand<'a, B: ServerName, L: Ledger, R: Host> {
     rt: &'a R,
     shared: Shared<'a, B, L, R>,

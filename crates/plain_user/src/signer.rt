@@ -11,7 +11,7 @@ use std::alloc::Allocator;
 
 /// A key that signs with one leaf after another. Its ledger lies in memory, so that nothing of it is left afterwards.
 #[derive(Drop)]
-pub struct Signer<A: Allocator> {
+pub struct Signer<A: Allocator + Copy> {
     key: PrivateKey<A>,
     ledger: Ledger<MemoryDevice<A>>,
     ghost own: { ledger.key ≡ public_key_of key.seed key.id },
