@@ -3,7 +3,8 @@
 use crate::counts;
 use crate::time::{Time, compress, row};
 use anyhow::Result;
-use lms_sign::{Leaf, PrivateKey, sign, verify};
+use lms_sign::{PrivateKey, verify};
+use plain_user::Signer;
 use std::alloc::Allocator;
 use std::rt::Clock;
 use std::time::{Duration, Instant};
@@ -43,21 +44,21 @@ impl Round {
     }
 }
 
-/// Signs a text with one leaf after another, and verifies each signature.
-fn signatures<A: Allocator>(
+/// Signs a text with one leaf after another, each taken from a ledger in memory, and verifies each signature.
+fn signatures<A: Allocator + Copy>(
     clock: &impl Clock,
-    private: &PrivateKey<A>,
+    signer: Signer<A>,
     unit: f64,
 ) -> Result<(Time, Time, u32)> {
-    let key = private.public();
+    let mut signer = signer;
+    let key = signer.public();
     let text = [5; 100];
     let mut signing = Time::new(Duration::ZERO, 0, unit);
     let mut verifying = signing;
     let mut valid: u32 = 0;
-    for number in 0..SIGNATURES {
+    for _leaf in 0..SIGNATURES {
         let start = Instant::now(clock)?;
-        let (signature, spent) = sign(private, Leaf::issue(&key, number), &text);
-        spent.end();
+        let signature = signer.sign(&text)?;
         let signed = start.elapsed(clock)?;
         let start = Instant::now(clock)?;
         if verify(&key, &text, &signature) {
@@ -76,7 +77,8 @@ fn measure<R: Clock + Alloc>(rt: &R) -> Result<Round> {
     let start = Instant::now(rt)?;
     let private = PrivateKey::from_seed(rt.alloc(), seed, ID)?;
     let key = Time::new(start.elapsed(rt)?, counts::KEY, unit);
-    let (sign, verify, valid) = signatures(rt, &private, unit)?;
+    let signer = Signer::new(rt.alloc(), private)?;
+    let (sign, verify, valid) = signatures(rt, signer, unit)?;
     Ok(Round {
         unit,
         key,

@@ -8,8 +8,8 @@ use client_tree::Held;
 use client_verify::{Client, Phase, Step, are_laid};
 use consistency_server::{Answer, MemoryLog, Ordered};
 use layout::User;
-use lms_sign::{Leaf, PrivateKey, sign, verify};
-use plain_user::PlainUser;
+use lms_sign::{PrivateKey, verify};
+use plain_user::{PlainUser, Signer};
 use std::alloc::Global;
 use std::time::Instant;
 use update_cert::{Blocks, Change, TableChange};
@@ -239,14 +239,13 @@ fn new_scene(rt: &impl Host) -> Result<Scene> {
 /// The seconds of a signature, and of a verification, of a text of a structure's size.
 fn units(rt: &impl Host) -> Result<Units> {
     let key = PrivateKey::from_seed(rt.alloc(), [9; 32], [9; 16])?;
-    let public = key.public();
+    let mut signer = Signer::new(rt.alloc(), key)?;
+    let public = signer.public();
     let text = [5; 87];
     let mut signatures = Vec::new(rt.alloc());
     let start = Instant::now(rt)?;
-    for leaf in 0..LEAVES {
-        let (signature, spent) = sign(&key, Leaf::issue(&public, leaf), &text);
-        spent.end();
-        signatures.push(signature)?;
+    for _leaf in 0..LEAVES {
+        signatures.push(signer.sign(&text)?)?;
     }
     let signed = start.elapsed(rt)?.as_secs_f64();
     let start = Instant::now(rt)?;

@@ -5,6 +5,8 @@ mod caller;
 #[cfg(test)]
 mod connections;
 #[cfg(test)]
+mod full_log;
+#[cfg(test)]
 mod logs;
 #[cfg(test)]
 mod loopback;
@@ -14,7 +16,9 @@ mod operations;
 mod pipe;
 #[cfg(test)]
 mod rows;
+mod signer;
 mod user;
 
 pub use caller::{CallError, Caller, Replied};
+pub use signer::Signer;
 pub use user::{PlainUser, listing};

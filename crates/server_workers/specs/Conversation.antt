@@ -113,6 +113,7 @@ EndsWith Memory left unwritten = Unit {0}
 
 -- So many bytes more were read and written, and so many calls more answered, as the exchanges say: what was read is the
 -- frames of their requests and a rest, and what was written is the frames of their replies, in order, but for an end.
+-- Of a connection that doesn't tell its bytes this says only that no call less was answered.
 pub record Conversed (pinned : Key) (before now : Option Told) (answered answered_now : ℕ) (ended : Ended) : Type 0 where
   pub exchanges : List Exchange
   pub left : Bytes

@@ -56,6 +56,14 @@ const EMPTY: [u8; 32] = [
     0x27, 0xae, 0x41, 0xe4, 0x64, 0x9b, 0x93, 0x4c, 0xa4, 0x95, 0x99, 0x1b, 0x78, 0x52, 0xb8, 0x55,
 ];
 
+/// Puts the frame of this kind or status, and what comes with it, behind others.
+pub(crate) fn put_frame(frames: &mut Vec<u8>, head: u8, payload: &[u8]) -> Result<(), Fail> {
+    let [.., a, b, c, d] = payload.len().wrapping_add(1).to_be_bytes();
+    frames.extend_from_slice(&[a, b, c, d, head])?;
+    frames.extend_from_slice(payload)?;
+    Ok(())
+}
+
 /// No such kind; a digest of 31 bytes; the empty block put, and got; a digest that no block has.
 pub(crate) fn requests(alloc: Global) -> Result<Vec<u8>, Fail> {
     let mut input = Vec::new(alloc);
