@@ -1,5 +1,5 @@
 -- A call that is carried out, by either kind.
-use Rattle.std.proofs.Common.{◌≡◌, Bool, true, false, List, [], ◌∷◌, ◌++◌, sym, refl, ap, ◌∙◌}
+use Rattle.std.proofs.Common.{◌≡◌, true, false, List, ◌∷◌, ◌++◌, sym, refl, ap, ◌∙◌}
 use Rattle.wire.specs.declared.kinds.Status.{Status}
 use Rattle.consistency_server.specs.Answers.{Call}
 use Rattle.consistency_server.specs.History.{Ordered, is_carried_out, log_of, logged}
