@@ -34,11 +34,11 @@ const NONE: &[u8] = b"\0";
 
 /// The clients of users 0 to 2, and the blocks that all servers share.
 #[derive(Drop)]
-struct Users {
-    superuser: Client<Global>,
-    first: Client<Global>,
-    second: Client<Global>,
-    store: Held<Global>,
+pub(crate) struct Users {
+    pub(crate) superuser: Client<Global>,
+    pub(crate) first: Client<Global>,
+    pub(crate) second: Client<Global>,
+    pub(crate) store: Held<Global>,
 }
 
 /// The users before their first operations.
@@ -58,7 +58,7 @@ fn keep(rt: &impl Host, store: &mut Held<Global>, texts: Vec<Vec<u8>>) {
 
 /// Hands a reply in, and each block that it asks for: the rule that is broken, or none, where it is accepted and the new
 /// texts are stored.
-fn judged(
+pub(crate) fn judged(
     rt: &impl Host,
     store: &mut Held<Global>,
     client: &mut Client<Global>,
@@ -82,7 +82,7 @@ fn judged(
 }
 
 /// The client accepts the reply, and signs.
-fn accepts(
+pub(crate) fn accepts(
     rt: &impl Host,
     store: &mut Held<Global>,
     client: &mut Client<Global>,
@@ -94,7 +94,7 @@ fn accepts(
 }
 
 /// The reply breaks this rule first.
-fn breaks(
+pub(crate) fn breaks(
     rt: &impl Host,
     store: &mut Held<Global>,
     client: &mut Client<Global>,
@@ -138,15 +138,15 @@ fn listing_both(rt: &impl Host) -> Planned {
 
 /// Both users are listed, by user 0's structure here, at two servers that show the same.
 #[derive(Drop)]
-struct Scene {
-    users: Users,
-    server: Server,
+pub(crate) struct Scene {
+    pub(crate) users: Users,
+    pub(crate) server: Server,
     other: Server,
     by_super: Vec<u8>,
 }
 
 /// User 0 lists both users, at one server and in the same way at the other.
-fn both_are_listed(rt: &impl Host) -> Scene {
+pub(crate) fn both_are_listed(rt: &impl Host) -> Scene {
     let mut users = new_users(rt);
     let (mut server, mut other) = (server_of(rt, first_key(rt)), server_of(rt, first_key(rt)));
     let Planned { changes, laid } = listing_both(rt);
@@ -170,7 +170,7 @@ fn both_are_listed(rt: &impl Host) -> Scene {
 
 impl Scene {
     /// User 1 makes an operation without changes: its structure.
-    fn first_operates(&mut self, rt: &impl Host) -> Vec<u8> {
+    pub(crate) fn first_operates(&mut self, rt: &impl Host) -> Vec<u8> {
         let Users { first, store, .. } = &mut self.users;
         let update = declare(rt, first);
         completes(rt, store, &mut self.server, first, &update)

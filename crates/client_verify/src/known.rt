@@ -18,8 +18,8 @@ use update_cert::Cert;
 use version_order::Structure;
 
 /// What a client compares a reply with: who it is, user 0's key, the structure that it signed last and its declared
-/// certificate as it was sent. Beside them its own public key, by which it signed both, and the lists of the view that it
-/// accepted last, whose signatures it verified.
+/// certificate as it was sent. Beside them its own public key, by which it signed both, and the lists that broke no rule
+/// last, whose signatures it verified.
 #[derive(Drop)]
 pub(crate) struct Known<'a, A: Allocator> {
     user: User,
@@ -125,7 +125,8 @@ impl<'a, A: Allocator> Known<'a, A> {
         self.declared
     }
 
-    /// A structure of this user that was signed under this key: the own last one, or that of the accepted view.
+    /// A structure of this user that was signed under this key: the own last one, or that of the lists that broke no rule
+    /// last.
     fn structure_of(&self, key: &PublicKey, user: User) -> Option<&'a Signed<Structure<A>>>
         ensures { IfSome (option_copied result) (λ z. valid key.now (structure.spell z.value) z.signature ≡ true) }
     {
@@ -136,7 +137,7 @@ impl<'a, A: Allocator> Known<'a, A> {
         }
     }
 
-    /// A certificate of this user that was signed under this key, pending in the accepted view.
+    /// A certificate of this user that was signed under this key, pending in these lists.
     fn cert_of(&self, key: &PublicKey, user: User) -> Option<&'a Signed<Cert<A>>>
         ensures { IfSome (option_copied result) (λ c. valid key.now (cert.spell c.value) c.signature ≡ true) }
     {
@@ -145,8 +146,8 @@ impl<'a, A: Allocator> Known<'a, A> {
 }
 
 impl<'a, A: Allocator + Copy> Known<'a, A> {
-    /// Whether a structure is signed under this key. The own last one, and one that stands so in the accepted view, isn't
-    /// verified again.
+    /// Whether a structure is signed under this key. The own last one, and one that stands so in the lists that broke no
+    /// rule last, isn't verified again.
     pub(crate) fn structure_is_signed(
         &self,
         alloc: A,
@@ -169,8 +170,8 @@ impl<'a, A: Allocator + Copy> Known<'a, A> {
         Ok(*key == self.own && sent.as_slice() == self.declared)
     }
 
-    /// Whether a pending certificate is signed under this key. The declared one, and one that was pending so in the
-    /// accepted view, isn't verified again.
+    /// Whether a pending certificate is signed under this key. The declared one, and one that was pending so in the lists
+    /// that broke no rule last, isn't verified again.
     pub(crate) fn cert_is_signed(
         &self,
         alloc: A,
