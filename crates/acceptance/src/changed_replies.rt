@@ -115,7 +115,9 @@ fn changes_shown_to_user_0(rt: HostRuntime) {
     let Scene { users, server, .. } = &mut scene;
     waits(rt, server, &mut users.second);
     let Users {
-        superuser, store, ..
+        superuser,
+        store,
+        ..
     } = users;
     judges(rt, store, superuser, server, (10466, &TO_SUPERUSER));
 }

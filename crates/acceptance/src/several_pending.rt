@@ -741,12 +741,12 @@ fn entries_of(rt: &impl Host, line: &[Texts], places: &[usize]) -> Vec<u8> {
     let mut text = joined(rt, &[&[count]]);
     for place in places {
         let Texts {
-            user, number, plan, ..
+            user,
+            number,
+            plan,
+            ..
         } = at(rt, line, *place);
-        let row = joined(
-            rt,
-            &[&[*user, 0, 0, 0, *number], digest(plan).as_bytes()],
-        );
+        let row = joined(rt, &[&[*user, 0, 0, 0, *number], digest(plan).as_bytes()]);
         text.extend_from_slice(&row).expect(rt, "memory");
     }
     text
