@@ -5,8 +5,6 @@ mod caller;
 #[cfg(test)]
 mod connections;
 #[cfg(test)]
-mod logs;
-#[cfg(test)]
 mod loopback;
 #[cfg(test)]
 mod operations;
