@@ -8,6 +8,8 @@ mod blocks;
 #[cfg(test)]
 mod certificates;
 #[cfg(test)]
+mod changed_replies;
+#[cfg(test)]
 mod changes;
 #[cfg(test)]
 mod crashed_users;
@@ -61,6 +63,8 @@ mod scripts;
 mod served;
 #[cfg(test)]
 mod server;
+#[cfg(test)]
+mod several_pending;
 #[cfg(test)]
 mod several_users;
 #[cfg(test)]

@@ -20,7 +20,7 @@ pub(crate) struct Server {
 impl Server {
     /// How many events it made.
     pub(crate) fn events(&self) -> usize {
-        self.log.events().len()
+        self.log.calls().len()
     }
 }
 
@@ -332,7 +332,7 @@ fn each_call_of_a_long_history(rt: HostRuntime) {
 
 /// Fills a log.
 fn fill(rt: &impl Host, log: &mut MemoryLog<Global>) {
-    for _ in log.events().len()..1024 {
+    for _ in log.calls().len()..1024 {
         let call = Call::new(CallKind::Update, Vec::new(rt.alloc()));
         log.try_push(call).expect(rt, "room");
     }

@@ -136,7 +136,8 @@ impl<'a, A: Allocator> Known<'a, A> {
         }
     }
 
-    /// A structure of this user that was signed under this key: the own last one, or that of the accepted view.
+    /// A structure of this user that was signed under this key: the own last one, or that of the lists that broke no rule
+    /// last.
     fn structure_of(&self, key: &PublicKey, user: User) -> Option<&'a Signed<Structure<A>>>
         ensures { IfSome (option_copied result) (λ z. valid key.now (structure.spell z.value) z.signature ≡ true) }
     {
@@ -147,7 +148,7 @@ impl<'a, A: Allocator> Known<'a, A> {
         }
     }
 
-    /// A certificate of this user that was signed under this key, pending in the accepted view.
+    /// A certificate of this user that was signed under this key, pending in these lists.
     fn cert_of(&self, key: &PublicKey, user: User) -> Option<&'a Signed<Cert<A>>>
         ensures { IfSome (option_copied result) (λ c. valid key.now (cert.spell c.value) c.signature ≡ true) }
     {
@@ -156,8 +157,8 @@ impl<'a, A: Allocator> Known<'a, A> {
 }
 
 impl<'a, A: Allocator + Copy> Known<'a, A> {
-    /// Whether a structure is signed under this key. The own last one, and one that stands so in the accepted view, isn't
-    /// verified again.
+    /// Whether a structure is signed under this key. The own last one, and one that stands so in the lists that broke no
+    /// rule last, isn't verified again.
     pub(crate) fn structure_is_signed(
         &self,
         alloc: A,
@@ -180,8 +181,8 @@ impl<'a, A: Allocator + Copy> Known<'a, A> {
         Ok(self.is_own(key) && sent.as_slice() == self.declared)
     }
 
-    /// Whether a pending certificate is signed under this key. The declared one, and one that was pending so in the
-    /// accepted view, isn't verified again.
+    /// Whether a pending certificate is signed under this key. The declared one, and one that was pending so in the lists
+    /// that broke no rule last, isn't verified again.
     pub(crate) fn cert_is_signed(
         &self,
         alloc: A,

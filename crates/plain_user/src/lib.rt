@@ -5,8 +5,6 @@ mod caller;
 #[cfg(test)]
 mod connections;
 #[cfg(test)]
-mod logs;
-#[cfg(test)]
 mod loopback;
 #[cfg(test)]
 mod operations;
@@ -14,7 +12,9 @@ mod operations;
 mod pipe;
 #[cfg(test)]
 mod rows;
+mod signer;
 mod user;
 
 pub use caller::{CallError, Caller, Replied};
+pub use signer::Signer;
 pub use user::{PlainUser, listing};

@@ -1,15 +1,13 @@
 //! A user that signs what it is shown.
 
 use crate::caller::{CallError, Caller};
+use crate::signer::Signer;
 use layout::{Memory, Text, digest};
-use lms_sign::{Leaf, PrivateKey, PublicKey, sign};
+use lms_sign::{PrivateKey, PublicKey};
 use pending_list::Reply;
 use std::alloc::Global;
 use std::io::{Read, Write};
 use wire::{RequestKind, Status};
-
-/// How many leaves a key has.
-const LEAVES: u32 = 1024;
 
 /// How often a call that is answered Busy is sent again.
 const TRIES: u32 = 1_000_000;
@@ -19,8 +17,7 @@ const TRIES: u32 = 1_000_000;
 pub struct PlainUser {
     alloc: Global,
     user: u8,
-    key: PrivateKey<Global>,
-    leaf: u32,
+    signer: Signer<Global>,
     number: u32,
     /// The digest of its last structure.
     last: [u8; 32],
@@ -37,11 +34,11 @@ fn size_of(text: &[u8]) -> [u8; 2] {
 impl PlainUser {
     /// Before its first operation.
     pub fn new(alloc: Global, user: u8) -> Result<PlainUser, Memory> {
+        let key = PrivateKey::from_seed(alloc, [user; 32], [user; 16])?;
         Ok(PlainUser {
             alloc,
             user,
-            key: PrivateKey::from_seed(alloc, [user; 32], [user; 16])?,
-            leaf: 0,
+            signer: Signer::new(alloc, key)?,
             number: 0,
             last: [0; 32],
             busy: 0,
@@ -50,7 +47,7 @@ impl PlainUser {
 
     /// Its public key.
     pub fn public(&self) -> PublicKey {
-        self.key.public()
+        self.signer.public()
     }
 
     /// How often a call of its operations was answered Busy, and sent again.
@@ -60,16 +57,11 @@ impl PlainUser {
 
     /// These texts one after another, and their signature by the next leaf.
     fn signed(&mut self, texts: &[&[u8]]) -> Result<Vec<u8>, CallError> {
-        if self.leaf >= LEAVES {
-            return Err(CallError::NoLeaf);
-        }
         let mut text = Vec::new(self.alloc);
         for piece in texts {
             text.extend_from_slice(piece)?;
         }
-        let (signature, spent) = sign(&self.key, Leaf::issue(&self.key.public(), self.leaf), &text);
-        spent.end();
-        self.leaf += 1;
+        let signature = self.signer.sign(&text)?;
         text.extend_from_slice(&signature)?;
         Ok(text)
     }
@@ -81,12 +73,12 @@ impl PlainUser {
         self.signed(&[b"SUC1", &user, &number, &last, changes])
     }
 
-    /// The structure over the last plan of a reply, with a handle of zeros and no records.
-    pub fn structure(&mut self, reply: &[u8]) -> Result<Vec<u8>, CallError> {
-        let Ok(reply) = Reply::read(self.alloc, reply) else {
+    /// The structure over the last plan of the lists with which an UPDATE was answered, with a handle of zeros and no records.
+    pub fn structure(&mut self, lists: &[u8]) -> Result<Vec<u8>, CallError> {
+        let Ok(lists) = Reply::read(self.alloc, lists) else {
             return Err(CallError::Form);
         };
-        let Some(own) = reply.pending().last() else {
+        let Some(own) = lists.pending().last() else {
             return Err(CallError::Form);
         };
         let plan = own.plan().text(self.alloc)?;
@@ -104,11 +96,11 @@ impl PlainUser {
         changes: &[u8],
     ) -> Result<(Status, Status), CallError> {
         let certificate = self.certificate(changes)?;
-        let (placed, reply) = insist(caller, RequestKind::Update, &certificate, &mut self.busy)?;
+        let (placed, lists) = insist(caller, RequestKind::Update, &certificate, &mut self.busy)?;
         if placed != Status::Ok {
             return Ok((placed, placed));
         }
-        let structure = self.structure(&reply)?;
+        let structure = self.structure(&lists)?;
         let (committed, _) = insist(caller, RequestKind::Commit, &structure, &mut self.busy)?;
         Ok((placed, committed))
     }

@@ -8,11 +8,11 @@ use block_store::Store;
 use lms_sign::PublicKey;
 use std::alloc::Global;
 use std::process::Abort;
+use std::slice::IterMut;
 use std::sync::Wait;
 use std::test::Fail;
 use std::thread::Threads;
 use std::time::Clock;
-use std::vec::IntoIter;
 
 /// A public key of these types, whose root signs nothing here.
 fn key() -> [u8; 56] {
@@ -55,6 +55,14 @@ const EMPTY: [u8; 32] = [
     0xe3, 0xb0, 0xc4, 0x42, 0x98, 0xfc, 0x1c, 0x14, 0x9a, 0xfb, 0xf4, 0xc8, 0x99, 0x6f, 0xb9, 0x24,
     0x27, 0xae, 0x41, 0xe4, 0x64, 0x9b, 0x93, 0x4c, 0xa4, 0x95, 0x99, 0x1b, 0x78, 0x52, 0xb8, 0x55,
 ];
+
+/// Puts the frame of this kind or status, and what comes with it, behind others.
+pub(crate) fn put_frame(frames: &mut Vec<u8>, head: u8, payload: &[u8]) -> Result<(), Fail> {
+    let [.., a, b, c, d] = payload.len().wrapping_add(1).to_be_bytes();
+    frames.extend_from_slice(&[a, b, c, d, head])?;
+    frames.extend_from_slice(payload)?;
+    Ok(())
+}
 
 /// No such kind; a digest of 31 bytes; the empty block put, and got; a digest that no block has.
 pub(crate) fn requests(alloc: Global) -> Result<Vec<u8>, Fail> {
@@ -142,10 +150,11 @@ fn a_cut_request_gets_no_reply(rt: HostRuntime) -> Result<(), Fail> {
     Ok(())
 }
 
-/// Connections that come one by one, and how many came.
+/// Connections that come one by one, each of the same bytes and with an output of its own, and how many came.
 #[derive(Drop)]
 struct Offered<'a> {
-    connections: IntoIter<MemoryConnection<'a>>,
+    input: &'a [u8],
+    outputs: IterMut<'a, Vec<u8>>,
     left: u32,
     taken: &'a mut u32,
 }
@@ -161,7 +170,8 @@ impl<'a> Iterator for Offered<'a> {
         }
         self.left -= 1;
         *self.taken = self.taken.saturating_add(1);
-        self.connections.next()
+        let output = self.outputs.next()?;
+        Some(MemoryConnection::new(self.input, 7, output))
     }
 }
 
@@ -179,13 +189,10 @@ fn offer<R: AllocGlobal + Abort + Clock + Threads + Wait + Sync>(
     for _number in 0..count {
         outputs.push(Vec::new(alloc))?;
     }
-    let mut connections = Vec::new(alloc);
-    for output in outputs.iter_mut() {
-        connections.push(MemoryConnection::new(input, 7, output))?;
-    }
     let mut taken = 0;
     let connections = Offered {
-        connections: connections.into_iter(),
+        input,
+        outputs: outputs.iter_mut(),
         left: 100,
         taken: &mut taken,
     };

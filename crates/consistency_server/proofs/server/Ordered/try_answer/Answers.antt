@@ -1,14 +1,14 @@
 -- What was carried out is what the history says.
-use Rattle.std.proofs.Common.{◌≡◌, ◌++◌, sym, ap, ◌∙◌, subst}
+use Rattle.std.proofs.Common.{◌≡◌, ◌++◌, true, sym, ap, ◌∙◌, subst}
 use Rattle.consistency_server.specs.State.{State}
 use Rattle.consistency_server.specs.Answers.{Call, answer, happened, outcome_of}
-use Rattle.consistency_server.specs.History.{answer_of, logged, logged_of, IsServed}
+use Rattle.consistency_server.specs.History.{answer_of, logged, logged_of, is_carried_out}
 use Rattle.consistency_server.specs.Judged.{answer_by, logged_by}
 use Rattle.consistency_server.proofs.Texts.{with_ok}
 use Rattle.consistency_server.proofs.Kept.{may_happen, answer_judged, logged_judged}
 use Rattle.consistency_server.proofs.Serving.{serves, on_ok, settled_history, kept_settled}
-use Rattle.consistency_server.proofs.server.Ordered.serve.Given as given
-use Rattle.consistency_server.proofs.server.Ordered.serve.Goals as goal
+use Rattle.consistency_server.proofs.server.Ordered.try_answer.Given as given
+use Rattle.consistency_server.proofs.server.Ordered.try_answer.Goals as goal
 
 abbrev call_of : (g : given.Over) → goal.After-carry_out g → Call
 call_of g c = record { kind = c.args.kind; text = c.args.text.now }
@@ -42,9 +42,9 @@ returns-clause-history g c =
 pub returns-clause-log : goal.returns-clause-log
 returns-clause-log g c = on_ok c.carry_out.result _ _ (λ e. e ∙ ap (λ calls. g.G.Log.pushed c.args.log.now ++ calls) (to_log g c)) c.carry_out.ensures.log
 
-pub returns-clause-served : goal.returns-clause-served
-returns-clause-served g c =
-    with_ok c.carry_out.result _ _ (λ a e. subst (λ b. IsServed b.status) (answer_judged c.self.inside.state c.in_ok-judged.judged _ c.in_ok-judged.ensures ∙ sym e) (serves c.self.inside.state (call_of g c))) c.carry_out.ensures.answer
+pub returns-clause-carried_out : goal.returns-clause-carried_out
+returns-clause-carried_out g c =
+    with_ok c.carry_out.result _ _ (λ a e. subst (λ b. is_carried_out b.status ≡ true) (answer_judged c.self.inside.state c.in_ok-judged.judged _ c.in_ok-judged.ensures ∙ sym e) (serves c.self.inside.state (call_of g c))) c.carry_out.ensures.answer
 
-pub returns-clause-busy_event : goal.returns-clause-busy_event
-returns-clause-busy_event g c = λ busy none. c.carry_out.ensures.busy_event busy (to_log g c ∙ none)
+pub returns-clause-busy_logged : goal.returns-clause-busy_logged
+returns-clause-busy_logged g c = λ busy none. c.carry_out.ensures.busy_logged busy (to_log g c ∙ none)
