@@ -253,7 +253,7 @@ fn new_scene(rt: &impl Host) -> Result<Scene> {
 }
 
 /// The seconds of a signature, and of a verification, of a text of a structure's size.
-fn units(rt: &impl Host) -> Result<Units> {
+fn measured_units(rt: &impl Host) -> Result<Units> {
     let key = PrivateKey::from_seed(rt.alloc(), [9; 32], [9; 16])?;
     let public = key.public();
     let text = [5; 87];
@@ -306,10 +306,10 @@ fn rest(times: Times, units: Units, pending: usize) -> f64 {
 /// Prints the times of the round with the least rest.
 fn row(rt: &impl Host, scene: &mut Scene, pending: usize) -> Result<()> {
     let mut best = measure(rt, scene, pending)?;
-    let mut least = rest(best, units(rt)?, pending);
+    let mut least = rest(best, measured_units(rt)?, pending);
     for _round in 1..ROUNDS {
         let times = measure(rt, scene, pending)?;
-        let found = rest(times, units(rt)?, pending);
+        let found = rest(times, measured_units(rt)?, pending);
         if found < least {
             (best, least) = (times, found);
         }
