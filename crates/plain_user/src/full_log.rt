@@ -133,9 +133,7 @@ fn fill_a_log<W: Write + Drop, R: Host>(rt: &R, writer: W) -> (u64, W) {
     let (queue, pass) = empty_queue(alloc).expect(rt, "memory");
     let blank = Blank::new(1);
     let both = (superuser, other);
-    fill_and_empty::<W, Brand, Brand, R>(
-        rt, &queue, pass, blank, pinned, both, &changes, writer,
-    )
+    fill_and_empty::<W, Brand, Brand, R>(rt, &queue, pass, blank, pinned, both, &changes, writer)
 }
 
 /// A log has room for 1,024 calls, and as soon as it is emptied for more.

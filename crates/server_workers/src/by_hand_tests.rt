@@ -16,8 +16,8 @@ use std::alloc::Global;
 use std::io::Write;
 use std::marker::Brand;
 use std::process::Abort;
-use std::sync::{Mutex, Wait};
 use std::sync::ledger::{Blank, Ledger};
+use std::sync::{Mutex, Wait};
 use std::test::Fail;
 
 /// One conversation over an empty queue, and a flush after it.
@@ -204,6 +204,9 @@ fn calls_pass_the_gate_in_turn(rt: HostRuntime) -> Result<(), Fail> {
     };
     converses_through(&rt, &gate, &input, &wanted, Ended::End, 5)?;
     let noted = gate.calls.lock(&rt);
-    assert!(rt; noted.as_slice() == [1, 2, 3, 4, 5].as_slice(), "the numbers");
+    assert!(rt;
+        noted.as_slice() == [1, 2, 3, 4, 5].as_slice(),
+        "the numbers"
+    );
     Ok(())
 }

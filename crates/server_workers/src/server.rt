@@ -13,7 +13,7 @@ use crate::flusher::{Flushed, Flusher};
 use crate::gate::Gate;
 use crate::new_queue::empty_queue;
 use crate::shared::Shared;
-use crate::tally::{WorkerTally, Tally};
+use crate::tally::{Tally, WorkerTally};
 use crate::worker::work;
 use block_store::Store;
 use consistency_server::Ordered;
@@ -106,7 +106,9 @@ fn gather<
             break;
         };
         let part = all.split();
-        match scope.spawn(move || work_unless_unread(rt, is_unread, connection, shared, gate, part)) {
+        match scope.spawn(move || work_unless_unread(
+            rt, is_unread, connection, shared, gate, part,
+        )) {
             Ok(handle) => running.push_reserved(handle),
             Err(refused) => {
                 is_unread.store(true, Ordering::SeqCst);

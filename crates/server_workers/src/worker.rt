@@ -12,7 +12,7 @@ use crate::connection::{Connection, ConnectionFault, Ended};
 use crate::gate::Gate;
 use crate::reply::ReplyBody;
 use crate::shared::Shared;
-use crate::tally::{WorkerTally, Tally};
+use crate::tally::{Tally, WorkerTally};
 use layout::Memory;
 use std::alloc::Global;
 use std::sync::Wait;
