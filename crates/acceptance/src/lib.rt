@@ -8,8 +8,6 @@ mod blocks;
 #[cfg(test)]
 mod certificates;
 #[cfg(test)]
-mod changed_replies;
-#[cfg(test)]
 mod changes;
 #[cfg(test)]
 mod directories;
@@ -58,8 +56,6 @@ mod served;
 #[cfg(test)]
 mod server;
 #[cfg(test)]
-mod several_pending;
-#[cfg(test)]
 mod several_users;
 #[cfg(test)]
 mod small_world;
@@ -69,7 +65,5 @@ mod spots;
 mod tables;
 #[cfg(test)]
 mod texts;
-#[cfg(test)]
-mod two_users;
 #[cfg(test)]
 mod world;

@@ -471,24 +471,19 @@ fn table(rt: &impl Host) -> Table<Global> {
     Table::genesis(rt.alloc(), key)
 }
 
-/// The first rule on the lists that the reply breaks by this table.
-pub(crate) fn first_broken(
-    rt: &impl Host,
-    reply: &Reply<Global>,
-    table: &Table<Global>,
-) -> Option<Rule> {
+/// The first rule that the reply breaks.
+fn first_broken(rt: &impl Host, reply: &Reply<Global>) -> Option<Rule> {
     if !lists_hold(reply) {
         return Some(Rule::Lists);
     }
     let own = reply.pending().last().expect(rt, "an own item");
-    broken(rt.alloc(), reply, table, own.plan().user()).expect(rt, "memory")
+    broken(rt.alloc(), reply, &table(rt), own.plan().user()).expect(rt, "memory")
 }
 
 #[test]
 fn each_case(rt: HostRuntime) {
-    let table = table(&rt);
     for case in &CASES {
-        let found = first_broken(&rt, &reply_of(&rt, case), &table);
+        let found = first_broken(&rt, &reply_of(&rt, case));
         check(&rt, found == case.broken, case.name);
     }
 }

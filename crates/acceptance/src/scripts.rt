@@ -401,48 +401,6 @@ static WITH_GROUPS: [Case; 4] = [
     },
 ];
 
-/// Two users write at once, and user 0 sees both writes while one of them is pending, and when both are committed.
-static TWO_WRITES: Case = Case {
-    script: b"begin 0 adduser 1; adduser 2\n\
-        update 0 a\n\
-        commit 0 a\n\
-        begin 1 make 1 3 file one\n\
-        begin 2 make 2 3 file two\n\
-        update 1 a\n\
-        update 2 a\n\
-        commit 2 a\n\
-        begin 0\n\
-        update 0 a\n\
-        commit 0 a\n\
-        show 0 1 3\n\
-        show 0 2 3\n\
-        commit 1 a\n\
-        begin 0\n\
-        update 0 a\n\
-        commit 0 a\n\
-        show 0 1 3\n\
-        show 0 2 3\n",
-    lines: b"0 begin 1\n\
-        0 accepted 1\n\
-        0 committed\n\
-        1 begin 1\n\
-        2 begin 1\n\
-        1 accepted 1\n\
-        2 accepted 1\n\
-        2 committed\n\
-        0 begin 2\n\
-        0 accepted 2\n\
-        0 committed\n\
-        0 file one\n\
-        0 file two\n\
-        1 committed\n\
-        0 begin 3\n\
-        0 accepted 3\n\
-        0 committed\n\
-        0 file one\n\
-        0 file two\n",
-};
-
 /// Twenty operations, each with a file and its name.
 static TWENTY: Case = Case {
     script: b"begin 0 make 0 3 file t1; link 0 2 n1 0 3\n\
@@ -591,11 +549,6 @@ fn scripts_with_groups(rt: HostRuntime) {
     for case in &WITH_GROUPS {
         prints(&rt, case);
     }
-}
-
-#[test]
-fn two_writes_that_are_pending(rt: HostRuntime) {
-    prints(&rt, &TWO_WRITES);
 }
 
 #[test]

@@ -354,7 +354,7 @@ pub(crate) fn new_scene(rt: &impl Host) -> (Scene, Client<Global>) {
 }
 
 /// A vector of these versions.
-pub(crate) fn vector_of(rt: &impl Host, versions: &[(u8, u8)]) -> Vec<u8> {
+fn vector_of(rt: &impl Host, versions: &[(u8, u8)]) -> Vec<u8> {
     let [.., count] = versions.len().to_be_bytes();
     let mut text = joined(rt, &[&[count]]);
     for (principal, version) in versions {

@@ -3,8 +3,7 @@
 use crate::counts;
 use crate::time::{Time, compress, row};
 use anyhow::Result;
-use lms_sign::{PrivateKey, verify};
-use plain_user::Signer;
+use lms_sign::{Leaf, PrivateKey, sign, verify};
 use std::alloc::Allocator;
 use std::rt::Clock;
 use std::time::{Duration, Instant};
@@ -44,21 +43,21 @@ impl Round {
     }
 }
 
-/// Signs a text with one leaf after another, each taken from a ledger in memory, and verifies each signature.
-fn signatures<A: Allocator + Copy>(
+/// Signs a text with one leaf after another, and verifies each signature.
+fn signatures<A: Allocator>(
     clock: &impl Clock,
-    signer: Signer<A>,
+    private: &PrivateKey<A>,
     unit: f64,
 ) -> Result<(Time, Time, u32)> {
-    let mut signer = signer;
-    let key = signer.public();
+    let key = private.public();
     let text = [5; 100];
     let mut signing = Time::new(Duration::ZERO, 0, unit);
     let mut verifying = signing;
     let mut valid: u32 = 0;
-    for _leaf in 0..SIGNATURES {
+    for number in 0..SIGNATURES {
         let start = Instant::now(clock)?;
-        let signature = signer.sign(&text)?;
+        let (signature, spent) = sign(private, Leaf::issue(&key, number), &text);
+        spent.end();
         let signed = start.elapsed(clock)?;
         let start = Instant::now(clock)?;
         if verify(&key, &text, &signature) {
@@ -77,8 +76,7 @@ fn measure<R: Clock + Alloc>(rt: &R) -> Result<Round> {
     let start = Instant::now(rt)?;
     let private = PrivateKey::from_seed(rt.alloc(), seed, ID)?;
     let key = Time::new(start.elapsed(rt)?, counts::KEY, unit);
-    let signer = Signer::new(rt.alloc(), private)?;
-    let (sign, verify, valid) = signatures(rt, signer, unit)?;
+    let (sign, verify, valid) = signatures(rt, &private, unit)?;
     Ok(Round {
         unit,
         key,

@@ -2,8 +2,8 @@
 
 use anyhow::{Result, anyhow};
 use block_store::Store;
-use lms_sign::{PrivateKey, PublicKey, verify};
-use plain_user::{Caller, PlainUser, Signer, listing};
+use lms_sign::{Leaf, PrivateKey, PublicKey, sign, verify};
+use plain_user::{Caller, PlainUser, listing};
 use server_workers::{Accepted, OpenGate, serve};
 use std::alloc::Global;
 use std::net::{Net, SocketAddr, TcpListener, TcpStream};
@@ -134,13 +134,13 @@ fn serve_all<R: Host>(rt: &R, listener: &TcpListener, most: u32, pinned: PublicK
 /// The seconds in which one text of a structure's size is signed, and verified, by one thread.
 fn signature_seconds<R: Host>(rt: &R) -> Result<f64> {
     let key = PrivateKey::from_seed(rt.alloc(), [9; 32], [9; 16])?;
-    let mut signer = Signer::new(rt.alloc(), key)?;
-    let public = signer.public();
+    let public = key.public();
     let text = [5; 87];
     let mut valid = 0u32;
     let start = Instant::now(rt)?;
-    for _leaf in 0..OPERATIONS {
-        let signature = signer.sign(&text)?;
+    for leaf in 0..OPERATIONS {
+        let (signature, spent) = sign(&key, Leaf::issue(&public, leaf), &text);
+        spent.end();
         if verify(&public, &text, &signature) {
             valid = valid.saturating_add(1);
         }

@@ -67,8 +67,10 @@ fn the_largest_block_passes(rt: HostRuntime) -> Result<(), Fail> {
 const SIZES: [usize; 9] = [0, 1, 999, 1_000, 4_095, 4_096, 4_097, 32_778, 32_779];
 
 /// A block of so many bytes, which begins with a number where it has room for it.
-fn sized(alloc: Global, size: usize, number: u8) -> Result<Vec<u8>, Fail> {
-    let mut bytes = vec![in alloc; 0x5a_u8; size]?;
+fn sized(alloc: Global, size: usize, number: u8) -> Result<Vec<u8>, StoreError> {
+    let Ok(mut bytes) = vec![in alloc; 0x5a_u8; size] else {
+        return Err(StoreError::Memory);
+    };
     if let Some(first) = bytes.first_mut() {
         *first = number;
     }
