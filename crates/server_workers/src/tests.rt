@@ -8,11 +8,11 @@ use block_store::Store;
 use lms_sign::PublicKey;
 use std::alloc::Global;
 use std::process::Abort;
+use std::slice::IterMut;
 use std::sync::Wait;
 use std::test::Fail;
 use std::thread::Threads;
 use std::time::Clock;
-use std::vec::IntoIter;
 
 /// A public key of these types, whose root signs nothing here.
 fn key() -> [u8; 56] {
@@ -150,10 +150,11 @@ fn a_cut_request_gets_no_reply(rt: HostRuntime) -> Result<(), Fail> {
     Ok(())
 }
 
-/// Connections that come one by one, and how many came.
+/// Connections that come one by one, each of the same bytes and with an output of its own, and how many came.
 #[derive(Drop)]
 struct Offered<'a> {
-    connections: IntoIter<MemoryConnection<'a>>,
+    input: &'a [u8],
+    outputs: IterMut<'a, Vec<u8>>,
     left: u32,
     taken: &'a mut u32,
 }
@@ -169,7 +170,8 @@ impl<'a> Iterator for Offered<'a> {
         }
         self.left -= 1;
         *self.taken = self.taken.saturating_add(1);
-        self.connections.next()
+        let output = self.outputs.next()?;
+        Some(MemoryConnection::new(self.input, 7, output))
     }
 }
 
@@ -187,13 +189,10 @@ fn offer<R: AllocGlobal + Abort + Clock + Threads + Wait + Sync>(
     for _number in 0..count {
         outputs.push(Vec::new(alloc))?;
     }
-    let mut connections = Vec::new(alloc);
-    for output in outputs.iter_mut() {
-        connections.push(MemoryConnection::new(input, 7, output))?;
-    }
     let mut taken = 0;
     let connections = Offered {
-        connections: connections.into_iter(),
+        input,
+        outputs: outputs.iter_mut(),
         left: 100,
         taken: &mut taken,
     };
