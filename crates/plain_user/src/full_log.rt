@@ -82,8 +82,8 @@ fn fill<B: ServerName, L: Ledger, R: Host>(
     }
 }
 
-/// Fills the log, whereupon a call of the other user is answered Busy, and empties it: how many calls were carried out, and
-/// what was written.
+/// Fills the log, whereupon a call of the other user is answered Busy, and empties it: how many calls were carried
+/// out, and what was written.
 fn fill_and_empty<W: Write + Drop, B: ServerName, L: Ledger, R: Host>(
     rt: &R,
     queue: &CallQueue,

@@ -15,8 +15,8 @@ use std::test::Fail;
 use std::thread;
 use wire::{RequestKind, Status, request_frame};
 
-/// A writer that takes a few bytes at a time, each time after it was interrupted, and fails once: where it holds so many
-/// bytes. From then on it takes whatever comes.
+/// A writer that takes a few bytes at a time, each time after it was interrupted, and fails once: where it holds so
+/// many bytes. From then on it takes whatever comes.
 #[derive(Drop)]
 struct Failing {
     bytes: Vec<u8>,
