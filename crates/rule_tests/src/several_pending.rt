@@ -231,11 +231,11 @@ static GOOD_ONES: [Case; 6] = [
     },
 ];
 
-/// The first four break this part alone: in each the depths ascend, no version falls, and top and the own one have an entry
-/// of what waits. Who waits is listed since number 2 of user 0's, and each vector counts it as that of the good reply counts
-/// user 2. A structure's own vector lacks its user: that of top, after it, has the version, and nothing waits. The vector of
-/// what waits lacks its user: that of top has the version. What waits has the number of its user's structure, which it
-/// names: top counts both.
+/// The first four break this part alone: in each the depths ascend, no version falls, and top and the own one have an
+/// entry of what waits. Who waits is listed since number 2 of user 0's, and each vector counts it as that of the good
+/// reply counts user 2. A structure's own vector lacks its user: that of top, after it, has the version, and nothing
+/// waits. The vector of what waits lacks its user: that of top has the version. What waits has the number of its user's
+/// structure, which it names: top counts both.
 static USERS_AND_NUMBERS: [Case; 7] = [
     Case {
         name: "who waits wasn't listed yet",
