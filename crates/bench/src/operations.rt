@@ -1,7 +1,8 @@
-//! Times of an operation of user 0's among 63 other users, of whom some have operations pending: how much of it isn't
-//! signing and verifying. A signature that the client has seen under its key before isn't verified again, so that it
-//! verifies the certificates of those that are pending. Its ledger and its journal lie in memory, where each sync copies
-//! all that they hold: this counts as the rest.
+//! Times of an operation of user 0's among 63 other users, all of whom have structures that the client sees for the
+//! first time, or of whom some have operations pending: how much of each call is signing and verifying. A signature that
+//! the client has seen under its key before isn't verified again, so that it verifies those structures, or the
+//! certificates of those that are pending. Its ledger and its journal lie in memory, where each sync copies all that
+//! they hold: this counts as the rest.
 
 use crate::server::Host;
 use anyhow::{Result, anyhow};
@@ -60,11 +61,73 @@ struct Times {
     commit: f64,
 }
 
+impl Times {
+    /// Those of all calls.
+    fn whole(self) -> f64 {
+        self.update + self.on_reply + self.sign + self.commit
+    }
+}
+
 /// The seconds of a signature, and of a verification.
 #[derive(Clone, Copy)]
 struct Units {
     sign: f64,
     verify: f64,
+}
+
+impl Units {
+    /// What signing and verifying take of each call: the server verifies a certificate and a structure, the client so
+    /// many texts of others, and signs a structure.
+    fn needed(self, verified: u32) -> Times {
+        Times {
+            update: self.verify,
+            on_reply: f64::from(verified) * self.verify,
+            sign: self.sign,
+            commit: self.verify,
+        }
+    }
+}
+
+/// What an operation is measured in.
+#[derive(Clone, Copy)]
+enum Setting {
+    /// Nothing is pending, and each of the others has a structure that the client hasn't seen.
+    AllNew,
+    /// So many others are pending, and the client has seen all structures.
+    Beside(u32),
+}
+
+impl Setting {
+    /// How many texts of others the client verifies: structures, or certificates.
+    fn verified(self) -> u32 {
+        match self {
+            Setting::AllNew => u32::from(OTHERS),
+            Setting::Beside(pending) => pending,
+        }
+    }
+}
+
+/// The times of an operation, and what of them signing and verifying need.
+#[derive(Clone, Copy)]
+struct Round {
+    times: Times,
+    needed: Times,
+}
+
+impl Round {
+    /// What isn't signing and verifying, in parts of a hundred.
+    fn rest(self) -> f64 {
+        (1.0 - self.needed.whole() / self.times.whole()) * 100.0
+    }
+
+    /// The one with the lesser rest.
+    fn or_better(self, other: Round) -> Round {
+        if other.rest() < self.rest() {
+            other
+        } else {
+            self
+        }
+    }
 }
 
 /// What the server answers, where its status is Ok.
@@ -140,21 +203,43 @@ impl Scene {
         Ok(())
     }
 
+    /// Has a certificate placed: the reply, and the seconds of the call.
+    fn timed_place(&mut self, rt: &impl Host, certificate: &[u8]) -> Result<(Vec<u8>, f64)> {
+        let start = Instant::now(rt)?;
+        let reply = self.place(certificate)?;
+        let seconds = start.elapsed(rt)?.as_secs_f64();
+        Ok((reply, seconds))
+    }
+
+    /// Hands a reply to the client, with all that it asks for: the seconds.
+    fn timed_judge(&mut self, rt: &impl Host, reply: &[u8]) -> Result<f64> {
+        let start = Instant::now(rt)?;
+        self.judge(reply)?;
+        Ok(start.elapsed(rt)?.as_secs_f64())
+    }
+
+    /// Signs what was accepted: the structure, and the seconds.
+    fn timed_sign(&mut self, rt: &impl Host) -> Result<(Vec<u8>, f64)> {
+        let start = Instant::now(rt)?;
+        let structure = self.sign()?;
+        let seconds = start.elapsed(rt)?.as_secs_f64();
+        Ok((structure, seconds))
+    }
+
+    /// Has a structure committed: the seconds.
+    fn timed_commit(&mut self, rt: &impl Host, structure: &[u8]) -> Result<f64> {
+        let start = Instant::now(rt)?;
+        self.commit(structure)?;
+        Ok(start.elapsed(rt)?.as_secs_f64())
+    }
+
     /// An operation of user 0's, with the seconds of each call.
     fn operate(&mut self, rt: &impl Host, changes: &[Change<Global>]) -> Result<Times> {
         let certificate = self.declare(changes)?;
-        let start = Instant::now(rt)?;
-        let reply = self.place(&certificate)?;
-        let update = start.elapsed(rt)?.as_secs_f64();
-        let start = Instant::now(rt)?;
-        self.judge(&reply)?;
-        let on_reply = start.elapsed(rt)?.as_secs_f64();
-        let start = Instant::now(rt)?;
-        let structure = self.sign()?;
-        let sign = start.elapsed(rt)?.as_secs_f64();
-        let start = Instant::now(rt)?;
-        self.commit(&structure)?;
-        let commit = start.elapsed(rt)?.as_secs_f64();
+        let (reply, update) = self.timed_place(rt, &certificate)?;
+        let on_reply = self.timed_judge(rt, &reply)?;
+        let (structure, sign) = self.timed_sign(rt)?;
+        let commit = self.timed_commit(rt, &structure)?;
         self.end()?;
         Ok(Times {
             update,
@@ -280,7 +365,7 @@ fn measured_units(rt: &impl Host) -> Result<Units> {
 }
 
 /// An operation while so many others are pending, once the client has seen all structures.
-fn measure(rt: &impl Host, scene: &mut Scene, pending: u32) -> Result<Times> {
+fn measure_beside(rt: &impl Host, scene: &mut Scene, pending: u32) -> Result<Times> {
     scene.empty_log()?;
     let _seen = scene.operate(rt, &[])?;
     let mut replies = Vec::new(scene.alloc);
@@ -294,38 +379,72 @@ fn measure(rt: &impl Host, scene: &mut Scene, pending: u32) -> Result<Times> {
     Ok(times)
 }
 
-/// What of an operation isn't signing and verifying, in parts of a hundred: the server verifies a certificate and a
-/// structure, the client a certificate of each that is pending, and signs a structure.
-fn rest(times: Times, units: Units, pending: u32) -> f64 {
-    let verifications = 2.0 + f64::from(pending);
-    let whole = times.update + times.on_reply + times.sign + times.commit;
-    let needed = units.sign + verifications * units.verify;
-    (1.0 - needed / whole) * 100.0
+/// The times of an operation.
+fn measure(rt: &impl Host, scene: &mut Scene, setting: Setting) -> Result<Times> {
+    match setting {
+        Setting::AllNew => {
+            scene.operate_each()?;
+            scene.operate(rt, &[])
+        }
+        Setting::Beside(pending) => measure_beside(rt, scene, pending),
+    }
 }
 
-/// Prints the times of the round with the least rest.
-fn row(rt: &impl Host, scene: &mut Scene, pending: u32) -> Result<()> {
-    let mut best = measure(rt, scene, pending)?;
-    let mut least = rest(best, measured_units(rt)?, pending);
-    for _round in 1..ROUNDS {
-        let times = measure(rt, scene, pending)?;
-        let found = rest(times, measured_units(rt)?, pending);
-        if found < least {
-            (best, least) = (times, found);
-        }
-    }
-    let (update, on_reply) = (best.update * 1e6, best.on_reply * 1e6);
-    let (sign, commit) = (best.sign * 1e6, best.commit * 1e6);
-    println!(rt;
-        "{pending} pending: update {update:.0} us, on_reply {on_reply:.0} us, sign {sign:.0} us, commit {commit:.0} us: {least:.0} % neither signs nor verifies"
-    )?;
+/// The same, beside the seconds that signing and verifying take just then.
+fn measure_round(rt: &impl Host, scene: &mut Scene, setting: Setting) -> Result<Round> {
+    let times = measure(rt, scene, setting)?;
+    let units = measured_units(rt)?;
+    Ok(Round {
+        times,
+        needed: units.needed(setting.verified()),
+    })
+}
+
+/// Prints how long a call takes, and how much of it signing and verifying do.
+fn print_call(rt: &impl Host, name: &str, seconds: f64, needed: f64) -> Result<()> {
+    let (time, share) = (seconds * 1e6, needed / seconds * 100.0);
+    println!(rt; "  {name:8} {time:8.0} us, {share:5.1} % of it signs and verifies")?;
     Ok(())
 }
 
-/// Prints the times with few and with many pending.
+/// Prints each call of a round.
+fn print_calls(rt: &impl Host, round: Round) -> Result<()> {
+    let Round { times, needed } = round;
+    print_call(rt, "update", times.update, needed.update)?;
+    print_call(rt, "on_reply", times.on_reply, needed.on_reply)?;
+    print_call(rt, "sign", times.sign, needed.sign)?;
+    print_call(rt, "commit", times.commit, needed.commit)
+}
+
+/// Prints what an operation is measured in, and how much of it isn't signing and verifying, in parts of a hundred.
+fn print_head(rt: &impl Host, setting: Setting, rest: f64) -> Result<()> {
+    let verified = setting.verified();
+    match setting {
+        Setting::AllNew => {
+            println!(rt; "{verified} structures not seen before: {rest:.0} % neither signs nor verifies")?;
+        }
+        Setting::Beside(_) => {
+            println!(rt; "{verified} pending: {rest:.0} % neither signs nor verifies")?;
+        }
+    }
+    Ok(())
+}
+
+/// Prints the times of the round with the least rest.
+fn row(rt: &impl Host, scene: &mut Scene, setting: Setting) -> Result<()> {
+    let mut best = measure_round(rt, scene, setting)?;
+    for _round in 1..ROUNDS {
+        best = best.or_better(measure_round(rt, scene, setting)?);
+    }
+    print_head(rt, setting, best.rest())?;
+    print_calls(rt, best)
+}
+
+/// Prints the times where all structures are new, and with few and with many pending.
 fn rows(rt: &impl Host, scene: &mut Scene) -> Result<()> {
+    row(rt, scene, Setting::AllNew)?;
     for pending in &PENDING {
-        row(rt, scene, *pending)?;
+        row(rt, scene, Setting::Beside(*pending))?;
     }
     Ok(())
 }
@@ -338,7 +457,7 @@ fn go_on(scene: &mut Scene) -> Result<()> {
     Ok(())
 }
 
-/// Prints the times with few and with many pending, and again after a longer history.
+/// Prints the times, and again after a longer history.
 pub(crate) fn report(rt: &impl Host) -> Result<()> {
     let mut scene = new_scene(rt)?;
     rows(rt, &mut scene)?;
