@@ -42,7 +42,7 @@ const OF_TABLE: &[u8] = b"SIN1\x01\0\0\0\x44\0\x01abcdefghijklmnopqrstuvwxyz0123
 
 const OF_NO_FILE: &[u8] = b"SIN1\x02\0\0\0\x44\0\x01abcdefghijklmnopqrstuvwxyz012345";
 
-/// One that isn't held.
+/// An i-node that isn't held.
 const NOT_HELD: &[u8] = b"SIN1\x01\0\0\0\x01\0\x01abcdefghijklmnopqrstuvwxyz012345";
 
 /// A spot: what its block is of is named by its text.
