@@ -9,7 +9,7 @@ use crate::texts::{
 use layout::{Text, digest};
 use pending_list::Reply;
 use principals::Table;
-use reply_rules::Rule;
+use reply_rules::{Rule, above_top, lists_hold};
 use std::alloc::Global;
 
 /// A signature that nobody checks.
@@ -928,6 +928,20 @@ fn breaks_each(rt: &impl Host, cases: &[Case]) {
 #[test]
 fn good_replies(rt: HostRuntime) {
     breaks_each(&rt, &GOOD_ONES);
+}
+
+/// How many are above in each of the good replies.
+static ABOVE_COUNTS: [usize; 6] = [2, 3, 1, 1, 2, 3];
+
+#[test]
+fn what_is_above(rt: HostRuntime) {
+    for (case, count) in GOOD_ONES.iter().zip(&ABOVE_COUNTS) {
+        let reply = reply_of(&rt, case);
+        let holds = lists_hold(&reply);
+        assert!(rt; holds);
+        let above = above_top(&reply);
+        assert!(rt; above.len() == *count, "{}", case.name);
+    }
 }
 
 #[test]
