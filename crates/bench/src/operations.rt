@@ -1,6 +1,6 @@
 //! Times of an operation of user 0's among 63 other users, all of whom have structures that the client sees for the
-//! first time, or of whom some have operations pending: how much of each call is signing and verifying. A signature that
-//! the client has seen under its key before isn't verified again, so that it verifies those structures, or the
+//! first time, or of whom some have operations pending: how much of each call is signing and verifying. A signature
+//! that the client has seen under its key before isn't verified again, so that it verifies those structures, or the
 //! certificates of those that are pending. Its ledger and its journal lie in memory, where each sync copies all that
 //! they hold: this counts as the rest.
 

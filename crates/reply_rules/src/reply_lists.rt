@@ -55,8 +55,8 @@ fn place_above<A: Allocator>(pending: &[PendingItem<A>], top: u64) -> usize
     before
 }
 
-/// What is pending and of greater depth than top, in order. Of a reply that meets the rule on lists it is the end of the
-/// pending list.
+/// What is pending and of greater depth than top, in order. Of a reply that meets the rule on lists it is the end of
+/// the pending list.
 pub fn above_top<A: Allocator>(reply: &Reply<A>) -> &[PendingItem<A>]
     requires { lists reply.now ≡ true }
     ensures { result.now ≡ filter (λ i. reply_spec.is_above reply.now.structures i.plan) reply.now.pending }

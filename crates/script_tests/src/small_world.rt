@@ -1,5 +1,6 @@
 //! A small world, in full: two users, both members of a group, of whom up to four operations begin, come to the server
-//! and are committed in every order. No reply of an honest server is refused, and each view shows what plain numbers say.
+//! and are committed in every order. No reply of an honest server is refused, and each view shows what plain numbers
+//! say.
 
 use crate::host::{Host, check_text};
 use fork_theorem::play;

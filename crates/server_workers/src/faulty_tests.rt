@@ -10,8 +10,8 @@ use lms_sign::PublicKey;
 use std::process::Abort;
 use std::sync::Wait;
 
-/// A connection of which the first reads give these bytes each, and every later read and every write fails. It notes what
-/// it was asked for.
+/// A connection of which the first reads give these bytes each, and every later read and every write fails. It notes
+/// what it was asked for.
 #[derive(Drop)]
 struct Failing<'a> {
     request: &'a [u8],
@@ -69,8 +69,8 @@ impl<'a> Connection for Failing<'a> {
     }
 }
 
-/// What each read gives, how many don't fail, and then: how many calls are answered, how many reads and writes were asked
-/// for, and how many bytes were to be written.
+/// What each read gives, how many don't fail, and then: how many calls are answered, how many reads and writes were
+/// asked for, and how many bytes were to be written.
 struct Case {
     request: &'static [u8],
     good: u32,
@@ -80,8 +80,8 @@ struct Case {
     size: usize,
 }
 
-/// The first read fails; the second one does, after a part of a frame; the first write does, after a request that no text
-/// follows, which is answered by a frame of 5 bytes; and where a second request was read too.
+/// The first read fails; the second one does, after a part of a frame; the first write does, after a request that no
+/// text follows, which is answered by a frame of 5 bytes; and where a second request was read too.
 static CASES: [Case; 4] = [
     Case {
         request: b"",
