@@ -41,6 +41,8 @@ mod other_users;
 #[cfg(test)]
 mod others_parts;
 #[cfg(test)]
+mod place_of_table;
+#[cfg(test)]
 mod refusals;
 #[cfg(test)]
 mod replies;
