@@ -3,3 +3,6 @@ pub mod Runs
 pub mod Released
 pub mod UsedOnce
 pub mod Agreeing
+pub mod Told
+pub mod Carried
+pub mod Slots
