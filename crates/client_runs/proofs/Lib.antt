@@ -9,3 +9,5 @@ mod Moves
 mod Genuine
 mod Views
 mod Agreed
+mod Anywhere
+mod Same

@@ -15,15 +15,15 @@ client_in slot.Unmade = first
 client_in (slot.Closed p) = Closed (record { ledger = p.ledger; journal = p.journal })
 client_in (slot.Open s) = Open s
 
--- whose it is
+-- it has this owner's key
 abbrev pub IsOf : {A : Type 0} → Owner → Slot A → Type 0
 IsOf o slot.Unmade = Unit {0}
 IsOf o (slot.Closed p) = (p.key.seed ≡ o.seed) × (p.key.id ≡ o.id)
-IsOf o (slot.Open s) = (s.user ≡ o.user) × (s.seed ≡ o.seed) × (s.id ≡ o.id) × (s.pinned ≡ o.pinned)
+IsOf o (slot.Open s) = (s.seed ≡ o.seed) × (s.id ≡ o.id)
 
--- the same user's client still, with the same keys
+-- the client of the same key
 abbrev pub AreSame : State → State → Type 0
-AreSame old new = (new.user ≡ old.user) × (new.seed ≡ old.seed) × (new.id ≡ old.id) × (new.pinned ≡ old.pinned)
+AreSame old new = (new.seed ≡ old.seed) × (new.id ≡ old.id)
 
 -- each user's client
 abbrev pub client_at : {A : Type 0} → List (Slot A) → User → Client

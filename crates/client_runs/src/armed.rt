@@ -1,6 +1,6 @@
 //! A device in memory whose calls can be made to fail while a client holds it.
 
-ghost use Rattle.std.specs.Prelude.{◌≡◌, IfOk, IfErr};
+ghost use Rattle.std.specs.Prelude.{◌≡◌, [], IfErr, IfOk};
 ghost use Rattle.leaf_ledger.specs.Device.{MayLeave, started};
 
 use layout::Memory;
@@ -30,16 +30,12 @@ impl<A: Allocator + Copy> Model for ArmedDevice<A> {
 
 /// Whether one of these extents has this place.
 fn is_written(extents: &[Extent], place: usize) -> bool {
-    extents
-        .iter()
-        .any(|extent| extent.at <= place && place - extent.at < extent.size)
+    extents.iter().any(|extent| extent.at <= place && place - extent.at < extent.size)
 }
 
 /// Whether one of these extents reaches to this size.
 fn is_reached(extents: &[Extent], size: usize) -> bool {
-    extents
-        .iter()
-        .any(|extent| size <= extent.at || size - extent.at <= extent.size)
+    extents.iter().any(|extent| size <= extent.at || size - extent.at <= extent.size)
 }
 
 impl<A: Allocator + Copy> ArmedDevice<A> {

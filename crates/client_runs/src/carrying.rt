@@ -65,8 +65,12 @@ impl<A: Allocator + Copy> Clients<A> {
         ensures ready { OnOk result (AreReady self.new) }
     {
         // A device that gets no order to fail is to fail never.
-        self.orders.ledger.set(Some(todo.ledger_fails.unwrap_or(u64::MAX)));
-        self.orders.journal.set(Some(todo.journal_fails.unwrap_or(u64::MAX)));
+        self.orders
+            .ledger
+            .set(Some(todo.ledger_fails.unwrap_or(u64::MAX)));
+        self.orders
+            .journal
+            .set(Some(todo.journal_fails.unwrap_or(u64::MAX)));
         let user = todo.user;
         let place = user.get() as usize;
         let slot = mem::replace(&mut self.slots[place], Slot::Unmade);

@@ -2,7 +2,7 @@
 
 ghost use Rattle.std.specs.Prelude.{◌≡◌, IfErr, IfOk, OnOk};
 ghost use Rattle.leaf_ledger.specs.Device.{MayLeave, started};
-ghost use Rattle.client_runs.specs.Steps.{IsSound, Open, Owner};
+ghost use Rattle.client_runs.specs.Steps.{IsSound, Open, Owner, first};
 ghost use Rattle.client_runs.specs.Runs.{owner, public_key};
 ghost use Rattle.client_runs.specs.Carried.{ComesOf, script_keys};
 ghost use Rattle.client_runs.specs.Slots.{AreSame, IsOf, client_in};
@@ -51,7 +51,7 @@ fn first_parts<A: Allocator + Copy>(
     user: User,
     orders: &Orders<A>,
 ) -> Result<MemoryParts<A>, Memory>
-    ensures client { IfOk result (λ parts. client_in (Slot.Closed parts) ≡ client_in Slot.Unmade) }
+    ensures client { IfOk result (λ parts. client_in (Slot.Closed parts) ≡ first) }
     ensures own { IfOk result (λ parts. IsOf (owner script_keys user) (Slot.Closed parts)) }
 {
     let key = key_of(alloc, user)?;
@@ -65,10 +65,7 @@ fn first_parts<A: Allocator + Copy>(
 }
 
 /// The text that an opened client has to send again, if there is one.
-fn resent<A: Allocator + Copy>(
-    alloc: A,
-    client: &MemoryClient<A>,
-) -> Result<Vec<u8, A>, Memory>
+fn resent<A: Allocator + Copy>(alloc: A, client: &MemoryClient<A>) -> Result<Vec<u8, A>, Memory>
     ensures { IfOk result (λ text. text.items ≡ resent_in client.now.phase client.now.text) }
 {
     let text = match client.phase() {
@@ -172,41 +169,40 @@ fn call<A: Allocator + Copy>(
     ensures step { IfOk result (λ answer. (o : Owner) → IsSound (Open client.new) → ComesOf o (Open client.old) act.now answer (Open client.new)) }
     ensures same { OnOk result (AreSame client.old client.new) }
 {
-    let answer = match act {
+    match act {
         Act::Begin(changes, laid) => match begin(alloc, client, changes, laid)? {
-            Some(answer) => Answer::Begun(answer),
-            None => Answer::NotTaken,
+            Some(answer) => Ok(Answer::Begun(answer)),
+            None => Ok(Answer::NotTaken),
         },
         Act::Reply(text) => match hear(client, text) {
-            Some(answer) => Answer::Asks(answer),
-            None => Answer::NotTaken,
+            Some(answer) => Ok(Answer::Asks(answer)),
+            None => Ok(Answer::NotTaken),
         },
         Act::Block(block) => match take(client, block.as_deref()) {
-            Some(answer) => Answer::Asks(answer),
-            None => Answer::NotTaken,
+            Some(answer) => Ok(Answer::Asks(answer)),
+            None => Ok(Answer::NotTaken),
         },
         Act::Sign => match sign(alloc, client)? {
-            Some(answer) => Answer::Signed(answer),
-            None => Answer::NotTaken,
+            Some(answer) => Ok(Answer::Signed(answer)),
+            None => Ok(Answer::NotTaken),
         },
         Act::Committed(status) => {
             if commit(client, *status) {
-                Answer::Committed
+                Ok(Answer::Committed)
             } else {
-                Answer::NotTaken
+                Ok(Answer::NotTaken)
             }
         }
         Act::Look(principal, i_number) => match look(client, *principal, *i_number) {
-            Some(answer) => Answer::Sees(answer),
-            None => Answer::NotTaken,
+            Some(answer) => Ok(Answer::Sees(answer)),
+            None => Ok(Answer::NotTaken),
         },
         Act::Give(block) => match give(client, block.as_deref()) {
-            Some(answer) => Answer::Sees(answer),
-            None => Answer::NotTaken,
+            Some(answer) => Ok(Answer::Sees(answer)),
+            None => Ok(Answer::NotTaken),
         },
-        Act::Open | Act::Close | Act::Crash(_, _) => Answer::NotTaken,
-    };
-    Ok(answer)
+        Act::Open | Act::Close | Act::Crash(_, _) => Ok(Answer::NotTaken),
+    }
 }
 
 /// A step of an open client.
@@ -216,7 +212,7 @@ fn open_step<A: Allocator + Copy>(
     act: &Act<A>,
 ) -> Result<(Slot<A>, Answer<A>), Memory>
     ensures step { IfOk result (λ r. (o : Owner) → ComesOf o (Open client) act.now r.1 (client_in r.0)) }
-    ensures own { IfOk result (λ r. (o : Owner) → IsOf o (Slot.Open client) → IsOf o r.0) }
+    ensures own { IfOk result (λ r. (o : Owner) → client.seed ≡ o.seed → client.id ≡ o.id → IsOf o r.0) }
 {
     match act {
         Act::Close => Ok((Slot::Closed(client.close()), Answer::Closed)),
