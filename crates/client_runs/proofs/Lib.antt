@@ -11,3 +11,4 @@ mod Views
 mod Agreed
 mod Anywhere
 mod Same
+mod OneMore

@@ -7,6 +7,8 @@ mod calls;
 mod carrying;
 mod laws;
 mod slot;
+#[cfg(test)]
+mod tests;
 mod world;
 
 pub use carrying::run;
