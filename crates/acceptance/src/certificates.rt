@@ -1,7 +1,6 @@
 //! Certificates: what they say and how they are spelled, without changes, with one of each kind, and signed.
 
-use crate::faults::CERT;
-use crate::texts::{Host, certificate, check, check_text, joined};
+use crate::texts::{Host, certificate, certificate_of, check, check_text, joined};
 use directory::{Entry, Name, Target, name_text};
 use layout::{Digest, INumber, Principal, Text, User, Version};
 use pending_list::{Signature, Signed};
@@ -161,7 +160,7 @@ fn is_case(rt: &impl Host, change: &Change<Global>, case: &Case) {
 
 /// User 0's first certificate with the changes of the cases, by hand.
 fn by_hand(rt: &impl Host) -> Vec<u8> {
-    let mut text = joined(rt, &[CERT, b"\x05"]);
+    let mut text = certificate_of(rt, 0, 1, &[0; 32], b"\x05");
     for case in &CASES {
         text.extend_from_slice(case.bytes).expect(rt, "memory");
     }

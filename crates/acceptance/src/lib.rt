@@ -1,8 +1,7 @@
-//! Tests of the whole, over the public surface of the crates.
+//! Tests of the whole, over the public surface of the crates: operations of clients and a server, what they store, and
+//! restarts. Those of texts and of rules on lists stand in `rule_tests`, those of scripts in `script_tests`.
 #![tactic(auto)]
 
-#[cfg(test)]
-mod above;
 #[cfg(test)]
 mod blocks;
 #[cfg(test)]
@@ -18,11 +17,7 @@ mod device_faults;
 #[cfg(test)]
 mod directories;
 #[cfg(test)]
-mod faults;
-#[cfg(test)]
 mod files;
-#[cfg(test)]
-mod frames;
 #[cfg(test)]
 mod groups;
 #[cfg(test)]
@@ -36,8 +31,6 @@ mod last_blocks;
 #[cfg(test)]
 mod long_table;
 #[cfg(test)]
-mod longest;
-#[cfg(test)]
 mod missing_chunks;
 #[cfg(test)]
 mod missing_files;
@@ -48,27 +41,17 @@ mod other_users;
 #[cfg(test)]
 mod others_parts;
 #[cfg(test)]
-mod plans;
-#[cfg(test)]
 mod refusals;
 #[cfg(test)]
 mod replies;
 #[cfg(test)]
 mod restarts;
 #[cfg(test)]
-mod rule_parts;
-#[cfg(test)]
-mod scripts;
-#[cfg(test)]
 mod served;
 #[cfg(test)]
 mod server;
 #[cfg(test)]
-mod several_pending;
-#[cfg(test)]
 mod several_users;
-#[cfg(test)]
-mod small_world;
 #[cfg(test)]
 mod spots;
 #[cfg(test)]

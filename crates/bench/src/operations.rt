@@ -20,7 +20,7 @@ use wire::Status;
 /// How many others there are, and how many of them are pending in turn.
 const OTHERS: u8 = 63;
 
-static PENDING: [usize; 3] = [1, 8, 63];
+static PENDING: [u32; 3] = [1, 8, 63];
 
 /// How often each of the others operates between the first times and the second ones.
 const HISTORY: u32 = 16;
@@ -280,11 +280,11 @@ fn measured_units(rt: &impl Host) -> Result<Units> {
 }
 
 /// An operation while so many others are pending, once the client has seen all structures.
-fn measure(rt: &impl Host, scene: &mut Scene, pending: usize) -> Result<Times> {
+fn measure(rt: &impl Host, scene: &mut Scene, pending: u32) -> Result<Times> {
     scene.empty_log()?;
     let _seen = scene.operate(rt, &[])?;
     let mut replies = Vec::new(scene.alloc);
-    for place in 0..pending {
+    for place in 0..pending as usize {
         replies.push(scene.place_other(place)?)?;
     }
     let times = scene.operate(rt, &[])?;
@@ -296,15 +296,15 @@ fn measure(rt: &impl Host, scene: &mut Scene, pending: usize) -> Result<Times> {
 
 /// What of an operation isn't signing and verifying, in parts of a hundred: the server verifies a certificate and a
 /// structure, the client a certificate of each that is pending, and signs a structure.
-fn rest(times: Times, units: Units, pending: usize) -> f64 {
-    let verifications = 2.0 + pending as f64;
+fn rest(times: Times, units: Units, pending: u32) -> f64 {
+    let verifications = 2.0 + f64::from(pending);
     let whole = times.update + times.on_reply + times.sign + times.commit;
     let needed = units.sign + verifications * units.verify;
     (1.0 - needed / whole) * 100.0
 }
 
 /// Prints the times of the round with the least rest.
-fn row(rt: &impl Host, scene: &mut Scene, pending: usize) -> Result<()> {
+fn row(rt: &impl Host, scene: &mut Scene, pending: u32) -> Result<()> {
     let mut best = measure(rt, scene, pending)?;
     let mut least = rest(best, measured_units(rt)?, pending);
     for _round in 1..ROUNDS {
@@ -322,19 +322,28 @@ fn row(rt: &impl Host, scene: &mut Scene, pending: usize) -> Result<()> {
     Ok(())
 }
 
-/// Prints the times with few and with many pending, and again after a longer history.
-pub(crate) fn report(rt: &impl Host) -> Result<()> {
-    let mut scene = new_scene(rt)?;
+/// Prints the times with few and with many pending.
+fn rows(rt: &impl Host, scene: &mut Scene) -> Result<()> {
     for pending in &PENDING {
-        row(rt, &mut scene, *pending)?;
+        row(rt, scene, *pending)?;
     }
+    Ok(())
+}
+
+/// Makes the history longer, by so many operations of each other user.
+fn go_on(scene: &mut Scene) -> Result<()> {
     for _round in 0..HISTORY {
         scene.operate_each()?;
     }
+    Ok(())
+}
+
+/// Prints the times with few and with many pending, and again after a longer history.
+pub(crate) fn report(rt: &impl Host) -> Result<()> {
+    let mut scene = new_scene(rt)?;
+    rows(rt, &mut scene)?;
+    go_on(&mut scene)?;
     let operations = HISTORY * u32::from(OTHERS);
     println!(rt; "after {operations} operations more")?;
-    for pending in &PENDING {
-        row(rt, &mut scene, *pending)?;
-    }
-    Ok(())
+    rows(rt, &mut scene)
 }

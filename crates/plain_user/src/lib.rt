@@ -5,6 +5,10 @@ mod caller;
 #[cfg(test)]
 mod connections;
 #[cfg(test)]
+mod full_log;
+#[cfg(test)]
+mod logs;
+#[cfg(test)]
 mod loopback;
 #[cfg(test)]
 mod operations;

@@ -2,9 +2,10 @@
 //! break none of them, and replies that differ from those in one part and break the rule of that part.
 
 use crate::rule_parts::first_broken;
-use crate::several_users::vector_of;
-use crate::tables::{FORM, listing};
-use crate::texts::{Host, certificate_of, check, joined, pending, plan, reply, shown, structure};
+use crate::texts::{
+    FORM, Host, certificate_of, check, joined, listing, pending, plan, reply, shown, structure,
+    vector_of,
+};
 use layout::{Text, digest};
 use pending_list::Reply;
 use principals::Table;

@@ -1,7 +1,7 @@
 //! A small world, in full: two users, both members of a group, whose operations come between one another in every order.
 //! No reply of an honest server is refused, and each view shows what plain numbers say.
 
-use crate::texts::{Host, check_text};
+use crate::host::{Host, check_text};
 use fork_theorem::play;
 use std::io::{Cursor, Write};
 

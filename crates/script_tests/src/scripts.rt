@@ -1,6 +1,6 @@
 //! What scripts print, also where a reader or a writer fails: the lines before stand.
 
-use crate::texts::{Host, check, check_text};
+use crate::host::{Host, check, check_text};
 use fork_theorem::{PlayError, play};
 use std::io::{self, BufReader, Cursor, ErrorKind, Read};
 
