@@ -10,6 +10,7 @@ use Rattle.client_runs.specs.declared.slot.Slot.{Slot}
 use Rattle.client_runs.specs.Steps.{Call, Client, IsSound, IsStep, Owner}
 use Rattle.client_runs.specs.Runs.{Event, IsRun, Keys, client_of, owner}
 use Rattle.client_runs.specs.Carried.{ComesOf, IsEventOf, IsTaken, Keep, script_keys}
+use Rattle.client_runs.specs.NotTaken.{CantBeTaken}
 use Rattle.client_runs.specs.Slots.{client_at}
 
 -- The steps so far with their answers are a run, after which each user's client is the one in memory.
@@ -23,15 +24,16 @@ module _ {A : Type 0} (t : WorldStep A) (before after : Client) where
   abbrev o : Owner
   o = owner script_keys t.user
 
-  -- what an answer keeps: nothing, or a step with its event
+  -- what an answer keeps: nothing, where the step can't be taken; or a step with its event
   abbrev Kept : Answer A → Type 0
   Kept a =
-      ((after ≡ before) × ((steps : List (WorldStep A)) (answers : List (Answer A)) (events : List Event) → Keep steps answers events → Keep (t ∷ steps) (a ∷ answers) events))
+      ((after ≡ before) × CantBeTaken before t.act
+        × ((steps : List (WorldStep A)) (answers : List (Answer A)) (events : List Event) → CantBeTaken (client_of t.user events) t.act → Keep steps answers events → Keep (t ∷ steps) (a ∷ answers) events))
       ⊎ (IsTaken o before t.act a after
         × ((steps : List (WorldStep A)) (answers : List (Answer A)) (e : Event) (events : List Event) → IsEventOf t a e → Keep steps answers events → Keep (t ∷ steps) (a ∷ answers) (e ∷ events)))
 
   kept : (a : Answer A) → ComesOf o before t.act a after → Kept a
-  kept answer.NotTaken h = inl (h, λ steps answers events k. k)
+  kept answer.NotTaken h = inl (h.0, h.1, λ steps answers events cant k. (cant, k))
   kept (answer.Opened how text) h = inr (h, λ steps answers e events is k. (is, k))
   kept (answer.Refused error) h = inr (h, λ steps answers e events is k. (is, k))
   kept answer.Closed h = inr (h, λ steps answers e events is k. (is, k))
@@ -75,12 +77,13 @@ module _ {A : Type 0} (steps : List (WorldStep A)) (answers : List (Answer A)) (
   abbrev o_of : Owner
   o_of = owner script_keys t.user
 
-  not_taken : client_at new t.user ≡ client_at slots t.user → ((ss : List (WorldStep A)) (as' : List (Answer A)) (es : List Event) → Keep ss as' es → Keep (t ∷ ss) (a ∷ as') es)
+  not_taken : client_at new t.user ≡ client_at slots t.user → CantBeTaken (client_at slots t.user) t.act
+      → ((ss : List (WorldStep A)) (as' : List (Answer A)) (es : List Event) → CantBeTaken (client_of t.user es) t.act → Keep ss as' es → Keep (t ∷ ss) (a ∷ as') es)
       → StandsSoFar (steps ++ t ∷ []) (answers ++ a ∷ []) new
-  not_taken same keeps = record {
+  not_taken same cant keeps = record {
     events = h.events;
     is_run = h.is_run;
-    kept = keep_more steps answers t a h.events (keeps (reverse steps) (reverse answers) h.events h.kept);
+    kept = keep_more steps answers t a h.events (keeps (reverse steps) (reverse answers) h.events (subst (λ (c : Client). CantBeTaken c t.act) (sym (h.clients t.user)) cant) h.kept);
     clients = λ u. other_client t a slots new others u h.events (h.clients u) (λ w. ap (λ n. client_at new n) w ∙ same ∙ ap (λ n. client_at slots n) (sym w));
   }
 
@@ -100,5 +103,5 @@ module _ {A : Type 0} (steps : List (WorldStep A)) (answers : List (Answer A)) (
   more comes = go (kept t (client_at slots t.user) (client_at new t.user) a comes)
     where
       go : Kept t (client_at slots t.user) (client_at new t.user) a → StandsSoFar (steps ++ t ∷ []) (answers ++ a ∷ []) new
-      go (inl k) = not_taken k.0 k.1
+      go (inl k) = not_taken k.0 k.1 k.2
       go (inr k) = taken k.0 k.1

@@ -8,11 +8,12 @@ use Rattle.client_runs.specs.declared.world.Answer.{Answer}
 use Rattle.client_runs.specs.declared.world.Answer.TheVariants as answer
 use Rattle.client_runs.specs.declared.world.WorldStep.{WorldStep}
 use Rattle.client_runs.specs.Steps.{Call, Client, IsSound, IsStep, Owner}
-use Rattle.client_runs.specs.Runs.{Event, IsRun, Keys}
+use Rattle.client_runs.specs.Runs.{Event, IsRun, Keys, client_of}
 use Rattle.client_runs.specs.Released.{views}
 use Rattle.client_runs.specs.UsedOnce.{CertificatesOnce, LeavesOnce, StructuresOnce}
 use Rattle.client_runs.specs.Agreeing.{AreReleased, Premises}
 use Rattle.client_runs.specs.Told.{IsTold, call_of}
+use Rattle.client_runs.specs.NotTaken.{CantBeTaken}
 
 -- the keys of scripts: a user's seed and identifier are bytes of the user's number
 abbrev pub script_keys : Keys
@@ -24,11 +25,11 @@ pub record IsEventOf {A : Type 0} (step : WorldStep A) (answer : Answer A) (e : 
   pub call : call_of step.act answer ≡ Some e.call
   pub told : IsTold step.act answer e.after
 
--- These steps gave these answers, and these are their events, the latest first: a step that wasn't taken has none, and each
--- other one its own.
+-- These steps gave these answers, and these are their events, the latest first: a step that wasn't taken has none, and
+-- couldn't be by its user's client as that was then; and each other one has its own.
 abbrev pub Keep : {A : Type 0} → List (WorldStep A) → List (Answer A) → List Event → Type 0
 Keep [] [] [] = Unit {0}
-Keep (step ∷ steps) (answer.NotTaken ∷ answers) events = Keep steps answers events
+Keep (step ∷ steps) (answer.NotTaken ∷ answers) events = CantBeTaken (client_of step.user events) step.act × Keep steps answers events
 Keep (step ∷ steps) (answer ∷ answers) (e ∷ events) = IsEventOf step answer e × Keep steps answers events
 Keep steps answers events = ⊥
 
@@ -62,7 +63,7 @@ pub record IsTaken {A : Type 0} (o : Owner) (before : Client) (act : Act A) (ans
   pub step : IsStep o before call after
   pub sound : IsSound after
 
--- one that wasn't leaves the client as it was
+-- one that wasn't couldn't be, and leaves the client as it was
 abbrev pub ComesOf : {A : Type 0} → Owner → Client → Act A → Answer A → Client → Type 0
-ComesOf o before act answer.NotTaken after = after ≡ before
+ComesOf o before act answer.NotTaken after = (after ≡ before) × CantBeTaken before act
 ComesOf o before act answer after = IsTaken o before act answer after

@@ -4,5 +4,6 @@ pub mod Released
 pub mod UsedOnce
 pub mod Agreeing
 pub mod Told
+pub mod NotTaken
 pub mod Carried
 pub mod Slots

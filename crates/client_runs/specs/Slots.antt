@@ -5,6 +5,8 @@ use Rattle.client_verify.specs.State.{State}
 use Rattle.client_runs.specs.declared.carrying.Clients.{Clients}
 use Rattle.client_runs.specs.declared.slot.Slot.{Slot}
 use Rattle.client_runs.specs.declared.slot.Slot.TheVariants as slot
+use Rattle.client_runs.specs.declared.world.Act.{Act}
+use Rattle.client_runs.specs.declared.world.Act.TheVariants as act
 use Rattle.client_runs.specs.Steps.{Client, Closed, Open, Owner, first}
 use Rattle.client_runs.specs.Runs.{owner, public_key}
 use Rattle.client_runs.specs.Carried.{script_keys}
@@ -24,6 +26,12 @@ IsOf o (slot.Open s) = (s.seed ≡ o.seed) × (s.id ≡ o.id)
 -- the client of the same key
 abbrev pub AreSame : State → State → Type 0
 AreSame old new = (new.seed ≡ old.seed) × (new.id ≡ old.id)
+
+-- what neither closes an open client nor lets it crash
+abbrev pub StaysOpen : {A : Type 0} → Act A → Type 0
+StaysOpen act.Close = ⊥
+StaysOpen (act.Crash ledger journal) = ⊥
+StaysOpen other = Unit {0}
 
 -- each user's client
 abbrev pub client_at : {A : Type 0} → List (Slot A) → User → Client

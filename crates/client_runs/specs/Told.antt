@@ -63,7 +63,6 @@ call_of (act.Committed status) answer.Committed = Some (Commits status)
 call_of (act.Look p i) (answer.Sees r) = Some (Looks p i (on_ok seen r))
 call_of (act.Give block) (answer.Sees r) = Some (Gives (option_map vec_items block) (on_ok seen r))
 call_of (act.Crash ledger journal) answer.Crashed = Some Crashes
-call_of (act.Crash ledger journal) answer.Closed = Some Closes
 call_of other answer = None
 
 -- ---- what else is told
@@ -76,7 +75,7 @@ resent other text = []
 
 -- what is told of the accepted view is so
 abbrev pub IsAcceptedBy : {A : Type 0} → Accepted A → Option AcceptedView → Type 0
-IsAcceptedBy x view = IsSomeAnd view (λ v. (x.structures.items ≡ v.structures) × (x.lost.items ≡ v.lost))
+IsAcceptedBy x view = IsSomeAnd view (λ v. (x.structures.items ≡ v.structures) × (x.table ≡ v.table) × (x.lost.items ≡ v.lost))
 
 -- The phase and the text of an opened client, the accepted view of one that signed, and what a crash left are those of the
 -- client after the step.

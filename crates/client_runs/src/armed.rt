@@ -1,10 +1,10 @@
 //! A device in memory whose calls can be made to fail while a client holds it.
 
-ghost use Rattle.std.specs.Prelude.{◌≡◌, [], IfErr, IfOk};
+ghost use Rattle.std.specs.Prelude.{◌≡◌, [], false, true, IfErr, IfOk};
 ghost use Rattle.leaf_ledger.specs.Device.{MayLeave, started};
 
 use layout::Memory;
-use leaf_ledger::{CrashError, Device, DeviceError, Extent, MemoryDevice};
+use leaf_ledger::{CrashError, Device, DeviceError, MemoryDevice};
 use std::alloc::Allocator;
 use std::cell::Cell;
 use std::marker::Model;
@@ -28,16 +28,6 @@ impl<A: Allocator + Copy> Model for ArmedDevice<A> {
     ghost view = { λ d. record { history = d.device.history; faults = d.device.faults } };
 }
 
-/// Whether one of these extents has this place.
-fn is_written(extents: &[Extent], place: usize) -> bool {
-    extents.iter().any(|extent| extent.at <= place && place - extent.at < extent.size)
-}
-
-/// Whether one of these extents reaches to this size.
-fn is_reached(extents: &[Extent], size: usize) -> bool {
-    extents.iter().any(|extent| size <= extent.at || size - extent.at <= extent.size)
-}
-
 impl<A: Allocator + Copy> ArmedDevice<A> {
     /// A device on which nothing stands.
     pub(crate) fn empty(alloc: A, order: Order<A>) -> Result<ArmedDevice<A>, Memory>
@@ -56,19 +46,12 @@ impl<A: Allocator + Copy> ArmedDevice<A> {
         }
     }
 
-    /// Whether a crash may leave these bytes.
-    pub(crate) fn may_leave(&self, left: &[u8]) -> bool {
-        let settled = self.device.settled();
-        let written = self.device.unsynced();
-        if left.len() < settled.len() {
-            return false;
-        }
-        for place in 0..settled.len() {
-            if left[place] != settled[place] && !is_written(written, place) {
-                return false;
-            }
-        }
-        left.len() == settled.len() || is_reached(written, left.len())
+    /// Whether a crash now may leave these bytes.
+    pub(crate) fn may_leave(&self, left: &[u8]) -> bool
+        ensures yes { result ≡ true → MayLeave self.now.history.now left.now }
+        ensures no { result ≡ false → MayLeave self.now.history.now left.now → ⊥ }
+    {
+        self.device.may_leave(left)
     }
 
     /// The device after a crash that left these bytes.

@@ -5,6 +5,7 @@ ghost use Rattle.std.specs.Option.{option_copied};
 ghost use Rattle.std.specs.Vec.{vec_items};
 ghost use Rattle.client_runs.specs.Steps.{HasBegun, HasCommitted, HasGiven, HasHeard, HasLooked, HasSigned, HasTaken, IsSound, Open};
 ghost use Rattle.client_runs.specs.Told.{IsAcceptedBy, asked, on_ok, seen};
+ghost use Rattle.client_runs.specs.NotTaken.{CantBegin, CantCommit, CantGive, CantHear, CantLook, CantSign, CantTake};
 
 use crate::armed::ArmedDevice;
 use crate::world::Accepted;
@@ -26,7 +27,7 @@ pub(crate) fn begin<A: Allocator + Copy>(
     changes: &[Change<A>],
     laid: &[Vec<u8, A>],
 ) -> Result<Option<Result<Vec<u8, A>, ClientError>>, Memory>
-    ensures { IfOk result (λ done. MatchOption done (client.new ≡ client.old)
+    ensures { IfOk result (λ done. MatchOption done ((client.new ≡ client.old) × CantBegin client.old changes.now (map vec_items laid.now))
         (λ answer. HasBegun client.old changes.now (map vec_items laid.now) (on_ok vec_items answer) client.new)) }
 {
     if client.phase() != Phase::Idle || changes.len() > 16 || !are_laid(alloc, laid, changes)? {
@@ -40,7 +41,7 @@ pub(crate) fn hear<A: Allocator + Copy>(
     client: &mut MemoryClient<A>,
     text: &[u8],
 ) -> Option<Result<Step<A>, ClientError>>
-    ensures { MatchOption result (client.new ≡ client.old)
+    ensures { MatchOption result ((client.new ≡ client.old) × CantHear client.old)
         (λ answer. HasHeard client.old text.now (on_ok asked answer) client.new) }
 {
     if client.phase() != Phase::Declared {
@@ -54,7 +55,7 @@ pub(crate) fn take<A: Allocator + Copy>(
     client: &mut MemoryClient<A>,
     block: Option<&[u8]>,
 ) -> Option<Result<Step<A>, ClientError>>
-    ensures { MatchOption result (client.new ≡ client.old)
+    ensures { MatchOption result ((client.new ≡ client.old) × CantTake client.old)
         (λ answer. HasTaken client.old (option_copied block.entry) (on_ok asked answer) client.new) }
 {
     if !client.wants() {
@@ -92,10 +93,12 @@ fn told<A: Allocator + Copy>(
     ensures view { IfOk result (λ accepted. IsAcceptedBy accepted client.now.view) }
 {
     let structures = copies(alloc, client.structures())?;
+    let table = client.table().copy(alloc)?;
     let lost = Vec::from_slice(alloc, client.lost())?;
     Ok(Accepted {
         text,
         structures,
+        table,
         lost,
     })
 }
@@ -105,7 +108,7 @@ pub(crate) fn sign<A: Allocator + Copy>(
     alloc: A,
     client: &mut MemoryClient<A>,
 ) -> Result<Option<Result<Accepted<A>, ClientError>>, Memory>
-    ensures signed { IfOk result (λ done. MatchOption done (client.new ≡ client.old)
+    ensures signed { IfOk result (λ done. MatchOption done ((client.new ≡ client.old) × CantSign client.old)
         (λ answer. HasSigned client.old (on_ok (λ x. x.text.items) answer) client.new)) }
     ensures view { IfOk result (λ done. MatchOption done (Unit {0}) (λ answer. IfOk answer (λ x. IsAcceptedBy x client.new.view))) }
 {
@@ -122,6 +125,7 @@ pub(crate) fn sign<A: Allocator + Copy>(
 pub(crate) fn commit<A: Allocator + Copy>(client: &mut MemoryClient<A>, status: Status) -> bool
     ensures taken { result ≡ true → HasCommitted client.old status client.new }
     ensures same { result ≡ false → client.new ≡ client.old }
+    ensures not_taken { result ≡ false → CantCommit client.old }
 {
     if client.phase() != Phase::Signed {
         return false;
@@ -136,7 +140,7 @@ pub(crate) fn look<A: Allocator + Copy>(
     principal: Principal,
     i_number: INumber,
 ) -> Option<Result<Look<A>, ClientError>>
-    ensures { MatchOption result (client.new ≡ client.old)
+    ensures { MatchOption result ((client.new ≡ client.old) × CantLook client.old)
         (λ answer. HasLooked client.old principal i_number (on_ok seen answer) client.new) }
 {
     if !client.has_view() {
@@ -150,7 +154,7 @@ pub(crate) fn give<A: Allocator + Copy>(
     client: &mut MemoryClient<A>,
     block: Option<&[u8]>,
 ) -> Option<Result<Look<A>, ClientError>>
-    ensures { MatchOption result (client.new ≡ client.old)
+    ensures { MatchOption result ((client.new ≡ client.old) × CantGive client.old)
         (λ answer. HasGiven client.old (option_copied block.entry) (on_ok seen answer) client.new) }
 {
     if !client.looking() {
@@ -163,5 +167,5 @@ pub(crate) fn give<A: Allocator + Copy>(
 pub(crate) fn stands<A: Allocator + Copy>(client: &MemoryClient<A>)
     ensures { IsSound (Open client.now) }
 {
-    let _user = client.user();
+    client.stands();
 }

@@ -1,12 +1,13 @@
 //! A user's client in memory, open or closed, and a step of it.
 
-ghost use Rattle.std.specs.Prelude.{◌≡◌, IfErr, IfOk, OnOk};
-ghost use Rattle.leaf_ledger.specs.Device.{MayLeave, started};
+ghost use Rattle.std.specs.Prelude.{◌≡◌, false, true, IfOk, OnOk};
+ghost use Rattle.leaf_ledger.specs.Device.{started};
 ghost use Rattle.client_runs.specs.Steps.{IsSound, Open, Owner, first};
 ghost use Rattle.client_runs.specs.Runs.{owner, public_key};
 ghost use Rattle.client_runs.specs.Carried.{ComesOf, script_keys};
-ghost use Rattle.client_runs.specs.Slots.{AreSame, IsOf, client_in};
+ghost use Rattle.client_runs.specs.Slots.{AreSame, IsOf, StaysOpen, client_in};
 ghost use Rattle.client_runs.specs.Told.{resent as resent_in};
+ghost use Rattle.client_runs.specs.NotTaken.{MayLeaveBoth};
 
 use crate::armed::{ArmedDevice, Order};
 use crate::calls::{MemoryClient, begin, commit, give, hear, look, sign, stands, take};
@@ -104,21 +105,31 @@ fn open<A: Allocator + Copy>(
     }
 }
 
-/// What is on the devices after a crash that left these bytes; where no crash leaves them, all as it was.
+/// Whether a crash may leave these bytes on the devices of a ledger and of a journal.
+fn may_leave<A: Allocator + Copy>(
+    ledger: &ArmedDevice<A>,
+    journal: &ArmedDevice<A>,
+    ledger_left: &[u8],
+    journal_left: &[u8],
+) -> bool
+    ensures yes { result ≡ true → MayLeaveBoth ledger.now.history journal.now.history ledger_left.now journal_left.now }
+    ensures no { result ≡ false → MayLeaveBoth ledger.now.history journal.now.history ledger_left.now journal_left.now → ⊥ }
+{
+    ledger.may_leave(ledger_left) && journal.may_leave(journal_left)
+}
+
+/// What is on the devices after a crash that left these bytes, as it may.
 fn crash<A: Allocator + Copy>(
     alloc: A,
     parts: MemoryParts<A>,
     ledger_left: &[u8],
     journal_left: &[u8],
-) -> Result<Result<MemoryParts<A>, MemoryParts<A>>, Memory>
-    ensures may { IfOk result (λ r. IfOk r (λ _. MayLeave parts.ledger.history.now ledger_left.now × MayLeave parts.journal.history.now journal_left.now)) }
-    ensures left { IfOk result (λ r. IfOk r (λ p. (p.ledger.history ≡ started ledger_left.now) × (p.journal.history ≡ started journal_left.now))) }
-    ensures key { IfOk result (λ r. IfOk r (λ p. p.key ≡ parts.key)) }
-    ensures same { IfOk result (λ r. IfErr r (λ p. p ≡ parts)) }
+) -> Result<MemoryParts<A>, Memory>
+    requires { MayLeaveBoth parts.ledger.history parts.journal.history ledger_left.now journal_left.now }
+    ensures ledger { IfOk result (λ p. p.ledger.history ≡ started ledger_left.now) }
+    ensures journal { IfOk result (λ p. p.journal.history ≡ started journal_left.now) }
+    ensures key { IfOk result (λ p. p.key ≡ parts.key) }
 {
-    if !parts.ledger.may_leave(ledger_left) || !parts.journal.may_leave(journal_left) {
-        return Ok(Err(parts));
-    }
     let ledger_left = Vec::from_slice(alloc, ledger_left)?;
     let journal_left = Vec::from_slice(alloc, journal_left)?;
     let Parts {
@@ -127,11 +138,11 @@ fn crash<A: Allocator + Copy>(
         journal,
     } = parts;
     match (ledger.crash(ledger_left), journal.crash(journal_left)) {
-        (Ok(ledger), Ok(journal)) => Ok(Ok(Parts {
+        (Ok(ledger), Ok(journal)) => Ok(Parts {
             key,
             ledger,
             journal,
-        })),
+        }),
         // What a crash may leave it leaves, unless memory runs out.
         _ => Err(Memory),
     }
@@ -152,20 +163,24 @@ fn closed_step<A: Allocator + Copy>(
 {
     match act {
         Act::Open => open(alloc, user, pinned, parts),
-        Act::Crash(ledger, journal) => match crash(alloc, parts, ledger, journal)? {
-            Ok(parts) => Ok((Slot::Closed(parts), Answer::Crashed)),
-            Err(parts) => Ok((Slot::Closed(parts), Answer::NotTaken)),
-        },
+        Act::Crash(ledger, journal) => {
+            if !may_leave(&parts.ledger, &parts.journal, ledger, journal) {
+                return Ok((Slot::Closed(parts), Answer::NotTaken));
+            }
+            let parts = crash(alloc, parts, ledger, journal)?;
+            Ok((Slot::Closed(parts), Answer::Crashed))
+        }
         _ => Ok((Slot::Closed(parts), Answer::NotTaken)),
     }
 }
 
-/// A call of an open client.
+/// A call of an open client, or its opening, which can't be.
 fn call<A: Allocator + Copy>(
     alloc: A,
     client: &mut MemoryClient<A>,
     act: &Act<A>,
 ) -> Result<Answer<A>, Memory>
+    requires { StaysOpen act.now }
     ensures step { IfOk result (λ answer. (o : Owner) → IsSound (Open client.new) → ComesOf o (Open client.old) act.now answer (Open client.new)) }
     ensures same { OnOk result (AreSame client.old client.new) }
 {
@@ -201,7 +216,8 @@ fn call<A: Allocator + Copy>(
             Some(answer) => Ok(Answer::Sees(answer)),
             None => Ok(Answer::NotTaken),
         },
-        Act::Open | Act::Close | Act::Crash(_, _) => Ok(Answer::NotTaken),
+        Act::Open => Ok(Answer::NotTaken),
+        Act::Close | Act::Crash(_, _) => unreachable!(),
     }
 }
 
@@ -216,10 +232,13 @@ fn open_step<A: Allocator + Copy>(
 {
     match act {
         Act::Close => Ok((Slot::Closed(client.close()), Answer::Closed)),
-        Act::Crash(ledger, journal) => match crash(alloc, client.close(), ledger, journal)? {
-            Ok(parts) => Ok((Slot::Closed(parts), Answer::Crashed)),
-            Err(parts) => Ok((Slot::Closed(parts), Answer::Closed)),
-        },
+        Act::Crash(ledger, journal) => {
+            if !may_leave(client.ledger(), client.journal(), ledger, journal) {
+                return Ok((Slot::Open(client), Answer::NotTaken));
+            }
+            let parts = crash(alloc, client.close(), ledger, journal)?;
+            Ok((Slot::Closed(parts), Answer::Crashed))
+        }
         _ => {
             let mut client = client;
             let answer = call(alloc, &mut client, act)?;

@@ -3,6 +3,7 @@
 use client_verify::{ClientError, Look, Phase, Step};
 use layout::{INumber, Principal, User};
 use pending_list::Signed;
+use principals::Table;
 use std::alloc::Allocator;
 use update_cert::Change;
 use version_order::Structure;
@@ -29,7 +30,8 @@ pub enum Act<A: Allocator> {
     Look(Principal, INumber),
     /// It takes the block that the look asks for, or its absence.
     Give(Option<Vec<u8, A>>),
-    /// A crash leaves these bytes on the device of the ledger and these on that of the journal. It closes an open client.
+    /// A crash leaves these bytes on the device of the ledger and these on that of the journal, where one may. It closes an
+    /// open client.
     Crash(Vec<u8, A>, Vec<u8, A>),
 }
 
@@ -53,6 +55,8 @@ pub struct Accepted<A: Allocator> {
     pub text: Vec<u8, A>,
     /// The structures of the view, with the own one in its user's place.
     pub structures: Vec<Signed<Structure<A>>, A>,
+    /// The table of principals of the view.
+    pub table: Table<A>,
     /// The numbers of the changes that had no effect.
     pub lost: Vec<u8, A>,
 }
@@ -60,7 +64,8 @@ pub struct Accepted<A: Allocator> {
 /// What came of a step.
 #[derive(Drop)]
 pub enum Answer<A: Allocator> {
-    /// The client is as before: it wasn't in the phase for such a step, or what was handed in couldn't be.
+    /// The client is as before: it wasn't in the phase for such a step, or what was handed in couldn't be. It is never the
+    /// answer to a step that can be taken.
     NotTaken,
     /// The client is open, in this phase, with this text to be sent again, if there is one.
     Opened(Phase, Vec<u8, A>),
