@@ -114,3 +114,14 @@ fn no_crash_leaves_what_was_not_written(rt: HostRuntime) {
     assert!(&rt; matches!(&told[1], Answer::Crashed));
     assert!(&rt; matches!(&told[2], Answer::Opened(Phase::Idle, _)));
 }
+
+/// An open client has a ledger of 1,080 settled bytes, which no crash takes away: it stays open.
+#[test]
+fn no_crash_of_an_open_client_leaves_less(rt: HostRuntime) {
+    let alloc = rt.alloc();
+    let acts = vec![in alloc; Act::Open, Act::Crash(none(&rt), none(&rt)), declaration(&rt)]
+        .expect(&rt, "memory");
+    let told = answers(&rt, acts, None, None);
+    assert!(&rt; matches!(&told[1], Answer::NotTaken));
+    assert!(&rt; matches!(&told[2], Answer::Begun(Ok(_))));
+}

@@ -30,8 +30,8 @@ pub enum Act<A: Allocator> {
     Look(Principal, INumber),
     /// It takes the block that the look asks for, or its absence.
     Give(Option<Vec<u8, A>>),
-    /// A crash leaves these bytes on the device of the ledger and these on that of the journal, where one may. It closes an
-    /// open client.
+    /// A crash leaves these bytes on the device of the ledger and these on that of the journal, where one may. It closes
+    /// an open client.
     Crash(Vec<u8, A>, Vec<u8, A>),
 }
 
@@ -64,8 +64,8 @@ pub struct Accepted<A: Allocator> {
 /// What came of a step.
 #[derive(Drop)]
 pub enum Answer<A: Allocator> {
-    /// The client is as before: it wasn't in the phase for such a step, or what was handed in couldn't be. It is never the
-    /// answer to a step that can be taken.
+    /// The client is as before: it wasn't in the phase for such a step, or what was handed in couldn't be. It is never
+    /// the answer to a step that can be taken.
     NotTaken,
     /// The client is open, in this phase, with this text to be sent again, if there is one.
     Opened(Phase, Vec<u8, A>),
