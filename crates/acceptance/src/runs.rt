@@ -1,6 +1,6 @@
 //! What clients answer that stand alone, over a server, a store and devices in memory, `run` answers to the same steps,
-//! one answer for each. What they answer is told by hand where it matters: the files that are read, the broken rule, the
-//! phases, and which calls fail.
+//! one answer for each. What they answer is told by hand where it matters: the files that are read, the broken rule,
+//! the phases, and which calls fail.
 
 use crate::certificates::{i_number, principal};
 use crate::changes::{Planned, lay, nothing, plan_change};
@@ -421,8 +421,8 @@ fn takes(rt: &impl Host, record: &mut Record, player: &mut Player, digest: Diges
     step
 }
 
-/// The client is handed a reply, and each block that it asks for: the rule that is broken, or none, where it is accepted
-/// and the new texts are stored.
+/// The client is handed a reply, and each block that it asks for: the rule that is broken, or none, where it is
+/// accepted and the new texts are stored.
 fn judges(
     rt: &impl Host,
     record: &mut Record,

@@ -12,3 +12,4 @@ mod Agreed
 mod Anywhere
 mod Same
 mod OneMore
+mod NotTaken
