@@ -13,3 +13,4 @@ mod Anywhere
 mod Same
 mod OneMore
 mod NotTaken
+mod Telling
