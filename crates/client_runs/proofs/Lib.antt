@@ -14,3 +14,4 @@ mod Same
 mod OneMore
 mod NotTaken
 mod Telling
+mod Answered
