@@ -30,8 +30,8 @@ pub enum Act<A: Allocator> {
     Look(Principal, INumber),
     /// It takes the block that the look asks for, or its absence.
     Give(Option<Vec<u8, A>>),
-    /// A crash leaves these bytes on the device of the ledger and these on that of the journal, where one may. It closes
-    /// an open client.
+    /// A crash leaves these bytes on the device of the ledger and these on that of the journal, where one may. It
+    /// closes an open client.
     Crash(Vec<u8, A>, Vec<u8, A>),
 }
 
