@@ -49,6 +49,8 @@ mod replies;
 #[cfg(test)]
 mod restarts;
 #[cfg(test)]
+mod runs;
+#[cfg(test)]
 mod served;
 #[cfg(test)]
 mod server;

@@ -128,7 +128,7 @@ fn completes(
 }
 
 /// The changes that list users 1 and 2.
-fn listing_both(rt: &impl Host) -> Planned {
+pub(crate) fn listing_both(rt: &impl Host) -> Planned {
     let mut planned = nothing(rt);
     for number in [1u8, 2] {
         let user = User::new(number).expect(rt, "a user");

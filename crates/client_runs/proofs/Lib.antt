@@ -9,3 +9,9 @@ mod Moves
 mod Genuine
 mod Views
 mod Agreed
+mod Anywhere
+mod Same
+mod OneMore
+mod NotTaken
+mod Telling
+mod Answered
