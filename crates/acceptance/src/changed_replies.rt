@@ -1,12 +1,12 @@
 //! Replies that show what others signed, cut, or with one bit changed: before the honest one is accepted, and after that,
 //! when the client doesn't verify again what it verified.
 
-use crate::replies::declare;
+use crate::replies::{MemoryClient, declare};
 use crate::server::{Server, answers_update_so};
 use crate::texts::{Host, joined};
 use crate::two_users::{Scene, Users, accepts, both_are_listed, breaks, judged};
 use client_tree::Held;
-use client_verify::{Client, Rule};
+use client_verify::Rule;
 use std::alloc::Global;
 use wire::Status;
 
@@ -68,7 +68,7 @@ fn flipped(rt: &impl Host, text: &[u8], place: usize) -> Vec<u8> {
 fn refuses_changes(
     rt: &impl Host,
     store: &mut Held<Global>,
-    client: &mut Client<Global>,
+    client: &mut MemoryClient,
     honest: &[u8],
     changes: &[Change],
 ) {
@@ -87,7 +87,7 @@ fn refuses_changes(
 fn judges(
     rt: &impl Host,
     store: &mut Held<Global>,
-    client: &mut Client<Global>,
+    client: &mut MemoryClient,
     server: &mut Server,
     (size, changes): (usize, &[Change]),
 ) {
@@ -101,7 +101,7 @@ fn judges(
 }
 
 /// The client declares an operation, which is placed and stays pending.
-fn waits(rt: &impl Host, server: &mut Server, client: &mut Client<Global>) {
+fn waits(rt: &impl Host, server: &mut Server, client: &mut MemoryClient) {
     let update = declare(rt, client);
     let _reply = answers_update_so(rt, server, &update, Status::Ok);
 }

@@ -172,7 +172,7 @@ pub(crate) fn both_are_listed(rt: &impl Host) -> Scene {
 
 impl Scene {
     /// User 1 makes an operation without changes: its structure.
-    fn first_operates(&mut self, rt: &impl Host) -> Vec<u8> {
+    pub(crate) fn first_operates(&mut self, rt: &impl Host) -> Vec<u8> {
         let Users { first, store, .. } = &mut self.users;
         let update = declare(rt, first);
         completes(rt, store, &mut self.server, first, &update)
