@@ -2,17 +2,18 @@
 //! again, is as its journal tells and goes on. Under which leaf it signs then is counted by hand: never under one whose
 //! mark the crash left.
 
+use crate::here::Here;
 use crate::operations::FIRST_HANDLE;
-use crate::replies::{
-    Kept, MemoryClient, begun_without_changes, breaks, declare, first_reply, nothing_yet, plan_of,
-    sign,
+use crate::restarts::reopened;
+use client_aids::clients::{
+    Kept, MemoryClient, begun_without_changes, breaks, declare, nothing_yet, sign,
 };
-use crate::restarts::{has_declared, has_signed, reopened};
-use crate::texts::{Host, certificate, check, joined, key_of};
-use client_verify::{ClientError, Parts, Phase};
-use leaf_ledger::MemoryDevice;
+use client_aids::crashes::{Left, after_crash, has_declared, has_failed, has_signed};
+use client_verify::Phase;
 use lms_sign::PrivateKey;
 use std::alloc::Global;
+use test_aids::texts::{certificate, first_reply, joined, key_of, plan_of};
+use test_aids::{Host, check};
 
 /// Whose call fails.
 #[derive(Clone, Copy)]
@@ -21,15 +22,6 @@ enum Failing {
     Ledger,
     /// The journal's.
     Journal,
-}
-
-/// What a crash leaves of a device.
-#[derive(Clone, Copy)]
-pub(crate) enum Left {
-    /// What was there at the last sync.
-    Synced,
-    /// All that was written.
-    Written,
 }
 
 /// What comes of a call that failed, after a crash.
@@ -132,44 +124,6 @@ fn failing_at(
     kept
 }
 
-/// The device after a crash that left this.
-fn crashed(rt: &impl Host, device: MemoryDevice<Global>, left: Left) -> MemoryDevice<Global> {
-    let left = match left {
-        Left::Synced => device.settled(),
-        Left::Written => device.text(),
-    };
-    let left = Vec::from_slice(rt.alloc(), left).expect(rt, "memory");
-    match device.crash(left) {
-        Ok(device) => device,
-        Err((error, _)) => panic!(rt; "{error}"),
-    }
-}
-
-/// What is kept of a client after a crash that left this.
-pub(crate) fn after_crash(rt: &impl Host, client: MemoryClient, left: Left) -> Kept {
-    let Parts {
-        key,
-        ledger,
-        journal,
-    } = client.close();
-    Parts {
-        key,
-        ledger: crashed(rt, ledger, left),
-        journal: crashed(rt, journal, left),
-    }
-}
-
-/// A device failed in this call: nothing is handed out, and the client is to be opened again.
-pub(crate) fn has_failed(
-    rt: &impl Host,
-    client: &MemoryClient,
-    answer: &Result<Vec<u8>, ClientError>,
-) {
-    let failed = matches!(answer, Err(ClientError::Device));
-    check(rt, failed, "a device failed");
-    check(rt, client.phase() == Phase::Failed, "to be opened again");
-}
-
 /// Declares the first operation where a device fails, and crashes.
 fn fails_to_begin(
     rt: &impl Host,
@@ -226,6 +180,7 @@ fn begins_after_each(rt: &impl Host, faults: &[Fault]) {
 
 #[test]
 fn each_call_of_begin_fails(rt: HostRuntime) {
+    let rt = (rt, Here);
     begins_after_each(&rt, &OF_LEDGER);
     begins_after_each(&rt, &OF_JOURNAL);
 }
@@ -296,6 +251,7 @@ fn signs_after_each(rt: &impl Host, faults: &[Fault]) {
 
 #[test]
 fn each_call_of_sign_fails(rt: HostRuntime) {
+    let rt = (rt, Here);
     signs_after_each(&rt, &OF_LEDGER);
     signs_after_each(&rt, &OF_JOURNAL);
 }

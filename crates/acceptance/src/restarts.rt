@@ -1,16 +1,19 @@
 //! User 0's client, closed and opened again in each phase over devices in memory: it goes on with what its journal tells.
 //! How many bytes the journal has is counted by hand from the formats.
 
+use crate::here::Here;
 use crate::refusals::changed;
-use crate::replies::{
-    Kept, MemoryClient, begun_without_changes, breaks, declare, device_of, end, first_reply,
-    nothing_yet, open_over, reply_to, sign, superuser,
+use client_aids::clients::{
+    Kept, MemoryClient, begun_without_changes, breaks, declare, device_of, end, open_over, sign,
+    superuser,
 };
-use crate::texts::{Host, check, check_text, joined, key_of, listed, shown};
+use client_aids::crashes::{has_declared, has_signed};
 use client_verify::{Client, ClientError, Parts, Phase, Rule};
 use layout::User;
 use lms_sign::PrivateKey;
 use std::alloc::Global;
+use test_aids::texts::{first_reply, joined, key_of, listed, reply_to, shown};
+use test_aids::{Host, check};
 use wire::Status;
 
 /// The client of user 0 over what was kept.
@@ -27,22 +30,9 @@ fn restarted(rt: &impl Host, client: MemoryClient, size: usize) -> MemoryClient 
     reopened(rt, kept)
 }
 
-/// Its last operation has this number, and its certificate is this one.
-pub(crate) fn has_declared(rt: &impl Host, client: &MemoryClient, number: u32, update: &[u8]) {
-    check(rt, client.number() == number, "the number");
-    assert!(rt; client.phase() == Phase::Declared);
-    check_text(rt, client.declared(), update);
-}
-
-/// Its last operation has this number, and its structure is this one.
-pub(crate) fn has_signed(rt: &impl Host, client: &MemoryClient, number: u32, commit: &[u8]) {
-    check(rt, client.number() == number, "the number");
-    assert!(rt; client.phase() == Phase::Signed);
-    check_text(rt, client.signed(), commit);
-}
-
 #[test]
 fn restarts_in_each_phase(rt: HostRuntime) {
+    let rt = (rt, Here);
     let mut client = restarted(&rt, superuser(&rt), 1);
     check(&rt, client.number() == 0, "nothing was declared");
     let update = declare(&rt, &mut client);
@@ -69,6 +59,7 @@ fn restarts_in_each_phase(rt: HostRuntime) {
 /// A reply in which the own operation isn't pending is refused after a restart as before, and the true one accepted.
 #[test]
 fn judges_after_a_restart(rt: HostRuntime) {
+    let rt = (rt, Here);
     let mut client = superuser(&rt);
     let update = declare(&rt, &mut client);
     breaks(&rt, &mut client, b"SRL1\0\0", Some(Rule::OwnPending));
@@ -102,6 +93,7 @@ fn breaks_second(
 /// A server that shows no structure of the client's, or another than its last one, is found out after a restart, too.
 #[test]
 fn knows_its_last_structure_after_a_restart(rt: HostRuntime) {
+    let rt = (rt, Here);
     let mut client = superuser(&rt);
     let last = completes_first(&rt, &mut client);
     let update = declare(&rt, &mut client);
@@ -137,6 +129,7 @@ fn has_no_leaf_to_sign(rt: &impl Host, client: &mut MemoryClient, update: &[u8])
 
 #[test]
 fn one_leaf_declares_and_none_signs(rt: HostRuntime) {
+    let rt = (rt, Here);
     let mut client = reopened(&rt, with_mark(&rt, 0));
     let update = declare(&rt, &mut client);
     has_no_leaf_to_sign(&rt, &mut client, &update);
@@ -147,6 +140,7 @@ fn one_leaf_declares_and_none_signs(rt: HostRuntime) {
 
 #[test]
 fn no_leaf_declares(rt: HostRuntime) {
+    let rt = (rt, Here);
     let mut client = reopened(&rt, with_mark(&rt, 1));
     let begun = begun_without_changes(&rt, &mut client);
     let refused = matches!(begun, Err(ClientError::NoLeaf));
@@ -179,6 +173,7 @@ fn after_a_certificate(rt: &impl Host) -> Kept {
 
 #[test]
 fn no_user_opens_anothers_journal(rt: HostRuntime) {
+    let rt = (rt, Here);
     let user = User::new(1).expect(&rt, "a user");
     let (error, kept) = refused(&rt, user, after_a_certificate(&rt));
     check(&rt, matches!(error, ClientError::Damaged), "damaged");
@@ -204,6 +199,7 @@ fn with_key(kept: Kept, key: PrivateKey<Global>) -> Kept {
 
 #[test]
 fn no_key_opens_anothers_ledger(rt: HostRuntime) {
+    let rt = (rt, Here);
     let kept = with_key(after_a_certificate(&rt), key_of(&rt, 1));
     let (error, kept) = refused(&rt, User::superuser(), kept);
     check(&rt, matches!(error, ClientError::Foreign), "foreign");
