@@ -1,5 +1,5 @@
-//! Tests of the whole, over the public surface of the crates: operations of clients and a server, what they store, and
-//! restarts. Those of texts and of rules on lists stand in `rule_tests`, those of scripts in `script_tests`.
+//! Tests of the whole, over the public surface of the crates: operations of clients and a server, and what they store. Those
+//! of texts and of rules on lists stand in `rule_tests`, those of scripts in `script_tests`.
 #![tactic(auto)]
 
 #[cfg(test)]
@@ -7,13 +7,7 @@ mod blocks;
 #[cfg(test)]
 mod certificates;
 #[cfg(test)]
-mod changed_replies;
-#[cfg(test)]
 mod changes;
-#[cfg(test)]
-mod crashed_users;
-#[cfg(test)]
-mod device_faults;
 #[cfg(test)]
 mod directories;
 #[cfg(test)]
@@ -45,8 +39,6 @@ mod refusals;
 #[cfg(test)]
 mod replies;
 #[cfg(test)]
-mod restarts;
-#[cfg(test)]
 mod served;
 #[cfg(test)]
 mod server;
@@ -58,7 +50,5 @@ mod spots;
 mod tables;
 #[cfg(test)]
 mod texts;
-#[cfg(test)]
-mod two_users;
 #[cfg(test)]
 mod world;
