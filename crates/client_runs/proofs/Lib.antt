@@ -8,4 +8,10 @@ mod Judging
 mod Moves
 mod Genuine
 mod Views
+mod Among
+mod OwnKeys
+mod FirstChunk
+mod Stored
+mod KnownViews
+mod TrueTables
 mod Agreed
