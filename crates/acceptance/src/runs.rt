@@ -423,12 +423,7 @@ fn takes(rt: &impl Host, record: &mut Record, player: &mut Player, digest: Diges
 
 /// The client is handed a reply, and each block that it asks for: the rule that is broken, or none, where it is
 /// accepted and the new texts are stored.
-fn judges(
-    rt: &impl Host,
-    record: &mut Record,
-    player: &mut Player,
-    reply: &[u8],
-) -> Option<Rule> {
+fn judges(rt: &impl Host, record: &mut Record, player: &mut Player, reply: &[u8]) -> Option<Rule> {
     let mut step = hears(rt, record, player, reply);
     for _block in 0..BOUND {
         match step {

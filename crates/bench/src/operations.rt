@@ -421,7 +421,9 @@ fn print_head(rt: &impl Host, setting: Setting, rest: f64) -> Result<()> {
     let verified = setting.verified();
     match setting {
         Setting::AllNew => {
-            println!(rt; "{verified} structures not seen before: {rest:.0} % neither signs nor verifies")?;
+            println!(rt;
+                "{verified} structures not seen before: {rest:.0} % neither signs nor verifies"
+            )?;
         }
         Setting::Beside(_) => {
             println!(rt; "{verified} pending: {rest:.0} % neither signs nor verifies")?;

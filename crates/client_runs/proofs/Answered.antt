@@ -53,17 +53,39 @@ module _ {A : Type 0} (s new : State) (changes : List (Change Digest)) (laid : L
       → HasBegun s changes laid (on_ok vec_items answer) new
   begun (Ok x) i few l d t f any tr nl nn r fl fd only e =
       record {
-        idle = i; few = few; were_laid = l; declared = d; text = t; fits = f; any_moment = any; tried = tr;
+        idle = i;
+        few = few;
+        were_laid = l;
+        declared = d;
+        text = t;
+        fits = f;
+        any_moment = any;
+        tried = tr;
         no_leaf = told_errs (Ok x) error.NoLeaf (IsFull s.devices.ledger.file.now.text) nl;
         no_number = told_errs (Ok x) error.NoNumber ((s.number ≡ 4294967295) × (IsFull s.devices.ledger.file.now.text → ⊥)) nn;
-        rose = λ h. r (told_err (Ok x) error.Device h); fails = λ h. fl (told_err (Ok x) error.Device h); fits_device = λ h. fd (told_err (Ok x) error.Device h); only = only; err = e;
+        rose = λ h. r (told_err (Ok x) error.Device h);
+        fails = λ h. fl (told_err (Ok x) error.Device h);
+        fits_device = λ h. fd (told_err (Ok x) error.Device h);
+        only = only;
+        err = e;
       }
   begun (Err x) i few l d t f any tr nl nn r fl fd only e =
       record {
-        idle = i; few = few; were_laid = l; declared = d; text = t; fits = f; any_moment = any; tried = tr;
+        idle = i;
+        few = few;
+        were_laid = l;
+        declared = d;
+        text = t;
+        fits = f;
+        any_moment = any;
+        tried = tr;
         no_leaf = told_errs (Err x) error.NoLeaf (IsFull s.devices.ledger.file.now.text) nl;
         no_number = told_errs (Err x) error.NoNumber ((s.number ≡ 4294967295) × (IsFull s.devices.ledger.file.now.text → ⊥)) nn;
-        rose = λ h. r (told_err (Err x) error.Device h); fails = λ h. fl (told_err (Err x) error.Device h); fits_device = λ h. fd (told_err (Err x) error.Device h); only = only; err = e;
+        rose = λ h. r (told_err (Err x) error.Device h);
+        fails = λ h. fl (told_err (Err x) error.Device h);
+        fits_device = λ h. fd (told_err (Err x) error.Device h);
+        only = only;
+        err = e;
       }
 
 module _ {A : Type 0} (s new : State) where
@@ -91,13 +113,31 @@ module _ {A : Type 0} (s new : State) where
       → HasSigned s (on_ok vec_items answer) new
   signed (Ok x) ready d t f any tr nl r fl fd only e =
       record {
-        ready = ready; signed = d; text = t; fits = f; any_moment = any; tried = tr_on (Ok x) s.accepted tr;
+        ready = ready;
+        signed = d;
+        text = t;
+        fits = f;
+        any_moment = any;
+        tried = tr_on (Ok x) s.accepted tr;
         no_leaf = told_errs (Ok x) error.NoLeaf (IsFull s.devices.ledger.file.now.text) nl;
-        rose = λ h. r (told_err (Ok x) error.Device h); fails = λ h. fl (told_err (Ok x) error.Device h); fits_device = λ h. fd (told_err (Ok x) error.Device h); only = only; err = e;
+        rose = λ h. r (told_err (Ok x) error.Device h);
+        fails = λ h. fl (told_err (Ok x) error.Device h);
+        fits_device = λ h. fd (told_err (Ok x) error.Device h);
+        only = only;
+        err = e;
       }
   signed (Err x) ready d t f any tr nl r fl fd only e =
       record {
-        ready = ready; signed = d; text = t; fits = f; any_moment = any; tried = tr_on (Err x) s.accepted tr;
+        ready = ready;
+        signed = d;
+        text = t;
+        fits = f;
+        any_moment = any;
+        tried = tr_on (Err x) s.accepted tr;
         no_leaf = told_errs (Err x) error.NoLeaf (IsFull s.devices.ledger.file.now.text) nl;
-        rose = λ h. r (told_err (Err x) error.Device h); fails = λ h. fl (told_err (Err x) error.Device h); fits_device = λ h. fd (told_err (Err x) error.Device h); only = only; err = e;
+        rose = λ h. r (told_err (Err x) error.Device h);
+        fails = λ h. fl (told_err (Err x) error.Device h);
+        fits_device = λ h. fd (told_err (Err x) error.Device h);
+        only = only;
+        err = e;
       }

@@ -28,9 +28,9 @@ module _ {A : Type 0} (t : WorldStep A) (before after : Client) where
   abbrev Kept : Answer A → Type 0
   Kept a =
       ((after ≡ before) × CantBeTaken before t.act
-        × ((steps : List (WorldStep A)) (answers : List (Answer A)) (events : List Event) → CantBeTaken (client_of t.user events) t.act → Keep steps answers events → Keep (t ∷ steps) (a ∷ answers) events))
+      × ((steps : List (WorldStep A)) (answers : List (Answer A)) (events : List Event) → CantBeTaken (client_of t.user events) t.act → Keep steps answers events → Keep (t ∷ steps) (a ∷ answers) events))
       ⊎ (IsTaken o before t.act a after
-        × ((steps : List (WorldStep A)) (answers : List (Answer A)) (e : Event) (events : List Event) → IsEventOf t a e → Keep steps answers events → Keep (t ∷ steps) (a ∷ answers) (e ∷ events)))
+      × ((steps : List (WorldStep A)) (answers : List (Answer A)) (e : Event) (events : List Event) → IsEventOf t a e → Keep steps answers events → Keep (t ∷ steps) (a ∷ answers) (e ∷ events)))
 
   kept : (a : Answer A) → ComesOf o before t.act a after → Kept a
   kept answer.NotTaken h = inl (h.0, h.1, λ steps answers events cant k. (cant, k))

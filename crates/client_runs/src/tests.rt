@@ -48,8 +48,20 @@ fn declaration(rt: &impl Host) -> Act<Global> {
 #[test]
 fn steps_out_of_phase_are_not_taken(rt: HostRuntime) {
     let alloc = rt.alloc();
-    let acts = vec![in alloc; Act::Close, declaration(&rt), Act::Open, Act::Open, Act::Reply(none(&rt)), Act::Block(None), Act::Sign, Act::Committed(Status::Ok), Act::Give(None), Act::Close, Act::Sign]
-        .expect(&rt, "memory");
+    let acts = vec![in alloc;
+        Act::Close,
+        declaration(&rt),
+        Act::Open,
+        Act::Open,
+        Act::Reply(none(&rt)),
+        Act::Block(None),
+        Act::Sign,
+        Act::Committed(Status::Ok),
+        Act::Give(None),
+        Act::Close,
+        Act::Sign,
+    ]
+    .expect(&rt, "memory");
     for (place, answer) in answers(&rt, acts, None, None).into_iter().enumerate() {
         let is_right = match answer {
             Answer::Opened(phase, text) => place == 2 && phase == Phase::Idle && text.is_empty(),
@@ -64,8 +76,14 @@ fn steps_out_of_phase_are_not_taken(rt: HostRuntime) {
 #[test]
 fn what_is_declared_is_told_again(rt: HostRuntime) {
     let alloc = rt.alloc();
-    let acts = vec![in alloc; Act::Open, declaration(&rt), declaration(&rt), Act::Close, Act::Open]
-        .expect(&rt, "memory");
+    let acts = vec![in alloc;
+        Act::Open,
+        declaration(&rt),
+        declaration(&rt),
+        Act::Close,
+        Act::Open,
+    ]
+    .expect(&rt, "memory");
     let told = answers(&rt, acts, None, None);
     assert!(&rt; matches!(&told[2], Answer::NotTaken));
     match (&told[1], &told[4]) {
@@ -79,8 +97,9 @@ fn what_is_declared_is_told_again(rt: HostRuntime) {
 /// Declares while one call fails, and opens again: whether the declaration failed. It is told again if it didn't.
 fn fails(rt: &impl Host, ledger_fails: Option<u64>, journal_fails: Option<u64>) -> bool {
     let alloc = rt.alloc();
-    let acts = vec![in alloc; Act::Open, declaration(rt), Act::Close, Act::Open]
-        .expect(rt, "memory");
+    let acts = vec![in alloc; Act::Open, declaration(rt), Act::Close, Act::Open].expect(
+        rt, "memory",
+    );
     let told = answers(rt, acts, ledger_fails, journal_fails);
     match (&told[1], &told[3]) {
         (Answer::Begun(Ok(_)), Answer::Opened(phase, _)) => {
@@ -96,10 +115,16 @@ fn fails(rt: &impl Host, ledger_fails: Option<u64>, journal_fails: Option<u64>) 
 #[test]
 fn each_call_fails_in_turn(rt: HostRuntime) {
     for calls in 0..4 {
-        assert!(&rt; fails(&rt, Some(calls), None) == (calls < 2), "the ledger's at {calls}");
+        assert!(&rt;
+            fails(&rt, Some(calls), None) == (calls < 2),
+            "the ledger's at {calls}"
+        );
     }
     for calls in 0..8 {
-        assert!(&rt; fails(&rt, None, Some(calls)) == (calls < 6), "the journal's at {calls}");
+        assert!(&rt;
+            fails(&rt, None, Some(calls)) == (calls < 6),
+            "the journal's at {calls}"
+        );
     }
 }
 
@@ -107,8 +132,12 @@ fn each_call_fails_in_turn(rt: HostRuntime) {
 fn no_crash_leaves_what_was_not_written(rt: HostRuntime) {
     let alloc = rt.alloc();
     let byte = Vec::from_slice(alloc, &[1]).expect(&rt, "memory");
-    let acts = vec![in alloc; Act::Crash(none(&rt), byte), Act::Crash(none(&rt), none(&rt)), Act::Open]
-        .expect(&rt, "memory");
+    let acts = vec![in alloc;
+        Act::Crash(none(&rt), byte),
+        Act::Crash(none(&rt), none(&rt)),
+        Act::Open,
+    ]
+    .expect(&rt, "memory");
     let told = answers(&rt, acts, None, None);
     assert!(&rt; matches!(&told[0], Answer::NotTaken));
     assert!(&rt; matches!(&told[1], Answer::Crashed));
@@ -119,8 +148,12 @@ fn no_crash_leaves_what_was_not_written(rt: HostRuntime) {
 #[test]
 fn no_crash_of_an_open_client_leaves_less(rt: HostRuntime) {
     let alloc = rt.alloc();
-    let acts = vec![in alloc; Act::Open, Act::Crash(none(&rt), none(&rt)), declaration(&rt)]
-        .expect(&rt, "memory");
+    let acts = vec![in alloc;
+        Act::Open,
+        Act::Crash(none(&rt), none(&rt)),
+        declaration(&rt),
+    ]
+    .expect(&rt, "memory");
     let told = answers(&rt, acts, None, None);
     assert!(&rt; matches!(&told[1], Answer::NotTaken));
     assert!(&rt; matches!(&told[2], Answer::Begun(Ok(_))));

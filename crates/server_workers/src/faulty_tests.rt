@@ -127,7 +127,10 @@ fn ends_by_a_fault<R: AllocGlobal + Abort + Wait>(rt: &R, case: &Case) {
     let (ended, answered, log) = conversation.expect(rt, "memory");
     assert_eq!(rt; (ended, connection.faults()), (Ended::Fault, 1));
     assert_eq!(rt; (answered, connection.reads), (case.answered, case.reads));
-    assert_eq!(rt; (connection.writes, connection.size), (case.writes, case.size));
+    assert_eq!(rt;
+        (connection.writes, connection.size),
+        (case.writes, case.size)
+    );
     assert!(rt; log.is_empty(), "nothing was logged");
 }
 
