@@ -4,9 +4,9 @@ use Rattle.std.specs.Prelude.{◌⊎◌, ◌&&◌, not, IfErr, IsErr, IsErrAnd, 
 use Rattle.std.specs.Option.{option_map}
 use Rattle.std.proofs.lemmas.Bool.{and_parts, cases_lt}
 use Rattle.std.proofs.lemmas.Option.{slice_get_read, slice_get_within}
-use Rattle.update_cert.specs.Change.{Change}
+use Rattle.update_cert.specs.Change.{Change, Remove}
 use Rattle.layout.specs.Types.{Digest}
-use Rattle.update_cert.specs.World.{Actor, is_table, permitted}
+use Rattle.update_cert.specs.World.{Actor, is_root, is_table, permitted}
 use Rattle.update_cert.specs.Reading.{Reading}
 use Rattle.directory.specs.Directory.{Entry}
 use Rattle.itable.specs.Inode.{Inode}
@@ -119,6 +119,31 @@ file_has blocks d n held of_file = λ digest s (k, is, of).
 pub has_for : {X : Type 0} (blocks : Blocks) (part : Part) (c : Change Digest) (entries : Bool) (r : Result X ApplyError) → needs_entries c.action ≡ entries → OnOk r (HasAt blocks part c.i_number entries) → OnOk r (HasFor blocks part c)
 has_for blocks part c entries (Ok t) are has = λ needs digest s lies. has digest s (subst (λ (b : Bool). LiesAt blocks part c.i_number b digest s) are lies)
 has_for blocks part c entries (Err e) are has = tt
+
+other_than : (b : Bool) → not b ≡ true → b ≡ false
+other_than true is = absurd cc
+other_than false is = refl
+
+-- a removal asks for nothing at the place of the root directory
+pub has_removed : {X : Type 0} (blocks : Blocks) (part : Part) (c : Change Digest) (r : Result X ApplyError) → c.action ≡ Remove → (is_root c.principal c.i_number ≡ false → OnOk r (HasAt blocks part c.i_number false)) → OnOk r (HasFor blocks part c)
+has_removed blocks part c (Ok t) is has = λ needs digest s lies.
+    let below : is_root c.principal c.i_number ≡ false = other_than (is_root c.principal c.i_number) (sym (ap (needs_inode c.principal c.i_number) is) ∙ needs) in
+    has below digest s (subst (λ (b : Bool). LiesAt blocks part c.i_number b digest s) (ap needs_entries is) lies)
+has_removed blocks part c (Err e) is has = tt
+
+-- nothing is asked for where the change isn't permitted, or is at the place of the table of principals
+pub not_permitted_asks : (actor : Actor) (c : Change Digest) → permitted actor c ≡ false → asks actor c ≡ true → ⊥
+not_permitted_asks actor c not_so asked =
+    let may = (and_parts (permitted actor c) (not (is_table c.principal c.i_number) && needs_inode c.principal c.i_number c.action) asked).0 in
+    let clash : false ≡ true = sym not_so ∙ may in
+    absurd cc
+
+pub table_asks : (actor : Actor) (c : Change Digest) → is_table c.principal c.i_number ≡ true → asks actor c ≡ true → ⊥
+table_asks actor c place asked =
+    let parts = and_parts (permitted actor c) (not (is_table c.principal c.i_number) && needs_inode c.principal c.i_number c.action) asked in
+    let here = other_than (is_table c.principal c.i_number) (and_parts (not (is_table c.principal c.i_number)) (needs_inode c.principal c.i_number c.action) parts.1).0 in
+    let clash : true ≡ false = sym place ∙ here in
+    absurd cc
 
 pub has_by : {X : Type 0} (blocks : Blocks) (actor : Actor) (part : Part) (c : Change Digest) (r : Result X ApplyError) → OnOk r (HasFor blocks part c) → OnOk r (HasBy blocks actor part c)
 has_by blocks actor part c (Ok t) has = λ asked.
