@@ -7,7 +7,7 @@ use Rattle.update_cert.specs.Reading.{after_read}
 use Rattle.update_cert.specs.Asked.{HasAskedFor, Lacks, LacksAskedFor}
 use Rattle.pending_list.specs.Reply.{PendingItem}
 use Rattle.client_tree.specs.View.{actor_of, after_items, comes_after}
-use Rattle.client_tree.specs.Opened.{IsPartAfter, IsReached}
+use Rattle.client_tree.specs.Opened.{HasAskedByItems, IsPartAfter, IsReached}
 use Rattle.client_tree.proofs.OpenedLaws.{asked_next, filter_next, handed_on, in_turn, no_items, none_asked, of_item, tree_after}
 use Rattle.client_tree.proofs.view.View.after_others.Goals.{then-comes_after+in_ok-applied, else-comes_after}
 use Rattle.client_tree.proofs.view.View.after_others.Goals as goal
@@ -70,3 +70,10 @@ returns-clause-stands g c = λ reads tree agrees is.
     let past = rw c.others-item-items.ensures at c.loop-item-test.false in
     let all : take c.loop-item.item-index x.others ≡ x.others = take_all c.loop-item.item-index x.others past in
     subst (λ (xs : List PendingItem). IsPartOf reads c.loop-item.after (after_items reads x.table (filter (comes_after x c.args.principal) xs) tree)) all (c.loop-item.invariant.stands reads tree agrees is)
+
+pub returns-clause-taken : goal.returns-clause-taken
+returns-clause-taken g c =
+    let x = c.args.self.now in
+    let past = rw c.others-item-items.ensures at c.loop-item-test.false in
+    let all : take c.loop-item.item-index x.others ≡ x.others = take_all c.loop-item.item-index x.others past in
+    subst (λ (xs : List PendingItem). HasAskedByItems (g.B.Blocks.held c.args.blocks.now) x.table (filter (comes_after x c.args.principal) xs) c.args.part) all c.loop-item.invariant.taken
