@@ -15,3 +15,5 @@ mod OneMore
 mod NotTaken
 mod Telling
 mod Answered
+mod Taking
+mod Ended

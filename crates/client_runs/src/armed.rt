@@ -21,9 +21,9 @@ pub(crate) struct ArmedDevice<A: Allocator + Copy> {
 }
 
 impl<A: Allocator + Copy> Model for ArmedDevice<A> {
-    ghost use Rattle.client_runs.specs.Steps.{Device};
+    ghost use Rattle.client_runs.specs.Steps.{Device as DeviceState};
 
-    ghost Value = { Device };
+    ghost Value = { DeviceState };
 
     ghost view = { λ d. record { history = d.device.history; faults = d.device.faults } };
 }

@@ -217,7 +217,8 @@ fn call<A: Allocator + Copy>(
             None => Ok(Answer::NotTaken),
         },
         Act::Open => Ok(Answer::NotTaken),
-        Act::Close | Act::Crash(_, _) => unreachable!(),
+        Act::Close => unreachable!(),
+        Act::Crash(_, _) => unreachable!(),
     }
 }
 
