@@ -8,6 +8,12 @@ mod Judging
 mod Moves
 mod Genuine
 mod Views
+mod Among
+mod OwnKeys
+mod FirstChunk
+mod Stored
+mod KnownViews
+mod TrueTables
 mod Agreed
 mod Anywhere
 mod Same
