@@ -1,5 +1,5 @@
 -- Blocks that are among texts no two of which have one digest: what they tell is told by all of these texts.
-use Rattle.std.proofs.Common.{◌≡◌, ◌⊎◌, ℕ, Bool, true, false, ◌==◌, List, [], ◌∷◌, ◌++◌, length, find, Option, Some, None, refl, sym, ap, ◌∙◌, subst, inl, inr, if◌then◌else◌}
+use Rattle.std.proofs.Common.{◌≡◌, Bool, true, false, ◌==◌, List, [], ◌∷◌, ◌++◌, find, Option, Some, None, refl, sym, ap, ◌∙◌, subst, inl, inr, if◌then◌else◌}
 use Rattle.std.specs.Option.{option_and_then, option_map}
 use Rattle.std.specs.Result.{result_ok}
 use Rattle.std.specs.Str.{bytes_eq}
@@ -14,10 +14,10 @@ use Rattle.itable.specs.Chunk.{Chunk, chunk, chunk_number}
 use Rattle.itable.specs.ITable.{digest_in}
 use Rattle.itable.specs.Root.{Root, root, chunk_at}
 use Rattle.itable.specs.declared.root.ListedChunk.{ListedChunk}
-use Rattle.directory.specs.Directory.{Entry, directory}
+use Rattle.directory.specs.Directory.{directory}
 use Rattle.update_cert.specs.World.{Content, File, Directory, Principals}
 use Rattle.update_cert.specs.Reading.{Reading}
-use Rattle.update_cert.specs.Blocks.{Agrees, Blocks, IsHeld, IsOf, chunk_held, directory_over, file_over, if_of_size, inode_at, inode_told, joined, of_size, root_at, told_by, told_under}
+use Rattle.update_cert.specs.Blocks.{Agrees, Blocks, IsHeld, IsOf, chunk_held, if_of_size, inode_at, inode_told, joined, of_size, root_at, told_by, told_under}
 use Rattle.client_tree.specs.Held.{Block, held, keeping, keeping_all}
 use Rattle.client_tree.proofs.HeldLaws.{with_new, with_none, with_old}
 use Rattle.agreement.proofs.Members.{In, in_contains}

@@ -1,9 +1,9 @@
 -- What the handle of user 0's part names that a client makes of a reply: the table of principals that the handle before
 -- names, or that of the reply's view.
 use Rattle.std.proofs.Common.{◌≡◌, ℕ, ◌≤◌, Bool, true, false, ◌==◌, ◌&&◌, not, List, [], ◌∷◌, ◌++◌, length, map, Option, Some, None, refl, sym, ap, ◌∙◌, subst, inl, inr, if◌then◌else◌, option_map, arith}
-use Rattle.std.specs.Prelude.{◌⊎◌, filter, filter_map, find}
+use Rattle.std.specs.Prelude.{◌⊎◌, filter, filter_map}
 use Rattle.std.specs.Int.{w8, w16}
-use Rattle.std.specs.List.{concat, cons_option, flat_map, list_any, range_with_len}
+use Rattle.std.specs.List.{concat, cons_option, flat_map, range_with_len}
 use Rattle.std.specs.Option.{option_and_then, option_map_or}
 use Rattle.std.specs.Ordering.{nat_cmp, is_eq}
 use Rattle.std.specs.Str.{bytes_eq}
@@ -20,7 +20,7 @@ use Rattle.itable.specs.declared.chunk.Pair.{Pair}
 use Rattle.itable.specs.declared.root.ListedChunk.{ListedChunk}
 use Rattle.itable.specs.File.{NoneCollide, blocks_of, inode_of}
 use Rattle.itable.specs.Inode.{Inode, inode}
-use Rattle.itable.specs.ITable.{ITable, IsPair, IsTable, digest_at, digest_in, handle_of, is_listed, listing, listings, new_texts, root_of, text_of_chunk}
+use Rattle.itable.specs.ITable.{ITable, IsPair, IsTable, digest_at, digest_in, is_listed, listing, listings, new_texts, root_of, text_of_chunk}
 use Rattle.itable.specs.ITable.{handle_of as table_handle}
 use Rattle.itable.specs.Root.{number_of, root}
 use Rattle.itable.specs.Chunk.{chunk}
@@ -32,7 +32,7 @@ use Rattle.itable.proofs.RootLaws.{lists}
 use Rattle.principals.specs.TableText.{table}
 use Rattle.update_cert.specs.World.{Content, File}
 use Rattle.update_cert.specs.Reading.{Reading}
-use Rattle.update_cert.specs.Blocks.{Agrees, Blocks, IsHeld, file_over, if_of_size, inode_at, inode_told, joined}
+use Rattle.update_cert.specs.Blocks.{Agrees, Blocks, file_over, if_of_size, inode_told, joined}
 use Rattle.update_cert.specs.Slots.{changed_texts, has_digest}
 use Rattle.update_cert.proofs.Contents.{file_is, inode_held}
 use Rattle.client_tree.specs.Genesis.{common_texts, first_handle, inode_digest, root_inode, first_table, first_table_texts, first_texts, principals, table_inode, table_text}
@@ -41,7 +41,7 @@ use Rattle.client_tree.specs.View.{View}
 use Rattle.client_tree.specs.View.{handle_of as handle_in_view}
 use Rattle.agreement.proofs.Members.{In, flat_map-in, in-kept, in-left, in-right}
 use Rattle.agreement.proofs.Tests.{any_in}
-use Rattle.client_runs.proofs.Among.{AreAmong, all_held, are_within, of_are_among, of_texts, told_within}
+use Rattle.client_runs.proofs.Among.{AreAmong, all_held, are_within, of_texts, told_within}
 use Rattle.client_runs.proofs.FirstChunk.{HasChunk, chunk_is, new_chunk, new_told, old_chunk, old_told, told_at}
 
 some_is : {A : Type 0} {x y : A} → Some x ≡ Some y → x ≡ y

@@ -1,7 +1,6 @@
 -- The tables by which views are judged list no keys but the users' own, where user 0's client added users with these.
-use Rattle.std.proofs.Common.{◌≡◌, ℕ, ◌≤◌, Bool, true, false, ◌==◌, ◌&&◌, ◌||◌, not, List, [], ◌∷◌, ◌++◌, find, length, map, filter, Option, Some, None, IfSome, refl, sym, ap, ◌∙◌, subst, inl, inr, if◌then◌else◌, arith}
-use Rattle.std.specs.Prelude.{◌⊎◌}
-use Rattle.std.specs.List.{All, Contains, flat_map, list_all}
+use Rattle.std.proofs.Common.{◌≡◌, Bool, true, false, ◌==◌, ◌&&◌, ◌||◌, not, List, [], ◌∷◌, ◌++◌, find, length, map, filter, Option, Some, None, IfSome, refl, sym, ap, ◌∙◌, subst, inl, inr, if◌then◌else◌, arith}
+use Rattle.std.specs.List.{All, flat_map, list_all}
 use Rattle.std.specs.Option.{option_map_or}
 use Rattle.std.proofs.lemmas.Bool.{and_parts, eq-eqb, eqb-true}
 use Rattle.std.proofs.lemmas.List.Elements.{All-weaker}
@@ -31,14 +30,14 @@ use Rattle.client_tree.specs.View.{actor_of, after_items, comes_after, handle_in
 use Rattle.client_releases.specs.Told.{cert_in}
 use Rattle.client_verify.specs.FirstBroken.{view_over}
 use Rattle.client_verify.proofs.GenesisLaws.{length-table_text}
-use Rattle.agreement.specs.Runs.{View, user_of}
+use Rattle.agreement.specs.Runs.{View}
 use Rattle.agreement.proofs.Formed.{cert_fits, same_spelled}
 use Rattle.agreement.proofs.Tests.{all_in}
-use Rattle.agreement.proofs.Members.{In, in-append, in-filter, in-left, in-map, in-right, contains_in, map-in, of_all, to_all}
+use Rattle.agreement.proofs.Members.{In, in-append, in-filter, in-left, in-map, in-right, contains_in, map-in, of_all}
 use Rattle.release_runs.specs.Released.{unsigned}
 use Rattle.release_runs.specs.Steps as low
 use Rattle.release_runs.proofs.Once.{came}
-use Rattle.release_runs.proofs.Stories.{IsStory, OfCert, OfStructure, Release, cert_of, message}
+use Rattle.release_runs.proofs.Stories.{OfCert, OfStructure, Release, cert_of, message}
 use Rattle.release_runs.proofs.Stories.{text as release_text}
 use Rattle.release_runs.proofs.Texts.{cert_read, no_cert}
 use Rattle.client_runs.specs.Runs.{Event, IsRun, Keys, client_of, owner, public_key}
@@ -54,7 +53,7 @@ use Rattle.client_runs.proofs.Lowering.{low_owner}
 use Rattle.client_runs.proofs.Moves.{holds_at}
 use Rattle.client_runs.proofs.OwnKeys.{AddsOwn, ListsOwn, after_changes, first_own, first_text, own_of, own_text}
 use Rattle.client_runs.proofs.Replies.{of_lists}
-use Rattle.client_runs.proofs.Stored.{Names, NamesSame, first_chunk, first_named}
+use Rattle.client_runs.proofs.Stored.{Names, first_chunk, first_named}
 use Rattle.client_runs.proofs.Views.{in_views, over_here}
 
 -- the view's table lists no key but the users' own
