@@ -14,10 +14,9 @@ use Rattle.itable.specs.Chunk.{Chunk, chunk, chunk_number}
 use Rattle.itable.specs.ITable.{digest_in}
 use Rattle.itable.specs.Root.{Root, root, chunk_at}
 use Rattle.itable.specs.declared.root.ListedChunk.{ListedChunk}
-use Rattle.directory.specs.Directory.{directory}
 use Rattle.update_cert.specs.World.{Content, File, Directory, Principals}
 use Rattle.update_cert.specs.Reading.{Reading}
-use Rattle.update_cert.specs.Blocks.{Agrees, Blocks, IsHeld, IsOf, chunk_held, if_of_size, inode_at, inode_told, joined, of_size, root_at, told_by, told_under}
+use Rattle.update_cert.specs.Blocks.{Agrees, Blocks, IsHeld, IsOf, chunk_held, if_of_size, inode_at, inode_told, joined, root_at, told_by, told_under}
 use Rattle.client_tree.specs.Held.{Block, held, keeping, keeping_all}
 use Rattle.client_tree.proofs.HeldLaws.{with_new, with_none, with_old}
 use Rattle.agreement.proofs.Members.{In, in_contains}
@@ -136,7 +135,7 @@ module _ (some all : Blocks) (within : AreWithin some all) where
 
   of_less : (n : Inode) (c : Content) → IsOf all n c → IsOf some n c
   of_less n (File bytes) is = (is.0, is.1, λ found at. is.2 found (over_within (if_of_size n.size) n found at))
-  of_less n (Directory entries) is = (is.0, is.1, λ found at. is.2 found (over_within (of_size directory n.size) n found at))
+  of_less n (Directory entries) is = (is.0, is.1, λ found at. is.2 found (over_within _ n found at))
   of_less n (Principals t) is = absurd is
 
   by_within : (i : INumber) (c : Option ListedChunk) (told : Option Digest) → told_by some i c ≡ Some told → told_by all i c ≡ Some told

@@ -9,6 +9,7 @@ mod Moves
 mod Genuine
 mod Views
 mod Among
+mod Listings
 mod OwnKeys
 mod FirstChunk
 mod Stored

@@ -18,11 +18,11 @@ use Rattle.principals.specs.declared.table.Listing.{Listing}
 use Rattle.principals.specs.declared.table.Row.{Row}
 use Rattle.principals.specs.Table.{Table, ended, genesis, is_member_now, key_of, lists_user, user_of}
 use Rattle.principals.specs.TableText.{key, lawful_users, rows_of, table, users}
-use Rattle.principals.proofs.Users.{first_users, fits_added, positive, with_first}
 use Rattle.update_cert.specs.Change.{Action, Make, Put, Remove, Link, Unlink, AddUser, AddMember, DropMember, Change, change}
 use Rattle.update_cert.specs.Tables.{alters, table_after, table_after_change, table_becomes, table_effect}
 use Rattle.update_cert.proofs.ActLaws.{at_table}
 use Rattle.client_tree.specs.Genesis.{table_text}
+use Rattle.client_runs.proofs.Listings.{first_users, fits_added, positive, with_first}
 
 -- ---- a user that is added has a key
 

@@ -180,15 +180,14 @@ module _ (texts : List Bytes) where
         new_in t i =
             inside t
             (subst (λ (ts : List Bytes). In t ts) (sym texts_are)
-            (in-right t (changed_texts st.before st.part.table st.part.opened) (principals_texts st.before s.principal x.table ++ new_texts (listings st.before) st.table)
-            (in-right t (principals_texts st.before s.principal x.table) (new_texts (listings st.before) st.table) i)))
+            (in-right t (changed_texts st.before st.part.table st.part.opened ++ principals_texts st.before s.principal x.table) (new_texts (listings st.before) st.table) i))
 
         users_in : (t : Bytes) → In t (principals_texts st.before s.principal x.table) → In t texts
         users_in t i =
             inside t
             (subst (λ (ts : List Bytes). In t ts) (sym texts_are)
-            (in-right t (changed_texts st.before st.part.table st.part.opened) (principals_texts st.before s.principal x.table ++ new_texts (listings st.before) st.table)
-            (in-left t (principals_texts st.before s.principal x.table) (new_texts (listings st.before) st.table) i)))
+            (in-left t (changed_texts st.before st.part.table st.part.opened ++ principals_texts st.before s.principal x.table) (new_texts (listings st.before) st.table)
+            (in-right t (changed_texts st.before st.part.table st.part.opened) (principals_texts st.before s.principal x.table) i)))
 
         -- where its chunk 0 is new
         module _ (text : Bytes) (has : text_of_chunk st.table 0 ≡ Some text) where

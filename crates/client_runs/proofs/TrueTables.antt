@@ -11,7 +11,6 @@ use Rattle.itable.specs.File.{NoneCollide}
 use Rattle.principals.specs.Table.{Table, genesis, key_of}
 use Rattle.principals.specs.TableText.{table}
 use Rattle.principals.specs.TableText.{key as key_form}
-use Rattle.principals.proofs.SizeLaws.{text_size}
 use Rattle.version_order.specs.Plan.{Plan}
 use Rattle.version_order.specs.Structure.{Structure, structure}
 use Rattle.update_cert.specs.Change.{Action, Make, Put, Remove, Link, Unlink, AddUser, AddMember, DropMember, Change}
@@ -49,6 +48,7 @@ use Rattle.client_runs.proofs.Genuine.{genuine, message_of, released_structure}
 use Rattle.client_runs.proofs.Holds.{IsTriedOver, known_in, signed_in}
 use Rattle.client_runs.proofs.Judging.{cert_by_super, structure_by_super, structure_fits, unbroken}
 use Rattle.client_runs.proofs.KnownViews.{IsKnown, IsMade, IsTold, all_known}
+use Rattle.client_runs.proofs.Listings.{text_size}
 use Rattle.client_runs.proofs.Lowering.{low_owner}
 use Rattle.client_runs.proofs.Moves.{holds_at}
 use Rattle.client_runs.proofs.OwnKeys.{AddsOwn, ListsOwn, after_changes, first_own, first_text, own_of, own_text}
