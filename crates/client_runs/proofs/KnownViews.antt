@@ -1,6 +1,6 @@
 -- What the blocks that clients hold tell of their views: the table of principals by which each was judged, and the handle
 -- that is signed over it.
-use Rattle.std.proofs.Common.{◌≡◌, ℕ, ◌≤◌, Bool, true, false, ◌==◌, List, [], ◌∷◌, ◌++◌, length, map, Option, Some, None, Result, Ok, Err, IfSome, IsSome, IsSomeAnd, refl, sym, ap, ◌∙◌, subst, inl, inr, if◌then◌else◌, option_map, option_to_list}
+use Rattle.std.proofs.Common.{◌≡◌, ℕ, ◌≤◌, Bool, true, false, ◌==◌, List, [], ◌∷◌, length, map, Option, Some, None, Result, Ok, Err, IfSome, IsSome, IsSomeAnd, refl, sym, ap, ◌∙◌, subst, inl, inr, if◌then◌else◌, option_map, option_to_list}
 use Rattle.std.specs.Prelude.{◌⊎◌}
 use Rattle.std.specs.List.{flat_map}
 use Rattle.std.specs.Option.{option_map_or}
@@ -18,7 +18,7 @@ use Rattle.reply_rules.specs.Lists.{Lists, lists_of}
 use Rattle.wire.specs.declared.kinds.Status.{Status}
 use Rattle.wire.specs.declared.kinds.Status.TheVariants as status
 use Rattle.client_tree.specs.Genesis.{first_blocks, first_texts}
-use Rattle.client_tree.specs.Held.{Block, held, keeping, keeping_all}
+use Rattle.client_tree.specs.Held.{Block, held, keeping_all}
 use Rattle.client_tree.specs.Principals.{IsPending}
 use Rattle.client_tree.specs.Tree.{IsOutcome, IsStored, Stored}
 use Rattle.client_tree.specs.View.{handle_in}
@@ -117,9 +117,11 @@ module _ (texts : List Bytes) (apart : NoneCollide texts texts) (key : Key) wher
         pinned = k.pinned;
         among = k.among;
         checked = tt;
-        accepted =
-            (is, own_made s good h.0 h.1 k h.4
-            (λ t i. inside t (subst (λ (ts : List Bytes). In t ts) (sym h.6) (in-left t h.0.texts (flat_map (λ (g : Stored). g.texts) h.1) i))));
+        accepted = (
+          is,
+          own_made s good h.0 h.1 k h.4
+              (λ t i. inside t (subst (λ (ts : List Bytes). In t ts) (sym h.6) (in-left t h.0.texts (flat_map (λ (g : Stored). g.texts) h.1) i))),
+        );
       })
   goes s good (Broken rule) new k is inside h = absurd h
 

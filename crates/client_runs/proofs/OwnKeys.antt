@@ -1,5 +1,5 @@
 -- Tables of principals that list the users' own keys: what changes make of them, and what their texts tell.
-use Rattle.std.proofs.Common.{◌≡◌, ℕ, ◌≤◌, Bool, true, false, ◌==◌, ◌&&◌, ◌||◌, not, List, [], ◌∷◌, ◌++◌, drop, find, length, Option, Some, Ok, Err, refl, sym, ap, ◌∙◌, subst, if◌then◌else◌, option_map, arith}
+use Rattle.std.proofs.Common.{◌≡◌, ℕ, ◌≤◌, Bool, true, false, ◌==◌, ◌&&◌, ◌||◌, not, List, [], ◌∷◌, ◌++◌, drop, find, length, Some, Ok, Err, refl, sym, ap, ◌∙◌, subst, if◌then◌else◌, option_map, arith}
 use Rattle.std.specs.Prelude.{codes, nat_lt}
 use Rattle.std.specs.Int.{w8, w16, w32}
 use Rattle.std.specs.List.{All, list_any}

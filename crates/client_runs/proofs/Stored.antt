@@ -36,7 +36,7 @@ use Rattle.update_cert.specs.Blocks.{Agrees, Blocks, file_over, if_of_size, inod
 use Rattle.update_cert.specs.Slots.{changed_texts, has_digest}
 use Rattle.update_cert.proofs.Contents.{file_is, inode_held}
 use Rattle.client_tree.specs.Genesis.{common_texts, first_handle, inode_digest, root_inode, first_table, first_table_texts, first_texts, principals, table_inode, table_text}
-use Rattle.client_tree.specs.Tree.{IsStored, Stored, principals_digest, principals_texts, table_texts}
+use Rattle.client_tree.specs.Tree.{IsStored, Stored, principals_digest, principals_texts}
 use Rattle.client_tree.specs.View.{View}
 use Rattle.client_tree.specs.View.{handle_of as handle_in_view}
 use Rattle.agreement.proofs.Members.{In, flat_map-in, in-kept, in-left, in-right}
@@ -220,10 +220,11 @@ module _ (texts : List Bytes) where
               let parts = and_parts (c.number == 0) (bytes_eq c.digest (hash text)) test in
               let (before, had, hashed) = listed_text st.before c i (eqb-true c.number 0 parts.0) in
               let spelled = chunk_is texts (handle_in_view x 0) old st.before st.opened.read.is_table told_before before had in
-              let same : hash (chunk.spell old.first) ≡ hash text = ap hash (sym spelled) ∙ hashed ∙ (bytes_eq-Decides c.digest (hash text)).0 parts.1 in
-              (old_chunk texts apart st.table st.well_formed zero root_in text has (handle_in_view x 0) old same,
-              inl (same_told (table_handle st.table) (handle_in_view x 0) (digest_in old.first.pairs 1)
-              (old_told texts apart st.table st.well_formed zero root_in text has (handle_in_view x 0) old same 1 refl) (told_at texts (handle_in_view x 0) old 1 refl)))
+              let same : hash (chunk.spell old.first) ≡ hash text = ap hash (sym spelled) ∙ hashed ∙ (bytes_eq-Decides c.digest (hash text)).0 parts.1 in (
+                old_chunk texts apart st.table st.well_formed zero root_in text has (handle_in_view x 0) old same,
+                inl (same_told (table_handle st.table) (handle_in_view x 0) (digest_in old.first.pairs 1)
+                    (old_told texts apart st.table st.well_formed zero root_in text has (handle_in_view x 0) old same 1 refl) (told_at texts (handle_in_view x 0) old 1 refl)),
+              )
 
           either : (b : Bool) → is_listed (listings st.before) (record { number = 0; digest = hash text }) ≡ b → Result (table_handle st.table)
           either true there = known there

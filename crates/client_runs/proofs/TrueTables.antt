@@ -172,11 +172,13 @@ module _ (keys : Keys) where
 
     made_true : (x : Lists) (t : Table) (handle : Handle) → IsMade texts apart (own_key 0) x t handle → x.own.cert.user ≡ 0 → ListsOwn own_key t → IsTrueHandle (handle_in (own_key 0) x.structures 0) → IsTrueHandle handle
     made_true x t handle made zero own old =
-        let r = made zero (omega (arith, text_size t own.fits own.few)) old.0 in
-        (r.0, λ b fits is. elim r.1 [
-          | inl same ↦ old.1 b fits (λ reads agrees. sym (same reads agrees) ∙ is reads agrees)
-          | inr new ↦ own_text own_key b t fits own (one_file handle (table.spell b) (table.spell t) is new)
-        ])
+        let r = made zero (omega (arith, text_size t own.fits own.few)) old.0 in (
+          r.0,
+          λ b fits is. elim r.1 [
+            | inl same ↦ old.1 b fits (λ reads agrees. sym (same reads agrees) ∙ is reads agrees)
+            | inr new ↦ own_text own_key b t fits own (one_file handle (table.spell b) (table.spell t) is new)
+          ],
+        )
 
     -- ---- operations
 
