@@ -17,18 +17,19 @@ use Rattle.agreement.specs.Runs.{IsRun as AreAccepted}
 use Rattle.agreement.specs.Runs.{NoCollision as NoViewCollision}
 use Rattle.agreement.specs.Runs.{structures as structures_of}
 use Rattle.agreement.proofs.Lines as lines
-use Rattle.agreement.proofs.Members.{In, contains_in, flat_map-in, in-append, in-left, in-map, in-right, in_contains, map-in, of_all, to_all}
+use Rattle.agreement.proofs.Members.{In, contains_in, flat_map-in, in-append, in-left, in-map, in-right, in_contains, map-in, to_all}
 use Rattle.release_runs.specs.Steps as low
 use Rattle.release_runs.proofs.Stories.{IsStory, OfCert, OfStructure, Release, last_in}
 use Rattle.client_runs.specs.Runs.{Event, IsRun, Keys, client_of, owner, public_key}
 use Rattle.client_runs.specs.Released.{accepted_by, hashed, hashed_at, pending_texts, reply_texts, shown_cert, shown_structure, structure_texts, tried_view, views}
-use Rattle.client_runs.specs.Agreeing.{AreReleased, HasReleased, IsTrueTable, NoForgery, Premises}
+use Rattle.client_runs.specs.Agreeing.{AreReleased, HasReleased, NoForgery, Premises}
 use Rattle.client_runs.proofs.Genuine.{genuine, released_later, released_structure}
 use Rattle.client_runs.proofs.Holds.{IsTriedOver, known_in, signed_in}
 use Rattle.client_runs.proofs.Judging.{cert_by_super, cert_verified, own_last_is, structure_by_super, structure_fits, structure_verified, unbroken, unbroken_by, value_of, verified}
 use Rattle.client_runs.proofs.Lowering.{low_owner}
 use Rattle.client_runs.proofs.Moves.{holds_at}
 use Rattle.client_runs.proofs.Replies.{of_lists}
+use Rattle.client_runs.proofs.TrueTables.{IsTrueTable, true_tables}
 use Rattle.client_runs.proofs.Views.{first_in, first_of, in_views, last_view, one_at_most, over_here}
 
 last_fits : (o : low.Owner) (story : List Release) → IsStory o story → IfSome (last_in o story) (λ z. structure.Fits z.value)
@@ -164,7 +165,7 @@ module _ (keys : Keys) where
 
 module _ (keys : Keys) (run : List Event) (is : IsRun keys run) (premises : Premises keys run) where
   all_true : (x : View) → In x (views run) → IsTrueTable keys x
-  all_true = of_all (IsTrueTable keys) (views run) premises.true_tables
+  all_true = true_tables keys run is premises.no_forgery premises.no_collision premises.true_keys
 
   pub are_accepted : AreAccepted (views run)
   are_accepted = accepted keys run is premises.no_forgery all_true

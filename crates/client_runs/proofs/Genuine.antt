@@ -54,7 +54,7 @@ in_structures (OfStructure z p ∷ older) y q (inl e) = inl cc
 in_structures (OfStructure z p ∷ older) y q (inr i) = inr (in_structures older y q i)
 
 module _ (o : low.Owner) where
-  message_of : (r : Release) → unsigned (release_text o r) ≡ message r
+  pub message_of : (r : Release) → unsigned (release_text o r) ≡ message r
   message_of (OfCert c q) = unsigned_of (cert.spell c) (signature_of o.seed o.id q (cert.spell c)) (length-signature o.seed o.id (cert.spell c) q)
   message_of (OfStructure z q) = unsigned_of (structure.spell z) (signature_of o.seed o.id q (structure.spell z)) (length-signature o.seed o.id (structure.spell z) q)
 

@@ -8,6 +8,13 @@ mod Judging
 mod Moves
 mod Genuine
 mod Views
+mod Among
+mod Listings
+mod OwnKeys
+mod FirstChunk
+mod Stored
+mod KnownViews
+mod TrueTables
 mod Agreed
 mod Anywhere
 mod Same
