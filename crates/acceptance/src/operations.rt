@@ -1,20 +1,16 @@
 //! User 0's first two operations between a client and a server, byte for byte: their certificates, replies, structures
 //! and frames, and what the client shows of them.
 
-use crate::replies::{
-    MemoryClient, breaks, declare, end, first_key, plan_of, reply_to, sign, superuser,
-};
-use crate::server::{Server, answers_commit, answers_update, server_of};
-use crate::texts::{Host, certificate, check, check_text, joined, key_of, listed, named, shown};
+use crate::here::Here;
+use client_aids::clients::{MemoryClient, breaks, declare, end, first_key, sign, superuser};
+use client_aids::servers::{Server, answers_commit, answers_update, server_of};
 use client_verify::Phase;
 use layout::Text;
+use test_aids::texts::{
+    FIRST_HANDLE, certificate, joined, key_of, listed, named, plan_of, reply_to, shown,
+};
+use test_aids::{Host, check, check_text};
 use wire::{RequestKind, Status, reply_frame, request_frame};
-
-/// The handle that user 0's i-table has at the beginning under the key of these tests, by another program's LMS and
-/// SHA-256.
-pub(crate) const FIRST_HANDLE: [u8; 32] =
-    *b"\xee\x04\x6d\x62\x38\xe1\xec\xdd\x86\x97\x6d\x7b\x7d\x03\x12\xb7\
-    \x54\x90\xec\x7e\x7b\xe5\x05\xd0\xaa\x33\xe0\x47\xd8\x9c\x15\x55";
 
 /// User 0's operation of a number, after a structure.
 #[derive(Clone, Copy)]
@@ -111,6 +107,7 @@ fn shows(rt: &impl Host, client: &MemoryClient, structure: &[u8]) {
 
 #[test]
 fn two_operations_byte_for_byte(rt: HostRuntime) {
+    let rt = (rt, Here);
     let mut client = superuser(&rt);
     check(&rt, !client.wants(), "no block is asked for");
     check(&rt, !client.has_view(), "no view at the beginning");

@@ -1,14 +1,14 @@
 //! Replies that break a rule, each of which leaves the client as it was.
 
-use crate::replies::{
-    MemoryClient, breaks, client_of, declare, end, first_reply, plan_of, reply_to, sign, superuser,
-};
-use crate::texts::{
-    Host, certificate, joined, key_of, listed, named, pending, plan, reply, shown, signed,
-    structure,
-};
+use crate::here::Here;
+use client_aids::clients::{MemoryClient, breaks, client_of, declare, end, sign, superuser};
 use client_verify::Rule;
 use layout::digest;
+use test_aids::Host;
+use test_aids::texts::{
+    certificate, changed, first_reply, joined, key_of, listed, named, pending, plan, plan_of,
+    reply, reply_to, shown, signed, structure,
+};
 use wire::Status;
 
 /// The vectors of user 0's version 1 or 2, and of its version 1 with version 1 of the first group.
@@ -23,15 +23,6 @@ const NONE: &[u8] = b"\0";
 
 /// Entries: one of a plan of user 1's that nobody made.
 const INVENTED: &[u8] = b"\x01\x01\0\0\0\x01invented invented invented inven";
-
-/// The text with the lowest bit of its last byte changed.
-pub(crate) fn changed(rt: &impl Host, text: &[u8]) -> Vec<u8> {
-    let mut changed = joined(rt, &[text]);
-    if let Some(byte) = changed.last_mut() {
-        *byte ^= 1;
-    }
-    changed
-}
 
 /// The reply with this one pending operation.
 fn reply_of(rt: &impl Host, update: &[u8], plan: &[u8]) -> Vec<u8> {
@@ -137,6 +128,7 @@ fn refuses_client(rt: &impl Host, user: u8, key: u8, rule: Rule) {
 
 #[test]
 fn other_clients(rt: HostRuntime) {
+    let rt = (rt, Here);
     refuses_client(&rt, 0, 5, Rule::SuperSignature);
     refuses_client(&rt, 1, 1, Rule::UnknownUser);
 }
@@ -211,6 +203,7 @@ fn takes_second(rt: &impl Host, client: &mut MemoryClient, last: &[u8]) {
 
 #[test]
 fn own_client(rt: HostRuntime) {
+    let rt = (rt, Here);
     let mut client = superuser(&rt);
     takes_first(&rt, &mut client);
     let last = sign(&rt, &mut client);

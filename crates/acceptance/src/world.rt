@@ -2,16 +2,18 @@
 //! hands in something else first: the client answers which rule that breaks, asks for the same block still, and goes on
 //! with it.
 
-use crate::certificates::{i_number, principal};
 use crate::changes::Planned;
-use crate::refusals::changed;
-use crate::replies::{MemoryClient, declare_changes, end, first_key, sign, step_on, superuser};
-use crate::server::{Server, answers_commit, answers_update_so, server_of};
-use crate::texts::{Host, check, check_text, joined};
+use client_aids::clients::{
+    MemoryClient, declare_changes, end, first_key, sign, step_on, superuser,
+};
+use client_aids::servers::{Server, answers_commit, answers_update_so, server_of};
 use client_tree::Held;
 use client_verify::{Look, Rule, Step};
 use layout::{Digest, digest};
 use std::alloc::Global;
+use test_aids::numbers::{i_number, principal};
+use test_aids::texts::{changed, joined};
+use test_aids::{Host, check, check_text};
 use update_cert::Blocks;
 use wire::Status;
 

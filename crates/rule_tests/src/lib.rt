@@ -1,20 +1,22 @@
-//! Tests of texts and of the rules on the lists of a reply, made by hand: they need no client, so that the gate comes to them
-//! early.
+//! Tests of the rules on a reply's lists, made by hand, and of what is read from blocks: i-tables, what a spot takes,
+//! and what is missing.
 #![tactic(auto)]
 
 #[cfg(test)]
-mod above;
+mod blocks;
 #[cfg(test)]
-mod faults;
+mod here;
 #[cfg(test)]
-mod frames;
+mod i_tables;
 #[cfg(test)]
-mod longest;
+mod last_blocks;
 #[cfg(test)]
-mod plans;
+mod missing_chunks;
+#[cfg(test)]
+mod missing_files;
 #[cfg(test)]
 mod rule_parts;
 #[cfg(test)]
 mod several_pending;
 #[cfg(test)]
-mod texts;
+mod spots;

@@ -1,13 +1,15 @@
 //! The rules that speak of the lists of a reply alone: replies that break none of them, and replies that differ from
 //! those in one part and break the rule of that part.
 
-use crate::texts::{Host, certificate, check, joined, pending, plan, reply, shown, structure};
+use crate::here::Here;
 use layout::{Text, digest};
 use lms_sign::PublicKey;
 use pending_list::Reply;
 use principals::Table;
 use reply_rules::{Rule, broken, lists_hold};
 use std::alloc::Global;
+use test_aids::texts::{certificate, joined, pending, plan, reply, shown, structure};
+use test_aids::{Host, check};
 
 /// A signature that nobody checks.
 const SIGNATURE: [u8; 2508] = [0; 2508];
@@ -486,6 +488,7 @@ pub(crate) fn first_broken(
 
 #[test]
 fn each_case(rt: HostRuntime) {
+    let rt = (rt, Here);
     let table = table(&rt);
     for case in &CASES {
         let found = first_broken(&rt, &reply_of(&rt, case), &table);
@@ -521,6 +524,7 @@ fn is_named(rt: &impl Host, rule: Rule, number: usize, name: &str) {
 
 #[test]
 fn numbers_and_names(rt: HostRuntime) {
+    let rt = (rt, Here);
     for (i, (rule, name)) in RULES.iter().enumerate() {
         is_named(&rt, *rule, i + 1, name);
     }

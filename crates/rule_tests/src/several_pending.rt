@@ -1,16 +1,16 @@
 //! The rules on lists, where several users have operations pending that were placed before top or after it: replies that
 //! break none of them, and replies that differ from those in one part and break the rule of that part.
 
+use crate::here::Here;
 use crate::rule_parts::first_broken;
-use crate::texts::{
-    FORM, Host, certificate_of, check, joined, listing, pending, plan, reply, shown, structure,
-    vector_of,
-};
 use layout::{Text, digest};
 use pending_list::Reply;
 use principals::Table;
 use reply_rules::Rule;
 use std::alloc::Global;
+use test_aids::Host;
+use test_aids::tables::{FORM, listing};
+use test_aids::texts::{certificate_of, joined, pending, plan, reply, shown, structure, vector_of};
 
 /// A signature that nobody checks.
 const SIGNATURE: [u8; 2508] = [0; 2508];
@@ -839,11 +839,13 @@ fn breaks_each(rt: &impl Host, cases: &[Case]) {
 
 #[test]
 fn good_replies(rt: HostRuntime) {
+    let rt = (rt, Here);
     breaks_each(&rt, &GOOD_ONES);
 }
 
 #[test]
 fn parts_of_each_rule(rt: HostRuntime) {
+    let rt = (rt, Here);
     breaks_each(&rt, &USERS_AND_NUMBERS);
     breaks_each(&rt, &VECTORS);
     breaks_each(&rt, &ENTRIES);

@@ -1,8 +1,6 @@
-//! Tests of scripts.
+//! Tests of scripts: what they print, byte for byte, and a small world in every order of its steps.
 #![tactic(auto)]
 
-#[cfg(test)]
-mod host;
 #[cfg(test)]
 mod scripts;
 #[cfg(test)]

@@ -1,8 +1,14 @@
 //! What scripts print, also where a reader or a writer fails: the lines before stand.
 
-use crate::host::{Host, check, check_text};
 use fork_theorem::{PlayError, play};
+use std::alloc::Global;
 use std::io::{self, BufReader, Cursor, ErrorKind, Read};
+use std::process::Abort;
+
+/// What a test runs in.
+pub(crate) trait Host: Alloc<A = Global> + Abort {}
+
+impl<R: Alloc<A = Global> + Abort> Host for R {}
 
 /// A script, and what it prints.
 struct Case {
@@ -649,36 +655,41 @@ static TWENTY: Case = Case {
         0 file t20\n",
 };
 
-/// The script prints its lines.
-fn prints(rt: &impl Host, case: &Case) {
-    let mut reader = Cursor::new(case.script);
+/// Fails the test where two texts differ.
+fn check_text(rt: &impl Host, found: &[u8], wanted: &[u8]) {
+    assert!(rt; found == wanted, "{found:?} is not {wanted:?}");
+}
+
+/// The script prints these lines.
+pub(crate) fn prints(rt: &impl Host, script: &[u8], lines: &[u8]) {
+    let mut reader = Cursor::new(script);
     let mut writer = Vec::new(rt.alloc());
     play(rt.alloc(), &mut reader, &mut writer).expect(rt, "lines");
-    check_text(rt, &writer, case.lines);
+    check_text(rt, &writer, lines);
 }
 
 #[test]
 fn each_script_prints_its_lines(rt: HostRuntime) {
     for case in &CASES {
-        prints(&rt, case);
+        prints(&rt, case.script, case.lines);
     }
 }
 
 #[test]
 fn scripts_with_groups(rt: HostRuntime) {
     for case in &WITH_GROUPS {
-        prints(&rt, case);
+        prints(&rt, case.script, case.lines);
     }
 }
 
 #[test]
 fn two_writes_that_are_pending(rt: HostRuntime) {
-    prints(&rt, &TWO_WRITES);
+    prints(&rt, TWO_WRITES.script, TWO_WRITES.lines);
 }
 
 #[test]
 fn twenty_operations_in_a_script(rt: HostRuntime) {
-    prints(&rt, &TWENTY);
+    prints(&rt, TWENTY.script, TWENTY.lines);
 }
 
 /// Gives these bytes, and then fails.
@@ -709,7 +720,7 @@ fn lines_before_a_failing_read(rt: HostRuntime) {
     let mut reader = BufReader::new(rt.alloc(), failing).expect(&rt, "memory");
     let mut writer = Vec::new(rt.alloc());
     let played = play(rt.alloc(), &mut reader, &mut writer);
-    check(&rt, matches!(played, Err(PlayError::Read)), "no reader");
+    assert!(rt; matches!(played, Err(PlayError::Read)), "no reader");
     check_text(&rt, &writer, b"0 begin 1\nerror\n");
 }
 
@@ -722,6 +733,6 @@ fn lines_before_a_failing_write(rt: HostRuntime) {
     let mut reader = Cursor::new(b"begin 0\nupdate 0 a\ncommit 0 a\n".as_slice());
     let mut writer = Cursor::new(room.as_mut_slice());
     let played = play(rt.alloc(), &mut reader, &mut writer);
-    check(&rt, matches!(played, Err(PlayError::Write)), "no writer");
+    assert!(rt; matches!(played, Err(PlayError::Write)), "no writer");
     check_text(&rt, &room, b"0 begin 1\n0 ");
 }

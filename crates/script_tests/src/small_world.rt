@@ -1,9 +1,8 @@
 //! A small world, in full: two users, both members of a group, whose operations come between one another in every order.
 //! No reply of an honest server is refused, and each view shows what plain numbers say.
 
-use crate::host::{Host, check_text};
-use fork_theorem::play;
-use std::io::{Cursor, Write};
+use crate::scripts::{Host, prints};
+use std::io::Write;
 
 /// What a change does; the texts of files are numbers.
 #[derive(Clone, Copy)]
@@ -301,10 +300,7 @@ fn tell_all(rt: &impl Host, shape: &Shape) {
             tell(rt, &mut story, shape, order);
         }
     }
-    let mut reader = Cursor::new(story.script.as_slice());
-    let mut writer = Vec::new(rt.alloc());
-    play(rt.alloc(), &mut reader, &mut writer).expect(rt, "lines");
-    check_text(rt, &writer, &story.lines);
+    prints(rt, &story.script, &story.lines);
 }
 
 #[test]
