@@ -1,11 +1,11 @@
 //! Changes, made by hand, and what is laid out for them.
 
-use crate::blocks::EMPTY_INODE;
-use crate::certificates::{entry, i_number, name, principal};
-use crate::texts::Host;
 use itable::{Laid, lay_file};
 use layout::{Digest, digest};
 use std::alloc::Global;
+use test_aids::Host;
+use test_aids::blocks::EMPTY_INODE;
+use test_aids::numbers::{entry, i_number, name, principal};
 use update_cert::{Action, Change};
 
 /// What is done at an i-number of user 0's.

@@ -1,10 +1,11 @@
 //! Files of each size, from their making to a look at them in the view after it, byte for byte.
 
 use crate::changes::{Planned, lay, nothing, plan_action};
-use crate::texts::{Host, check};
+use crate::here::Here;
 use crate::world::{World, asked_for_so_many, has_lost, new_world, operate, see};
 use client_verify::Look;
 use std::alloc::Global;
+use test_aids::{Host, check};
 use update_cert::Action;
 
 /// A file, by its i-number and its size, and how many blocks the operation asks for that makes it: the root of the i-table
@@ -110,6 +111,7 @@ fn stands_each(rt: &impl Host, world: &mut World) {
 
 #[test]
 fn files_of_each_size(rt: HostRuntime) {
+    let rt = (rt, Here);
     let mut world = new_world(&rt, false);
     makes_each(&rt, &mut world);
     stands_each(&rt, &mut world);

@@ -1,16 +1,18 @@
 //! User 0's operations with a group, of which it is a member and then isn't: the table's text, the records of the group
 //! that its structures have, which changes are lost, and what stands in the view. A hostile store changes nothing of it.
 
-use crate::certificates::{i_number, principal};
 use crate::changes::{Planned, lay, nothing, plan_change};
-use crate::replies::first_key;
-use crate::tables::{FORM, listing};
-use crate::texts::{Host, check, check_text, joined};
+use crate::here::Here;
 use crate::world::{World, has_lost, new_world, operate, see_of};
+use client_aids::clients::first_key;
 use client_verify::Look;
 use layout::{Group, Text, User};
 use lms_sign::PublicKey;
 use std::alloc::Global;
+use test_aids::numbers::{i_number, principal};
+use test_aids::tables::{FORM, listing};
+use test_aids::texts::joined;
+use test_aids::{Host, check, check_text};
 use update_cert::{Action, Change, TableChange};
 
 /// What user 0 does.
@@ -186,6 +188,7 @@ fn happen(rt: &impl Host, key: &PublicKey, is_hostile: bool) {
 
 #[test]
 fn member_and_then_none(rt: HostRuntime) {
+    let rt = (rt, Here);
     let key = first_key(&rt);
     happen(&rt, &key, false);
     happen(&rt, &key, true);

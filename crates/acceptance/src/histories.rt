@@ -2,18 +2,19 @@
 //! changes are lost, and what stands in the view after it. The digests in the texts are another program's LMS and
 //! SHA-256. A hostile store changes nothing of it.
 
-use crate::blocks::{OF_F, OF_F_INODE};
 use crate::changes::{Deed, of_deeds};
-use crate::operations::FIRST_HANDLE;
-use crate::replies::breaks;
-use crate::texts::{Host, check, check_text};
+use crate::here::Here;
 use crate::world::{
     World, asked_for, begin, finish, hand_each, has_lost, look_at, new_world, operate, see,
     sees_file,
 };
+use client_aids::clients::breaks;
 use client_verify::{Look, Rule};
 use directory::Directory;
 use std::alloc::Global;
+use test_aids::blocks::{OF_F, OF_F_INODE};
+use test_aids::texts::FIRST_HANDLE;
+use test_aids::{Host, check, check_text};
 
 /// What stands at an i-number of user 0's.
 #[derive(Clone, Copy)]
@@ -292,12 +293,14 @@ fn happen(rt: &impl Host, operations: &[Operation], is_hostile: bool) {
 
 #[test]
 fn four_operations(rt: HostRuntime) {
+    let rt = (rt, Here);
     happen(&rt, &FOUR, false);
     happen(&rt, &FOUR, true);
 }
 
 #[test]
 fn directory_is_made_and_removed(rt: HostRuntime) {
+    let rt = (rt, Here);
     happen(&rt, &MADE_AND_REMOVED, false);
     happen(&rt, &MADE_AND_REMOVED, true);
 }
@@ -319,6 +322,7 @@ static UNSEEN: Operation = Operation {
 /// A reply that breaks a rule leaves the one of which a block is asked for.
 #[test]
 fn broken_reply_before_the_blocks(rt: HostRuntime) {
+    let rt = (rt, Here);
     check(&rt, Rule::Block.number() == 6, "the rule's number");
     let mut world = new_world(&rt, true);
     let _texts = operate(&rt, &mut world, of_deeds(&rt, FIRST));
@@ -332,6 +336,7 @@ fn broken_reply_before_the_blocks(rt: HostRuntime) {
 /// Another look begins in the place of one that asks for a block.
 #[test]
 fn another_look_in_the_place_of_one(rt: HostRuntime) {
+    let rt = (rt, Here);
     let mut world = new_world(&rt, true);
     let _texts = operate(&rt, &mut world, of_deeds(&rt, FIRST));
     let _none = operate(&rt, &mut world, of_deeds(&rt, &[]));

@@ -1,14 +1,16 @@
 //! What has to be laid out before changes are declared.
 
-use crate::blocks::{
-    EMPTY, EMPTY_INODE, HELLO, HELLO_INODE, LONG_INODE, NO_BYTES_INODE, OF_F, OF_F_INODE, REST,
-    WHOLE,
-};
 use crate::changes::{Deed, Planned, nothing, of_deeds, plan_action};
-use crate::texts::{Host, joined};
+use crate::here::Here;
 use client_verify::are_laid;
 use layout::digest;
 use std::alloc::Global;
+use test_aids::Host;
+use test_aids::blocks::{
+    EMPTY, EMPTY_INODE, HELLO, HELLO_INODE, LONG_INODE, NO_BYTES_INODE, OF_F, OF_F_INODE, REST,
+    WHOLE,
+};
+use test_aids::texts::joined;
 use update_cert::Action;
 
 /// A text that is named by its digest, the texts that are laid out, and whether a make and a put may name it then.
@@ -116,6 +118,7 @@ fn is_laid(rt: &impl Host, planned: &Planned) -> bool {
 
 #[test]
 fn each_naming(rt: HostRuntime) {
+    let rt = (rt, Here);
     for (place, case) in CASES.iter().enumerate() {
         let named = digest(case.named);
         let made = is_laid(&rt, &planned_of(&rt, case, Action::Make(named)));
@@ -135,6 +138,7 @@ static OTHERS: [(u16, Deed); 3] = [
 /// Each i-node has to be laid out, and other changes need nothing.
 #[test]
 fn several_changes(rt: HostRuntime) {
+    let rt = (rt, Here);
     let mut planned = of_deeds(&rt, &OTHERS);
     assert!(rt; planned.laid.is_empty() && is_laid(&rt, &planned));
     plan_action(&rt, &mut planned, 3, Action::Make(digest(EMPTY_INODE)));

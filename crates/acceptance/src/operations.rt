@@ -1,19 +1,16 @@
 //! User 0's first two operations between a client and a server, byte for byte: their certificates, replies, structures
 //! and frames, and what the client shows of them.
 
-use crate::replies::{breaks, declare, end, first_key, plan_of, reply_to, sign, superuser};
-use crate::server::{Server, answers_commit, answers_update, server_of};
-use crate::texts::{Host, certificate, check, check_text, joined, key_of, listed, named, shown};
-use client_verify::{Client, Phase};
+use crate::here::Here;
+use client_aids::clients::{MemoryClient, breaks, declare, end, first_key, sign, superuser};
+use client_aids::servers::{Server, answers_commit, answers_update, server_of};
+use client_verify::Phase;
 use layout::Text;
-use std::alloc::Global;
+use test_aids::texts::{
+    FIRST_HANDLE, certificate, joined, key_of, listed, named, plan_of, reply_to, shown,
+};
+use test_aids::{Host, check, check_text};
 use wire::{RequestKind, Status, reply_frame, request_frame};
-
-/// The handle that user 0's i-table has at the beginning under the key of these tests, by another program's LMS and
-/// SHA-256.
-pub(crate) const FIRST_HANDLE: [u8; 32] =
-    *b"\xee\x04\x6d\x62\x38\xe1\xec\xdd\x86\x97\x6d\x7b\x7d\x03\x12\xb7\
-    \x54\x90\xec\x7e\x7b\xe5\x05\xd0\xaa\x33\xe0\x47\xd8\x9c\x15\x55";
 
 /// User 0's operation of a number, after a structure.
 #[derive(Clone, Copy)]
@@ -34,7 +31,7 @@ struct Texts {
 }
 
 /// The client declares the operation, whose certificate names the structure after which it stands.
-fn declares(rt: &impl Host, client: &mut Client<Global>, operation: &Operation<'_>) -> Vec<u8> {
+fn declares(rt: &impl Host, client: &mut MemoryClient, operation: &Operation<'_>) -> Vec<u8> {
     let update = declare(rt, client);
     let by_hand = certificate(rt, 0, u32::from(operation.number), operation.last);
     check(rt, update.starts_with(&by_hand), "the certificate");
@@ -42,7 +39,7 @@ fn declares(rt: &impl Host, client: &mut Client<Global>, operation: &Operation<'
 }
 
 /// The client signs the structure of the plan made by hand, with the handle of the beginning and no records.
-fn signs(rt: &impl Host, client: &mut Client<Global>, plan: &[u8]) -> Vec<u8> {
+fn signs(rt: &impl Host, client: &mut MemoryClient, plan: &[u8]) -> Vec<u8> {
     let commit = sign(rt, client);
     let by_hand = joined(rt, &[b"SVS1\0\x30", plan, &FIRST_HANDLE, &[0]]);
     check(rt, commit.starts_with(&by_hand), "the structure");
@@ -53,7 +50,7 @@ fn signs(rt: &impl Host, client: &mut Client<Global>, plan: &[u8]) -> Vec<u8> {
 /// that it comes, and the client accepts that.
 fn completes(
     rt: &impl Host,
-    client: &mut Client<Global>,
+    client: &mut MemoryClient,
     server: &mut Server,
     operation: &Operation<'_>,
 ) -> Texts {
@@ -83,7 +80,7 @@ const FIRST: Operation<'static> = Operation {
 /// Completes the second operation, after the structure of the first one.
 fn completes_second(
     rt: &impl Host,
-    client: &mut Client<Global>,
+    client: &mut MemoryClient,
     server: &mut Server,
     first: &[u8],
 ) -> Vec<u8> {
@@ -97,7 +94,7 @@ fn completes_second(
 }
 
 /// The client shows this structure alone, and user 0's key.
-fn shows(rt: &impl Host, client: &Client<Global>, structure: &[u8]) {
+fn shows(rt: &impl Host, client: &MemoryClient, structure: &[u8]) {
     check(rt, !client.wants(), "no block is asked for");
     assert!(rt; client.has_view());
     let [own] = client.structures() else {
@@ -110,6 +107,7 @@ fn shows(rt: &impl Host, client: &Client<Global>, structure: &[u8]) {
 
 #[test]
 fn two_operations_byte_for_byte(rt: HostRuntime) {
+    let rt = (rt, Here);
     let mut client = superuser(&rt);
     check(&rt, !client.wants(), "no block is asked for");
     check(&rt, !client.has_view(), "no view at the beginning");

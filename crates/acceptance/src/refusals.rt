@@ -1,15 +1,14 @@
 //! Replies that break a rule, each of which leaves the client as it was.
 
-use crate::replies::{
-    breaks, client_of, declare, end, first_reply, plan_of, reply_to, sign, superuser,
-};
-use crate::texts::{
-    Host, certificate, joined, key_of, listed, named, pending, plan, reply, shown, signed,
-    structure,
-};
-use client_verify::{Client, Rule};
+use crate::here::Here;
+use client_aids::clients::{MemoryClient, breaks, client_of, declare, end, sign, superuser};
+use client_verify::Rule;
 use layout::digest;
-use std::alloc::Global;
+use test_aids::Host;
+use test_aids::texts::{
+    certificate, changed, first_reply, joined, key_of, listed, named, pending, plan, plan_of,
+    reply, reply_to, shown, signed, structure,
+};
 use wire::Status;
 
 /// The vectors of user 0's version 1 or 2, and of its version 1 with version 1 of the first group.
@@ -25,22 +24,13 @@ const NONE: &[u8] = b"\0";
 /// Entries: one of a plan of user 1's that nobody made.
 const INVENTED: &[u8] = b"\x01\x01\0\0\0\x01invented invented invented inven";
 
-/// The text with the lowest bit of its last byte changed.
-pub(crate) fn changed(rt: &impl Host, text: &[u8]) -> Vec<u8> {
-    let mut changed = joined(rt, &[text]);
-    if let Some(byte) = changed.last_mut() {
-        *byte ^= 1;
-    }
-    changed
-}
-
 /// The reply with this one pending operation.
 fn reply_of(rt: &impl Host, update: &[u8], plan: &[u8]) -> Vec<u8> {
     reply(rt, NONE, &listed(rt, &pending(rt, update, plan)))
 }
 
 /// Each proper prefix of the first reply, and the reply with a byte more, are of no form.
-fn refuses_sizes(rt: &impl Host, client: &mut Client<Global>, update: &[u8]) {
+fn refuses_sizes(rt: &impl Host, client: &mut MemoryClient, update: &[u8]) {
     let reply = joined(rt, &[&first_reply(rt, update), &[0]]);
     assert!(rt; reply.len() == 2609);
     for size in 0..2608 {
@@ -57,7 +47,7 @@ fn reply_after_forged(rt: &impl Host, update: &[u8]) -> Vec<u8> {
 }
 
 /// Nothing is pending, or another certificate than the own one, or a structure is shown that isn't the client's.
-fn refuses_own_texts(rt: &impl Host, client: &mut Client<Global>, update: &[u8]) {
+fn refuses_own_texts(rt: &impl Host, client: &mut MemoryClient, update: &[u8]) {
     breaks(rt, client, b"SRL1\0\0", Some(Rule::OwnPending));
     let other = first_reply(rt, &changed(rt, update));
     breaks(rt, client, &other, Some(Rule::OwnPending));
@@ -107,14 +97,14 @@ static CASES: [Case; 5] = [
 ];
 
 /// The first reply breaks the rule of the case.
-fn refuses_case(rt: &impl Host, client: &mut Client<Global>, update: &[u8], case: &Case) {
+fn refuses_case(rt: &impl Host, client: &mut MemoryClient, update: &[u8], case: &Case) {
     let linked = named(update);
     let plan = plan(rt, 0, case.number, &linked, case.vector, case.entries);
     breaks(rt, client, &reply_of(rt, update, &plan), Some(case.broken));
 }
 
 /// The plan differs in one part, or names another certificate.
-fn refuses_plans(rt: &impl Host, client: &mut Client<Global>, update: &[u8]) {
+fn refuses_plans(rt: &impl Host, client: &mut MemoryClient, update: &[u8]) {
     for case in &CASES {
         refuses_case(rt, client, update, case);
     }
@@ -123,7 +113,7 @@ fn refuses_plans(rt: &impl Host, client: &mut Client<Global>, update: &[u8]) {
 }
 
 /// The first reply of this user, with a plan of its first operation, breaks the rule.
-fn refuses_first(rt: &impl Host, client: &mut Client<Global>, user: u8, rule: Rule) {
+fn refuses_first(rt: &impl Host, client: &mut MemoryClient, user: u8, rule: Rule) {
     let update = declare(rt, client);
     let vector = [1, user, 0, 0, 0, 1];
     let plan = plan(rt, user, 1, &named(&update), &vector, NONE);
@@ -138,6 +128,7 @@ fn refuses_client(rt: &impl Host, user: u8, key: u8, rule: Rule) {
 
 #[test]
 fn other_clients(rt: HostRuntime) {
+    let rt = (rt, Here);
     refuses_client(&rt, 0, 5, Rule::SuperSignature);
     refuses_client(&rt, 1, 1, Rule::UnknownUser);
 }
@@ -165,18 +156,18 @@ fn list_after(rt: &impl Host, update: &[u8]) -> Vec<u8> {
 }
 
 /// User 1's first operation is pending before the own one, as it would be if user 1 were listed.
-fn refuses_user(rt: &impl Host, client: &mut Client<Global>, update: &[u8]) {
+fn refuses_user(rt: &impl Host, client: &mut MemoryClient, update: &[u8]) {
     let reply = reply(rt, NONE, &list_after(rt, update));
     breaks(rt, client, &reply, Some(Rule::UnknownUser));
 }
 
 /// The client accepts the true reply to its first certificate.
-fn accepts(rt: &impl Host, client: &mut Client<Global>, update: &[u8]) {
+fn accepts(rt: &impl Host, client: &mut MemoryClient, update: &[u8]) {
     breaks(rt, client, &first_reply(rt, update), None);
 }
 
 /// Replies that break a rule leave the client so that it accepts the true one.
-fn takes_first(rt: &impl Host, client: &mut Client<Global>) {
+fn takes_first(rt: &impl Host, client: &mut MemoryClient) {
     let update = declare(rt, client);
     refuses_sizes(rt, client, &update);
     accepts(rt, client, &update);
@@ -191,7 +182,7 @@ fn takes_first(rt: &impl Host, client: &mut Client<Global>) {
 /// The reply to the second certificate that shows this structure breaks the rule, or none.
 fn breaks_after(
     rt: &impl Host,
-    client: &mut Client<Global>,
+    client: &mut MemoryClient,
     update: &[u8],
     last: &[u8],
     rule: Option<Rule>,
@@ -201,7 +192,7 @@ fn breaks_after(
 }
 
 /// The second reply shows no structure, another than the client's last one, and that one.
-fn takes_second(rt: &impl Host, client: &mut Client<Global>, last: &[u8]) {
+fn takes_second(rt: &impl Host, client: &mut MemoryClient, last: &[u8]) {
     let update = declare(rt, client);
     let without = reply_to(rt, NONE, 2, &update);
     breaks(rt, client, &without, Some(Rule::OwnLast));
@@ -212,6 +203,7 @@ fn takes_second(rt: &impl Host, client: &mut Client<Global>, last: &[u8]) {
 
 #[test]
 fn own_client(rt: HostRuntime) {
+    let rt = (rt, Here);
     let mut client = superuser(&rt);
     takes_first(&rt, &mut client);
     let last = sign(&rt, &mut client);

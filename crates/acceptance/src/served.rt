@@ -1,21 +1,26 @@
 //! Three clients of one server over TCP, with their blocks: two write at once, and the third sees both writes.
 
-use crate::certificates::{i_number, principal};
 use crate::changes::{Planned, lay, nothing};
-use crate::replies::{client_of, declare_changes, end, sign, step_on};
-use crate::texts::{Host, check, check_text, key_of};
+use crate::here::Here;
 use block_store::Store;
-use client_verify::{Client, Look, Step};
+use client_aids::clients::{
+    MemoryClient, client_of, declare_changes, end, first_key, sign, step_on,
+};
+use client_verify::{Look, Step};
 use layout::{Digest, User};
 use lms_sign::PublicKey;
 use plain_user::{Caller, Replied};
 use server_workers::{Accepted, OpenGate, serve};
 use std::alloc::Global;
 use std::net::{Net, SocketAddr, TcpListener, TcpStream};
+use std::process::Abort;
 use std::sync::Wait;
 use std::thread;
 use std::thread::Threads;
 use std::time::Clock;
+use test_aids::numbers::{i_number, principal};
+use test_aids::texts::key_of;
+use test_aids::{Host, check, check_text};
 use update_cert::{Action, Change, TableChange};
 use wire::{RequestKind, Status};
 
@@ -47,7 +52,7 @@ fn get(rt: &impl Host, caller: &mut Caller<TcpStream>, digest: Digest) -> Vec<u8
 fn begin(
     rt: &impl Host,
     caller: &mut Caller<TcpStream>,
-    client: &mut Client<Global>,
+    client: &mut MemoryClient,
     planned: Planned,
 ) -> Vec<u8> {
     let Planned { changes, laid } = planned;
@@ -76,7 +81,7 @@ fn begin(
 fn commit(
     rt: &impl Host,
     caller: &mut Caller<TcpStream>,
-    client: &mut Client<Global>,
+    client: &mut MemoryClient,
     structure: &[u8],
 ) {
     let payload = ask(rt, caller, RequestKind::Commit, structure);
@@ -88,7 +93,7 @@ fn commit(
 fn operate(
     rt: &impl Host,
     caller: &mut Caller<TcpStream>,
-    client: &mut Client<Global>,
+    client: &mut MemoryClient,
     planned: Planned,
 ) {
     let structure = begin(rt, caller, client, planned);
@@ -99,7 +104,7 @@ fn operate(
 fn sees(
     rt: &impl Host,
     caller: &mut Caller<TcpStream>,
-    client: &mut Client<Global>,
+    client: &mut MemoryClient,
     user: u8,
     bytes: &[u8],
 ) {
@@ -144,7 +149,7 @@ fn two_users(rt: &impl Host) -> Planned {
 }
 
 /// User 0 makes an operation without changes, and sees the files of both.
-fn sees_both(rt: &impl Host, caller: &mut Caller<TcpStream>, superuser: &mut Client<Global>) {
+fn sees_both(rt: &impl Host, caller: &mut Caller<TcpStream>, superuser: &mut MemoryClient) {
     operate(rt, caller, superuser, nothing(rt));
     sees(rt, caller, superuser, 1, b"one");
     sees(rt, caller, superuser, 2, b"two");
@@ -152,27 +157,28 @@ fn sees_both(rt: &impl Host, caller: &mut Caller<TcpStream>, superuser: &mut Cli
 
 /// Users 1 and 2 write at once, and user 0 looks when one of them has committed, and when both have. Their keys are made
 /// before the connection, which the server ends where it waits too long.
-fn write_and_look<R: Host + Net<Listener = TcpListener, Stream = TcpStream>>(
+fn write_and_look<R: Alloc<A = Global> + Abort + Net<Listener = TcpListener, Stream = TcpStream>>(
     rt: &R,
     address: SocketAddr,
 ) {
-    let mut superuser = client_of(rt, 0, 0);
-    let mut first = client_of(rt, 1, 1);
-    let mut second = client_of(rt, 2, 2);
-    let listing = two_users(rt);
+    let host = &(rt, Here);
+    let mut superuser = client_of(host, 0, 0);
+    let mut first = client_of(host, 1, 1);
+    let mut second = client_of(host, 2, 2);
+    let listing = two_users(host);
     let stream = TcpStream::connect(rt, address).expect(rt, "a connection");
     let mut caller = Caller::new(rt.alloc(), stream);
-    operate(rt, &mut caller, &mut superuser, listing);
-    let by_first = begin(rt, &mut caller, &mut first, a_file(rt, 1, b"one"));
-    let by_second = begin(rt, &mut caller, &mut second, a_file(rt, 2, b"two"));
-    commit(rt, &mut caller, &mut second, &by_second);
-    sees_both(rt, &mut caller, &mut superuser);
-    commit(rt, &mut caller, &mut first, &by_first);
-    sees_both(rt, &mut caller, &mut superuser);
+    operate(host, &mut caller, &mut superuser, listing);
+    let by_first = begin(host, &mut caller, &mut first, a_file(host, 1, b"one"));
+    let by_second = begin(host, &mut caller, &mut second, a_file(host, 2, b"two"));
+    commit(host, &mut caller, &mut second, &by_second);
+    sees_both(host, &mut caller, &mut superuser);
+    commit(host, &mut caller, &mut first, &by_first);
+    sees_both(host, &mut caller, &mut superuser);
 }
 
 /// Serves one connection: how many calls were answered.
-fn serve_one<R: Host + Clock + Threads + Wait + Sync>(
+fn serve_one<R: Alloc<A = Global> + Abort + Clock + Threads + Wait + Sync>(
     rt: &R,
     listener: &TcpListener,
     pinned: PublicKey,
@@ -187,7 +193,7 @@ fn serve_one<R: Host + Clock + Threads + Wait + Sync>(
 
 #[test]
 fn two_write_at_once(rt: HostRuntime) {
-    let pinned = key_of(&rt, 0).public();
+    let pinned = first_key(&(&rt, Here));
     let listener = TcpListener::bind(&rt, "127.0.0.1:0").expect(&rt, "a port");
     let address = listener.local_addr().expect(&rt, "its address");
     let (answered, ()) = thread::join(

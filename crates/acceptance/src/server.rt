@@ -1,68 +1,14 @@
 //! The server: a long history of calls made by hand with their answers, in the order in which faults are told, and a
 //! full log.
 
-use crate::replies::reply_to;
-use crate::texts::{
-    Host, check, check_text, joined, key_of, listed, named, plan, shown, signed, structure,
-};
-use consistency_server::{Call, CallKind, Log, MemoryLog, Ordered};
-use lms_sign::{PrivateKey, PublicKey};
+use crate::here::Here;
+use client_aids::servers::{Server, answers_commit, answers_update, server_of};
+use consistency_server::{Call, CallKind, Log, MemoryLog};
+use lms_sign::PrivateKey;
 use std::alloc::Global;
+use test_aids::texts::{joined, key_of, listed, named, plan, reply_to, shown, signed, structure};
+use test_aids::{Host, check, check_text};
 use wire::Status;
-
-/// A server and its log.
-#[derive(Drop)]
-pub(crate) struct Server {
-    ordered: Ordered<Global>,
-    log: MemoryLog<Global>,
-}
-
-impl Server {
-    /// How many events it made.
-    pub(crate) fn events(&self) -> usize {
-        self.log.events().len()
-    }
-}
-
-/// A server at the beginning, for which this is user 0's key.
-pub(crate) fn server_of(rt: &impl Host, key: PublicKey) -> Server {
-    let ordered = Ordered::genesis(rt.alloc(), key);
-    let log = MemoryLog::new(rt.alloc()).expect(rt, "memory");
-    Server { ordered, log }
-}
-
-/// The server answers this status to the certificate: the payload.
-pub(crate) fn answers_update_so(
-    rt: &impl Host,
-    server: &mut Server,
-    text: &[u8],
-    status: Status,
-) -> Vec<u8> {
-    let answer = server.ordered.update(&mut server.log, text);
-    let found = answer.status();
-    assert!(rt; found == status, "{found:?} and not {status:?}: {text:?}");
-    answer.into_payload()
-}
-
-/// The server answers this status and payload to the certificate.
-pub(crate) fn answers_update(
-    rt: &impl Host,
-    server: &mut Server,
-    text: &[u8],
-    status: Status,
-    payload: &[u8],
-) {
-    let found = answers_update_so(rt, server, text, status);
-    check_text(rt, &found, payload);
-}
-
-/// The server answers this status to the structure, and no payload.
-pub(crate) fn answers_commit(rt: &impl Host, server: &mut Server, text: &[u8], status: Status) {
-    let answer = server.ordered.commit(&mut server.log, text);
-    let found = answer.status();
-    assert!(rt; found == status, "{found:?} and not {status:?}: {text:?}");
-    check(rt, answer.into_payload().is_empty(), "no payload");
-}
 
 /// The structure that a certificate names.
 #[derive(Clone, Copy)]
@@ -323,6 +269,7 @@ fn keeps_each(rt: &impl Host, run: &Run) {
 
 #[test]
 fn each_call_of_a_long_history(rt: HostRuntime) {
+    let rt = (rt, Here);
     let mut run = new_run(&rt);
     for (sent, status) in &HISTORY {
         run.answers(&rt, *sent, *status);
@@ -332,7 +279,7 @@ fn each_call_of_a_long_history(rt: HostRuntime) {
 
 /// Fills a log.
 fn fill(rt: &impl Host, log: &mut MemoryLog<Global>) {
-    for _ in log.events().len()..1024 {
+    for _ in log.calls().len()..1024 {
         let call = Call::new(CallKind::Update, Vec::new(rt.alloc()));
         log.try_push(call).expect(rt, "room");
     }
@@ -370,6 +317,7 @@ fn answers_full(rt: &impl Host, run: &mut Run, calls: &[(Sent, Status)]) {
 
 #[test]
 fn full_log_is_busy(rt: HostRuntime) {
+    let rt = (rt, Here);
     let mut run = new_run(&rt);
     answers_full(&rt, &mut run, &FULL);
     check(&rt, run.server.ordered.history().len() == 4, "not Busy");

@@ -2,16 +2,18 @@
 //! hands in something else first: the client answers which rule that breaks, asks for the same block still, and goes on
 //! with it.
 
-use crate::certificates::{i_number, principal};
 use crate::changes::Planned;
-use crate::refusals::changed;
-use crate::replies::{declare_changes, end, first_key, sign, step_on, superuser};
-use crate::server::{Server, answers_commit, answers_update_so, server_of};
-use crate::texts::{Host, check, check_text, joined};
+use client_aids::clients::{
+    MemoryClient, declare_changes, end, first_key, sign, step_on, superuser,
+};
+use client_aids::servers::{Server, answers_commit, answers_update_so, server_of};
 use client_tree::Held;
-use client_verify::{Client, Look, Rule, Step};
+use client_verify::{Look, Rule, Step};
 use layout::{Digest, digest};
 use std::alloc::Global;
+use test_aids::numbers::{i_number, principal};
+use test_aids::texts::{changed, joined};
+use test_aids::{Host, check, check_text};
 use update_cert::Blocks;
 use wire::Status;
 
@@ -21,7 +23,7 @@ const BOUND: usize = 2000;
 /// A client of user 0, its server, and a store of blocks.
 #[derive(Drop)]
 pub(crate) struct World {
-    pub(crate) client: Client<Global>,
+    pub(crate) client: MemoryClient,
     server: Server,
     store: Held<Global>,
     /// The blocks that were asked for since this was looked at.
@@ -70,14 +72,14 @@ fn bad(rt: &impl Host, block: &[u8], fault: Fault) -> Option<Vec<u8>> {
 }
 
 /// Whether what is handed in for the block that the reply asks for breaks the rule on blocks.
-fn breaks_reply(rt: &impl Host, client: &mut Client<Global>, block: Option<&[u8]>) -> bool {
+fn breaks_reply(rt: &impl Host, client: &mut MemoryClient, block: Option<&[u8]>) -> bool {
     assert!(rt; client.wants());
     let step = client.on_block(block).expect(rt, "memory");
     matches!(step, Step::Broken(Rule::Block))
 }
 
 /// The same where a look asks for it.
-fn breaks_look(rt: &impl Host, client: &mut Client<Global>, block: Option<&[u8]>) -> bool {
+fn breaks_look(rt: &impl Host, client: &mut MemoryClient, block: Option<&[u8]>) -> bool {
     assert!(rt; client.looking());
     let look = client.give(block).expect(rt, "memory");
     matches!(look, Look::Broken(Rule::Block))

@@ -1,7 +1,7 @@
 //! How long things take, for people: `bench lms` keys, signatures and verifications, `bench itable` an i-table of 4,095
 //! digests, `bench directory` a directory of 1,024 entries, `bench table` the largest table of principals, `bench look` looks
-//! at files, `bench server` operations over TCP. `bench visit=ADDR` makes an operation at a server that runs. With no word
-//! it does nothing.
+//! at files, `bench server` operations over TCP. `bench visit=ADDR` makes an operation at a server that runs. With no word it
+//! does nothing.
 #![tactic(auto)]
 
 mod counts;

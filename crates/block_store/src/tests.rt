@@ -63,6 +63,116 @@ fn the_largest_block_passes(rt: HostRuntime) -> Result<(), Fail> {
     Ok(())
 }
 
+/// The sizes at which blocks of the file system begin or end, and those beside them.
+const SIZES: [usize; 9] = [0, 1, 999, 1_000, 4_095, 4_096, 4_097, 32_778, 32_779];
+
+/// A block of so many bytes, which begins with a number where it has room for it.
+fn sized(alloc: Global, size: usize, number: u8) -> Result<Vec<u8>, StoreError> {
+    let Ok(mut bytes) = vec![in alloc; 0x5a_u8; size] else {
+        return Err(StoreError::Memory);
+    };
+    if let Some(first) = bytes.first_mut() {
+        *first = number;
+    }
+    Ok(bytes)
+}
+
+#[test]
+fn blocks_of_all_sizes_are_found(rt: HostRuntime) -> Result<(), Fail> {
+    let store = Store::new(rt.alloc());
+    for size in SIZES {
+        for number in 0..3u8 {
+            let bytes = sized(rt.alloc(), size, number)?;
+            let wanted = layout::digest(&bytes);
+            let is_known = store.fetch(&rt, wanted)?.is_some();
+            assert!(rt;
+                is_known == (size == 0 && number > 0),
+                "{size} bytes, before"
+            );
+            assert!(rt;
+                put(&rt, &store, &bytes)? == wanted,
+                "{size} bytes, their digest"
+            );
+            assert!(rt; gives(&rt, &store, wanted, &bytes), "{size} bytes, put");
+        }
+    }
+    // After all of them, in the other order.
+    for size in SIZES.iter().rev() {
+        for number in 0..3u8 {
+            let bytes = sized(rt.alloc(), *size, number)?;
+            let digest = layout::digest(&bytes);
+            assert!(rt;
+                gives(&rt, &store, digest, &bytes),
+                "{size} bytes, at the end"
+            );
+        }
+    }
+    Ok(())
+}
+
+#[test]
+fn larger_blocks_are_refused(rt: HostRuntime) -> Result<(), Fail> {
+    let store = Store::new(rt.alloc());
+    for size in [32_780, 32_781, 65_536, 2_097_151] {
+        let bytes = sized(rt.alloc(), size, 1)?;
+        assert!(rt;
+            put(&rt, &store, &bytes) == Err(StoreError::TooLarge),
+            "{size} bytes"
+        );
+        let digest = layout::digest(&bytes);
+        assert!(rt;
+            store.fetch(&rt, digest)?.is_none(),
+            "{size} bytes, not stored"
+        );
+    }
+    Ok(())
+}
+
+/// Puts a block of each size and number, and then fetches all of them. Tells how many came as they were put.
+fn fill_sizes<R: Wait>(rt: &R, alloc: Global, store: &Store<Global>, numbers: [u8; 4]) -> u32 {
+    let mut found = 0u32;
+    for size in SIZES {
+        for number in numbers {
+            if let Ok(bytes) = sized(alloc, size, number) {
+                let _put = put(rt, store, &bytes);
+            }
+        }
+    }
+    for size in SIZES {
+        for number in numbers {
+            if let Ok(bytes) = sized(alloc, size, number) {
+                if gives(rt, store, layout::digest(&bytes), &bytes) {
+                    found = found.wrapping_add(1);
+                }
+            }
+        }
+    }
+    found
+}
+
+#[test]
+fn two_threads_put_blocks_of_all_sizes(rt: HostRuntime) -> Result<(), Fail> {
+    let alloc = rt.alloc();
+    let store = Store::new(alloc);
+    let (first, second) = thread::join(
+        &rt,
+        || fill_sizes(&rt, alloc, &store, [1, 2, 3, 4]),
+        || fill_sizes(&rt, alloc, &store, [3, 4, 5, 6]),
+    );
+    assert_eq!(rt; (first, second), (36, 36));
+    for size in SIZES {
+        for number in 1..=6u8 {
+            let bytes = sized(alloc, size, number)?;
+            let digest = layout::digest(&bytes);
+            assert!(rt;
+                gives(&rt, &store, digest, &bytes),
+                "{size} bytes, number {number}"
+            );
+        }
+    }
+    Ok(())
+}
+
 /// Puts the blocks of these numbers and fetches each. Tells how many came as they were put.
 fn fill<R: Wait>(rt: &R, store: &Store<Global>, from: u32, to: u32) -> u32 {
     let mut found = 0u32;

@@ -13,7 +13,7 @@ use Rattle.client_verify.specs.declared.growing.Reached.{Reached}
 use Rattle.client_verify.specs.declared.growing.Reached.TheVariants as reached
 use Rattle.client_verify.specs.declared.growing.Written.{Written}
 use Rattle.client_verify.specs.Good.{Good}
-use Rattle.client_verify.specs.FirstBroken.{ByTable, IsFirstBroken, IsRead, lists_break, lists_in, reply_breaks, reply_in, view_over}
+use Rattle.client_verify.specs.FirstBroken.{Known, ByTable, IsFirstBroken, IsRead, lists_break, lists_in, reply_breaks, reply_in, view_over}
 use Rattle.client_verify.specs.Grown.{IsReached, IsWritten}
 use Rattle.client_verify.specs.State.{State, Checked, Reading, asked_of, block_breaks, blocks_with, holding, known}
 use Rattle.client_verify.specs.Judged.{Goes, Handed, Judged, ReadsOn, Taken, unjudged, view_of}
@@ -44,18 +44,33 @@ TakenOf s r st new = IsSomeAnd (lists_of r) (λ x. Taken s r x st new)
 abbrev pub GoesIn : {A : Type 0} → List Block → List ℕ → Good → Written A → Lists → Type 0
 GoesIn blocks key g w x = IsRead (held blocks) key x g.table g.void × (lists_break g.table x ≡ None) × IsWritten (held blocks) (view_over key g.table x) g.void w
 
--- how far the reply comes by the blocks and the key of the same state
-pub reached_there : {A : Type 0} (inner old : State) (r : Reply) (f g : Reached A) → inner ≡ old → f ≡ g → IsSomeAnd (lists_of r) (λ x. IsReached (held inner.blocks) inner.pinned x f) → IsSomeAnd (lists_of r) (λ x. IsReached (held old.blocks) old.pinned x g)
-reached_there {A} inner old r f g same is reaches =
-    let of_old : IsSomeAnd (lists_of r) (λ x. IsReached {A = A} (held old.blocks) old.pinned x f) = subst (λ (s : State). IsSomeAnd (lists_of r) (λ x. IsReached {A = A} (held s.blocks) s.pinned x f)) same reaches in
+-- how far the reply comes by the blocks of the same state, and by the key that it knows
+pub reached_there : {A : Type 0} (inner old : State) (k : Known) (r : Reply) (f g : Reached A) → inner ≡ old → k ≡ known old → f ≡ g → IsSomeAnd (lists_of r) (λ x. IsReached (held inner.blocks) k.pinned x f)
+    → IsSomeAnd (lists_of r) (λ x. IsReached (held old.blocks) old.pinned x g)
+reached_there {A} inner old k r f g same by is reaches =
+    let of_key : IsSomeAnd (lists_of r) (λ x. IsReached {A = A} (held inner.blocks) old.pinned x f) = subst (λ (l : Known). IsSomeAnd (lists_of r) (λ x. IsReached {A = A} (held inner.blocks) l.pinned x f)) by reaches in
+    let of_old : IsSomeAnd (lists_of r) (λ x. IsReached {A = A} (held old.blocks) old.pinned x f) = subst (λ (s : State). IsSomeAnd (lists_of r) (λ x. IsReached {A = A} (held s.blocks) old.pinned x f)) same of_key in
     subst (λ (h : Reached A). IsSomeAnd (lists_of r) (λ x. IsReached {A = A} (held old.blocks) old.pinned x h)) is of_old
 
--- the same with one block more, for the same reply
-pub reached_more : {A : Type 0} (inner old : State) (text : List ℕ) (r other : Reply) (f g : Reached A) → inner ≡ old → r ≡ other → f ≡ g → IsSomeAnd (lists_of r) (λ x. IsReached (held (keeping inner.blocks text)) inner.pinned x f)
-    → IsSomeAnd (lists_of other) (λ x. IsReached (held (keeping old.blocks text)) old.pinned x g)
-reached_more {A} inner old text r other f g same replies is reaches =
-    let of_other : IsSomeAnd (lists_of other) (λ x. IsReached {A = A} (held (keeping inner.blocks text)) inner.pinned x f) = subst (λ (q : Reply). IsSomeAnd (lists_of q) (λ x. IsReached {A = A} (held (keeping inner.blocks text)) inner.pinned x f)) replies reaches in
-    reached_there (holding inner text) (holding old text) other f g (ap (λ (s : State). holding s text) same) is of_other
+-- the same with one block more, for the reply under check
+pub reached_on : {A : Type 0} (inner old : State) (l : Known) (text : List ℕ) (k : Checked) (r : Reply) (a : Asked) (f : Reached A) → inner ≡ old → l ≡ known old → Reading r a ≡ k → IsSomeAnd (lists_of r) (λ x. IsReached (held (keeping inner.blocks text)) l.pinned x f)
+    → IsSomeAnd (unjudged k) (λ x. IsReached (held (keeping old.blocks text)) old.pinned x f)
+reached_on {A} inner old l text k r a f same by is reaches =
+    let there = reached_there (holding inner text) (holding old text) l r f f (ap (λ (s : State). holding s text) same) by refl reaches in
+    subst (λ (c : Checked). IsSomeAnd (unjudged c) (λ x. IsReached {A = A} (held (keeping old.blocks text)) old.pinned x f)) is there
+
+-- and for the reply that was taken out
+pub reached_taken : {A : Type 0} (old : State) (text : List ℕ) (k : Checked) (r : Reply) (a : Asked) (f g : Reached A) → Reading r a ≡ k → f ≡ g → IsSomeAnd (unjudged k) (λ x. IsReached (held (keeping old.blocks text)) old.pinned x f)
+    → IsSomeAnd (lists_of r) (λ x. IsReached (held (keeping old.blocks text)) old.pinned x g)
+reached_taken {A} old text k r a f g is same reaches =
+    let of_reply : IsSomeAnd (lists_of r) (λ x. IsReached {A = A} (held (keeping old.blocks text)) old.pinned x f) = subst (λ (c : Checked). IsSomeAnd (unjudged c) (λ x. IsReached {A = A} (held (keeping old.blocks text)) old.pinned x f)) (sym is) reaches in
+    subst (λ (h : Reached A). IsSomeAnd (lists_of r) (λ x. IsReached {A = A} (held (keeping old.blocks text)) old.pinned x h)) same of_reply
+
+-- the lists break a rule by the table that is read with one block more
+pub reads_broken : {A : Type 0} (old : State) (text : List ℕ) (o : Option Checked) (f : Reached A) (rule : Rule) → f ≡ reached.Breaks rule → IfSome o (λ k. IsSomeAnd (unjudged k) (λ x. IsReached (held (keeping old.blocks text)) old.pinned x f))
+    → IfSome o (λ k. IsSomeAnd (unjudged k) (λ x. ByTable (held (keeping old.blocks text)) old.pinned x (Some rule)) × (old ≡ old))
+reads_broken old text None f rule is reaches = tt
+reads_broken {A} old text (Some k) f rule is reaches = (subst (λ (h : Reached A). IsSomeAnd (unjudged k) (λ x. IsReached {A = A} (held (keeping old.blocks text)) old.pinned x h)) is reaches, refl)
 
 -- a block of the table of principals is asked for
 pub taken_lacks : (A : Type 0) (s new : State) (r : Reply) (a : Asked) (st : Step A) → st ≡ step.Need a.digest → new ≡ record s { checked = Some (Reading r a); accepted = None }
@@ -104,10 +119,6 @@ asked_is v old blocks text j k is kept same =
     let of_checked : record v { blocks = keeping old.blocks text; checked = Some j; accepted = None } ≡ record v { blocks = keeping old.blocks text; checked = Some k; accepted = None } = ap (λ (c : Checked). record v { blocks = keeping old.blocks text; checked = Some c; accepted = None }) same in
     of_blocks ∙ of_checked ∙ ap (λ (s : State). record s { blocks = keeping old.blocks text; checked = Some k; accepted = None }) is
 
-pub reads_broken : (old : State) (k : Checked) (text : List ℕ) (r : Reply) (a : Asked) (rule : Rule) → Reading r a ≡ k → IsSomeAnd (lists_of r) (λ x. ByTable (held (keeping old.blocks text)) old.pinned x (Some rule))
-    → IsSomeAnd (unjudged k) (λ x. ByTable (held (keeping old.blocks text)) old.pinned x (Some rule))
-reads_broken old k text r a rule is breaks = subst (λ (c : Checked). IsSomeAnd (unjudged c) (λ x. ByTable (held (keeping old.blocks text)) old.pinned x (Some rule))) is breaks
-
 reading_on : {A : Type 0} (old new : State) (text : List ℕ) (r : Reply) (a : Asked) (st : Step A) → TakenOf (holding old text) r st new → ReadsOn old (Reading r a) text st new
 reading_on old new text r a (step.Need d) taken = taken
 reading_on old new text r a (step.Store texts) taken = taken
@@ -123,6 +134,12 @@ pub breaks_before : (inner old : State) (a b : Asked) (block : Option (List ℕ)
 breaks_before inner old a b block o same is breaks =
     let of_asked : block_breaks (held old.blocks) a block ≡ o = subst (λ (c : Asked). block_breaks (held old.blocks) c block ≡ o) (sym is) breaks in
     subst (λ (s : State). block_breaks (held s.blocks) a block ≡ o) (sym same) of_asked
+
+-- and the other way about
+pub breaks_after : (inner old : State) (a b : Asked) (block : Option (List ℕ)) (o : Option Rule) → inner ≡ old → a ≡ b → block_breaks (held inner.blocks) a block ≡ o → block_breaks (held old.blocks) b block ≡ o
+breaks_after inner old a b block o same is breaks =
+    let of_asked : block_breaks (held inner.blocks) b block ≡ o = subst (λ (c : Asked). block_breaks (held inner.blocks) c block ≡ o) is breaks in
+    subst (λ (s : State). block_breaks (held s.blocks) b block ≡ o) same of_asked
 
 pub handed_reads : {A : Type 0} (old new : State) (k : Checked) (block : Option (List ℕ)) (text : List ℕ) (st : Step A) → block_breaks (held old.blocks) (asked_of k) block ≡ None → block ≡ Some text → ReadsOn old k text st new → Handed old k block st new
 handed_reads old new k block text (step.Need d) none is reads = (none, some_one block text _ is reads)

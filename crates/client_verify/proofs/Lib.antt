@@ -7,3 +7,6 @@ pub mod GrowingLaws
 pub mod Reaching
 pub mod ByTableLaws
 pub mod Handing
+pub mod VerifiedLaws
+pub mod Declared
+pub mod Releasing

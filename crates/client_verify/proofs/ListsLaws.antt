@@ -58,7 +58,7 @@ after_front : (front : List PendingItem) (own : PendingItem) → slice_get (fron
 after_front [] own = refl
 after_front (x ∷ xs) own = after_front xs own
 
-last_one : (front : List PendingItem) (own : PendingItem) → slice_get (front ++ own ∷ []) (length (front ++ own ∷ []) - 1) ≡ Some own
+pub last_one : (front : List PendingItem) (own : PendingItem) → slice_get (front ++ own ∷ []) (length (front ++ own ∷ []) - 1) ≡ Some own
 last_one front own =
     let last : length (front ++ own ∷ []) - 1 ≡ length front = omega (arith, length-append front (own ∷ [])) in
     rw last (after_front front own)

@@ -9,6 +9,7 @@ use Rattle.client_verify.specs.declared.step.Step.TheVariants as step
 use Rattle.client_verify.specs.declared.look.Look.{Look}
 use Rattle.client_verify.specs.declared.look.Look.TheVariants as look
 use Rattle.layout.specs.Types.{Handle}
+use Rattle.principals.specs.Table.{Table}
 use Rattle.version_order.specs.declared.structure.GroupRecord.{GroupRecord}
 use Rattle.client_tree.specs.Tree.{IsWanted}
 use Rattle.client_tree.specs.View.{handle_in}
@@ -94,7 +95,9 @@ given_from {A} inner old v l blocks block text s new is kept there none given lo
     given_looked old v l block text s new none given (subst (λ (b : List Block). Looked {A = A} (record old { blocks = b }) v l.principal l.i_number s new) kept of_view)
 
 -- what is shown by blocks in a view is shown by the same blocks in the same view
-pub shown_there : {A : Type 0} (before blocks : List Block) (key same_key : List ℕ) (inside v : AcceptedView) (p i : ℕ) (s : Shown A) → before ≡ blocks → key ≡ same_key → inside ≡ v → IsAnswer (held before) (view_over key inside.table inside.lists) p i s → IsAnswer (held blocks) (view_over same_key v.table v.lists) p i s
-shown_there {A} before blocks key same_key inside v p i s same pinned is shown =
+pub shown_there : {A : Type 0} (before blocks : List Block) (key same_key : List ℕ) (t : Table) (x : Lists) (v : AcceptedView) (p i : ℕ) (s : Shown A) → before ≡ blocks → key ≡ same_key → t ≡ v.table → x ≡ v.lists
+    → IsAnswer (held before) (view_over key t x) p i s → IsAnswer (held blocks) (view_over same_key v.table v.lists) p i s
+shown_there {A} before blocks key same_key t x v p i s same pinned of_table of_lists shown =
+    let of_view : IsAnswer {A = A} (held before) (view_over key v.table v.lists) p i s = subst (λ (y : Lists). IsAnswer {A = A} (held before) (view_over key v.table y) p i s) of_lists (subst (λ (u : Table). IsAnswer {A = A} (held before) (view_over key u x) p i s) of_table shown) in
     subst (λ (bs : List Block). IsAnswer {A = A} (held bs) (view_over same_key v.table v.lists) p i s) same
-    (subst (λ (k : List ℕ). IsAnswer {A = A} (held before) (view_over k v.table v.lists) p i s) pinned (subst (λ (w : AcceptedView). IsAnswer {A = A} (held before) (view_over key w.table w.lists) p i s) is shown))
+    (subst (λ (k : List ℕ). IsAnswer {A = A} (held before) (view_over k v.table v.lists) p i s) pinned of_view)

@@ -5,3 +5,5 @@ pub mod Judged
 pub mod Looked
 pub mod Laid
 pub mod Grown
+pub mod Verified
+pub mod JudgedLast

@@ -1,11 +1,11 @@
 -- A client as a machine: its state, and what each call makes of it.
-use Rattle.std.specs.Prelude.{ℕ, ◌+◌, List, [], ◌∷◌, ◌++◌, fold, Option, Some, None}
+use Rattle.std.specs.Prelude.{◌≡◌, ℕ, ◌+◌, List, [], fold, Option, Some, None, IfSome, IsSomeAnd}
 use Rattle.std.specs.Option.{option_map_or}
 use Rattle.std.specs.Ordering.{nat_cmp}
 use Rattle.layout.specs.Ascending.{with_row}
 use Rattle.layout.specs.Hash.{hash}
 use Rattle.layout.specs.Types.{Digest, Handle}
-use Rattle.lms_sign.specs.Signature.{signature_of}
+use Rattle.leaf_ledger.specs.Ledger.{LeafNumber}
 use Rattle.version_order.specs.declared.structure.GroupRecord.{GroupRecord}
 use Rattle.version_order.specs.Plan.{Plan}
 use Rattle.version_order.specs.Structure.{Structure, group_of, structure}
@@ -19,21 +19,23 @@ use Rattle.principals.specs.Table.{Table}
 use Rattle.pending_list.specs.declared.signed.Signed.{Signed}
 use Rattle.pending_list.specs.Signed.{signed}
 use Rattle.pending_list.specs.Reply.{Reply, digest_of_last, user_of}
-use Rattle.reply_rules.specs.Lists.{Lists}
+use Rattle.reply_rules.specs.Lists.{Lists, lists_of}
 use Rattle.reply_rules.specs.declared.rule.Rule.{Rule}
 use Rattle.reply_rules.specs.declared.rule.Rule.TheVariants as rule
 use Rattle.std.specs.Str.{bytes_eq}
 use Rattle.std.specs.Prelude.{if◌then◌else◌}
 use Rattle.wire.specs.declared.kinds.Status.{Status}
 use Rattle.wire.specs.declared.kinds.Status.TheVariants as status
-use Rattle.client_verify.specs.declared.phase.Phase.{Phase}
-use Rattle.client_verify.specs.declared.phase.Phase.TheVariants as phase
+use Rattle.client_releases.specs.declared.phase.Phase.{Phase}
+use Rattle.client_releases.specs.declared.phase.Phase.TheVariants as phase
 use Rattle.client_verify.specs.declared.asked.Asked.{Asked}
 use Rattle.client_verify.specs.declared.view.Looking.{Looking}
 use Rattle.client_verify.specs.declared.view.Stage.{Stage as Held}
 use Rattle.client_verify.specs.declared.view.Stage.TheVariants as stage
 use Rattle.client_verify.specs.FirstBroken.{Known}
 use Rattle.client_verify.specs.Good.{Good}
+use Rattle.client_releases.specs.Releasing.{Devices}
+use Rattle.client_releases.specs.Told.{Released, sent, signed_by}
 
 -- A reply that breaks none of the rules on itself, of which a block is asked for: one of the table of principals; or,
 -- once that is read and the lists break no rule by it, one that tells what the own operation makes.
@@ -75,14 +77,14 @@ pub record State : Type 0 where
   pub id : List ℕ
   -- user 0's public key
   pub pinned : List ℕ
-  -- the least leaf of the own key that signed nothing yet
-  pub leaf : ℕ
-  -- the number of the operation that was declared last, 0 where none was
+  -- the leaves of the own key, and the signed texts that were released
+  pub devices : Devices
+  -- what the records of the journal tell (client_releases/specs/Told.antt): the number of the operation that was declared last, 0 where none
+  -- was; the structure that was signed last; how far the operation is, but for its commit; and the signed text that was
+  -- released last, a certificate or a structure
   pub number : ℕ
-  -- the structure that was signed last
   pub last : Option (Signed Structure)
   pub phase : Phase
-  -- the signed text of this phase: a certificate or a structure, as it is sent
   pub text : List ℕ
   -- the blocks that are held: those of the beginning, those that were laid out, and those that were checked
   pub blocks : List Block
@@ -96,23 +98,35 @@ pub record State : Type 0 where
 abbrev pub known : State → Known
 known s = record { user = s.user; pinned = s.pinned; last = s.last; declared = s.text }
 
--- a client of this user and key before its first operation
-abbrev pub initial : ℕ → List ℕ → List ℕ → List ℕ → State
-initial user seed id pinned = record {
-  user = user;
-  seed = seed;
-  id = id;
+-- a client of this user and key as it is opened: what it released, and the blocks of the beginning
+abbrev pub opened : List ℕ → Released → State
+opened pinned r = record {
+  user = r.user;
+  seed = r.seed;
+  id = r.id;
   pinned = pinned;
-  leaf = 0;
-  number = 0;
-  last = None;
-  phase = phase.Idle;
-  text = [];
+  devices = r.devices;
+  number = r.number;
+  last = r.last;
+  phase = r.phase;
+  text = r.text;
   blocks = first_blocks pinned;
   checked = None;
   accepted = None;
   view = None;
 }
+
+-- what the client has released, with its devices
+abbrev pub released : State → Released
+released s = record { user = s.user; seed = s.seed; id = s.id; devices = s.devices; number = s.number; last = s.last; phase = s.phase; text = s.text }
+
+-- the state with these devices
+abbrev pub on : Devices → State → State
+on devices s = record s { devices = devices }
+
+-- the state once a device has failed: no reply is under check or accepted any more
+abbrev pub failed : State → State
+failed s = record s { phase = phase.Failed; checked = None; accepted = None }
 
 -- ---- declaring
 
@@ -120,18 +134,20 @@ initial user seed id pinned = record {
 abbrev pub next_cert : State → List (Change Digest) → Cert
 next_cert s changes = record { user = s.user; number = s.number + 1; last = digest_of_last s.last; changes = changes }
 
--- a text with its signature by the next leaf
-abbrev pub sent : State → List ℕ → List ℕ
-sent s text = text ++ signature_of s.seed s.id s.leaf text
+-- the certificate of these changes that comes next, as it is sent, signed by this leaf
+abbrev pub declared_text : State → LeafNumber → List (Change Digest) → List ℕ
+declared_text s leaf changes = sent (released s) leaf (cert.spell (next_cert s changes))
 
--- the state after these changes are declared, for which these blocks were laid out
-abbrev pub declared : State → List (Change Digest) → List (List ℕ) → State
-declared s changes laid = record s {
-  leaf = s.leaf + 1;
+-- the state with these blocks, which were laid out
+abbrev pub laying : List (List ℕ) → State → State
+laying laid s = record s { blocks = keeping_all s.blocks laid }
+
+-- the state after these changes are declared by this leaf, for which these blocks were laid out
+abbrev pub declared : State → LeafNumber → List (Change Digest) → List (List ℕ) → State
+declared s leaf changes laid = record (laying laid s) {
   number = s.number + 1;
   phase = phase.Declared;
-  text = sent s (cert.spell (next_cert s changes));
-  blocks = keeping_all s.blocks laid;
+  text = declared_text s leaf changes;
   checked = None;
   accepted = None;
 }
@@ -169,36 +185,53 @@ structure_over handle records last plan = record { plan = plan; handle = handle;
 abbrev pub next_structure : State → Ready → Structure
 next_structure s r = structure_over r.handle r.records s.last r.lists.own.plan
 
--- a structure with its signature by this leaf
-abbrev pub signed_by : List ℕ → List ℕ → ℕ → Structure → Signed Structure
-signed_by seed id leaf z = record { value = z; signature = signature_of seed id leaf (structure.spell z) }
+abbrev pub signed_structure : State → LeafNumber → Ready → Signed Structure
+signed_structure s leaf r = signed_by s.seed s.id leaf (next_structure s r)
 
-abbrev pub signed_structure : State → Ready → Signed Structure
-signed_structure s r = signed_by s.seed s.id s.leaf (next_structure s r)
+-- the structure over an accepted reply, as it is sent, signed by this leaf
+abbrev pub signed_text : State → LeafNumber → Ready → List ℕ
+signed_text s leaf r = (signed structure).spell (signed_structure s leaf r)
 
 -- the structures, which ascend by user, with this one in its user's place
 abbrev pub with_own : Signed Structure → List (Signed Structure) → List (Signed Structure)
 with_own z zs = with_row nat_cmp user_of zs z
 
 -- the view of an accepted reply
-abbrev pub view_of : State → Ready → AcceptedView
-view_of s r = record { lists = r.lists; table = r.table; structures = with_own (signed_structure s r) r.lists.structures; lost = r.lost; looking = None }
+abbrev pub view_of : State → LeafNumber → Ready → AcceptedView
+view_of s leaf r = record { lists = r.lists; table = r.table; structures = with_own (signed_structure s leaf r) r.lists.structures; lost = r.lost; looking = None }
 
--- the state after the structure over an accepted reply is signed
-abbrev pub signed_over : State → Ready → State
-signed_over s r = record s {
-  leaf = s.leaf + 1;
-  last = Some (signed_structure s r);
+-- the state after the structure over an accepted reply is signed by this leaf
+abbrev pub signed_over : State → LeafNumber → Ready → State
+signed_over s leaf r = record s {
+  last = Some (signed_structure s leaf r);
   phase = phase.Signed;
-  text = (signed structure).spell (signed_structure s r);
+  text = signed_text s leaf r;
   checked = None;
   accepted = None;
-  view = Some (view_of s r);
+  view = Some (view_of s leaf r);
 }
+
+-- ---- what is under way
+
+-- the plan is that of the declared operation
+pub record IsOfDeclared (r : Released) (own : Plan) : Type 0 where
+  pub is_declared : r.phase ≡ phase.Declared
+  pub user : own.user ≡ r.user
+  pub number : own.number ≡ r.number
+
+-- the lists of a reply under check
+abbrev pub lists_under : Checked → Option Lists
+lists_under (Reading r a) = lists_of r
+lists_under (Writing x a) = Some x.lists
+
+-- what is under check or accepted is a reply to the declared operation
+pub record AreReplies (r : Released) (checked : Option Checked) (accepted : Option Ready) : Type 0 where
+  pub of_checked : IfSome checked (λ k. IsSomeAnd (lists_under k) (λ x. IsOfDeclared r x.own.plan))
+  pub of_accepted : IfSome accepted (λ y. IsOfDeclared r y.lists.own.plan)
 
 -- ---- committing
 
--- the state after the server answered a commit
+-- the state after the server answered a commit, of which no record tells
 abbrev pub committed : Status → State → State
 committed status.Ok s = record s { phase = phase.Idle }
 committed other s = s

@@ -1,37 +1,25 @@
 //! The first broken rule of those on the lists of a reply, by the table of principals.
 
-ghost use Rattle.std.specs.Prelude.{◌≡◌, false, IfOk, IsSomeAnd};
-ghost use Rattle.std.specs.Option.{option_map_or};
-ghost use Rattle.lms_sign.specs.Signature.{valid};
-ghost use Rattle.principals.specs.Table.{key_of};
+ghost use Rattle.std.specs.Prelude.{◌≡◌, IfOk, IsSomeAnd};
 ghost use Rattle.std.specs.List.{list_all};
 ghost use Rattle.reply_rules.specs.Lists.{lists_of};
 ghost use Rattle.update_cert.specs.Cert.{cert};
 ghost use Rattle.version_order.specs.Structure.{structure};
 ghost use Rattle.client_verify.specs.FirstBroken.{lists_break, verifies};
 
+use crate::known::Known;
 use crate::lists::Admitted;
-use layout::{Memory, Text, User};
-use lms_sign::verify;
-use pending_list::{PendingItem, Signature, Signed};
+use layout::{Memory, User};
+use pending_list::{PendingItem, Signed};
 use principals::Table;
 use reply_rules::Rule;
 use std::alloc::Allocator;
 use version_order::Structure;
 
-/// Whether a text is signed by the key that the table has of this user.
-fn is_signed<A: Allocator>(table: &Table<A>, user: User, text: &[u8], signature: &Signature) -> bool
-    ensures { result ≡ option_map_or (λ key. valid key text.now signature.now) (key_of user table.now) false }
-{
-    match table.key_of(user) {
-        Some(key) => verify(&key, text, signature.as_bytes()),
-        None => false,
-    }
-}
-
 /// Whether a structure of another user than user 0 is signed by the key that the table has of the user.
 fn structure_is_signed<A: Allocator + Copy>(
     alloc: A,
+    known: &Known<'_, A>,
     table: &Table<A>,
     shown: &Signed<Structure<A>>,
 ) -> Result<bool, Memory>
@@ -41,13 +29,16 @@ fn structure_is_signed<A: Allocator + Copy>(
     if user == User::superuser() {
         return Ok(true);
     }
-    let text = shown.value.text(alloc)?;
-    Ok(is_signed(table, user, &text, &shown.signature))
+    match table.key_of(user) {
+        Some(key) => known.structure_is_signed(alloc, &key, shown),
+        None => Ok(false),
+    }
 }
 
 /// Whether a pending certificate of another user than user 0 is.
 fn cert_is_signed<A: Allocator + Copy>(
     alloc: A,
+    known: &Known<'_, A>,
     table: &Table<A>,
     item: &PendingItem<A>,
 ) -> Result<bool, Memory>
@@ -57,20 +48,23 @@ fn cert_is_signed<A: Allocator + Copy>(
     if user == User::superuser() {
         return Ok(true);
     }
-    let text = item.cert().text(alloc)?;
-    Ok(is_signed(table, user, &text, item.signature()))
+    match table.key_of(user) {
+        Some(key) => known.cert_is_signed(alloc, &key, item),
+        None => Ok(false),
+    }
 }
 
 /// Whether each structure is.
 fn structures_are_signed<A: Allocator + Copy>(
     alloc: A,
+    known: &Known<'_, A>,
     table: &Table<A>,
     structures: &[Signed<Structure<A>>],
 ) -> Result<bool, Memory>
     ensures { IfOk result (λ are. are ≡ list_all (λ z. verifies table.now z.value.plan.user (structure.spell z.value) z.signature) structures.now) }
 {
     for shown in structures {
-        if !structure_is_signed(alloc, table, shown)? {
+        if !structure_is_signed(alloc, known, table, shown)? {
             return Ok(false);
         }
     }
@@ -80,13 +74,14 @@ fn structures_are_signed<A: Allocator + Copy>(
 /// Whether each pending certificate is.
 fn certs_are_signed<A: Allocator + Copy>(
     alloc: A,
+    known: &Known<'_, A>,
     table: &Table<A>,
     pending: &[PendingItem<A>],
 ) -> Result<bool, Memory>
     ensures { IfOk result (λ are. are ≡ list_all (λ i. verifies table.now i.cert.user (cert.spell i.cert) i.signature) pending.now) }
 {
     for item in pending {
-        if !cert_is_signed(alloc, table, item)? {
+        if !cert_is_signed(alloc, known, table, item)? {
             return Ok(false);
         }
     }
@@ -97,6 +92,7 @@ fn certs_are_signed<A: Allocator + Copy>(
 #[tactic(auto, unfolding(crate::specs::FirstBroken::signatures, crate::specs::FirstBroken::certificates))]
 pub(crate) fn lists_broken<A: Allocator + Copy>(
     alloc: A,
+    known: &Known<'_, A>,
     table: &Table<A>,
     reply: &Admitted<A>,
 ) -> Result<Option<Rule>, Memory>
@@ -106,10 +102,10 @@ pub(crate) fn lists_broken<A: Allocator + Copy>(
     if first == Some(Rule::UnknownUser) {
         return Ok(first);
     }
-    if !structures_are_signed(alloc, table, reply.structures())? {
+    if !structures_are_signed(alloc, known, table, reply.structures())? {
         return Ok(Some(Rule::Signature));
     }
-    if !certs_are_signed(alloc, table, reply.pending())? {
+    if !certs_are_signed(alloc, known, table, reply.pending())? {
         return Ok(Some(Rule::Certificate));
     }
     Ok(first)

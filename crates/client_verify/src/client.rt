@@ -1,31 +1,36 @@
 //! The client.
 
-ghost use Rattle.std.specs.Prelude.{◌≡◌, ◌≢◌, ◌+◌, ◌<◌, ◌≤◌, Some, IfOk, IfErr, IsErrOf, IfSome, IsOk, OnOk, OnErr, IsSome, IsSomeAnd, IsTrue, ◌↔◌, true, false, length, map};
+ghost use Rattle.std.specs.Prelude.{◌≡◌, ◌≢◌, ◌⊎◌, ◌+◌, ◌<◌, ◌≤◌, [], None, Some, vec_capacity, vec_len, IfOk, IfErr, IsErrOf, IfSome, IsOk, OnOk, OnErr, IsSome, IsSomeAnd, IsTrue, ◌↔◌, true, false, length, map};
 ghost use Rattle.std.specs.Option.{option_copied, option_map};
+ghost use Rattle.std.specs.Ordering.{nat_cmp};
 ghost use Rattle.std.specs.Vec.{vec_items};
+ghost use Rattle.layout.specs.Ascending.{Ascends};
+ghost use Rattle.leaf_ledger.specs.Ledger.{IsFull, IsLeastFree, LeafNumber};
+ghost use Rattle.version_order.specs.Structure.{structure};
 ghost use Rattle.update_cert.specs.Cert.{cert};
+ghost use Rattle.pending_list.specs.Reply.{user_of};
 ghost use Rattle.client_verify.specs.Grown.{IsTold};
 ghost use Rattle.client_verify.specs.Laid.{are_laid};
 
 use crate::asked::Asked;
 use crate::checking::check;
-use crate::error::ClientError;
 use crate::good::Good;
 use crate::growing::{
     Made, Reached, Shown, Written, reach, reach_with, show, show_with, write_with,
 };
+use crate::known::Known;
 use crate::laid::copies;
-use crate::lists::with_own;
+use crate::lists::{Admitted, with_own};
 use crate::look::Look;
-use crate::phase::Phase;
-use crate::signing::{Sealed, seal};
 use crate::step::Step;
-use crate::structure::{SignedOver, sign_over};
+use crate::structure::{Draft, draft_over};
 use crate::verdict::judge;
 use crate::view::{AcceptedView, Checked, Looking, Ready, Stage};
+use client_releases::{ClientError, Parts, Phase, Releases, Unsigned};
 use client_tree::{Held, Seen, first_blocks};
-use layout::{Digest, INumber, Memory, Principal, Text, User, Version};
-use lms_sign::{LEAF_COUNT, PrivateKey, PublicKey};
+use layout::{Digest, INumber, Memory, Principal, User, Version};
+use leaf_ledger::Device;
+use lms_sign::{PrivateKey, PublicKey};
 use pending_list::{Signed, digest_of_last};
 use principals::Table;
 use reply_rules::Rule;
@@ -35,50 +40,59 @@ use update_cert::{Change, cert_text};
 use version_order::Structure;
 use wire::Status;
 
-/// A client of one user, in memory.
+/// A client of one user, over a ledger of its key's leaves and a journal of what it released.
+///
+/// A key has one ledger file, and a user one journal. One that is dropped is as after a crash.
 #[derive(Drop)]
-pub struct Client<A: Allocator> {
+pub struct Client<L: Device, J: Device, A: Allocator> {
     alloc: A,
-    user: User,
-    key: PrivateKey<A>,
     pinned: PublicKey,
-    leaf: u32,
-    number: u32,
-    last: Option<Signed<Structure<A>>>,
-    phase: Phase,
-    text: Vec<u8, A>,
+    releases: Releases<L, J, A>,
+    // Whether it is known that the own key signed the last structure and the last text. It isn't of those that a journal
+    // tells.
+    is_own: bool,
     blocks: Held<A>,
     checked: Option<Checked<A>>,
     accepted: Option<Ready<A>>,
     view: Option<AcceptedView<A>>,
 }
 
-impl<A: Allocator> Model for Client<A> {
-    ghost use Rattle.std.specs.Prelude.{◌≤◌};
-    ghost use Rattle.client_verify.specs.State.{State};
+impl<L: Device, J: Device, A: Allocator> Model for Client<L, J, A> {
+    ghost use Rattle.std.specs.Prelude.{◌≡◌, true};
+    ghost use Rattle.lms_sign.specs.Keys.{public_key_of};
+    ghost use Rattle.client_verify.specs.State.{AreReplies, State};
+    ghost use Rattle.client_verify.specs.Verified.{AreOwn};
 
     ghost Value = { State };
 
     ghost view = { λ c. record {
-      user = c.user;
-      seed = c.key.seed;
-      id = c.key.id;
+      user = c.releases.user;
+      seed = c.releases.seed;
+      id = c.releases.id;
       pinned = c.pinned;
-      leaf = c.leaf;
-      number = c.number;
-      last = c.last;
-      phase = c.phase;
-      text = c.text.items;
+      devices = c.releases.devices;
+      number = c.releases.number;
+      last = c.releases.last;
+      phase = c.releases.phase;
+      text = c.releases.text;
       blocks = c.blocks;
       checked = c.checked;
       accepted = c.accepted;
       view = c.view;
     } };
 
-    ghost invariant = { λ c. c.leaf ≤ 1024 };
+    ghost invariant = { λ c. AreReplies c.releases c.checked c.accepted
+        × (c.is_own ≡ true → AreOwn (public_key_of c.releases.seed c.releases.id) c.releases.last c.releases.text) };
 }
 
-impl<A: Allocator + Copy> Client<A> {
+/// Whether nothing was released yet.
+fn is_first<L: Device, J: Device, A: Allocator>(releases: &Releases<L, J, A>) -> bool
+    ensures { result ≡ true → (releases.now.last ≡ None) × (releases.now.text ≡ []) }
+{
+    releases.last().is_none() && releases.text().is_empty()
+}
+
+impl<L: Device, J: Device, A: Allocator + Copy> Client<L, J, A> {
     ghost use Rattle.std.specs.Prelude.{ℕ, List};
     ghost use Rattle.itable.specs.File.{NoneCollide};
     ghost use Rattle.update_cert.specs.World.{genesis as first_tree, File, is_table};
@@ -87,17 +101,43 @@ impl<A: Allocator + Copy> Client<A> {
     ghost use Rattle.update_cert.specs.Blocks.{Agrees};
     ghost use Rattle.client_tree.specs.Held.{held};
     ghost use Rattle.client_tree.specs.Genesis.{first_table, first_texts, table_text};
-    ghost use Rattle.client_verify.specs.State.{initial};
+    ghost use Rattle.lms_sign.specs.Keys.{public_key_of};
+    ghost use Rattle.leaf_ledger.specs.Device.{HasRisen};
+    ghost use Rattle.leaf_ledger.specs.Ledger.{IsForeign};
+    ghost use Rattle.client_journal.specs.Records.{IsDamaged};
+    ghost use Rattle.client_releases.specs.Releasing.{IsOpening};
+    ghost use Rattle.client_verify.specs.State.{opened, released};
+    ghost use Rattle.client_releases.specs.Told.{IsToldBy, TellsOfOther};
 
-    /// A client of this user before its first operation. User 0's public key is known to every client. Memory is wanted for
-    /// the blocks of the beginning.
-    pub fn new(
+    /// Opens the client of this user over its devices, before its first operation or after a crash: a declared operation
+    /// goes on with its certificate, and a signed one with its structure. User 0's public key is known to every client. A
+    /// refusal hands back what was handed in.
+    pub fn open(
         alloc: A,
         user: User,
         key: PrivateKey<A>,
         pinned: PublicKey,
-    ) -> Result<Client<A>, Memory>
-        ensures state { IfOk result (λ client. client ≡ initial user key.seed key.id pinned) }
+        ledger: L,
+        journal: J,
+    ) -> Result<Client<L, J, A>, (ClientError, Parts<L, J, A>)>
+        ensures state { IfOk result (λ client. client ≡ opened pinned (released client)) }
+        ensures whose { IfOk result (λ client. (client.user ≡ user) × (client.seed ≡ key.seed) × (client.id ≡ key.id)) }
+        // It is as the journal told, and as it tells still.
+        ensures told { IfOk result (λ client. IsToldBy (J.history journal).now.text (released client)) }
+        // What both devices go through meanwhile.
+        ensures moments { IfOk result (λ client. IsOpening (L.history ledger) (J.history journal) client.devices.ledger.file client.devices.journal.file) }
+        ensures moments_err { IfErr result (λ e. IsOpening (L.history ledger) (J.history journal) (L.history e.1.ledger) (J.history e.1.journal)) }
+        ensures own { IfOk result (λ _. IsForeign (public_key_of key.seed key.id) (L.history ledger).now.text → ⊥) }
+        ensures foreign { IfErr result (λ e. e.0 ≡ ClientError.Foreign
+            → IsForeign (public_key_of key.seed key.id) (L.history ledger).now.text) }
+        ensures damaged { IfErr result (λ e. e.0 ≡ ClientError.Damaged
+            → IsDamaged (J.history journal).now.text ⊎ TellsOfOther user (J.history journal).now.text) }
+        ensures device { IfErr result (λ e. e.0 ≡ ClientError.Device
+            → HasRisen (L.fault_count ledger) (L.fault_count e.1.ledger) ⊎ HasRisen (J.fault_count journal) (J.fault_count e.1.journal)) }
+        ensures only { IfErr result (λ e. (e.0 ≢ ClientError.NoLeaf) × (e.0 ≢ ClientError.NoNumber)) }
+        ensures later { IfOk result (λ client. (L.fault_count ledger ≤ client.devices.ledger.faults) × (J.fault_count journal ≤ client.devices.journal.faults)) }
+        ensures later_err { IfErr result (λ e. (L.fault_count ledger ≤ L.fault_count e.1.ledger) × (J.fault_count journal ≤ J.fault_count e.1.journal)) }
+        ensures key_err { IfErr result (λ e. e.1.key ≡ key) }
         // What the i-tables of the beginning have is the tree of the beginning, unless two texts of it have one digest.
         ensures genesis { IfOk result (λ client. NoneCollide (first_texts pinned) (first_texts pinned)
             → (reads : Reading) → Agrees (held client.blocks) reads
@@ -107,43 +147,71 @@ impl<A: Allocator + Copy> Client<A> {
             → (reads : Reading) → Agrees (held client.blocks) reads
             → option_map reads.content (digest_at (first_table 0 pinned) 1) ≡ Some (File (table_text pinned))) }
     {
-        let blocks = first_blocks(alloc, pinned.as_bytes())?;
-        Ok(Client {
-            alloc,
-            user,
-            key,
-            pinned,
-            leaf: 0,
-            number: 0,
-            last: None,
-            phase: Phase::Idle,
-            text: Vec::new(alloc),
-            blocks,
-            checked: None,
-            accepted: None,
-            view: None,
-        })
+        let Ok(blocks) = first_blocks(alloc, pinned.as_bytes()) else {
+            let parts = Parts {
+                key,
+                ledger,
+                journal,
+            };
+            return Err((ClientError::Memory, parts));
+        };
+        match Releases::open(alloc, user, key, ledger, journal) {
+            Ok(releases) => {
+                let is_own = is_first(&releases);
+                Ok(Client {
+                    alloc,
+                    pinned,
+                    releases,
+                    is_own,
+                    blocks,
+                    checked: None,
+                    accepted: None,
+                    view: None,
+                })
+            }
+            Err(refused) => Err(refused),
+        }
+    }
+
+    /// Hands back what it was opened over, in any phase.
+    pub fn close(self) -> Parts<L, J, A>
+        ensures key { (result.key.seed ≡ self.seed) × (result.key.id ≡ self.id) }
+        ensures ledger { L.history result.ledger ≡ self.devices.ledger.file }
+        ensures journal { J.history result.journal ≡ self.devices.journal.file }
+        ensures faults { (L.fault_count result.ledger ≡ self.devices.ledger.faults) × (J.fault_count result.journal ≡ self.devices.journal.faults) }
+    {
+        let Client {
+            alloc: _,
+            pinned: _,
+            releases,
+            is_own: _,
+            blocks: _,
+            checked: _,
+            accepted: _,
+            view: _,
+        } = self;
+        releases.close()
     }
 
     /// Whose client it is.
     pub fn user(&self) -> User
         ensures { result ≡ self.now.user }
     {
-        self.user
+        self.releases.user()
     }
 
     /// The number of the operation that was declared last, 0 where none was.
     pub fn number(&self) -> u32
         ensures { result ≡ self.now.number }
     {
-        self.number
+        self.releases.number()
     }
 
     /// How far it is with its operation.
     pub fn phase(&self) -> Phase
         ensures { result ≡ self.now.phase }
     {
-        self.phase
+        self.releases.phase()
     }
 
     /// Whether a reply is under check, of which a block is asked for.
@@ -181,7 +249,7 @@ impl<A: Allocator + Copy> Client<A> {
         requires { self.now.phase ≡ Phase.Declared }
         ensures { result.now ≡ self.now.text }
     {
-        &self.text
+        self.releases.text()
     }
 
     /// The signed structure, to be sent again.
@@ -189,7 +257,7 @@ impl<A: Allocator + Copy> Client<A> {
         requires { self.now.phase ≡ Phase.Signed }
         ensures { result.now ≡ self.now.text }
     {
-        &self.text
+        self.releases.text()
     }
 
     /// The structures of the accepted view, with the own one in its user's place.
@@ -220,7 +288,7 @@ impl<A: Allocator + Copy> Client<A> {
         ensures { IsSomeAnd self.now.view (λ v. v.table ≡ result.now) }
     {
         match &self.view {
-            Some(view) => &view.table,
+            Some(view) => view.good.table(),
             None => unreachable!(),
         }
     }
@@ -237,46 +305,130 @@ fn told<A: Allocator>(seen: Seen<A>) -> Look<A>
     }
 }
 
-impl<A: Allocator + Copy> Client<A> {
-    ghost use Rattle.client_tree.specs.Held.{held};
+impl<L: Device, J: Device, A: Allocator + Copy> Client<L, J, A> {
+    ghost use Rattle.client_tree.specs.Held.{held, keeping};
     ghost use Rattle.layout.specs.Hash.{hash};
-    ghost use Rattle.client_verify.specs.FirstBroken.{view_over};
-    ghost use Rattle.client_verify.specs.State.{asked_of, block_breaks, checked_in, declared, committed, holding, next_cert, sent, signed_over};
-    ghost use Rattle.client_verify.specs.Judged.{Goes, GoesOn, Handed, IsReading, IsWriting, Judged, ReadsOn, view_of};
-    ghost use Rattle.client_verify.specs.Grown.{IsAnswer, IsWritten};
+    ghost use Rattle.lms_sign.specs.Keys.{public_key_of};
+    ghost use Rattle.client_verify.specs.JudgedLast.{judged_last, listed};
+    ghost use Rattle.client_verify.specs.Verified.{AreOwn};
+    ghost use Rattle.client_verify.specs.FirstBroken.{reply_breaks, reply_in, view_over};
+    ghost use Rattle.reply_rules.specs.Lists.{lists_of};
+    ghost use Rattle.client_releases.specs.Releasing.{AnyMoment, IsKept, IsTried, OneHasRisen, cert_record, structure_record};
+    ghost use Rattle.client_verify.specs.State.{IsOfDeclared, asked_of, block_breaks, checked_in, committed, declared, declared_text, failed, holding, known, laying, lists_under, next_cert, next_structure, on, released, signed_over, signed_text};
+    ghost use Rattle.client_verify.specs.Judged.{Goes, GoesOn, Handed, IsReading, IsWriting, Judged, ReadsOn, unjudged, view_of};
+    ghost use Rattle.client_verify.specs.Grown.{IsAnswer, IsReached, IsWritten};
     ghost use Rattle.client_verify.specs.Looked.{Looked, Given};
 
-    /// The number of the next operation, where a leaf is left.
-    fn next_number(&self) -> Result<Version, ClientError>
-        ensures number { IfOk result (λ number. number ≡ self.now.number + 1) }
-        ensures leaf { OnOk result (self.now.leaf < 1024) }
-        ensures no_leaf { IsErrOf result ClientError.NoLeaf ↔ (self.now.leaf ≡ 1024) }
-        ensures no_number { IsErrOf result ClientError.NoNumber ↔ ((self.now.number ≡ 4294967295) × (self.now.leaf ≢ 1024)) }
+    /// The lists that broke no rule last, whose signatures were verified: of the accepted reply, of the one under check, or
+    /// of the accepted view.
+    fn judged_last(&self) -> Option<&Good<A>>
+        ensures { option_map listed (option_copied result) ≡ judged_last self.now }
     {
-        if self.leaf >= LEAF_COUNT {
+        if let Some(ready) = &self.accepted {
+            return Some(&ready.good);
+        }
+        if let Some(good) = self.checked.as_ref().and_then(|checked| checked.good()) {
+            return Some(good);
+        }
+        self.view.as_ref().map(|view| &view.good)
+    }
+
+    /// The own key, where it is known that it signed the last structure and the last text.
+    fn own(&self) -> Option<PublicKey>
+        ensures { IfSome result (λ key. AreOwn key self.now.last self.now.text) }
+    {
+        if self.is_own {
+            Some(self.releases.key())
+        } else {
+            None
+        }
+    }
+
+    /// What a reply is compared with.
+    fn known(&self) -> Known<'_, A>
+        ensures { result ≡ known self.now }
+    {
+        Known::new(
+            self.releases.user(),
+            &self.pinned,
+            self.releases.last(),
+            self.releases.text(),
+            self.own(),
+            self.judged_last(),
+        )
+    }
+
+    /// The number of the next operation, where a leaf is free.
+    fn next_number(&self) -> Result<Version, ClientError>
+        requires { self.now.phase ≡ Phase.Idle }
+        ensures number { IfOk result (λ number. number ≡ self.now.number + 1) }
+        ensures no_leaf { IsErrOf result ClientError.NoLeaf ↔ IsFull self.now.devices.ledger.file.now.text }
+        ensures no_number { IsErrOf result ClientError.NoNumber ↔ ((self.now.number ≡ 4294967295) × (IsFull self.now.devices.ledger.file.now.text → ⊥)) }
+        ensures only { IfErr result (λ e. (e ≡ ClientError.NoLeaf) ⊎ (e ≡ ClientError.NoNumber)) }
+    {
+        if !self.releases.has_free_leaf() {
             return Err(ClientError::NoLeaf);
         }
-        match self.number.checked_add(1).and_then(Version::new) {
+        match self.releases.number().checked_add(1).and_then(Version::new) {
             Some(number) => Ok(number),
             None => Err(ClientError::NoNumber),
         }
     }
 
-    /// The certificate of these changes, signed by the next leaf.
-    fn certify(&self, number: Version, changes: &[Change<A>]) -> Result<Sealed<A>, Memory>
-        requires number { number ≡ self.now.number + 1 }
-        requires leaf { self.now.leaf < 1024 }
+    /// The certificate of these changes, not signed yet. What was laid out for it is held.
+    fn certificate(
+        &mut self,
+        number: Version,
+        changes: &[Change<A>],
+        laid: &[Vec<u8, A>],
+    ) -> Result<Unsigned<A>, Memory>
+        requires number { number ≡ self.old.number + 1 }
         requires few { length changes.now ≤ 16 }
-        ensures kept { IfOk result (λ s. s.kept.items ≡ sent self.now (cert.spell (next_cert self.now changes.now))) }
-        ensures sent { IfOk result (λ s. s.sent.items ≡ sent self.now (cert.spell (next_cert self.now changes.now))) }
+        ensures laying { OnOk result (self.new ≡ laying (map vec_items laid.now) self.old) }
+        ensures text { IfOk result (λ unsigned. unsigned ≡ cert.spell (next_cert self.old changes.now)) }
+        ensures fits { OnOk result (cert.Fits (next_cert self.old changes.now)) }
+        ensures err { OnErr result (self.new ≡ self.old) }
     {
-        let last = digest_of_last(self.alloc, self.last.as_ref())?;
-        let text = cert_text(self.alloc, self.user, number, last, changes)?;
-        seal(self.alloc, &self.key, self.leaf, text)
+        let last = digest_of_last(self.alloc, self.releases.last())?;
+        let text = cert_text(self.alloc, self.releases.user(), number, last, changes)?;
+        let unsigned = Unsigned::new(self.alloc, text)?;
+        let laid = copies(self.alloc, laid)?;
+        self.blocks.keep_all(laid)?;
+        Ok(unsigned)
     }
 
-    /// Declares the next operation, and gives its signed certificate. What was laid out for it is held. It uses a leaf,
-    /// unless it answers an error: NoLeaf, NoNumber, or Memory.
+    /// The next certificate, of these changes, with its number: all that it takes of memory is there, and what was laid out
+    /// for it is held.
+    fn prepare(
+        &mut self,
+        changes: &[Change<A>],
+        laid: &[Vec<u8, A>],
+    ) -> Result<(Version, Unsigned<A>), ClientError>
+        requires idle { self.old.phase ≡ Phase.Idle }
+        requires few { length changes.now ≤ 16 }
+        ensures laying { OnOk result (self.new ≡ laying (map vec_items laid.now) self.old) }
+        ensures number { IfOk result (λ p. p.0 ≡ self.old.number + 1) }
+        ensures text { IfOk result (λ p. p.1 ≡ cert.spell (next_cert self.old changes.now)) }
+        ensures fits { OnOk result (cert.Fits (next_cert self.old changes.now)) }
+        ensures free { OnOk result (IsFull self.old.devices.ledger.file.now.text → ⊥) }
+        ensures below { OnOk result (self.old.number ≢ 4294967295) }
+        ensures no_leaf { IsErrOf result ClientError.NoLeaf ↔ IsFull self.old.devices.ledger.file.now.text }
+        ensures no_number { IsErrOf result ClientError.NoNumber ↔ ((self.old.number ≡ 4294967295) × (IsFull self.old.devices.ledger.file.now.text → ⊥)) }
+        ensures only { IfErr result (λ e. (e ≢ ClientError.Device) × (e ≢ ClientError.Foreign) × (e ≢ ClientError.Damaged)) }
+        ensures err { OnErr result (self.new ≡ self.old) }
+    {
+        let number = match self.next_number() {
+            Ok(number) => number,
+            Err(error) => return Err(error),
+        };
+        match self.certificate(number, changes, laid) {
+            Ok(unsigned) => Ok((number, unsigned)),
+            Err(_) => Err(ClientError::Memory),
+        }
+    }
+
+    /// Declares the next operation, and gives its signed certificate, which stands in the journal by then. What was laid
+    /// out for it is held. All growths come before the leaf is taken. After Device the client has to be opened again.
     pub fn begin(
         &mut self,
         changes: &[Change<A>],
@@ -285,32 +437,38 @@ impl<A: Allocator + Copy> Client<A> {
         requires idle { self.old.phase ≡ Phase.Idle }
         requires few { length changes.now ≤ 16 }
         requires laid { are_laid (map vec_items laid.now) changes.now ≡ true }
-        ensures declared { OnOk result (self.new ≡ declared self.old changes.now (map vec_items laid.now)) }
+        ensures declared { OnOk result ((leaf : LeafNumber)
+            × IsKept leaf (cert_record (declared_text self.old leaf changes.now)) self.old.devices self.new.devices
+            × (self.new ≡ on self.new.devices (declared self.old leaf changes.now (map vec_items laid.now)))) }
         ensures text { IfOk result (λ text. text.items ≡ self.new.text) }
-        ensures no_leaf { IsErrOf result ClientError.NoLeaf ↔ (self.old.leaf ≡ 1024) }
-        ensures no_number { IsErrOf result ClientError.NoNumber ↔ ((self.old.number ≡ 4294967295) × (self.old.leaf ≢ 1024)) }
-        ensures err { OnErr result (self.new ≡ self.old) }
+        // What a crash leaves at any moment of the call, whatever it answers.
+        ensures any_moment { (leaf : LeafNumber) → IsLeastFree self.old.devices.ledger.file.now.text leaf
+            → AnyMoment leaf (cert_record (declared_text self.old leaf changes.now)) self.old.devices self.new.devices }
+        ensures tried { OnErr result (IsTried (λ leaf. cert_record (declared_text self.old leaf changes.now)) self.old.devices self.new.devices) }
+        ensures no_leaf { IsErrOf result ClientError.NoLeaf ↔ IsFull self.old.devices.ledger.file.now.text }
+        ensures no_number { IsErrOf result ClientError.NoNumber ↔ ((self.old.number ≡ 4294967295) × (IsFull self.old.devices.ledger.file.now.text → ⊥)) }
+        ensures rose { IsErrOf result ClientError.Device → OneHasRisen self.old.devices self.new.devices }
+        ensures fails { IsErrOf result ClientError.Device → self.new ≡ on self.new.devices (failed (laying (map vec_items laid.now) self.old)) }
+        // What is signed can be read again.
+        ensures fits { OnOk result (cert.Fits (next_cert self.old changes.now)) }
+        ensures fits_device { IsErrOf result ClientError.Device → cert.Fits (next_cert self.old changes.now) }
+        ensures only { IfErr result (λ e. (e ≢ ClientError.Foreign) × (e ≢ ClientError.Damaged)) }
+        ensures err { IfErr result (λ e. e ≢ ClientError.Device → self.new ≡ self.old) }
     {
-        let number = self.next_number()?;
-        let sealed = self.certify(number, changes)?;
-        let laid = copies(self.alloc, laid)?;
-        self.blocks.keep_all(laid)?;
-        let Sealed {
-            kept,
-            sent,
-            signature: _,
-        } = sealed;
-        self.leaf += 1;
-        self.number = number.get();
-        self.phase = Phase::Declared;
-        self.text = kept;
+        self.releases.stands();
+        let _size = self.releases.key().as_bytes();
+        let (number, unsigned) = match self.prepare(changes, laid) {
+            Ok(prepared) => prepared,
+            Err(error) => return Err(error),
+        };
         self.checked = None;
         self.accepted = None;
-        Ok(sent)
+        self.releases.declare(number, unsigned)
     }
 
     /// A reply is under check, and this block is asked for.
     fn ask(&mut self, stage: Stage<A>, digest: Digest) -> Step<A>
+        requires own { IsSomeAnd (lists_under (checked_in stage)) (λ x. IsOfDeclared (released self.old) x.own.plan) }
         ensures state { self.new ≡ record self.old { checked = Some (checked_in stage); accepted = None } }
         ensures step { result ≡ Step.Need digest }
     {
@@ -321,7 +479,8 @@ impl<A: Allocator + Copy> Client<A> {
 
     /// Goes on with lists that break no rule: a block is asked for, or the reply is accepted.
     fn go(&mut self, good: Good<A>, written: Written<A>) -> Step<A>
-        requires { IsWritten (held self.old.blocks) (view_of self.old.pinned good) good.void written }
+        requires written { IsWritten (held self.old.blocks) (view_of self.old.pinned good) good.void written }
+        requires own { IsOfDeclared (released self.old) good.lists.own.plan }
         ensures { Goes self.old good result self.new }
     {
         match written {
@@ -330,7 +489,6 @@ impl<A: Allocator + Copy> Client<A> {
                 self.ask(Stage::Writing(good, asked), digest)
             }
             Written::Parts(made) => {
-                let Good { lists, table } = good;
                 let Made {
                     handle,
                     records,
@@ -338,8 +496,7 @@ impl<A: Allocator + Copy> Client<A> {
                     lost,
                 } = made;
                 let ready = Ready {
-                    lists,
-                    table: table.table,
+                    good,
                     handle,
                     records,
                     lost,
@@ -351,6 +508,21 @@ impl<A: Allocator + Copy> Client<A> {
         }
     }
 
+    /// A reply that breaks none of the rules on itself is one to the declared operation. For the proofs of callers: it does
+    /// nothing.
+    fn is_replied(&self, text: &[u8], reply: &Admitted<A>)
+        requires declared { self.now.phase ≡ Phase.Declared }
+        requires unbroken { reply_breaks (known self.now) text.now ≡ None }
+        requires read { reply_in text.now ≡ Some reply.now }
+        ensures own { IsSomeAnd (lists_of reply.now) (λ x. IsOfDeclared (released self.now) x.own.plan) }
+        ensures unbroken { reply_breaks (known self.now) text.now ≡ None }
+        ensures read { reply_in text.now ≡ Some reply.now }
+    {
+        self.releases.stands();
+        let _certificate = reply.split().0.cert();
+        let _bytes = text;
+    }
+
     /// Takes the server's reply to the declared certificate. A reply that was under check or accepted before is dropped
     /// where this one breaks no rule. Only want of memory is an error.
     pub fn on_reply(&mut self, text: &[u8]) -> Result<Step<A>, ClientError>
@@ -359,19 +531,13 @@ impl<A: Allocator + Copy> Client<A> {
         ensures only_memory { IfErr result (λ e. e ≡ ClientError.Memory) }
         ensures err { OnErr result (self.new ≡ self.old) }
     {
-        let judged = judge(
-            self.alloc,
-            self.user,
-            &self.pinned,
-            self.last.as_ref(),
-            &self.text,
-            text,
-        )?;
-        let reply = match judged {
+        let known = self.known();
+        let reply = match judge(self.alloc, &known, text)? {
             Ok(reply) => reply,
             Err(rule) => return Ok(Step::Broken(rule)),
         };
-        match reach(self.alloc, &self.pinned, &reply, &self.blocks)? {
+        self.is_replied(text, &reply);
+        match reach(self.alloc, &known, &reply, &self.blocks)? {
             Reached::Breaks(rule) => Ok(Step::Broken(rule)),
             Reached::Lacks(asked) => {
                 let digest = asked.digest;
@@ -384,6 +550,22 @@ impl<A: Allocator + Copy> Client<A> {
         }
     }
 
+    /// How far the reply under check comes with one block more, whose digest was computed.
+    fn reach_on(&self, digest: Digest, text: &[u8]) -> Result<Reached<A>, Memory>
+        requires hashed { digest ≡ hash text.now }
+        requires reading { IsSomeAnd self.now.checked IsReading }
+        ensures { IfSome self.now.checked (λ k. IfOk result (λ reached. IsSomeAnd (unjudged k) (λ x. IsReached (held (keeping self.now.blocks text.now)) self.now.pinned x reached))) }
+    {
+        let known = self.known();
+        let Some(checked) = &self.checked else {
+            unreachable!()
+        };
+        let Stage::Reading(reply, _) = &checked.stage else {
+            unreachable!()
+        };
+        reach_with(self.alloc, &known, reply, &self.blocks, digest, text)
+    }
+
     /// Takes a block of the table of principals, which was asked for. Only want of memory is an error.
     fn read_on(&mut self, digest: Digest, text: &[u8]) -> Result<Step<A>, ClientError>
         requires hashed { digest ≡ hash text.now }
@@ -392,13 +574,7 @@ impl<A: Allocator + Copy> Client<A> {
         ensures only_memory { IfErr result (λ e. e ≡ ClientError.Memory) }
         ensures err { OnErr result (self.new ≡ self.old) }
     {
-        let Some(checked) = &self.checked else {
-            unreachable!()
-        };
-        let Stage::Reading(reply, _) = &checked.stage else {
-            unreachable!()
-        };
-        let reached = reach_with(self.alloc, &self.pinned, reply, &self.blocks, digest, text)?;
+        let reached = self.reach_on(digest, text)?;
         if let Reached::Breaks(rule) = reached {
             return Ok(Step::Broken(rule));
         }
@@ -475,54 +651,87 @@ impl<A: Allocator + Copy> Client<A> {
         }
     }
 
-    /// Signs the structure over the accepted reply, and gives it as it is sent. From here on the view is accepted. It
-    /// uses a leaf, unless it answers an error: NoLeaf, or Memory.
-    pub fn sign(&mut self) -> Result<Vec<u8, A>, ClientError>
-        requires { IsSome self.old.accepted }
-        ensures signed { OnOk result (IfSome self.old.accepted (λ r. self.new ≡ signed_over self.old r)) }
-        ensures text { IfOk result (λ text. text.items ≡ self.new.text) }
-        ensures no_leaf { IsErrOf result ClientError.NoLeaf ↔ (self.old.leaf ≡ 1024) }
-        ensures only { IfErr result (λ e. e ≢ ClientError.NoNumber) }
-        ensures err { OnErr result (self.new ≡ self.old) }
+    /// The structure over the accepted reply, not signed yet, and the structures of the reply.
+    fn draft(&self) -> Result<(Draft<A>, Vec<Signed<Structure<A>>, A>), Memory>
+        requires { IsSome self.now.accepted }
+        ensures structure { IfSome self.now.accepted (λ r. IfOk result (λ d. d.0.structure ≡ next_structure self.now r)) }
+        ensures shown { IfOk result (λ d. d.0.shown ≡ d.0.structure) }
+        ensures text { IfOk result (λ d. d.0.text ≡ structure.spell d.0.structure) }
+        ensures fits { IfOk result (λ d. structure.Fits d.0.structure) }
+        ensures structures { IfSome self.now.accepted (λ r. IfOk result (λ d. d.1.items ≡ r.lists.structures)) }
+        ensures room { IfOk result (λ d. vec_len d.1 < vec_capacity d.1) }
+        ensures ascending { IfOk result (λ d. Ascends nat_cmp user_of None d.1.items) }
     {
-        if self.leaf >= LEAF_COUNT {
-            return Err(ClientError::NoLeaf);
-        }
         let Some(ready) = &self.accepted else {
             unreachable!()
         };
-        let copies = ready.lists.copies(self.alloc)?;
-        let over = sign_over(
+        let copies = ready.good.lists().copies(self.alloc)?;
+        let draft = draft_over(
             self.alloc,
-            &self.key,
-            self.leaf,
             ready.handle,
             &ready.records,
-            self.last.as_ref(),
-            ready.lists.own().plan(),
+            self.releases.last(),
+            ready.good.lists().own().plan(),
         )?;
+        Ok((draft, copies))
+    }
+
+    /// Signs the structure over the accepted reply, and gives it as it is sent; it stands in the journal by then. From here
+    /// on the view is accepted. All growths come before the leaf is taken. After Device the client has to be opened again.
+    pub fn sign(&mut self) -> Result<Vec<u8, A>, ClientError>
+        requires { IsSome self.old.accepted }
+        ensures signed { OnOk result (IfSome self.old.accepted (λ r. (leaf : LeafNumber)
+            × IsKept leaf (structure_record (signed_text self.old leaf r)) self.old.devices self.new.devices
+            × (self.new ≡ on self.new.devices (signed_over self.old leaf r)))) }
+        ensures text { IfOk result (λ text. text.items ≡ self.new.text) }
+        // What a crash leaves at any moment of the call, whatever it answers.
+        ensures any_moment { IfSome self.old.accepted (λ r. (leaf : LeafNumber) → IsLeastFree self.old.devices.ledger.file.now.text leaf
+            → AnyMoment leaf (structure_record (signed_text self.old leaf r)) self.old.devices self.new.devices) }
+        ensures tried { IfSome self.old.accepted (λ r. OnErr result (IsTried (λ leaf. structure_record (signed_text self.old leaf r)) self.old.devices self.new.devices)) }
+        ensures no_leaf { IsErrOf result ClientError.NoLeaf ↔ IsFull self.old.devices.ledger.file.now.text }
+        ensures rose { IsErrOf result ClientError.Device → OneHasRisen self.old.devices self.new.devices }
+        ensures fails { IsErrOf result ClientError.Device → self.new ≡ on self.new.devices (failed self.old) }
+        // What is signed can be read again.
+        ensures fits { OnOk result (IfSome self.old.accepted (λ r. structure.Fits (next_structure self.old r))) }
+        ensures fits_device { IsErrOf result ClientError.Device → IfSome self.old.accepted (λ r. structure.Fits (next_structure self.old r)) }
+        ensures only { IfErr result (λ e. (e ≢ ClientError.NoNumber) × (e ≢ ClientError.Foreign) × (e ≢ ClientError.Damaged)) }
+        ensures err { IfErr result (λ e. e ≢ ClientError.Device → self.new ≡ self.old) }
+    {
+        self.releases.stands();
+        let _size = self.releases.key().as_bytes();
+        if !self.releases.has_free_leaf() {
+            return Err(ClientError::NoLeaf);
+        }
+        let (draft, copies) = match self.draft() {
+            Ok(drawn) => drawn,
+            Err(_) => return Err(ClientError::Memory),
+        };
         let Some(ready) = self.accepted.take() else {
             unreachable!()
         };
-        let SignedOver {
+        self.checked = None;
+        let Draft {
             structure,
             shown,
-            kept,
-            sent,
-        } = over;
-        self.leaf += 1;
-        self.last = Some(structure);
-        self.phase = Phase::Signed;
-        self.text = kept;
-        self.checked = None;
-        self.view = Some(AcceptedView {
-            lists: ready.lists,
-            table: ready.table,
-            structures: with_own(copies, shown),
-            lost: ready.lost,
-            looking: None,
-        });
-        Ok(sent)
+            text,
+        } = draft;
+        match self.releases.sign(structure, text) {
+            Ok((sent, signature)) => {
+                let shown = Signed {
+                    value: shown,
+                    signature,
+                };
+                self.is_own = true;
+                self.view = Some(AcceptedView {
+                    good: ready.good,
+                    structures: with_own(copies, shown),
+                    lost: ready.lost,
+                    looking: None,
+                });
+                Ok(sent)
+            }
+            Err(error) => Err(error),
+        }
     }
 
     /// What stands at an i-number of a principal in the accepted view, or the block that is wanted to tell it. A look that
@@ -539,8 +748,8 @@ impl<A: Allocator + Copy> Client<A> {
         let shown = show(
             self.alloc,
             &self.pinned,
-            &view.table,
-            &view.lists,
+            view.good.table(),
+            view.good.lists(),
             principal,
             i_number,
             &self.blocks,
@@ -598,8 +807,8 @@ impl<A: Allocator + Copy> Client<A> {
         let shown = show_with(
             self.alloc,
             &self.pinned,
-            &view.table,
-            &view.lists,
+            view.good.table(),
+            view.good.lists(),
             looking.principal,
             looking.i_number,
             &self.blocks,
@@ -617,7 +826,7 @@ impl<A: Allocator + Copy> Client<A> {
         ensures { self.new ≡ committed status self.old }
     {
         if status == Status::Ok {
-            self.phase = Phase::Idle;
+            self.releases.commit();
         }
     }
 }

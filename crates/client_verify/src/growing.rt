@@ -14,6 +14,7 @@ ghost use Rattle.client_verify.specs.Grown.{CountsRaised, IsAnswer, IsMade, IsRa
 use crate::asked::Asked;
 use crate::by_table::lists_broken;
 use crate::good::Good;
+use crate::known::Known;
 use crate::lists::{Admitted, Lists};
 use client_tree::{Held, PendingTable, Seen, Stored, View, With, table_of};
 use layout::{Digest, Group, INumber, Memory, Principal, Version};
@@ -182,19 +183,20 @@ fn write_reply<A: Allocator + Copy, B: Blocks>(
 /// How far a reply comes that breaks none of the rules on itself, by these blocks.
 pub(crate) fn reach<A: Allocator + Copy, B: Blocks>(
     alloc: A,
-    pinned: &PublicKey,
+    known: &Known<'_, A>,
     reply: &Admitted<A>,
     blocks: &B,
 ) -> Result<Reached<A>, Memory>
-    ensures { IfOk result (λ reached. IsSomeAnd (lists_of reply.now) (λ x. IsReached (B.held blocks.now) pinned.now x reached)) }
+    ensures { IfOk result (λ reached. IsSomeAnd (lists_of reply.now) (λ x. IsReached (B.held blocks.now) known.now.pinned x reached)) }
 {
     let (own, others) = reply.split();
+    let pinned = known.pinned();
     let key = pinned.as_bytes();
     let table = match table_of(alloc, blocks, key, reply.structures(), others, own) {
         Ok(table) => table,
         Err(error) => return Ok(Reached::Lacks(wanted(error)?)),
     };
-    if let Some(rule) = lists_broken(alloc, &table.table, reply)? {
+    if let Some(rule) = lists_broken(alloc, known, &table.table, reply)? {
         return Ok(Reached::Breaks(rule));
     }
     let written = write_reply(alloc, pinned, &table, reply, blocks)?;
@@ -252,17 +254,17 @@ pub(crate) fn write_with<A: Allocator + Copy>(
 /// The same as `reach`, where one block more is held, whose digest was computed.
 pub(crate) fn reach_with<A: Allocator + Copy>(
     alloc: A,
-    pinned: &PublicKey,
+    known: &Known<'_, A>,
     reply: &Admitted<A>,
     blocks: &Held<A>,
     digest: Digest,
     text: &[u8],
 ) -> Result<Reached<A>, Memory>
     requires { digest ≡ hash text.now }
-    ensures { IfOk result (λ reached. IsSomeAnd (lists_of reply.now) (λ x. IsReached (held (keeping blocks.now text.now)) pinned.now x reached)) }
+    ensures { IfOk result (λ reached. IsSomeAnd (lists_of reply.now) (λ x. IsReached (held (keeping blocks.now text.now)) known.now.pinned x reached)) }
 {
     let with = With::new(blocks, digest, text);
-    reach(alloc, pinned, reply, &with)
+    reach(alloc, known, reply, &with)
 }
 
 /// The same as `show`, where one block more is held, whose digest was computed.

@@ -1,16 +1,19 @@
 //! The lists of a reply that breaks none of the rules on lists.
 
-ghost use Rattle.std.specs.Prelude.{◌≡◌, ◌<◌, None, Some, IfOk, IsSome, IsSomeAnd, OnOk, MatchResult, true, vec_len, vec_capacity};
+ghost use Rattle.std.specs.Prelude.{◌≡◌, ◌==◌, ◌<◌, None, Some, IfOk, IsSome, IsSomeAnd, OnOk, MatchResult, find, true, vec_len, vec_capacity};
+ghost use Rattle.std.specs.Option.{option_copied};
 ghost use Rattle.std.specs.Ordering.{nat_cmp};
 ghost use Rattle.layout.specs.Ascending.{Ascends, Stands, IsFree};
 ghost use Rattle.pending_list.specs.Reply.{user_of};
 ghost use Rattle.reply_rules.specs.Broken.{broken};
 ghost use Rattle.reply_rules.specs.Lists.{items};
-ghost use Rattle.client_verify.specs.FirstBroken.{view_over};
+ghost use Rattle.client_verify.specs.FirstBroken.{shown_of, view_over};
 ghost use Rattle.client_verify.specs.State.{with_own};
+ghost use Rattle.client_verify.specs.Verified.{AreSupers};
 
 use client_tree::View;
 use layout::{Memory, User};
+use lms_sign::PublicKey;
 use pending_list::{PendingItem, Reply, Signed};
 use principals::Table;
 use reply_rules::{Rule, broken};
@@ -18,10 +21,33 @@ use std::alloc::Allocator;
 use std::marker::Model;
 use version_order::Structure;
 
+/// The structure that a reply has of a user.
+pub(crate) fn shown_of<A: Allocator>(
+    user: User,
+    structures: &[Signed<Structure<A>>],
+) -> Option<&Signed<Structure<A>>>
+    ensures { option_copied result ≡ shown_of user structures.now }
+{
+    structures
+        .iter()
+        .find(|structure| structure.value.plan().user() == user)
+}
+
+/// The pending operation of a user.
+pub(crate) fn pending_of<A: Allocator>(
+    user: User,
+    pending: &[PendingItem<A>],
+) -> Option<&PendingItem<A>>
+    ensures { option_copied result ≡ find (λ i. i.cert.user == user) pending.now }
+{
+    pending.iter().find(|item| item.cert().user() == user)
+}
+
 /// The lists of a reply whose structures ascend by user: the structures, and the pending operations with the own one,
-/// which is the last, apart.
+/// which is the last, apart. Beside them user 0's key, under which its signatures were verified.
 #[derive(Drop)]
 pub(crate) struct Lists<A: Allocator> {
+    pinned: PublicKey,
     structures: Vec<Signed<Structure<A>>, A>,
     others: Vec<PendingItem<A>, A>,
     own: PendingItem<A>,
@@ -33,17 +59,21 @@ impl<A: Allocator> Model for Lists<A> {
     ghost use Rattle.layout.specs.Ascending.{Ascends};
     ghost use Rattle.pending_list.specs.Reply.{user_of};
     ghost use Rattle.reply_rules.specs.Lists.{Lists};
+    ghost use Rattle.client_verify.specs.Verified.{AreSupers};
 
     ghost Value = { Lists };
 
     ghost view = { λ a. record { structures = a.structures.items; others = a.others.items; own = a.own } };
 
-    ghost invariant = { λ a. Ascends nat_cmp user_of None a.structures.items };
+    ghost invariant = { λ a. Ascends nat_cmp user_of None a.structures.items
+        × AreSupers (record { structures = a.structures.items; others = a.others.items; own = a.own }) a.pinned };
 }
 
-/// A reply that breaks none of the rules on itself: it meets the rule on lists, and something is pending.
+/// A reply that breaks none of the rules on itself: it meets the rule on lists, something is pending, and user 0's
+/// signatures were verified under this key.
 #[derive(Drop)]
 pub(crate) struct Admitted<A: Allocator> {
+    pinned: PublicKey,
     reply: Reply<A>,
 }
 
@@ -52,25 +82,28 @@ impl<A: Allocator> Model for Admitted<A> {
     ghost use Rattle.pending_list.specs.Reply.{Reply};
     ghost use Rattle.reply_rules.specs.Lists.{lists_of};
     ghost use Rattle.reply_rules.specs.Rules.{lists};
+    ghost use Rattle.client_verify.specs.FirstBroken.{super_signature};
 
     ghost Value = { Reply };
 
     ghost view = { λ a. a.reply };
 
-    ghost invariant = { λ a. (lists a.reply ≡ true) × IsSome (lists_of a.reply) };
+    ghost invariant = { λ a. (lists a.reply ≡ true) × IsSome (lists_of a.reply) × (super_signature a.pinned a.reply ≡ true) };
 }
 
 impl<A: Allocator> Admitted<A> {
     ghost use Rattle.reply_rules.specs.Lists.{lists_of};
     ghost use Rattle.reply_rules.specs.Rules.{lists};
+    ghost use Rattle.client_verify.specs.FirstBroken.{super_signature};
 
-    /// This reply.
-    pub(crate) fn new(reply: Reply<A>) -> Admitted<A>
+    /// This reply, whose signatures of user 0 are valid under this key.
+    pub(crate) fn new(pinned: PublicKey, reply: Reply<A>) -> Admitted<A>
         requires lists { lists reply ≡ true }
         requires pending { IsSome (lists_of reply) }
+        requires signed { super_signature pinned reply ≡ true }
         ensures { result ≡ reply }
     {
-        Admitted { reply }
+        Admitted { pinned, reply }
     }
 
     /// The structures.
@@ -109,11 +142,13 @@ impl<A: Allocator> Admitted<A> {
     pub(crate) fn into_lists(self) -> Lists<A>
         ensures { lists_of self ≡ Some result }
     {
+        let pinned = self.pinned;
         let (structures, mut pending) = self.reply.into_parts();
         let Some(own) = pending.pop() else {
             unreachable!()
         };
         Lists {
+            pinned,
             structures,
             others: pending,
             own,
@@ -134,6 +169,27 @@ impl<A: Allocator + Copy> Admitted<A> {
 }
 
 impl<A: Allocator> Lists<A> {
+    /// The structures.
+    pub(crate) fn structures(&self) -> &[Signed<Structure<A>>]
+        ensures { result.now ≡ self.now.structures }
+    {
+        &self.structures
+    }
+
+    /// The pending operations before the own one, in order.
+    pub(crate) fn others(&self) -> &[PendingItem<A>]
+        ensures { result.now ≡ self.now.others }
+    {
+        &self.others
+    }
+
+    /// Whether user 0's signatures in these lists were verified under this key.
+    pub(crate) fn has_pinned(&self, key: &PublicKey) -> bool
+        ensures { result ≡ true → AreSupers self.now key.now }
+    {
+        self.pinned == *key
+    }
+
     /// The own item, which is the last pending one.
     pub(crate) fn own(&self) -> &PendingItem<A>
         ensures { result.now ≡ self.now.own }

@@ -1,15 +1,12 @@
-//! The structure that is signed over an accepted reply.
+//! The structure over an accepted reply, before it is signed.
 
-ghost use Rattle.std.specs.Prelude.{◌≡◌, ◌<◌, IfOk};
+ghost use Rattle.std.specs.Prelude.{◌≡◌, IfOk};
 ghost use Rattle.std.specs.Option.{option_copied};
-ghost use Rattle.lms_sign.specs.Signature.{signature_of};
 ghost use Rattle.version_order.specs.Structure.{structure};
-ghost use Rattle.pending_list.specs.Signed.{signed};
-ghost use Rattle.client_verify.specs.State.{structure_over, signed_by};
+ghost use Rattle.client_verify.specs.State.{structure_over};
 
-use crate::signing::{Sealed, seal};
+use client_releases::Unsigned;
 use layout::{Digest, Memory, Text};
-use lms_sign::PrivateKey;
 use pending_list::Signed;
 use std::alloc::Allocator;
 use version_order::{GroupRecord, GroupRecords, Plan, Structure};
@@ -36,47 +33,35 @@ fn structure_over<A: Allocator + Copy>(
     Ok(Structure::new(plan, handle, groups))
 }
 
-/// A structure that was just signed: to be kept, to be shown in the view, and as it is sent, twice.
-pub(crate) struct SignedOver<A: Allocator> {
-    pub(crate) structure: Signed<Structure<A>>,
-    pub(crate) shown: Signed<Structure<A>>,
-    pub(crate) kept: Vec<u8, A>,
-    pub(crate) sent: Vec<u8, A>,
+/// The structure that comes next, before it is signed: to be kept, to be shown in the view, and its text.
+#[derive(Drop)]
+pub(crate) struct Draft<A: Allocator> {
+    pub(crate) structure: Structure<A>,
+    pub(crate) shown: Structure<A>,
+    pub(crate) text: Unsigned<A>,
 }
 
-/// Signs the structure over a plan, with these new records of groups, by this leaf. All growths come before the leaf is
-/// used.
-pub(crate) fn sign_over<A: Allocator + Copy>(
+/// The structure over a plan, with these new records of groups. All growths are here.
+pub(crate) fn draft_over<A: Allocator + Copy>(
     alloc: A,
-    key: &PrivateKey<A>,
-    leaf: u32,
     handle: Digest,
     records: &[GroupRecord],
     last: Option<&Signed<Structure<A>>>,
     plan: &Plan<A>,
-) -> Result<SignedOver<A>, Memory>
-    requires { leaf < 1024 }
-    ensures structure { IfOk result (λ over. over.structure ≡ signed_by key.now.seed key.now.id leaf (structure_over handle records.now (option_copied last.entry) plan.now)) }
-    ensures shown { IfOk result (λ over. over.shown ≡ over.structure) }
-    ensures kept { IfOk result (λ over. over.kept.items ≡ (signed structure).spell over.structure) }
-    ensures sent { IfOk result (λ over. over.sent.items ≡ (signed structure).spell over.structure) }
+) -> Result<Draft<A>, Memory>
+    ensures structure { IfOk result (λ d. d.structure ≡ structure_over handle records.now (option_copied last.entry) plan.now) }
+    ensures shown { IfOk result (λ d. d.shown ≡ d.structure) }
+    ensures text { IfOk result (λ d. d.text ≡ structure.spell d.structure) }
+    ensures fits { IfOk result (λ d. structure.Fits d.structure) }
 {
-    let value = structure_over(alloc, handle, records, last, plan)?;
-    let copy = value.copy(alloc)?;
-    let text = value.text(alloc)?;
-    let sealed = seal(alloc, key, leaf, text)?;
-    let Sealed {
-        kept,
-        sent,
-        signature,
-    } = sealed;
-    Ok(SignedOver {
-        structure: Signed { value, signature },
-        shown: Signed {
-            value: copy,
-            signature,
-        },
-        kept,
-        sent,
+    let structure = structure_over(alloc, handle, records, last, plan)?;
+    // Its own contract says that it fits its text.
+    let _plan = structure.plan();
+    let shown = structure.copy(alloc)?;
+    let text = Unsigned::new(alloc, structure.text(alloc)?)?;
+    Ok(Draft {
+        structure,
+        shown,
+        text,
     })
 }

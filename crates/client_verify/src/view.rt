@@ -2,10 +2,9 @@
 
 use crate::asked::Asked;
 use crate::good::Good;
-use crate::lists::{Admitted, Lists};
+use crate::lists::Admitted;
 use layout::{Digest, INumber, Principal};
 use pending_list::Signed;
-use principals::Table;
 use std::alloc::Allocator;
 use std::marker::Model;
 use version_order::{GroupRecord, Structure};
@@ -35,7 +34,9 @@ impl<A: Allocator> Model for Checked<A> {
 
 impl<A: Allocator> Checked<A> {
     ghost use Rattle.std.specs.Prelude.{◌≡◌, true, false};
+    ghost use Rattle.std.specs.Option.{option_copied};
     ghost use Rattle.client_verify.specs.State.{asked_of};
+    ghost use Rattle.client_verify.specs.JudgedLast.{good_in};
     ghost use Rattle.client_verify.specs.Judged.{IsReading, IsWriting};
 
     /// Whether the table of principals is being read.
@@ -44,6 +45,16 @@ impl<A: Allocator> Checked<A> {
         ensures writing { result ≡ false → IsWriting self.now }
     {
         matches!(self.stage, Stage::Reading(_, _))
+    }
+
+    /// Its lists, where they break no rule.
+    pub(crate) fn good(&self) -> Option<&Good<A>>
+        ensures { option_copied result ≡ good_in self.now }
+    {
+        match &self.stage {
+            Stage::Reading(_, _) => None,
+            Stage::Writing(good, _) => Some(good),
+        }
     }
 
     /// The block that is asked for.
@@ -60,8 +71,7 @@ impl<A: Allocator> Checked<A> {
 /// that it raises, and the changes that it loses.
 #[derive(Drop)]
 pub(crate) struct Ready<A: Allocator> {
-    pub(crate) lists: Lists<A>,
-    pub(crate) table: Table<A>,
+    pub(crate) good: Good<A>,
     pub(crate) handle: Digest,
     pub(crate) records: Vec<GroupRecord, A>,
     pub(crate) lost: Vec<u8, A>,
@@ -72,7 +82,7 @@ impl<A: Allocator> Model for Ready<A> {
 
     ghost Value = { Ready };
 
-    ghost view = { λ r. record { lists = r.lists; table = r.table; handle = r.handle; records = r.records.items; lost = r.lost.items } };
+    ghost view = { λ r. record { lists = r.good.lists; table = r.good.table; handle = r.handle; records = r.records.items; lost = r.lost.items } };
 }
 
 /// A look that is under way: at what, and the block that is asked for.
@@ -87,8 +97,7 @@ pub(crate) struct Looking {
 /// place, and the changes that the own operation lost.
 #[derive(Drop)]
 pub(crate) struct AcceptedView<A: Allocator> {
-    pub(crate) lists: Lists<A>,
-    pub(crate) table: Table<A>,
+    pub(crate) good: Good<A>,
     pub(crate) structures: Vec<Signed<Structure<A>>, A>,
     pub(crate) lost: Vec<u8, A>,
     pub(crate) looking: Option<Looking>,
@@ -99,5 +108,5 @@ impl<A: Allocator> Model for AcceptedView<A> {
 
     ghost Value = { AcceptedView };
 
-    ghost view = { λ v. record { lists = v.lists; table = v.table; structures = v.structures.items; lost = v.lost.items; looking = v.looking } };
+    ghost view = { λ v. record { lists = v.good.lists; table = v.good.table; structures = v.structures.items; lost = v.lost.items; looking = v.looking } };
 }

@@ -1,5 +1,5 @@
 -- What a call leaves that was carried out, in the words of the history.
-use Rattle.std.proofs.Common.{◌≡◌, ℕ, Bool, true, false, cond, List, [], ◌∷◌, ◌++◌, Option, Some, None, Result, Ok, Err, refl, sym, ap, ◌∙◌, subst, inl, inr}
+use Rattle.std.proofs.Common.{◌≡◌, ℕ, Bool, true, false, cond, List, [], ◌∷◌, ◌++◌, Option, Some, None, Result, Ok, Err, refl, sym, ap, ◌∙◌, subst}
 use Rattle.std.specs.Prelude.{OnOk, OnErr, not, find, reverse}
 use Rattle.std.specs.Option.{option_map_or}
 use Rattle.std.proofs.lemmas.List.{reverse-append}
@@ -16,52 +16,49 @@ use Rattle.wire.specs.declared.kinds.Status.TheVariants as status
 use Rattle.consistency_server.specs.declared.call.CallKind.{CallKind}
 use Rattle.consistency_server.specs.declared.call.CallKind.TheVariants.{Update, Commit}
 use Rattle.consistency_server.specs.declared.state.Judged.{Judged}
-use Rattle.consistency_server.specs.declared.refusal.Refusal.{Refusal}
-use Rattle.consistency_server.specs.declared.refusal.Refusal.TheVariants as refusal
 use Rattle.consistency_server.specs.Event.{Placed, Committed}
 use Rattle.consistency_server.specs.State.{Placement, State, next_reply}
 use Rattle.consistency_server.specs.Answers.{Call, Outcome, Refused, Repeated, Happens, answer, outcome_of, by_kind, same_cert, is_next, at_limit, placing_beside, placing, verified_update, read_update, structure_of, same_structure, is_pending, committing, verified_commit, read_commit}
-use Rattle.consistency_server.specs.History.{Ordered, events, kept, IsServed, IsTurnedAway}
+use Rattle.consistency_server.specs.History.{Ordered, events, kept, is_carried_out}
 use Rattle.consistency_server.specs.Judged.{JudgedAs, state_after}
-use Rattle.consistency_server.specs.Serving.{status_of}
 use Rattle.consistency_server.proofs.Kept.{kept_at_first, kept_after}
 
--- ---- no outcome is to be turned away
+-- ---- each outcome is carried out
 
 abbrev Serves : Outcome → Type 0
-Serves o = IsServed (answer o).status
+Serves o = is_carried_out (answer o).status ≡ true
 
 either_serves : (b : Bool) (x y : Outcome) → Serves x → Serves y → Serves (cond b x y)
 either_serves true x y p q = p
 either_serves false x y p q = q
 
 beside_serves : (o : Option Placement) (state : State) (c : Signed Cert) → Serves (placing_beside o state c)
-beside_serves (Some w) state c = λ t. elim t [ inl e ↦ absurd cc | inr e ↦ absurd cc ]
+beside_serves (Some w) state c = refl
 beside_serves None state c =
-    either_serves (not (is_next state c.value)) (Refused status.WrongNumber) _ (λ t. elim t [ inl e ↦ absurd cc | inr e ↦ absurd cc ])
-    (either_serves (at_limit state c.value) (Refused status.TooLarge) (Happens (Placed c) (reply.spell (next_reply state c))) (λ t. elim t [ inl e ↦ absurd cc | inr e ↦ absurd cc ]) (λ t. elim t [ inl e ↦ absurd cc | inr e ↦ absurd cc ]))
+    either_serves (not (is_next state c.value)) (Refused status.WrongNumber) _ refl
+    (either_serves (at_limit state c.value) (Refused status.TooLarge) (Happens (Placed c) (reply.spell (next_reply state c))) refl refl)
 
 verified_update_serves : (state : State) (c : Signed Cert) (key : Option (List ℕ)) → Serves (verified_update state c key)
-verified_update_serves state c None = λ t. elim t [ inl e ↦ absurd cc | inr e ↦ absurd cc ]
+verified_update_serves state c None = refl
 verified_update_serves state c (Some key) =
-    either_serves (valid key (cert.spell c.value) c.signature) (placing state c) (Refused status.BadSignature) (beside_serves (find (same_cert c) state.pending) state c) (λ t. elim t [ inl e ↦ absurd cc | inr e ↦ absurd cc ])
+    either_serves (valid key (cert.spell c.value) c.signature) (placing state c) (Refused status.BadSignature) (beside_serves (find (same_cert c) state.pending) state c) refl
 
 read_update_serves : (state : State) (r : Result (Signed Cert) ReadError) → Serves (read_update state r)
-read_update_serves state (Err e) = λ t. elim t [ inl f ↦ absurd cc | inr f ↦ absurd cc ]
+read_update_serves state (Err e) = refl
 read_update_serves state (Ok c) = verified_update_serves state c (key_of c.value.user state.table)
 
 committing_serves : (state : State) (s : Signed Structure) → Serves (committing state s)
 committing_serves state s =
-    either_serves (option_map_or (same_structure s) (structure_of s.value.plan.user state) false) (Repeated []) _ (λ t. elim t [ inl e ↦ absurd cc | inr e ↦ absurd cc ])
-    (either_serves (is_pending state s.value) (Happens (Committed s) []) (Refused status.NotPending) (λ t. elim t [ inl e ↦ absurd cc | inr e ↦ absurd cc ]) (λ t. elim t [ inl e ↦ absurd cc | inr e ↦ absurd cc ]))
+    either_serves (option_map_or (same_structure s) (structure_of s.value.plan.user state) false) (Repeated []) _ refl
+    (either_serves (is_pending state s.value) (Happens (Committed s) []) (Refused status.NotPending) refl refl)
 
 verified_commit_serves : (state : State) (s : Signed Structure) (key : Option (List ℕ)) → Serves (verified_commit state s key)
-verified_commit_serves state s None = λ t. elim t [ inl e ↦ absurd cc | inr e ↦ absurd cc ]
+verified_commit_serves state s None = refl
 verified_commit_serves state s (Some key) =
-    either_serves (valid key (structure.spell s.value) s.signature) (committing state s) (Refused status.BadSignature) (committing_serves state s) (λ t. elim t [ inl e ↦ absurd cc | inr e ↦ absurd cc ])
+    either_serves (valid key (structure.spell s.value) s.signature) (committing state s) (Refused status.BadSignature) (committing_serves state s) refl
 
 read_commit_serves : (state : State) (r : Result (Signed Structure) ReadError) → Serves (read_commit state r)
-read_commit_serves state (Err e) = λ t. elim t [ inl f ↦ absurd cc | inr f ↦ absurd cc ]
+read_commit_serves state (Err e) = refl
 read_commit_serves state (Ok s) = verified_commit_serves state s (key_of s.value.plan.user state.table)
 
 by_kind_serves : (state : State) (text : List ℕ) (kind : CallKind) → Serves (by_kind state text kind)
@@ -71,10 +68,6 @@ by_kind_serves state text Commit = read_commit_serves state (whole (signed struc
 pub serves : (state : State) (call : Call) → Serves (outcome_of state call)
 unfolding outcome_of
 serves state call = by_kind_serves state call.text call.kind
-
-pub turned_away : (r : Refusal) → IsTurnedAway (status_of r)
-turned_away refusal.Busy = inl refl
-turned_away refusal.Memory = inr refl
 
 -- ---- a call that was settled
 

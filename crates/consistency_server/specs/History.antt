@@ -1,8 +1,8 @@
 -- Histories: the calls that the server answered otherwise than busy or out of memory. The newest call is the first.
-use Rattle.std.specs.Prelude.{◌≡◌, ◌⊎◌, List, [], ◌∷◌, ◌++◌}
+use Rattle.std.specs.Prelude.{Bool, true, false, List, [], ◌∷◌, ◌++◌}
 use Rattle.layout.specs.Types.{Bytes, Key}
 use Rattle.wire.specs.declared.kinds.Status.{Status}
-use Rattle.wire.specs.declared.kinds.Status.TheVariants as status
+use Rattle.wire.specs.declared.kinds.Status.TheVariants.{Ok, Form, UnknownUser, BadSignature, WrongNumber, NotPending, Busy, TooLarge, Absent, Memory}
 use Rattle.consistency_server.specs.declared.call.CallKind.{CallKind}
 use Rattle.consistency_server.specs.declared.call.CallKind.TheVariants.{Update, Commit}
 use Rattle.consistency_server.specs.Event.{Event}
@@ -40,12 +40,18 @@ outcome_after server call = outcome_of (kept server.pinned server.history) call
 abbrev pub answer_of : Key → List Call → Call → Answer
 answer_of pinned history call = answer (outcome_of (kept pinned history) call)
 
--- the log was full, or memory ran out
-abbrev pub IsTurnedAway : Status → Type 0
-IsTurnedAway s = (s ≡ status.Busy) ⊎ (s ≡ status.Memory)
-
-abbrev pub IsServed : Status → Type 0
-IsServed s = ¬ (IsTurnedAway s)
+-- a call of this answer was carried out, and else the log was full or memory ran out
+abbrev pub is_carried_out : Status → Bool
+is_carried_out Ok = true
+is_carried_out Form = true
+is_carried_out UnknownUser = true
+is_carried_out BadSignature = true
+is_carried_out WrongNumber = true
+is_carried_out NotPending = true
+is_carried_out Busy = false
+is_carried_out TooLarge = true
+is_carried_out Absent = true
+is_carried_out Memory = false
 
 -- what of a call goes to the log: the call itself, where it placed or committed
 abbrev pub logged_of : List Event → Call → List Call

@@ -1,5 +1,5 @@
 -- Nobody has to believe this file: an aid of private contracts.
--- The status of a call that wasn't served.
+-- The status of a call that wasn't carried out.
 use Rattle.wire.specs.declared.kinds.Status.{Status}
 use Rattle.wire.specs.declared.kinds.Status.TheVariants as status
 use Rattle.consistency_server.specs.declared.refusal.Refusal.{Refusal}

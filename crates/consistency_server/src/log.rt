@@ -1,4 +1,4 @@
-//! Where the events go that the server made: what it placed and committed, for whoever keeps them.
+//! Where the calls go that placed or committed an operation, for whoever keeps them.
 
 ghost use Rattle.std.specs.Prelude.{◌≡◌, ◌==◌, [], ◌∷◌, ◌++◌, OnOk, OnErr, IfOk, IsTrue, length};
 
@@ -8,36 +8,36 @@ use std::alloc::Allocator;
 use std::marker::Model;
 use thiserror::Error;
 
-/// The log has no room for another event.
+/// The log has no room for another entry.
 #[derive(Clone, Copy, Debug, Error)]
 #[error("the log is full")]
 pub struct LogFull;
 
-/// A log of events of one type.
+/// A log of entries of one type.
 pub trait Log<E> {
     ghost use Rattle.std.specs.Prelude.{List, Bool};
 
     /// What was pushed, the oldest first.
     ghost pushed: { Self → List E };
 
-    /// It may turn an event away. A log that another thread empties can't know whether it will: who pushes sees only what
+    /// It may refuse an entry. A log that another thread empties can't know whether it will: who pushes sees only what
     /// it pushed.
     ghost may_be_full: { Self → Bool };
 
-    /// Takes an event after the others. It takes no memory.
-    fn try_push(&mut self, event: E) -> Result<(), LogFull>
-        ensures ok { OnOk result (pushed self.new ≡ pushed self.old ++ event ∷ []) }
+    /// Takes an entry after the others. It takes no memory.
+    fn try_push(&mut self, entry: E) -> Result<(), LogFull>
+        ensures ok { OnOk result (pushed self.new ≡ pushed self.old ++ entry ∷ []) }
         ensures full { OnErr result (IsTrue (may_be_full self.old)) }
         ensures err { OnErr result (pushed self.new ≡ pushed self.old) };
 }
 
-/// How many events a log in memory takes.
+/// How many calls a log in memory takes.
 const LOG_ROOM: usize = 1024;
 
-/// A log in memory, of at most 1,024 events.
+/// A log in memory, of at most 1,024 calls.
 #[derive(Drop)]
 pub struct MemoryLog<A: Allocator> {
-    events: Vec<Call<A>, A>,
+    calls: Vec<Call<A>, A>,
 }
 
 impl<A: Allocator> Model for MemoryLog<A> {
@@ -46,9 +46,9 @@ impl<A: Allocator> Model for MemoryLog<A> {
 
     ghost Value = { List Call };
 
-    ghost view = { λ l. l.events.items };
+    ghost view = { λ l. l.calls.items };
 
-    ghost invariant = { λ l. (vec_len l.events ≤ 1024) × (1024 ≤ vec_capacity l.events) };
+    ghost invariant = { λ l. (vec_len l.calls ≤ 1024) × (1024 ≤ vec_capacity l.calls) };
 }
 
 impl<A: Allocator> MemoryLog<A> {
@@ -56,15 +56,15 @@ impl<A: Allocator> MemoryLog<A> {
     pub fn new(alloc: A) -> Result<MemoryLog<A>, Memory>
         ensures { IfOk result (λ log. log ≡ []) }
     {
-        let events = Vec::with_capacity(alloc, LOG_ROOM)?;
-        Ok(MemoryLog { events })
+        let calls = Vec::with_capacity(alloc, LOG_ROOM)?;
+        Ok(MemoryLog { calls })
     }
 
     /// What was pushed, the oldest first.
-    pub fn events(&self) -> &[Call<A>]
+    pub fn calls(&self) -> &[Call<A>]
         ensures { result.now ≡ self.now }
     {
-        &self.events
+        &self.calls
     }
 }
 
@@ -73,10 +73,10 @@ impl<A: Allocator> Log<Call<A>> for MemoryLog<A> {
 
     ghost may_be_full = { λ log. length log == 1024 };
 
-    fn try_push(&mut self, event: Call<A>) -> Result<(), LogFull> {
-        if self.events.len() == LOG_ROOM {
+    fn try_push(&mut self, call: Call<A>) -> Result<(), LogFull> {
+        if self.calls.len() == LOG_ROOM {
             return Err(LogFull);
         }
-        self.events.push(event).map_err(|_| LogFull)
+        self.calls.push(call).map_err(|_| LogFull)
     }
 }

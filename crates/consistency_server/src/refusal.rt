@@ -1,4 +1,4 @@
-//! Why a call isn't served.
+//! Why a call isn't carried out.
 
 ghost use Rattle.std.specs.Prelude.{◌≡◌};
 
@@ -7,7 +7,7 @@ use layout::Memory;
 use std::alloc::AllocError;
 use wire::Status;
 
-/// Why a call wasn't served.
+/// Why a call wasn't carried out.
 #[derive(Clone, Copy, Debug)]
 pub(crate) enum Refusal {
     Busy,

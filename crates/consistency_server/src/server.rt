@@ -1,6 +1,6 @@
 //! The server's one order of calls.
 
-ghost use Rattle.std.specs.Prelude.{◌≡◌, ◌≢◌, [], ◌∷◌, ◌++◌, OnOk, OnErr, IfOk, IsTrue, Err, reverse};
+ghost use Rattle.std.specs.Prelude.{◌≡◌, ◌≢◌, [], ◌∷◌, ◌++◌, true, false, OnOk, OnErr, IfOk, IsTrue, Err, reverse};
 ghost use Rattle.consistency_server.specs.Judged.{MayHappen, answer_by, state_after, logged_by};
 
 use crate::call::{Answer, Call, CallKind};
@@ -49,7 +49,7 @@ fn carry_out<A: Allocator + Copy, G: Log<Call<A>>>(
     ensures history_err { OnErr result (history.new.items ≡ history.old.items) }
     ensures log_err { OnErr result (G.pushed log.new ≡ G.pushed log.old) }
     ensures busy { result ≡ Err Refusal.Busy → IsTrue (G.may_be_full log.old) }
-    ensures busy_event { result ≡ Err Refusal.Busy → logged_by judged (record { kind = kind; text = text.now }) ≢ [] }
+    ensures busy_logged { result ≡ Err Refusal.Busy → logged_by judged (record { kind = kind; text = text.now }) ≢ [] }
 {
     let alloc = *history.allocator();
     let call = Call::new(kind, Vec::from_slice(alloc, text)?);
@@ -67,7 +67,7 @@ fn carry_out<A: Allocator + Copy, G: Log<Call<A>>>(
 }
 
 impl<A: Allocator + Copy> Ordered<A> {
-    ghost use Rattle.consistency_server.specs.History.{call_of, update_of, commit_of, answer_of, logged, IsServed, IsTurnedAway};
+    ghost use Rattle.consistency_server.specs.History.{call_of, update_of, commit_of, answer_of, logged, is_carried_out};
     ghost use Rattle.wire.specs.declared.kinds.Status.TheVariants as status;
 
     /// Before the first call. `pinned` is the key that every client knows, user 0's.
@@ -90,63 +90,63 @@ impl<A: Allocator + Copy> Ordered<A> {
 
     /// Answers an UPDATE, whose text is a signed certificate.
     pub fn update<G: Log<Call<A>>>(&mut self, log: &mut G, text: &[u8]) -> Answer<A>
-        ensures answer { IsServed result.status
+        ensures answer { is_carried_out result.status ≡ true
             → result ≡ answer_of self.old.pinned self.old.history (update_of text.now) }
-        ensures history { IsServed result.status
+        ensures history { is_carried_out result.status ≡ true
             → self.new ≡ record self.old { history = update_of text.now ∷ self.old.history } }
-        ensures log { IsServed result.status
+        ensures log { is_carried_out result.status ≡ true
             → G.pushed log.new ≡ G.pushed log.old ++ logged self.old (update_of text.now) }
         ensures busy { result.status ≡ status.Busy → IsTrue (G.may_be_full log.old) }
         // It would have gone to the log.
-        ensures busy_event { result.status ≡ status.Busy → logged self.old (update_of text.now) ≢ [] }
-        ensures bare { IsTurnedAway result.status → result.payload ≡ [] }
-        ensures same { IsTurnedAway result.status → self.new ≡ self.old }
-        ensures log_same { IsTurnedAway result.status → G.pushed log.new ≡ G.pushed log.old }
+        ensures busy_logged { result.status ≡ status.Busy → logged self.old (update_of text.now) ≢ [] }
+        ensures bare { is_carried_out result.status ≡ false → result.payload ≡ [] }
+        ensures same { is_carried_out result.status ≡ false → self.new ≡ self.old }
+        ensures log_same { is_carried_out result.status ≡ false → G.pushed log.new ≡ G.pushed log.old }
     {
         self.answer(log, CallKind::Update, text)
     }
 
     /// Answers a COMMIT, whose text is a signed structure.
     pub fn commit<G: Log<Call<A>>>(&mut self, log: &mut G, text: &[u8]) -> Answer<A>
-        ensures answer { IsServed result.status
+        ensures answer { is_carried_out result.status ≡ true
             → result ≡ answer_of self.old.pinned self.old.history (commit_of text.now) }
-        ensures history { IsServed result.status
+        ensures history { is_carried_out result.status ≡ true
             → self.new ≡ record self.old { history = commit_of text.now ∷ self.old.history } }
-        ensures log { IsServed result.status
+        ensures log { is_carried_out result.status ≡ true
             → G.pushed log.new ≡ G.pushed log.old ++ logged self.old (commit_of text.now) }
         ensures busy { result.status ≡ status.Busy → IsTrue (G.may_be_full log.old) }
         // It would have gone to the log.
-        ensures busy_event { result.status ≡ status.Busy → logged self.old (commit_of text.now) ≢ [] }
-        ensures bare { IsTurnedAway result.status → result.payload ≡ [] }
-        ensures same { IsTurnedAway result.status → self.new ≡ self.old }
-        ensures log_same { IsTurnedAway result.status → G.pushed log.new ≡ G.pushed log.old }
+        ensures busy_logged { result.status ≡ status.Busy → logged self.old (commit_of text.now) ≢ [] }
+        ensures bare { is_carried_out result.status ≡ false → result.payload ≡ [] }
+        ensures same { is_carried_out result.status ≡ false → self.new ≡ self.old }
+        ensures log_same { is_carried_out result.status ≡ false → G.pushed log.new ≡ G.pushed log.old }
     {
         self.answer(log, CallKind::Commit, text)
     }
 
     /// Answers a call.
     fn answer<G: Log<Call<A>>>(&mut self, log: &mut G, kind: CallKind, text: &[u8]) -> Answer<A>
-        ensures answer { IsServed result.status
+        ensures answer { is_carried_out result.status ≡ true
             → result ≡ answer_of self.old.pinned self.old.history (call_of kind text.now) }
-        ensures history { IsServed result.status
+        ensures history { is_carried_out result.status ≡ true
             → self.new ≡ record self.old { history = call_of kind text.now ∷ self.old.history } }
-        ensures log { IsServed result.status
+        ensures log { is_carried_out result.status ≡ true
             → G.pushed log.new ≡ G.pushed log.old ++ logged self.old (call_of kind text.now) }
         ensures busy { result.status ≡ status.Busy → IsTrue (G.may_be_full log.old) }
-        ensures busy_event { result.status ≡ status.Busy → logged self.old (call_of kind text.now) ≢ [] }
-        ensures bare { IsTurnedAway result.status → result.payload ≡ [] }
-        ensures same { IsTurnedAway result.status → self.new ≡ self.old }
-        ensures log_same { IsTurnedAway result.status → G.pushed log.new ≡ G.pushed log.old }
+        ensures busy_logged { result.status ≡ status.Busy → logged self.old (call_of kind text.now) ≢ [] }
+        ensures bare { is_carried_out result.status ≡ false → result.payload ≡ [] }
+        ensures same { is_carried_out result.status ≡ false → self.new ≡ self.old }
+        ensures log_same { is_carried_out result.status ≡ false → G.pushed log.new ≡ G.pushed log.old }
     {
         let alloc = *self.history.allocator();
-        match self.serve(log, kind, text) {
+        match self.try_answer(log, kind, text) {
             Ok(answer) => answer,
             Err(refusal) => Answer::bare(alloc, refusal.status()),
         }
     }
 
-    /// Serves a call, unless the log is full or memory runs out.
-    fn serve<G: Log<Call<A>>>(
+    /// Carries out a call, unless the log is full or memory runs out.
+    fn try_answer<G: Log<Call<A>>>(
         &mut self,
         log: &mut G,
         kind: CallKind,
@@ -158,11 +158,11 @@ impl<A: Allocator + Copy> Ordered<A> {
             (self.new ≡ record self.old { history = call_of kind text.now ∷ self.old.history }) }
         ensures log { OnOk result
             (G.pushed log.new ≡ G.pushed log.old ++ logged self.old (call_of kind text.now)) }
-        ensures served { IfOk result (λ answer. IsServed answer.status) }
+        ensures carried_out { IfOk result (λ answer. is_carried_out answer.status ≡ true) }
         ensures same { OnErr result (self.new ≡ self.old) }
         ensures log_same { OnErr result (G.pushed log.new ≡ G.pushed log.old) }
         ensures busy { result ≡ Err Refusal.Busy → IsTrue (G.may_be_full log.old) }
-        ensures busy_event { result ≡ Err Refusal.Busy → logged self.old (call_of kind text.now) ≢ [] }
+        ensures busy_logged { result ≡ Err Refusal.Busy → logged self.old (call_of kind text.now) ≢ [] }
     {
         let alloc = *self.history.allocator();
         let judged = self.state.judge(alloc, kind, text)?;

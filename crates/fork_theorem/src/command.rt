@@ -15,6 +15,8 @@ pub(crate) enum Command<A: Allocator> {
     Update(User),
     /// `commit U a`: the structure is sent.
     Commit(User),
+    /// `restart U`: the client crashes, nothing unsynced is kept, and it is opened again.
+    Restart(User),
     /// `show U P I`: what stands there in the user's view.
     Show(User, Principal, INumber),
 }
@@ -24,7 +26,7 @@ impl<A: Allocator> Command<A> {
     pub(crate) fn user(&self) -> User {
         match self {
             Command::Begin(user, _) => *user,
-            Command::Update(user) | Command::Commit(user) => *user,
+            Command::Update(user) | Command::Commit(user) | Command::Restart(user) => *user,
             Command::Show(user, _, _) => *user,
         }
     }
@@ -85,6 +87,7 @@ pub(crate) fn command_of<A: Allocator + Copy>(alloc: A, line: &str) -> Result<Co
         "begin" => begin_of(alloc, rest),
         "update" => Ok(Command::Update(at_server(rest)?)),
         "commit" => Ok(Command::Commit(at_server(rest)?)),
+        "restart" => Ok(Command::Restart(user(rest)?)),
         "show" => show_of(rest),
         _ => Err(Unread::NoCommand),
     }

@@ -8,6 +8,7 @@ use crate::server::{Server, exchange};
 use client_tree::Held;
 use client_verify::{Client, ClientError, Look, Phase, Step, are_laid};
 use layout::{INumber, Memory, Principal, User};
+use leaf_ledger::Device;
 use std::alloc::Allocator;
 use update_cert::Blocks;
 use wire::{RequestKind, Status};
@@ -18,14 +19,17 @@ fn stopped<A: Allocator>(user: User, error: ClientError) -> Result<Outcome<A>, M
         ClientError::Memory => Err(Memory),
         ClientError::NoLeaf => Ok(Outcome::NoLeaf(user)),
         ClientError::NoNumber => Ok(Outcome::NoNumber(user)),
+        ClientError::Device => Ok(Outcome::Device(user)),
+        ClientError::Foreign => Ok(Outcome::Foreign(user)),
+        ClientError::Damaged => Ok(Outcome::Damaged(user)),
     }
 }
 
 /// Stores what was laid out, and declares the operation.
-fn declare<A: Allocator + Copy>(
+fn declare<L: Device, J: Device, A: Allocator + Copy>(
     alloc: A,
     blocks: &mut Held<A>,
-    client: &mut Client<A>,
+    client: &mut Client<L, J, A>,
     work: Work<A>,
 ) -> Result<Outcome<A>, Memory>
     requires { client.old.phase ≡ Phase.Idle }
@@ -43,10 +47,10 @@ fn declare<A: Allocator + Copy>(
 }
 
 /// Stores what was laid out, and declares the operation, where the client has none.
-pub(crate) fn begin<A: Allocator + Copy>(
+pub(crate) fn begin<L: Device, J: Device, A: Allocator + Copy>(
     alloc: A,
     blocks: &mut Held<A>,
-    client: &mut Client<A>,
+    client: &mut Client<L, J, A>,
     work: Work<A>,
 ) -> Result<Outcome<A>, Memory> {
     match client.phase() {
@@ -57,9 +61,9 @@ pub(crate) fn begin<A: Allocator + Copy>(
 
 /// Hands a reply in, and each block that it asks for: what the client comes to in the end. A client asks for no block
 /// twice, unless texts collide, so that the bound is never met.
-fn judged<A: Allocator + Copy>(
+fn judged<L: Device, J: Device, A: Allocator + Copy>(
     blocks: &Held<A>,
-    client: &mut Client<A>,
+    client: &mut Client<L, J, A>,
     reply: &[u8],
 ) -> Result<Step<A>, ClientError>
     requires { client.old.phase ≡ Phase.Declared }
@@ -79,7 +83,10 @@ fn judged<A: Allocator + Copy>(
 }
 
 /// Signs what was accepted.
-fn signed<A: Allocator + Copy>(alloc: A, client: &mut Client<A>) -> Result<Outcome<A>, Memory> {
+fn signed<L: Device, J: Device, A: Allocator + Copy>(
+    alloc: A,
+    client: &mut Client<L, J, A>,
+) -> Result<Outcome<A>, Memory> {
     let user = client.user();
     if !client.ready() {
         return Ok(Outcome::Error);
@@ -95,10 +102,10 @@ fn signed<A: Allocator + Copy>(alloc: A, client: &mut Client<A>) -> Result<Outco
 }
 
 /// Hands the reply in with its blocks and, where it is accepted, stores the new texts and signs.
-fn accept<A: Allocator + Copy>(
+fn accept<L: Device, J: Device, A: Allocator + Copy>(
     alloc: A,
     blocks: &mut Held<A>,
-    client: &mut Client<A>,
+    client: &mut Client<L, J, A>,
     reply: &[u8],
 ) -> Result<Outcome<A>, Memory>
     requires { client.old.phase ≡ Phase.Declared }
@@ -116,11 +123,11 @@ fn accept<A: Allocator + Copy>(
 }
 
 /// Sends the declared certificate, and takes the reply.
-pub(crate) fn update<A: Allocator + Copy>(
+pub(crate) fn update<L: Device, J: Device, A: Allocator + Copy>(
     alloc: A,
     server: &mut Server<A>,
     blocks: &mut Held<A>,
-    client: &mut Client<A>,
+    client: &mut Client<L, J, A>,
 ) -> Result<Outcome<A>, Memory> {
     let user = client.user();
     if client.phase() != Phase::Declared {
@@ -134,10 +141,10 @@ pub(crate) fn update<A: Allocator + Copy>(
 }
 
 /// Sends the signed structure, and takes the status.
-pub(crate) fn commit<A: Allocator + Copy>(
+pub(crate) fn commit<L: Device, J: Device, A: Allocator + Copy>(
     alloc: A,
     server: &mut Server<A>,
-    client: &mut Client<A>,
+    client: &mut Client<L, J, A>,
 ) -> Result<Outcome<A>, Memory> {
     let user = client.user();
     if client.phase() != Phase::Signed {
@@ -153,9 +160,9 @@ pub(crate) fn commit<A: Allocator + Copy>(
 }
 
 /// Looks at an i-number, and hands in each block that the look asks for.
-fn looked<A: Allocator + Copy>(
+fn looked<L: Device, J: Device, A: Allocator + Copy>(
     blocks: &Held<A>,
-    client: &mut Client<A>,
+    client: &mut Client<L, J, A>,
     principal: Principal,
     i_number: INumber,
 ) -> Result<Look<A>, ClientError>
@@ -176,9 +183,9 @@ fn looked<A: Allocator + Copy>(
 }
 
 /// What stands at an i-number in the client's view.
-pub(crate) fn show<A: Allocator + Copy>(
+pub(crate) fn show<L: Device, J: Device, A: Allocator + Copy>(
     blocks: &Held<A>,
-    client: &mut Client<A>,
+    client: &mut Client<L, J, A>,
     principal: Principal,
     i_number: INumber,
 ) -> Result<Outcome<A>, Memory> {
@@ -193,5 +200,15 @@ pub(crate) fn show<A: Allocator + Copy>(
         Ok(Look::Broken(rule)) => Ok(Outcome::Broken(user, rule)),
         Ok(Look::Need(_)) => Ok(Outcome::Error),
         Err(error) => stopped(user, error),
+    }
+}
+
+/// What a client's phase is once it was opened again.
+pub(crate) fn restarted<A: Allocator>(user: User, phase: Phase) -> Outcome<A> {
+    match phase {
+        Phase::Idle => Outcome::Idle(user),
+        Phase::Declared => Outcome::Declared(user),
+        Phase::Signed => Outcome::Signed(user),
+        Phase::Failed => Outcome::Device(user),
     }
 }

@@ -29,6 +29,18 @@ pub(crate) enum Outcome<A: Allocator> {
     NoLeaf(User),
     /// The user has no number left.
     NoNumber(User),
+    /// A device of the user's failed.
+    Device(User),
+    /// The user's ledger is another key's.
+    Foreign(User),
+    /// The user's journal is damaged.
+    Damaged(User),
+    /// The user's client was opened again, and has released nothing.
+    Idle(User),
+    /// It was opened again with a declared operation.
+    Declared(User),
+    /// It was opened again with a signed structure.
+    Signed(User),
     /// A file of these bytes stands there.
     File(User, Vec<u8, A>),
     /// This directory stands there.
@@ -85,6 +97,12 @@ impl<A: Allocator> Outcome<A> {
             Outcome::Committed(user) => write!(writer, "{} committed", user.get()),
             Outcome::NoLeaf(user) => write!(writer, "{} no leaf", user.get()),
             Outcome::NoNumber(user) => write!(writer, "{} no number", user.get()),
+            Outcome::Device(user) => write!(writer, "{} device", user.get()),
+            Outcome::Foreign(user) => write!(writer, "{} foreign", user.get()),
+            Outcome::Damaged(user) => write!(writer, "{} damaged", user.get()),
+            Outcome::Idle(user) => write!(writer, "{} idle", user.get()),
+            Outcome::Declared(user) => write!(writer, "{} declared", user.get()),
+            Outcome::Signed(user) => write!(writer, "{} signed", user.get()),
             Outcome::File(user, bytes) if bytes.is_empty() => write!(
                 writer,
                 "{} file -",

@@ -2,21 +2,22 @@
 
 ghost use Rattle.std.specs.Prelude.{◌≡◌, ◌<◌, IfOk, vec_len};
 
-use client_verify::Client;
+use client_verify::{Client, Parts, Phase};
 use layout::{Memory, User};
+use leaf_ledger::MemoryDevice;
 use lms_sign::{PrivateKey, PublicKey};
 use std::alloc::Allocator;
 
-/// A client, and its first key.
+/// A client whose devices are in memory, and its first key.
 #[derive(Drop)]
-pub(crate) struct Player<A: Allocator> {
-    pub(crate) client: Client<A>,
+pub(crate) struct Player<A: Allocator + Copy> {
+    pub(crate) client: Client<MemoryDevice<A>, MemoryDevice<A>, A>,
     key: PublicKey,
 }
 
 /// The clients that were named so far.
 #[derive(Drop)]
-pub(crate) struct Players<A: Allocator> {
+pub(crate) struct Players<A: Allocator + Copy> {
     alloc: A,
     pinned: PublicKey,
     pub(crate) list: Vec<Player<A>, A>,
@@ -27,17 +28,67 @@ fn first_key<A: Allocator>(alloc: A, user: User) -> Result<PrivateKey<A>, Memory
     PrivateKey::from_seed(alloc, [user.get(); 32], [user.get(); 16])
 }
 
+/// The device after a crash that left nothing unsynced.
+fn crashed<A: Allocator + Copy>(
+    alloc: A,
+    device: MemoryDevice<A>,
+) -> Result<MemoryDevice<A>, Memory> {
+    let left = Vec::from_slice(alloc, device.settled())?;
+    match device.crash(left) {
+        Ok(device) => Ok(device),
+        // What stood there at the last sync is always left.
+        Err(_) => Err(Memory),
+    }
+}
+
+/// A client of a user over these devices. A device in memory fails by want of memory alone, and what stands on these is
+/// the user's own: so nothing else refuses it.
+fn open<A: Allocator + Copy>(
+    alloc: A,
+    user: User,
+    pinned: PublicKey,
+    parts: Parts<MemoryDevice<A>, MemoryDevice<A>, A>,
+) -> Result<Player<A>, Memory> {
+    let Parts {
+        key,
+        ledger,
+        journal,
+    } = parts;
+    let public = key.public();
+    match Client::open(alloc, user, key, pinned, ledger, journal) {
+        Ok(client) => Ok(Player {
+            client,
+            key: public,
+        }),
+        Err(_) => Err(Memory),
+    }
+}
+
+/// A client of a user by its key, over devices on which nothing stands.
+fn first_open<A: Allocator + Copy>(
+    alloc: A,
+    user: User,
+    key: PrivateKey<A>,
+    pinned: PublicKey,
+) -> Result<Player<A>, Memory> {
+    let ledger = MemoryDevice::new(alloc, Vec::new(alloc))?;
+    let journal = MemoryDevice::new(alloc, Vec::new(alloc))?;
+    let parts = Parts {
+        key,
+        ledger,
+        journal,
+    };
+    open(alloc, user, pinned, parts)
+}
+
 impl<A: Allocator + Copy> Players<A> {
     /// Client 0, whose key all clients know.
     pub(crate) fn new(alloc: A) -> Result<Players<A>, Memory> {
         let key = first_key(alloc, User::superuser())?;
         let pinned = key.public();
-        let client = Client::new(alloc, User::superuser(), key, pinned)?;
+        let player = first_open(alloc, User::superuser(), key, pinned)?;
         let mut list = Vec::new(alloc);
-        list.push(Player {
-            client,
-            key: pinned,
-        })?;
+        list.push(player)?;
         Ok(Players {
             alloc,
             pinned,
@@ -60,13 +111,32 @@ impl<A: Allocator + Copy> Players<A> {
             }
         }
         let key = first_key(self.alloc, user)?;
-        let public = key.public();
-        let client = Client::new(self.alloc, user, key, self.pinned)?;
-        self.list.push(Player {
-            client,
-            key: public,
-        })?;
+        let player = first_open(self.alloc, user, key, self.pinned)?;
+        self.list.push(player)?;
         Ok(self.list.len() - 1)
+    }
+
+    /// Crashes the client of a user, so that nothing unsynced is kept, and opens it again: its phase. Where memory runs out
+    /// the client is gone, and the script ends.
+    pub(crate) fn restart(&mut self, user: User) -> Result<Phase, Memory> {
+        let place = self.place_of(user)?;
+        let Player { client, key: _ } = self.list.remove(place);
+        let Parts {
+            key,
+            ledger,
+            journal,
+        } = client.close();
+        let ledger = crashed(self.alloc, ledger)?;
+        let journal = crashed(self.alloc, journal)?;
+        let parts = Parts {
+            key,
+            ledger,
+            journal,
+        };
+        let player = open(self.alloc, user, self.pinned, parts)?;
+        let phase = player.client.phase();
+        self.list.push(player)?;
+        Ok(phase)
     }
 
     /// The first key of a user's client.

@@ -2,7 +2,7 @@
 
 use crate::command::Command;
 use crate::laying::work_of;
-use crate::operation::{begin, commit, show, update};
+use crate::operation::{begin, commit, restarted, show, update};
 use crate::outcome::Outcome;
 use crate::players::Players;
 use crate::server::Server;
@@ -14,7 +14,7 @@ use std::alloc::Allocator;
 
 /// The clients that were named so far, the server, and the stored blocks.
 #[derive(Drop)]
-pub(crate) struct World<A: Allocator> {
+pub(crate) struct World<A: Allocator + Copy> {
     alloc: A,
     players: Players<A>,
     server: Server<A>,
@@ -54,6 +54,7 @@ impl<A: Allocator + Copy> World<A> {
             Command::Begin(user, tasks) => self.begin(user, tasks),
             Command::Update(_) => { update(self.alloc, &mut self.server, &mut self.blocks, client) }
             Command::Commit(_) => commit(self.alloc, &mut self.server, client),
+            Command::Restart(user) => Ok(restarted(user, self.players.restart(user)?)),
             Command::Show(_, principal, i_number) => {
                 show(&self.blocks, client, principal, i_number)
             }

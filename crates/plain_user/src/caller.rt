@@ -1,4 +1,4 @@
-//! Calls over a stream.
+//! Requests over a stream.
 
 ghost use Rattle.std.specs.Prelude.{◌<◌, length};
 
@@ -8,7 +8,7 @@ use std::io::{Read, Write};
 use thiserror::Error;
 use wire::{FrameError, Frames, RequestKind, Status, reply_of, request_frame};
 
-/// Why a call has no reply.
+/// Why a request has no reply, or was never made.
 #[derive(Clone, Copy, Debug, PartialEq, Eq, Error)]
 pub enum CallError {
     #[error("the connection failed, or ended")]

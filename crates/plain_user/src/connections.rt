@@ -50,6 +50,10 @@ pub(crate) fn caller<'a, R: Host>(rt: &'a R, pipe: &'a Pipe) -> Caller<ClientEnd
     Caller::new(rt.alloc(), ClientEnd::new(rt, pipe))
 }
 
+/// In its first so many operations no call may be answered Busy. The log has room for 1,024 events, and in the test with the
+/// most of them user 0 makes 2, this user 2 an operation, and the other user 600.
+const IN_ROOM: u32 = 210;
+
 /// A user makes so many operations of the same changes over a pipe, which ends then.
 pub(crate) fn operate<R: Host>(rt: &R, pipe: &Pipe, user: PlainUser, changes: &[u8], count: u32) {
     let mut user = user;
@@ -61,6 +65,10 @@ pub(crate) fn operate<R: Host>(rt: &R, pipe: &Pipe, user: PlainUser, changes: &[
         assert!(rt;
             statuses == (Status::Ok, Status::Ok),
             "operation {number}: {statuses:?}"
+        );
+        assert!(rt;
+            number > IN_ROOM || user.busy() == 0,
+            "operation {number}: Busy"
         );
     }
     pipe.close(rt);

@@ -5,6 +5,10 @@ mod caller;
 #[cfg(test)]
 mod connections;
 #[cfg(test)]
+mod full_log;
+#[cfg(test)]
+mod logs;
+#[cfg(test)]
 mod loopback;
 #[cfg(test)]
 mod operations;
@@ -12,7 +16,9 @@ mod operations;
 mod pipe;
 #[cfg(test)]
 mod rows;
+mod signer;
 mod user;
 
 pub use caller::{CallError, Caller, Replied};
+pub use signer::Signer;
 pub use user::{PlainUser, listing};

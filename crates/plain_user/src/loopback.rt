@@ -36,6 +36,7 @@ fn operate<R: Host + Net<Listener = TcpListener, Stream = TcpStream>>(
         .operate(&mut caller, changes)
         .expect(rt, "an operation");
     assert!(rt; statuses == (Status::Ok, Status::Ok), "{statuses:?}");
+    assert_eq!(rt; user.busy(), 0);
 }
 
 /// User 0 lists user 1, which operates then.

@@ -49,7 +49,7 @@ fn serve_all<R: Host>(rt: &R, others: u8, count: u32) -> (usize, u64, Vec<u8>) {
 }
 
 /// How many records a log has.
-fn records(log: &[u8]) -> u32 {
+pub(crate) fn records(log: &[u8]) -> u32 {
     let mut rest = log;
     let mut count = 0u32;
     for _record in 0..log.len() {

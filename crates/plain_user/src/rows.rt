@@ -14,7 +14,7 @@ use std::time::Duration;
 use wire::{RequestKind, Status};
 
 /// What the caller is replied.
-fn ask<R: Host>(
+pub(crate) fn ask<R: Host>(
     rt: &R,
     caller: &mut Caller<ClientEnd<'_, R>>,
     kind: RequestKind,

@@ -1,15 +1,13 @@
 //! A user that signs what it is shown.
 
 use crate::caller::{CallError, Caller};
+use crate::signer::Signer;
 use layout::{Memory, Text, digest};
-use lms_sign::{Leaf, PrivateKey, PublicKey, sign};
+use lms_sign::{PrivateKey, PublicKey};
 use pending_list::Reply;
 use std::alloc::Global;
 use std::io::{Read, Write};
 use wire::{RequestKind, Status};
-
-/// How many leaves a key has.
-const LEAVES: u32 = 1024;
 
 /// How often a call that is answered Busy is sent again.
 const TRIES: u32 = 1_000_000;
@@ -19,11 +17,12 @@ const TRIES: u32 = 1_000_000;
 pub struct PlainUser {
     alloc: Global,
     user: u8,
-    key: PrivateKey<Global>,
-    leaf: u32,
+    signer: Signer<Global>,
     number: u32,
     /// The digest of its last structure.
     last: [u8; 32],
+    /// How often a call was answered Busy.
+    busy: u32,
 }
 
 /// The size of a text, as it stands before it in another one.
@@ -35,33 +34,34 @@ fn size_of(text: &[u8]) -> [u8; 2] {
 impl PlainUser {
     /// Before its first operation.
     pub fn new(alloc: Global, user: u8) -> Result<PlainUser, Memory> {
+        let key = PrivateKey::from_seed(alloc, [user; 32], [user; 16])?;
         Ok(PlainUser {
             alloc,
             user,
-            key: PrivateKey::from_seed(alloc, [user; 32], [user; 16])?,
-            leaf: 0,
+            signer: Signer::new(alloc, key)?,
             number: 0,
             last: [0; 32],
+            busy: 0,
         })
     }
 
     /// Its public key.
     pub fn public(&self) -> PublicKey {
-        self.key.public()
+        self.signer.public()
+    }
+
+    /// How often a call of its operations was answered Busy, and sent again.
+    pub fn busy(&self) -> u32 {
+        self.busy
     }
 
     /// These texts one after another, and their signature by the next leaf.
     fn signed(&mut self, texts: &[&[u8]]) -> Result<Vec<u8>, CallError> {
-        if self.leaf >= LEAVES {
-            return Err(CallError::NoLeaf);
-        }
         let mut text = Vec::new(self.alloc);
         for piece in texts {
             text.extend_from_slice(piece)?;
         }
-        let (signature, spent) = sign(&self.key, Leaf::issue(&self.key.public(), self.leaf), &text);
-        spent.end();
-        self.leaf += 1;
+        let signature = self.signer.sign(&text)?;
         text.extend_from_slice(&signature)?;
         Ok(text)
     }
@@ -73,12 +73,12 @@ impl PlainUser {
         self.signed(&[b"SUC1", &user, &number, &last, changes])
     }
 
-    /// The structure over the last plan of a reply, with a handle of zeros and no records.
-    pub fn structure(&mut self, reply: &[u8]) -> Result<Vec<u8>, CallError> {
-        let Ok(reply) = Reply::read(self.alloc, reply) else {
+    /// The structure over the last plan of the lists with which an UPDATE was answered, with a handle of zeros and no records.
+    pub fn structure(&mut self, lists: &[u8]) -> Result<Vec<u8>, CallError> {
+        let Ok(lists) = Reply::read(self.alloc, lists) else {
             return Err(CallError::Form);
         };
-        let Some(own) = reply.pending().last() else {
+        let Some(own) = lists.pending().last() else {
             return Err(CallError::Form);
         };
         let plan = own.plan().text(self.alloc)?;
@@ -96,12 +96,12 @@ impl PlainUser {
         changes: &[u8],
     ) -> Result<(Status, Status), CallError> {
         let certificate = self.certificate(changes)?;
-        let (placed, reply) = insist(caller, RequestKind::Update, &certificate)?;
+        let (placed, lists) = insist(caller, RequestKind::Update, &certificate, &mut self.busy)?;
         if placed != Status::Ok {
             return Ok((placed, placed));
         }
-        let structure = self.structure(&reply)?;
-        let (committed, _) = insist(caller, RequestKind::Commit, &structure)?;
+        let structure = self.structure(&lists)?;
+        let (committed, _) = insist(caller, RequestKind::Commit, &structure, &mut self.busy)?;
         Ok((placed, committed))
     }
 }
@@ -119,11 +119,12 @@ pub fn listing(alloc: Global, users: &[PlainUser]) -> Result<Vec<u8>, CallError>
     Ok(changes)
 }
 
-/// Asks, and again where the answer is Busy.
+/// Asks, and again where the answer is Busy, which is counted.
 fn insist<S: Read + Write + Drop>(
     caller: &mut Caller<S>,
     kind: RequestKind,
     text: &[u8],
+    busy: &mut u32,
 ) -> Result<(Status, Vec<u8>), CallError> {
     if text.len() >= 2_097_152 {
         return Err(CallError::Form);
@@ -133,6 +134,7 @@ fn insist<S: Read + Write + Drop>(
         if replied.status != Status::Busy {
             return Ok((replied.status, replied.payload));
         }
+        *busy = busy.saturating_add(1);
     }
     Err(CallError::Lost)
 }

@@ -7,7 +7,7 @@ use Rattle.crossbeam_queue.proofs.Lists.{at_set, at_snoc}
 use Rattle.consistency_server.specs.Answers.{Call}
 use Rattle.server_workers.specs.declared.call_queue.Hand.{Hand}
 use Rattle.server_workers.specs.Hands.{hand}
-use Rattle.server_workers.specs.Relay.{Fits, Relayed, HoldsEnd}
+use Rattle.server_workers.specs.Relay.{IsHandAt, Relayed, HoldsEnd}
 
 at_end : (l : List Hand) (a b : Hand) (j : ℕ) → get_elem? l j ≢ some b → get_elem? (l ++ a ∷ []) j ≡ some b → j ≡ length l
 at_end [] a b zero n e = refl
@@ -23,7 +23,7 @@ all_set F views port w mine others j u e = ⊎_elim (λ (x : (j ≡ port) × (w 
     (λ (x : (j ≢ port) × (get_elem? views j ≡ some u)). others j u x.0 x.1) (at_set views port j w u e)
 
 pub begins : Relayed [] (hand true true [] [] ∷ [])
-begins = (0, 0, [], [], refl, all_set (Fits 0 0 [] []) (hand true true [] [] ∷ []) 0 (hand true true [] []) ((λ _. (refl, refl)), λ _. (refl, refl)) (λ j u other e. absurd (other (at_end [] _ u j (λ x. some-ne-none u (sym x)) e))))
+begins = (0, 0, [], [], refl, all_set (IsHandAt 0 0 [] []) (hand true true [] [] ∷ []) 0 (hand true true [] []) ((λ _. (refl, refl)), λ _. (refl, refl)) (λ j u other e. absurd (other (at_end [] _ u j (λ x. some-ne-none u (sym x)) e))))
 
 pub sends : (n port : ℕ) (v : Hand) (x : Call) → v.pushes ≡ true → Pushes Relayed n port v x (λ w. w ≡ hand v.pushes v.pops (v.sent ++ x ∷ []) v.got)
 sends n port v x may items views _ h at = let w : Hand = hand v.pushes v.pops (v.sent ++ x ∷ []) v.got in let mine = h.5 port v at in let sent = h.2 ++ x ∷ [] in (
@@ -34,7 +34,7 @@ sends n port v x may items views _ h at = let w : Hand = hand v.pushes v.pops (v
     sent,
     h.3,
     ap (λ l. l ++ x ∷ []) h.4 ∙ append_assoc h.3 items (x ∷ []),
-    all_set (Fits h.0 h.1 sent h.3) views port w ((λ _. ((mine.0 may).0, ap (λ l. l ++ x ∷ []) (mine.0 may).1)), mine.1)
+    all_set (IsHandAt h.0 h.1 sent h.3) views port w ((λ _. ((mine.0 may).0, ap (λ l. l ++ x ∷ []) (mine.0 may).1)), mine.1)
         (λ j u other e. ((λ p. absurd (other (((h.5 j u e).0 p).0 ∙ sym (mine.0 may).0))), (h.5 j u e).1)),
   ),
   refl,
@@ -49,7 +49,7 @@ gets port v may x items views h at = let w : Hand = hand v.pushes v.pops v.sent 
     h.2,
     got,
     h.4 ∙ sym (append_assoc h.3 (x ∷ []) items),
-    all_set (Fits h.0 h.1 h.2 got) views port w (mine.0, λ _. ((mine.1 may).0, ap (λ l. l ++ x ∷ []) (mine.1 may).1))
+    all_set (IsHandAt h.0 h.1 h.2 got) views port w (mine.0, λ _. ((mine.1 may).0, ap (λ l. l ++ x ∷ []) (mine.1 may).1))
         (λ j u other e. ((h.5 j u e).0, λ p. absurd (other (((h.5 j u e).1 p).0 ∙ sym (mine.1 may).0)))),
   ),
   refl,
@@ -72,9 +72,9 @@ forks port v a b items views h at = let l : Hand = hand true false v.sent [] in 
 pub merges : (port : ℕ) (v : Hand) (other : ℕ) (u : Hand) → v.pops ≡ true → u.pushes ≡ true → Merges Relayed port v other u (hand true true u.sent v.got) (hand false false [] [])
 merges port v other u a b items views h at two at' = let both : Hand = hand true true u.sent v.got in let mine = h.5 port v at in let vs : List Hand = set views port both in
     let was : get_elem? views other ≡ some u = ⊎_elim (λ x. absurd (two x.0)) (λ x. x.1) (at_set views port other both u at') in let theirs = (h.5 other u was).0 b in
-    let Now : ℕ → Hand → Type 0 = λ j y. j ≢ other → Fits port h.1 h.2 h.3 j y in
+    let Now : ℕ → Hand → Type 0 = λ j y. j ≢ other → IsHandAt port h.1 h.2 h.3 j y in
     let now : All Now vs = all_set Now views port both (λ _. ((λ _. (refl, theirs.1)), λ _. mine.1 a)) (λ j y _ e apart. ((λ p. absurd (apart (((h.5 j y e).0 p).0 ∙ sym theirs.0))), (h.5 j y e).1)) in
-    (port, h.1, h.2, h.3, h.4, all_set (Fits port h.1 h.2 h.3) vs other (hand false false [] []) ((λ p. absurd (true≢false (sym p))), λ p. absurd (true≢false (sym p))) (λ j y apart e. now j y e apart))
+    (port, h.1, h.2, h.3, h.4, all_set (IsHandAt port h.1 h.2 h.3) vs other (hand false false [] []) ((λ p. absurd (true≢false (sym p))), λ p. absurd (true≢false (sym p))) (λ j y apart e. now j y e apart))
 
 pub totals : (port : ℕ) (v : Hand) → Learns Relayed port v (λ items. v.pushes ≡ true → v.pops ≡ true → v.sent ≡ v.got ++ items)
 totals port v items views h at a b = let mine = h.5 port v at in (mine.0 a).1 ∙ h.4 ∙ ap (λ l. l ++ items) (sym (mine.1 b).1)

@@ -1,5 +1,5 @@
 -- Connections: the frames of requests are read, and the frames of their replies are written.
-use Rattle.std.specs.Prelude.{◌≡◌, ◌≢◌, ◌⊎◌, ◌≤◌, ◌<◌, ◌+◌, ℕ, List, [], ◌∷◌, ◌++◌, length, map, Option, Some, None, Bool, true, option_map}
+use Rattle.std.specs.Prelude.{◌≡◌, ◌≢◌, ◌⊎◌, ◌≤◌, ◌<◌, ◌+◌, ℕ, List, [], ◌∷◌, ◌++◌, length, take, map, Option, Some, None, option_map}
 use Rattle.std.specs.List.{All}
 use Rattle.layout.specs.Hash.{hash}
 use Rattle.layout.specs.Types.{Bytes, Key}
@@ -7,7 +7,7 @@ use Rattle.wire.specs.declared.kinds.Status.{Status}
 use Rattle.wire.specs.declared.kinds.Status.TheVariants as status
 use Rattle.wire.specs.declared.kinds.RequestKind.{RequestKind}
 use Rattle.wire.specs.declared.kinds.RequestKind.TheVariants.{Update, Commit, Put, Get}
-use Rattle.wire.specs.Frame.{frame, request_of, reply_body, may_carry}
+use Rattle.wire.specs.Frame.{frame, request_of, reply_body}
 use Rattle.wire.specs.Stream.{frames_of, BeginsFrame, BeginsAtFault}
 use Rattle.consistency_server.specs.Answers.{Call, Answer}
 use Rattle.consistency_server.specs.History.{update_of, commit_of, answer_of}
@@ -100,6 +100,10 @@ pub record Told : Type 0 where
   pub read : Bytes
   pub written : Bytes
 
+-- what a connection tells of whose bytes so many were read, and to which these were written
+abbrev pub told_of : Bytes → ℕ → Bytes → Option Told
+told_of input given written = Some (record { read = take given input; written = written })
+
 -- what it tells once these bytes more were read and written
 abbrev pub goes_on : Bytes → Bytes → Option Told → Option Told
 goes_on read written told = option_map (λ t. record { read = t.read ++ read; written = t.written ++ written }) told
@@ -113,6 +117,7 @@ EndsWith Memory left unwritten = Unit {0}
 
 -- So many bytes more were read and written, and so many calls more answered, as the exchanges say: what was read is the
 -- frames of their requests and a rest, and what was written is the frames of their replies, in order, but for an end.
+-- Of a connection that doesn't tell its bytes this says only that no call less was answered.
 pub record Conversed (pinned : Key) (before now : Option Told) (answered answered_now : ℕ) (ended : Ended) : Type 0 where
   pub exchanges : List Exchange
   pub left : Bytes

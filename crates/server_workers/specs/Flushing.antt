@@ -1,5 +1,5 @@
 -- What the flusher took and wrote. What a writer holds is None where it doesn't say.
-use Rattle.std.specs.Prelude.{◌≡◌, List, [], ◌∷◌, ◌++◌, Bool, true, false, not, Option}
+use Rattle.std.specs.Prelude.{◌≡◌, List, [], ◌++◌, Bool, true, false, not, Option}
 use Rattle.std.specs.Io.KnownBytes.{Appends}
 use Rattle.layout.specs.Types.{Bytes}
 use Rattle.consistency_server.specs.Answers.{Call}

@@ -11,14 +11,14 @@ use Rattle.server_workers.specs.declared.call_queue.Hand.{Hand}
 abbrev pub no_queue : TableId
 no_queue = record { words = 0; slots = 0; views_name = 0; atom = 0; block = 0; offset = 0; slot_names = [] }
 
--- the pusher has the port `at`, and the popper the port `to`
-abbrev pub Fits : ℕ → ℕ → List Call → List Call → ℕ → Hand → Type 0
-Fits at to sent got port v = (v.pushes ≡ true → (port ≡ at) × (v.sent ≡ sent)) × (v.pops ≡ true → (port ≡ to) × (v.got ≡ got))
+-- the pusher has the port `at`, and the popper the port `to`: the hand of a port knows what its pass pushed and popped
+abbrev pub IsHandAt : ℕ → ℕ → List Call → List Call → ℕ → Hand → Type 0
+IsHandAt at to sent got port v = (v.pushes ≡ true → (port ≡ at) × (v.sent ≡ sent)) × (v.pops ≡ true → (port ≡ to) × (v.got ≡ got))
 
 abbrev pub Relayed : List Call → List Hand → Type 0
 Relayed items views =
     (at to : ℕ) × (sent got : List Call) × (sent ≡ got ++ items)
-    × ((port : ℕ) (v : Hand) → get_elem? views port ≡ some v → Fits at to sent got port v)
+    × ((port : ℕ) (v : Hand) → get_elem? views port ≡ some v → IsHandAt at to sent got port v)
 
 -- the queue holds an end of what was pushed
 abbrev pub HoldsEnd : Hand → List Call → Type 0

@@ -1,5 +1,6 @@
 //! The connections of clients over TCP, as they come.
 
+ghost use Rattle.std.specs.Prelude.{◌≡◌, ◌+◌, MatchOption};
 ghost use Rattle.std.specs.Iterator.{at_most};
 
 use crate::socket::Socket;
@@ -14,7 +15,7 @@ const REST: u64 = 10;
 const TRIES: u32 = 12_000;
 
 /// The connections that a listener accepts, so many at most. A fault that passes, as too many open files, is waited out. One
-/// that doesn't ends them: it is put where who made this finds it.
+/// that doesn't ends them: it is put where who made this finds it, and nothing is accepted from then on.
 #[derive(Drop)]
 pub struct Accepted<'a, R: Clock> {
     rt: &'a R,
@@ -30,7 +31,10 @@ impl<'a, R: Clock> Accepted<'a, R> {
         listener: &'a TcpListener,
         most: u32,
         fault: &'a mut Option<io::Error>,
-    ) -> Accepted<'a, R> {
+    ) -> Accepted<'a, R>
+        ensures left { result.left ≡ most }
+        ensures fault { result.fault ≡ fault.entry }
+    {
         Accepted {
             rt,
             listener,
@@ -60,17 +64,23 @@ fn accept<R: Clock>(rt: &R, listener: &TcpListener) -> io::Result<Socket> {
 impl<'a, R: Clock> Iterator for Accepted<'a, R> {
     type Item = Socket;
 
+    // A connection takes one from what is left. After None nothing is left.
+    ghost next_gives = { λ before given after. MatchOption given (after.left ≡ 0) (λ _. after.left + 1 ≡ before.left) };
+
     ghost remaining = { λ s. at_most s.left };
 
     fn next(&mut self) -> Option<Socket> {
         if self.left == 0 {
             return None;
         }
-        self.left -= 1;
         match accept(self.rt, self.listener) {
-            Ok(socket) => Some(socket),
+            Ok(socket) => {
+                self.left -= 1;
+                Some(socket)
+            }
             Err(fault) => {
                 *self.fault = Some(fault);
+                self.left = 0;
                 None
             }
         }

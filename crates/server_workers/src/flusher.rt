@@ -54,6 +54,7 @@ impl<'a, B: ServerName, R: Wait, W: Write + Drop> Flusher<'a, B, R, W> {
         requires queue { IsPassOf queue.now pass × (pass.table_id ≡ B.queue) }
         requires empty { hand_of pass ≡ hand false true [] [] }
         requires before { W.contents writer ≡ B.before }
+        ensures { (result.hand ≡ hand false true [] []) × (result.failed ≡ false) }
     {
         Flusher {
             rt,

@@ -1,10 +1,10 @@
 //! What lies under the lock.
 
 ghost use Rattle.std.specs.Prelude.{◌≡◌, [], ◌∷◌, ◌+◌, ◌<◌, true, false, length, leb, IsTrue};
-ghost use Rattle.consistency_server.specs.History.{call_of, answer_of, log_of, IsServed, IsTurnedAway};
+ghost use Rattle.consistency_server.specs.History.{call_of, answer_of, log_of, is_carried_out};
 ghost use Rattle.wire.specs.declared.kinds.Status.TheVariants as status;
 ghost use Rattle.server_workers.specs.Hands.{hand, hand_of};
-ghost use Rattle.server_workers.specs.Counting.{is_served, count_of};
+ghost use Rattle.server_workers.specs.Counting.{count_of};
 
 use crate::call_queue::{CallPass, ServerName};
 use crate::queue_log::QueueLog;
@@ -36,9 +36,9 @@ impl<'a, B: ServerName, L: Ledger, R: Wait> Model for Locked<'a, B, L, R> {
     ghost invariant = { λ l. (l.ordered.pinned ≡ B.pinned) × (l.log ≡ log_of B.pinned l.ordered.history) × (l.book.total ≡ length l.ordered.history) };
 }
 
-/// The call was answered otherwise than busy or out of memory.
-pub(crate) fn is_served(status: Status) -> bool
-    ensures { result ≡ is_served status }
+/// A call of this answer was carried out: neither was the log full nor did memory run out.
+pub(crate) fn is_carried_out(status: Status) -> bool
+    ensures { result ≡ is_carried_out status }
 {
     !matches!(status, Status::Busy | Status::Memory)
 }
@@ -51,12 +51,12 @@ fn carry_out<G: Log<Call<Global>>>(
     text: &[u8],
 ) -> Answer<Global>
     requires { G.pushed log.old ≡ log_of ordered.old.pinned ordered.old.history }
-    ensures answer { is_served result.status ≡ true
+    ensures answer { is_carried_out result.status ≡ true
         → result ≡ answer_of ordered.old.pinned ordered.old.history (call_of kind text.now) }
-    ensures history { is_served result.status ≡ true
+    ensures history { is_carried_out result.status ≡ true
         → ordered.new ≡ record ordered.old { history = call_of kind text.now ∷ ordered.old.history } }
-    ensures same { is_served result.status ≡ false → ordered.new ≡ ordered.old }
-    ensures bare { is_served result.status ≡ false → result.payload ≡ [] }
+    ensures same { is_carried_out result.status ≡ false → ordered.new ≡ ordered.old }
+    ensures bare { is_carried_out result.status ≡ false → result.payload ≡ [] }
     ensures log { G.pushed log.new ≡ log_of ordered.new.pinned ordered.new.history }
     ensures busy { result.status ≡ status.Busy → IsTrue (G.may_be_full log.old) }
 {
@@ -94,12 +94,12 @@ impl<'a, B: ServerName, L: Ledger, R: Wait> Locked<'a, B, L, R> {
         text: &[u8],
     ) -> Answer<Global>
         requires { 0 < mine.old.share.parts }
-        ensures answer { is_served result.status ≡ true
+        ensures answer { is_carried_out result.status ≡ true
             → result ≡ answer_of B.pinned self.old.history (call_of kind text.now) }
-        ensures history { is_served result.status ≡ true
+        ensures history { is_carried_out result.status ≡ true
             → self.new ≡ record self.old { history = call_of kind text.now ∷ self.old.history } }
-        ensures same { is_served result.status ≡ false → self.new ≡ self.old }
-        ensures bare { is_served result.status ≡ false → result.payload ≡ [] }
+        ensures same { is_carried_out result.status ≡ false → self.new ≡ self.old }
+        ensures bare { is_carried_out result.status ≡ false → result.payload ≡ [] }
         ensures busy { result.status ≡ status.Busy → IsTrue (leb 1024 (length (log_of B.pinned self.old.history))) }
         ensures counted { mine.new.answered ≡ mine.old.answered + count_of result.status }
         ensures parts { mine.new.share.parts ≡ mine.old.share.parts }
@@ -107,7 +107,7 @@ impl<'a, B: ServerName, L: Ledger, R: Wait> Locked<'a, B, L, R> {
         let Locked { ordered, log, book } = self;
         let Tally { answered, share } = mine;
         let answer = carry_out(ordered, log, kind, text);
-        if is_served(answer.status()) {
+        if is_carried_out(answer.status()) {
             book.add(share, 1);
             book.audit(share);
             let _calls = call_count(ordered);

@@ -12,12 +12,12 @@ use wire::{Status, reply_frame};
 
 /// A status, and what comes with `Ok`: no more bytes than a frame takes.
 #[derive(Drop)]
-pub(crate) struct Reply {
+pub(crate) struct ReplyBody {
     status: Status,
     payload: Vec<u8>,
 }
 
-impl Model for Reply {
+impl Model for ReplyBody {
     ghost use Rattle.std.specs.Prelude.{◌≡◌, ◌<◌, true, length};
     ghost use Rattle.wire.specs.Frame.{may_carry};
     ghost use Rattle.consistency_server.specs.Answers.{Answer};
@@ -29,35 +29,35 @@ impl Model for Reply {
     ghost invariant = { λ r. (may_carry r.status r.payload.items ≡ true) × (length r.payload.items < 2097152) };
 }
 
-impl Reply {
+impl ReplyBody {
     /// A status with nothing behind it.
-    pub(crate) fn bare(alloc: Global, status: Status) -> Reply
+    pub(crate) fn bare(alloc: Global, status: Status) -> ReplyBody
         ensures { result ≡ bare status }
     {
-        Reply {
+        ReplyBody {
             status,
             payload: Vec::new(alloc),
         }
     }
 
     /// `Ok`, with what comes with it.
-    pub(crate) fn ok(payload: Vec<u8>) -> Reply
+    pub(crate) fn ok(payload: Vec<u8>) -> ReplyBody
         requires { length payload.items < 2097152 }
         ensures { result ≡ ok payload.items }
     {
-        Reply {
+        ReplyBody {
             status: Status::Ok,
             payload,
         }
     }
 
     /// The answer to a call.
-    pub(crate) fn of(answer: Answer<Global>) -> Reply
+    pub(crate) fn of(answer: Answer<Global>) -> ReplyBody
         ensures { result ≡ answer }
     {
         let status = answer.status();
         let _payload = answer.payload();
-        Reply {
+        ReplyBody {
             status,
             payload: answer.into_payload(),
         }

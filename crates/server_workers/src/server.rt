@@ -13,7 +13,7 @@ use crate::flusher::{Flushed, Flusher};
 use crate::gate::Gate;
 use crate::new_queue::empty_queue;
 use crate::shared::Shared;
-use crate::tally::{Part, Tally};
+use crate::tally::{Tally, WorkerTally};
 use crate::worker::work;
 use block_store::Store;
 use consistency_server::Ordered;
@@ -34,7 +34,7 @@ use std::time::Clock;
 pub struct Served<W> {
     /// The one order of calls.
     pub ordered: Ordered<Global>,
-    /// How many UPDATE and COMMIT calls the workers answered otherwise than busy or out of memory.
+    /// How many UPDATE and COMMIT calls the workers carried out: those answered otherwise than busy or out of memory.
     pub answered: u64,
     /// The connections for which no thread could be started, and which were dropped unread.
     pub unserved: usize,
@@ -43,22 +43,22 @@ pub struct Served<W> {
     pub writer: W,
 }
 
-/// A worker, unless no thread could be started for it: then its connection is dropped unread.
-fn work_unless<G: Gate, C: Connection, B: ServerName, L: Ledger, R: Wait>(
+/// A worker's whole work, unless no thread could be started for it: then its connection is dropped unread.
+fn work_unless_unread<G: Gate, C: Connection, B: ServerName, L: Ledger, R: Wait>(
     rt: &R,
-    turned_away: &AtomicBool,
+    is_unread: &AtomicBool,
     connection: C,
     shared: &Shared<'_, B, L, R>,
     gate: &G,
-    part: Part<L>,
-) -> Part<L> {
-    if turned_away.load(Ordering::SeqCst) {
+    part: WorkerTally<L>,
+) -> WorkerTally<L> {
+    if is_unread.load(Ordering::SeqCst) {
         return part;
     }
     work(rt, connection, shared, gate, part)
 }
 
-/// A flag for each worker.
+/// A flag for each connection: that it is dropped unread.
 fn flags(alloc: Global, count: usize) -> Result<Vec<AtomicBool>, Memory>
     ensures { IfOk result (λ v. vec_len v ≡ count) }
 {
@@ -87,29 +87,31 @@ fn gather<
     shared: &'s Shared<'a, B, L, R>,
     gate: &'s G,
     connections: I,
-    turned: &'s [AtomicBool],
+    unread: &'s [AtomicBool],
     stock: Tally<L>,
-    running: Vec<JoinHandle<Part<L>>>,
+    running: Vec<JoinHandle<WorkerTally<L>>>,
 ) -> (Tally<L>, usize)
     requires can { I.can_next connections × IsFinite (I.remaining connections) }
-    requires parts { (length turned.now + 1 ≡ L.parts) × (stock.share.parts ≡ L.parts) }
-    requires room { (vec_len running ≡ 0) × (length turned.now ≤ vec_capacity running) }
+    requires parts { (length unread.now + 1 ≡ L.parts) × (stock.share.parts ≡ L.parts) }
+    requires room { (vec_len running ≡ 0) × (length unread.now ≤ vec_capacity running) }
     ensures { result.0.share.parts ≡ L.parts }
 {
     let mut connections = connections;
     let mut all = stock;
     let mut running = running;
     let mut unserved = 0;
-    for k in 0..turned.len() {
-        let turn = &turned[k];
+    for k in 0..unread.len() {
+        let is_unread = &unread[k];
         let Some(connection) = connections.next() else {
             break;
         };
         let part = all.split();
-        match scope.spawn(move || work_unless(rt, turn, connection, shared, gate, part)) {
+        match scope.spawn(move || work_unless_unread(
+            rt, is_unread, connection, shared, gate, part,
+        )) {
             Ok(handle) => running.push_reserved(handle),
             Err(refused) => {
-                turn.store(true, Ordering::SeqCst);
+                is_unread.store(true, Ordering::SeqCst);
                 unserved += 1;
                 let one = (refused.value)().tally();
                 shared.locked.lock(rt).collect(&mut all, one);
@@ -136,22 +138,22 @@ fn serve_all<
     shared: &Shared<'_, B, L, R>,
     gate: &G,
     connections: I,
-    turned: &[AtomicBool],
+    unread: &[AtomicBool],
     stock: Tally<L>,
-    running: Vec<JoinHandle<Part<L>>>,
+    running: Vec<JoinHandle<WorkerTally<L>>>,
 ) -> (Tally<L>, usize)
     requires can { I.can_next connections × IsFinite (I.remaining connections) }
-    requires parts { (length turned.now + 1 ≡ L.parts) × (stock.share.parts ≡ L.parts) }
-    requires room { (vec_len running ≡ 0) × (length turned.now ≤ vec_capacity running) }
+    requires parts { (length unread.now + 1 ≡ L.parts) × (stock.share.parts ≡ L.parts) }
+    requires room { (vec_len running ≡ 0) × (length unread.now ≤ vec_capacity running) }
     ensures { result.0.share.parts ≡ L.parts }
 {
     thread::scope(
         thread::scope_env(),
         rt,
         move |scope| -> (Tally<L>, usize)
-            requires { I.can_next connections × IsFinite (I.remaining connections) × (length turned.now + 1 ≡ L.parts) × (stock.share.parts ≡ L.parts) × (vec_len running ≡ 0) × (length turned.now ≤ vec_capacity running) }
+            requires { I.can_next connections × IsFinite (I.remaining connections) × (length unread.now + 1 ≡ L.parts) × (stock.share.parts ≡ L.parts) × (vec_len running ≡ 0) × (length unread.now ≤ vec_capacity running) }
             ensures { result.0.share.parts ≡ L.parts }
-        { gather(rt, scope, shared, gate, connections, turned, stock, running) },
+        { gather(rt, scope, shared, gate, connections, unread, stock, running) },
     )
 }
 
@@ -188,8 +190,8 @@ fn serve_in<
     ensures flushed { IfOk result (λ s. IsFlushed s.flushed B.before (W.contents s.writer) (log_of B.pinned s.ordered.history)) }
 {
     let running = Vec::with_capacity(alloc, most)?;
-    let turned = flags(alloc, most)?;
-    let turned = turned.as_slice();
+    let unread = flags(alloc, most)?;
+    let unread = unread.as_slice();
     let (shared, stock, popping) = Shared::<'_, B, L, R>::new(
         rt, alloc, queue, pass, blank, store, pinned,
     );
@@ -201,10 +203,10 @@ fn serve_in<
         rt,
         move || flusher.run(flag),
         move || -> (Tally<L>, usize)
-            requires { I.can_next connections × IsFinite (I.remaining connections) × (length turned.now + 1 ≡ L.parts) × (stock.share.parts ≡ L.parts) × (vec_len running ≡ 0) × (length turned.now ≤ vec_capacity running) }
+            requires { I.can_next connections × IsFinite (I.remaining connections) × (length unread.now + 1 ≡ L.parts) × (stock.share.parts ≡ L.parts) × (vec_len running ≡ 0) × (length unread.now ≤ vec_capacity running) }
             ensures { result.0.share.parts ≡ L.parts }
         {
-            let all = serve_all(rt, workers, gate, connections, turned, stock, running);
+            let all = serve_all(rt, workers, gate, connections, unread, stock, running);
             flag.store(true, Ordering::SeqCst);
             all
         },

@@ -12,7 +12,7 @@ use crate::call_queue::{CallPass, CallQueue, Roles, ServerName};
 use crate::gate::Gate;
 use crate::locked::Locked;
 use crate::queue_log::QueueLog;
-use crate::reply::Reply;
+use crate::reply::ReplyBody;
 use crate::tally::Tally;
 use block_store::{Store, StoreError};
 use consistency_server::{CallKind, Ordered};
@@ -74,14 +74,14 @@ impl<'a, B: ServerName, L: Ledger, R: Wait> Shared<'a, B, L, R> {
         gate: &G,
         tally: &mut Tally<L>,
         body: &[u8],
-    ) -> Reply
+    ) -> ReplyBody
         requires { 0 < tally.old.share.parts }
         ensures replies { RepliesToBody B.pinned (request_of body.now) result }
         ensures counted { tally.new.answered ≡ tally.old.answered + count_in (request_of body.now) result.status }
         ensures parts { tally.new.share.parts ≡ tally.old.share.parts }
     {
         let Some((kind, payload)) = request_of(body) else {
-            return Reply::bare(self.alloc, Status::Form);
+            return ReplyBody::bare(self.alloc, Status::Form);
         };
         match kind {
             RequestKind::Update => self.call(rt, gate, tally, CallKind::Update, payload),
@@ -99,7 +99,7 @@ impl<'a, B: ServerName, L: Ledger, R: Wait> Shared<'a, B, L, R> {
         tally: &mut Tally<L>,
         kind: CallKind,
         text: &[u8],
-    ) -> Reply
+    ) -> ReplyBody
         requires { 0 < tally.old.share.parts }
         ensures replies { RepliesToCall B.pinned (call_of kind text.now) result }
         ensures counted { tally.new.answered ≡ tally.old.answered + count_of result.status }
@@ -111,34 +111,34 @@ impl<'a, B: ServerName, L: Ledger, R: Wait> Shared<'a, B, L, R> {
                 .wrapping_add(1),
         );
         let answer = self.locked.lock(rt).call(tally, kind, text);
-        Reply::of(answer)
+        ReplyBody::of(answer)
     }
 
     /// Stores a block.
-    fn put(&self, rt: &R, block: &[u8]) -> Reply
+    fn put(&self, rt: &R, block: &[u8]) -> ReplyBody
         ensures { RepliesToPut block.now result }
     {
         match self.store.put(rt, block) {
             Ok(pass) => match Vec::from_slice(self.alloc, pass.digest().as_bytes()) {
-                Ok(digest) => Reply::ok(digest),
-                Err(_) => Reply::bare(self.alloc, Status::Memory),
+                Ok(digest) => ReplyBody::ok(digest),
+                Err(_) => ReplyBody::bare(self.alloc, Status::Memory),
             },
-            Err(StoreError::TooLarge) => Reply::bare(self.alloc, Status::TooLarge),
-            Err(StoreError::Memory) => Reply::bare(self.alloc, Status::Memory),
+            Err(StoreError::TooLarge) => ReplyBody::bare(self.alloc, Status::TooLarge),
+            Err(StoreError::Memory) => ReplyBody::bare(self.alloc, Status::Memory),
         }
     }
 
     /// Finds the block of a digest.
-    fn get(&self, rt: &R, digest: &[u8]) -> Reply
+    fn get(&self, rt: &R, digest: &[u8]) -> ReplyBody
         ensures { RepliesToGet digest.now result }
     {
         let Ok(digest) = <[u8; 32]>::try_from(digest) else {
-            return Reply::bare(self.alloc, Status::Form);
+            return ReplyBody::bare(self.alloc, Status::Form);
         };
         match self.store.fetch(rt, Digest::from_bytes(digest)) {
-            Ok(Some(block)) => Reply::ok(block),
-            Ok(None) => Reply::bare(self.alloc, Status::Absent),
-            Err(_) => Reply::bare(self.alloc, Status::Memory),
+            Ok(Some(block)) => ReplyBody::ok(block),
+            Ok(None) => ReplyBody::bare(self.alloc, Status::Absent),
+            Err(_) => ReplyBody::bare(self.alloc, Status::Memory),
         }
     }
 }

@@ -55,13 +55,21 @@ fn hasty<R: Net<Listener = TcpListener, Stream = TcpStream>>(
 fn a_fault_that_passes_is_waited_out(rt: HostRuntime) -> Result<(), Fail> {
     let (listener, address) = hasty(&rt)?;
     let clock = Knocking { rt: &rt, address };
-    let mut count = 0u8;
-    let mut fault = None;
-    for _socket in Accepted::new(&clock, &listener, 2, &mut fault) {
-        count = count.saturating_add(1);
+    for most in 0..=3u32 {
+        let mut fault = None;
+        {
+            let mut accepted = Accepted::new(&clock, &listener, most, &mut fault);
+            for turn in 0..most {
+                assert!(rt; accepted.next().is_some(), "{turn} of {most}");
+            }
+            // Nobody is accepted past the limit, though somebody knocks.
+            let _client = TcpStream::connect(&rt, address)?;
+            assert!(rt; accepted.next().is_none(), "past {most}");
+            assert!(rt; accepted.next().is_none(), "again past {most}");
+            assert!(rt; listener.accept().is_ok(), "who knocked still waits");
+        }
+        assert!(rt; fault.is_none(), "no fault");
     }
-    assert_eq!(rt; count, 2);
-    assert!(rt; fault.is_none(), "no fault");
     Ok(())
 }
 
@@ -74,6 +82,24 @@ fn a_fault_that_stays_is_told(rt: HostRuntime) -> Result<(), Fail> {
     }
     let fault = fault.expect(&rt, "a fault");
     assert_eq!(rt; fault.kind(), ErrorKind::WouldBlock);
+    Ok(())
+}
+
+#[test]
+fn a_fault_ends_them(rt: HostRuntime) -> Result<(), Fail> {
+    let (listener, address) = hasty(&rt)?;
+    let mut fault = None;
+    {
+        let mut accepted = Accepted::new(&Restless, &listener, 3, &mut fault);
+        let _first = TcpStream::connect(&rt, address)?;
+        assert!(rt; accepted.next().is_some(), "who knocked");
+        assert!(rt; accepted.next().is_none(), "nobody knocks");
+        // Who knocks now comes too late, and isn't accepted.
+        let _second = TcpStream::connect(&rt, address)?;
+        assert!(rt; accepted.next().is_none(), "ended");
+        assert!(rt; listener.accept().is_ok(), "who came too late still waits");
+    }
+    assert!(rt; fault.is_some(), "the fault");
     Ok(())
 }
 

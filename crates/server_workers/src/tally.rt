@@ -21,13 +21,13 @@ impl<L: Ledger> Tally<L> {
         Tally { answered: 0, share }
     }
 
-    /// Lends a part to a worker.
-    pub(crate) fn split(&mut self) -> Part<L>
+    /// Parts with a tally of nothing for a worker.
+    pub(crate) fn split(&mut self) -> WorkerTally<L>
         requires { 1 < self.old.share.parts }
         ensures { self.new.share.parts + 1 ≡ self.old.share.parts }
     {
         let tally = Tally::new(self.share.split_off(1, 0));
-        Part { tally }
+        WorkerTally { tally }
     }
 
     /// The number of calls that were answered.
@@ -38,24 +38,24 @@ impl<L: Ledger> Tally<L> {
     }
 }
 
-/// What a worker is given, and hands back when it ends.
+/// The tally that a worker is given, and hands back when it ends: it has one part of the ledger.
 #[derive(Drop)]
-pub(crate) struct Part<L: Ledger> {
+pub(crate) struct WorkerTally<L: Ledger> {
     tally: Tally<L>,
     ghost one: { tally.share.parts ≡ 1 },
 }
 
-impl<L: Ledger> Part<L> {
+impl<L: Ledger> WorkerTally<L> {
     pub(crate) fn tally(self) -> Tally<L>
         ensures { result.share.parts ≡ 1 }
     {
-        let Part { tally } = self;
+        let WorkerTally { tally } = self;
         tally
     }
 
-    pub(crate) fn of(tally: Tally<L>) -> Part<L>
+    pub(crate) fn of(tally: Tally<L>) -> WorkerTally<L>
         requires { tally.share.parts ≡ 1 }
     {
-        Part { tally }
+        WorkerTally { tally }
     }
 }

@@ -10,9 +10,9 @@ ghost use Rattle.server_workers.specs.Conversing.{GoesOn, IsCaused};
 use crate::call_queue::ServerName;
 use crate::connection::{Connection, ConnectionFault, Ended};
 use crate::gate::Gate;
-use crate::reply::Reply;
+use crate::reply::ReplyBody;
 use crate::shared::Shared;
-use crate::tally::{Part, Tally};
+use crate::tally::{Tally, WorkerTally};
 use layout::Memory;
 use std::alloc::Global;
 use std::sync::Wait;
@@ -39,7 +39,7 @@ impl From<ConnectionFault> for Ended {
 }
 
 /// Writes the frame of a reply.
-fn answer<C: Connection>(alloc: Global, connection: &mut C, reply: &Reply) -> Result<(), Ended>
+fn answer<C: Connection>(alloc: Global, connection: &mut C, reply: &ReplyBody) -> Result<(), Ended>
     ensures ok { OnOk result (C.told connection.new ≡ goes_on [] (frame.spell (reply_body reply.now.status reply.now.payload)) (C.told connection.old)) }
     ensures err { IfErr result (λ _. (part rest : List ℕ) × (C.told connection.new ≡ goes_on [] part (C.told connection.old)) × (frame.spell (reply_body reply.now.status reply.now.payload) ≡ part ++ rest)) }
     ensures broken { IfErr result (λ e. (e ≡ ended.Fault) ⊎ (e ≡ ended.Memory)) }
@@ -143,9 +143,9 @@ pub(crate) fn work<G: Gate, C: Connection, B: ServerName, L: Ledger, R: Wait>(
     mut connection: C,
     shared: &Shared<'_, B, L, R>,
     gate: &G,
-    part: Part<L>,
-) -> Part<L> {
+    part: WorkerTally<L>,
+) -> WorkerTally<L> {
     let mut tally = part.tally();
     let _ended = converse(rt, &mut connection, shared, gate, &mut tally);
-    Part::of(tally)
+    WorkerTally::of(tally)
 }

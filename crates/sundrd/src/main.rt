@@ -2,10 +2,11 @@
 #![tactic(auto)]
 
 use block_store::Store;
+use clap::error::ErrorKind;
 use clap::{Arg, ArgAction, Command, value_parser};
 use lms_sign::{KEY_SIZE, PublicKey};
 use server_workers::{Accepted, OpenGate, serve};
-use std::alloc::Global;
+use std::alloc::{AllocError, Global};
 use std::env;
 use std::fs::File;
 use std::io::{self, Read};
@@ -19,6 +20,9 @@ use thiserror::Error;
 
 /// The status where the words are at fault.
 const WORDS: u8 = 5;
+
+/// What is printed where memory runs out while the words are read.
+const MEMORY: &str = "memory";
 
 /// What goes wrong past the words, beside the system's own faults.
 #[derive(Debug, Drop, Error)]
@@ -46,6 +50,27 @@ fn option<'a>(alloc: Global, name: &'a str, value: &'a str) -> Arg<'a> {
         .action(ArgAction::Set)
 }
 
+/// The words that the program takes.
+fn command<'a>(alloc: Global) -> Result<Command<'a>, AllocError> {
+    Command::new(alloc, "sundrd")
+        .about("Serves the clients of a file system that needn't trust it")
+        .arg(option(alloc, "listen", "ADDR"))?
+        .arg(option(alloc, "super", "FILE"))?
+        .arg(option(alloc, "log", "FILE"))?
+        .arg(option(alloc, "connections", "N").value_parser(value_parser!(u32)))
+}
+
+/// The words that it was given.
+fn given_words<R: Runtime + AllocGlobal>(rt: &R) -> io::Result<Vec<String>> {
+    Ok(env::args(rt)?.collect(rt.alloc())?)
+}
+
+/// Tells what hinders the words from being read.
+fn refuse_words<R: Runtime>(rt: &R, why: &str) -> anyhow::Result<ExitCode> {
+    let _ = eprintln!(rt; "{why}");
+    Ok(ExitCode::from(WORDS))
+}
+
 /// The public key in a file of 56 bytes.
 fn read_key(rt: &impl Files, name: &str) -> anyhow::Result<PublicKey> {
     let mut file = File::open(rt, name).map_err(Fault::KeyFile)?;
@@ -69,19 +94,24 @@ fn run<
         + Sync,
 >(rt: &R) -> anyhow::Result<ExitCode> {
     let alloc = rt.alloc();
-    let words: Vec<String> = env::args(rt)?.collect(alloc)?;
-    let command = Command::new(alloc, "sundrd")
-        .about("Serves the clients of a file system that needn't trust it")
-        .arg(option(alloc, "listen", "ADDR"))?
-        .arg(option(alloc, "super", "FILE"))?
-        .arg(option(alloc, "log", "FILE"))?
-        .arg(option(alloc, "connections", "N").value_parser(value_parser!(u32)))?;
+    let words = match given_words(rt) {
+        Ok(words) => words,
+        Err(fault) if fault.kind() == io::ErrorKind::OutOfMemory => return refuse_words(rt, MEMORY),
+        Err(_) => return refuse_words(rt, "error: a word isn't UTF-8"),
+    };
+    let Ok(command) = command(alloc) else {
+        return refuse_words(rt, MEMORY);
+    };
     let matches = match command.try_get_matches_from(words.as_slice()) {
         Ok(matches) => matches,
+        Err(fault) if fault.kind() == ErrorKind::OutOfMemory => return refuse_words(rt, MEMORY),
         Err(fault) => {
-            fault.print(rt)?;
-            let status = if fault.exit_code() == 0 { 0 } else { WORDS };
-            return Ok(ExitCode::from(status));
+            let printed = fault.print(rt);
+            if fault.exit_code() != 0 {
+                return Ok(ExitCode::from(WORDS));
+            }
+            printed?;
+            return Ok(ExitCode::SUCCESS);
         }
     };
     let most = matches.get_one::<u32>("connections").unwrap_or(0);

@@ -4,12 +4,13 @@ use Rattle.std.specs.Prelude.{nat_le, IfSome}
 use Rattle.std.specs.Int.{w32, from_be_bytes}
 use Rattle.std.proofs.lemmas.Bool.{lt-leb, le-leb, leb-false, and_right}
 use Rattle.std.proofs.lemmas.List.{append-nil, drop_at, drop-drop, length-drop, length-append}
+use Rattle.std.proofs.lemmas.List.Elements.{All-nil, All-cons}
 use Rattle.layout.specs.declared.error.ReadError.{ReadError}
 use Rattle.layout.specs.declared.error.ReadError.TheVariants.{Short, Range}
 use Rattle.layout.specs.Format.{Answer, IsBytes, ◌>>=◌, uint, raw}
 use Rattle.layout.specs.Laws.{Takes, lawful_uint, wide32}
 use Rattle.wire.specs.Frame.{frame, lawful_frame}
-use Rattle.wire.specs.Stream.{IsFrameThen, BeginsFrame, BeginsAtFault, FramesCall, fed, handed_out, Runs, stream_of, bodies_of, frames_of, IsStreamInFrames, IsCutAnyhow}
+use Rattle.wire.specs.Stream.{IsFrameThen, BeginsFrame, BeginsAtFault, FramesStep, fed, handed_out, waited, met_fault, lacked_memory, Runs, stream_of, bodies_of, frames_of, IsStreamInFrames, IsCutAnyhow, IsAfterFault, IsFaultForGood}
 
 pub some_holds : {X : Type 0} (P : X → Type 0) (o : Option X) (x : X) → o ≡ Some x → IfSome o P → P x
 some_holds {X} P o x is holds = subst (λ (o : Option X). IfSome o P) is holds
@@ -134,27 +135,44 @@ all_known (a ∷ more) (b ∷ others) x y one two done all is =
     let rest = all_known more others x y one.1 two.1 done all first.1 in
     (ap (λ c. c ∷ more) first.0 ∙ ap (λ cs. b ∷ cs) rest.0, rest.1)
 
-bodies_fit : (before after : List ℕ) (calls : List FramesCall) → Runs before calls after → AllFit (bodies_of calls)
+bodies_fit : (before after : List ℕ) (steps : List FramesStep) → Runs before steps after → AllFit (bodies_of steps)
 bodies_fit before after [] run = tt
-bodies_fit before after (fed piece ∷ calls) run = bodies_fit (before ++ piece) after calls run
-bodies_fit before after (handed_out body ∷ calls) run = (run.1.0, bodies_fit run.0 after calls run.2)
+bodies_fit before after (fed piece ∷ steps) run = bodies_fit (before ++ piece) after steps run
+bodies_fit before after (handed_out body ∷ steps) run = (run.1.0, bodies_fit run.0 after steps run.2)
+bodies_fit before after (waited ∷ steps) run = bodies_fit before after steps run.2
+bodies_fit before after (met_fault ∷ steps) run = bodies_fit before after steps run.1
+bodies_fit before after (lacked_memory ∷ steps) run = bodies_fit before after steps run
 
-stream_is : (before after : List ℕ) (calls : List FramesCall) → Runs before calls after → before ++ stream_of calls ≡ frames_of (bodies_of calls) ++ after
+stream_is : (before after : List ℕ) (steps : List FramesStep) → Runs before steps after → before ++ stream_of steps ≡ frames_of (bodies_of steps) ++ after
 stream_is before after [] run = append-nil before ∙ run
-stream_is before after (fed piece ∷ calls) run = sym (append_assoc before piece (stream_of calls)) ∙ stream_is (before ++ piece) after calls run
-stream_is before after (handed_out body ∷ calls) run =
-    ap (λ l. l ++ stream_of calls) run.1.1
-    ∙ append_assoc (frame.spell body) run.0 (stream_of calls)
-    ∙ ap (λ l. frame.spell body ++ l) (stream_is run.0 after calls run.2)
-    ∙ sym (append_assoc (frame.spell body) (frames_of (bodies_of calls)) after)
+stream_is before after (fed piece ∷ steps) run = sym (append_assoc before piece (stream_of steps)) ∙ stream_is (before ++ piece) after steps run
+stream_is before after (handed_out body ∷ steps) run =
+    ap (λ l. l ++ stream_of steps) run.1.1
+    ∙ append_assoc (frame.spell body) run.0 (stream_of steps)
+    ∙ ap (λ l. frame.spell body ++ l) (stream_is run.0 after steps run.2)
+    ∙ sym (append_assoc (frame.spell body) (frames_of (bodies_of steps)) after)
+stream_is before after (waited ∷ steps) run = stream_is before after steps run.2
+stream_is before after (met_fault ∷ steps) run = stream_is before after steps run.1
+stream_is before after (lacked_memory ∷ steps) run = stream_is before after steps run
 
 pub stream_in_frames : IsStreamInFrames
-stream_in_frames calls rest run = stream_is [] rest calls run
+stream_in_frames steps rest run = stream_is [] rest steps run
 
 pub cut_anyhow : IsCutAnyhow
-cut_anyhow calls others rest other_rest run other_run same done all =
-    all_known (bodies_of calls) (bodies_of others) rest other_rest (bodies_fit [] rest calls run) (bodies_fit [] other_rest others other_run) done all (sym (stream_is [] rest calls run) ∙ same ∙ stream_is [] other_rest others other_run)
+cut_anyhow steps others rest other_rest run other_run same done all =
+    all_known (bodies_of steps) (bodies_of others) rest other_rest (bodies_fit [] rest steps run) (bodies_fit [] other_rest others other_run) done all (sym (stream_is [] rest steps run) ∙ same ∙ stream_is [] other_rest others other_run)
 
 -- a length at fault stays in front
 pub fault_stays : (bytes more : List ℕ) → BeginsAtFault bytes → BeginsAtFault (bytes ++ more)
 fault_stays bytes more (size, rest, fits, out, is) = (size, rest ++ more, fits, out, ap (λ l. l ++ more) is ∙ append_assoc ((uint w32).spell size) rest more)
+
+pub fault_for_good : IsFaultForGood
+fault_for_good [] before after fault run = (All-nil IsAfterFault, subst BeginsAtFault run fault)
+fault_for_good (fed piece ∷ steps) before after fault run =
+    let rest = fault_for_good steps (before ++ piece) after (fault_stays before piece fault) run in (All-cons IsAfterFault (fed piece) steps tt rest.0, rest.1)
+fault_for_good (handed_out body ∷ steps) before after fault run = absurd (either_begins before (body, run.0, run.1) fault)
+fault_for_good (waited ∷ steps) before after fault run = absurd (run.1 fault)
+fault_for_good (met_fault ∷ steps) before after fault run =
+    let rest = fault_for_good steps before after fault run.1 in (All-cons IsAfterFault met_fault steps tt rest.0, rest.1)
+fault_for_good (lacked_memory ∷ steps) before after fault run =
+    let rest = fault_for_good steps before after fault run in (All-cons IsAfterFault lacked_memory steps tt rest.0, rest.1)

@@ -1,8 +1,12 @@
 -- Streams of frames, of which a reader has so many bytes, in whatever pieces they came.
-use Rattle.std.specs.Prelude.{◌≡◌, ℕ, ◌<◌, ◌⊎◌, List, [], ◌∷◌, ◌++◌}
+use Rattle.std.specs.Prelude.{◌≡◌, ℕ, ◌<◌, ◌⊎◌, List, [], ◌∷◌, ◌++◌, Option, Some, None, Result, Ok, Err}
+use Rattle.std.specs.List.{All}
+use Rattle.std.specs.declared.vec.Vec.{Vec}
 use Rattle.std.specs.Int.{w32}
 use Rattle.layout.specs.Format.{uint}
 use Rattle.wire.specs.Frame.{frame}
+use Rattle.wire.specs.declared.stream.FrameError.{FrameError}
+use Rattle.wire.specs.declared.stream.FrameError.TheVariants.{Length, Memory}
 
 -- the frame of a body, and then the rest
 abbrev pub IsFrameThen : List ℕ → List ℕ → List ℕ → Type 0
@@ -21,29 +25,59 @@ BeginsAtFault bytes =
     × ((size ≡ 0) ⊎ (2097152 < size))
     × (bytes ≡ (uint w32).spell size ++ rest)
 
--- what a call did: it took a piece of the stream, or handed out the body of a frame
-pub data FramesCall : Type 0 where
-  fed : List ℕ → FramesCall
-  handed_out : List ℕ → FramesCall
+-- what a call did: it took a piece of the stream, or handed out the body of a frame, or it changed nothing
+pub data FramesStep : Type 0 where
+  fed : List ℕ → FramesStep
+  handed_out : List ℕ → FramesStep
+  -- there was no frame yet
+  waited : FramesStep
+  -- the length of the next frame was at fault
+  met_fault : FramesStep
+  -- memory ran out, for a piece or for a frame
+  lacked_memory : FramesStep
 
--- from the bytes that wait before the calls to those that wait after them
-abbrev pub Runs : List ℕ → List FramesCall → List ℕ → Type 0
+-- from the bytes that wait before the steps to those that wait after them
+abbrev pub Runs : List ℕ → List FramesStep → List ℕ → Type 0
 Runs before [] after = before ≡ after
-Runs before (fed piece ∷ calls) after = Runs (before ++ piece) calls after
-Runs before (handed_out body ∷ calls) after =
-    (rest : List ℕ) × IsFrameThen body rest before × Runs rest calls after
+Runs before (fed piece ∷ steps) after = Runs (before ++ piece) steps after
+Runs before (handed_out body ∷ steps) after =
+    (rest : List ℕ) × IsFrameThen body rest before × Runs rest steps after
+Runs before (waited ∷ steps) after = (¬ BeginsFrame before) × (¬ BeginsAtFault before) × Runs before steps after
+Runs before (met_fault ∷ steps) after = BeginsAtFault before × Runs before steps after
+Runs before (lacked_memory ∷ steps) after = Runs before steps after
+
+-- the step of a call that was fed a piece
+abbrev pub step_of_feed : {X E : Type 0} → List ℕ → Result X E → FramesStep
+step_of_feed piece (Ok x) = fed piece
+step_of_feed piece (Err e) = lacked_memory
+
+abbrev pub step_of_error : FrameError → FramesStep
+step_of_error Length = met_fault
+step_of_error Memory = lacked_memory
+
+-- the step of a call that was asked for the next frame
+abbrev pub step_of_next : {A : Type 0} → Result (Option (Vec ℕ A)) FrameError → FramesStep
+step_of_next (Ok (Some body)) = handed_out body.items
+step_of_next (Ok None) = waited
+step_of_next (Err e) = step_of_error e
 
 -- the stream that was fed
-abbrev pub stream_of : List FramesCall → List ℕ
+abbrev pub stream_of : List FramesStep → List ℕ
 stream_of [] = []
-stream_of (fed piece ∷ calls) = piece ++ stream_of calls
-stream_of (handed_out body ∷ calls) = stream_of calls
+stream_of (fed piece ∷ steps) = piece ++ stream_of steps
+stream_of (handed_out body ∷ steps) = stream_of steps
+stream_of (waited ∷ steps) = stream_of steps
+stream_of (met_fault ∷ steps) = stream_of steps
+stream_of (lacked_memory ∷ steps) = stream_of steps
 
 -- the bodies of the frames that were handed out
-abbrev pub bodies_of : List FramesCall → List (List ℕ)
+abbrev pub bodies_of : List FramesStep → List (List ℕ)
 bodies_of [] = []
-bodies_of (fed piece ∷ calls) = bodies_of calls
-bodies_of (handed_out body ∷ calls) = body ∷ bodies_of calls
+bodies_of (fed piece ∷ steps) = bodies_of steps
+bodies_of (handed_out body ∷ steps) = body ∷ bodies_of steps
+bodies_of (waited ∷ steps) = bodies_of steps
+bodies_of (met_fault ∷ steps) = bodies_of steps
+bodies_of (lacked_memory ∷ steps) = bodies_of steps
 
 -- the frames of these bodies, one after another
 abbrev pub frames_of : List (List ℕ) → List ℕ
@@ -53,15 +87,31 @@ frames_of (body ∷ bodies) = frame.spell body ++ frames_of bodies
 -- the stream that was fed is the frames that were handed out, and what waits
 abbrev pub IsStreamInFrames : Type 0
 IsStreamInFrames =
-    (calls : List FramesCall) (rest : List ℕ) → Runs [] calls rest → stream_of calls ≡ frames_of (bodies_of calls) ++ rest
+    (steps : List FramesStep) (rest : List ℕ) → Runs [] steps rest → stream_of steps ≡ frames_of (bodies_of steps) ++ rest
 
 -- however a stream was cut, once no whole frame waits the same frames were handed out, and the same bytes wait
 abbrev pub IsCutAnyhow : Type 0
 IsCutAnyhow =
-    (calls others : List FramesCall) (rest other_rest : List ℕ)
-    → Runs [] calls rest
+    (steps others : List FramesStep) (rest other_rest : List ℕ)
+    → Runs [] steps rest
     → Runs [] others other_rest
-    → stream_of calls ≡ stream_of others
+    → stream_of steps ≡ stream_of others
     → ¬ BeginsFrame rest
     → ¬ BeginsFrame other_rest
-    → (bodies_of calls ≡ bodies_of others) × (rest ≡ other_rest)
+    → (bodies_of steps ≡ bodies_of others) × (rest ≡ other_rest)
+
+-- what a call may do once a length at fault is next: no frame comes, and none is waited for
+abbrev pub IsAfterFault : FramesStep → Type 0
+IsAfterFault (fed piece) = Unit {0}
+IsAfterFault (handed_out body) = ⊥
+IsAfterFault waited = ⊥
+IsAfterFault met_fault = Unit {0}
+IsAfterFault lacked_memory = Unit {0}
+
+-- once a length at fault is next it stays so, whatever is fed
+abbrev pub IsFaultForGood : Type 0
+IsFaultForGood =
+    (steps : List FramesStep) (before after : List ℕ)
+    → BeginsAtFault before
+    → Runs before steps after
+    → All IsAfterFault steps × BeginsAtFault after

@@ -31,7 +31,7 @@ pub enum Status {
     WrongNumber = 4,
     /// The user has no pending operation of this plan.
     NotPending = 5,
-    /// The log has no room for another event.
+    /// The log has no room for another call.
     Busy = 6,
     /// A version is the last one, or a block is larger than a stored block may be.
     TooLarge = 7,

@@ -1,9 +1,9 @@
 //! A stream that comes in pieces, and its frames.
 
-ghost use Rattle.std.specs.Prelude.{◌≡◌, ◌≢◌, MatchBool, ◌++◌, [], Err, IfOk, IfErr, IfSome, IfNone, OnOk, OnErr};
+ghost use Rattle.std.specs.Prelude.{◌≡◌, ◌≢◌, ◌≤◌, ◌<◌, ◌+◌, ◌-◌, MatchBool, ◌++◌, ◌∷◌, [], Err, IfOk, IfErr, IfSome, IfNone, OnOk, OnErr, drop, length};
 ghost use Rattle.layout.specs.declared.error.ReadError.TheVariants as read_error;
 ghost use Rattle.wire.specs.declared.stream.FrameError.TheVariants as frame_error;
-ghost use Rattle.wire.specs.Stream.{IsFrameThen, BeginsFrame, BeginsAtFault};
+ghost use Rattle.wire.specs.Stream.{IsFrameThen, BeginsFrame, BeginsAtFault, Runs, step_of_feed, step_of_next};
 
 use crate::frames::first_body;
 use layout::{Memory, ReadError, Reader};
@@ -56,6 +56,23 @@ impl<A: Allocator> Model for Frames<A> {
     ghost invariant = { λ f. f.handed_out ≤ length f.bytes.items };
 }
 
+/// Lets go of the bytes in front that were handed out, where they are half of all or more, and tells how many are left of
+/// them.
+fn let_go<A: Allocator>(bytes: &mut Vec<u8, A>, handed_out: usize) -> usize
+    requires { handed_out ≤ length bytes.old.items }
+    ensures waiting { drop result bytes.new.items ≡ drop handed_out bytes.old.items }
+    // At most half of what is kept was handed out.
+    ensures few { result + result ≤ length bytes.new.items }
+    // Nothing is moved while more than half of the bytes wait.
+    ensures same { handed_out + handed_out < length bytes.old.items → bytes.new.items ≡ bytes.old.items }
+{
+    if handed_out < bytes.len() - handed_out {
+        return handed_out;
+    }
+    bytes.drain(..handed_out);
+    0
+}
+
 impl<A: Allocator> Frames<A> {
     /// Nothing was fed.
     pub fn new(alloc: A) -> Frames<A>
@@ -73,20 +90,11 @@ impl<A: Allocator> Frames<A> {
         ensures err { OnErr result (self.new ≡ self.old) }
         // A length at fault stays in front.
         ensures at_fault { BeginsAtFault self.old → BeginsAtFault self.new }
+        ensures step { Runs self.old (step_of_feed piece.now result ∷ []) self.new }
     {
-        self.let_go();
+        self.handed_out = let_go(&mut self.bytes, self.handed_out);
         self.bytes.extend_from_slice(piece)?;
         Ok(())
-    }
-
-    /// Lets go of what was handed out, where that is half of the bytes or more.
-    fn let_go(&mut self)
-        ensures { self.new ≡ self.old }
-    {
-        if self.handed_out >= self.bytes.len() - self.handed_out {
-            self.bytes.drain(..self.handed_out);
-            self.handed_out = 0;
-        }
     }
 
     /// What waits.
@@ -123,6 +131,7 @@ impl<A: Allocator + Copy> Frames<A> {
         // Memory is wanted for a whole frame alone.
         ensures memory { IfErr result (λ e. e ≡ frame_error.Memory → BeginsFrame self.old) }
         ensures err { OnErr result (self.new ≡ self.old) }
+        ensures step { Runs self.old (step_of_next result ∷ []) self.new }
     {
         let alloc = *self.bytes.allocator();
         match self.next_body()? {

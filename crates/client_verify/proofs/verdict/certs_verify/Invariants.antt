@@ -5,4 +5,4 @@ use Rattle.client_verify.proofs.verdict.certs_verify.Given as goal
 
 abbrev pub invariant-loop-item : goal.invariant-loop-item
 invariant-loop-item g l =
-    list_all (cert_verifies l.key) (drop l.item-index l.pending) ≡ list_all (cert_verifies l.key) l.pending
+    list_all (cert_verifies l.known.pinned) (drop l.item-index l.pending) ≡ list_all (cert_verifies l.known.pinned) l.pending

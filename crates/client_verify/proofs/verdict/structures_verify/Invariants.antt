@@ -5,4 +5,4 @@ use Rattle.client_verify.proofs.verdict.structures_verify.Given as goal
 
 abbrev pub invariant-loop-structure : goal.invariant-loop-structure
 invariant-loop-structure g l =
-    list_all (structure_verifies l.key) (drop l.structure-index l.structures) ≡ list_all (structure_verifies l.key) l.structures
+    list_all (structure_verifies l.known.pinned) (drop l.structure-index l.structures) ≡ list_all (structure_verifies l.known.pinned) l.structures

@@ -1,4 +1,3 @@
-use Rattle.std.proofs.Common.{rules}
 use Rattle.server_workers.proofs.Relays.{begins}
 use Rattle.server_workers.proofs.new_queue.empty_queue.Goals as goal
 

@@ -11,8 +11,8 @@ invariant-loop-k g l =
     × (l.all.share.parts + vec_len l.running ≡ g.L.Ledger.parts)
     × (vec_len l.running ≤ l.k)
     × (l.unserved ≤ l.k)
-    × (length l.turned + 1 ≡ g.L.Ledger.parts)
-    × (length l.turned ≤ vec_capacity l.running)
+    × (length l.unread + 1 ≡ g.L.Ledger.parts)
+    × (length l.unread ≤ vec_capacity l.running)
 
 abbrev pub invariant-loop-handle : goal.invariant-loop-handle
 invariant-loop-handle g l = l.all.share.parts + into_iter_len l.handle-iterator ≡ g.L.Ledger.parts

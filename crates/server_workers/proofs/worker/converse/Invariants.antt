@@ -1,6 +1,6 @@
 use Rattle.std.proofs.Common.{◌≡◌, ◌≤◌, ◌<◌, []}
 use Rattle.std.specs.Prelude.{vec_len}
-use Rattle.server_workers.specs.Conversing.{Standing, Conversing}
+use Rattle.server_workers.specs.Conversing.{Conversing}
 use Rattle.server_workers.proofs.worker.converse.Given as goal
 
 abbrev pub invariant-loop : goal.invariant-loop

@@ -1,5 +1,5 @@
 -- What was written so far, and what is left.
-use Rattle.std.proofs.Common.{rules, ◌≡◌, ◌∙◌, ap}
+use Rattle.std.proofs.Common.{◌∙◌, ap}
 use Rattle.std.proofs.lemmas.List.{take_rest}
 use Rattle.server_workers.proofs.Written.{written_on, kept}
 use Rattle.server_workers.proofs.writing.write_whole.Goals as goal

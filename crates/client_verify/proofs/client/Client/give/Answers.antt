@@ -3,7 +3,7 @@ use Rattle.std.specs.Option.{option_copied}
 use Rattle.client_tree.specs.Held.{held, keeping}
 use Rattle.client_verify.specs.Grown.{IsAnswer}
 use Rattle.client_verify.specs.FirstBroken.{view_over}
-use Rattle.client_verify.specs.State.{block_breaks}
+use Rattle.client_verify.specs.State.{AcceptedView, block_breaks}
 use Rattle.client_verify.proofs.Steps.{given_from, if_some, shown_there}
 use Rattle.client_verify.proofs.client.Client.give.Goals as goal
 
@@ -24,6 +24,8 @@ answer-requires-clause-shown g c =
     let v = c.in-Some.view in
     let l = c.in-Some-looking.looking in
     let there : c.self.inside.view ≡ Some v = search rules in
+    let table : c.table.result.now ≡ v.table = c.table.ensures ∙ ap (λ (w : AcceptedView). w.table) c.view.view_is in
+    let lists : c.lists.result.now ≡ v.lists = c.lists.ensures ∙ ap (λ (w : AcceptedView). w.lists) c.view.view_is in
     let kept : c.keep_as.new.self ≡ keeping c.self.inside.blocks c.in-Ok.text.now = search rules in
     if_some c.self.inside.view v (λ w. IsAnswer (held c.keep_as.new.self) (view_over c.self.inside.pinned w.table w.lists) l.principal l.i_number c.in_ok-shown.shown) there
-    (shown_there (keeping c.self.inside.blocks c.in-Ok.text.now) c.keep_as.new.self c.self.inside.pinned c.self.inside.pinned _ v l.principal l.i_number c.in_ok-shown.shown (sym kept) refl c.view.view_is c.in_ok-shown.ensures)
+    (shown_there (keeping c.self.inside.blocks c.in-Ok.text.now) c.keep_as.new.self c.self.inside.pinned c.self.inside.pinned c.table.result.now c.lists.result.now v l.principal l.i_number c.in_ok-shown.shown (sym kept) refl table lists c.in_ok-shown.ensures)

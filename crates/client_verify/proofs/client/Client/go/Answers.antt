@@ -1,4 +1,4 @@
-use Rattle.std.proofs.Common.{◌≡◌, List, map, subst}
+use Rattle.std.proofs.Common.{◌≡◌, List, map, refl, subst}
 use Rattle.client_tree.specs.Held.{held}
 use Rattle.client_verify.specs.declared.growing.Written.{Written}
 use Rattle.client_verify.specs.Grown.{IsWritten}
@@ -10,7 +10,7 @@ pub returns-in-Lacks : goal.returns-in-Lacks
 returns-in-Lacks g c =
     let old = c.args.self.now in
     let x = c.args.good in
-    let wanted = subst (λ (w : Written _). IsWritten (held old.blocks) (view_of old.pinned x) x.void w) c.in-Lacks.is c.requires in
+    let wanted = subst (λ (w : Written _). IsWritten (held old.blocks) (view_of old.pinned x) x.void w) c.in-Lacks.is c.requires.written in
     goes_need _ old c.ask.new.self x c.in-Lacks.asked c.ask.result c.ask.ensures.step c.ask.ensures.state wanted
 
 pub returns-in-Parts : goal.returns-in-Parts
@@ -18,8 +18,8 @@ returns-in-Parts g c =
     let old = c.args.self.now in
     let x = c.args.good in
     let made = c.in-Parts.made in
-    let w = subst (λ (w : Written _). IsWritten (held old.blocks) (view_of old.pinned x) x.void w) c.in-Parts.is c.requires in
+    let w = subst (λ (w : Written _). IsWritten (held old.blocks) (view_of old.pinned x) x.void w) c.in-Parts.is c.requires.written in
     let own = w.0 in
     let groups = w.1 in
     let is = w.2 in
-    (own, groups, made.lost.items, ready_is _ old _ x made.handle own.handle made.records.items (map (record_over x.lists.own.plan) groups) made.lost.items c.self.view_is c.good.view_is is.0 is.1, w.3, w.4, is.2)
+    (own, groups, made.lost.items, ready_is _ old x x made.handle own.handle made.records.items (map (record_over x.lists.own.plan) groups) made.lost.items c.self.view_is refl is.0 is.1, w.3, w.4, is.2)

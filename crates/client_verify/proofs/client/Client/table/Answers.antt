@@ -1,4 +1,4 @@
-use Rattle.std.proofs.Common.{◌≡◌, Some, sym, ap, rules}
+use Rattle.std.proofs.Common.{◌≡◌, Some, sym, ap, ◌∙◌, rules}
 use Rattle.client_verify.specs.State.{AcceptedView}
 use Rattle.client_verify.proofs.Steps.{some_one}
 use Rattle.client_verify.proofs.client.Client.table.Goals as goal
@@ -8,4 +8,4 @@ returns g c =
     let old = c.args.self.now in
     let v = c.in-Some.view in
     let there : old.view ≡ Some v = search rules in
-    some_one old.view v (λ w. w.table ≡ c.view.inside.table) there (sym (ap (λ (w : AcceptedView). w.table) c.view.view_is))
+    some_one old.view v (λ w. w.table ≡ c.table.result.now) there (sym (c.table.ensures ∙ ap (λ (w : AcceptedView). w.table) c.view.view_is))

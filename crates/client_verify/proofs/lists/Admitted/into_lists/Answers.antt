@@ -6,14 +6,22 @@ use Rattle.pending_list.specs.declared.signed.Signed.{Signed}
 use Rattle.pending_list.specs.Reply.{Reply, user_of}
 use Rattle.reply_rules.specs.Lists.{lists_of}
 use Rattle.reply_rules.specs.ListsLaws.{lists_are}
+use Rattle.client_verify.specs.Verified.{AreSupers}
 use Rattle.client_verify.proofs.Judging.{lists_ascend}
 use Rattle.client_verify.proofs.ListsLaws.{ascend}
+use Rattle.client_verify.proofs.VerifiedLaws.{reply_supers}
 use Rattle.client_verify.proofs.lists.Admitted.into_lists.Goals as goal
 
 pub invariant_of-result : goal.invariant_of-result
 invariant_of-result g c =
     let r = c.self.inside.reply in
-    subst (Ascends nat_cmp user_of None) (sym c.into_parts-structures.ensures.structures) (ascend r.structures (lists_ascend r c.self.invariant.0))
+    let others = c.pop.new.self.items in
+    let own = c.in-Some.own in
+    let is : r.pending ≡ others ++ own ∷ [] = sym c.into_parts-structures.ensures.pending ∙ c.in-Some.ensures.items in (
+      subst (Ascends nat_cmp user_of None) (sym c.into_parts-structures.ensures.structures) (ascend r.structures (lists_ascend r c.self.invariant.0)),
+      subst (λ (zs : List (Signed Structure)). AreSupers (record { structures = zs; others = others; own = own }) c.self.inside.pinned) (sym c.into_parts-structures.ensures.structures)
+          (reply_supers r c.self.inside.pinned others own is c.self.invariant.2),
+    )
 
 pub returns : goal.returns
 returns g c =

@@ -1,4 +1,3 @@
-use Rattle.std.proofs.Common.{◌≡◌, true, sym, ap, ◌∙◌, subst}
 use Rattle.server_workers.proofs.Relays.{merges, totals}
 use Rattle.server_workers.proofs.flusher.Flusher.finish.Goals as goal
 

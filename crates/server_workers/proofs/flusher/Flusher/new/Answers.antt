@@ -1,4 +1,4 @@
-use Rattle.std.proofs.Common.{◌≡◌, [], sym, ap, ◌∙◌}
+use Rattle.std.proofs.Common.{ap}
 use Rattle.server_workers.proofs.Written.{wrote_nothing}
 use Rattle.server_workers.proofs.flusher.Flusher.new.Goals as goal
 

@@ -1,7 +1,4 @@
-use Rattle.std.proofs.Common.{◌≡◌, true, sym, ap, ◌∙◌, subst}
-use Rattle.crossbeam_queue.specs.Passes.{IsPassOf}
-use Rattle.server_workers.specs.Hands.{hand_of}
-use Rattle.server_workers.specs.Flushing.{Wrote}
+use Rattle.std.proofs.Common.{ap, ◌∙◌}
 use Rattle.server_workers.proofs.Relays.{gets, totals}
 use Rattle.server_workers.proofs.Written.{writes, fails}
 use Rattle.server_workers.proofs.flusher.Flusher.step.Goals as goal

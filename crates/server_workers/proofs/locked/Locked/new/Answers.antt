@@ -1,4 +1,4 @@
-use Rattle.std.proofs.Common.{◌≡◌, length, sym, ap, ◌∙◌}
+use Rattle.std.proofs.Common.{length, sym, ap, ◌∙◌}
 use Rattle.consistency_server.specs.History.{Ordered, log_of}
 use Rattle.server_workers.proofs.locked.Locked.new.Goals as goal
 

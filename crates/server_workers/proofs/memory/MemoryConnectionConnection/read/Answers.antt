@@ -1,5 +1,5 @@
 -- What was read before, and then what is copied now.
-use Rattle.std.proofs.Common.{rules, ◌≡◌, ◌++◌, ◌+◌, take, length, List, ℕ, Some, sym, ap, ◌∙◌, subst, append-nil}
+use Rattle.std.proofs.Common.{rules, ◌≡◌, ◌++◌, ◌+◌, take, length, Some, sym, ap, ◌∙◌, subst, append-nil}
 use Rattle.std.proofs.Math.Seq.{take-add, take-append_seam}
 use Rattle.std.proofs.Math.ListN.{drop}
 use Rattle.server_workers.proofs.memory.MemoryConnectionConnection.read.Goals as goal

@@ -1,4 +1,4 @@
-use Rattle.std.proofs.Common.{◌≡◌, ◌++◌, ◌-◌, length, drop, sym, ap, ◌∙◌, subst, arith}
+use Rattle.std.proofs.Common.{◌≡◌, ◌++◌, ◌-◌, length, drop, refl, sym, ap, ◌∙◌, subst, arith}
 use Rattle.wire.specs.Frame.{frame}
 use Rattle.wire.specs.Stream.{IsFrameThen}
 use Rattle.wire.proofs.Streams.{some_holds, either_begins, end_behind, drop_behind}
@@ -28,3 +28,6 @@ pub returns-in_ok-body-in-Some-clause-at_fault : goal.returns-in_ok-body-in-Some
 returns-in_ok-body-in-Some-clause-at_fault g c fault =
     let f = some_holds _ c.in_ok-body.field-0 _ c.in-Some.is c.in_ok-body.ensures.frame in
     absurd (either_begins c.args.self.now (c.in-Some.body.now, c.in-Some.behind.now, f) fault)
+
+pub returns-in_ok-body-in-Some-clause-step : goal.returns-in_ok-body-in-Some-clause-step
+returns-in_ok-body-in-Some-clause-step g c = (_, returns-in_ok-body-in-Some-clause-frame g c, refl)

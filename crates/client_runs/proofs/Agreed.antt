@@ -1,0 +1,201 @@
+-- The accepted views of a run agree.
+use Rattle.std.proofs.Common.{◌≡◌, List, [], ◌∷◌, ◌++◌, map, IfSome, refl, sym, ap, ◌∙◌, subst, inl, inr, option_map}
+use Rattle.std.specs.Prelude.{◌⊎◌}
+use Rattle.std.specs.List.{All, Contains, flat_map}
+use Rattle.layout.specs.Types.{Bytes, User}
+use Rattle.version_order.specs.Plan.{Plan, plan}
+use Rattle.version_order.specs.Structure.{Structure, structure}
+use Rattle.update_cert.specs.Cert.{Cert, cert}
+use Rattle.pending_list.specs.declared.signed.Signed.{Signed}
+use Rattle.pending_list.specs.Reply.{PendingItem}
+use Rattle.reply_rules.specs.Lists.{Lists, items, pending, structure_of}
+use Rattle.reply_rules.specs.Lists.{shown as plans_shown}
+use Rattle.client_tree.specs.Genesis.{first_texts}
+use Rattle.agreement.specs.Lines.{Agree, AreNumbered, EndWithOwn, Grow, line}
+use Rattle.agreement.specs.Runs.{Accepted, View, last_signed, number_of, texts_of, user_of}
+use Rattle.agreement.specs.Runs.{IsRun as AreAccepted}
+use Rattle.agreement.specs.Runs.{NoCollision as NoViewCollision}
+use Rattle.agreement.specs.Runs.{structures as structures_of}
+use Rattle.agreement.proofs.Lines as lines
+use Rattle.agreement.proofs.Members.{In, contains_in, flat_map-in, in-append, in-left, in-map, in-right, in_contains, map-in, to_all}
+use Rattle.release_runs.specs.Steps as low
+use Rattle.release_runs.proofs.Stories.{IsStory, OfCert, OfStructure, Release, last_in}
+use Rattle.client_runs.specs.Runs.{Event, IsRun, Keys, client_of, owner, public_key}
+use Rattle.client_runs.specs.Released.{accepted_by, hashed, hashed_at, pending_texts, reply_texts, shown_cert, shown_structure, structure_texts, tried_view, views}
+use Rattle.client_runs.specs.Agreeing.{AreReleased, HasReleased, NoForgery, Premises}
+use Rattle.client_runs.proofs.Genuine.{genuine, released_later, released_structure}
+use Rattle.client_runs.proofs.Holds.{IsTriedOver, known_in, signed_in}
+use Rattle.client_runs.proofs.Judging.{cert_by_super, cert_verified, own_last_is, structure_by_super, structure_fits, structure_verified, unbroken, unbroken_by, value_of, verified}
+use Rattle.client_runs.proofs.Lowering.{low_owner}
+use Rattle.client_runs.proofs.Moves.{holds_at}
+use Rattle.client_runs.proofs.Replies.{of_lists}
+use Rattle.client_runs.proofs.TrueTables.{IsTrueTable, true_tables}
+use Rattle.client_runs.proofs.Views.{first_in, first_of, in_views, last_view, one_at_most, over_here}
+
+last_fits : (o : low.Owner) (story : List Release) → IsStory o story → IfSome (last_in o story) (λ z. structure.Fits z.value)
+last_fits o [] is = tt
+last_fits o (OfCert c q ∷ older) is = last_fits o older is.1
+last_fits o (OfStructure z q ∷ older) is = is.0.next.fits
+
+-- ---- texts of which digests are taken
+
+flat_map-of : {A B : Type 0} (f : A → List B) (xs : List A) (t : B) → In t (flat_map f xs) → (x : A) × In x xs × In t (f x)
+flat_map-of f [] t i = absurd i
+flat_map-of {A} f (x ∷ xs) t i =
+    elim (in-append t (f x) (flat_map f xs) i) [
+      | inl j ↦ (x, inl refl, j)
+      | inr j ↦ (let r = flat_map-of f xs t j in (r.0, inr r.1, r.2))
+    ]
+
+plan_text : (x : Lists) (p : Plan) → In p (plans_shown x ++ pending x) → In (plan.spell p) (reply_texts (of_lists x))
+plan_text x p i =
+    elim (in-append p (plans_shown x) (pending x) i) [
+      | inl j ↦ (
+          let (s, k, e) = in-map (λ (z : Signed Structure). z.value.plan) x.structures p j in
+          in-left (plan.spell p) (flat_map structure_texts x.structures) (flat_map pending_texts (items x))
+          (flat_map-in structure_texts x.structures s (plan.spell p) k (inr (inl (ap plan.spell e)))))
+      | inr j ↦ (
+          let (s, k, e) = in-map (λ (i : PendingItem). i.plan) (items x) p j in
+          in-right (plan.spell p) (flat_map structure_texts x.structures) (flat_map pending_texts (items x))
+          (flat_map-in pending_texts (items x) s (plan.spell p) k (inr (inl (ap plan.spell e)))))
+    ]
+
+view_text : (x : View) (t : Bytes) → In t (texts_of x) → In t (reply_texts (of_lists x.lists))
+view_text x t i =
+    elim (in-append t (map (λ p. plan.spell p) (plans_shown x.lists ++ pending x.lists)) (map (λ (i : PendingItem). cert.spell i.cert) (items x.lists)) i) [
+      | inl j ↦ (
+          let (p, k, e) = in-map (λ (p : Plan). plan.spell p) (plans_shown x.lists ++ pending x.lists) t j in
+          subst (λ (y : Bytes). In y (reply_texts (of_lists x.lists))) (sym e) (plan_text x.lists p k))
+      | inr j ↦ (
+          let (s, k, e) = in-map (λ (i : PendingItem). cert.spell i.cert) (items x.lists) t j in
+          in-right t (flat_map structure_texts x.lists.structures) (flat_map pending_texts (items x.lists)) (flat_map-in pending_texts (items x.lists) s t k (inl e)))
+    ]
+
+module _ (keys : Keys) where
+  -- ---- an accepted view
+
+  module _ (older : List Event) (is : IsRun keys older) (none : NoForgery keys older) (u : User) (x : View) (over : IsTriedOver (owner keys u) (holds_at keys u older is).story older x) where
+    last_now : option_map value_of (structure_of u x.lists) ≡ last_signed u (views older)
+    last_now =
+        let h = holds_at keys u older is in
+        let o = low_owner (owner keys u) in
+        own_last_is u (last_in o h.story) (of_lists x.lists) over.good.judged.fits (last_fits o h.story h.low.is_story)
+        (unbroken (known_in (owner keys u) h.story) (of_lists x.lists) over.good.judged.unbroken).last_is
+        ∙ sym (last_view keys u older is ∙ ap first_of h.viewed ∙ first_in o h.story)
+
+    module _ (own : IsTrueTable keys x) where
+      -- a structure of the view was signed over an earlier one
+      was_signed : (s : Signed Structure) → In s x.lists.structures → In s.value (map signed_in (views older))
+      was_signed s j =
+          let r = of_lists x.lists in
+          let rules = unbroken (known_in (owner keys u) (holds_at keys u older is).story) r over.good.judged.unbroken in
+          let by = unbroken_by x.table x.lists over.good.by_table in
+          let w = s.value.plan.user in
+          let was =
+          over.good.judged.was_shown (shown_structure s)
+          (in-left (shown_structure s) (map shown_structure x.lists.structures) (map shown_cert (items x.lists)) (map-in shown_structure x.lists.structures s j)) in
+          let signature =
+          verified (public_key keys) x.table own w (structure.spell s.value) s.signature (structure_verified x.table x.lists by.structures s j) (structure_by_super (public_key keys 0) r rules.by_super s j) in
+          in_views keys w older s.value (released_structure keys older is w s.value (structure_fits r over.good.judged.fits s j) (genuine keys older none (shown_structure s) was signature))
+
+      accepted_over : Accepted (views older) x
+      accepted_over = record {
+        read = over.good.judged.fits;
+        lists = (unbroken (known_in (owner keys u) (holds_at keys u older is).story) (of_lists x.lists) over.good.judged.unbroken).in_order;
+        own_last = subst (λ (v : User). option_map value_of (structure_of v x.lists) ≡ last_signed v (views older)) (sym over.user) last_now;
+        rules = (unbroken_by x.table x.lists over.good.by_table).rules;
+        signed = over.plan;
+        released =
+            to_all (Contains (map signed_in (views older))) (structures_of x)
+            (λ z i. (
+            let (s, j, same) = in-map value_of x.lists.structures z i in
+            in_contains z (map signed_in (views older)) (subst (λ (y : Structure). In y (map signed_in (views older))) (sym same) (was_signed s j))));
+      }
+
+      -- the certificate of an operation that is pending in the view was released
+      was_declared : (i : PendingItem) → In i (items x.lists) → HasReleased i.cert.user older (cert.spell i.cert)
+      was_declared i j =
+          let r = of_lists x.lists in
+          let rules = unbroken (known_in (owner keys u) (holds_at keys u older is).story) r over.good.judged.unbroken in
+          let by = unbroken_by x.table x.lists over.good.by_table in
+          let was =
+          over.good.judged.was_shown (shown_cert i) (in-right (shown_cert i) (map shown_structure x.lists.structures) (map shown_cert (items x.lists)) (map-in shown_cert (items x.lists) i j)) in
+          let signature =
+          verified (public_key keys) x.table own i.cert.user (cert.spell i.cert) i.signature (cert_verified x.table x.lists by.certs i j) (cert_by_super (public_key keys 0) r rules.by_super i j) in
+          genuine keys older none (shown_cert i) was signature
+
+  -- ---- runs
+
+  abbrev AllTrue : List Event → Type 0
+  AllTrue run = (x : View) → In x (views run) → IsTrueTable keys x
+
+  accepted : (run : List Event) → IsRun keys run → NoForgery keys run → AllTrue run → AreAccepted (views run)
+  accepted [] is none own = tt
+  accepted (e ∷ older) is none own =
+      go (one_at_most e.call (client_of e.user older) e.after (tried_view e.user older))
+      (accepted older is.2 none.1 (λ y i. own y (in-right y (accepted_by e.call (client_of e.user older) e.after (tried_view e.user older)) (views older) i)))
+    where
+      go : (accepted_by e.call (client_of e.user older) e.after (tried_view e.user older) ≡ []) ⊎ ((x : View) × (accepted_by e.call (client_of e.user older) e.after (tried_view e.user older) ≡ x ∷ []))
+          → AreAccepted (views older) → AreAccepted (accepted_by e.call (client_of e.user older) e.after (tried_view e.user older) ++ views older)
+      go (inl nothing) ih = subst (λ (xs : List View). AreAccepted (xs ++ views older)) (sym nothing) ih
+      go (inr (x, one)) ih =
+          let i = subst (λ (xs : List View). In x xs) (sym one) (inl refl) in
+          subst (λ (xs : List View). AreAccepted (xs ++ views older)) (sym one)
+          (accepted_over older is.2 none.1 e.user x (over_here keys e older is x i) (own x (in-left x (accepted_by e.call (client_of e.user older) e.after (tried_view e.user older)) (views older) i)), ih)
+
+  hashed_text : (run : List Event) → IsRun keys run → (x : View) → In x (views run) → (t : Bytes) → In t (texts_of x) → In t (flat_map hashed_at run)
+  hashed_text [] is x i t j = absurd i
+  hashed_text (e ∷ older) is x i t j =
+      in-right t (hashed_at e) (flat_map hashed_at older)
+      (elim (in-append x (accepted_by e.call (client_of e.user older) e.after (tried_view e.user older)) (views older) i) [
+        | inl k ↦ (over_here keys e older is x k).good.judged.was_hashed t (view_text x t j)
+        | inr k ↦ hashed_text older is.2 x k t j
+      ])
+
+  declared_item : (run : List Event) → IsRun keys run → NoForgery keys run → AllTrue run → (x : View) → In x (views run) → (i : PendingItem) → In i (items x.lists) → HasReleased i.cert.user run (cert.spell i.cert)
+  declared_item [] is none own x k i j = absurd k
+  declared_item (e ∷ older) is none own x k i j =
+      released_later e older i.cert.user (cert.spell i.cert)
+      (elim (in-append x (accepted_by e.call (client_of e.user older) e.after (tried_view e.user older)) (views older) k) [
+        | inl here ↦ was_declared older is.2 none.1 e.user x (over_here keys e older is x here) (own x k) i j
+        | inr there ↦ declared_item older is.2 none.1 (λ y l. own y (in-right y (accepted_by e.call (client_of e.user older) e.after (tried_view e.user older)) (views older) l)) x there i j
+      ])
+
+-- ---- the laws
+
+module _ (keys : Keys) (run : List Event) (is : IsRun keys run) (premises : Premises keys run) where
+  all_true : (x : View) → In x (views run) → IsTrueTable keys x
+  all_true = true_tables keys run is premises.no_forgery premises.no_collision premises.true_keys
+
+  pub are_accepted : AreAccepted (views run)
+  are_accepted = accepted keys run is premises.no_forgery all_true
+
+  in_hashed : (b : Bytes) → Contains (flat_map texts_of (views run)) b → Contains (hashed keys run) b
+  in_hashed b has =
+      let (x, i, j) = flat_map-of texts_of (views run) b (contains_in b (flat_map texts_of (views run)) has) in
+      in_contains b (hashed keys run) (in-left b (flat_map hashed_at run) (first_texts (public_key keys 0)) (hashed_text keys run is x i b j))
+
+  pub apart : NoViewCollision (views run)
+  apart b c has_b has_c same = premises.no_collision b c (in_hashed b has_b) (in_hashed c has_c) same
+
+  pub numbered : AreNumbered (views run)
+  numbered = lines.numbered (views run) are_accepted apart
+
+  pub ended : EndWithOwn (views run)
+  ended = lines.ended (views run) are_accepted apart
+
+  pub growing : Grow (views run)
+  growing = lines.growing (views run) are_accepted apart
+
+  pub agreed : Agree (views run)
+  agreed = lines.agreed (views run) are_accepted apart
+
+  pub all_released : AreReleased run
+  all_released = to_all (λ x. All (λ c. HasReleased c.user run (cert.spell c)) (line (views run) x)) (views run) (λ x i. to_all (λ c. HasReleased c.user run (cert.spell c)) (line (views run) x) (λ c j. of_line x c j))
+    where
+      of_line : (x : View) (c : Cert) → In c (line (views run) x) → HasReleased c.user run (cert.spell c)
+      of_line x c j =
+          let k = subst (λ (l : List Cert). In c l) (sym (lines.line_certs (views run) (user_of x) (number_of x))) j in
+          let (i, m, same) = in-map (λ (i : PendingItem). i.cert) (lines.items_at (views run) (user_of x) (number_of x)) c k in
+          let (y, n, p) = lines.line_pending (views run) (user_of x) (number_of x) i m in
+          subst (λ (d : Cert). HasReleased d.user run (cert.spell d)) (sym same) (declared_item keys run is premises.no_forgery all_true y n i p)

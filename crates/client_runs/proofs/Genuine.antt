@@ -1,0 +1,80 @@
+-- Where no signature is forged, what is shown with a valid signature was released.
+use Rattle.std.proofs.Common.{◌≡◌, ℕ, Bool, true, false, ◌==◌, List, [], ◌∷◌, ◌++◌, map, sym, ap, ◌∙◌, subst, inl, inr, if◌then◌else◌}
+use Rattle.std.specs.List.{Contains}
+use Rattle.layout.specs.Types.{Bytes, User}
+use Rattle.lms_sign.specs.Signature.{signature_of, valid}
+use Rattle.lms_sign.proofs.Validity.{length-signature}
+use Rattle.version_order.specs.Structure.{Structure, lawful_structure, structure}
+use Rattle.update_cert.specs.Cert.{cert}
+use Rattle.client_releases.specs.Told.{cert_in}
+use Rattle.agreement.proofs.Formed.{same_spelled}
+use Rattle.agreement.proofs.Members.{In, contains_in, in-append, in-map, in-right, in_contains, map-in, of_all}
+use Rattle.release_runs.specs.Released.{unsigned}
+use Rattle.release_runs.specs.Steps as low
+use Rattle.release_runs.proofs.Once.{came}
+use Rattle.release_runs.proofs.Stories.{IsStory, OfCert, OfStructure, Release, cert_of, message}
+use Rattle.release_runs.proofs.Stories.{text as release_text}
+use Rattle.release_runs.proofs.Texts.{no_cert, unsigned_of}
+use Rattle.client_runs.specs.Runs.{Event, IsRun, Keys, owner, public_key}
+use Rattle.client_runs.specs.Released.{Shown, released, released_by, shown, shown_by}
+use Rattle.client_runs.specs.Agreeing.{HasReleased, IsGenuine, NoForgery}
+use Rattle.client_runs.proofs.Holds.{structures}
+use Rattle.client_runs.proofs.Lowering.{low_owner}
+use Rattle.client_runs.proofs.Moves.{holds_at, signed_of}
+
+pub released_later : (e : Event) (older : List Event) (u : User) (text : Bytes) → HasReleased u older text → HasReleased u (e ∷ older) text
+released_later e older u text has = go (e.user == u)
+  where
+    more : Contains (map unsigned (released_by e.call e.after ++ released u older)) text
+    more =
+        let (a, i, same) = in-map unsigned (released u older) text (contains_in text (map unsigned (released u older)) has) in
+        subst (λ (t : Bytes). Contains (map unsigned (released_by e.call e.after ++ released u older)) t) (sym same)
+        (in_contains (unsigned a) (map unsigned (released_by e.call e.after ++ released u older))
+        (map-in unsigned (released_by e.call e.after ++ released u older) a (in-right a (released_by e.call e.after) (released u older) i)))
+
+    go : (b : Bool) → Contains (map unsigned (if b then released_by e.call e.after ++ released u older else released u older)) text
+    go true = more
+    go false = has
+
+pub genuine : (keys : Keys) (run : List Event) → NoForgery keys run → (t : Shown) → In t (shown run) → valid (public_key keys t.user) t.text t.signature ≡ true → HasReleased t.user run t.text
+genuine keys [] none t i v = absurd i
+genuine keys (e ∷ older) none t i v =
+    elim (in-append t (shown_by e.call) (shown older) i) [
+      | inl j ↦ released_later e older t.user t.text (of_all (IsGenuine keys older) (shown_by e.call) none.0 t j v)
+      | inr j ↦ released_later e older t.user t.text (genuine keys older none.1 t j v)
+    ]
+
+-- ---- structures
+
+in_structures : (story : List Release) (y : Structure) (q : ℕ) → In (OfStructure y q) story → In y (structures story)
+in_structures [] y q i = absurd i
+in_structures (OfCert c p ∷ older) y q (inl e) = absurd cc
+in_structures (OfCert c p ∷ older) y q (inr i) = in_structures older y q i
+in_structures (OfStructure z p ∷ older) y q (inl e) = inl cc
+in_structures (OfStructure z p ∷ older) y q (inr i) = inr (in_structures older y q i)
+
+module _ (o : low.Owner) where
+  pub message_of : (r : Release) → unsigned (release_text o r) ≡ message r
+  message_of (OfCert c q) = unsigned_of (cert.spell c) (signature_of o.seed o.id q (cert.spell c)) (length-signature o.seed o.id (cert.spell c) q)
+  message_of (OfStructure z q) = unsigned_of (structure.spell z) (signature_of o.seed o.id q (structure.spell z)) (length-signature o.seed o.id (structure.spell z) q)
+
+module _ (o : low.Owner) (z : Structure) (fits : structure.Fits z) where
+  of_release : (story : List Release) → IsStory o story → (r : Release) → In r story → structure.spell z ≡ message r → In z (structures story)
+  of_release story is_story (OfStructure y q) j spelled =
+      let before = came o story is_story (OfStructure y q) j in
+      let one = same_spelled structure lawful_structure z y fits before.1.fits spelled in
+      subst (λ (x : Structure). In x (structures story)) (sym one) (in_structures story y q j)
+  of_release story is_story (OfCert c q) j spelled =
+      let before = came o story is_story (OfCert c q) j in
+      let some = cert_of o c q before.0 before.1 in
+      let none = ap (λ (m : Bytes). cert_in o.user (m ++ signature_of o.seed o.id q (cert.spell c))) (sym spelled) ∙ no_cert o.user z (signature_of o.seed o.id q (cert.spell c)) in
+      absurd (cc (sym some ∙ none))
+
+-- a structure whose text was released is signed over an accepted view
+pub released_structure : (keys : Keys) (run : List Event) → IsRun keys run → (u : User) (z : Structure) → structure.Fits z → HasReleased u run (structure.spell z) → In z (signed_of u run)
+released_structure keys run is u z fits has =
+    let h = holds_at keys u run is in
+    let (a, i, same) = in-map unsigned (released u run) (structure.spell z) (contains_in (structure.spell z) (map unsigned (released u run)) has) in
+    let (r, j, at) = h.low.released a i in
+    subst (λ (l : List Structure). In z l) (sym h.viewed)
+    (of_release (low_owner (owner keys u)) z fits h.story h.low.is_story r j (same ∙ ap unsigned at ∙ message_of (low_owner (owner keys u)) r))

@@ -1,0 +1,86 @@
+-- What a client's calls are to client_releases.
+use Rattle.std.proofs.Common.{◌≡◌, List, Option, Some, None, Ok, Err, IfSome, IsSome, refl, ap, subst}
+use Rattle.layout.specs.Types.{Bytes, Digest}
+use Rattle.leaf_ledger.specs.Ledger.{LeafNumber}
+use Rattle.version_order.specs.Structure.{structure}
+use Rattle.update_cert.specs.Change.{Change}
+use Rattle.client_releases.specs.declared.error.ClientError.TheVariants as error
+use Rattle.client_releases.specs.Releasing.{IsKept, IsTried, structure_record}
+use Rattle.release_runs.specs.Steps as low
+use Rattle.client_verify.specs.State.{IsOfDeclared, Ready, State, next_cert, next_structure, on, released, signed_over, signed_text}
+use Rattle.client_runs.specs.Steps.{Client, Closed, HasBegun, HasSigned, IsHandedBack, IsLeft, IsOpened, IsSound, Open, Owner, Parts}
+
+-- the owner, the devices and the client, as client_releases has them
+abbrev pub low_owner : Owner → low.Owner
+low_owner o = record { user = o.user; seed = o.seed; id = o.id }
+
+abbrev pub low_parts : Parts → low.Parts
+low_parts p = record { ledger = p.ledger.history; journal = p.journal.history }
+
+abbrev pub low_client : Client → low.Client
+low_client (Closed p) = low.Closed (low_parts p)
+low_client (Open s) = low.Open (released s)
+
+pub low_left : (before : Client) (p : Parts) → IsLeft before p → low.IsLeft (low_client before) (low_parts p)
+low_left (Closed q) p is = record { ledger_text = is.ledger_text; journal_text = is.journal_text; ledger_may = is.ledger_may; journal_may = is.journal_may; ledger = is.ledger; journal = is.journal }
+low_left (Open s) p is = record { ledger_text = is.ledger_text; journal_text = is.journal_text; ledger_may = is.ledger_may; journal_may = is.journal_may; ledger = is.ledger; journal = is.journal }
+
+pub low_opened : (o : Owner) (p : Parts) (s : State) → IsOpened o p s → low.IsOpened (low_owner o) (low_parts p) (released s)
+low_opened o p s is = record { user = is.user; seed = is.seed; id = is.id; told = is.told; moments = is.moments }
+
+pub low_handed_back : (s : State) (p : Parts) → IsHandedBack s p → low.IsHandedBack (released s) (low_parts p)
+low_handed_back s p is = record { ledger = is.ledger; journal = is.journal }
+
+-- ---- certificates
+
+module _ (s new : State) (changes : List (Change Digest)) (laid : List Bytes) where
+  pub low_begun : (text : Bytes) → HasBegun s changes laid (Ok text) new → low.HasDeclared (released s) (next_cert s changes) (Ok text) (released new)
+  low_begun text b = record { idle = b.idle; fits = b.fits; user = refl; declared = (b.declared.0, b.declared.1, ap released b.declared.2); text = b.text; tried = tt; err = tt }
+
+  pub low_begin_failed : HasBegun s changes laid (Err error.Device) new → low.HasDeclared (released s) (next_cert s changes) (Err error.Device) (released new)
+  low_begin_failed b = record { idle = b.idle; fits = b.fits_device refl; user = refl; declared = tt; text = tt; tried = b.tried; err = ap released (b.fails refl) }
+
+-- ---- structures
+
+pub with_ready : (s : State) (P : Type 0) → IsSome s.accepted → ((y : Ready) → s.accepted ≡ Some y → P) → P
+with_ready s P some each = go s.accepted refl some
+  where
+    go : (a : Option Ready) → s.accepted ≡ a → IsSome a → P
+    go None is some = absurd (cc some)
+    go (Some y) is some = each y is
+
+module _ (s new : State) (y : Ready) (ready : s.accepted ≡ Some y) where
+  pub if_ready : (P : Ready → Type 0) → IfSome s.accepted P → P y
+  if_ready P p = subst (λ (a : Option Ready). IfSome a P) ready p
+
+  pub of_declared : IsSound (Open s) → IsOfDeclared (released s) y.lists.own.plan
+  of_declared before = if_ready (λ r. IsOfDeclared (released s) r.lists.own.plan) before.1.of_accepted
+
+  pub low_signed : (text : Bytes) → IsSound (Open s) → HasSigned s (Ok text) new → low.HasSigned (released s) (next_structure s y) (Ok text) (released new)
+  low_signed text before b =
+      let declared = of_declared before in
+      let done = if_ready (λ r. (leaf : LeafNumber) × IsKept leaf (structure_record (signed_text s leaf r)) s.devices new.devices × (new ≡ on new.devices (signed_over s leaf r))) b.signed in
+      record {
+        declared = declared.is_declared;
+        fits = if_ready (λ r. structure.Fits (next_structure s r)) b.fits;
+        user = declared.user;
+        number = declared.number;
+        signed = (done.0, done.1, ap released done.2);
+        text = b.text;
+        tried = tt;
+        err = tt;
+      }
+
+  pub low_sign_failed : IsSound (Open s) → HasSigned s (Err error.Device) new → low.HasSigned (released s) (next_structure s y) (Err error.Device) (released new)
+  low_sign_failed before b =
+      let declared = of_declared before in
+      record {
+        declared = declared.is_declared;
+        fits = if_ready (λ r. structure.Fits (next_structure s r)) (b.fits_device refl);
+        user = declared.user;
+        number = declared.number;
+        signed = tt;
+        text = tt;
+        tried = if_ready (λ r. IsTried (λ leaf. structure_record (signed_text s leaf r)) s.devices new.devices) b.tried;
+        err = ap released (b.fails refl);
+      }

@@ -1,0 +1,63 @@
+-- The accepted views of a run agree, where no signature is forged, no digest collides, and user 0's client added each user
+-- with the user's own key.
+use Rattle.std.specs.Prelude.{◌≡◌, List, [], ◌∷◌, IfSome, true, map}
+use Rattle.std.specs.List.{All, Contains}
+use Rattle.layout.specs.Types.{Bytes, Digest, User}
+use Rattle.lms_sign.specs.Signature.{valid}
+use Rattle.itable.specs.File.{NoneCollide}
+use Rattle.principals.specs.TableText.{key as key_form}
+use Rattle.update_cert.specs.Change.{Action, AddUser}
+use Rattle.update_cert.specs.Cert.{cert}
+use Rattle.client_releases.specs.Told.{cert_in}
+use Rattle.agreement.specs.Lines.{line}
+use Rattle.release_runs.specs.Released.{unsigned}
+use Rattle.client_runs.specs.Runs.{Event, IsRun, Keys, public_key}
+use Rattle.client_runs.specs.Released.{Shown, hashed, released, shown_by, views}
+
+-- ---- premises
+
+-- the user's client released this text, with some signature
+abbrev pub HasReleased : User → List Event → Bytes → Type 0
+HasReleased u run text = Contains (map unsigned (released u run)) text
+
+-- what verifies under the user's key was released by the user's client
+abbrev pub IsGenuine : Keys → List Event → Shown → Type 0
+IsGenuine keys older t = valid (public_key keys t.user) t.text t.signature ≡ true → HasReleased t.user older t.text
+
+-- so does each text that is shown, at an earlier step
+abbrev pub NoForgery : Keys → List Event → Type 0
+NoForgery keys [] = Unit {0}
+NoForgery keys (e ∷ older) = All (IsGenuine keys older) (shown_by e.call) × NoForgery keys older
+
+abbrev pub NoCollision : Keys → List Event → Type 0
+NoCollision keys run = NoneCollide (hashed keys run) (hashed keys run)
+
+-- an action that adds a user gives the user's own key
+abbrev pub GivesOwnKey : Keys → Action Digest → Type 0
+GivesOwnKey keys (AddUser u key) = key ≡ public_key keys u
+GivesOwnKey keys other = Unit {0}
+
+-- so does each change of this text, if it is a certificate of user 0's
+abbrev pub IsTrueText : Keys → Bytes → Type 0
+IsTrueText keys text = IfSome (cert_in 0 text) (λ c. All (λ change. GivesOwnKey keys change.action) c.value.changes)
+
+-- User 0's key, which every client knows, has the form of a key, and each user that user 0's client added, in a certificate
+-- that it released, has its own.
+pub record KeysTrue (keys : Keys) (run : List Event) : Type 0 where
+  pub pinned : key_form.Fits (public_key keys 0)
+  pub added : All (IsTrueText keys) (released 0 run)
+
+pub record Premises (keys : Keys) (run : List Event) : Type 0 where
+  pub no_forgery : NoForgery keys run
+  pub no_collision : NoCollision keys run
+  pub true_keys : KeysTrue keys run
+
+-- what holds of each run that meets them
+abbrev pub EachRun : (List Event → Type 0) → Type 0
+EachRun holds = (keys : Keys) (run : List Event) → IsRun keys run → Premises keys run → holds run
+
+-- ---- lines
+
+-- each operation of a view's line was released by its user
+abbrev pub AreReleased : List Event → Type 0
+AreReleased run = All (λ x. All (λ c. HasReleased c.user run (cert.spell c)) (line (views run) x)) (views run)

@@ -1,0 +1,5 @@
+pub mod Steps
+pub mod Runs
+pub mod Released
+pub mod UsedOnce
+pub mod Agreeing

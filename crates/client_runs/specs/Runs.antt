@@ -1,0 +1,33 @@
+-- Runs of the clients of all users: steps of any of them in any order, the latest first, with failed calls of devices,
+-- crashes and restarts. Of servers and stores nothing is said: replies and blocks are any bytes.
+use Rattle.std.specs.Prelude.{List, [], ◌∷◌, ◌==◌, if◌then◌else◌}
+use Rattle.layout.specs.Types.{Key, User}
+use Rattle.lms_sign.specs.Keys.{Secret, public_key_of}
+use Rattle.client_runs.specs.Steps.{Call, Client, IsSound, IsStep, Owner, first}
+
+-- what each user's key is made of
+abbrev pub Keys : Type 0
+Keys = User → Secret
+
+abbrev pub public_key : Keys → User → Key
+public_key keys u = public_key_of (keys u).seed (keys u).id
+
+-- every client knows user 0's public key
+abbrev pub owner : Keys → User → Owner
+owner keys u = record { user = u; seed = (keys u).seed; id = (keys u).id; pinned = public_key keys 0 }
+
+-- a step of a user's client, and the client after it
+pub record Event : Type 0 where
+  pub user : User
+  pub call : Call
+  pub after : Client
+
+-- a user's client after these steps
+abbrev pub client_of : User → List Event → Client
+client_of u [] = first
+client_of u (e ∷ older) = if e.user == u then e.after else client_of u older
+
+-- each is a step of its user's client as that was then
+abbrev pub IsRun : Keys → List Event → Type 0
+IsRun keys [] = Unit {0}
+IsRun keys (e ∷ older) = IsStep (owner keys e.user) (client_of e.user older) e.call e.after × IsSound e.after × IsRun keys older

@@ -1,0 +1,113 @@
+use Rattle.std.proofs.Common.{◌≡◌, ap, map, refl, subst, sym, ◌∙◌}
+use Rattle.std.specs.Vec.{vec_items}
+use Rattle.std.proofs.lemmas.Result.{on_err_weaker, on_ok_weaker}
+use Rattle.layout.specs.Types.{Bytes}
+use Rattle.lms_sign.specs.Keys.{public_key_of}
+use Rattle.leaf_ledger.specs.Ledger.{IsFull, IsLeastFree, LeafNumber}
+use Rattle.update_cert.specs.Cert.{cert}
+use Rattle.client_releases.specs.declared.error.ClientError.TheVariants as error
+use Rattle.client_releases.specs.declared.phase.Phase.TheVariants as phase
+use Rattle.client_releases.specs.Releasing.{AnyMoment, IsTried, OneHasRisen, cert_record}
+use Rattle.client_releases.specs.Told.{Released, sent}
+use Rattle.client_verify.specs.State.{State, declared_text, next_cert, released}
+use Rattle.client_verify.proofs.Releasing.{at_device, begun, begun_failed, but_device, err_at, never_else, of_released, ok_either, only_device, own_after, refused_moments, refused_tried, same_error, seen, stands_in}
+use Rattle.client_verify.proofs.client.Client.begin.Goals as goal
+
+pub returns-in-Err-clause-any_moment : goal.returns-in-Err-clause-any_moment
+returns-in-Err-clause-any_moment g c leaf least =
+    let s = c.args.self.now in
+    let stands = stands_in c.self.inside.releases phase.Idle c.stands.ensures (ap (λ (q : State). q.phase) c.self.view_is ∙ c.requires.idle) (λ two. cc two) in
+    refused_moments c.self.inside.releases s c.prepare.new.self (ap released c.self.view_is) stands c.in-Err.ensures.err (λ k. cert_record (declared_text s k c.args.changes.now)) leaf
+
+pub returns-in-Err-clause-tried : goal.returns-in-Err-clause-tried
+returns-in-Err-clause-tried g c = refused_tried c.args.self.now c.prepare.new.self c.in-Err.ensures.err (λ k. cert_record (declared_text c.args.self.now k c.args.changes.now))
+
+pub returns-in-Err-clause-no_leaf : goal.returns-in-Err-clause-no_leaf
+returns-in-Err-clause-no_leaf g c = same_error c.in-Err.error error.NoLeaf _ c.in-Err.ensures.no_leaf
+
+pub returns-in-Err-clause-no_number : goal.returns-in-Err-clause-no_number
+returns-in-Err-clause-no_number g c = same_error c.in-Err.error error.NoNumber _ c.in-Err.ensures.no_number
+
+pub declare-requires-clause-free : goal.declare-requires-clause-free
+declare-requires-clause-free g c full =
+    let is = c.self-2.view_is ∙ c.in-Ok.ensures.laying in
+    c.in-Ok.ensures.free (subst (λ (o : Released). IsFull o.devices.ledger.file.now.text) (ap released is) full)
+
+pub declare-requires-clause-own : goal.declare-requires-clause-own
+declare-requires-clause-own g c =
+    let is = c.self-2.view_is ∙ c.in-Ok.ensures.laying in
+    (next_cert c.args.self.now c.args.changes.now, c.in-Ok.ensures.text, c.in-Ok.ensures.fits, sym (ap (λ (o : State). o.user) is), sym c.in-Ok.ensures.number)
+
+pub invariant_of-self : goal.invariant_of-self
+invariant_of-self g c =
+    let s = c.args.self.now in
+    let r = c.self-2.inside.releases in
+    let new = c.declare.new.self in
+    let laid = map vec_items c.args.laid.now in
+    let is = c.self-2.view_is ∙ c.in-Ok.ensures.laying in
+    let same : c.self.inside.releases ≡ r = ap released c.self.view_is ∙ sym (ap released is) in
+    let key = c.as_bytes-size.ensures.same ∙ c.key.ensures ∙ ap (λ (o : Released). public_key_of o.seed o.id) same in
+    (record { of_checked = tt; of_accepted = tt }, λ own. own_after c.declare.result r new c.as_bytes-size.result.now c.in-Ok.prepared.0 c.in-Ok.prepared.1 key c.as_bytes-size.ensures.size c.declare.ensures.declared c.declare.ensures.err (c.self-2.invariant.1 own))
+
+pub returns-clause-declared : goal.returns-clause-declared
+returns-clause-declared g c =
+    let s = c.args.self.now in
+    let r = c.self-2.inside.releases in
+    let new = c.declare.new.self in
+    let laid = map vec_items c.args.laid.now in
+    let is = c.self-2.view_is ∙ c.in-Ok.ensures.laying in
+    on_ok_weaker c.declare.result
+    (λ d. begun r new s c.self-2.inside.pinned c.self-2.inside.blocks c.self-2.inside.checked c.self-2.inside.accepted c.self-2.inside.view laid is c.args.changes.now c.in-Ok.prepared.1 c.in-Ok.prepared.0 d.0 c.in-Ok.ensures.text c.in-Ok.ensures.number d.1 d.2) c.declare.ensures.declared
+
+pub returns-clause-any_moment : goal.returns-clause-any_moment
+returns-clause-any_moment g c =
+    let s = c.args.self.now in
+    let r = c.self-2.inside.releases in
+    let new = c.declare.new.self in
+    let laid = map vec_items c.args.laid.now in
+    let is = c.self-2.view_is ∙ c.in-Ok.ensures.laying in
+    seen (λ (o : Released) (t : Bytes). (leaf : LeafNumber) → IsLeastFree o.devices.ledger.file.now.text leaf → AnyMoment leaf (cert_record (sent o leaf t)) o.devices new.devices)
+    r (released s) c.in-Ok.prepared.1 (cert.spell (next_cert s c.args.changes.now)) (ap released is) c.in-Ok.ensures.text c.declare.ensures.any_moment
+
+pub returns-clause-tried : goal.returns-clause-tried
+returns-clause-tried g c =
+    let s = c.args.self.now in
+    let r = c.self-2.inside.releases in
+    let new = c.declare.new.self in
+    let laid = map vec_items c.args.laid.now in
+    let is = c.self-2.view_is ∙ c.in-Ok.ensures.laying in
+    on_err_weaker c.declare.result
+    (seen (λ (o : Released) (t : Bytes). IsTried (λ leaf. cert_record (sent o leaf t)) o.devices new.devices) r (released s) c.in-Ok.prepared.1 (cert.spell (next_cert s c.args.changes.now)) (ap released is) c.in-Ok.ensures.text) c.declare.ensures.tried
+
+pub returns-clause-no_leaf : goal.returns-clause-no_leaf
+returns-clause-no_leaf g c = (λ is. absurd (never_else _ c.declare.result error.NoLeaf (λ two. cc two) c.declare.ensures.device is), λ full. absurd (c.in-Ok.ensures.free full))
+
+pub returns-clause-no_number : goal.returns-clause-no_number
+returns-clause-no_number g c = (λ is. absurd (never_else _ c.declare.result error.NoNumber (λ two. cc two) c.declare.ensures.device is), λ both. absurd (c.in-Ok.ensures.below both.0))
+
+pub returns-clause-rose : goal.returns-clause-rose
+returns-clause-rose g c fault =
+    let s = c.args.self.now in
+    let r = c.self-2.inside.releases in
+    let new = c.declare.new.self in
+    let laid = map vec_items c.args.laid.now in
+    let is = c.self-2.view_is ∙ c.in-Ok.ensures.laying in
+    subst (λ (o : Released). OneHasRisen o.devices new.devices) (ap released is) (at_device _ c.declare.result c.declare.ensures.device fault)
+
+pub returns-clause-fails : goal.returns-clause-fails
+returns-clause-fails g c fault =
+    let s = c.args.self.now in
+    let r = c.self-2.inside.releases in
+    let new = c.declare.new.self in
+    let laid = map vec_items c.args.laid.now in
+    let is = c.self-2.view_is ∙ c.in-Ok.ensures.laying in
+    begun_failed r new s c.self-2.inside.pinned c.self-2.inside.blocks c.self-2.inside.checked c.self-2.inside.accepted c.self-2.inside.view laid is (err_at c.declare.result error.Device c.declare.ensures.err fault)
+
+pub returns-clause-fits : goal.returns-clause-fits
+returns-clause-fits g c = ok_either c.declare.result c.in-Ok.ensures.fits
+
+pub returns-clause-only : goal.returns-clause-only
+returns-clause-only g c = only_device _ c.declare.result c.declare.ensures.device
+
+pub returns-clause-err : goal.returns-clause-err
+returns-clause-err g c = but_device _ _ c.declare.result c.declare.ensures.device

@@ -1,0 +1,14 @@
+use Rattle.std.proofs.Common.{◌≡◌, Option, Some, None, ap, refl, subst, sym}
+use Rattle.std.specs.Prelude.{IsSomeAnd}
+use Rattle.pending_list.specs.Reply.{PendingItem, pending_item}
+use Rattle.reply_rules.specs.Lists.{Lists, lists_of}
+use Rattle.client_releases.specs.Told.{IsReleased}
+use Rattle.client_verify.specs.State.{known, released}
+use Rattle.client_verify.proofs.Declared.{of_declared, own_fits}
+use Rattle.client_verify.proofs.client.Client.is_replied.Goals as goal
+
+pub returns-clause-own : goal.returns-clause-own
+returns-clause-own g c =
+    let old = c.args.self.now in
+    of_declared (known old) (released old) c.args.text.now c.args.reply.now refl c.requires.declared (subst IsReleased (ap released c.self.view_is) c.stands.ensures) c.requires.unbroken c.requires.read
+    (own_fits (lists_of c.args.reply.now) c.split.result.0.now c.split.result.1.now c.split.ensures c.cert-certificate.ensures.fits)

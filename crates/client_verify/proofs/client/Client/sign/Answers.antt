@@ -1,0 +1,116 @@
+use Rattle.std.proofs.Common.{◌≡◌, ℕ, IsSome, List, Some, None, Option, ap, refl, rules, subst, sym, ◌∙◌}
+use Rattle.layout.specs.Types.{Bytes}
+use Rattle.lms_sign.specs.Keys.{public_key_of}
+use Rattle.leaf_ledger.specs.Ledger.{IsFull, IsLeastFree, LeafNumber}
+use Rattle.version_order.specs.Structure.{Structure, structure}
+use Rattle.reply_rules.specs.Lists.{Lists}
+use Rattle.client_releases.specs.declared.error.ClientError.TheVariants as error
+use Rattle.client_releases.specs.Releasing.{AnyMoment, IsTried, OneHasRisen, structure_record}
+use Rattle.client_releases.specs.Told.{Released, sent}
+use Rattle.client_verify.specs.State.{IsOfDeclared, Ready, State, next_structure, released, signed_text}
+use Rattle.client_verify.proofs.Handing.{if_at}
+use Rattle.client_verify.proofs.Steps.{if_some}
+use Rattle.client_verify.proofs.Releasing.{always, no_full, not_full_error, nothing_replied, own_signed, refused_moments, refused_tried, seen, shown_is, signed_of, stands_ready, view_is}
+use Rattle.client_verify.proofs.client.Client.sign.Goals as goal
+
+pub returns-then-not-has_free_leaf-clause-tried : goal.returns-then-not-has_free_leaf-clause-tried
+returns-then-not-has_free_leaf-clause-tried g c = always c.args.self.now.accepted _ (λ y. refused_tried c.args.self.now c.args.self.now refl (λ leaf. structure_record (signed_text c.args.self.now leaf y)))
+
+pub returns-in-Err-clause-any_moment : goal.returns-in-Err-clause-any_moment
+returns-in-Err-clause-any_moment g c =
+    let s = c.args.self.now in
+    let r = c.self.inside.releases in
+    let some = subst (λ (o : Option Ready). IsSome o) (sym (ap (λ (q : State). q.accepted) c.self.view_is)) c.requires in
+    let stands = stands_ready r c.self.inside.accepted c.stands.ensures c.self.invariant.0.of_accepted some in
+    always s.accepted _ (λ y leaf least. refused_moments r s s (ap released c.self.view_is) stands refl (λ k. structure_record (signed_text s k y)) leaf)
+
+pub returns-in-Err-clause-tried : goal.returns-in-Err-clause-tried
+returns-in-Err-clause-tried g c = always c.args.self.now.accepted _ (λ y. refused_tried c.args.self.now c.args.self.now refl (λ leaf. structure_record (signed_text c.args.self.now leaf y)))
+
+pub returns-in-Err-clause-no_leaf : goal.returns-in-Err-clause-no_leaf
+returns-in-Err-clause-no_leaf g c = (λ is. absurd (cc is), λ full. absurd (no_full c.self.inside.releases (released c.args.self.now) c.has_free_leaf.result (ap released c.self.view_is) c.has_free_leaf.ensures c.if-not-has_free_leaf.false full))
+
+pub invariant_of-self : goal.invariant_of-self
+invariant_of-self g c =
+    let d = c.in-Ok-sign.ensures.signed in (
+      nothing_replied c.sign.new.self c.take.new.self c.take.ensures.after,
+      λ _. own_signed c.self.inside.releases c.as_bytes-size.result.now (c.as_bytes-size.ensures.same ∙ c.key.ensures) c.as_bytes-size.ensures.size d.0 d.1.least.below c.sign.new.self c.in-Ok.drawn.0.structure c.in-Ok.drawn.0.text d.2,
+    )
+
+pub returns-in-Ok-sign-clause-signed : goal.returns-in-Ok-sign-clause-signed
+returns-in-Ok-sign-clause-signed g c =
+    let s = c.args.self.now in
+    let r = c.self.inside.releases in
+    let new = c.sign.new.self in
+    let y = c.in-Some.ready in
+    let inner : c.self.inside.accepted ≡ Some y = sym c.take.ensures.value ∙ c.in-Some.is in
+    let there : s.accepted ≡ Some y = ap (λ (q : State). q.accepted) (sym c.self.view_is) ∙ inner in
+    let next = if_at s.accepted y _ there c.in-Ok.ensures.structure in
+    let copied = if_at s.accepted y _ there c.in-Ok.ensures.structures in
+    let d = c.in-Ok-sign.ensures.signed in
+    let of_shown = shown_is r new s c.self.inside.pinned c.self.inside.blocks c.self.inside.checked c.self.inside.accepted c.self.inside.view c.self.view_is y d.0 c.in-Ok.drawn.0.structure c.in-Ok.drawn.0.shown c.in-Ok-sign.signature (sent r d.0 c.in-Ok.drawn.0.text) next c.in-Ok.ensures.shown c.in-Ok-sign.ensures.signature d.2 in
+    let shown = view_is r new s c.self.inside.pinned c.self.inside.blocks c.self.inside.checked c.self.inside.accepted c.self.inside.view c.self.view_is y d.0 c.ready.inside.good.lists c.ready.inside.good.table _ c.with_own.result.items c.in-Ok.drawn.1.items c.ready.inside.lost.items
+    (ap (λ (q : Ready). q.lists) c.ready.view_is) (ap (λ (q : Ready). q.table) c.ready.view_is) (ap (λ (q : Ready). q.lost) c.ready.view_is) of_shown c.with_own.ensures copied in
+    if_some s.accepted y _ there (signed_of r new s c.self.inside.pinned c.self.inside.blocks c.self.inside.checked c.self.inside.accepted c.self.inside.view c.self.view_is y d.0 c.in-Ok.drawn.0.structure c.in-Ok.drawn.0.text c.take.new.self _ c.take.ensures.after next c.in-Ok.ensures.text d.1 d.2 shown)
+
+pub returns-in-Ok-sign-clause-any_moment : goal.returns-in-Ok-sign-clause-any_moment
+returns-in-Ok-sign-clause-any_moment g c =
+    let s = c.args.self.now in
+    let r = c.self.inside.releases in
+    let new = c.sign.new.self in
+    let y = c.in-Some.ready in
+    let inner : c.self.inside.accepted ≡ Some y = sym c.take.ensures.value ∙ c.in-Some.is in
+    let there : s.accepted ≡ Some y = ap (λ (q : State). q.accepted) (sym c.self.view_is) ∙ inner in
+    let next = if_at s.accepted y _ there c.in-Ok.ensures.structure in
+    let spelled : c.in-Ok.drawn.0.text ≡ structure.spell (next_structure s y) = c.in-Ok.ensures.text ∙ ap structure.spell next in
+    if_some s.accepted y _ there (seen (λ (o : Released) (t : Bytes). (leaf : LeafNumber) → IsLeastFree o.devices.ledger.file.now.text leaf → AnyMoment leaf (structure_record (sent o leaf t)) o.devices new.devices)
+    r (released s) c.in-Ok.drawn.0.text (structure.spell (next_structure s y)) (ap released c.self.view_is) spelled c.sign.ensures.any_moment)
+
+pub returns-in-Ok-sign-clause-no_leaf : goal.returns-in-Ok-sign-clause-no_leaf
+returns-in-Ok-sign-clause-no_leaf g c = (λ is. absurd (cc is), λ full. absurd (no_full c.self.inside.releases (released c.args.self.now) c.has_free_leaf.result (ap released c.self.view_is) c.has_free_leaf.ensures c.if-not-has_free_leaf.false full))
+
+pub returns-in-Ok-sign-clause-fits : goal.returns-in-Ok-sign-clause-fits
+returns-in-Ok-sign-clause-fits g c =
+    let s = c.args.self.now in
+    let r = c.self.inside.releases in
+    let new = c.sign.new.self in
+    let y = c.in-Some.ready in
+    let inner : c.self.inside.accepted ≡ Some y = sym c.take.ensures.value ∙ c.in-Some.is in
+    let there : s.accepted ≡ Some y = ap (λ (q : State). q.accepted) (sym c.self.view_is) ∙ inner in
+    let next = if_at s.accepted y _ there c.in-Ok.ensures.structure in
+    if_some s.accepted y _ there (subst structure.Fits next c.in-Ok.ensures.fits)
+
+pub returns-in-Err-sign-clause-any_moment : goal.returns-in-Err-sign-clause-any_moment
+returns-in-Err-sign-clause-any_moment g c =
+    let s = c.args.self.now in
+    let r = c.self.inside.releases in
+    let new = c.sign.new.self in
+    let y = c.in-Some.ready in
+    let inner : c.self.inside.accepted ≡ Some y = sym c.take.ensures.value ∙ c.in-Some.is in
+    let there : s.accepted ≡ Some y = ap (λ (q : State). q.accepted) (sym c.self.view_is) ∙ inner in
+    let next = if_at s.accepted y _ there c.in-Ok.ensures.structure in
+    let spelled : c.in-Ok.drawn.0.text ≡ structure.spell (next_structure s y) = c.in-Ok.ensures.text ∙ ap structure.spell next in
+    if_some s.accepted y _ there (seen (λ (o : Released) (t : Bytes). (leaf : LeafNumber) → IsLeastFree o.devices.ledger.file.now.text leaf → AnyMoment leaf (structure_record (sent o leaf t)) o.devices new.devices)
+    r (released s) c.in-Ok.drawn.0.text (structure.spell (next_structure s y)) (ap released c.self.view_is) spelled c.sign.ensures.any_moment)
+
+pub returns-in-Err-sign-clause-tried : goal.returns-in-Err-sign-clause-tried
+returns-in-Err-sign-clause-tried g c =
+    let s = c.args.self.now in
+    let r = c.self.inside.releases in
+    let new = c.sign.new.self in
+    let y = c.in-Some.ready in
+    let inner : c.self.inside.accepted ≡ Some y = sym c.take.ensures.value ∙ c.in-Some.is in
+    let there : s.accepted ≡ Some y = ap (λ (q : State). q.accepted) (sym c.self.view_is) ∙ inner in
+    let next = if_at s.accepted y _ there c.in-Ok.ensures.structure in
+    let spelled : c.in-Ok.drawn.0.text ≡ structure.spell (next_structure s y) = c.in-Ok.ensures.text ∙ ap structure.spell next in
+    if_some s.accepted y _ there (seen (λ (o : Released) (t : Bytes). IsTried (λ leaf. structure_record (sent o leaf t)) o.devices new.devices)
+    r (released s) c.in-Ok.drawn.0.text (structure.spell (next_structure s y)) (ap released c.self.view_is) spelled c.in-Err-sign.ensures.tried)
+
+pub returns-in-Err-sign-clause-no_leaf : goal.returns-in-Err-sign-clause-no_leaf
+returns-in-Err-sign-clause-no_leaf g c = (
+  λ is. absurd (not_full_error c.in-Err-sign.error c.in-Err-sign.ensures.device.0 is),
+  λ full. absurd (no_full c.self.inside.releases (released c.args.self.now) c.has_free_leaf.result (ap released c.self.view_is) c.has_free_leaf.ensures c.if-not-has_free_leaf.false full),
+)
+
+pub returns-in-Err-sign-clause-rose : goal.returns-in-Err-sign-clause-rose
+returns-in-Err-sign-clause-rose g c fault = subst (λ (o : Released). OneHasRisen o.devices c.sign.new.self.devices) (ap released c.self.view_is) c.in-Err-sign.ensures.device.1

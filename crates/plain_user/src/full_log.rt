@@ -1,0 +1,144 @@
+//! A log that nobody empties, until it is full, and once it is emptied.
+
+ghost use Rattle.std.specs.Prelude.{◌≡◌, ◌<◌, [], true};
+ghost use Rattle.crossbeam_queue.specs.Passes.{IsPassOf, ruled_capacity};
+ghost use Rattle.server_workers.specs.Hands.{hand, hand_of};
+
+use crate::caller::Replied;
+use crate::connections::{Host, users};
+use crate::operations::records;
+use crate::user::{PlainUser, listing};
+use block_store::Store;
+use lms_sign::PublicKey;
+use server_workers::{
+    CallPass, CallQueue, Ended, Flusher, MemoryConnection, OpenGate, ServerName, Shared, Tally,
+    converse, empty_queue,
+};
+use std::io::Write;
+use std::marker::Brand;
+use std::sync::ledger::{Blank, Ledger};
+use wire::{RequestKind, Status, body_of, reply_of, request_frame};
+
+/// How many operations fill the log, which has room for 1,024 calls. They take all leaves of a key, too.
+const FILLING: u32 = 512;
+
+/// A server without threads, whose log somebody else empties.
+#[derive(Drop)]
+struct ByHand<'a, B: ServerName, L: Ledger, R: Host> {
+    rt: &'a R,
+    shared: Shared<'a, B, L, R>,
+    tally: Tally<L>,
+    ghost part: { 0 < tally.share.parts },
+}
+
+impl<'a, B: ServerName, L: Ledger, R: Host> ByHand<'a, B, L, R> {
+    /// What a request is replied over a connection of its own.
+    fn ask(&mut self, kind: RequestKind, text: &[u8]) -> Replied {
+        let (rt, alloc) = (self.rt, self.rt.alloc());
+        assert!(rt; text.len() < 2_097_152, "a text of a frame");
+        let input = request_frame(alloc, kind, text).expect(rt, "memory");
+        let mut output = Vec::new(alloc);
+        let mut connection = MemoryConnection::new(&input, 4096, &mut output);
+        let ByHand { shared, tally, .. } = self;
+        let ended = converse(rt, &mut connection, shared, &OpenGate, tally);
+        assert!(rt; ended == Ended::End, "{ended:?}");
+        replied(rt, &output)
+    }
+}
+
+/// The reply in this frame.
+fn replied<R: Host>(rt: &R, frame: &[u8]) -> Replied {
+    let body = body_of(frame).expect(rt, "one frame");
+    let (status, payload) = reply_of(body).expect(rt, "a reply");
+    let payload = Vec::from_slice(rt.alloc(), payload).expect(rt, "memory");
+    Replied { status, payload }
+}
+
+/// Makes an operation, none of whose calls is answered Busy.
+fn operate<B: ServerName, L: Ledger, R: Host>(
+    server: &mut ByHand<'_, B, L, R>,
+    user: &mut PlainUser,
+    changes: &[u8],
+) {
+    let rt = server.rt;
+    let certificate = user.certificate(changes).expect(rt, "a certificate");
+    let placed = server.ask(RequestKind::Update, &certificate);
+    assert!(rt; placed.status == Status::Ok, "{:?}", placed.status);
+    let structure = user.structure(&placed.payload).expect(rt, "a structure");
+    let committed = server.ask(RequestKind::Commit, &structure);
+    assert!(rt; committed.status == Status::Ok, "{:?}", committed.status);
+}
+
+/// Fills the log by user 0's operations, the first of which has these changes.
+fn fill<B: ServerName, L: Ledger, R: Host>(
+    server: &mut ByHand<'_, B, L, R>,
+    user: PlainUser,
+    changes: &[u8],
+) {
+    let mut user = user;
+    operate(server, &mut user, changes);
+    for _operation in 1..FILLING {
+        operate(server, &mut user, b"\0");
+    }
+}
+
+/// Fills the log, whereupon a call of the other user is answered Busy, and empties it: how many calls were carried
+/// out, and what was written.
+fn fill_and_empty<W: Write + Drop, B: ServerName, L: Ledger, R: Host>(
+    rt: &R,
+    queue: &CallQueue,
+    pass: CallPass,
+    blank: Blank,
+    pinned: PublicKey,
+    users: (PlainUser, PlainUser),
+    changes: &[u8],
+    writer: W,
+) -> (u64, W)
+    requires queue { IsPassOf queue.now pass × (pass.table_id ≡ B.queue) × (ruled_capacity queue.now ≡ 1024) }
+    requires first { hand_of pass ≡ hand true true [] [] }
+    requires server { (W.contents writer ≡ B.before) × (pinned ≡ B.pinned) }
+    requires name { blank.name ≡ L.name }
+    requires parts { (blank.parts ≡ L.parts) × (blank.parts ≡ 1) }
+{
+    let (superuser, other) = users;
+    let mut other = other;
+    let alloc = rt.alloc();
+    let store = Store::new(alloc);
+    let (shared, tally, popping) = Shared::<'_, B, L, R>::new(
+        rt, alloc, queue, pass, blank, &store, pinned,
+    );
+    let mut flusher = Flusher::<'_, B, R, W>::new(rt, queue, popping, writer);
+    let mut server = ByHand { rt, shared, tally };
+    fill(&mut server, superuser, changes);
+    let certificate = other.certificate(b"\0").expect(rt, "a certificate");
+    for _time in 0..2u8 {
+        let full = server.ask(RequestKind::Update, &certificate);
+        assert!(rt; full.status == Status::Busy, "{:?}", full.status);
+    }
+    flusher.flush();
+    let placed = server.ask(RequestKind::Update, &certificate);
+    assert!(rt; placed.status == Status::Ok, "{:?}", placed.status);
+    flusher.flush();
+    (server.tally.answered(), flusher.into_writer())
+}
+
+/// The same over a queue of its own.
+fn fill_a_log<W: Write + Drop, R: Host>(rt: &R, writer: W) -> (u64, W) {
+    let alloc = rt.alloc();
+    let superuser = PlainUser::new(alloc, 0).expect(rt, "memory");
+    let pinned = superuser.public();
+    let mut others = users(rt, 1);
+    let changes = listing(alloc, &others).expect(rt, "memory");
+    let other = others.pop().expect(rt, "user 1");
+    let (queue, pass) = empty_queue(alloc).expect(rt, "memory");
+    let blank = Blank::new(1);
+    let both = (superuser, other);
+    fill_and_empty::<W, Brand, Brand, R>(rt, &queue, pass, blank, pinned, both, &changes, writer)
+}
+
+/// A log has room for 1,024 calls, and as soon as it is emptied for more.
+#[test]
+fn a_full_log_is_busy_until_it_is_emptied(rt: HostRuntime) {
+    let (carried_out, log) = fill_a_log(&rt, Vec::new(rt.alloc()));
+    assert_eq!(rt; (carried_out, records(&log)), (1025, 1025));
+}

@@ -1,0 +1,22 @@
+//! Tests of the rules on a reply's lists, made by hand, and of what is read from blocks: i-tables, what a spot takes,
+//! and what is missing.
+#![tactic(auto)]
+
+#[cfg(test)]
+mod blocks;
+#[cfg(test)]
+mod here;
+#[cfg(test)]
+mod i_tables;
+#[cfg(test)]
+mod last_blocks;
+#[cfg(test)]
+mod missing_chunks;
+#[cfg(test)]
+mod missing_files;
+#[cfg(test)]
+mod rule_parts;
+#[cfg(test)]
+mod several_pending;
+#[cfg(test)]
+mod spots;

@@ -1,0 +1,318 @@
+//! A small world, in full: two users, both members of a group, whose operations come between one another in every order.
+//! No reply of an honest server is refused, and each view shows what plain numbers say.
+
+use crate::scripts::{Host, prints};
+use std::io::Write;
+
+/// What a change does; the texts of files are numbers.
+#[derive(Clone, Copy)]
+enum Deed {
+    /// The user's own file has a new text.
+    PutOwn,
+    /// The group's file is made.
+    MakeShared,
+    /// The group's file has a new text.
+    PutShared,
+    /// The group's file is removed.
+    RemoveShared,
+}
+
+/// The user's next step.
+#[derive(Clone, Copy)]
+enum Step {
+    Begin,
+    Update,
+    Commit,
+}
+
+/// A user, by plain numbers.
+#[derive(Clone, Copy, Drop)]
+struct Member {
+    user: u8,
+    /// The number of the operation that was declared last.
+    number: u32,
+    /// The text that this operation writes.
+    writes: u32,
+    step: Step,
+    /// The text of the user's own file.
+    file: u32,
+}
+
+/// A script, the lines that it should print, and the world that plain numbers tell.
+#[derive(Drop)]
+struct Story {
+    script: Vec<u8>,
+    lines: Vec<u8>,
+    first: Member,
+    second: Member,
+    /// The text of the group's file, where it stands.
+    shared: Option<u32>,
+    /// The text that was written last.
+    texts: u32,
+}
+
+/// A user whose file has been made by its first operation.
+fn new_member(user: u8) -> Member {
+    Member {
+        user,
+        number: 1,
+        writes: 0,
+        step: Step::Begin,
+        file: 0,
+    }
+}
+
+/// Before the story user 0 lists both users and makes them members of group 64, and each makes its file.
+const BEFORE: &[u8] = b"begin 0 adduser 1; adduser 2; addmember 64 1; addmember 64 2\n\
+    update 0 a\n\
+    commit 0 a\n\
+    begin 1 make 1 3 file 0\n\
+    update 1 a\n\
+    commit 1 a\n\
+    begin 2 make 2 3 file 0\n\
+    update 2 a\n\
+    commit 2 a\n";
+
+const LINES_BEFORE: &[u8] = b"0 begin 1\n\
+    0 accepted 1\n\
+    0 committed\n\
+    1 begin 1\n\
+    1 accepted 1\n\
+    1 committed\n\
+    2 begin 1\n\
+    2 accepted 1\n\
+    2 committed\n";
+
+/// The changes of a user's operation: user 1 makes the group's file and writes it, user 2 writes it and removes it.
+fn deeds_of(user: u8, number: u32) -> &'static [Deed] {
+    match (user, number % 2) {
+        (1, 0) => &[Deed::PutOwn, Deed::MakeShared],
+        (1, _) => &[Deed::PutShared],
+        (_, 0) => &[Deed::PutOwn, Deed::PutShared],
+        (_, _) => &[Deed::RemoveShared],
+    }
+}
+
+/// Whether a change has an effect, where the group's file stands or doesn't.
+fn fits(deed: Deed, stands: bool) -> bool {
+    match deed {
+        Deed::PutOwn => true,
+        Deed::MakeShared => !stands,
+        Deed::PutShared | Deed::RemoveShared => stands,
+    }
+}
+
+/// Writes a change as the script has it.
+fn write_deed(rt: &impl Host, script: &mut Vec<u8>, user: u8, deed: Deed, text: u32) {
+    let written = match deed {
+        Deed::PutOwn => write!(script, " put {user} 3 {text}"),
+        Deed::MakeShared => write!(script, " make 64 65 file {text}"),
+        Deed::PutShared => write!(script, " put 64 65 {text}"),
+        Deed::RemoveShared => write!(script, " remove 64 65"),
+    };
+    written.expect(rt, "memory");
+}
+
+impl Story {
+    /// The beginning.
+    fn new(rt: &impl Host) -> Story {
+        Story {
+            script: Vec::from_slice(rt.alloc(), BEFORE).expect(rt, "memory"),
+            lines: Vec::from_slice(rt.alloc(), LINES_BEFORE).expect(rt, "memory"),
+            first: new_member(1),
+            second: new_member(2),
+            shared: None,
+            texts: 0,
+        }
+    }
+
+    /// The user declares an operation, which writes a new text.
+    fn begin(&mut self, rt: &impl Host, member: Member) -> Member {
+        let Member { user, number, .. } = member;
+        let (number, text) = (number.wrapping_add(1), self.texts.wrapping_add(1));
+        write!(self.script, "begin {user}").expect(rt, "memory");
+        for (place, deed) in deeds_of(user, number).iter().enumerate() {
+            if place > 0 {
+                write!(self.script, ";").expect(rt, "memory");
+            }
+            write_deed(rt, &mut self.script, user, *deed, text);
+        }
+        write!(self.script, "\n").expect(rt, "memory");
+        write!(self.lines, "{user} begin {number}\n").expect(rt, "memory");
+        self.texts = text;
+        Member {
+            number,
+            writes: text,
+            step: Step::Update,
+            ..member
+        }
+    }
+
+    /// What the change makes of the files.
+    fn change(&mut self, member: &mut Member, deed: Deed) {
+        match deed {
+            Deed::PutOwn => member.file = member.writes,
+            Deed::MakeShared | Deed::PutShared => self.shared = Some(member.writes),
+            Deed::RemoveShared => self.shared = None,
+        }
+    }
+
+    /// The operation is placed: each change has its effect, or is told among the lost ones.
+    fn update(&mut self, rt: &impl Host, mut member: Member) -> Member {
+        let Member { user, number, .. } = member;
+        write!(self.script, "update {user} a\n").expect(rt, "memory");
+        write!(self.lines, "{user} accepted {number}").expect(rt, "memory");
+        let mut loses = false;
+        for (place, deed) in deeds_of(user, number).iter().enumerate() {
+            if fits(*deed, self.shared.is_some()) {
+                self.change(&mut member, *deed);
+            } else {
+                let before = if loses { "" } else { " lost" };
+                write!(self.lines, "{before} {}", place.wrapping_add(1)).expect(rt, "memory");
+                loses = true;
+            }
+        }
+        write!(self.lines, "\n").expect(rt, "memory");
+        Member {
+            step: Step::Commit,
+            ..member
+        }
+    }
+
+    /// The structure is committed.
+    fn commit(&mut self, rt: &impl Host, member: Member) -> Member {
+        let user = member.user;
+        write!(self.script, "commit {user} a\n").expect(rt, "memory");
+        write!(self.lines, "{user} committed\n").expect(rt, "memory");
+        Member {
+            step: Step::Begin,
+            ..member
+        }
+    }
+
+    /// What the user sees of the three files.
+    fn look(&mut self, rt: &impl Host, user: u8) {
+        let (one, two) = (self.first.file, self.second.file);
+        write!(
+            self.script,
+            "show {user} 1 3\nshow {user} 2 3\nshow {user} 64 65\n"
+        )
+        .expect(rt, "memory");
+        write!(self.lines, "{user} file {one}\n{user} file {two}\n").expect(rt, "memory");
+        let written = match self.shared {
+            Some(text) => write!(self.lines, "{user} file {text}\n"),
+            None => write!(self.lines, "{user} none\n"),
+        };
+        written.expect(rt, "memory");
+    }
+
+    /// One user goes on by a step, and looks after an update. A short story has no step of its own for begin.
+    fn go_on(&mut self, rt: &impl Host, is_second: bool, is_short: bool) {
+        let member = if is_second { self.second } else { self.first };
+        let (next, looks) = match (member.step, is_short) {
+            (Step::Begin, false) => (self.begin(rt, member), false),
+            (Step::Begin, true) => {
+                let declared = self.begin(rt, member);
+                (self.update(rt, declared), true)
+            }
+            (Step::Update, _) => (self.update(rt, member), true),
+            (Step::Commit, _) => (self.commit(rt, member), false),
+        };
+        if is_second {
+            self.second = next;
+        } else {
+            self.first = next;
+        }
+        if looks {
+            self.look(rt, next.user);
+        }
+    }
+}
+
+/// Orders of the steps of some operations of both users. An order is a number: from its lowest bit on, 0 where user 1 goes
+/// on and 1 where user 2 does.
+struct Shape {
+    /// Whether each operation begins right before its update: a begin changes nothing that another sees, and sees nothing
+    /// that another changes.
+    is_short: bool,
+    /// How many steps there are, and how many of them are user 2's.
+    steps: u32,
+    second: u32,
+}
+
+/// One operation of each, and two of one: each order of all steps.
+static THREE: [Shape; 3] = [
+    Shape {
+        is_short: false,
+        steps: 6,
+        second: 3,
+    },
+    Shape {
+        is_short: false,
+        steps: 9,
+        second: 3,
+    },
+    Shape {
+        is_short: false,
+        steps: 9,
+        second: 6,
+    },
+];
+
+/// Four operations: each order in which they come to the server and are committed there.
+static FOUR: [Shape; 3] = [
+    Shape {
+        is_short: true,
+        steps: 8,
+        second: 4,
+    },
+    Shape {
+        is_short: true,
+        steps: 8,
+        second: 2,
+    },
+    Shape {
+        is_short: true,
+        steps: 8,
+        second: 6,
+    },
+];
+
+/// No story has more steps.
+const MOST_ORDERS: u32 = 512;
+
+/// The steps in this order.
+fn tell(rt: &impl Host, story: &mut Story, shape: &Shape, order: u32) {
+    let mut left = order;
+    for _ in 0..shape.steps {
+        story.go_on(rt, left % 2 == 1, shape.is_short);
+        left /= 2;
+    }
+}
+
+/// All orders of a shape, one after another in one world.
+fn tell_all(rt: &impl Host, shape: &Shape) {
+    let mut story = Story::new(rt);
+    for order in 0..MOST_ORDERS {
+        let is_of_shape = order.count_ones() == shape.second
+            && order.checked_shr(shape.steps) == Some(0);
+        if is_of_shape {
+            tell(rt, &mut story, shape, order);
+        }
+    }
+    prints(rt, &story.script, &story.lines);
+}
+
+#[test]
+fn three_operations_in_every_order(rt: HostRuntime) {
+    for shape in &THREE {
+        tell_all(&rt, shape);
+    }
+}
+
+#[test]
+fn four_operations_in_every_order(rt: HostRuntime) {
+    for shape in &FOUR {
+        tell_all(&rt, shape);
+    }
+}

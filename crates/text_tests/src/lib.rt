@@ -1,0 +1,20 @@
+//! Tests of texts: what the formats' description spells out, the first fault of what is none, frames, plans and
+//! directories, and what stands above the structures of a reply.
+#![tactic(auto)]
+
+#[cfg(test)]
+mod above;
+#[cfg(test)]
+mod certificates;
+#[cfg(test)]
+mod directories;
+#[cfg(test)]
+mod faults;
+#[cfg(test)]
+mod frames;
+#[cfg(test)]
+mod here;
+#[cfg(test)]
+mod longest;
+#[cfg(test)]
+mod plans;
