@@ -16,3 +16,11 @@ mod Stored
 mod KnownViews
 mod TrueTables
 mod Agreed
+mod Anywhere
+mod Same
+mod OneMore
+mod NotTaken
+mod Telling
+mod Answered
+mod Taking
+mod Ended

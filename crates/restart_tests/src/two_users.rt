@@ -127,7 +127,7 @@ fn completes(
 }
 
 /// The changes that list users 1 and 2.
-fn listing_both(rt: &impl Host) -> Vec<Change<Global>> {
+pub(crate) fn listing_both(rt: &impl Host) -> Vec<Change<Global>> {
     let mut changes = Vec::new(rt.alloc());
     for number in [1u8, 2] {
         let user = User::new(number).expect(rt, "a user");

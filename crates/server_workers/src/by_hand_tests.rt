@@ -6,8 +6,8 @@ ghost use Rattle.server_workers.specs.Hands.{hand, hand_of};
 
 use crate::tests::{put_frame, replies, requests};
 use crate::{
-    CallPass, CallQueue, Ended, Flusher, Gate, MemoryConnection, OpenGate, ServerName, Shared,
-    converse, empty_queue,
+    CallPass, CallQueue, Connection, Ended, Flusher, Gate, MemoryConnection, OpenGate, ServerName,
+    Shared, converse, empty_queue,
 };
 use block_store::Store;
 use layout::{Memory, digest};
@@ -21,7 +21,7 @@ use std::sync::{Mutex, Wait};
 use std::test::Fail;
 
 /// One conversation over an empty queue, and a flush after it.
-fn converse_once<G: Gate, W: Write + Drop, B: ServerName, L: Ledger, R: Wait>(
+fn converse_once<G: Gate, C: Connection, W: Write + Drop, B: ServerName, L: Ledger, R: Wait>(
     rt: &R,
     alloc: Global,
     gate: &G,
@@ -29,8 +29,7 @@ fn converse_once<G: Gate, W: Write + Drop, B: ServerName, L: Ledger, R: Wait>(
     pass: CallPass,
     blank: Blank,
     pinned: PublicKey,
-    input: &[u8],
-    output: &mut Vec<u8>,
+    connection: &mut C,
     writer: W,
 ) -> (Ended, u64, W)
     requires queue { IsPassOf queue.now pass × (pass.table_id ≡ B.queue) × (ruled_capacity queue.now ≡ 1024) }
@@ -44,14 +43,29 @@ fn converse_once<G: Gate, W: Write + Drop, B: ServerName, L: Ledger, R: Wait>(
         rt, alloc, queue, pass, blank, &store, pinned,
     );
     let mut flusher = Flusher::<'_, B, R, W>::new(rt, queue, popping, writer);
-    let mut connection = MemoryConnection::new(input, 5, output);
-    let ended = converse(rt, &mut connection, &shared, gate, &mut tally);
+    let ended = converse(rt, connection, &shared, gate, &mut tally);
     flusher.flush();
     (ended, tally.answered(), flusher.into_writer())
 }
 
 /// The same over a queue of its own.
-fn conversed<G: Gate, W: Write + Drop, R: Wait>(
+pub(crate) fn conversed<G: Gate, C: Connection, W: Write + Drop, R: Wait>(
+    rt: &R,
+    alloc: Global,
+    gate: &G,
+    pinned: PublicKey,
+    connection: &mut C,
+    writer: W,
+) -> Result<(Ended, u64, W), Memory> {
+    let (queue, pass) = empty_queue(alloc)?;
+    let blank = Blank::new(1);
+    Ok(converse_once::<G, C, W, Brand, Brand, R>(
+        rt, alloc, gate, &queue, pass, blank, pinned, connection, writer,
+    ))
+}
+
+/// The same over these bytes, of which five come at a time.
+fn conversed_over<G: Gate, W: Write + Drop, R: Wait>(
     rt: &R,
     alloc: Global,
     gate: &G,
@@ -60,11 +74,8 @@ fn conversed<G: Gate, W: Write + Drop, R: Wait>(
     output: &mut Vec<u8>,
     writer: W,
 ) -> Result<(Ended, u64, W), Memory> {
-    let (queue, pass) = empty_queue(alloc)?;
-    let blank = Blank::new(1);
-    Ok(converse_once::<G, W, Brand, Brand, R>(
-        rt, alloc, gate, &queue, pass, blank, pinned, input, output, writer,
-    ))
+    let mut connection = MemoryConnection::new(input, 5, output);
+    conversed(rt, alloc, gate, pinned, &mut connection, writer)
 }
 
 /// A conversation over these bytes is replied this, ends like this, and has so many calls answered.
@@ -93,7 +104,8 @@ fn converses_through<G: Gate, R: AllocGlobal + Abort + Wait>(
     let pinned = PublicKey::from_bytes(key).expect(rt, "a key");
     let mut output = Vec::new(alloc);
     let log = Vec::new(alloc);
-    let (ended, answered, log) = conversed(rt, alloc, gate, pinned, input, &mut output, log)?;
+    let conversation = conversed_over(rt, alloc, gate, pinned, input, &mut output, log);
+    let (ended, answered, log) = conversation?;
     assert_eq!(rt; (ended, answered), (how, calls));
     assert!(rt; log.is_empty(), "nothing was logged");
     assert!(rt; output.as_slice() == wanted, "the replies");

@@ -6,6 +6,8 @@ mod accepted;
 mod by_hand_tests;
 mod call_queue;
 mod connection;
+#[cfg(test)]
+mod faulty_tests;
 mod flusher;
 mod gate;
 mod locked;

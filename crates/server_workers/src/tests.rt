@@ -15,7 +15,7 @@ use std::thread::Threads;
 use std::time::Clock;
 
 /// A public key of these types, whose root signs nothing here.
-fn key() -> [u8; 56] {
+pub(crate) fn key() -> [u8; 56] {
     let mut bytes = [0; 56];
     bytes[3] = 6;
     bytes[7] = 3;
@@ -210,7 +210,7 @@ fn connections_past_the_most_stay(rt: HostRuntime) -> Result<(), Fail> {
     let input = [0, 0, 0, 1, 3];
     let mut wanted = Vec::from_slice(alloc, &[0, 0, 0, 0x21, 0])?;
     wanted.extend_from_slice(&EMPTY)?;
-    for (count, most) in [(3usize, 2u32), (3, 0), (8, 8), (9, 8), (8, 1)] {
+    for (count, most) in [(3usize, 2u32), (3, 0), (8, 8), (9, 8), (8, 1), (20, 20)] {
         let (taken, outputs) = offer(&rt, &input, count, most)?;
         assert_eq!(rt; taken, most);
         for (number, output) in outputs.iter().enumerate() {

@@ -91,7 +91,12 @@ fn store_of(rt: &impl Host, blocks: &[Vec<u8>; 2]) -> (Held<Global>, Vec<u8>) {
 }
 
 /// The reply to the certificate after user 0's structure over the i-table of this root.
-fn reply_over(rt: &impl Host, key: &PrivateKey<Global>, root: &[u8], update: &[u8]) -> Vec<u8> {
+pub(crate) fn reply_over(
+    rt: &impl Host,
+    key: &PrivateKey<Global>,
+    root: &[u8],
+    update: &[u8],
+) -> Vec<u8> {
     let superuser = structure_over(rt, key, 1, root);
     let vector = b"\x02\0\0\0\0\x01\x01\0\0\0\x01";
     let plan = plan(rt, 1, 1, &named(update), vector, b"\0");

@@ -1,0 +1,85 @@
+-- Steps that were carried out to the end, and the table of clients.
+use Rattle.std.proofs.Common.{◌≡◌, ◌≢◌, ℕ, zero, suc, ◌<◌, List, [], ◌∷◌, ◌++◌, length, get_or, set, Bool, true, false, ◌==◌, refl, sym, ap, subst, ◌∙◌}
+use Rattle.std.proofs.lemmas.Bool.{eqb-true, eqb-false}
+use Rattle.std.proofs.lemmas.List.{get_or-set_other, get_or-set_same, length-set}
+use Rattle.agreement.specs.Lines.{Agree, AreNumbered, EndWithOwn, Grow}
+use Rattle.agreement.specs.Runs.{IsRun as AreAccepted}
+use Rattle.layout.specs.Types.{User}
+use Rattle.client_runs.specs.declared.slot.Slot.{Slot}
+use Rattle.client_runs.specs.declared.slot.Slot.TheVariants as slot
+use Rattle.client_runs.specs.declared.world.Answer.{Answer}
+use Rattle.client_runs.specs.declared.world.WorldStep.{WorldStep}
+use Rattle.client_runs.specs.Steps.{Client, Closed, Device, empty, first}
+use Rattle.client_runs.specs.Runs.{Event, IsRun, Keys, client_of, owner}
+use Rattle.client_runs.specs.Released.{views}
+use Rattle.client_runs.specs.UsedOnce.{CertificatesOnce, EachClient, LeavesOnce, StructuresOnce}
+use Rattle.client_runs.specs.Agreeing.{AreReleased, EachRun}
+use Rattle.client_runs.specs.Carried.{AreCarriedOut, Keep, script_keys}
+use Rattle.client_runs.specs.Slots.{AreOwn, IsOf, client_at, client_in}
+use Rattle.client_runs.proofs.OneMore.{StandsSoFar}
+
+-- ---- the end of a run
+
+module _ (leaves : EachClient LeavesOnce) (certificates : EachClient CertificatesOnce) (structures : EachClient StructuresOnce)
+    (accepted : EachRun (λ run. AreAccepted (views run))) (numbered : EachRun (λ run. AreNumbered (views run))) (ended : EachRun (λ run. EndWithOwn (views run)))
+    (released : EachRun AreReleased) (growing : EachRun (λ run. Grow (views run))) (agreed : EachRun (λ run. Agree (views run))) where
+  pub carried_out : {A : Type 0} (steps : List (WorldStep A)) (answers : List (Answer A)) (slots : List (Slot A)) → StandsSoFar steps answers slots → AreCarriedOut steps answers
+  carried_out steps answers slots s = record {
+    events = s.events;
+    is_run = s.is_run;
+    kept = s.kept;
+    leaves = λ u. leaves script_keys s.events u s.is_run;
+    certificates = λ u. certificates script_keys s.events u s.is_run;
+    structures = λ u. structures script_keys s.events u s.is_run;
+    agreed = λ p. record {
+      accepted = accepted script_keys s.events s.is_run p;
+      numbered = numbered script_keys s.events s.is_run p;
+      ended = ended script_keys s.events s.is_run p;
+      released = released script_keys s.events s.is_run p;
+      growing = growing script_keys s.events s.is_run p;
+      agreed = agreed script_keys s.events s.is_run p;
+    };
+  }
+
+-- before the first step nothing happened
+pub none_yet : {A : Type 0} (slots : List (Slot A)) → ((u : ℕ) → client_at slots u ≡ first) → StandsSoFar [] [] slots
+none_yet slots firsts = record { events = []; is_run = tt; kept = tt; clients = λ u. sym (firsts u) }
+
+-- ---- tables
+
+-- a table of one value, and one more of it
+pub one_more : {X : Type 0} (xs : List X) (x : X) → ((u : ℕ) → get_or xs u x ≡ x) → (u : ℕ) → get_or (xs ++ x ∷ []) u x ≡ x
+one_more [] x same zero = refl
+one_more [] x same (suc u) = refl
+one_more (y ∷ ys) x same zero = same zero
+one_more (y ∷ ys) x same (suc u) = one_more ys x (λ v. same (suc v)) u
+
+-- a client over two devices that hold nothing
+pub first_in : (l j : Device) → l ≡ empty → j ≡ empty → Closed (record { ledger = l; journal = j }) ≡ first
+first_in l j at_l at_j = ap (λ (d : Device). Closed (record { ledger = d; journal = j })) at_l ∙ ap (λ (d : Device). Closed (record { ledger = empty; journal = d })) at_j
+
+-- a table whose slot at one place is taken out, and another put there
+module _ {A : Type 0} (slots : List (Slot A)) (place : ℕ) (within : place < length slots) (x y : Slot A) where
+  abbrev pub rewritten : List (Slot A)
+  rewritten = set (set slots place x) place y
+
+  pub length_rewritten : length rewritten ≡ length slots
+  length_rewritten = length-set (set slots place x) place y ∙ length-set slots place x
+
+  pub at_place : get_or rewritten place slot.Unmade ≡ y
+  at_place =
+      get_or-set_same (set slots place x) place y slot.Unmade (subst (λ (n : ℕ). place < n) (sym (length-set slots place x)) within)
+
+  pub elsewhere : (u : ℕ) → u ≢ place → get_or rewritten u slot.Unmade ≡ get_or slots u slot.Unmade
+  elsewhere u other = get_or-set_other (set slots place x) place u y slot.Unmade other ∙ get_or-set_other slots place u x slot.Unmade other
+
+  pub other_clients : (u : ℕ) → u ≢ place → client_at rewritten u ≡ client_at slots u
+  other_clients u other = ap client_in (elsewhere u other)
+
+  -- each client is still of its user, where the new one is
+  pub still_own : AreOwn slots → IsOf (owner script_keys place) y → AreOwn rewritten
+  still_own own is u =
+      elim (u == place) as (λ b. (u == place) ≡ b → IsOf (owner script_keys u) (get_or rewritten u slot.Unmade)) [
+        | true ↦ (λ eq. subst (λ (n : ℕ). IsOf (owner script_keys n) (get_or rewritten n slot.Unmade)) (sym (eqb-true u place eq)) (subst (λ (z : Slot A). IsOf (owner script_keys place) z) (sym at_place) is))
+        | false ↦ (λ eq. subst (λ (z : Slot A). IsOf (owner script_keys u) z) (sym (elsewhere u (eqb-false u place eq))) (own u))
+      ] refl
