@@ -1,11 +1,11 @@
 //! Changes of the table: their bytes and faults, what they make of a table, and which have no effect.
 
-use crate::{Cert, Change, Deed, TableChange, apply_table, table_after};
 use layout::{Digest, Group, ReadError, Text, User, Version};
 use lms_sign::PublicKey;
 use principals::Table;
 use std::alloc::{Alloc, Global};
 use std::process::Abort;
+use update_cert::{Cert, Change, Deed, TableChange, apply_table, table_after};
 
 /// Where a test has its memory, and where it ends.
 trait Host: Alloc<A = Global> + Abort {}

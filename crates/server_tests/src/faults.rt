@@ -1,12 +1,12 @@
 //! Connections that fail: a conversation ends at the first fault, and reads and writes no more.
 
-ghost use Rattle.std.specs.Prelude.{None};
+ghost use Rattle.std.specs.Prelude.{◌≤◌, None};
+ghost use Rattle.leaf_ledger.specs.Device.{HasRisen};
 
-use crate::by_hand_tests::conversed;
-use crate::connection::fault;
-use crate::tests::key;
-use crate::{Connection, ConnectionFault, Ended, OpenGate};
+use crate::by_hand::conversed;
+use crate::requests::key;
 use lms_sign::PublicKey;
+use server_workers::{Connection, ConnectionFault, Ended, OpenGate};
 use std::process::Abort;
 use std::sync::Wait;
 
@@ -37,6 +37,15 @@ impl<'a> Failing<'a> {
             faults: 0,
         }
     }
+}
+
+/// Counts a fault.
+fn fault(faults: &mut u64) -> ConnectionFault
+    ensures later { faults.old ≤ faults.new }
+    ensures rose { HasRisen faults.old faults.new }
+{
+    *faults = faults.saturating_add(1);
+    ConnectionFault
 }
 
 impl<'a> Connection for Failing<'a> {

@@ -1,6 +1,6 @@
 //! Connections over TCP: what is accepted, and the bytes of a socket both ways.
 
-use crate::{Accepted, Connection, Socket};
+use server_workers::{Accepted, Connection, Socket};
 use std::io;
 use std::io::{ErrorKind, Read, Write};
 use std::net::{Net, Shutdown, SocketAddr, TcpListener, TcpStream};

@@ -1,6 +1,6 @@
 //! Blocks that are put and fetched, by one thread and by two.
 
-use crate::{BLOCK_LIMIT, Store, StoreError};
+use block_store::{BLOCK_LIMIT, Store, StoreError};
 use layout::Digest;
 use std::alloc::Global;
 use std::sync::Wait;

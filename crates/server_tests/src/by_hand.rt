@@ -4,14 +4,14 @@ ghost use Rattle.std.specs.Prelude.{◌≡◌, [], true};
 ghost use Rattle.crossbeam_queue.specs.Passes.{IsPassOf, ruled_capacity};
 ghost use Rattle.server_workers.specs.Hands.{hand, hand_of};
 
-use crate::tests::{put_frame, replies, requests};
-use crate::{
-    CallPass, CallQueue, Connection, Ended, Flusher, Gate, MemoryConnection, OpenGate, ServerName,
-    Shared, converse, empty_queue,
-};
+use crate::requests::{put_frame, replies, requests};
 use block_store::Store;
 use layout::{Memory, digest};
 use lms_sign::PublicKey;
+use server_workers::{
+    CallPass, CallQueue, Connection, Ended, Flusher, Gate, MemoryConnection, OpenGate, ServerName,
+    Shared, converse, empty_queue,
+};
 use std::alloc::Global;
 use std::io::Write;
 use std::marker::Brand;

@@ -2,7 +2,7 @@
 
 ghost use Rattle.std.specs.Prelude.{◌<◌, length};
 
-use crate::{Journal, JournalError, JournalState, Kind, Record};
+use client_journal::{Journal, JournalError, JournalState, Kind, Record};
 use leaf_ledger::MemoryDevice;
 use std::alloc::Global;
 use std::test::Fail;

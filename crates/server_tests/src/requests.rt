@@ -3,9 +3,9 @@
 ghost use Rattle.std.specs.Prelude.{◌<◌};
 ghost use Rattle.std.specs.Iterator.{at_most};
 
-use crate::{MemoryConnection, OpenGate, Served, serve};
 use block_store::Store;
 use lms_sign::PublicKey;
+use server_workers::{MemoryConnection, OpenGate, Served, serve};
 use std::alloc::Global;
 use std::process::Abort;
 use std::slice::IterMut;

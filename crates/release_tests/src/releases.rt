@@ -5,7 +5,7 @@ ghost use Rattle.std.specs.Prelude.{◌≡◌};
 ghost use Rattle.version_order.specs.Structure.{structure as structure_format};
 ghost use Rattle.update_cert.specs.Cert.{Cert as PureCert, cert};
 
-use crate::{ClientError, Parts, Phase, Releases, Unsigned};
+use client_releases::{ClientError, Parts, Phase, Releases, Unsigned};
 use layout::{Digest, Text, User, Version};
 use leaf_ledger::MemoryDevice;
 use lms_sign::{PrivateKey, SIGNATURE_SIZE, verify};

@@ -2,9 +2,9 @@
 
 ghost use Rattle.std.specs.Prelude.{◌<◌};
 
-use crate::{FrameError, Frames};
 use std::alloc::Global;
 use std::test::Fail;
+use wire::{FrameError, Frames};
 
 /// What `next_frame` answered.
 #[derive(Debug, Drop, PartialEq, Eq)]

@@ -1,8 +1,8 @@
 //! Texts of tables by their description, the largest table, and membership from change to change.
 
-use crate::{Table, TableError};
 use layout::{Group, Principal, ReadError, Text, User, Version};
 use lms_sign::PublicKey;
+use principals::{Table, TableError};
 use std::alloc::{Alloc, Global};
 use std::process::Abort;
 
