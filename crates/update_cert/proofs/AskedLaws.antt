@@ -1,6 +1,6 @@
 -- What is asked for, from the part at a change's turn to the first part.
 use Rattle.std.proofs.Common.{◌≡◌, ℕ, ◌+◌, ◌<◌, ◌≤◌, Bool, true, false, List, length, take, Option, Some, None, Result, Ok, Err, refl, subst, sym, ap, ◌∙◌, inl, inr, arith}
-use Rattle.std.specs.Prelude.{◌⊎◌, ◌&&◌, not, IfErr, IsErr, IsErrAnd, IsSome, IsSomeAnd, OnOk, slice_get, slice_index_or}
+use Rattle.std.specs.Prelude.{◌⊎◌, ◌&&◌, not, IfErr, IsErr, IsErrAnd, OnOk, slice_get, slice_index_or}
 use Rattle.std.specs.Option.{option_map}
 use Rattle.std.proofs.lemmas.Bool.{and_parts, cases_lt}
 use Rattle.std.proofs.lemmas.Option.{slice_get_read, slice_get_within}
@@ -9,19 +9,17 @@ use Rattle.layout.specs.Types.{Digest}
 use Rattle.update_cert.specs.World.{Actor, is_root, is_table, permitted}
 use Rattle.update_cert.specs.Reading.{Reading}
 use Rattle.directory.specs.Directory.{Entry}
-use Rattle.itable.specs.Inode.{Inode}
 use Rattle.itable.specs.ITable.{digest_at}
-use Rattle.update_cert.specs.Blocks.{Blocks, Agrees, inode_at, joined}
+use Rattle.update_cert.specs.Blocks.{Blocks, Agrees}
 use Rattle.update_cert.specs.Spot.{lacks}
-use Rattle.update_cert.specs.Part.{Laid, Part, Slot, opened_at, slot_at, slot_of}
+use Rattle.update_cert.specs.Part.{Laid, Part, opened_at, slot_at, slot_of}
 use Rattle.update_cert.specs.Slots.{slot_after}
 use Rattle.itable.specs.declared.inode.Kind.TheVariants as kind
-use Rattle.update_cert.specs.Asked.{HasAskedFor, HasBlocks, Lacks, IsInode, IsBlock, IsAskedFor, IsMetAt, IsWantedBy, LacksAskedFor, asks, needs_inode, needs_entries}
+use Rattle.update_cert.specs.Asked.{HasAskedFor, Lacks, IsInode, IsBlock, IsAskedFor, IsMetAt, IsWantedBy, LacksAskedFor, asks, needs_inode, needs_entries}
 use Rattle.update_cert.specs.Acts.{HasAt, HasBy, HasFor, LiesAt, LacksAt, LacksFor, LacksBy}
 use Rattle.update_cert.specs.declared.error.ApplyError.{ApplyError}
 use Rattle.update_cert.specs.declared.error.ApplyError.TheVariants as error
 use Rattle.update_cert.specs.declared.spot.Spot.{Spot}
-use Rattle.update_cert.specs.declared.spot.Spot.TheVariants as spot
 use Rattle.update_cert.proofs.SomeReading.{some_reading}
 
 -- what is lacking is also what a wider question asks for
@@ -79,39 +77,15 @@ handed_on (Err e) v P is holds = subst P (sym is) holds
 
 -- ---- nothing of it is missing
 
-laid_slot : (entries : Option (List Entry)) (d : Option Digest) (inode : Digest) → option_map (slot_of entries) d ≡ Some (Laid inode) → (entries ≡ None) × (d ≡ Some inode)
+laid_slot : (entries : Option (List Entry)) (d : Option Digest) (inode : Digest) → option_map (slot_of entries) d ≡ Some (Laid inode) → entries ≡ None
 laid_slot entries None inode is = absurd cc
 laid_slot (Some es) (Some d) inode is = absurd cc
-laid_slot None (Some d) inode is = let same : Some (Laid d) ≡ Some (Laid inode) = is in (refl, cc)
+laid_slot None (Some d) inode is = refl
 
 -- where a directory is opened, none is asked for
 pub has_opened : (blocks : Blocks) (part : Part) (i : ℕ) (entries : Bool) (es : List Entry) → opened_at part i ≡ Some es → HasAt blocks part i entries
 has_opened blocks part i entries es there = λ digest s (inode, lies, wanted).
-    let none = (laid_slot (opened_at part i) (digest_at part.table i) inode lies).0 in
-    absurd cc
-
--- nor where nothing stands
-pub has_none : (blocks : Blocks) (part : Part) (i : ℕ) (entries : Bool) → digest_at part.table i ≡ None → HasAt blocks part i entries
-has_none blocks part i entries nothing = λ digest s (inode, lies, wanted).
-    let some = (laid_slot (opened_at part i) (digest_at part.table i) inode lies).1 in
-    absurd cc
-
--- where an i-node was read, it is there, and so are its blocks, if these were
-pub has_read : (blocks : Blocks) (part : Part) (i : ℕ) (entries : Bool) (d : Digest) → digest_at part.table i ≡ Some d → lacks blocks d (spot.Inode part.table.principal i) ≡ false
-    → (entries ≡ true → HasBlocks blocks kind.Directory d) → HasAt blocks part i entries
-has_read blocks part i entries d there taken has = λ digest s (inode, lies, wanted).
-    let some = (laid_slot (opened_at part i) (digest_at part.table i) inode lies).1 in
-    let same : inode ≡ d = let both : Some inode ≡ Some d = sym some ∙ there in cc in
-    elim wanted [
-      | inl is ↦ subst (λ (x : Spot). lacks blocks digest x ≡ false) (sym is.1) (subst (λ (x : Digest). lacks blocks x (spot.Inode part.table.principal i) ≡ false) (sym (is.0 ∙ same)) taken)
-      | inr is ↦ has is.0 digest s (subst (λ (x : Digest). IsBlock blocks kind.Directory x digest s) same is.1)
-    ]
-
--- a file has no block of a directory
-pub file_has : (blocks : Blocks) (d : Digest) (n : Inode) → inode_at blocks d ≡ Some n → n.kind ≡ kind.File → HasBlocks blocks kind.Directory d
-file_has blocks d n held of_file = λ digest s (k, is, of).
-    let told = subst (λ (o : Option Inode). IsSomeAnd o (λ m. (m.kind ≡ kind.Directory) × (slice_get m.blocks k ≡ Some digest) × IsSome (joined blocks (take k m.blocks)))) held of in
-    let clash : kind.File ≡ kind.Directory = sym of_file ∙ told.0 in
+    let none = laid_slot (opened_at part i) (digest_at part.table i) inode lies in
     absurd cc
 
 -- ---- so a change has what it asks for
