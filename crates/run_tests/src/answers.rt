@@ -51,7 +51,7 @@ pub(crate) fn opened(rt: &impl Host, client: &MemoryClient) -> Told {
 }
 
 /// Copies of texts.
-pub(crate) fn copies(rt: &impl Host, texts: &[Vec<u8>]) -> Vec<Vec<u8>> {
+fn copies(rt: &impl Host, texts: &[Vec<u8>]) -> Vec<Vec<u8>> {
     let mut copies = Vec::new(rt.alloc());
     for text in texts {
         copies.push(joined(rt, &[text])).expect(rt, "memory");
