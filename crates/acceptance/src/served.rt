@@ -140,9 +140,9 @@ fn write_and_look<R: Alloc<A = Global> + Abort + Net<Listener = TcpListener, Str
         zero: mut superuser,
         one: mut first,
         two: mut second,
+        pinned: _,
         of_one,
         of_two,
-        ..
     } = three_clients(host);
     let listing = listing_both(host, of_one, of_two);
     let stream = TcpStream::connect(rt, address).expect(rt, "a connection");
