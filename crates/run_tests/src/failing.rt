@@ -46,9 +46,9 @@ const AFTER_JOURNAL: Fails = Fails::Journal(6);
 /// How many calls an opening makes of the device of a ledger that is there.
 const OPENING_LEDGER: u64 = 4;
 
-/// How many it makes of that of a journal of this size, which tells this phase of the first operation. It syncs, and asks
-/// for the size; then it makes the file anew, by a write and a sync, or reads the first gate. After an open one it reads
-/// a header, the next gate, and the certificate.
+/// How many it makes of that of a journal of this size, which tells this phase of the first operation. It syncs, and
+/// asks for the size; then it makes the file anew, by a write and a sync, or reads the first gate. After an open one it
+/// reads a header, the next gate, and the certificate.
 fn opening_journal(phase: Phase, size: usize) -> u64 {
     if phase == Phase::Declared {
         return 6;
@@ -79,7 +79,8 @@ fn restarts_to_fail(
     opens(rt, record, user, kept)
 }
 
-/// The client restarts, can't declare an operation, since a device fails so, and restarts after a crash that leaves this.
+/// The client restarts, can't declare an operation, since a device fails so, and restarts after a crash that leaves
+/// this.
 fn begins_in_vain(
     rt: &impl Host,
     record: &mut Record,

@@ -1,5 +1,5 @@
-//! Three users, whose clients stand alone, and the same steps in a run. What they answer is told by hand where it matters:
-//! the files that are read, and the broken rule.
+//! Three users, whose clients stand alone, and the same steps in a run. What they answer is told by hand where it
+//! matters: the files that are read, and the broken rule.
 
 use crate::here::Here;
 use crate::steps::{

@@ -1,5 +1,5 @@
-//! Steps of clients that stand alone, over a server, a store and devices in memory. Each is written down with its answer,
-//! for `run` to answer the same.
+//! Steps of clients that stand alone, over a server, a store and devices in memory. Each is written down with its
+//! answer, for `run` to answer the same.
 
 use crate::answers::{Told, accepted, is_told, look_told, opened, step_told};
 use client_aids::changes::{Planned, listing_both, making, nothing};
