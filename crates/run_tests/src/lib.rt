@@ -1,5 +1,5 @@
-//! Tests of whole runs: what clients answer that stand alone, `client_runs::run` answers to the same steps, over crashes
-//! and over devices that fail, too.
+//! Tests of whole runs: what clients answer that stand alone, `client_runs::run` answers to the same steps, over
+//! crashes and over devices that fail, too.
 #![tactic(auto)]
 
 #[cfg(test)]
