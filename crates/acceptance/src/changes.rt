@@ -1,7 +1,7 @@
-//! Changes, made by hand, and what is laid out for them.
+//! Changes of user 0's part, made by hand, and what is laid out for them.
 
-use itable::{Laid, lay_file};
-use layout::{Digest, digest};
+use client_aids::changes::{Planned, lay, nothing, plan_change};
+use layout::digest;
 use std::alloc::Global;
 use test_aids::Host;
 use test_aids::blocks::EMPTY_INODE;
@@ -23,35 +23,6 @@ pub(crate) enum Deed {
     Link(&'static [u8], u16),
     /// A directory hasn't this name any more.
     Unlink(&'static [u8]),
-}
-
-/// Changes, and the texts that are laid out for them.
-#[derive(Drop)]
-pub(crate) struct Planned {
-    pub(crate) changes: Vec<Change<Global>>,
-    pub(crate) laid: Vec<Vec<u8>>,
-}
-
-/// Nothing.
-pub(crate) fn nothing(rt: &impl Host) -> Planned {
-    Planned {
-        changes: Vec::new(rt.alloc()),
-        laid: Vec::new(rt.alloc()),
-    }
-}
-
-/// Lays a file out, and answers the digest of its i-node.
-pub(crate) fn lay(rt: &impl Host, planned: &mut Planned, file: &[u8]) -> Digest {
-    let Laid { inode, mut blocks } = lay_file(rt.alloc(), file).expect(rt, "a file");
-    let digest = digest(&inode);
-    planned.laid.append(&mut blocks).expect(rt, "memory");
-    planned.laid.push(inode).expect(rt, "memory");
-    digest
-}
-
-/// Plans a change.
-pub(crate) fn plan_change(rt: &impl Host, planned: &mut Planned, change: Change<Global>) {
-    planned.changes.push(change).expect(rt, "memory");
 }
 
 /// Plans an action at an i-number of user 0's.

@@ -1,8 +1,9 @@
 //! Files of each size, from their making to a look at them in the view after it, byte for byte.
 
-use crate::changes::{Planned, lay, nothing, plan_action};
+use crate::changes::plan_action;
 use crate::here::Here;
 use crate::world::{World, asked_for_so_many, has_lost, new_world, operate, see};
+use client_aids::changes::{Planned, lay, nothing};
 use client_verify::Look;
 use std::alloc::Global;
 use test_aids::{Host, check};

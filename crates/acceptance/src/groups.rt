@@ -1,9 +1,9 @@
 //! User 0's operations with a group, of which it is a member and then isn't: the table's text, the records of the group
 //! that its structures have, which changes are lost, and what stands in the view. A hostile store changes nothing of it.
 
-use crate::changes::{Planned, lay, nothing, plan_change};
 use crate::here::Here;
 use crate::world::{World, has_lost, new_world, operate, see_of};
+use client_aids::changes::{Planned, lay, nothing, plan_change};
 use client_aids::clients::first_key;
 use client_verify::Look;
 use layout::{Group, Text, User};

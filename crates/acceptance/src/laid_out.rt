@@ -1,7 +1,8 @@
 //! What has to be laid out before changes are declared.
 
-use crate::changes::{Deed, Planned, nothing, of_deeds, plan_action};
+use crate::changes::{Deed, of_deeds, plan_action};
 use crate::here::Here;
+use client_aids::changes::{Planned, nothing};
 use client_verify::are_laid;
 use layout::digest;
 use std::alloc::Global;

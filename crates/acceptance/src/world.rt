@@ -2,7 +2,7 @@
 //! hands in something else first: the client answers which rule that breaks, asks for the same block still, and goes on
 //! with it.
 
-use crate::changes::Planned;
+use client_aids::changes::Planned;
 use client_aids::clients::{
     MemoryClient, declare_changes, end, first_key, sign, step_on, superuser,
 };

@@ -2,10 +2,8 @@
 //! before: a reply is accepted or refused by the rules, and one structure of that number is ever handed out.
 
 use crate::here::Here;
-use crate::two_users::{
-    BOTH, NONE, ONE, Scene, Users, accepts, both_are_listed, breaks, judged, list, only_pending,
-};
-use client_aids::clients::{Kept, MemoryClient, first_key, open_over};
+use crate::two_users::{BOTH, NONE, ONE, Scene, Users, accepts, both_are_listed, breaks, judged};
+use client_aids::clients::{Kept, MemoryClient, open_over};
 use client_aids::crashes::{Left, after_crash, has_declared, has_failed, has_signed};
 use client_aids::servers::{Server, answers_commit, answers_update_so};
 use client_tree::Held;
@@ -13,7 +11,7 @@ use client_verify::{Phase, Rule};
 use layout::User;
 use lms_sign::PublicKey;
 use std::alloc::Global;
-use test_aids::texts::{joined, listed, named, plan, reply, shown};
+use test_aids::texts::{joined, list, listed, named, only_pending, plan, reply, shown};
 use test_aids::{Host, check, check_text};
 use wire::Status;
 
@@ -69,6 +67,7 @@ fn new_fork(rt: &impl Host) -> (Fork, Kept) {
     let mut scene = both_are_listed(rt);
     let replies = shown_to_first(rt, &mut scene);
     let Scene {
+        pinned,
         users,
         server,
         other,
@@ -81,7 +80,7 @@ fn new_fork(rt: &impl Host) -> (Fork, Kept) {
         store,
     } = users;
     let fork = Fork {
-        pinned: first_key(rt),
+        pinned,
         server,
         other,
         store,

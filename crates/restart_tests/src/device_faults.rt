@@ -101,10 +101,10 @@ static OF_JOURNAL: [Fault; 6] = [
 ];
 
 /// How many calls of the ledger and of the journal come before `begin`, where both are made anew.
-pub(crate) const BEFORE_BEGIN: [u8; 2] = [5, 4];
+const BEFORE_BEGIN: [u8; 2] = [5, 4];
 
 /// And before `sign`, after `begin`.
-pub(crate) const BEFORE_SIGN: [u8; 2] = [7, 10];
+const BEFORE_SIGN: [u8; 2] = [7, 10];
 
 /// A key over new devices, of which one fails at the call of the fault after so many calls of the ledger and of the
 /// journal.

@@ -2,18 +2,19 @@
 //! older structure and of a plan that it swapped.
 
 use crate::here::Here;
-use client_aids::clients::{
-    MemoryClient, client_of, declare, declare_changes, end, first_key, sign, step_on,
-};
+use client_aids::changes::{Planned, listing_both};
+use client_aids::clients::{MemoryClient, declare, declare_changes, end, sign, step_on};
 use client_aids::servers::{Server, answers_commit, answers_update_so, server_of};
+use client_aids::three::{Three, three_clients};
 use client_tree::Held;
 use client_verify::{Rule, Step};
-use layout::{User, digest};
+use layout::digest;
+use lms_sign::PublicKey;
 use std::alloc::Global;
 use std::ops::Range;
-use test_aids::texts::{joined, key_of, listed, named, pending, plan, reply, shown};
+use test_aids::texts::{joined, list, listed, named, only_pending, pending, plan, reply, shown};
 use test_aids::{Host, check_text};
-use update_cert::{Blocks, Change, TableChange};
+use update_cert::Blocks;
 use wire::Status;
 
 /// How many blocks are handed in at most for one reply.
@@ -40,16 +41,6 @@ pub(crate) struct Users {
     pub(crate) first: MemoryClient,
     pub(crate) second: MemoryClient,
     pub(crate) store: Held<Global>,
-}
-
-/// The users before their first operations.
-fn new_users(rt: &impl Host) -> Users {
-    Users {
-        superuser: client_of(rt, 0, 0),
-        first: client_of(rt, 1, 1),
-        second: client_of(rt, 2, 2),
-        store: Held::empty(rt.alloc()),
-    }
 }
 
 /// Stores these texts.
@@ -126,20 +117,11 @@ fn completes(
     structure
 }
 
-/// The changes that list users 1 and 2.
-pub(crate) fn listing_both(rt: &impl Host) -> Vec<Change<Global>> {
-    let mut changes = Vec::new(rt.alloc());
-    for number in [1u8, 2] {
-        let user = User::new(number).expect(rt, "a user");
-        let change = Change::of_table(TableChange::AddUser(user, key_of(rt, number).public()));
-        changes.push(change).expect(rt, "memory");
-    }
-    changes
-}
-
 /// Both users are listed, by user 0's structure here, at two servers that show the same.
 #[derive(Drop)]
 pub(crate) struct Scene {
+    /// User 0's key.
+    pub(crate) pinned: PublicKey,
     pub(crate) users: Users,
     pub(crate) server: Server,
     pub(crate) other: Server,
@@ -148,20 +130,29 @@ pub(crate) struct Scene {
 
 /// User 0 lists both users, at one server and in the same way at the other.
 pub(crate) fn both_are_listed(rt: &impl Host) -> Scene {
-    let mut users = new_users(rt);
-    let (mut server, mut other) = (server_of(rt, first_key(rt)), server_of(rt, first_key(rt)));
-    let (changes, nothing) = (listing_both(rt), Vec::new(rt.alloc()));
-    let update = declare_changes(rt, &mut users.superuser, changes, nothing);
-    let by_super = completes(
-        rt,
-        &mut users.store,
-        &mut server,
-        &mut users.superuser,
-        &update,
-    );
+    let Three {
+        zero: mut superuser,
+        one: first,
+        two: second,
+        pinned,
+        of_one,
+        of_two,
+    } = three_clients(rt);
+    let mut store = Held::empty(rt.alloc());
+    let (mut server, mut other) = (server_of(rt, pinned), server_of(rt, pinned));
+    let Planned { changes, laid } = listing_both(rt, of_one, of_two);
+    let update = declare_changes(rt, &mut superuser, changes, laid);
+    let by_super = completes(rt, &mut store, &mut server, &mut superuser, &update);
     let _same = answers_update_so(rt, &mut other, &update, Status::Ok);
     answers_commit(rt, &mut other, &by_super, Status::Ok);
+    let users = Users {
+        superuser,
+        first,
+        second,
+        store,
+    };
     Scene {
+        pinned,
         users,
         server,
         other,
@@ -202,18 +193,6 @@ impl Scene {
 /// The entry of a first operation, after the count of one entry.
 fn one_entry(rt: &impl Host, user: u8, plan: &[u8]) -> Vec<u8> {
     joined(rt, &[&[1, user, 0, 0, 0, 1], digest(plan).as_bytes()])
-}
-
-/// Rows of a list after their count.
-pub(crate) fn list(rt: &impl Host, rows: &[&[u8]]) -> Vec<u8> {
-    let [.., count] = rows.len().to_be_bytes();
-    joined(rt, &[&[count], &joined(rt, rows)])
-}
-
-/// The only pending operation of a reply: user 1's of this number, with the plan of this vector and without entries.
-pub(crate) fn only_pending(rt: &impl Host, number: u32, update: &[u8], vector: &[u8]) -> Vec<u8> {
-    let plan = plan(rt, 1, number, &named(update), vector, NONE);
-    listed(rt, &pending(rt, update, &plan))
 }
 
 /// The list of the pending operations of users 1 and 2, both their first.

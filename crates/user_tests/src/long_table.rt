@@ -57,7 +57,7 @@ struct Scene {
 fn new_scene(rt: &impl Host) -> Scene {
     let (key, own) = (key_of(rt, 0), key_of(rt, 1));
     let blocks = blocks_of(rt, &key.public(), &own.public());
-    let mut client = client_with(rt, own, key.public());
+    let mut client = client_with(rt, 1, own, key.public());
     let update = declare(rt, &mut client);
     Scene {
         key,

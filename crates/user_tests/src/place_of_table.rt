@@ -1,16 +1,18 @@
 //! User 0's i-table, handed to user 1's client, where no table of principals stands at i-number 1: the block at which
 //! that is seen breaks the rule on contents.
 
-use crate::blocks::{EMPTY_INODE, HELLO, HELLO_INODE, NO_BYTES_INODE};
+use crate::here::Here;
 use crate::long_table::reply_over;
-use crate::replies::{MemoryClient, client_with, declare, step_on};
 use crate::several_users::keep_each;
-use crate::texts::{Host, check, joined, key_of};
+use client_aids::clients::{MemoryClient, client_with, declare, step_on};
 use client_tree::Held;
 use client_verify::{Rule, Step};
 use layout::{Digest, digest};
 use lms_sign::PrivateKey;
 use std::alloc::Global;
+use test_aids::blocks::{EMPTY_INODE, HELLO, HELLO_INODE, NO_BYTES_INODE};
+use test_aids::texts::{joined, key_of};
+use test_aids::{Host, check};
 use update_cert::Blocks;
 
 /// How many blocks are handed in at most for one reply.
@@ -143,8 +145,9 @@ fn breaks_case(
 
 #[test]
 fn no_table_in_its_place(rt: HostRuntime) {
+    let rt = (rt, Here);
     let (key, own) = (key_of(&rt, 0), key_of(&rt, 1));
-    let mut client = client_with(&rt, own, key.public());
+    let mut client = client_with(&rt, 1, own, key.public());
     let update = declare(&rt, &mut client);
     for case in &CASES {
         breaks_case(&rt, &mut client, &key, &update, case);

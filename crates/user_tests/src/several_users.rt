@@ -351,7 +351,7 @@ pub(crate) fn new_scene(rt: &impl Host) -> (Scene, MemoryClient) {
     let (zero, one) = (key_of(rt, 0), key_of(rt, 1));
     let (pinned, public) = (zero.public(), one.public());
     let keys = [zero, key_of(rt, 2), key_of(rt, 3)];
-    let client = client_with(rt, one, pinned);
+    let client = client_with(rt, 1, one, pinned);
     (scene_of(rt, keys, &public), client)
 }
 
