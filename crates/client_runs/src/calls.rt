@@ -1,6 +1,6 @@
 //! The calls of an open client that a step makes, where it may.
 
-ghost use Rattle.std.specs.Prelude.{◌≡◌, IfOk, IfSome, IsSome, MatchOption, false, map, true};
+ghost use Rattle.std.specs.Prelude.{◌≡◌, ◌≢◌, IfOk, IfSome, IsSome, MatchOption, false, map, true};
 ghost use Rattle.std.specs.Option.{option_copied};
 ghost use Rattle.std.specs.Vec.{vec_items};
 ghost use Rattle.layout.specs.Format.{IsBytes};
@@ -21,6 +21,14 @@ use wire::Status;
 /// A client whose devices lie in memory.
 pub(crate) type MemoryClient<A> = Client<ArmedDevice<A>, ArmedDevice<A>, A>;
 
+/// Whether no operation is under way.
+fn is_idle<A: Allocator + Copy>(client: &MemoryClient<A>) -> bool
+    ensures yes { result ≡ true → client.now.phase ≡ Phase.Idle }
+    ensures no { result ≡ false → client.now.phase ≢ Phase.Idle }
+{
+    client.phase() == Phase::Idle
+}
+
 /// Declares an operation, where none is under way and all that it needs was laid out.
 pub(crate) fn begin<A: Allocator + Copy>(
     alloc: A,
@@ -31,7 +39,7 @@ pub(crate) fn begin<A: Allocator + Copy>(
     ensures { IfOk result (λ done. MatchOption done ((client.new ≡ client.old) × CantBegin client.old changes.now (map vec_items laid.now))
         (λ answer. HasBegun client.old changes.now (map vec_items laid.now) (on_ok vec_items answer) client.new)) }
 {
-    if client.phase() != Phase::Idle || changes.len() > 16 || !are_laid(alloc, laid, changes)? {
+    if !is_idle(client) || changes.len() > 16 || !are_laid(alloc, laid, changes)? {
         return Ok(None);
     }
     Ok(Some(client.begin(changes, laid)))

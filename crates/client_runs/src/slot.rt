@@ -1,11 +1,11 @@
 //! A user's client in memory, open or closed, and a step of it.
 
-ghost use Rattle.std.specs.Prelude.{◌≡◌, false, true, IfOk, OnOk};
+ghost use Rattle.std.specs.Prelude.{◌≡◌, false, true, IfOk};
 ghost use Rattle.leaf_ledger.specs.Device.{started};
 ghost use Rattle.client_runs.specs.Steps.{IsSound, Open, Owner, first};
 ghost use Rattle.client_runs.specs.Runs.{owner, public_key};
 ghost use Rattle.client_runs.specs.Carried.{ComesOf, script_keys};
-ghost use Rattle.client_runs.specs.Slots.{AreSame, IsOf, StaysOpen, client_in};
+ghost use Rattle.client_runs.specs.Slots.{IsOf, StaysOpen, client_in};
 ghost use Rattle.client_runs.specs.Told.{resent as resent_in};
 ghost use Rattle.client_runs.specs.NotTaken.{MayLeaveBoth};
 
@@ -69,12 +69,11 @@ fn first_parts<A: Allocator + Copy>(
 fn resent<A: Allocator + Copy>(alloc: A, client: &MemoryClient<A>) -> Result<Vec<u8, A>, Memory>
     ensures { IfOk result (λ text. text.items ≡ resent_in client.now.phase client.now.text) }
 {
-    let text = match client.phase() {
-        Phase::Declared => client.declared(),
-        Phase::Signed => client.signed(),
-        _ => &[],
-    };
-    Ok(Vec::from_slice(alloc, text)?)
+    match client.phase() {
+        Phase::Declared => Ok(Vec::from_slice(alloc, client.declared())?),
+        Phase::Signed => Ok(Vec::from_slice(alloc, client.signed())?),
+        _ => Ok(Vec::new(alloc)),
+    }
 }
 
 /// Opens a closed client.
@@ -181,8 +180,7 @@ fn call<A: Allocator + Copy>(
     act: &Act<A>,
 ) -> Result<Answer<A>, Memory>
     requires { StaysOpen act.now }
-    ensures step { IfOk result (λ answer. (o : Owner) → IsSound (Open client.new) → ComesOf o (Open client.old) act.now answer (Open client.new)) }
-    ensures same { OnOk result (AreSame client.old client.new) }
+    ensures { IfOk result (λ answer. (o : Owner) → IsSound (Open client.new) → ComesOf o (Open client.old) act.now answer (Open client.new)) }
 {
     match act {
         Act::Begin(changes, laid) => match begin(alloc, client, changes, laid)? {

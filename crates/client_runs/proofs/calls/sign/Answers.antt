@@ -10,5 +10,5 @@ returns-in_ok-told-in-Ok-clause-signed g c =
     let new = c.sign.new.self in
     let e = c.in-Ok.ensures in
     let done : HasSigned old (Ok c.in-Ok.text.items) new =
-        signed old new (Ok c.in-Ok.text) (search rules) e.signed e.text e.fits e.any_moment e.tried e.no_leaf e.rose e.fails e.fits_device e.only e.err in
+    signed old new (Ok c.in-Ok.text) (search rules) e.signed e.text e.fits e.any_moment e.tried e.no_leaf e.rose e.fails e.fits_device e.only e.err in
     subst (λ (t : Bytes). HasSigned old (Ok t) new) (sym (ap (λ (t : Vec ℕ g.row.A.Denot). t.items) c.in_ok-told-in-Ok.ensures.text)) done
