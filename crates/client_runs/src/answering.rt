@@ -1,6 +1,8 @@
 //! The steps of an open client that keep it open: which call is made, and what is answered.
 
-ghost use Rattle.std.specs.Prelude.{IfOk};
+ghost use Rattle.std.specs.Prelude.{◌≡◌, IfOk};
+ghost use Rattle.std.specs.Option.{option_copied, option_map};
+ghost use Rattle.std.specs.Vec.{vec_items};
 ghost use Rattle.client_runs.specs.Slots.{StaysOpen, Tells};
 
 use crate::calls::{MemoryClient, begin, commit, give, hear, look, sign, take};
@@ -9,6 +11,16 @@ use layout::{INumber, Memory, Principal};
 use std::alloc::Allocator;
 use update_cert::Change;
 use wire::Status;
+
+/// A block, lent.
+fn lent<A: Allocator>(block: &Option<Vec<u8, A>>) -> Option<&[u8]>
+    ensures { option_copied result ≡ option_map vec_items block.now }
+{
+    match block {
+        Some(text) => Some(text.as_slice()),
+        None => None,
+    }
+}
 
 /// It declares an operation.
 fn begins<A: Allocator + Copy>(
@@ -42,7 +54,7 @@ fn takes<A: Allocator + Copy>(
 ) -> Answer<A>
     ensures { Tells client.old (Act.Block block.now) result client.new }
 {
-    match take(client, block.as_deref()) {
+    match take(client, lent(block)) {
         Some(answer) => Answer::Asks(answer),
         None => Answer::NotTaken,
     }
@@ -93,7 +105,7 @@ fn gives<A: Allocator + Copy>(
 ) -> Answer<A>
     ensures { Tells client.old (Act.Give block.now) result client.new }
 {
-    match give(client, block.as_deref()) {
+    match give(client, lent(block)) {
         Some(answer) => Answer::Sees(answer),
         None => Answer::NotTaken,
     }
