@@ -88,12 +88,12 @@ module _ {A : Type 0} (s new : State) (changes : List (Change Digest)) (laid : L
         err = e;
       }
 
-module _ {A : Type 0} (s new : State) where
-  -- what an error leaves of the devices
-  abbrev Tries : Ready → Type 0
-  Tries r = IsTried (λ leaf. structure_record (signed_text s leaf r)) s.devices new.devices
+-- what an error leaves of the devices
+abbrev Tries : State → State → Ready → Type 0
+Tries s new r = IsTried (λ leaf. structure_record (signed_text s leaf r)) s.devices new.devices
 
-  tr_on : (answer : Result (Vec ℕ A) ClientError) (ready : Option Ready) → IfSome ready (λ r. OnErr answer (Tries r)) → IfSome ready (λ r. OnErr (on_ok vec_items answer) (Tries r))
+module _ {A : Type 0} (s new : State) where
+  tr_on : (answer : Result (Vec ℕ A) ClientError) (ready : Option Ready) → IfSome ready (λ r. OnErr answer (Tries s new r)) → IfSome ready (λ r. OnErr (on_ok vec_items answer) (Tries s new r))
   tr_on (Ok x) ready h = h
   tr_on (Err x) ready h = h
 

@@ -22,5 +22,6 @@ mod OneMore
 mod NotTaken
 mod Telling
 mod Answered
+mod Heard
 mod Taking
 mod Ended

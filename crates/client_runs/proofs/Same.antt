@@ -10,7 +10,7 @@ use Rattle.client_releases.specs.Releasing.{IsKept, structure_record}
 use Rattle.leaf_ledger.specs.Ledger.{LeafNumber}
 use Rattle.client_verify.specs.State.{Ready, State, on, released, signed_over, signed_text}
 use Rattle.client_runs.specs.Slots.{AreSame}
-use Rattle.client_runs.specs.Steps.{Asks, HasBegun, HasCommitted, HasGiven, HasHeard, HasLooked, HasSigned, HasTaken, Sees}
+use Rattle.client_runs.specs.Steps.{Asks, Begins, Call, Closes, Commits, Crashes, FromOpen, Gives, HasBegun, HasCommitted, HasGiven, HasHeard, HasLooked, HasSigned, HasTaken, Hears, Looks, Open, Opens, Sees, Signs, Takes}
 use Rattle.client_runs.proofs.Lowering.{if_ready, with_ready}
 use Rattle.client_runs.proofs.Quiet as quiet
 
@@ -64,3 +64,16 @@ module _ (s new : State) where
   commits status.TooLarge b = stays b.state
   commits status.Absent b = stays b.state
   commits status.Memory b = stays b.state
+
+  -- so no step of one that stays open does
+  pub steps : (call : Call) → FromOpen s call (Open new) → AreSame s new
+  steps (Opens answer) b = absurd b
+  steps Closes b = absurd b
+  steps (Begins changes laid answer) b = begins changes laid answer b
+  steps (Hears text answer) b = hears text answer b
+  steps (Takes block answer) b = takes block answer b
+  steps (Signs answer) b = signs answer b
+  steps (Commits status) b = commits status b
+  steps (Looks p i answer) b = looks p i answer b
+  steps (Gives block answer) b = gives block answer b
+  steps Crashes b = absurd b

@@ -26,7 +26,9 @@ use Rattle.client_runs.specs.declared.world.Answer.TheVariants as answer
 use Rattle.client_runs.specs.Steps.{Begins, Client, Closed, Closes, Commits, Gives, HasBegun, HasCommitted, HasGiven, HasHeard, HasLooked, HasSigned, HasTaken, Hears, IsHandedBack, IsOpened, IsRefused, IsSound, Looks, Open, Opens, Owner, Parts, Signs, Takes, journal_of, ledger_of, own_key}
 use Rattle.client_runs.specs.Carried.{ComesOf}
 use Rattle.client_runs.specs.NotTaken.{CantFromClosed, CantFromOpen, MayLeaveBoth}
+use Rattle.client_runs.specs.Slots.{AreSame}
 use Rattle.client_runs.specs.Told.{IsAcceptedBy, IsTold, asked, on_ok, resent, seen, texts_in}
+use Rattle.client_runs.proofs.Same as unchanged
 use Rattle.client_runs.proofs.NotTaken.{closed_stays, crashes, open_stays}
 
 -- what comes of a client comes of it by another name
@@ -94,6 +96,19 @@ module _ {A : Type 0} (o : Owner) (old new : State) (t : Act A) where
   closes p is back =
       same_step act.Close answer.Closed (Closed p) is
       (record { call = Closes; is_call = refl; told = tt; step = back; sound = tt })
+
+-- whatever comes of an open client, it is of the same key while it stays open
+pub same_key : {A : Type 0} (o : Owner) (old new : State) (t : Act A) (a : Answer A) → ComesOf o (Open old) t a (Open new) → AreSame old new
+same_key o old new t answer.NotTaken h = let is : new ≡ old = cc h.0 in unchanged.stays old new is
+same_key o old new t (answer.Opened how text) h = unchanged.steps old new h.call h.step
+same_key o old new t (answer.Refused error) h = unchanged.steps old new h.call h.step
+same_key o old new t answer.Closed h = unchanged.steps old new h.call h.step
+same_key o old new t (answer.Begun r) h = unchanged.steps old new h.call h.step
+same_key o old new t (answer.Asks r) h = unchanged.steps old new h.call h.step
+same_key o old new t (answer.Signed r) h = unchanged.steps old new h.call h.step
+same_key o old new t answer.Committed h = unchanged.steps old new h.call h.step
+same_key o old new t (answer.Sees r) h = unchanged.steps old new h.call h.step
+same_key o old new t answer.Crashed h = unchanged.steps old new h.call h.step
 
 -- ---- crashes
 

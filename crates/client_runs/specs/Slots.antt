@@ -7,9 +7,10 @@ use Rattle.client_runs.specs.declared.slot.Slot.{Slot}
 use Rattle.client_runs.specs.declared.slot.Slot.TheVariants as slot
 use Rattle.client_runs.specs.declared.world.Act.{Act}
 use Rattle.client_runs.specs.declared.world.Act.TheVariants as act
-use Rattle.client_runs.specs.Steps.{Client, Closed, Open, Owner, first}
+use Rattle.client_runs.specs.declared.world.Answer.{Answer}
+use Rattle.client_runs.specs.Steps.{Client, Closed, IsSound, Open, Owner, first}
 use Rattle.client_runs.specs.Runs.{owner, public_key}
-use Rattle.client_runs.specs.Carried.{script_keys}
+use Rattle.client_runs.specs.Carried.{ComesOf, script_keys}
 
 -- the client in memory
 abbrev pub client_in : {A : Type 0} → Slot A → Client
@@ -32,6 +33,10 @@ abbrev pub StaysOpen : {A : Type 0} → Act A → Type 0
 StaysOpen act.Close = ⊥
 StaysOpen (act.Crash ledger journal) = ⊥
 StaysOpen other = Unit {0}
+
+-- what is told of such a step of an open client, whoever's it is, where it is sound after it
+abbrev pub Tells : {A : Type 0} → State → Act A → Answer A → State → Type 0
+Tells old todo answer new = (o : Owner) → IsSound (Open new) → ComesOf o (Open old) todo answer (Open new)
 
 -- each user's client
 abbrev pub client_at : {A : Type 0} → List (Slot A) → User → Client

@@ -1,8 +1,9 @@
 //! The calls of an open client that a step makes, where it may.
 
-ghost use Rattle.std.specs.Prelude.{◌≡◌, IfOk, IsSome, MatchOption, false, map, true};
+ghost use Rattle.std.specs.Prelude.{◌≡◌, ◌≢◌, IfOk, IfSome, IsSome, MatchOption, false, map, true};
 ghost use Rattle.std.specs.Option.{option_copied};
 ghost use Rattle.std.specs.Vec.{vec_items};
+ghost use Rattle.layout.specs.Format.{IsBytes};
 ghost use Rattle.client_runs.specs.Steps.{HasBegun, HasCommitted, HasGiven, HasHeard, HasLooked, HasSigned, HasTaken, IsSound, Open};
 ghost use Rattle.client_runs.specs.Told.{IsAcceptedBy, asked, on_ok, seen};
 ghost use Rattle.client_runs.specs.NotTaken.{CantBegin, CantCommit, CantGive, CantHear, CantLook, CantSign, CantTake};
@@ -10,7 +11,7 @@ ghost use Rattle.client_runs.specs.NotTaken.{CantBegin, CantCommit, CantGive, Ca
 use crate::armed::ArmedDevice;
 use crate::world::Accepted;
 use client_verify::{Client, ClientError, Look, Phase, Step, are_laid};
-use layout::{INumber, Memory, Principal};
+use layout::{INumber, Memory, Principal, are_bytes};
 use pending_list::Signed;
 use std::alloc::Allocator;
 use update_cert::Change;
@@ -19,6 +20,14 @@ use wire::Status;
 
 /// A client whose devices lie in memory.
 pub(crate) type MemoryClient<A> = Client<ArmedDevice<A>, ArmedDevice<A>, A>;
+
+/// Whether no operation is under way.
+fn is_idle<A: Allocator + Copy>(client: &MemoryClient<A>) -> bool
+    ensures yes { result ≡ true → client.now.phase ≡ Phase.Idle }
+    ensures no { result ≡ false → client.now.phase ≢ Phase.Idle }
+{
+    client.phase() == Phase::Idle
+}
 
 /// Declares an operation, where none is under way and all that it needs was laid out.
 pub(crate) fn begin<A: Allocator + Copy>(
@@ -30,7 +39,7 @@ pub(crate) fn begin<A: Allocator + Copy>(
     ensures { IfOk result (λ done. MatchOption done ((client.new ≡ client.old) × CantBegin client.old changes.now (map vec_items laid.now))
         (λ answer. HasBegun client.old changes.now (map vec_items laid.now) (on_ok vec_items answer) client.new)) }
 {
-    if client.phase() != Phase::Idle || changes.len() > 16 || !are_laid(alloc, laid, changes)? {
+    if !is_idle(client) || changes.len() > 16 || !are_laid(alloc, laid, changes)? {
         return Ok(None);
     }
     Ok(Some(client.begin(changes, laid)))
@@ -47,7 +56,18 @@ pub(crate) fn hear<A: Allocator + Copy>(
     if client.phase() != Phase::Declared {
         return None;
     }
+    are_bytes(text);
     Some(client.on_reply(text))
+}
+
+/// That a block is bytes, where there is one. For the proofs of callers: it does nothing.
+fn is_bytes(block: Option<&[u8]>)
+    ensures { IfSome (option_copied block.entry) IsBytes }
+{
+    match block {
+        Some(text) => are_bytes(text),
+        None => {}
+    }
 }
 
 /// Hands in the block that the reply under check asks for, where there is one, or its absence.
@@ -61,6 +81,7 @@ pub(crate) fn take<A: Allocator + Copy>(
     if !client.wants() {
         return None;
     }
+    is_bytes(block);
     Some(client.on_block(block))
 }
 
@@ -160,6 +181,7 @@ pub(crate) fn give<A: Allocator + Copy>(
     if !client.looking() {
         return None;
     }
+    is_bytes(block);
     Some(client.give(block))
 }
 

@@ -2,6 +2,7 @@
 //! once, and accepted views agree. Laws for callers, and `run`, which carries out the steps of such a run.
 #![tactic(auto)]
 
+mod answering;
 mod armed;
 mod calls;
 mod carrying;

@@ -1,16 +1,17 @@
 //! A user's client in memory, open or closed, and a step of it.
 
-ghost use Rattle.std.specs.Prelude.{◌≡◌, false, true, IfOk, OnOk};
+ghost use Rattle.std.specs.Prelude.{◌≡◌, false, true, IfOk};
 ghost use Rattle.leaf_ledger.specs.Device.{started};
-ghost use Rattle.client_runs.specs.Steps.{IsSound, Open, Owner, first};
+ghost use Rattle.client_runs.specs.Steps.{Open, Owner, first};
 ghost use Rattle.client_runs.specs.Runs.{owner, public_key};
 ghost use Rattle.client_runs.specs.Carried.{ComesOf, script_keys};
-ghost use Rattle.client_runs.specs.Slots.{AreSame, IsOf, StaysOpen, client_in};
+ghost use Rattle.client_runs.specs.Slots.{IsOf, client_in};
 ghost use Rattle.client_runs.specs.Told.{resent as resent_in};
 ghost use Rattle.client_runs.specs.NotTaken.{MayLeaveBoth};
 
 use crate::armed::{ArmedDevice, Order};
-use crate::calls::{MemoryClient, begin, commit, give, hear, look, sign, stands, take};
+use crate::answering::call;
+use crate::calls::{MemoryClient, stands};
 use crate::world::{Act, Answer};
 use client_verify::{Client, Parts, Phase};
 use layout::{Memory, User};
@@ -69,12 +70,11 @@ fn first_parts<A: Allocator + Copy>(
 fn resent<A: Allocator + Copy>(alloc: A, client: &MemoryClient<A>) -> Result<Vec<u8, A>, Memory>
     ensures { IfOk result (λ text. text.items ≡ resent_in client.now.phase client.now.text) }
 {
-    let text = match client.phase() {
-        Phase::Declared => client.declared(),
-        Phase::Signed => client.signed(),
-        _ => &[],
-    };
-    Ok(Vec::from_slice(alloc, text)?)
+    match client.phase() {
+        Phase::Declared => Ok(Vec::from_slice(alloc, client.declared())?),
+        Phase::Signed => Ok(Vec::from_slice(alloc, client.signed())?),
+        _ => Ok(Vec::new(alloc)),
+    }
 }
 
 /// Opens a closed client.
@@ -171,54 +171,6 @@ fn closed_step<A: Allocator + Copy>(
             Ok((Slot::Closed(parts), Answer::Crashed))
         }
         _ => Ok((Slot::Closed(parts), Answer::NotTaken)),
-    }
-}
-
-/// A call of an open client, or its opening, which can't be.
-fn call<A: Allocator + Copy>(
-    alloc: A,
-    client: &mut MemoryClient<A>,
-    act: &Act<A>,
-) -> Result<Answer<A>, Memory>
-    requires { StaysOpen act.now }
-    ensures step { IfOk result (λ answer. (o : Owner) → IsSound (Open client.new) → ComesOf o (Open client.old) act.now answer (Open client.new)) }
-    ensures same { OnOk result (AreSame client.old client.new) }
-{
-    match act {
-        Act::Begin(changes, laid) => match begin(alloc, client, changes, laid)? {
-            Some(answer) => Ok(Answer::Begun(answer)),
-            None => Ok(Answer::NotTaken),
-        },
-        Act::Reply(text) => match hear(client, text) {
-            Some(answer) => Ok(Answer::Asks(answer)),
-            None => Ok(Answer::NotTaken),
-        },
-        Act::Block(block) => match take(client, block.as_deref()) {
-            Some(answer) => Ok(Answer::Asks(answer)),
-            None => Ok(Answer::NotTaken),
-        },
-        Act::Sign => match sign(alloc, client)? {
-            Some(answer) => Ok(Answer::Signed(answer)),
-            None => Ok(Answer::NotTaken),
-        },
-        Act::Committed(status) => {
-            if commit(client, *status) {
-                Ok(Answer::Committed)
-            } else {
-                Ok(Answer::NotTaken)
-            }
-        }
-        Act::Look(principal, i_number) => match look(client, *principal, *i_number) {
-            Some(answer) => Ok(Answer::Sees(answer)),
-            None => Ok(Answer::NotTaken),
-        },
-        Act::Give(block) => match give(client, block.as_deref()) {
-            Some(answer) => Ok(Answer::Sees(answer)),
-            None => Ok(Answer::NotTaken),
-        },
-        Act::Open => Ok(Answer::NotTaken),
-        Act::Close => unreachable!(),
-        Act::Crash(_, _) => unreachable!(),
     }
 }
 
