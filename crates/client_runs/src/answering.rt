@@ -48,10 +48,7 @@ fn hears<A: Allocator + Copy>(client: &mut MemoryClient<A>, text: &Vec<u8, A>) -
 }
 
 /// It takes a block that a reply asks for.
-fn takes<A: Allocator + Copy>(
-    client: &mut MemoryClient<A>,
-    block: &Option<Vec<u8, A>>,
-) -> Answer<A>
+fn takes<A: Allocator + Copy>(client: &mut MemoryClient<A>, block: &Option<Vec<u8, A>>) -> Answer<A>
     ensures { Tells client.old (Act.Block block.now) result client.new }
 {
     match take(client, lent(block)) {
@@ -61,10 +58,7 @@ fn takes<A: Allocator + Copy>(
 }
 
 /// It signs.
-fn signs<A: Allocator + Copy>(
-    alloc: A,
-    client: &mut MemoryClient<A>,
-) -> Result<Answer<A>, Memory>
+fn signs<A: Allocator + Copy>(alloc: A, client: &mut MemoryClient<A>) -> Result<Answer<A>, Memory>
     ensures { IfOk result (λ answer. Tells client.old Act.Sign answer client.new) }
 {
     match sign(alloc, client)? {
@@ -99,10 +93,7 @@ fn looks<A: Allocator + Copy>(
 }
 
 /// It takes a block that a look asks for.
-fn gives<A: Allocator + Copy>(
-    client: &mut MemoryClient<A>,
-    block: &Option<Vec<u8, A>>,
-) -> Answer<A>
+fn gives<A: Allocator + Copy>(client: &mut MemoryClient<A>, block: &Option<Vec<u8, A>>) -> Answer<A>
     ensures { Tells client.old (Act.Give block.now) result client.new }
 {
     match give(client, lent(block)) {

@@ -9,8 +9,8 @@ ghost use Rattle.client_runs.specs.Slots.{IsOf, client_in};
 ghost use Rattle.client_runs.specs.Told.{resent as resent_in};
 ghost use Rattle.client_runs.specs.NotTaken.{MayLeaveBoth};
 
-use crate::armed::{ArmedDevice, Order};
 use crate::answering::call;
+use crate::armed::{ArmedDevice, Order};
 use crate::calls::{MemoryClient, stands};
 use crate::world::{Act, Answer};
 use client_verify::{Client, Parts, Phase};
