@@ -432,12 +432,19 @@ fn print_head(rt: &impl Host, setting: Setting, rest: f64) -> Result<()> {
     Ok(())
 }
 
-/// Prints the times of the round with the least rest.
-fn row(rt: &impl Host, scene: &mut Scene, setting: Setting) -> Result<()> {
+/// The round with the least rest.
+fn best_round(rt: &impl Host, scene: &mut Scene, setting: Setting) -> Result<Round> {
     let mut best = measure_round(rt, scene, setting)?;
     for _round in 1..ROUNDS {
-        best = best.or_better(measure_round(rt, scene, setting)?);
+        let round = measure_round(rt, scene, setting)?;
+        best = best.or_better(round);
     }
+    Ok(best)
+}
+
+/// Prints the times of the round with the least rest.
+fn row(rt: &impl Host, scene: &mut Scene, setting: Setting) -> Result<()> {
+    let best = best_round(rt, scene, setting)?;
     print_head(rt, setting, best.rest())?;
     print_calls(rt, best)
 }

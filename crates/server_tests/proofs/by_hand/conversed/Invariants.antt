@@ -1,4 +1,4 @@
-use Rattle.server_workers.proofs.by_hand_tests.conversed.Given as goal
+use Rattle.server_tests.proofs.by_hand.conversed.Given as goal
 
 abbrev pub ghosts-converse_once-B-ServerName : goal.ghosts-converse_once-B-ServerName
 ghosts-converse_once-B-ServerName g a = record { queue = a.queue.now.table.shared.table_id; pinned = a.pinned; before = g.W.Write.contents a.writer }

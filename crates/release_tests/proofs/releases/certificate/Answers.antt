@@ -1,6 +1,6 @@
 use Rattle.std.proofs.Common.{rules, ◌≡◌, [], refl, ◌∙◌}
 use Rattle.update_cert.specs.Cert.{Cert, cert}
-use Rattle.client_releases.proofs.tests.certificate.Goals as goal
+use Rattle.release_tests.proofs.releases.certificate.Goals as goal
 
 pub returns : goal.returns
 returns g c =
