@@ -8,9 +8,9 @@ use pending_list::Reply;
 use principals::Table;
 use reply_rules::{Rule, above_top, lists_hold};
 use std::alloc::Global;
+use test_aids::Host;
 use test_aids::tables::{FORM, listing};
 use test_aids::texts::{certificate_of, joined, pending, plan, reply, shown, structure, vector_of};
-use test_aids::{Host, check};
 
 /// A signature that nobody checks.
 const SIGNATURE: [u8; 2508] = [0; 2508];
@@ -939,8 +939,7 @@ fn what_is_above(rt: HostRuntime) {
     let rt = (rt, Here);
     for (case, count) in GOOD_ONES.iter().zip(&ABOVE_COUNTS) {
         let reply = reply_of(&rt, case);
-        let holds = lists_hold(&reply);
-        check(&rt, holds, case.name);
+        assert!(&rt; lists_hold(&reply), "{}", case.name);
         let above = above_top(&reply);
         assert!(&rt; above.len() == *count, "{}", case.name);
     }
