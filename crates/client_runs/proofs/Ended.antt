@@ -54,6 +54,13 @@ one_more [] x same (suc u) = refl
 one_more (y ∷ ys) x same zero = same zero
 one_more (y ∷ ys) x same (suc u) = one_more ys x (λ v. same (suc v)) u
 
+-- a table of clients that were never named: each is of its user, and as at first
+pub none_own : {A : Type 0} (slots : List (Slot A)) → ((u : ℕ) → get_or slots u slot.Unmade ≡ slot.Unmade) → AreOwn slots
+none_own slots none u = subst (λ (z : Slot A). IsOf (owner script_keys u) z) (sym (none u)) tt
+
+pub none_named : {A : Type 0} (slots : List (Slot A)) → ((u : ℕ) → get_or slots u slot.Unmade ≡ slot.Unmade) → (u : ℕ) → client_at slots u ≡ first
+none_named slots none u = ap (λ (z : Slot A). client_in z) (none u)
+
 -- a client over two devices that hold nothing
 pub first_in : (l j : Device) → l ≡ empty → j ≡ empty → Closed (record { ledger = l; journal = j }) ≡ first
 first_in l j at_l at_j = ap (λ (d : Device). Closed (record { ledger = d; journal = j })) at_l ∙ ap (λ (d : Device). Closed (record { ledger = empty; journal = d })) at_j
