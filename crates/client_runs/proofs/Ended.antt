@@ -1,7 +1,7 @@
 -- Steps that were carried out to the end, and the table of clients.
-use Rattle.std.proofs.Common.{◌≡◌, ◌≢◌, ℕ, zero, suc, ◌<◌, List, [], ◌∷◌, ◌++◌, length, get_or, set, Bool, true, false, ◌==◌, refl, sym, ap, subst, ◌∙◌}
+use Rattle.std.proofs.Common.{◌≡◌, ◌≢◌, ℕ, zero, suc, ◌<◌, ◌≤◌, ◌+◌, take, List, [], ◌∷◌, ◌++◌, length, get_or, set, Bool, true, false, ◌==◌, refl, sym, ap, subst, ◌∙◌}
 use Rattle.std.proofs.lemmas.Bool.{eqb-true, eqb-false}
-use Rattle.std.proofs.lemmas.List.{get_or-set_other, get_or-set_same, length-set}
+use Rattle.std.proofs.lemmas.List.{get_or-set_other, get_or-set_same, length-set, take_all, take_more}
 use Rattle.agreement.specs.Lines.{Agree, AreNumbered, EndWithOwn, Grow}
 use Rattle.agreement.specs.Runs.{IsRun as AreAccepted}
 use Rattle.layout.specs.Types.{User}
@@ -14,9 +14,9 @@ use Rattle.client_runs.specs.Runs.{Event, IsRun, Keys, client_of, owner}
 use Rattle.client_runs.specs.Released.{views}
 use Rattle.client_runs.specs.UsedOnce.{CertificatesOnce, EachClient, LeavesOnce, StructuresOnce}
 use Rattle.client_runs.specs.Agreeing.{AreReleased, EachRun}
-use Rattle.client_runs.specs.Carried.{AreCarriedOut, Keep, script_keys}
+use Rattle.client_runs.specs.Carried.{AreCarriedOut, ComesOf, Keep, script_keys}
 use Rattle.client_runs.specs.Slots.{AreOwn, IsOf, client_at, client_in}
-use Rattle.client_runs.proofs.OneMore.{StandsSoFar}
+use Rattle.client_runs.proofs.OneMore.{StandsSoFar, more}
 
 -- ---- the end of a run
 
@@ -44,6 +44,23 @@ module _ (leaves : EachClient LeavesOnce) (certificates : EachClient Certificate
 -- before the first step nothing happened
 pub none_yet : {A : Type 0} (slots : List (Slot A)) → ((u : ℕ) → client_at slots u ≡ first) → StandsSoFar [] [] slots
 none_yet slots firsts = record { events = []; is_run = tt; kept = tt; clients = λ u. sym (firsts u) }
+
+-- ---- one step more
+
+-- the first steps, with the next one, and the answers with its answer
+pub step_more : {A : Type 0} (xs : List (WorldStep A)) (i : ℕ) (t : WorldStep A) → i < length xs → t ≡ get_or xs i t
+    → (answers after : List (Answer A)) (a : Answer A) (slots new : List (Slot A)) → after ≡ answers ++ a ∷ []
+    → ((u : ℕ) → u ≢ t.user → client_at new u ≡ client_at slots u) → StandsSoFar (take i xs) answers slots
+    → ComesOf (owner script_keys t.user) (client_at slots t.user) t.act a (client_at new t.user) → StandsSoFar (take (i + 1) xs) after new
+step_more {A} xs i t within is answers after a slots new pushed others stands comes =
+    let next : take (i + 1) xs ≡ take i xs ++ t ∷ [] = take_more xs i t within ∙ ap (λ (s : WorldStep A). take i xs ++ s ∷ []) (sym is) in
+    subst (λ (given : List (Answer A)). StandsSoFar (take (i + 1) xs) given new) (sym pushed)
+    (subst (λ (done : List (WorldStep A)). StandsSoFar done (answers ++ a ∷ []) new) (sym next) (more (take i xs) answers t a slots new others stands comes))
+
+-- the first steps are all of them
+pub all_steps : {A : Type 0} (xs : List (WorldStep A)) (i : ℕ) (answers : List (Answer A)) (slots : List (Slot A)) → length xs ≤ i
+    → StandsSoFar (take i xs) answers slots → StandsSoFar xs answers slots
+all_steps {A} xs i answers slots past stands = subst (λ (done : List (WorldStep A)). StandsSoFar done answers slots) (take_all i xs past) stands
 
 -- ---- tables
 

@@ -35,6 +35,11 @@ use Rattle.client_runs.proofs.NotTaken.{closed_stays, crashes, open_stays}
 pub comes_from : {A : Type 0} (o : Owner) (old before : Client) (t : Act A) (a : Answer A) (new : Client) → old ≡ before → ComesOf o old t a new → ComesOf o before t a new
 comes_from o old before t a new same comes = subst (λ (c : Client). ComesOf o c t a new) same comes
 
+-- what follows of each value follows of a result's
+pub on_each : {T E : Type 0} (r : Result T E) (P Q : T → Type 0) → IfOk r P → ((x : T) → P x → Q x) → IfOk r Q
+on_each (Ok x) P Q given follows = follows x given
+on_each (Err e) P Q given follows = tt
+
 -- ---- calls of an open client
 
 told_signed : {A : Type 0} (r : Result (Accepted A) ClientError) (new : State) → IfOk r (λ x. IsAcceptedBy x new.view) → IsTold act.Sign (answer.Signed r) (Open new)
