@@ -1,11 +1,10 @@
-use Rattle.std.proofs.Common.{refl}
 use Rattle.client_runs.proofs.Ended.{all_steps, carried_out, none_yet, step_more}
 use Rattle.client_runs.proofs.carrying.run.Goals as goal
 
 pub loop-todo-init : goal.loop-todo-init
 loop-todo-init g c = record {
   ready = c.in_ok-clients.ensures.ready;
-  stands = none_yet c.in_ok-clients.clients.slots.items c.in_ok-clients.ensures.first;
+  stands = none_yet c.new-answers.result.items c.in_ok-clients.clients.slots.items c.new-answers.ensures.items c.in_ok-clients.ensures.first;
 }
 
 pub loop-todo-preserved : goal.loop-todo-preserved
