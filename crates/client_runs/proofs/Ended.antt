@@ -11,7 +11,7 @@ use Rattle.client_runs.specs.declared.slot.Slot.TheVariants as slot
 use Rattle.client_runs.specs.declared.world.Act.{Act}
 use Rattle.client_runs.specs.declared.world.Answer.{Answer}
 use Rattle.client_runs.specs.declared.world.WorldStep.{WorldStep}
-use Rattle.client_runs.specs.Steps.{Client, Closed, Device, Owner, empty, first}
+use Rattle.client_runs.specs.Steps.{Client, Owner, first}
 use Rattle.client_runs.specs.Runs.{Event, IsRun, Keys, client_of, owner, public_key}
 use Rattle.client_runs.specs.Released.{views}
 use Rattle.client_runs.specs.UsedOnce.{CertificatesOnce, EachClient, LeavesOnce, StructuresOnce}
@@ -91,10 +91,6 @@ pub pinned_by : (key : Key) (u : User) (seed id : Bytes) → key ≡ public_key_
 pinned_by key u seed id made at_seed at_id is =
     made ∙ ap (λ (x : Bytes). public_key_of x id) at_seed ∙ ap (λ (x : Bytes). public_key_of (owner script_keys u).seed x) at_id ∙ by_name u is
 
--- a client over two devices that hold nothing
-pub first_in : (l j : Device) → l ≡ empty → j ≡ empty → Closed (record { ledger = l; journal = j }) ≡ first
-first_in l j at_l at_j = ap (λ (d : Device). Closed (record { ledger = d; journal = j })) at_l ∙ ap (λ (d : Device). Closed (record { ledger = empty; journal = d })) at_j
-
 -- a table whose slot at one place is taken out, and another put there
 module _ {A : Type 0} (slots : List (Slot A)) (place : ℕ) (within : place < length slots) (x y : Slot A) where
   abbrev pub rewritten : List (Slot A)
@@ -109,9 +105,6 @@ module _ {A : Type 0} (slots : List (Slot A)) (place : ℕ) (within : place < le
 
   pub elsewhere : (u : ℕ) → u ≢ place → get_or rewritten u slot.Unmade ≡ get_or slots u slot.Unmade
   elsewhere u other = get_or-set_other (set slots place x) place u y slot.Unmade other ∙ get_or-set_other slots place u x slot.Unmade other
-
-  pub other_clients : (u : ℕ) → u ≢ place → client_at rewritten u ≡ client_at slots u
-  other_clients u other = ap client_in (elsewhere u other)
 
   -- each client is still of its user, where the new one is
   pub still_own : AreOwn slots → IsOf (owner script_keys place) y → AreOwn rewritten

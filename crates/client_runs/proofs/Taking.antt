@@ -25,11 +25,11 @@ use Rattle.client_runs.specs.declared.world.Answer.{Answer}
 use Rattle.client_runs.specs.declared.world.Answer.TheVariants as answer
 use Rattle.client_runs.specs.Steps.{Begins, Client, Closed, Closes, Commits, Gives, HasBegun, HasCommitted, HasGiven, HasHeard, HasLooked, HasSigned, HasTaken, Hears, IsHandedBack, IsOpened, IsRefused, IsSound, Looks, Open, Opens, Owner, Parts, Signs, Takes, journal_of, ledger_of, own_key}
 use Rattle.client_runs.specs.Carried.{ComesOf}
-use Rattle.client_runs.specs.NotTaken.{CantFromClosed, CantFromOpen, MayLeaveBoth, NoneLeaves}
-use Rattle.client_runs.specs.Slots.{AreSame, StaysOpen}
+use Rattle.client_runs.specs.NotTaken.{CantFromOpen, MayLeaveBoth}
+use Rattle.client_runs.specs.Slots.{AreSame}
 use Rattle.client_runs.specs.Told.{IsAcceptedBy, IsTold, asked, on_ok, resent, seen, texts_in}
 use Rattle.client_runs.proofs.Same as unchanged
-use Rattle.client_runs.proofs.NotTaken.{closed_stays, crashes, open_stays}
+use Rattle.client_runs.proofs.NotTaken.{crashes, open_stays}
 
 -- what comes of a client comes of it by another name
 pub comes_from : {A : Type 0} (o : Owner) (old before : Client) (t : Act A) (a : Answer A) (new : Client) → old ≡ before → ComesOf o old t a new → ComesOf o before t a new
@@ -121,12 +121,6 @@ same_key o old new t answer.Crashed h = unchanged.steps old new h.call h.step
 may_of : (file same : History) (left alike : Bytes) → file ≡ same → left ≡ alike → MayLeave file.now left → MayLeave same.now alike
 may_of file same left alike at_file at_left may = subst (λ (x : Bytes). MayLeave same.now x) at_left (subst (λ (h : History). MayLeave h.now left) at_file may)
 
--- a step that no crash comes of leaves the client as it was
-none_left : {A : Type 0} (o : Owner) (before : Client) (ledger journal : Vec ℕ A) → NoneLeaves before ledger.items journal.items
-    → ComesOf o before (act.Crash ledger journal) answer.NotTaken before
-none_left o (Closed p) ledger journal none = (refl, none)
-none_left o (Open s) ledger journal none = (refl, none)
-
 -- The step, the files of both devices and what is left on them are those of the test and of the crash by other names.
 module _ {A : Type 0} (o : Owner) (before : Client) (t : Act A) (ledger journal : Vec ℕ A) (file other : History) (left kept : Bytes) where
   -- a crash leaves what it may
@@ -135,52 +129,11 @@ module _ {A : Type 0} (o : Owner) (before : Client) (t : Act A) (ledger journal 
       → ComesOf o before t answer.Crashed (Closed p)
   crashed is at_file at_other at_left at_kept may p l j =
       let both : MayLeaveBoth (ledger_of before) (journal_of before) ledger.items journal.items =
-        (may_of file (ledger_of before) left ledger.items at_file at_left may.0, may_of other (journal_of before) kept journal.items at_other at_kept may.1) in
+      (may_of file (ledger_of before) left ledger.items at_file at_left may.0, may_of other (journal_of before) kept journal.items at_other at_kept may.1) in
       subst (λ (x : Act A). ComesOf o before x answer.Crashed (Closed p)) (sym is)
       (crashes o before ledger journal p both (l ∙ ap started at_left) (j ∙ ap started at_kept))
 
-  -- and what it may not leave it doesn't
-  pub uncrashed : t ≡ act.Crash ledger journal → file ≡ ledger_of before → other ≡ journal_of before → left ≡ ledger.items → kept ≡ journal.items
-      → (MayLeaveBoth file other left kept → ⊥) → ComesOf o before t answer.NotTaken before
-  uncrashed is at_file at_other at_left at_kept none =
-      subst (λ (x : Act A). ComesOf o before x answer.NotTaken before) (sym is)
-      (none_left o before ledger journal (λ may. none
-        (may_of (ledger_of before) file ledger.items left (sym at_file) (sym at_left) may.0, may_of (journal_of before) other journal.items kept (sym at_other) (sym at_kept) may.1)))
-
 -- ---- a closed client
-
-module _ {A : Type 0} (o : Owner) (p : Parts) (t : Act A) where
-  pub stays_closed : (u : Act A) → t ≡ u → CantFromClosed (Closed p) u → ComesOf o (Closed p) t answer.NotTaken (Closed p)
-  stays_closed u is cant = subst (λ (x : Act A). ComesOf o (Closed p) x answer.NotTaken (Closed p)) (sym is) (closed_stays o p u cant)
-
-  -- what neither opens it nor is a crash it can't do
-  only_these : (u : Act A) → (u ≡ act.Open → ⊥) → ((ledger journal : Vec ℕ A) → u ≡ act.Crash ledger journal → ⊥) → CantFromClosed (Closed p) u
-  only_these act.Open not_open no_crash = not_open refl
-  only_these act.Close not_open no_crash = tt
-  only_these (act.Begin changes laid) not_open no_crash = tt
-  only_these (act.Reply text) not_open no_crash = tt
-  only_these (act.Block block) not_open no_crash = tt
-  only_these act.Sign not_open no_crash = tt
-  only_these (act.Committed status) not_open no_crash = tt
-  only_these (act.Look who i) not_open no_crash = tt
-  only_these (act.Give block) not_open no_crash = tt
-  only_these (act.Crash ledger journal) not_open no_crash = absurd (no_crash ledger journal refl)
-
-  pub stays_for_others : (t ≡ act.Open → ⊥) → ((ledger journal : Vec ℕ A) → t ≡ act.Crash ledger journal → ⊥) → ComesOf o (Closed p) t answer.NotTaken (Closed p)
-  stays_for_others not_open no_crash = closed_stays o p t (only_these t not_open no_crash)
-
--- what neither closes an open client nor is a crash keeps it open
-pub keeps_open : {A : Type 0} (t : Act A) → (t ≡ act.Close → ⊥) → ((ledger journal : Vec ℕ A) → t ≡ act.Crash ledger journal → ⊥) → StaysOpen t
-keeps_open act.Open not_close no_crash = tt
-keeps_open act.Close not_close no_crash = not_close refl
-keeps_open (act.Begin changes laid) not_close no_crash = tt
-keeps_open (act.Reply text) not_close no_crash = tt
-keeps_open (act.Block block) not_close no_crash = tt
-keeps_open act.Sign not_close no_crash = tt
-keeps_open (act.Committed status) not_close no_crash = tt
-keeps_open (act.Look who i) not_close no_crash = tt
-keeps_open (act.Give block) not_close no_crash = tt
-keeps_open (act.Crash ledger journal) not_close no_crash = no_crash ledger journal refl
 
 module _ (o : Owner) (p : Parts) where
   pub is_opened : (s : State) (pinned : Key) (seed id : Bytes) → pinned ≡ o.pinned → seed ≡ o.seed → id ≡ o.id

@@ -14,8 +14,8 @@ loop-todo-preserved g c =
     record {
       ready = e.ready;
       stands = step_more c.args.steps.now c.loop-todo.todo-index c.todo-item.result c.loop-todo-test.true c.todo-item.is
-        c.loop-todo.answers.items c.push.new.self.items c.in_ok-answer.answer c.loop-todo.clients.slots.items c.carry_out.new.self.slots.items
-        c.in_ok-push.ensures.items e.others is.stands e.step;
+          c.loop-todo.answers.items c.push.new.self.items c.in_ok-answer.answer c.loop-todo.clients.slots.items c.carry_out.new.self.slots.items
+          c.in_ok-push.ensures.items e.others is.stands e.step;
     }
 
 pub returns : goal.returns
