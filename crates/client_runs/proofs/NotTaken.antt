@@ -8,15 +8,11 @@ use Rattle.client_runs.specs.declared.world.Act.TheVariants as act
 use Rattle.client_runs.specs.declared.world.Answer.TheVariants as answer
 use Rattle.client_runs.specs.Steps.{Client, Closed, Crashes, IsLeft, Open, Owner, Parts, journal_of, ledger_of}
 use Rattle.client_runs.specs.Carried.{ComesOf}
-use Rattle.client_runs.specs.NotTaken.{CantFromClosed, CantFromOpen, MayLeaveBoth}
+use Rattle.client_runs.specs.NotTaken.{CantFromOpen, MayLeaveBoth}
 
 -- an open client stays as it was where the step can't be taken
 pub open_stays : {A : Type 0} (o : Owner) (old new : State) (t : Act A) → new ≡ old → CantFromOpen old t → ComesOf o (Open old) t answer.NotTaken (Open new)
 open_stays o old new t same cant = (ap (λ s. Open s) same, cant)
-
--- and so does a closed one
-pub closed_stays : {A : Type 0} (o : Owner) (p : Parts) (t : Act A) → CantFromClosed (Closed p) t → ComesOf o (Closed p) t answer.NotTaken (Closed p)
-closed_stays o p t cant = (refl, cant)
 
 -- what a crash leaves that may leave it
 left_by : {A : Type 0} (before : Client) (ledger journal : Vec ℕ A) (p : Parts)

@@ -50,7 +50,7 @@ module _ {A : Type 0} (t : WorldStep A) (a : Answer A) (slots new : List (Slot A
   other_client u older is same =
       elim (u == t.user) as (λ b. (u == t.user) ≡ b → client_of u older ≡ client_at new u) [
         | true ↦ (λ eq. is ∙ sym (same (eqb-true u t.user eq)))
-        | false ↦ (λ eq. is ∙ sym (others u (λ w. let two : true ≡ false = sym (ap (λ n. u == n) w) ∙ eq in cc two)))
+        | false ↦ (λ eq. is ∙ sym (others u (eqb-false u t.user eq)))
       ] refl
 
   module _ (e : Event) (user : e.user ≡ t.user) (at : e.after ≡ client_at new t.user) where

@@ -1,5 +1,6 @@
 -- No call of an open client changes its user's keys.
-use Rattle.std.proofs.Common.{◌≡◌, List, Option, Some, Ok, Err, Result, refl, ap}
+use Rattle.std.proofs.Common.{◌≡◌, List, Option, Some, Ok, Err, Result, refl, ap, subst}
+use Rattle.std.specs.Prelude.{IsErrOf}
 use Rattle.layout.specs.Types.{Bytes, Digest, INumber, Principal}
 use Rattle.update_cert.specs.Change.{Change}
 use Rattle.wire.specs.declared.kinds.Status.{Status}
@@ -13,6 +14,10 @@ use Rattle.client_runs.specs.Slots.{AreSame}
 use Rattle.client_runs.specs.Steps.{Asks, Begins, Call, Closes, Commits, Crashes, FromOpen, Gives, HasBegun, HasCommitted, HasGiven, HasHeard, HasLooked, HasSigned, HasTaken, Hears, Looks, Open, Opens, Sees, Signs, Takes}
 use Rattle.client_runs.proofs.Lowering.{if_ready, with_ready}
 use Rattle.client_runs.proofs.Quiet as quiet
+
+-- an answer is the error that it tells
+told_error : (e x : ClientError) → e ≡ x → IsErrOf {T = Bytes} {E = ClientError} (Err e) x
+told_error e x is = subst (λ (y : ClientError). IsErrOf {T = Bytes} {E = ClientError} (Err e) y) is refl
 
 module _ (s new : State) where
   quietly : released new ≡ released s → AreSame s new
@@ -32,7 +37,7 @@ module _ (s new : State) where
 
   pub begins : (changes : List (Change Digest)) (laid : List Bytes) (answer : Result Bytes ClientError) → HasBegun s changes laid answer new → AreSame s new
   begins changes laid (Ok text) b = (ap (λ (n : State). n.seed) b.declared.2, ap (λ (n : State). n.id) b.declared.2)
-  begins changes laid (Err e) b = unless_device e (λ is. (ap (λ (n : State). n.seed) (b.fails is), ap (λ (n : State). n.id) (b.fails is))) b.err
+  begins changes laid (Err e) b = unless_device e (λ is. let left = b.fails (told_error e error.Device is) in (ap (λ (n : State). n.seed) left, ap (λ (n : State). n.id) left)) b.err
 
   pub hears : (text : Bytes) (answer : Result Asks ClientError) → HasHeard s text answer new → AreSame s new
   hears text answer b = quietly (quiet.hears s text answer new b)
@@ -51,7 +56,7 @@ module _ (s new : State) where
       with_ready s (AreSame s new) b.ready
       (λ y is. let done = if_ready s new y is (λ r. (leaf : LeafNumber) × IsKept leaf (structure_record (signed_text s leaf r)) s.devices new.devices × (new ≡ on new.devices (signed_over s leaf r))) b.signed in
       (ap (λ (n : State). n.seed) done.2, ap (λ (n : State). n.id) done.2))
-  signs (Err e) b = unless_device e (λ is. (ap (λ (n : State). n.seed) (b.fails is), ap (λ (n : State). n.id) (b.fails is))) b.err
+  signs (Err e) b = unless_device e (λ is. let left = b.fails (told_error e error.Device is) in (ap (λ (n : State). n.seed) left, ap (λ (n : State). n.id) left)) b.err
 
   pub commits : (answer : Status) → HasCommitted s answer new → AreSame s new
   commits status.Ok b = (ap (λ (n : State). n.seed) b.state, ap (λ (n : State). n.id) b.state)

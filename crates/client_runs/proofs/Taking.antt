@@ -5,7 +5,7 @@ use Rattle.std.specs.Vec.{vec_items}
 use Rattle.std.specs.declared.vec.Vec.{Vec}
 use Rattle.layout.specs.Types.{Bytes, Digest, INumber, Key, Principal}
 use Rattle.lms_sign.specs.Keys.{public_key_of}
-use Rattle.leaf_ledger.specs.Device.{HasRisen, started}
+use Rattle.leaf_ledger.specs.Device.{HasRisen, History, MayLeave, started}
 use Rattle.leaf_ledger.specs.Ledger.{IsForeign}
 use Rattle.client_journal.specs.Records.{IsDamaged}
 use Rattle.update_cert.specs.Change.{Change}
@@ -25,15 +25,20 @@ use Rattle.client_runs.specs.declared.world.Answer.{Answer}
 use Rattle.client_runs.specs.declared.world.Answer.TheVariants as answer
 use Rattle.client_runs.specs.Steps.{Begins, Client, Closed, Closes, Commits, Gives, HasBegun, HasCommitted, HasGiven, HasHeard, HasLooked, HasSigned, HasTaken, Hears, IsHandedBack, IsOpened, IsRefused, IsSound, Looks, Open, Opens, Owner, Parts, Signs, Takes, journal_of, ledger_of, own_key}
 use Rattle.client_runs.specs.Carried.{ComesOf}
-use Rattle.client_runs.specs.NotTaken.{CantFromClosed, CantFromOpen, MayLeaveBoth}
+use Rattle.client_runs.specs.NotTaken.{CantFromOpen, MayLeaveBoth}
 use Rattle.client_runs.specs.Slots.{AreSame}
 use Rattle.client_runs.specs.Told.{IsAcceptedBy, IsTold, asked, on_ok, resent, seen, texts_in}
 use Rattle.client_runs.proofs.Same as unchanged
-use Rattle.client_runs.proofs.NotTaken.{closed_stays, crashes, open_stays}
+use Rattle.client_runs.proofs.NotTaken.{crashes, open_stays}
 
 -- what comes of a client comes of it by another name
 pub comes_from : {A : Type 0} (o : Owner) (old before : Client) (t : Act A) (a : Answer A) (new : Client) → old ≡ before → ComesOf o old t a new → ComesOf o before t a new
 comes_from o old before t a new same comes = subst (λ (c : Client). ComesOf o c t a new) same comes
+
+-- what follows of each value follows of a result's
+pub on_each : {T E : Type 0} (r : Result T E) (P Q : T → Type 0) → IfOk r P → ((x : T) → P x → Q x) → IfOk r Q
+on_each (Ok x) P Q given follows = follows x given
+on_each (Err e) P Q given follows = tt
 
 -- ---- calls of an open client
 
@@ -112,19 +117,23 @@ same_key o old new t answer.Crashed h = unchanged.steps old new h.call h.step
 
 -- ---- crashes
 
-module _ {A : Type 0} (o : Owner) (before : Client) (t : Act A) where
+-- what may be left may be left by another name
+may_of : (file same : History) (left alike : Bytes) → file ≡ same → left ≡ alike → MayLeave file.now left → MayLeave same.now alike
+may_of file same left alike at_file at_left may = subst (λ (x : Bytes). MayLeave same.now x) at_left (subst (λ (h : History). MayLeave h.now left) at_file may)
+
+-- The step, the files of both devices and what is left on them are those of the test and of the crash by other names.
+module _ {A : Type 0} (o : Owner) (before : Client) (t : Act A) (ledger journal : Vec ℕ A) (file other : History) (left kept : Bytes) where
   -- a crash leaves what it may
-  pub crashed : (ledger journal : Vec ℕ A) (p : Parts) → t ≡ act.Crash ledger journal
-      → MayLeaveBoth (ledger_of before) (journal_of before) ledger.items journal.items
-      → p.ledger.history ≡ started ledger.items → p.journal.history ≡ started journal.items → ComesOf o before t answer.Crashed (Closed p)
-  crashed ledger journal p is may l j =
-      subst (λ (x : Act A). ComesOf o before x answer.Crashed (Closed p)) (sym is) (crashes o before ledger journal p may l j)
+  pub crashed : t ≡ act.Crash ledger journal → file ≡ ledger_of before → other ≡ journal_of before → left ≡ ledger.items → kept ≡ journal.items
+      → MayLeaveBoth file other left kept → (p : Parts) → p.ledger.history ≡ started left → p.journal.history ≡ started kept
+      → ComesOf o before t answer.Crashed (Closed p)
+  crashed is at_file at_other at_left at_kept may p l j =
+      let both : MayLeaveBoth (ledger_of before) (journal_of before) ledger.items journal.items =
+      (may_of file (ledger_of before) left ledger.items at_file at_left may.0, may_of other (journal_of before) kept journal.items at_other at_kept may.1) in
+      subst (λ (x : Act A). ComesOf o before x answer.Crashed (Closed p)) (sym is)
+      (crashes o before ledger journal p both (l ∙ ap started at_left) (j ∙ ap started at_kept))
 
 -- ---- a closed client
-
-module _ {A : Type 0} (o : Owner) (p : Parts) (t : Act A) where
-  pub stays_closed : (u : Act A) → t ≡ u → CantFromClosed (Closed p) u → ComesOf o (Closed p) t answer.NotTaken (Closed p)
-  stays_closed u is cant = subst (λ (x : Act A). ComesOf o (Closed p) x answer.NotTaken (Closed p)) (sym is) (closed_stays o p u cant)
 
 module _ (o : Owner) (p : Parts) where
   pub is_opened : (s : State) (pinned : Key) (seed id : Bytes) → pinned ≡ o.pinned → seed ≡ o.seed → id ≡ o.id

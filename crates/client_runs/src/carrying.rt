@@ -31,7 +31,7 @@ fn unmade<A: Allocator + Copy>(alloc: A) -> Result<Vec<Slot<A>, A>, Memory>
     ensures none { IfOk result (λ slots. (u : ℕ) → slice_index_or slots.items u Slot.Unmade ≡ Slot.Unmade) }
 {
     let mut slots = Vec::new(alloc);
-    for _ in 0..64 {
+    for _ in 0..64u8 {
         slots.push(Slot::Unmade)?;
     }
     Ok(slots)
