@@ -134,20 +134,20 @@ fn waits(rt: &impl Host, server: &mut Server, client: &mut MemoryClient) {
 
 /// User 0 judges the reply to its second operation.
 fn superuser_judges(rt: &impl Host, scene: &mut Scene) {
+    let Scene { users, server, .. } = scene;
     let Users {
         superuser,
         store,
         ..
-    } = &mut scene.users;
-    let case = (10466, TO_SUPERUSER.as_slice());
-    judges(rt, store, superuser, &mut scene.server, case);
+    } = users;
+    judges(rt, store, superuser, server, (10466, &TO_SUPERUSER));
 }
 
 /// User 1 judges the reply to its second operation.
 fn first_judges(rt: &impl Host, scene: &mut Scene) {
-    let Users { first, store, .. } = &mut scene.users;
-    let case = (10456, TO_FIRST.as_slice());
-    judges(rt, store, first, &mut scene.server, case);
+    let Scene { users, server, .. } = scene;
+    let Users { first, store, .. } = users;
+    judges(rt, store, first, server, (10456, &TO_FIRST));
 }
 
 /// User 1 has committed, and user 2's operation is pending.

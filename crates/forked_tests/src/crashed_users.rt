@@ -75,9 +75,14 @@ fn left_of(rt: &impl Host, scene: Scene, replies: Replies) -> (Fork, Kept) {
         users,
         server,
         other,
-        ..
+        zero: _zero,
     } = scene;
-    let Users { first, store, .. } = users;
+    let Users {
+        superuser: _superuser,
+        first,
+        second: _second,
+        store,
+    } = users;
     let fork = Fork {
         pinned,
         server,

@@ -216,16 +216,18 @@ pub(crate) fn both_are_listed(rt: &impl Host) -> Scene {
 impl Scene {
     /// User 1 makes an operation without changes: its structure, as replies show it.
     pub(crate) fn first_operates(&mut self, rt: &impl Host) -> Vec<u8> {
-        let Users { first, store, .. } = &mut self.users;
+        let Scene { users, server, .. } = self;
+        let Users { first, store, .. } = users;
         let update = declare(rt, first);
-        shown(rt, &completes(rt, store, &mut self.server, first, &update))
+        shown(rt, &completes(rt, store, server, first, &update))
     }
 
     /// And user 2 one at the other server.
     pub(crate) fn second_operates_apart(&mut self, rt: &impl Host) -> Vec<u8> {
-        let Users { second, store, .. } = &mut self.users;
+        let Scene { users, other, .. } = self;
+        let Users { second, store, .. } = users;
         let update = declare(rt, second);
-        shown(rt, &completes(rt, store, &mut self.other, second, &update))
+        shown(rt, &completes(rt, store, other, second, &update))
     }
 
     /// User 1's declared operation, and the honest reply to it.

@@ -3,7 +3,7 @@
 //! mark the crash left.
 
 use crate::here::Here;
-use crate::restarts::{closed, has_number, reopened, signed, signs_first};
+use crate::restarts::{closed, has_number, key_in, reopened, signed, signs_first};
 use client_aids::clients::{
     Kept, MemoryClient, begun_without_changes, breaks, declare, nothing_yet,
 };
@@ -178,7 +178,7 @@ fn is_first_certificate(rt: &impl Host, update: &[u8], leaf: u8) {
 fn tells_of_declared(rt: &impl Host, client: MemoryClient, update: &[u8]) -> PrivateKey<Global> {
     let client = reopened(rt, closed(client));
     has_declared(rt, &client, 1, update);
-    closed(client).key
+    key_in(client)
 }
 
 /// `begin` fails, and a crash leaves this; the first operation is declared at last.
@@ -268,7 +268,7 @@ fn is_first_structure(rt: &impl Host, commit: &[u8], update: &[u8], leaf: u8) {
 fn tells_of_signed(rt: &impl Host, client: MemoryClient, commit: &[u8]) -> PrivateKey<Global> {
     let client = reopened(rt, closed(client));
     has_signed(rt, &client, 1, commit);
-    closed(client).key
+    key_in(client)
 }
 
 /// `sign` fails, and a crash leaves this; the structure is signed at last.

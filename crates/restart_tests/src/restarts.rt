@@ -3,14 +3,14 @@
 
 use crate::here::Here;
 use client_aids::clients::{
-    Kept, MemoryClient, begun_without_changes, breaks, declare, device_of, end, nothing_yet,
-    open_over, sign, superuser,
+    Kept, MemoryClient, begun_without_changes, breaks, declare, device_of, end, open_over, sign,
+    superuser,
 };
 use client_aids::crashes::{has_declared, has_signed};
 use client_verify::{Client, ClientError, Parts, Phase, Rule};
 use layout::User;
 use leaf_ledger::MemoryDevice;
-use lms_sign::PublicKey;
+use lms_sign::{PrivateKey, PublicKey};
 use std::alloc::Global;
 use test_aids::texts::{changed, first_reply, joined, key_of, listed, reply_to, shown};
 use test_aids::{Host, check};
@@ -25,6 +25,16 @@ pub(crate) fn reopened(rt: &impl Host, kept: Kept) -> MemoryClient {
 /// What the client hands back when it is closed.
 pub(crate) fn closed(client: MemoryClient) -> Kept {
     client.close()
+}
+
+/// The key of a client, which is closed.
+pub(crate) fn key_in(client: MemoryClient) -> PrivateKey<Global> {
+    let Parts {
+        key,
+        ledger: _ledger,
+        journal: _journal,
+    } = closed(client);
+    key
 }
 
 /// The journal has so many bytes.
@@ -157,9 +167,17 @@ fn ledger_with(rt: &impl Host, key: &PublicKey, mark: u8) -> MemoryDevice<Global
 
 /// The client of user 0 over such a ledger.
 fn with_mark(rt: &impl Host, mark: u8) -> MemoryClient {
-    let mut kept = nothing_yet(rt, key_of(rt, 0));
-    kept.ledger = ledger_with(rt, &kept.key.public(), mark);
-    reopened(rt, kept)
+    let key = key_of(rt, 0);
+    let ledger = ledger_with(rt, &key.public(), mark);
+    let journal = device_of(rt, b"");
+    reopened(
+        rt,
+        Parts {
+            key,
+            ledger,
+            journal,
+        },
+    )
 }
 
 /// What the client answers where it signs over the accepted reply.
@@ -241,9 +259,16 @@ fn no_user_opens_anothers_journal(rt: HostRuntime) {
 
 /// The same devices with the key of another user.
 fn with_key(rt: &impl Host, kept: Kept, key: u8) -> Kept {
-    let mut kept = kept;
-    kept.key = key_of(rt, key);
-    kept
+    let Parts {
+        key: _other,
+        ledger,
+        journal,
+    } = kept;
+    Parts {
+        key: key_of(rt, key),
+        ledger,
+        journal,
+    }
 }
 
 /// No client with another key is opened over these, and they are handed back.
