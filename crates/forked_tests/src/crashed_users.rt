@@ -5,7 +5,7 @@ use crate::here::Here;
 use crate::two_users::{
     BOTH, NONE, ONE, Scene, Users, accepts, both_are_listed, breaks, is_accepted,
 };
-use client_aids::clients::{Kept, MemoryClient, declare, open_over};
+use client_aids::clients::{Kept, MemoryClient, open_over};
 use client_aids::crashes::{Left, after_crash, has_declared, has_failed, has_signed};
 use client_aids::servers::{Server, answers_commit, answers_update_so};
 use client_tree::Held;
@@ -48,10 +48,10 @@ fn replies_to(rt: &impl Host, update: Vec<u8>, zero: &[u8], two: &[u8]) -> Repli
     }
 }
 
-/// User 1 declares, after user 2 has operated at the other server: the replies, which are the true ones of both servers.
+/// User 1 declares, after user 2 has operated at the other server: the replies, which are the true ones of both.
 fn shown_to_first(rt: &impl Host, scene: &mut Scene) -> Replies {
     let two = scene.second_operates_apart(rt);
-    let update = declare(rt, &mut scene.users.first);
+    let (update, _reply) = scene.first_declares(rt);
     let replies = replies_to(rt, update, &scene.zero, &two);
     is_true(rt, &mut scene.server, &replies.update, &replies.alone);
     is_true(rt, &mut scene.other, &replies.update, &replies.beside);
