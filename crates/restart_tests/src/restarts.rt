@@ -157,12 +157,20 @@ fn knows_its_last_structure_after_a_restart(rt: HostRuntime) {
     let _commit = sign(&rt, &mut client);
 }
 
-/// The marks of all leaves but the last one, each used.
-static USED: [u8; 1023] = [1; 1023];
+/// How many bytes a ledger has before the mark of its last leaf: 56 of its key, and a mark of each other leaf.
+const BEFORE_LAST: usize = 56 + 1023;
+
+/// The text with 1s after it, up to this size.
+fn filled(rt: &impl Host, text: &[u8], size: usize) -> Vec<u8> {
+    let mut text = joined(rt, &[text]);
+    text.resize(size, 1).expect(rt, "memory");
+    text
+}
 
 /// A ledger of this key with this mark of its last leaf, in which each other leaf is used.
 fn ledger_with(rt: &impl Host, key: &PublicKey, mark: u8) -> MemoryDevice<Global> {
-    device_of(rt, &joined(rt, &[key.as_bytes(), &USED, &[mark]]))
+    let front = filled(rt, key.as_bytes(), BEFORE_LAST);
+    device_of(rt, &joined(rt, &[&front, &[mark]]))
 }
 
 /// The client of user 0 over such a ledger.
