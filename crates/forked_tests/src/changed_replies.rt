@@ -2,7 +2,7 @@
 //! when the client doesn't verify again what it verified.
 
 use crate::here::Here;
-use crate::two_users::{Scene, Users, accepts, both_are_listed, breaks, is_accepted};
+use crate::two_users::{Scene, Users, accepts, both_are_listed, breaks, end_scene, is_accepted};
 use client_aids::clients::{MemoryClient, declare};
 use client_aids::servers::{Server, answers_update_so};
 use client_tree::Held;
@@ -158,6 +158,7 @@ fn changes_shown_to_user_0(rt: HostRuntime) {
     let _structure = scene.first_operates(rt);
     waits(rt, &mut scene.server, &mut scene.users.second);
     superuser_judges(rt, &mut scene);
+    end_scene(scene);
 }
 
 /// User 1 has committed, and user 0's second operation is pending.
@@ -168,4 +169,5 @@ fn changes_shown_to_user_1(rt: HostRuntime) {
     let _structure = scene.first_operates(rt);
     waits(rt, &mut scene.server, &mut scene.users.superuser);
     first_judges(rt, &mut scene);
+    end_scene(scene);
 }
