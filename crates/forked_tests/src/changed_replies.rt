@@ -2,7 +2,7 @@
 //! when the client doesn't verify again what it verified.
 
 use crate::here::Here;
-use crate::two_users::{Scene, Users, accepts, both_are_listed, breaks, judged};
+use crate::two_users::{Scene, Users, accepts, both_are_listed, breaks, end_scene, is_accepted};
 use client_aids::clients::{MemoryClient, declare};
 use client_aids::servers::{Server, answers_update_so};
 use client_tree::Held;
@@ -61,9 +61,35 @@ static CUTS: [usize; 5] = [100, 4000, 6000, 9000, 10455];
 /// The text with the lowest bit of this byte changed.
 fn flipped(rt: &impl Host, text: &[u8], place: usize) -> Vec<u8> {
     let mut text = joined(rt, &[text]);
-    let byte = text.get_mut(place).expect(rt, "a byte of the reply");
+    let Some(byte) = text.get_mut(place) else {
+        panic!(rt; "no byte {place}");
+    };
     *byte ^= 1;
     text
+}
+
+/// This change of the reply breaks its rule.
+fn refuses_change(
+    rt: &impl Host,
+    store: &mut Held<Global>,
+    client: &mut MemoryClient,
+    honest: &[u8],
+    (place, rule): &Change,
+) {
+    let changed = flipped(rt, honest, *place);
+    breaks(rt, store, client, &changed, *rule);
+}
+
+/// The first bytes of the reply, so many, break Form.
+fn refuses_front(
+    rt: &impl Host,
+    store: &mut Held<Global>,
+    client: &mut MemoryClient,
+    honest: &[u8],
+    size: usize,
+) {
+    let front = honest.get(..size).expect(rt, "a front of the reply");
+    breaks(rt, store, client, front, Rule::Form);
 }
 
 /// Each change of the reply breaks its rule, and each cut breaks Form.
@@ -74,13 +100,11 @@ fn refuses_changes(
     honest: &[u8],
     changes: &[Change],
 ) {
-    for (place, rule) in changes {
-        let changed = flipped(rt, honest, *place);
-        breaks(rt, store, client, &changed, *rule);
+    for change in changes {
+        refuses_change(rt, store, client, honest, change);
     }
     for size in &CUTS {
-        let front = honest.get(..*size).expect(rt, "a front of the reply");
-        breaks(rt, store, client, front, Rule::Form);
+        refuses_front(rt, store, client, honest, *size);
     }
 }
 
@@ -97,7 +121,7 @@ fn judges(
     let honest = answers_update_so(rt, server, &update, Status::Ok);
     assert!(rt; honest.len() == size);
     refuses_changes(rt, store, client, &honest, changes);
-    assert!(rt; judged(rt, store, client, &honest).is_none());
+    is_accepted(rt, store, client, &honest);
     refuses_changes(rt, store, client, &honest, changes);
     let _structure = accepts(rt, store, client, &honest);
 }
@@ -108,14 +132,9 @@ fn waits(rt: &impl Host, server: &mut Server, client: &mut MemoryClient) {
     let _reply = answers_update_so(rt, server, &update, Status::Ok);
 }
 
-/// User 1 has committed, and user 2's operation is pending.
-#[test]
-fn changes_shown_to_user_0(rt: HostRuntime) {
-    let rt = &(rt, Here);
-    let mut scene = both_are_listed(rt);
-    let _structure = scene.first_operates(rt);
-    let Scene { users, server, .. } = &mut scene;
-    waits(rt, server, &mut users.second);
+/// User 0 judges the reply to its second operation.
+fn superuser_judges(rt: &impl Host, scene: &mut Scene) {
+    let Scene { users, server, .. } = scene;
     let Users {
         superuser,
         store,
@@ -124,14 +143,31 @@ fn changes_shown_to_user_0(rt: HostRuntime) {
     judges(rt, store, superuser, server, (10466, &TO_SUPERUSER));
 }
 
+/// User 1 judges the reply to its second operation.
+fn first_judges(rt: &impl Host, scene: &mut Scene) {
+    let Scene { users, server, .. } = scene;
+    let Users { first, store, .. } = users;
+    judges(rt, store, first, server, (10456, &TO_FIRST));
+}
+
+/// User 1 has committed, and user 2's operation is pending.
+#[test]
+fn changes_shown_to_user_0(rt: HostRuntime) {
+    let rt = &(rt, Here);
+    let mut scene = both_are_listed(rt);
+    let _structure = scene.first_operates(rt);
+    waits(rt, &mut scene.server, &mut scene.users.second);
+    superuser_judges(rt, &mut scene);
+    end_scene(scene);
+}
+
 /// User 1 has committed, and user 0's second operation is pending.
 #[test]
 fn changes_shown_to_user_1(rt: HostRuntime) {
     let rt = &(rt, Here);
     let mut scene = both_are_listed(rt);
     let _structure = scene.first_operates(rt);
-    let Scene { users, server, .. } = &mut scene;
-    waits(rt, server, &mut users.superuser);
-    let Users { first, store, .. } = users;
-    judges(rt, store, first, server, (10456, &TO_FIRST));
+    waits(rt, &mut scene.server, &mut scene.users.superuser);
+    first_judges(rt, &mut scene);
+    end_scene(scene);
 }
