@@ -404,7 +404,7 @@ struct Swapped {
 }
 
 /// With a plan that has an entry of an operation that was committed before it.
-fn swapped(rt: &impl Host, zero: &[u8], one: &[u8]) -> Swapped {
+fn swapped_plan(rt: &impl Host, zero: &[u8], one: &[u8]) -> Swapped {
     let of_super = zero.get(PLAN).expect(rt, "a plan");
     let plan = plan(rt, 1, 1, &named(one), ONE, &one_entry(rt, 0, of_super));
     Swapped {
@@ -465,7 +465,7 @@ fn plan_that_was_swapped(rt: HostRuntime) {
     let rt = &(rt, Here);
     let mut scene = both_are_listed(rt);
     let (one, honest) = scene.first_declares(rt);
-    let swapped = swapped(rt, &scene.zero, &one);
+    let swapped = swapped_plan(rt, &scene.zero, &one);
     let by_second = second_is_fooled(rt, &mut scene, &swapped);
     let by_first = scene.first_accepts(rt, &honest);
     let update = declare(rt, &mut scene.users.second);
