@@ -16,6 +16,10 @@ use version_order::Structure;
 pub(crate) enum Told {
     /// It is open, in this phase, with this text to be sent again.
     Opened(Phase, Vec<u8>),
+    /// It can't be opened: a device failed.
+    CannotOpen,
+    /// It can't be opened: the ledger's file is no ledger of its key.
+    IsForeign,
     /// The crash came.
     Crashed,
     /// It knows that its structure is committed.
@@ -137,6 +141,16 @@ fn is_opened(answer: &Answer<Global>, wanted: Phase, again: &[u8]) -> bool {
     }
 }
 
+/// Whether the answer is that a device failed in the opening.
+fn cannot_open(answer: &Answer<Global>) -> bool {
+    matches!(answer, Answer::Refused(ClientError::Device))
+}
+
+/// Whether the answer is that the ledger's file is no ledger of the client's key.
+fn is_foreign(answer: &Answer<Global>) -> bool {
+    matches!(answer, Answer::Refused(ClientError::Foreign))
+}
+
 /// Whether the answer is that a device failed.
 fn is_failure(answer: &Answer<Global>) -> bool {
     match answer {
@@ -203,6 +217,8 @@ fn is_file(answer: &Answer<Global>, wanted: &[u8]) -> bool {
 pub(crate) fn is_told(rt: &impl Host, answer: &Answer<Global>, told: &Told) -> bool {
     match told {
         Told::Opened(phase, text) => is_opened(answer, *phase, text),
+        Told::CannotOpen => cannot_open(answer),
+        Told::IsForeign => is_foreign(answer),
         Told::Crashed => matches!(answer, Answer::Crashed),
         Told::Committed => matches!(answer, Answer::Committed),
         Told::Fails => is_failure(answer),

@@ -9,6 +9,8 @@ mod failing;
 #[cfg(test)]
 mod here;
 #[cfg(test)]
+mod openings;
+#[cfg(test)]
 mod restarting;
 #[cfg(test)]
 mod runs;

@@ -95,17 +95,26 @@ impl Scene {
         (to_one, to_two)
     }
 
-    /// Both accept them, and sign.
-    fn both_finish(&mut self, rt: &impl Host, to_one: &[u8], to_two: &[u8]) {
+    /// User 1 accepts the reply, signs and commits.
+    fn one_finishes(&mut self, rt: &impl Host, reply: &[u8]) {
         let Scene {
             record,
             one,
+            server,
+            ..
+        } = self;
+        let _structure = finishes(rt, record, server, one, reply);
+    }
+
+    /// So does user 2.
+    fn two_finishes(&mut self, rt: &impl Host, reply: &[u8]) {
+        let Scene {
+            record,
             two,
             server,
             ..
         } = self;
-        let _structure = finishes(rt, record, server, one, to_one);
-        let _structure = finishes(rt, record, server, two, to_two);
+        let _structure = finishes(rt, record, server, two, reply);
     }
 
     /// Another server, which shows user 0's operation, too.
@@ -140,15 +149,17 @@ impl Scene {
     }
 }
 
-/// Users 1 and 2 have writes pending, which user 0 reads twice, before they accept their replies.
+/// Users 1 and 2 have writes pending, which user 0 reads: both while both are pending, once user 2 has committed, and
+/// once user 1 has, too.
 #[test]
 fn two_write_while_one_reads(rt: HostRuntime) {
     let rt = &(rt, Here);
     let mut scene = new_scene(rt);
     let (to_one, to_two) = scene.both_write(rt);
     scene.reads_both(rt);
+    scene.two_finishes(rt, &to_two);
     scene.reads_both(rt);
-    scene.both_finish(rt, &to_one, &to_two);
+    scene.one_finishes(rt, &to_one);
     scene.reads_both(rt);
     is_carried_out(rt, &scene.record);
 }
