@@ -4,8 +4,8 @@
 use crate::answers::{Told, sent_again};
 use crate::here::Here;
 use crate::steps::{
-    Fails, Plan, Record, accepts, begins_before, crashes, ends, is_carried_out, new_record, opens,
-    restarts, signs_before,
+    Fails, Plan, Record, accepts, begins_before, crashes, ends, is_carried_out, let_go, new_record,
+    opens, restarts, signs_before,
 };
 use client_aids::clients::{MemoryClient, begun_without_changes, nothing_yet};
 use client_aids::crashes::{Left, has_failed};
@@ -163,4 +163,6 @@ fn each_call_fails_in_a_run(rt: HostRuntime) {
     let last = joined(rt, &[sent_again(&zero)]);
     operates_before(rt, &mut record, &mut zero, &last);
     is_carried_out(rt, &record);
+    let_go(zero);
+    let_go(record);
 }

@@ -3,7 +3,7 @@
 
 use crate::answers::Told;
 use crate::here::Here;
-use crate::steps::{Fails, is_carried_out, new_record};
+use crate::steps::{Fails, is_carried_out, let_go, new_record};
 use client_runs::Act;
 use client_verify::Phase;
 use layout::User;
@@ -52,4 +52,5 @@ fn each_call_of_an_opening_fails_in_a_run(rt: HostRuntime) {
         record.add_failing(rt, user, Act::Open, told, Fails::Never);
     }
     is_carried_out(rt, &record);
+    let_go(record);
 }

@@ -2,7 +2,7 @@
 
 use crate::here::Here;
 use crate::steps::{
-    Plan, Record, accepts, begins, ends, is_carried_out, new_record, opens, restarts, signs,
+    Plan, Record, accepts, begins, ends, is_carried_out, let_go, new_record, opens, restarts, signs,
 };
 use client_aids::clients::{MemoryClient, nothing_yet};
 use client_aids::crashes::Left;
@@ -56,7 +56,8 @@ fn restarts_after_a_commit(rt: &impl Host, record: &mut Record, zero: MemoryClie
     let mut zero = restarts_in(rt, record, zero, Phase::Signed);
     ends(rt, record, &mut zero);
     let _update = begins(rt, record, &mut zero, Plan::Nothing);
-    let _zero = restarts_in(rt, record, zero, Phase::Declared);
+    let zero = restarts_in(rt, record, zero, Phase::Declared);
+    let_go(zero);
 }
 
 #[test]
@@ -70,4 +71,5 @@ fn restarts_in_each_phase_of_a_run(rt: HostRuntime) {
     let zero = restarts_over_a_reply(rt, &mut record, zero, &reply);
     restarts_after_a_commit(rt, &mut record, zero);
     is_carried_out(rt, &record);
+    let_go(record);
 }

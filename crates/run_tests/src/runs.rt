@@ -3,8 +3,8 @@
 
 use crate::here::Here;
 use crate::steps::{
-    Plan, Record, begins, finishes, is_carried_out, joins, judges, new_record, operates, places,
-    sees,
+    Plan, Record, begins, finishes, is_carried_out, joins, judges, let_go, new_record, operates,
+    places, sees,
 };
 use client_aids::clients::MemoryClient;
 use client_aids::servers::{Server, answers_commit, answers_update_so, server_of};
@@ -162,6 +162,7 @@ fn two_write_while_one_reads(rt: HostRuntime) {
     scene.one_finishes(rt, &to_one);
     scene.reads_both(rt);
     is_carried_out(rt, &scene.record);
+    let_go(scene);
 }
 
 /// The last answer is that the rule on numbers is broken: user 1 is shown what it and user 2 signed apart.
@@ -176,4 +177,6 @@ fn forks_that_are_joined_in_a_run(rt: HostRuntime) {
     let broken = scene.one_is_shown(rt, &[&zero, &by_one, &by_two]);
     assert!(rt; broken == Some(Rule::Numbers), "{broken:?}");
     is_carried_out(rt, &scene.record);
+    let_go(other);
+    let_go(scene);
 }
