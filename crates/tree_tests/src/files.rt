@@ -1,7 +1,7 @@
 //! Files of each size, from their making to a look at them in the view after it, byte for byte.
 
 use crate::changes::plan_action;
-use crate::here::Here;
+use crate::here::{Here, let_go};
 use crate::world::{World, asked_for_so_many, has_lost, new_world, operate, see};
 use client_aids::changes::{Planned, lay, nothing};
 use client_verify::Look;
@@ -92,6 +92,7 @@ fn is_file(rt: &impl Host, seen: &Look<Global>, size: usize) {
 fn stands(rt: &impl Host, world: &mut World, case: Case) {
     let seen = see(rt, world, case.number);
     is_file(rt, &seen, case.size);
+    let_go(seen);
     asked_for_so_many(rt, world, 0);
 }
 
@@ -118,4 +119,6 @@ fn files_of_each_size(rt: HostRuntime) {
     stands_each(&rt, &mut world);
     let none = see(&rt, &mut world, 5);
     check(&rt, matches!(none, Look::None), "nothing at 0:5");
+    let_go(none);
+    let_go(world);
 }

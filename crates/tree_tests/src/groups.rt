@@ -1,7 +1,7 @@
 //! User 0's operations with a group, of which it is a member and then isn't: the table's text, the records of the group
 //! that its structures have, which changes are lost, and what stands in the view. A hostile store changes nothing of it.
 
-use crate::here::Here;
+use crate::here::{Here, let_go};
 use crate::world::{World, has_lost, new_world, operate, see_of};
 use client_aids::changes::{Planned, lay, nothing, plan_change};
 use client_aids::clients::first_key;
@@ -184,6 +184,7 @@ fn happen(rt: &impl Host, key: &PublicKey, is_hostile: bool) {
     has_table(rt, &mut world, key, 3);
     let file = file_at(rt, &mut world, 64, 1);
     check_text(rt, &file, b"c");
+    let_go(world);
 }
 
 #[test]

@@ -3,7 +3,7 @@
 //! SHA-256. A hostile store changes nothing of it.
 
 use crate::changes::{Deed, of_deeds};
-use crate::here::Here;
+use crate::here::{Here, let_go};
 use crate::world::{
     World, asked_for, begin, finish, hand_each, has_lost, look_at, new_world, operate, see,
     sees_file,
@@ -262,12 +262,14 @@ fn is_directory_of_f(rt: &impl Host, directory: &Directory<Global>) {
 
 /// A look sees this, and asks for these blocks.
 fn is_seen(rt: &impl Host, world: &mut World, sight: &Sight) {
-    match (see(rt, world, sight.number), sight.seen) {
-        (Look::File(found), Seen::File(file)) => check_text(rt, &found, file),
-        (Look::Dir(found), Seen::DirectoryOfF) => is_directory_of_f(rt, &found),
+    let seen = see(rt, world, sight.number);
+    match (&seen, sight.seen) {
+        (Look::File(found), Seen::File(file)) => check_text(rt, found, file),
+        (Look::Dir(found), Seen::DirectoryOfF) => is_directory_of_f(rt, found),
         (Look::None, Seen::Nothing) => {}
         _ => panic!(rt; "something else at 0:{}", sight.number),
     }
+    let_go(seen);
     asked_for(rt, world, sight.asked);
 }
 
@@ -289,6 +291,7 @@ fn happen(rt: &impl Host, operations: &[Operation], is_hostile: bool) {
         let texts = operate(rt, &mut world, of_deeds(rt, operation.deeds));
         is_accepted(rt, &mut world, operation, &texts);
     }
+    let_go(world);
 }
 
 #[test]
@@ -331,6 +334,7 @@ fn broken_reply_before_the_blocks(rt: HostRuntime) {
     let texts = hand_each(&rt, &mut world, step);
     finish(&rt, &mut world, &texts);
     is_accepted(&rt, &mut world, &UNSEEN, &texts);
+    let_go(world);
 }
 
 /// Another look begins in the place of one that asks for a block.
@@ -342,7 +346,9 @@ fn another_look_in_the_place_of_one(rt: HostRuntime) {
     let _none = operate(&rt, &mut world, of_deeds(&rt, &[]));
     let look = look_at(&rt, &mut world, 2);
     check(&rt, matches!(look, Look::Need(_)), "a block is asked for");
+    let_go(look);
     check(&rt, world.client.looking(), "the look is under way");
     sees_file(&rt, &mut world, 3, b"hello");
     check(&rt, !world.client.looking(), "both looks are over");
+    let_go(world);
 }

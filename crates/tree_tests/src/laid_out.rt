@@ -1,7 +1,7 @@
 //! What has to be laid out before changes are declared.
 
 use crate::changes::{Deed, of_deeds, plan_action};
-use crate::here::Here;
+use crate::here::{Here, let_go};
 use client_aids::changes::{Planned, nothing};
 use client_verify::are_laid;
 use layout::digest;
@@ -122,9 +122,13 @@ fn each_naming(rt: HostRuntime) {
     let rt = (rt, Here);
     for (place, case) in CASES.iter().enumerate() {
         let named = digest(case.named);
-        let made = is_laid(&rt, &planned_of(&rt, case, Action::Make(named)));
+        let making = planned_of(&rt, case, Action::Make(named));
+        let made = is_laid(&rt, &making);
+        let_go(making);
         assert!(rt; made == case.by_make, "the make of case {place}");
-        let put = is_laid(&rt, &planned_of(&rt, case, Action::Put(named)));
+        let putting = planned_of(&rt, case, Action::Put(named));
+        let put = is_laid(&rt, &putting);
+        let_go(putting);
         assert!(rt; put == case.by_put, "the put of case {place}");
     }
 }
@@ -146,4 +150,5 @@ fn several_changes(rt: HostRuntime) {
     assert!(rt; is_laid(&rt, &planned));
     plan_action(&rt, &mut planned, 4, Action::Make(digest(HELLO_INODE)));
     assert!(rt; !is_laid(&rt, &planned));
+    let_go(planned);
 }

@@ -2,6 +2,7 @@
 //! hands in something else first: the client answers which rule that breaks, asks for the same block still, and goes on
 //! with it.
 
+use crate::here::let_go;
 use client_aids::changes::Planned;
 use client_aids::clients::{
     MemoryClient, declare_changes, end, first_key, sign, step_on, superuser,
@@ -82,7 +83,9 @@ fn breaks_reply(rt: &impl Host, client: &mut MemoryClient, block: Option<&[u8]>)
 fn breaks_look(rt: &impl Host, client: &mut MemoryClient, block: Option<&[u8]>) -> bool {
     assert!(rt; client.looking());
     let look = client.give(block).expect(rt, "memory");
-    matches!(look, Look::Broken(Rule::Block))
+    let is_broken = matches!(look, Look::Broken(Rule::Block));
+    let_go(look);
+    is_broken
 }
 
 /// A hostile store hands in each fault in the place of a block, which a reply or a look asks for.
@@ -192,7 +195,11 @@ pub(crate) fn see_of(rt: &impl Host, world: &mut World, owner: u8, number: u16) 
     let mut look = look_of(rt, world, owner, number);
     for _ in 0..BOUND {
         match look {
-            Look::Need(digest) => look = give(rt, world, digest),
+            Look::Need(digest) => {
+                let next = give(rt, world, digest);
+                let_go(look);
+                look = next;
+            }
             seen => return seen,
         }
     }
@@ -207,10 +214,11 @@ pub(crate) fn see(rt: &impl Host, world: &mut World, number: u16) -> Look<Global
 /// A file of these bytes stands at an i-number of user 0's.
 pub(crate) fn sees_file(rt: &impl Host, world: &mut World, number: u16, bytes: &[u8]) {
     let seen = see(rt, world, number);
-    let Look::File(file) = seen else {
+    let Look::File(file) = &seen else {
         panic!(rt; "no file");
     };
     check(rt, file.as_slice() == bytes, "the bytes of a file");
+    let_go(seen);
 }
 
 /// The blocks that were asked for since the last such question are these texts.
