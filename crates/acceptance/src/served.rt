@@ -1,6 +1,6 @@
 //! Three clients of one server over TCP, with their blocks: two write at once, and the third sees both writes.
 
-use crate::here::Here;
+use crate::here::{Here, let_go};
 use block_store::Store;
 use client_aids::changes::{Planned, listing_both, making, nothing};
 use client_aids::clients::{MemoryClient, declare_changes, end, first_key, sign, step_on};
@@ -113,7 +113,9 @@ fn sees(
             Look::Need(digest) => {
                 let block = get(rt, caller, digest);
                 assert!(rt; client.looking());
-                look = client.give(Some(&block)).expect(rt, "memory");
+                let next = client.give(Some(&block)).expect(rt, "memory");
+                let_go(look);
+                look = next;
             }
             Look::File(file) => return check_text(rt, &file, bytes),
             Look::Dir(_) | Look::None | Look::Broken(_) => panic!(rt; "no file"),
@@ -154,6 +156,10 @@ fn write_and_look<R: Alloc<A = Global> + Abort + Net<Listener = TcpListener, Str
     sees_both(host, &mut caller, &mut superuser);
     commit(host, &mut caller, &mut first, &by_first);
     sees_both(host, &mut caller, &mut superuser);
+    let_go(caller);
+    let_go(second);
+    let_go(first);
+    let_go(superuser);
 }
 
 /// Serves one connection: how many calls were answered.
@@ -167,7 +173,11 @@ fn serve_one<R: Alloc<A = Global> + Abort + Clock + Threads + Wait + Sync>(
     let mut fault = None;
     let connections = Accepted::new(rt, listener, 1, &mut fault);
     let served = serve(rt, alloc, &OpenGate, connections, 1, &store, pinned, log);
-    served.expect(rt, "memory").answered
+    let served = served.expect(rt, "memory");
+    let answered = served.answered;
+    let_go(served);
+    let_go(store);
+    answered
 }
 
 #[test]
