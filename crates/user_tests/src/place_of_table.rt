@@ -1,7 +1,7 @@
 //! User 0's i-table, handed to user 1's client, where no table of principals stands at i-number 1: the block at which
 //! that is seen breaks the rule on contents.
 
-use crate::here::Here;
+use crate::here::{Here, let_go};
 use crate::long_table::reply_over;
 use crate::several_users::keep_each;
 use client_aids::clients::{MemoryClient, client_with, declare, step_on};
@@ -141,6 +141,7 @@ fn breaks_case(
         Place::Block => digest(HELLO),
     };
     check(rt, asked == wanted, "the block that breaks it");
+    let_go(store);
 }
 
 #[test]
@@ -152,4 +153,5 @@ fn no_table_in_its_place(rt: HostRuntime) {
     for case in &CASES {
         breaks_case(&rt, &mut client, &key, &update, case);
     }
+    let_go(client);
 }
