@@ -1,8 +1,8 @@
 //! Replies that show what others signed, cut, or with one bit changed: before the honest one is accepted, and after that,
 //! when the client doesn't verify again what it verified.
 
-use crate::here::{Here, let_go};
-use crate::two_users::{Scene, Users, accepts, both_are_listed, breaks, is_accepted};
+use crate::here::Here;
+use crate::two_users::{Scene, Users, accepts, both_are_listed, breaks, end_scene, is_accepted};
 use client_aids::clients::{MemoryClient, declare};
 use client_aids::servers::{Server, answers_update_so};
 use client_tree::Held;
@@ -158,7 +158,7 @@ fn changes_shown_to_user_0(rt: HostRuntime) {
     let _structure = scene.first_operates(rt);
     waits(rt, &mut scene.server, &mut scene.users.second);
     superuser_judges(rt, &mut scene);
-    let_go(scene);
+    end_scene(scene);
 }
 
 /// User 1 has committed, and user 0's second operation is pending.
@@ -169,5 +169,5 @@ fn changes_shown_to_user_1(rt: HostRuntime) {
     let _structure = scene.first_operates(rt);
     waits(rt, &mut scene.server, &mut scene.users.superuser);
     first_judges(rt, &mut scene);
-    let_go(scene);
+    end_scene(scene);
 }

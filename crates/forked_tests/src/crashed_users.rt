@@ -1,9 +1,9 @@
 //! User 1's client crashes once it has declared its first operation, and another server shows it another line than the one
 //! before: a reply is accepted or refused by the rules, and one structure of that number is ever handed out.
 
-use crate::here::{Here, let_go};
+use crate::here::Here;
 use crate::two_users::{
-    BOTH, NONE, ONE, Scene, Users, accepts, both_are_listed, breaks, is_accepted,
+    BOTH, NONE, ONE, Scene, Users, accepts, both_are_listed, breaks, is_accepted, put_away,
 };
 use client_aids::clients::{Kept, MemoryClient, open_over};
 use client_aids::crashes::{Left, after_crash, has_declared, has_failed, has_signed};
@@ -68,6 +68,11 @@ struct Fork {
     replies: Replies,
 }
 
+/// The end of a test.
+fn end_fork(fork: Fork) {
+    let _fork = fork;
+}
+
 /// What is left of the scene where user 1's client crashes.
 fn left_of(rt: &impl Host, scene: Scene, replies: Replies) -> (Fork, Kept) {
     let Scene {
@@ -83,8 +88,8 @@ fn left_of(rt: &impl Host, scene: Scene, replies: Replies) -> (Fork, Kept) {
         second,
         store,
     } = users;
-    let_go(superuser);
-    let_go(second);
+    put_away(superuser);
+    put_away(second);
     let fork = Fork {
         pinned,
         server,
@@ -153,7 +158,7 @@ fn signs_beside(rt: &impl Host, fork: &mut Fork, client: MemoryClient) {
     let structure = accepts_beside(rt, fork, &mut client);
     let client = restarted(rt, fork, client);
     has_signed(rt, &client, 1, &structure);
-    let_go(client);
+    put_away(client);
     commits_beside(rt, fork, &structure);
 }
 
@@ -173,7 +178,7 @@ fn another_reply_after_a_crash(rt: HostRuntime) {
     accepts_alone(&rt, &mut fork, &mut client);
     let client = restarted(&rt, &fork, client);
     signs_beside(&rt, &mut fork, client);
-    let_go(fork);
+    end_fork(fork);
 }
 
 /// How many calls an open makes of a journal of one record, and `sign` before it has synced the record, and before it has
@@ -216,7 +221,7 @@ fn another_reply_after_a_crash_in_sign(rt: HostRuntime) {
     let (mut fork, kept) = new_fork(&rt);
     let client = fails_to_sign(&rt, &mut fork, kept, BEFORE_RECORD, Left::Synced);
     signs_beside(&rt, &mut fork, client);
-    let_go(fork);
+    end_fork(fork);
 }
 
 /// The client has signed, and this is its structure.
@@ -233,7 +238,7 @@ fn no_other_reply_once_a_structure_stands(rt: HostRuntime) {
     let client = fails_to_sign(&rt, &mut fork, kept, BEFORE_GATE, Left::Written);
     let structure = structure(&rt, &client);
     is_over(&rt, &structure, &fork.replies.update, ONE);
-    let_go(client);
+    put_away(client);
     commits_alone(&rt, &mut fork, &structure);
-    let_go(fork);
+    end_fork(fork);
 }

@@ -1,13 +1,13 @@
 //! Users 1 and 2 at once, with servers in memory: the reply to both byte for byte, and what a server shows of forks, of an
 //! older structure and of a plan that it swapped.
 
-use crate::here::{Here, let_go};
+use crate::here::Here;
 use client_aids::changes::{Planned, listing_both};
 use client_aids::clients::{MemoryClient, declare, declare_changes, end, sign, step_on};
 use client_aids::servers::{Server, answers_commit, answers_update_so, server_of};
 use client_aids::three::{Three, three_clients};
 use client_tree::Held;
-use client_verify::{Rule, Step};
+use client_verify::{Parts, Rule, Step};
 use layout::{Digest, digest};
 use lms_sign::PublicKey;
 use std::alloc::Global;
@@ -213,6 +213,40 @@ pub(crate) fn both_are_listed(rt: &impl Host) -> Scene {
     listed_by(rt, users, pinned, (of_one, of_two))
 }
 
+/// Closes the client at the end of a test. A function that lets a client go itself costs its proof minutes.
+pub(crate) fn put_away(client: MemoryClient) {
+    let Parts {
+        key: _key,
+        ledger: _ledger,
+        journal: _journal,
+    } = client.close();
+}
+
+/// Closes the clients at the end of a test.
+fn put_all_away(users: Users) {
+    let Users {
+        superuser,
+        first,
+        second,
+        store: _store,
+    } = users;
+    put_away(superuser);
+    put_away(first);
+    put_away(second);
+}
+
+/// The end of a test.
+pub(crate) fn end_scene(scene: Scene) {
+    let Scene {
+        pinned: _pinned,
+        users,
+        server: _server,
+        other: _other,
+        zero: _zero,
+    } = scene;
+    put_all_away(users);
+}
+
 impl Scene {
     /// User 1 makes an operation without changes: its structure, as replies show it.
     pub(crate) fn first_operates(&mut self, rt: &impl Host) -> Vec<u8> {
@@ -297,7 +331,7 @@ fn reply_to_two_pending_byte_for_byte(rt: HostRuntime) {
     let (two, found) = scene.second_declares(rt);
     check_text(rt, &found, &reply_to_both(rt, &scene.zero, &one, &two));
     let _structure = scene.second_accepts(rt, &found);
-    let_go(scene);
+    end_scene(scene);
 }
 
 /// The replies to an operation, by hand: the honest one, and another one.
@@ -332,7 +366,7 @@ fn forks_that_are_joined(rt: HostRuntime) {
     let (update, found) = scene.first_declares(rt);
     let by_hand = of_lines(rt, &update, &scene.zero, &one, &two);
     first_is_shown(rt, &mut scene, &found, &by_hand, Rule::Numbers);
-    let_go(scene);
+    end_scene(scene);
 }
 
 /// The replies to user 1's fourth operation with its last structure, and with its oldest.
@@ -354,7 +388,7 @@ fn own_structure_of_two_commits_ago(rt: HostRuntime) {
     let (update, found) = scene.first_declares(rt);
     let by_hand = of_ages(rt, &update, &scene.zero, &last, &oldest);
     first_is_shown(rt, &mut scene, &found, &by_hand, Rule::OwnLast);
-    let_go(scene);
+    end_scene(scene);
 }
 
 /// Where the plan lies in user 0's structure, as replies show it: after its size, the tag, and the size of the plan.
@@ -439,5 +473,5 @@ fn plan_that_was_swapped(rt: HostRuntime) {
     scene.second_refuses(rt, &found_out, Rule::Entries);
     let pending_still = with_swapped(rt, &update, [&scene.zero, &by_second], &swapped);
     let _structure = scene.second_accepts(rt, &pending_still);
-    let_go(scene);
+    end_scene(scene);
 }
