@@ -1,4 +1,4 @@
--- Users' clients in memory.
+-- Users' clients in memory: for private contracts. Nobody has to believe this file.
 use Rattle.std.specs.Prelude.{◌≡◌, ℕ, List, length, slice_index_or}
 use Rattle.layout.specs.Types.{User}
 use Rattle.client_verify.specs.State.{State}

@@ -83,7 +83,7 @@ impl<A: Allocator + Copy> Clients<A> {
 /// Carries out steps of users' clients, one after another.
 ///
 /// Each user's client has its key of the bytes of the user's number, stands on two devices in memory that hold nothing at
-/// first, and knows user 0's public key. A step that the client isn't in the phase for is not taken.
+/// first, and knows user 0's public key. A step that its client can't take, as it is then, is not taken.
 pub fn run<A: Allocator + Copy>(alloc: A, steps: &[WorldStep<A>]) -> Result<World<A>, Memory>
     ensures { IfOk result (λ world. AreCarriedOut steps.now world.answers.items) }
 {

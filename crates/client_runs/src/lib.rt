@@ -8,8 +8,6 @@ mod calls;
 mod carrying;
 mod laws;
 mod slot;
-#[cfg(test)]
-mod tests;
 mod world;
 
 pub use carrying::run;
