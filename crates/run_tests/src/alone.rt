@@ -7,7 +7,7 @@ use client_runs::{Act, Answer, WorldStep, run};
 use client_verify::{ClientError, Phase};
 use layout::User;
 use std::alloc::Global;
-use test_aids::Host;
+use test_aids::{Aided, Host};
 use wire::Status;
 
 /// What comes of these steps of user 2's client, of which this call of the ledger's device fails in the second, or this
