@@ -154,17 +154,17 @@ pub(crate) fn restarts(
 
 /// What an operation is of.
 #[derive(Clone, Copy)]
-pub(crate) enum Plan {
+pub(crate) enum Plan<'a> {
     /// No change.
     Nothing,
     /// Users 1 and 2 are listed with these keys.
     ListBoth(PublicKey, PublicKey),
     /// A user makes a file of these bytes.
-    Write(u8, &'static [u8]),
+    Write(u8, &'a [u8]),
 }
 
 /// Its changes, and what is laid out for them.
-fn planned_of(rt: &impl Host, plan: Plan) -> Planned {
+fn planned_of(rt: &impl Host, plan: Plan<'_>) -> Planned {
     match plan {
         Plan::Nothing => nothing(rt),
         Plan::ListBoth(one, two) => listing_both(rt, one, two),
@@ -185,7 +185,7 @@ pub(crate) fn begins_before(
     rt: &impl Host,
     record: &mut Record,
     client: &mut MemoryClient,
-    plan: Plan,
+    plan: Plan<'_>,
     fails: Fails,
 ) -> Vec<u8> {
     let Planned { changes, laid } = planned_of(rt, plan);
@@ -202,7 +202,7 @@ pub(crate) fn begins(
     rt: &impl Host,
     record: &mut Record,
     client: &mut MemoryClient,
-    plan: Plan,
+    plan: Plan<'_>,
 ) -> Vec<u8> {
     begins_before(rt, record, client, plan, Fails::Never)
 }
@@ -305,7 +305,7 @@ pub(crate) fn places(
     record: &mut Record,
     server: &mut Server,
     client: &mut MemoryClient,
-    plan: Plan,
+    plan: Plan<'_>,
 ) -> Vec<u8> {
     let update = begins(rt, record, client, plan);
     answers_update_so(rt, server, &update, Status::Ok)
@@ -332,7 +332,7 @@ pub(crate) fn operates(
     record: &mut Record,
     server: &mut Server,
     client: &mut MemoryClient,
-    plan: Plan,
+    plan: Plan<'_>,
 ) -> Vec<u8> {
     let reply = places(rt, record, server, client, plan);
     finishes(rt, record, server, client, &reply)
