@@ -1,6 +1,6 @@
 //! How long things take, for people: `bench lms` keys, signatures and verifications, `bench itable` an i-table of 4,095
 //! digests, `bench directory` a directory of 1,024 entries, `bench table` the largest table of principals, `bench look` looks
-//! at files, `bench operations` an operation among 64 users, `bench server` operations over TCP. `bench visit=ADDR` makes an operation at a server that runs. With no word it
+//! at files, `bench server` operations over TCP. `bench visit=ADDR` makes an operation at a server that runs. With no word it
 //! does nothing.
 #![tactic(auto)]
 
@@ -9,7 +9,6 @@ mod directories;
 mod i_tables;
 mod lms;
 mod looks;
-mod operations;
 mod server;
 mod tables;
 mod time;
@@ -33,7 +32,6 @@ fn report<R: Host>(rt: &R, word: &str) -> Result<()> {
         "directory" => directories::report(rt),
         "table" => tables::report(rt),
         "look" => looks::report(rt),
-        "operations" => operations::report(rt),
         "server" => server::report(rt),
         _ => Ok(()),
     }
