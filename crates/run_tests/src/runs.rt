@@ -3,8 +3,8 @@
 
 use crate::here::Here;
 use crate::steps::{
-    Plan, Record, begins, finishes, is_carried_out, joins, judges, let_go, new_record, operates,
-    places, sees,
+    OF_ONE, OF_TWO, Plan, Record, begins, finishes, is_carried_out, joins, judges, let_go,
+    new_record, operates, places, sees,
 };
 use client_aids::clients::MemoryClient;
 use client_aids::servers::{Server, answers_commit, answers_update_so, server_of};
@@ -14,11 +14,6 @@ use lms_sign::PublicKey;
 use test_aids::Host;
 use test_aids::texts::{list, only_pending, reply, shown};
 use wire::Status;
-
-/// The files of users 1 and 2.
-const OF_ONE: &[u8] = b"of user 1";
-
-const OF_TWO: &[u8] = b"and of user 2";
 
 /// The vector of user 1's second operation after user 0's first.
 const SECOND_OF_ONE: &[u8] = b"\x02\0\0\0\0\x01\x01\0\0\0\x02";
@@ -90,8 +85,8 @@ impl Scene {
             server,
             ..
         } = self;
-        let to_one = places(rt, record, server, one, Plan::Write(1, OF_ONE));
-        let to_two = places(rt, record, server, two, Plan::Write(2, OF_TWO));
+        let to_one = places(rt, record, server, one, Plan::Write(1));
+        let to_two = places(rt, record, server, two, Plan::Write(2));
         (to_one, to_two)
     }
 

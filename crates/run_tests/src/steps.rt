@@ -24,6 +24,11 @@ const BOUND: usize = 100;
 /// The i-number at which each user makes its file.
 const PLACE: u16 = 5;
 
+/// The files of users 1 and 2.
+pub(crate) const OF_ONE: &[u8] = b"of user 1";
+
+pub(crate) const OF_TWO: &[u8] = b"and of user 2";
+
 /// Which call of a device fails in a step, after how many of its calls that go well.
 #[derive(Clone, Copy)]
 pub(crate) enum Fails {
@@ -154,21 +159,26 @@ pub(crate) fn restarts(
 
 /// What an operation is of.
 #[derive(Clone, Copy)]
-pub(crate) enum Plan<'a> {
+pub(crate) enum Plan {
     /// No change.
     Nothing,
     /// Users 1 and 2 are listed with these keys.
     ListBoth(PublicKey, PublicKey),
-    /// A user makes a file of these bytes.
-    Write(u8, &'a [u8]),
+    /// User 1 or 2 makes its file.
+    Write(u8),
+}
+
+/// The bytes of user 1's or 2's file.
+fn file_of(user: u8) -> &'static [u8] {
+    if user == 1 { OF_ONE } else { OF_TWO }
 }
 
 /// Its changes, and what is laid out for them.
-fn planned_of(rt: &impl Host, plan: Plan<'_>) -> Planned {
+fn planned_of(rt: &impl Host, plan: Plan) -> Planned {
     match plan {
         Plan::Nothing => nothing(rt),
         Plan::ListBoth(one, two) => listing_both(rt, one, two),
-        Plan::Write(owner, bytes) => making(rt, owner, PLACE, bytes),
+        Plan::Write(owner) => making(rt, owner, PLACE, file_of(owner)),
     }
 }
 
@@ -185,7 +195,7 @@ pub(crate) fn begins_before(
     rt: &impl Host,
     record: &mut Record,
     client: &mut MemoryClient,
-    plan: Plan<'_>,
+    plan: Plan,
     fails: Fails,
 ) -> Vec<u8> {
     let Planned { changes, laid } = planned_of(rt, plan);
@@ -202,7 +212,7 @@ pub(crate) fn begins(
     rt: &impl Host,
     record: &mut Record,
     client: &mut MemoryClient,
-    plan: Plan<'_>,
+    plan: Plan,
 ) -> Vec<u8> {
     begins_before(rt, record, client, plan, Fails::Never)
 }
@@ -305,7 +315,7 @@ pub(crate) fn places(
     record: &mut Record,
     server: &mut Server,
     client: &mut MemoryClient,
-    plan: Plan<'_>,
+    plan: Plan,
 ) -> Vec<u8> {
     let update = begins(rt, record, client, plan);
     answers_update_so(rt, server, &update, Status::Ok)
@@ -332,7 +342,7 @@ pub(crate) fn operates(
     record: &mut Record,
     server: &mut Server,
     client: &mut MemoryClient,
-    plan: Plan<'_>,
+    plan: Plan,
 ) -> Vec<u8> {
     let reply = places(rt, record, server, client, plan);
     finishes(rt, record, server, client, &reply)
