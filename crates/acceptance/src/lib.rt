@@ -1,19 +1,9 @@
 //! Tests of the whole, over the public surface of the crates: operations of user 0's client and its server, byte for
-//! byte and with hostile stores, and three clients over TCP.
+//! byte, and three clients over TCP.
 #![tactic(auto)]
 
 #[cfg(test)]
-mod changes;
-#[cfg(test)]
-mod files;
-#[cfg(test)]
-mod groups;
-#[cfg(test)]
 mod here;
-#[cfg(test)]
-mod histories;
-#[cfg(test)]
-mod laid_out;
 #[cfg(test)]
 mod operations;
 #[cfg(test)]
@@ -22,5 +12,3 @@ mod refusals;
 mod served;
 #[cfg(test)]
 mod server;
-#[cfg(test)]
-mod world;

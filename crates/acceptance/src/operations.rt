@@ -1,7 +1,7 @@
 //! User 0's first two operations between a client and a server, byte for byte: their certificates, replies, structures
 //! and frames, and what the client shows of them.
 
-use crate::here::Here;
+use crate::here::{Here, let_go};
 use client_aids::clients::{MemoryClient, breaks, declare, end, first_key, sign, superuser};
 use client_aids::servers::{Server, answers_commit, answers_update, server_of};
 use client_verify::Phase;
@@ -120,6 +120,8 @@ fn two_operations_byte_for_byte(rt: HostRuntime) {
     check(&rt, client.number() == 2, "two operations");
     check(&rt, server.events() == 4, "four events");
     shows(&rt, &client, &second);
+    let_go(client);
+    let_go(server);
 }
 
 /// The frame of a request of so many bytes begins so.

@@ -1,6 +1,6 @@
 //! Replies that break a rule, each of which leaves the client as it was.
 
-use crate::here::Here;
+use crate::here::{Here, let_go};
 use client_aids::clients::{MemoryClient, breaks, client_of, declare, end, sign, superuser};
 use client_verify::Rule;
 use layout::digest;
@@ -124,6 +124,7 @@ fn refuses_first(rt: &impl Host, client: &mut MemoryClient, user: u8, rule: Rule
 fn refuses_client(rt: &impl Host, user: u8, key: u8, rule: Rule) {
     let mut client = client_of(rt, user, key);
     refuses_first(rt, &mut client, user, rule);
+    let_go(client);
 }
 
 #[test]
@@ -209,4 +210,5 @@ fn own_client(rt: HostRuntime) {
     let last = sign(&rt, &mut client);
     end(&rt, &mut client, Status::Ok);
     takes_second(&rt, &mut client, &last);
+    let_go(client);
 }

@@ -1,13 +1,12 @@
 //! Three clients of one server over TCP, with their blocks: two write at once, and the third sees both writes.
 
-use crate::changes::{Planned, lay, nothing};
-use crate::here::Here;
+use crate::here::{Here, let_go};
 use block_store::Store;
-use client_aids::clients::{
-    MemoryClient, client_of, declare_changes, end, first_key, sign, step_on,
-};
+use client_aids::changes::{Planned, listing_both, making, nothing};
+use client_aids::clients::{MemoryClient, declare_changes, end, first_key, sign, step_on};
+use client_aids::three::{Three, three_clients};
 use client_verify::{Look, Step};
-use layout::{Digest, User};
+use layout::Digest;
 use lms_sign::PublicKey;
 use plain_user::{Caller, Replied};
 use server_workers::{Accepted, OpenGate, serve};
@@ -19,9 +18,7 @@ use std::thread;
 use std::thread::Threads;
 use std::time::Clock;
 use test_aids::numbers::{i_number, principal};
-use test_aids::texts::key_of;
 use test_aids::{Host, check, check_text};
-use update_cert::{Action, Change, TableChange};
 use wire::{RequestKind, Status};
 
 /// How many blocks are asked for at most at one go.
@@ -116,36 +113,15 @@ fn sees(
             Look::Need(digest) => {
                 let block = get(rt, caller, digest);
                 assert!(rt; client.looking());
-                look = client.give(Some(&block)).expect(rt, "memory");
+                let next = client.give(Some(&block)).expect(rt, "memory");
+                let_go(look);
+                look = next;
             }
             Look::File(file) => return check_text(rt, &file, bytes),
             Look::Dir(_) | Look::None | Look::Broken(_) => panic!(rt; "no file"),
         }
     }
     panic!(rt; "too many blocks")
-}
-
-/// A file of these bytes at the i-number 3 of a user.
-fn a_file(rt: &impl Host, user: u8, bytes: &[u8]) -> Planned {
-    let mut planned = nothing(rt);
-    let digest = lay(rt, &mut planned, bytes);
-    let change = Change::new(principal(rt, user), i_number(rt, 3), Action::Make(digest));
-    planned.changes.push(change).expect(rt, "memory");
-    planned
-}
-
-/// The users 1 and 2 are listed.
-fn two_users(rt: &impl Host) -> Planned {
-    let mut planned = nothing(rt);
-    for number in [1u8, 2] {
-        let user = User::new(number).expect(rt, "a user");
-        let listed = TableChange::AddUser(user, key_of(rt, number).public());
-        planned
-            .changes
-            .push(Change::of_table(listed))
-            .expect(rt, "memory");
-    }
-    planned
 }
 
 /// User 0 makes an operation without changes, and sees the files of both.
@@ -162,19 +138,28 @@ fn write_and_look<R: Alloc<A = Global> + Abort + Net<Listener = TcpListener, Str
     address: SocketAddr,
 ) {
     let host = &(rt, Here);
-    let mut superuser = client_of(host, 0, 0);
-    let mut first = client_of(host, 1, 1);
-    let mut second = client_of(host, 2, 2);
-    let listing = two_users(host);
+    let Three {
+        zero: mut superuser,
+        one: mut first,
+        two: mut second,
+        pinned: _,
+        of_one,
+        of_two,
+    } = three_clients(host);
+    let listing = listing_both(host, of_one, of_two);
     let stream = TcpStream::connect(rt, address).expect(rt, "a connection");
     let mut caller = Caller::new(rt.alloc(), stream);
     operate(host, &mut caller, &mut superuser, listing);
-    let by_first = begin(host, &mut caller, &mut first, a_file(host, 1, b"one"));
-    let by_second = begin(host, &mut caller, &mut second, a_file(host, 2, b"two"));
+    let by_first = begin(host, &mut caller, &mut first, making(host, 1, 3, b"one"));
+    let by_second = begin(host, &mut caller, &mut second, making(host, 2, 3, b"two"));
     commit(host, &mut caller, &mut second, &by_second);
     sees_both(host, &mut caller, &mut superuser);
     commit(host, &mut caller, &mut first, &by_first);
     sees_both(host, &mut caller, &mut superuser);
+    let_go(caller);
+    let_go(second);
+    let_go(first);
+    let_go(superuser);
 }
 
 /// Serves one connection: how many calls were answered.
@@ -188,7 +173,11 @@ fn serve_one<R: Alloc<A = Global> + Abort + Clock + Threads + Wait + Sync>(
     let mut fault = None;
     let connections = Accepted::new(rt, listener, 1, &mut fault);
     let served = serve(rt, alloc, &OpenGate, connections, 1, &store, pinned, log);
-    served.expect(rt, "memory").answered
+    let served = served.expect(rt, "memory");
+    let answered = served.answered;
+    let_go(served);
+    let_go(store);
+    answered
 }
 
 #[test]

@@ -1,7 +1,7 @@
 //! The server: a long history of calls made by hand with their answers, in the order in which faults are told, and a
 //! full log.
 
-use crate::here::Here;
+use crate::here::{Here, let_go};
 use client_aids::servers::{Server, answers_commit, answers_update, server_of};
 use consistency_server::{Call, CallKind, Log, MemoryLog};
 use lms_sign::PrivateKey;
@@ -275,6 +275,7 @@ fn each_call_of_a_long_history(rt: HostRuntime) {
         run.answers(&rt, *sent, *status);
     }
     keeps_each(&rt, &run);
+    let_go(run);
 }
 
 /// Fills a log.
@@ -321,6 +322,7 @@ fn full_log_is_busy(rt: HostRuntime) {
     let mut run = new_run(&rt);
     answers_full(&rt, &mut run, &FULL);
     check(&rt, run.server.ordered.history().len() == 4, "not Busy");
+    let_go(run);
     let mut run = new_run(&rt);
     run.answers(
         &rt,
@@ -329,4 +331,5 @@ fn full_log_is_busy(rt: HostRuntime) {
     );
     answers_full(&rt, &mut run, &FULL_BESIDE);
     check(&rt, run.server.ordered.history().len() == 4, "not Busy");
+    let_go(run);
 }

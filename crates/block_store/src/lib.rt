@@ -10,8 +10,6 @@ mod error;
 mod pass;
 mod shelf;
 mod store;
-#[cfg(test)]
-mod tests;
 
 pub use error::StoreError;
 pub use pass::BlockPass;

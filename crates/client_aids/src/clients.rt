@@ -44,9 +44,14 @@ pub fn open_over(rt: &impl Aided, user: User, pinned: PublicKey, kept: Kept) -> 
     }
 }
 
-/// The client of user 1 by this key, which knows this key of user 0's.
-pub fn client_with(rt: &impl Aided, own: PrivateKey<Global>, pinned: PublicKey) -> MemoryClient {
-    let user = found(rt, User::new(1), "a user");
+/// The client of a user by this key, over devices on which nothing stands. It takes the other key for user 0's.
+pub fn client_with(
+    rt: &impl Aided,
+    user: u8,
+    own: PrivateKey<Global>,
+    pinned: PublicKey,
+) -> MemoryClient {
+    let user = found(rt, User::new(user), "a user");
     open_over(rt, user, pinned, nothing_yet(rt, own))
 }
 
@@ -58,8 +63,7 @@ pub fn client_of(rt: &impl Aided, user: u8, key: u8) -> MemoryClient {
     } else {
         first_key(rt)
     };
-    let user = found(rt, User::new(user), "a user");
-    open_over(rt, user, pinned, nothing_yet(rt, own))
+    client_with(rt, user, own, pinned)
 }
 
 /// The key that every client knows, user 0's.
@@ -73,7 +77,7 @@ pub fn superuser(rt: &impl Aided) -> MemoryClient {
 }
 
 /// What the client answers to the declaration of its next operation, of these changes, for which these texts were laid out.
-fn begun(
+pub fn begun(
     rt: &impl Aided,
     client: &mut MemoryClient,
     changes: &[Change<Global>],

@@ -4,7 +4,8 @@ use crate::clients::{Kept, MemoryClient};
 use client_verify::{ClientError, Parts, Phase};
 use leaf_ledger::MemoryDevice;
 use std::alloc::Global;
-use test_aids::{Aided, check, check_text, given};
+use test_aids::texts::joined;
+use test_aids::{Aided, check, check_text};
 
 /// What a crash leaves of a device.
 #[derive(Clone, Copy)]
@@ -15,13 +16,17 @@ pub enum Left {
     Written,
 }
 
+/// The bytes that such a crash leaves of the device.
+pub fn bytes_left(rt: &impl Aided, device: &MemoryDevice<Global>, left: Left) -> Vec<u8> {
+    match left {
+        Left::Synced => joined(rt, &[device.settled()]),
+        Left::Written => joined(rt, &[device.text()]),
+    }
+}
+
 /// The device after a crash that left this.
 fn crashed(rt: &impl Aided, device: MemoryDevice<Global>, left: Left) -> MemoryDevice<Global> {
-    let left = match left {
-        Left::Synced => device.settled(),
-        Left::Written => device.text(),
-    };
-    let left = given(rt, Vec::from_slice(rt.alloc(), left), "memory");
+    let left = bytes_left(rt, &device, left);
     match device.crash(left) {
         Ok(device) => device,
         Err((error, _)) => rt.fail(error),

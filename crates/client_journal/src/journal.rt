@@ -167,6 +167,14 @@ impl<D: Device> Journal<D> {
         self.usable
     }
 
+    /// The device, to be looked at.
+    pub fn device(&self) -> &D
+        ensures file { D.history result.now ≡ self.now.file }
+        ensures faults { D.fault_count result.now ≡ self.now.faults }
+    {
+        &self.device
+    }
+
     /// Hands the device back.
     pub fn close(self) -> D
         ensures file { D.history result ≡ self.file }

@@ -14,8 +14,6 @@ mod phase;
 mod record;
 mod staging;
 mod state;
-#[cfg(test)]
-mod tests;
 
 pub use error::JournalError;
 pub use journal::Journal;

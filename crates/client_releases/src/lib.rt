@@ -11,8 +11,6 @@ mod phase;
 mod releases;
 mod releasing;
 mod signing;
-#[cfg(test)]
-mod tests;
 mod told;
 
 pub use error::ClientError;

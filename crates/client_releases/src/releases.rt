@@ -236,6 +236,22 @@ impl<L: Device, J: Device, A: Allocator> Releases<L, J, A> {
         &self.text
     }
 
+    /// The device of the ledger, to be looked at.
+    pub fn ledger(&self) -> &L
+        ensures file { L.history result.now ≡ self.now.devices.ledger.file }
+        ensures faults { L.fault_count result.now ≡ self.now.devices.ledger.faults }
+    {
+        self.ledger.device()
+    }
+
+    /// And that of the journal.
+    pub fn journal(&self) -> &J
+        ensures file { J.history result.now ≡ self.now.devices.journal.file }
+        ensures faults { J.fault_count result.now ≡ self.now.devices.journal.faults }
+    {
+        self.journal.device()
+    }
+
     /// What is true of it at all times, for the proofs of callers: it does nothing.
     pub fn stands(&self)
         ensures { IsReleased self.now }

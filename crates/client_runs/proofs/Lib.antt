@@ -16,3 +16,12 @@ mod Stored
 mod KnownViews
 mod TrueTables
 mod Agreed
+mod Anywhere
+mod Same
+mod OneMore
+mod NotTaken
+mod Telling
+mod Answered
+mod Heard
+mod Taking
+mod Ended

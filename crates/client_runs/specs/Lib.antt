@@ -3,3 +3,7 @@ pub mod Runs
 pub mod Released
 pub mod UsedOnce
 pub mod Agreeing
+pub mod Told
+pub mod NotTaken
+pub mod Carried
+pub mod Slots

@@ -1,7 +1,15 @@
 //! Runs of all clients of all users, with failed device calls, crashes and restarts: what a client releases it releases
-//! once, and accepted views agree. Laws for callers: nothing here runs.
+//! once, and accepted views agree. Laws for callers, and `run`, which carries out the steps of such a run.
 #![tactic(auto)]
 
+mod answering;
+mod armed;
+mod calls;
+mod carrying;
 mod laws;
+mod slot;
+mod world;
 
+pub use carrying::run;
 pub use laws::{each_is_used_once, runs_agree};
+pub use world::{Accepted, Act, Answer, World, WorldStep};

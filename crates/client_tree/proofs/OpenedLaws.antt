@@ -1,6 +1,6 @@
 -- What operations, in turn, make of a part and of a tree.
 use Rattle.std.proofs.Common.{◌≡◌, ℕ, suc, ◌+◌, ◌<◌, Bool, true, false, List, [], ◌∷◌, ◌++◌, length, take, drop, Option, Some, None, Result, Ok, Err, refl, subst, sym, ap, ◌∙◌, inl, inr, add-one, drop-cons, append_assoc}
-use Rattle.std.specs.Prelude.{IfErr, IfOk, IsErrAnd, filter, slice_index_or, if◌then◌else◌}
+use Rattle.std.specs.Prelude.{◌⊎◌, IfErr, IfOk, IsErrAnd, filter, slice_index_or, if◌then◌else◌}
 use Rattle.std.specs.Option.{option_map}
 use Rattle.std.proofs.lemmas.List.{append-nil, take-append-drop}
 use Rattle.std.proofs.lemmas.List.Elements.{filter-append}
@@ -13,16 +13,18 @@ use Rattle.update_cert.specs.Reading.{Reading, after_read, read_changes}
 use Rattle.update_cert.specs.Blocks.{Blocks, Agrees, inode_told}
 use Rattle.update_cert.specs.Part.{HasTable, IsPartOf, Part, Slot, content_of, part_of, slot_at, slot_of, stands_at}
 use Rattle.update_cert.specs.Slots.{slot_after}
-use Rattle.update_cert.specs.Asked.{Lacks, IsAskedFor, LacksAskedFor}
+use Rattle.update_cert.specs.Asked.{HasAskedFor, Lacks, IsAskedFor, LacksAskedFor}
+use Rattle.update_cert.specs.Spot.{lacks}
 use Rattle.update_cert.specs.declared.error.ApplyError.{ApplyError}
 use Rattle.update_cert.specs.declared.error.ApplyError.TheVariants as error
 use Rattle.update_cert.specs.declared.spot.Spot.{Spot}
 use Rattle.update_cert.proofs.ActLaws.{has_table_after}
+use Rattle.update_cert.proofs.SomeReading.{some_reading}
 use Rattle.std.proofs.Math.Seq.{take-suc}
 use Rattle.pending_list.specs.Reply.{PendingItem}
 use Rattle.client_tree.specs.Tables.{IsOfTable, IsRead, LacksOfTable}
 use Rattle.client_tree.specs.View.{View, actor_of, after_items, comes_after, handle_of, is_superusers, named, tree_before}
-use Rattle.client_tree.specs.Opened.{IsPartAfter, IsReached, items_on, slot_after_items}
+use Rattle.client_tree.specs.Opened.{HasAskedByItems, IsPartAfter, IsReached, items_on, slot_after_items}
 
 -- ---- one operation more
 
@@ -126,6 +128,72 @@ of_item blocks x p before part earlier later item e read turn after lacks =
 pub handed_on : {X : Type 0} (r : Result X ApplyError) (v : ApplyError) (P : ApplyError → Type 0) → IsErrAnd r (λ e. e ≡ v) → P v → IfErr r P
 handed_on (Ok x) v P is holds = tt
 handed_on (Err e) v P is holds = subst P (sym is) holds
+
+-- ---- nothing of it is missing
+
+-- what one part asks for, another asks for that has the same slots
+same_asked : (blocks : Blocks) (actor : Actor) (changes : List (Change Digest)) (other part : Part) (digest : Digest) (s : Spot) → other.table.principal ≡ part.table.principal → ((i : ℕ) → slot_at other i ≡ slot_at part i)
+    → IsAskedFor blocks actor changes other digest s → IsAskedFor blocks actor changes part digest s
+same_asked blocks actor changes other part digest s same slots (k, c, inode, (here, of, meets), asks, wants) = (
+  k,
+  c,
+  inode,
+  (
+    here,
+    of ∙ same,
+    λ reads agrees.
+        ap (λ (q : ℕ). slot_after reads actor q c.i_number (take k changes) (slot_at part c.i_number)) (sym same)
+        ∙ ap (slot_after reads actor other.table.principal c.i_number (take k changes)) (sym (slots c.i_number))
+        ∙ meets reads agrees,
+  ),
+  asks,
+  wants,
+)
+
+-- two parts that these operations make of one have the same slots
+same_slots : (blocks : Blocks) (t : Table) (items : List PendingItem) (before other part : Part) (i : ℕ) → IsPartAfter blocks t items before other → IsPartAfter blocks t items before part → slot_at other i ≡ slot_at part i
+same_slots blocks t items before other part i is after = let some = some_reading blocks in is.slots some.0 some.1 i ∙ sym (after.slots some.0 some.1 i)
+
+no_end : {X : Type 0} (xs : List X) (y : X) (ys : List X) → [] ≡ xs ++ y ∷ ys → ⊥
+no_end [] y ys is = absurd cc
+no_end (x ∷ xs) y ys is = absurd cc
+
+more_left : {X : Type 0} (e x y : X) (es xs ys : List X) → ((xs ≡ es) × (x ≡ y)) ⊎ ((left : List X) × (xs ≡ es ++ y ∷ left)) → (((e ∷ xs) ≡ (e ∷ es)) × (x ≡ y)) ⊎ ((left : List X) × ((e ∷ xs) ≡ (e ∷ es) ++ y ∷ left))
+more_left {X = X} e x y es xs ys (inl (is, same)) = inl (ap (λ (zs : List X). e ∷ zs) is, same)
+more_left {X = X} e x y es xs ys (inr (left, is)) = inr (left, ap (λ (zs : List X). e ∷ zs) is)
+
+-- one of a list with one more is the last, or one of the others
+last_split : {X : Type 0} (xs : List X) (x : X) (es : List X) (y : X) (ys : List X) → xs ++ x ∷ [] ≡ es ++ y ∷ ys → ((xs ≡ es) × (x ≡ y)) ⊎ ((left : List X) × (xs ≡ es ++ y ∷ left))
+last_split [] x [] y ys is = inl (refl, let whole : x ∷ [] ≡ y ∷ ys = is in cc)
+last_split [] x (e ∷ es) y ys is = absurd (no_end es y ys (let whole : x ∷ [] ≡ e ∷ (es ++ y ∷ ys) = is in cc))
+last_split {X = X} (z ∷ zs) x [] y ys is = let whole : z ∷ (zs ++ x ∷ []) ≡ y ∷ ys = is in let first : z ≡ y = cc in inr (zs, ap (λ (w : X). w ∷ zs) first)
+last_split {X = X} (z ∷ zs) x (e ∷ es) y ys is =
+    let whole : z ∷ (zs ++ x ∷ []) ≡ e ∷ (es ++ y ∷ ys) = is in
+    let first : e ≡ z = cc in
+    let rest : zs ++ x ∷ [] ≡ es ++ y ∷ ys = cc in
+    subst (λ (w : X). (((w ∷ zs) ≡ (e ∷ es)) × (x ≡ y)) ⊎ ((left : List X) × ((w ∷ zs) ≡ (e ∷ es) ++ y ∷ left))) first (more_left e x y es zs ys (last_split zs x es y ys rest))
+
+pub none_asked : (blocks : Blocks) (t : Table) (before : Part) → HasAskedByItems blocks t [] before
+none_asked blocks t before = λ earlier item later part digest s split after asked. absurd (no_end earlier item later split)
+
+-- with one operation more
+pub asked_next : (blocks : Blocks) (t : Table) (items : List PendingItem) (item : PendingItem) (before part : Part) → IsPartAfter blocks t items before part → HasAskedFor blocks (actor_of t item) item.cert.changes part
+    → HasAskedByItems blocks t items before → HasAskedByItems blocks t (items ++ item ∷ []) before
+asked_next blocks t items item before part after has so_far = λ earlier y later other digest s split is asked.
+    elim (last_split items item earlier y later split) [
+      | inl last ↦ (
+          let made : IsPartAfter blocks t items before other = subst (λ (xs : List PendingItem). IsPartAfter blocks t xs before other) (sym last.0) is in
+          let own : IsAskedFor blocks (actor_of t item) item.cert.changes other digest s = subst (λ (z : PendingItem). IsAskedFor blocks (actor_of t z) z.cert.changes other digest s) (sym last.1) asked in
+          has digest s (same_asked blocks (actor_of t item) item.cert.changes other part digest s (made.principal ∙ sym after.principal) (λ i. same_slots blocks t items before other part i made after) own))
+      | inr one ↦ so_far earlier y one.0 other digest s one.1 is asked
+    ]
+
+-- nothing that is reached is missing
+pub reached_taken : (blocks : Blocks) (x : View) (p : Principal) (before : ITable) → IsRead blocks p (handle_of x p) before → HasAskedByItems blocks x.table (items_on x p) (part_of before) → (digest : Digest) (s : Spot) → IsReached blocks x p digest s → lacks blocks digest s ≡ false
+reached_taken blocks x p before read has digest s (inl of) = read.taken digest s of
+reached_taken blocks x p before read has digest s (inr is) =
+    let same : is.before ≡ before = let both : Some is.before ≡ Some before = sym is.read.spelled ∙ read.spelled in cc in
+    has is.earlier is.item is.later is.part digest s is.in_turn (subst (λ (t : ITable). IsPartAfter blocks x.table is.earlier (part_of t) is.part) same is.after) is.asked
 
 -- ---- the table of principals
 

@@ -32,14 +32,6 @@ pub record IsPartAfter (blocks : Blocks) (t : Table) (items : List PendingItem) 
 abbrev pub items_on : View → Principal → List PendingItem
 items_on x p = filter (comes_after x p) x.others ++ x.own ∷ []
 
--- The part of this principal: the i-table that its handle names, as the blocks spell it and tell each digest of it, after
--- these operations; so it is that of the view's tree.
-pub record IsOpened (blocks : Blocks) (x : View) (p : Principal) (before : ITable) (part : Part) : Type 0 where
-  pub read : IsRead blocks p (handle_of x p) before
-  pub told : (i : INumber) → inode_told blocks p (handle_of x p) i ≡ Some (digest_at before i)
-  pub after : IsPartAfter blocks x.table (items_on x p) (part_of before) part
-  pub stands : (reads : Reading) (users : Table) → Agrees blocks reads → IsPartOf reads part (tree reads users x)
-
 -- ---- what is asked for
 
 -- The digest is asked for by one of the operations, at its turn: of what those before it made of the i-table.
@@ -54,9 +46,27 @@ pub record IsAskedByItem (blocks : Blocks) (x : View) (p : Principal) (digest : 
   pub after : IsPartAfter blocks x.table earlier (part_of before) part
   pub asked : IsAskedFor blocks (actor_of x.table item) item.cert.changes part digest s
 
+-- nothing that these operations ask for, each at its turn, is missing
+abbrev pub HasAskedByItems : Blocks → Table → List PendingItem → Part → Type 0
+HasAskedByItems blocks t items before =
+    (earlier : List PendingItem) (item : PendingItem) (later : List PendingItem) (part : Part) (digest : Digest) (s : Spot)
+    → items ≡ earlier ++ item ∷ later → IsPartAfter blocks t earlier before part → IsAskedFor blocks (actor_of t item) item.cert.changes part digest s → lacks blocks digest s ≡ false
+
 -- a block of the principal's i-table, or one that tells what the operations make of its part
 abbrev pub IsReached : Blocks → View → Principal → Digest → Spot → Type 0
 IsReached blocks x p digest s = IsOfTable blocks p (handle_of x p) digest s ⊎ IsAskedByItem blocks x p digest s
+
+-- ---- a part, opened
+
+-- The part of this principal: the i-table that its handle names, as the blocks spell it and tell each digest of it, after
+-- these operations; so it is that of the view's tree. Nothing by which it is opened is missing: each block of the i-table,
+-- and each that tells what the operations make of the part, is what its place takes.
+pub record IsOpened (blocks : Blocks) (x : View) (p : Principal) (before : ITable) (part : Part) : Type 0 where
+  pub read : IsRead blocks p (handle_of x p) before
+  pub told : (i : INumber) → inode_told blocks p (handle_of x p) i ≡ Some (digest_at before i)
+  pub after : IsPartAfter blocks x.table (items_on x p) (part_of before) part
+  pub stands : (reads : Reading) (users : Table) → Agrees blocks reads → IsPartOf reads part (tree reads users x)
+  pub taken : (digest : Digest) (s : Spot) → IsReached blocks x p digest s → lacks blocks digest s ≡ false
 
 -- ---- a look
 

@@ -1,17 +1,17 @@
 //! A principal's part of the tree of a view, opened.
 
-ghost use Rattle.std.specs.Prelude.{◌≡◌, ◌++◌, ◌∷◌, [], ℕ, List, Some, IfOk, IfErr, filter};
+ghost use Rattle.std.specs.Prelude.{◌≡◌, ◌++◌, ◌∷◌, [], ℕ, List, Some, IfOk, IfErr, OnOk, filter};
 ghost use Rattle.itable.specs.ITable.{ITable as ITableModel, digest_at};
 ghost use Rattle.principals.specs.Table.{Table as Principals};
 ghost use Rattle.update_cert.specs.World.{Tree};
 ghost use Rattle.update_cert.specs.Reading.{Reading, after_read, void_of_read};
 ghost use Rattle.update_cert.specs.Blocks.{Agrees, inode_told};
 ghost use Rattle.update_cert.specs.Part.{Part as PartModel, IsPartOf, part_of};
-ghost use Rattle.update_cert.specs.Asked.{Lacks, LacksAskedFor};
+ghost use Rattle.update_cert.specs.Asked.{HasAskedFor, Lacks, LacksAskedFor};
 ghost use Rattle.pending_list.specs.Reply.{PendingItem as Item};
 ghost use Rattle.client_tree.specs.Tables.{IsRead};
 ghost use Rattle.client_tree.specs.View.{actor_of, after_items, comes_after, handle_of, tree_before};
-ghost use Rattle.client_tree.specs.Opened.{IsOpened, IsPartAfter, IsReached};
+ghost use Rattle.client_tree.specs.Opened.{HasAskedByItems, IsOpened, IsPartAfter, IsReached};
 
 use crate::tables::read_table;
 use crate::view::{View, acts_for};
@@ -37,6 +37,7 @@ fn apply_item<A: Allocator + Copy, B: Blocks>(
     ensures after { (before : PartModel) (items : List Item) → IsPartAfter (B.held blocks.now) table.now items before part
         → IfOk result (λ applied. IsPartAfter (B.held blocks.now) table.now (items ++ item.now ∷ []) before applied.part) }
     ensures missing { IfErr result (LacksAskedFor (B.held blocks.now) (actor_of table.now item.now) item.now.cert.changes part) }
+    ensures taken { OnOk result (HasAskedFor (B.held blocks.now) (actor_of table.now item.now) item.now.cert.changes part) }
 {
     let is_member = acts_for(table, part.principal(), item);
     apply(alloc, part, blocks, is_member, item.cert())
@@ -76,6 +77,7 @@ impl<'a, A: Allocator + Copy> View<'a, A> {
             → IfOk result (λ after. IsPartOf reads after (after_items reads self.now.table (filter (comes_after self.now principal) self.now.others) tree)) }
         ensures missing { (before : ITableModel) → IsRead (B.held blocks.now) principal (handle_of self.now principal) before → part ≡ part_of before
             → IfErr result (Lacks (B.held blocks.now) (IsReached (B.held blocks.now) self.now principal)) }
+        ensures taken { OnOk result (HasAskedByItems (B.held blocks.now) self.now.table (filter (comes_after self.now principal) self.now.others) part) }
     {
         let mut after = part;
         for item in self.others() {
@@ -100,6 +102,7 @@ impl<'a, A: Allocator + Copy> View<'a, A> {
         ensures stands { (reads : Reading) (users : Principals) → Agrees (B.held blocks.now) reads
             → IfOk result (λ earlier. IsPartOf reads earlier.part (tree_before reads users self.now)) }
         ensures missing { IfErr result (Lacks (B.held blocks.now) (IsReached (B.held blocks.now) self.now principal)) }
+        ensures taken { IfOk result (λ earlier. HasAskedByItems (B.held blocks.now) self.now.table (filter (comes_after self.now principal) self.now.others) (part_of earlier.before)) }
     {
         let handle = self.handle_of(alloc, principal)?;
         let table = read_table(alloc, blocks, principal, handle)?;

@@ -106,8 +106,8 @@ impl<L: Device, J: Device, A: Allocator + Copy> Client<L, J, A> {
     ghost use Rattle.leaf_ledger.specs.Ledger.{IsForeign};
     ghost use Rattle.client_journal.specs.Records.{IsDamaged};
     ghost use Rattle.client_releases.specs.Releasing.{IsOpening};
-    ghost use Rattle.client_verify.specs.State.{opened, released};
-    ghost use Rattle.client_releases.specs.Told.{IsToldBy, TellsOfOther};
+    ghost use Rattle.client_verify.specs.State.{AreReplies, opened, released};
+    ghost use Rattle.client_releases.specs.Told.{IsReleased, IsToldBy, TellsOfOther};
 
     /// Opens the client of this user over its devices, before its first operation or after a crash: a declared operation
     /// goes on with its certificate, and a signed one with its structure. User 0's public key is known to every client. A
@@ -191,6 +191,32 @@ impl<L: Device, J: Device, A: Allocator + Copy> Client<L, J, A> {
             view: _,
         } = self;
         releases.close()
+    }
+
+    /// What is true of it at all times. For the proofs of callers: it does nothing.
+    pub fn stands(&self)
+        ensures released { IsReleased (released self.now) }
+        ensures replies { AreReplies (released self.now) self.now.checked self.now.accepted }
+    {
+        self.releases.stands();
+        let _checked = &self.checked;
+        let _accepted = &self.accepted;
+    }
+
+    /// The device of the ledger, to be looked at.
+    pub fn ledger(&self) -> &L
+        ensures file { L.history result.now ≡ self.now.devices.ledger.file }
+        ensures faults { L.fault_count result.now ≡ self.now.devices.ledger.faults }
+    {
+        self.releases.ledger()
+    }
+
+    /// And that of the journal.
+    pub fn journal(&self) -> &J
+        ensures file { J.history result.now ≡ self.now.devices.journal.file }
+        ensures faults { J.fault_count result.now ≡ self.now.devices.journal.faults }
+    {
+        self.releases.journal()
     }
 
     /// Whose client it is.

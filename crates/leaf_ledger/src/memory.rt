@@ -1,6 +1,6 @@
 //! A device in memory: a call of it can be made to fail, and a crash leaves what is chosen among what it may leave.
 
-ghost use Rattle.std.specs.Prelude.{◌≡◌, Some, None, IfOk, IfErr};
+ghost use Rattle.std.specs.Prelude.{◌≡◌, Some, None, true, false, IfOk, IfErr};
 ghost use Rattle.leaf_ledger.specs.Device.{started, MayLeave};
 ghost use Rattle.leaf_ledger.specs.Recording.{fails_next, one_call_less};
 ghost use Rattle.leaf_ledger.specs.declared.memory.CrashError.TheVariants as crash_error;
@@ -83,6 +83,14 @@ impl<A: Allocator + Copy> MemoryDevice<A> {
         ensures { result.now ≡ self.now.history.now.unsynced }
     {
         self.recording.unsynced()
+    }
+
+    /// Whether a crash now may leave a text.
+    pub fn may_leave(&self, left: &[u8]) -> bool
+        ensures yes { result ≡ true → MayLeave self.now.history.now left.now }
+        ensures no { result ≡ false → MayLeave self.now.history.now left.now → ⊥ }
+    {
+        self.recording.may_leave(left)
     }
 
     /// The device after a crash that left this text.

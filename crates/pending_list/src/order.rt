@@ -13,7 +13,7 @@ use version_order::{Structure, depth};
 
 /// Whether the first counts more operations than the second, or as many for a lesser user.
 #[tactic(auto, unfolding(crate::specs::Reply::outranks))]
-fn outranks<A: Allocator>(first: &Signed<Structure<A>>, second: &Signed<Structure<A>>) -> bool
+pub fn outranks<A: Allocator>(first: &Signed<Structure<A>>, second: &Signed<Structure<A>>) -> bool
     ensures { result ≡ outranks first.now second.now }
 {
     let (first, second) = (first.value.plan(), second.value.plan());

@@ -6,8 +6,6 @@ mod laws;
 mod marks;
 mod reading;
 mod table;
-#[cfg(test)]
-mod tests;
 
 pub use error::TableError;
 pub use laws::{membership, open_rows};

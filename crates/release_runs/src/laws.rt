@@ -2,8 +2,10 @@
 
 ghost use Rattle.release_runs.specs.UsedOnce.{CertificatesOnce, EachRun, LeavesOnce, StructuresOnce};
 
-/// Over every run of what a user's client releases, with any crashes and failures of its devices, no two different texts
-/// that it releases carry one leaf number, no two different certificates one number, and no two different structures one.
+/// Over every run of what a user's client releases, with any crashes and failures of its devices, no two different
+/// texts that it releases carry one leaf number. Where each certificate that is declared has the next number, no two
+/// different certificates carry one number, and no two different structures. Of a run in which one has another number
+/// nothing is said of these: the client of client_verify declares none but the next.
 pub fn each_is_used_once()
     ensures leaves { EachRun LeavesOnce }
     ensures certificates { EachRun CertificatesOnce }

@@ -76,6 +76,15 @@ is_split r zs is others own before after t d place holds shown waits ends deep_a
       deepest = best ∙ ap top (sym shown);
     }
 
+-- the end of the pending list is what is above
+pub ends_above : (r : Reply) (is after : List PendingItem) (d place : ℕ) → lists r ≡ true → is ≡ r.pending → d ≡ depth_of_top r.structures → place ≡ place_above d is → after ≡ drop place is
+    → after ≡ filter (deep (depth_of_top r.structures)) r.pending
+ends_above r is after d place holds waits deep_as placed back =
+    let up : ascends (depths is) ≡ true = subst (λ (js : List PendingItem). ascends (depths js) ≡ true) (sym waits) (ascending_of r holds) in
+    back ∙ ap (λ n. drop n is) placed ∙ (split_above d None is up).1
+    ∙ ap (λ n. filter (deep n) is) deep_as
+    ∙ ap (λ (js : List PendingItem). filter (deep (depth_of_top r.structures)) js) waits
+
 -- ---- the plans of the items that wait, and of those above
 
 pub waiting_plans : (x : Lists) → waiting x ≡ map (λ i. i.plan) (items_waiting x)

@@ -4,6 +4,7 @@ pub mod SameVector
 pub mod RaisedLaws
 pub mod VectorLaws
 pub mod EntriesLaws
+pub mod TopEntry
 pub mod RecordsLaws
 pub mod Examples
 pub mod OwnRaised

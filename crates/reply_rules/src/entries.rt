@@ -1,8 +1,9 @@
 //! The rule on entries. Each plan's entry is made once.
 
-ghost use Rattle.std.specs.Prelude.{◌≡◌, ◌&&◌, IfOk, map, take, drop};
+ghost use Rattle.std.specs.Prelude.{◌≡◌, ◌∷◌, [], ◌&&◌, IfOk, map, take, drop};
 ghost use Rattle.std.specs.List.{list_all};
 ghost use Rattle.version_order.specs.Plan.{entry_of};
+ghost use Rattle.pending_list.specs.Reply as reply_spec;
 ghost use Rattle.reply_rules.specs.Lists.{shown, pending};
 ghost use Rattle.reply_rules.specs.Rules.{waiting, above, entries_of, top_entries, own_entry_of_top, top_known, top_waiting, above_show, other_entries, own_only, own_all, entries};
 ghost use Rattle.reply_rules.specs.Shown.{shows_left, shows_by};
@@ -10,7 +11,7 @@ ghost use Rattle.reply_rules.specs.Shown.{shows_left, shows_by};
 use crate::reply_lists::Lists;
 use crate::rest::{Rest, are_listed, are_of_either};
 use layout::{Memory, User};
-use pending_list::{PendingItem, Signed};
+use pending_list::{PendingItem, Signed, outranks};
 use std::alloc::Allocator;
 use version_order::{Entry, Plan, Structure, depth};
 
@@ -52,18 +53,36 @@ fn top_entries<'a, A: Allocator>(lists: &Lists<'a, A>) -> &'a [Entry]
     }
 }
 
-/// Top's own entry, none where there is no structure.
-fn own_entry_of_top<A: Allocator + Copy>(
-    alloc: A,
-    lists: &Lists<'_, A>,
-) -> Result<Vec<Entry, A>, Memory>
-    ensures { IfOk result (λ own. own.items ≡ own_entry_of_top lists.now) }
+/// The entry of top, of those of the structures: top is the first one that it doesn't outrank.
+fn entry_of_top<'e, A: Allocator>(
+    structures: &[Signed<Structure<A>>],
+    best: &Signed<Structure<A>>,
+    entered: &'e [Entry],
+) -> &'e [Entry]
+    requires best { reply_spec.top structures.now ≡ Some best.now }
+    requires entered { entered.now ≡ entries_of (map (λ z. z.value.plan) structures.now) }
+    ensures { result.now ≡ entry_of best.now.value.plan ∷ [] }
 {
-    let mut own = Vec::new(alloc);
-    if let Some(top) = lists.top() {
-        own.push(top.value.plan().entry(alloc)?)?;
+    let mut rest = entered;
+    for structure in structures {
+        let (own, later) = rest.split_at(1);
+        if !outranks(best, structure) {
+            return own;
+        }
+        rest = later;
     }
-    Ok(own)
+    &[]
+}
+
+/// Top's own entry, of those of the structures: none where there is no structure.
+fn own_entry_of_top<'e, A: Allocator>(lists: &Lists<'_, A>, entered: &'e [Entry]) -> &'e [Entry]
+    requires { entered.now ≡ entries_of (shown lists.now) }
+    ensures { result.now ≡ own_entry_of_top lists.now }
+{
+    match lists.top() {
+        Some(best) => entry_of_top(lists.structures(), best, entered),
+        None => &[],
+    }
 }
 
 /// Whether a plan of this user and with these entries shows what it has to, where those left of them without those
@@ -207,6 +226,6 @@ pub(crate) fn entries_hold<A: Allocator + Copy>(
 {
     let entered = entries_of_structures(alloc, lists.structures())?;
     let made = entries_of_pending(alloc, lists.pending())?;
-    let own = own_entry_of_top(alloc, lists)?;
-    Ok(hold_by(lists, &own, &entered, &made))
+    let own = own_entry_of_top(lists, &entered);
+    Ok(hold_by(lists, own, &entered, &made))
 }

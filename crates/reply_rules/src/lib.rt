@@ -15,4 +15,5 @@ mod vector;
 
 pub use judge::broken;
 pub use lists::lists_hold;
+pub use reply_lists::above_top;
 pub use rule::Rule;

@@ -1,8 +1,9 @@
 //! The lists of a reply, as the rules speak of them.
 
-ghost use Rattle.std.specs.Prelude.{◌≡◌, ◌≤◌, ◌++◌, length, true};
+ghost use Rattle.std.specs.Prelude.{◌≡◌, ◌≤◌, ◌++◌, length, filter, true};
 ghost use Rattle.std.specs.Option.{option_copied};
 ghost use Rattle.pending_list.specs.Reply.{top, depth_of_top};
+ghost use Rattle.pending_list.specs.Reply as reply_spec;
 ghost use Rattle.reply_rules.specs.Lists.{lists_of, items, structure_of};
 ghost use Rattle.reply_rules.specs.Rules.{lists, is_above, items_waiting, items_above};
 ghost use Rattle.reply_rules.specs.Split.{place_above};
@@ -52,6 +53,18 @@ fn place_above<A: Allocator>(pending: &[PendingItem<A>], top: u64) -> usize
         before += 1;
     }
     before
+}
+
+/// What is pending and of greater depth than top, in order. Of a reply that meets the rule on lists it is the end of
+/// the pending list.
+pub fn above_top<A: Allocator>(reply: &Reply<A>) -> &[PendingItem<A>]
+    requires { lists reply.now ≡ true }
+    ensures { result.now ≡ filter (λ i. reply_spec.is_above reply.now.structures i.plan) reply.now.pending }
+{
+    let pending = reply.pending();
+    let place = place_above(pending, depth_of_top(reply));
+    let (_waiting, above) = pending.split_at(place);
+    above
 }
 
 impl<'a, A: Allocator> Lists<'a, A> {

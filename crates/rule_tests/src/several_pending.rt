@@ -6,7 +6,7 @@ use crate::rule_parts::first_broken;
 use layout::{Text, digest};
 use pending_list::Reply;
 use principals::Table;
-use reply_rules::Rule;
+use reply_rules::{Rule, above_top, lists_hold};
 use std::alloc::Global;
 use test_aids::Host;
 use test_aids::tables::{FORM, listing};
@@ -231,8 +231,12 @@ static GOOD_ONES: [Case; 6] = [
     },
 ];
 
-/// Who waits is listed since number 2 of user 0's, and what top counts.
-static USERS_AND_NUMBERS: [Case; 4] = [
+/// The first four break this part alone: in each the depths ascend, no version falls, and top and the own one have an
+/// entry of what waits. Who waits is listed since number 2 of user 0's, and each vector counts it as that of the good
+/// reply counts user 2. A structure's own vector lacks its user: that of top, after it, has the version, and nothing
+/// waits. The vector of what waits lacks its user: that of top has the version. What waits has the number of its user's
+/// structure, which it names: top counts both.
+static USERS_AND_NUMBERS: [Case; 7] = [
     Case {
         name: "who waits wasn't listed yet",
         line: &[
@@ -243,11 +247,86 @@ static USERS_AND_NUMBERS: [Case; 4] = [
                 versions: &[(0, 1), (4, 1)],
                 ..WAITING
             },
+            Operation {
+                versions: &[(0, 1), (1, 1), (4, 1)],
+                ..TOP
+            },
+            Operation {
+                versions: &[(0, 2), (1, 1), (4, 1)],
+                ..ABOVE
+            },
+            Operation {
+                versions: &[(0, 2), (1, 2), (4, 1)],
+                ..OWN
+            },
+        ],
+        broken: Some(Rule::UnknownUser),
+        ..GOOD
+    },
+    Case {
+        name: "the number of a structure above its version",
+        line: &[
+            HIDDEN,
+            ZERO,
+            Operation {
+                versions: &[(0, 1), (1, 1)],
+                ..WAITING
+            },
+            Operation {
+                entries: &[],
+                ..TOP
+            },
+            Operation {
+                entries: &[],
+                ..OWN_OF_THREE
+            },
+        ],
+        shown: &[1, 3, 2],
+        pending: &[4],
+        broken: Some(Rule::Numbers),
+        ..GOOD
+    },
+    Case {
+        name: "the number of what waits above its version",
+        line: &[
+            HIDDEN,
+            ZERO,
+            Operation {
+                versions: &[(0, 1), (1, 1)],
+                ..WAITING
+            },
             TOP,
             ABOVE,
             OWN,
         ],
-        broken: Some(Rule::UnknownUser),
+        broken: Some(Rule::Numbers),
+        ..GOOD
+    },
+    Case {
+        name: "what waits has the number of its user's structure",
+        line: &[
+            HIDDEN,
+            ZERO,
+            WAITING,
+            Operation {
+                last: Some(2),
+                versions: &[(0, 1), (1, 1), (2, 1)],
+                ..WAITING
+            },
+            Operation {
+                versions: &[(0, 1), (1, 1), (2, 2)],
+                entries: &[3],
+                ..TOP
+            },
+            Operation {
+                versions: &[(0, 1), (1, 1), (2, 2), (3, 1)],
+                entries: &[3],
+                ..OWN_OF_THREE
+            },
+        ],
+        shown: &[1, 4, 2],
+        pending: &[3, 5],
+        broken: Some(Rule::Numbers),
         ..GOOD
     },
     Case {
@@ -428,6 +507,13 @@ static VECTORS: [Case; 6] = [
     },
 ];
 
+/// Three parts can't be broken alone, since the others imply each:
+/// - that top has an entry of what waits: the own plan is above, and its rest has one and is of top's entries and top
+///   itself, whose number nothing that is pending of its user has;
+/// - that the rest of what is above has what waits: the own plan's entries have it, and each rest lies within that of
+///   the one above before it;
+/// - that the own plan has an entry of each other one: it has those of what is above before it, and its rest has those
+///   of what waits.
 static ENTRIES: [Case; 10] = [
     Case {
         name: "top has an entry of what nobody shows",
@@ -646,6 +732,8 @@ static LINKS: [Case; 3] = [
     },
 ];
 
+/// That no new version is greater than the own plan's can't be broken alone: the own plan is the deepest, and no version
+/// falls from the lesser depth to the greater.
 static RECORDS: [Case; 3] = [
     Case {
         name: "a version of two that raise the group",
@@ -841,6 +929,20 @@ fn breaks_each(rt: &impl Host, cases: &[Case]) {
 fn good_replies(rt: HostRuntime) {
     let rt = (rt, Here);
     breaks_each(&rt, &GOOD_ONES);
+}
+
+/// How many are above in each of the good replies.
+static ABOVE_COUNTS: [usize; 6] = [2, 3, 1, 1, 2, 3];
+
+#[test]
+fn what_is_above(rt: HostRuntime) {
+    let rt = (rt, Here);
+    for (case, count) in GOOD_ONES.iter().zip(&ABOVE_COUNTS) {
+        let reply = reply_of(&rt, case);
+        assert!(&rt; lists_hold(&reply), "{}", case.name);
+        let above = above_top(&reply);
+        assert!(&rt; above.len() == *count, "{}", case.name);
+    }
 }
 
 #[test]

@@ -1,5 +1,6 @@
-//! A small world, in full: two users, both members of a group, whose operations come between one another in every order.
-//! No reply of an honest server is refused, and each view shows what plain numbers say.
+//! A small world, in full: two users, both members of a group, of whom up to four operations begin, come to the server
+//! and are committed in every order. No reply of an honest server is refused, and each view shows what plain numbers
+//! say.
 
 use crate::scripts::{Host, prints};
 use std::io::Write;
@@ -206,17 +207,13 @@ impl Story {
         written.expect(rt, "memory");
     }
 
-    /// One user goes on by a step, and looks after an update. A short story has no step of its own for begin.
-    fn go_on(&mut self, rt: &impl Host, is_second: bool, is_short: bool) {
+    /// One user goes on by a step, and looks after an update.
+    fn go_on(&mut self, rt: &impl Host, is_second: bool) {
         let member = if is_second { self.second } else { self.first };
-        let (next, looks) = match (member.step, is_short) {
-            (Step::Begin, false) => (self.begin(rt, member), false),
-            (Step::Begin, true) => {
-                let declared = self.begin(rt, member);
-                (self.update(rt, declared), true)
-            }
-            (Step::Update, _) => (self.update(rt, member), true),
-            (Step::Commit, _) => (self.commit(rt, member), false),
+        let (next, looks) = match member.step {
+            Step::Begin => (self.begin(rt, member), false),
+            Step::Update => (self.update(rt, member), true),
+            Step::Commit => (self.commit(rt, member), false),
         };
         if is_second {
             self.second = next;
@@ -229,63 +226,79 @@ impl Story {
     }
 }
 
-/// Orders of the steps of some operations of both users. An order is a number: from its lowest bit on, 0 where user 1 goes
-/// on and 1 where user 2 does.
+/// Orders of the steps of some operations of both users. An order is a number: from its lowest bit on, 0 where user 1
+/// goes on and 1 where user 2 does.
+#[derive(Clone, Copy)]
 struct Shape {
-    /// Whether each operation begins right before its update: a begin changes nothing that another sees, and sees nothing
-    /// that another changes.
-    is_short: bool,
     /// How many steps there are, and how many of them are user 2's.
     steps: u32,
     second: u32,
+    /// The bits of the first steps that are told beforehand, and what they are.
+    fixed: u32,
+    first: u32,
 }
 
 /// One operation of each, and two of one: each order of all steps.
 static THREE: [Shape; 3] = [
     Shape {
-        is_short: false,
         steps: 6,
         second: 3,
+        fixed: 0,
+        first: 0,
     },
     Shape {
-        is_short: false,
         steps: 9,
         second: 3,
+        fixed: 0,
+        first: 0,
     },
     Shape {
-        is_short: false,
         steps: 9,
         second: 6,
+        fixed: 0,
+        first: 0,
     },
 ];
 
-/// Four operations: each order in which they come to the server and are committed there.
-static FOUR: [Shape; 3] = [
-    Shape {
-        is_short: true,
-        steps: 8,
-        second: 4,
-    },
-    Shape {
-        is_short: true,
-        steps: 8,
-        second: 2,
-    },
-    Shape {
-        is_short: true,
-        steps: 8,
-        second: 6,
-    },
-];
+/// Four operations, by their first steps: two of each, three of user 1, and three of user 2. The orders of one beginning
+/// have a world of their own, at most 126 of them: a key signs 1,024 times, and the log of a script's server takes as
+/// many calls, two of each operation.
+const TWO_EACH: Shape = Shape {
+    steps: 12,
+    second: 6,
+    fixed: 7,
+    first: 0,
+};
 
-/// No story has more steps.
-const MOST_ORDERS: u32 = 512;
+const THREE_OF_1: Shape = Shape {
+    steps: 12,
+    second: 3,
+    fixed: 3,
+    first: 0,
+};
+
+const THREE_OF_2: Shape = Shape {
+    steps: 12,
+    second: 9,
+    fixed: 3,
+    first: 0,
+};
+
+/// No story has more steps than twelve.
+const MOST_ORDERS: u32 = 4096;
+
+/// Whether an order is one of a shape.
+fn is_of_shape(shape: &Shape, order: u32) -> bool {
+    order.count_ones() == shape.second
+        && order.checked_shr(shape.steps) == Some(0)
+        && (order & shape.fixed) == shape.first
+}
 
 /// The steps in this order.
 fn tell(rt: &impl Host, story: &mut Story, shape: &Shape, order: u32) {
     let mut left = order;
     for _ in 0..shape.steps {
-        story.go_on(rt, left % 2 == 1, shape.is_short);
+        story.go_on(rt, left % 2 == 1);
         left /= 2;
     }
 }
@@ -294,13 +307,16 @@ fn tell(rt: &impl Host, story: &mut Story, shape: &Shape, order: u32) {
 fn tell_all(rt: &impl Host, shape: &Shape) {
     let mut story = Story::new(rt);
     for order in 0..MOST_ORDERS {
-        let is_of_shape = order.count_ones() == shape.second
-            && order.checked_shr(shape.steps) == Some(0);
-        if is_of_shape {
+        if is_of_shape(shape, order) {
             tell(rt, &mut story, shape, order);
         }
     }
     prints(rt, &story.script, &story.lines);
+}
+
+/// All orders of a shape that begin with these steps.
+fn tell_from(rt: &impl Host, shape: Shape, first: u32) {
+    tell_all(rt, &Shape { first, ..shape });
 }
 
 #[test]
@@ -310,9 +326,68 @@ fn three_operations_in_every_order(rt: HostRuntime) {
     }
 }
 
+// Four operations, of which the first steps are those of these users, the earliest one first.
+
 #[test]
-fn four_operations_in_every_order(rt: HostRuntime) {
-    for shape in &FOUR {
-        tell_all(&rt, shape);
+fn two_each_after_1_1_1(rt: HostRuntime) {
+    tell_from(&rt, TWO_EACH, 0);
+}
+
+#[test]
+fn two_each_after_2_1_1(rt: HostRuntime) {
+    tell_from(&rt, TWO_EACH, 1);
+}
+
+#[test]
+fn two_each_after_1_2_1(rt: HostRuntime) {
+    tell_from(&rt, TWO_EACH, 2);
+}
+
+#[test]
+fn two_each_after_2_2_1(rt: HostRuntime) {
+    tell_from(&rt, TWO_EACH, 3);
+}
+
+#[test]
+fn two_each_after_1_1_2(rt: HostRuntime) {
+    tell_from(&rt, TWO_EACH, 4);
+}
+
+#[test]
+fn two_each_after_2_1_2(rt: HostRuntime) {
+    tell_from(&rt, TWO_EACH, 5);
+}
+
+#[test]
+fn two_each_after_1_2_2(rt: HostRuntime) {
+    tell_from(&rt, TWO_EACH, 6);
+}
+
+#[test]
+fn two_each_after_2_2_2(rt: HostRuntime) {
+    tell_from(&rt, TWO_EACH, 7);
+}
+
+#[test]
+fn three_of_1_after_1_1(rt: HostRuntime) {
+    tell_from(&rt, THREE_OF_1, 0);
+}
+
+#[test]
+fn three_of_1_after_others(rt: HostRuntime) {
+    for first in [1, 2, 3] {
+        tell_from(&rt, THREE_OF_1, first);
+    }
+}
+
+#[test]
+fn three_of_2_after_2_2(rt: HostRuntime) {
+    tell_from(&rt, THREE_OF_2, 3);
+}
+
+#[test]
+fn three_of_2_after_others(rt: HostRuntime) {
+    for first in [0, 1, 2] {
+        tell_from(&rt, THREE_OF_2, first);
     }
 }

@@ -2,8 +2,6 @@
 #![tactic(auto)]
 
 mod accepted;
-#[cfg(test)]
-mod by_hand_tests;
 mod call_queue;
 mod connection;
 mod flusher;
@@ -16,11 +14,7 @@ mod reply;
 mod server;
 mod shared;
 mod socket;
-#[cfg(test)]
-mod socket_tests;
 mod tally;
-#[cfg(test)]
-mod tests;
 mod worker;
 mod writing;
 

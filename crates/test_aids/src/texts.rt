@@ -147,6 +147,12 @@ pub fn reply(rt: &impl Aided, structures: &[u8], pending: &[u8]) -> Vec<u8> {
     joined(rt, &[b"SRL1", structures, pending])
 }
 
+/// The list of these rows.
+pub fn list(rt: &impl Aided, rows: &[&[u8]]) -> Vec<u8> {
+    let [.., count] = rows.len().to_be_bytes();
+    joined(rt, &[&[count], &joined(rt, rows)])
+}
+
 /// The list of this one row.
 pub fn listed(rt: &impl Aided, row: &[u8]) -> Vec<u8> {
     joined(rt, &[&[1], row])
@@ -168,6 +174,12 @@ pub fn plan_of(rt: &impl Aided, number: u8, certificate: &[u8]) -> Vec<u8> {
     let vector = [1, 0, 0, 0, 0, number];
     let number = u32::from(number);
     plan(rt, 0, number, &named(certificate), &vector, b"\0")
+}
+
+/// The pending operations of a reply that has user 1's of this number alone: its plan has this vector and no entry.
+pub fn only_pending(rt: &impl Aided, number: u32, certificate: &[u8], vector: &[u8]) -> Vec<u8> {
+    let plan = plan(rt, 1, number, &named(certificate), vector, b"\0");
+    listed(rt, &pending(rt, certificate, &plan))
 }
 
 /// The reply to user 0's certificate of this number, which shows these structures, after their count.

@@ -18,3 +18,9 @@ mod here;
 mod longest;
 #[cfg(test)]
 mod plans;
+#[cfg(test)]
+mod streams;
+#[cfg(test)]
+mod table_changes;
+#[cfg(test)]
+mod tables;

@@ -1,20 +1,26 @@
 -- What is asked for, from the part at a change's turn to the first part.
-use Rattle.std.proofs.Common.{◌≡◌, ℕ, ◌<◌, Bool, true, false, List, length, take, Some, Result, Ok, Err, refl, subst, sym, ◌∙◌}
-use Rattle.std.specs.Prelude.{◌⊎◌, IfErr, IsErr, IsErrAnd, slice_get, slice_index_or}
-use Rattle.std.proofs.lemmas.Option.{slice_get_read}
-use Rattle.update_cert.specs.Change.{Change}
+use Rattle.std.proofs.Common.{◌≡◌, ℕ, ◌+◌, ◌<◌, ◌≤◌, Bool, true, false, List, length, take, Option, Some, None, Result, Ok, Err, refl, subst, sym, ap, ◌∙◌, inl, inr, arith}
+use Rattle.std.specs.Prelude.{◌⊎◌, ◌&&◌, not, IfErr, IsErr, IsErrAnd, OnOk, slice_get, slice_index_or}
+use Rattle.std.specs.Option.{option_map}
+use Rattle.std.proofs.lemmas.Bool.{and_parts, cases_lt}
+use Rattle.std.proofs.lemmas.Option.{slice_get_read, slice_get_within}
+use Rattle.update_cert.specs.Change.{Change, Remove}
 use Rattle.layout.specs.Types.{Digest}
-use Rattle.update_cert.specs.World.{Actor, is_table, permitted}
+use Rattle.update_cert.specs.World.{Actor, is_root, is_table, permitted}
 use Rattle.update_cert.specs.Reading.{Reading}
+use Rattle.directory.specs.Directory.{Entry}
+use Rattle.itable.specs.ITable.{digest_at}
 use Rattle.update_cert.specs.Blocks.{Blocks, Agrees}
-use Rattle.update_cert.specs.Part.{Part, slot_at}
+use Rattle.update_cert.specs.Spot.{lacks}
+use Rattle.update_cert.specs.Part.{Laid, Part, opened_at, slot_at, slot_of}
 use Rattle.update_cert.specs.Slots.{slot_after}
 use Rattle.itable.specs.declared.inode.Kind.TheVariants as kind
-use Rattle.update_cert.specs.Asked.{Lacks, IsInode, IsBlock, IsAskedFor, LacksAskedFor, asks, needs_inode, needs_entries}
-use Rattle.update_cert.specs.Acts.{LiesAt, LacksAt, LacksFor, LacksBy}
+use Rattle.update_cert.specs.Asked.{HasAskedFor, Lacks, IsInode, IsBlock, IsAskedFor, IsMetAt, IsWantedBy, LacksAskedFor, asks, needs_inode, needs_entries}
+use Rattle.update_cert.specs.Acts.{HasAt, HasBy, HasFor, LiesAt, LacksAt, LacksFor, LacksBy}
 use Rattle.update_cert.specs.declared.error.ApplyError.{ApplyError}
 use Rattle.update_cert.specs.declared.error.ApplyError.TheVariants as error
 use Rattle.update_cert.specs.declared.spot.Spot.{Spot}
+use Rattle.update_cert.proofs.SomeReading.{some_reading}
 
 -- what is lacking is also what a wider question asks for
 lacks_wider : (blocks : Blocks) (P Q : List ℕ → Spot → Type 0) (e : ApplyError) → ((digest : List ℕ) (s : Spot) → P digest s → Q digest s) → Lacks blocks P e → Lacks blocks Q e
@@ -68,3 +74,89 @@ lacks_met blocks actor first part cs k c e same of inside at slots lacks =
 pub handed_on : {X : Type 0} (r : Result X ApplyError) (v : ApplyError) (P : ApplyError → Type 0) → IsErrAnd r (λ e. e ≡ v) → P v → IfErr r P
 handed_on (Ok x) v P is holds = tt
 handed_on (Err e) v P is holds = subst P (sym is) holds
+
+-- ---- nothing of it is missing
+
+laid_slot : (entries : Option (List Entry)) (d : Option Digest) (inode : Digest) → option_map (slot_of entries) d ≡ Some (Laid inode) → entries ≡ None
+laid_slot entries None inode is = absurd cc
+laid_slot (Some es) (Some d) inode is = absurd cc
+laid_slot None (Some d) inode is = refl
+
+-- where a directory is opened, none is asked for
+pub has_opened : (blocks : Blocks) (part : Part) (i : ℕ) (entries : Bool) (es : List Entry) → opened_at part i ≡ Some es → HasAt blocks part i entries
+has_opened blocks part i entries es there = λ digest s (inode, lies, wanted).
+    let none = laid_slot (opened_at part i) (digest_at part.table i) inode lies in
+    absurd cc
+
+-- ---- so a change has what it asks for
+
+pub has_for : {X : Type 0} (blocks : Blocks) (part : Part) (c : Change Digest) (entries : Bool) (r : Result X ApplyError) → needs_entries c.action ≡ entries → OnOk r (HasAt blocks part c.i_number entries) → OnOk r (HasFor blocks part c)
+has_for blocks part c entries (Ok t) are has = λ needs digest s lies. has digest s (subst (λ (b : Bool). LiesAt blocks part c.i_number b digest s) are lies)
+has_for blocks part c entries (Err e) are has = tt
+
+other_than : (b : Bool) → not b ≡ true → b ≡ false
+other_than true is = absurd cc
+other_than false is = refl
+
+-- a removal asks for nothing at the place of the root directory
+pub has_removed : {X : Type 0} (blocks : Blocks) (part : Part) (c : Change Digest) (r : Result X ApplyError) → c.action ≡ Remove → (is_root c.principal c.i_number ≡ false → OnOk r (HasAt blocks part c.i_number false)) → OnOk r (HasFor blocks part c)
+has_removed blocks part c (Ok t) is has = λ needs digest s lies.
+    let below : is_root c.principal c.i_number ≡ false = other_than (is_root c.principal c.i_number) (sym (ap (needs_inode c.principal c.i_number) is) ∙ needs) in
+    has below digest s (subst (λ (b : Bool). LiesAt blocks part c.i_number b digest s) (ap needs_entries is) lies)
+has_removed blocks part c (Err e) is has = tt
+
+-- nothing is asked for where the change isn't permitted, or is at the place of the table of principals
+pub not_permitted_asks : (actor : Actor) (c : Change Digest) → permitted actor c ≡ false → asks actor c ≡ true → ⊥
+not_permitted_asks actor c not_so asked =
+    let may = (and_parts (permitted actor c) (not (is_table c.principal c.i_number) && needs_inode c.principal c.i_number c.action) asked).0 in
+    let clash : false ≡ true = sym not_so ∙ may in
+    absurd cc
+
+pub table_asks : (actor : Actor) (c : Change Digest) → is_table c.principal c.i_number ≡ true → asks actor c ≡ true → ⊥
+table_asks actor c place asked =
+    let parts = and_parts (permitted actor c) (not (is_table c.principal c.i_number) && needs_inode c.principal c.i_number c.action) asked in
+    let here = other_than (is_table c.principal c.i_number) (and_parts (not (is_table c.principal c.i_number)) (needs_inode c.principal c.i_number c.action) parts.1).0 in
+    let clash : true ≡ false = sym place ∙ here in
+    absurd cc
+
+pub has_by : {X : Type 0} (blocks : Blocks) (actor : Actor) (part : Part) (c : Change Digest) (r : Result X ApplyError) → OnOk r (HasFor blocks part c) → OnOk r (HasBy blocks actor part c)
+has_by blocks actor part c (Ok t) has = λ asked.
+    has (and_parts (not (is_table c.principal c.i_number)) (needs_inode c.principal c.i_number c.action) (and_parts (permitted actor c) (not (is_table c.principal c.i_number) && needs_inode c.principal c.i_number c.action) asked).1).1
+has_by blocks actor part c (Err e) has = tt
+
+-- ---- and the changes have, as far as they were made
+
+abbrev pub HasMet : Blocks → Actor → List (Change Digest) → Part → ℕ → Type 0
+HasMet blocks actor cs part place =
+    (k : ℕ) (c : Change Digest) (inode digest : Digest) (s : Spot) → k < place → IsMetAt blocks actor cs part k c inode → asks actor c ≡ true → IsWantedBy blocks c inode digest s → lacks blocks digest s ≡ false
+
+-- what a change meets at its turn lies in the part as it is then
+lies_then : (blocks : Blocks) (actor : Actor) (first part : Part) (cs : List (Change Digest)) (k : ℕ) (c : Change Digest) (inode digest : Digest) (s : Spot) → part.table.principal ≡ first.table.principal
+    → ((reads : Reading) → Agrees blocks reads → (n : ℕ) → slot_at part n ≡ slot_after reads actor first.table.principal n (take k cs) (slot_at first n))
+    → IsMetAt blocks actor cs first k c inode → IsWantedBy blocks c inode digest s → LiesAt blocks part c.i_number (needs_entries c.action) digest s
+lies_then blocks actor first part cs k c inode digest s same slots (here, of, meets) wanted =
+    let some = some_reading blocks in (
+      inode,
+      slots some.0 some.1 c.i_number ∙ meets some.0 some.1,
+      subst (λ (p : ℕ). IsInode p c.i_number inode digest s ⊎ ((needs_entries c.action ≡ true) × IsBlock blocks kind.Directory inode digest s)) (of ∙ sym same) wanted,
+    )
+
+pub met_next : (blocks : Blocks) (actor : Actor) (first part : Part) (cs : List (Change Digest)) (k : ℕ) (c : Change Digest) → part.table.principal ≡ first.table.principal → k < length cs → c ≡ slice_index_or cs k c
+    → ((reads : Reading) → Agrees blocks reads → (n : ℕ) → slot_at part n ≡ slot_after reads actor first.table.principal n (take k cs) (slot_at first n))
+    → (c.principal ≡ part.table.principal → HasBy blocks actor part c) → HasMet blocks actor cs first k → HasMet blocks actor cs first (k + 1)
+met_next blocks actor first part cs k c same inside at slots has before = λ j d inode digest s lt met asked wanted.
+    elim (cases_lt j k) [
+      | inl earlier ↦ before j d inode digest s earlier met asked wanted
+      | inr late ↦ (
+          let place : j ≡ k = omega (arith, lt, late) in
+          let is : c ≡ d = let both : Some c ≡ Some d = sym (got cs k c inside at) ∙ sym (ap (slice_get cs) place) ∙ met.0 in cc in
+          let here : IsMetAt blocks actor cs first k c inode = subst (λ (x : Change Digest). IsMetAt blocks actor cs first k x inode) (sym is) (subst (λ (n : ℕ). IsMetAt blocks actor cs first n d inode) place met) in
+          let wants : IsWantedBy blocks c inode digest s = subst (λ (x : Change Digest). IsWantedBy blocks x inode digest s) (sym is) wanted in
+          has (here.1 ∙ sym same) (ap (asks actor) is ∙ asked) digest s (lies_then blocks actor first part cs k c inode digest s same slots here wants))
+    ]
+
+-- and all have, once all are made
+pub all_met : (blocks : Blocks) (actor : Actor) (cs : List (Change Digest)) (part : Part) (place : ℕ) → length cs ≤ place → HasMet blocks actor cs part place → HasAskedFor blocks actor cs part
+all_met blocks actor cs part place past has = λ digest s (k, c, inode, met, asked, wanted).
+    let inside = slice_get_within cs k c met.0 in
+    has k c inode digest s (omega (arith, past, inside)) met asked wanted

@@ -9,7 +9,7 @@ use Rattle.layout.specs.Types.{Digest, INumber, Principal, User}
 use Rattle.update_cert.specs.World.{Content, File, Directory, Principals, Actor, Tree, fits, has_effect, is_of}
 use Rattle.update_cert.specs.Reading.{Reading}
 use Rattle.update_cert.specs.Blocks.{Blocks}
-use Rattle.update_cert.specs.Spot.{size_of_block}
+use Rattle.update_cert.specs.Spot.{lacks, size_of_block}
 use Rattle.update_cert.specs.Part.{Part, Laid, slot_at, stands_at}
 use Rattle.itable.specs.declared.inode.Kind.TheVariants as kind
 use Rattle.update_cert.specs.Asked.{Lacks, IsInode, IsBlock, asks, needs_inode, needs_entries}
@@ -51,6 +51,10 @@ LiesAt blocks part i entries digest s =
 abbrev pub LacksAt : Blocks → Part → INumber → Bool → ApplyError → Type 0
 LacksAt blocks part i entries e = Lacks blocks (LiesAt blocks part i entries) e
 
+-- nothing of that is missing
+abbrev pub HasAt : Blocks → Part → INumber → Bool → Type 0
+HasAt blocks part i entries = (digest : Digest) (s : Spot) → LiesAt blocks part i entries digest s → lacks blocks digest s ≡ false
+
 -- what is missing is what the action asks for there
 abbrev pub LacksFor : Blocks → Part → Change Digest → ApplyError → Type 0
 LacksFor blocks part c e =
@@ -59,6 +63,14 @@ LacksFor blocks part c e =
 -- and what the change asks for at its turn
 abbrev pub LacksBy : Blocks → Actor → Part → Change Digest → ApplyError → Type 0
 LacksBy blocks actor part c e = Lacks blocks (λ digest s. (asks actor c ≡ true) × LiesAt blocks part c.i_number (needs_entries c.action) digest s) e
+
+-- nothing that the action asks for there is missing
+abbrev pub HasFor : Blocks → Part → Change Digest → Type 0
+HasFor blocks part c = needs_inode c.principal c.i_number c.action ≡ true → HasAt blocks part c.i_number (needs_entries c.action)
+
+-- nor what the change asks for at its turn
+abbrev pub HasBy : Blocks → Actor → Part → Change Digest → Type 0
+HasBy blocks actor part c = asks actor c ≡ true → HasAt blocks part c.i_number (needs_entries c.action)
 
 -- a text of the size of the i-node's block at this place is held under this digest
 abbrev pub IsSized : Blocks → Inode → ℕ → Digest → Type 0

@@ -98,3 +98,7 @@ IsAskedFor blocks actor changes part digest s =
 
 abbrev pub LacksAskedFor : Blocks → Actor → List (Change Digest) → Part → ApplyError → Type 0
 LacksAskedFor blocks actor changes part e = Lacks blocks (IsAskedFor blocks actor changes part) e
+
+-- nothing that they ask for is missing
+abbrev pub HasAskedFor : Blocks → Actor → List (Change Digest) → Part → Type 0
+HasAskedFor blocks actor changes part = (digest : Digest) (s : Spot) → IsAskedFor blocks actor changes part digest s → lacks blocks digest s ≡ false

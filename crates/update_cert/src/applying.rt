@@ -1,11 +1,11 @@
 //! The changes of a certificate, applied to a principal's part.
 
-ghost use Rattle.std.specs.Prelude.{◌≡◌, ℕ, List, IfOk, IfErr};
+ghost use Rattle.std.specs.Prelude.{◌≡◌, ℕ, List, IfOk, IfErr, OnOk};
 ghost use Rattle.update_cert.specs.World.{Actor, Tree};
 ghost use Rattle.update_cert.specs.Reading.{Reading, after_read, void_of_read};
 ghost use Rattle.update_cert.specs.Blocks.{Agrees};
 ghost use Rattle.update_cert.specs.Part.{IsPartOf, slot_at};
-ghost use Rattle.update_cert.specs.Asked.{LacksAskedFor};
+ghost use Rattle.update_cert.specs.Asked.{HasAskedFor, LacksAskedFor};
 ghost use Rattle.update_cert.specs.Slots.{slot_after};
 
 use crate::blocks::Blocks;
@@ -83,6 +83,9 @@ pub fn apply<A: Allocator + Copy, B: Blocks>(
     // is held that its spot takes.
     ensures missing { (actor : Actor) → actor.user ≡ cert.now.user → actor.member part.table.principal ≡ is_member
         → IfErr result (LacksAskedFor (B.held blocks.now) actor cert.now.changes part) }
+    // Where they are applied, nothing that they ask for is missing: each block is what its place takes.
+    ensures taken { (actor : Actor) → actor.user ≡ cert.now.user → actor.member part.table.principal ≡ is_member
+        → OnOk result (HasAskedFor (B.held blocks.now) actor cert.now.changes part) }
 {
     let user = cert.user();
     let mut part = part;

@@ -13,8 +13,6 @@ mod part;
 mod reading;
 mod spot;
 mod tables;
-#[cfg(test)]
-mod tests;
 
 pub use applying::{Applied, Voids, apply};
 pub use blocks::{Blocks, some_reading_agrees};

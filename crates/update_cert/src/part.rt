@@ -8,11 +8,11 @@ ghost use Rattle.layout.specs.Ascending.{IsFree};
 ghost use Rattle.directory.specs.Directory.{Entry as ListedEntry};
 ghost use Rattle.itable.specs.ITable.{digest_at};
 ghost use Rattle.update_cert.specs.Change.{Make, Put, Remove, Link, Unlink, action_of};
-ghost use Rattle.update_cert.specs.World.{Actor, Tree, after_change, is_file, is_removable, is_root as is_root_of};
+ghost use Rattle.update_cert.specs.World.{Actor, Tree, after_change, is_file, is_removable, is_root as is_root_of, is_table as is_table_of};
 ghost use Rattle.update_cert.specs.Reading.{Reading, read_change};
 ghost use Rattle.update_cert.specs.Blocks.{Agrees, inode_at as inode_of};
 ghost use Rattle.update_cert.specs.Part.{Changed, IsPart, IsPartOf, number_of, opened_at as entries_at, part_of, slot_at, slot_in, stands_at};
-ghost use Rattle.update_cert.specs.Acts.{Acts, LacksAt, LacksBy, LacksFor, change_at, is_void_of, listed};
+ghost use Rattle.update_cert.specs.Acts.{Acts, HasAt, HasBy, HasFor, LacksAt, LacksBy, LacksFor, change_at, is_void_of, listed};
 ghost use Rattle.update_cert.specs.Slots.{IsReadBack, changed_texts, has_digest, laid_under, slot_after, slot_after_change, slot_changes, slot_digest};
 
 use crate::blocks::Blocks;
@@ -133,6 +133,7 @@ impl<A: Allocator + Copy> Part<A> {
         requires { entries_at self.now i_number ≡ None }
         ensures found { IfOk result (λ found. option_map (λ n. Some n) found ≡ option_map (inode_of (B.held blocks.now)) (digest_at self.now.table i_number)) }
         ensures missing { IfErr result (LacksAt (B.held blocks.now) self.now i_number false) }
+        ensures taken { OnOk result (HasAt (B.held blocks.now) self.now i_number false) }
     {
         let Some(digest) = self.table.get(i_number) else {
             return Ok(None);
@@ -152,6 +153,7 @@ impl<A: Allocator + Copy> Part<A> {
         // It isn't opened then.
         ensures closed { IfOk result (λ is. is ≡ true → entries_at self.now i_number ≡ None) }
         ensures missing { IfErr result (LacksAt (B.held blocks.now) self.now i_number false) }
+        ensures taken { OnOk result (HasAt (B.held blocks.now) self.now i_number false) }
     {
         if self.opened_at(i_number).is_some() {
             return Ok(false);
@@ -170,6 +172,7 @@ impl<A: Allocator + Copy> Part<A> {
     ) -> Result<bool, ApplyError>
         ensures removable { (reads : Reading) → Agrees (B.held blocks.now) reads → IfOk result (λ is. is ≡ is_removable (stands_at reads self.now i_number)) }
         ensures missing { IfErr result (LacksAt (B.held blocks.now) self.now i_number false) }
+        ensures taken { OnOk result (HasAt (B.held blocks.now) self.now i_number false) }
     {
         if let Some(directory) = self.opened_at(i_number) {
             return Ok(directory.entries().is_empty());
@@ -189,6 +192,7 @@ impl<A: Allocator + Copy> Part<A> {
         ensures found { (reads : Reading) → Agrees (B.held blocks.now) reads → IfOk result (λ found. found ≡ listed (option_map reads.content (digest_at self.now.table i_number))) }
         ensures mapped { IfOk result (λ found. IsSome found → IsSome (digest_at self.now.table i_number)) }
         ensures missing { IfErr result (LacksAt (B.held blocks.now) self.now i_number true) }
+        ensures taken { OnOk result (HasAt (B.held blocks.now) self.now i_number true) }
     {
         let Some(digest) = self.table.get(i_number) else {
             return Ok(None);
@@ -214,6 +218,8 @@ impl<A: Allocator + Copy> Part<A> {
         ensures acts { (reads : Reading) (user : ℕ) → Agrees (B.held blocks.now) reads → IfOk result (λ fitted. Acts reads user (change_at self.old i_number (Put digest)) self.old self.new fitted) }
         ensures principal { OnOk result (self.new.table.principal ≡ self.old.table.principal) }
         ensures missing { IfErr result (LacksAt (B.held blocks.now) self.old i_number false) }
+        // The table of principals isn't looked at.
+        ensures taken { is_table_of self.old.table.principal i_number ≡ false → OnOk result (HasAt (B.held blocks.now) self.old i_number false) }
     {
         let principal = self.principal();
         if is_table(principal, i_number) {
@@ -237,6 +243,8 @@ impl<A: Allocator + Copy> Part<A> {
         ensures principal { OnOk result (self.new.table.principal ≡ self.old.table.principal) }
         // The root directory stays, whatever is held.
         ensures missing { IfErr result (LacksAt (B.held blocks.now) self.old i_number false) }
+        ensures taken { is_table_of self.old.table.principal i_number ≡ false → is_root_of self.old.table.principal i_number ≡ false
+            → OnOk result (HasAt (B.held blocks.now) self.old i_number false) }
         ensures root { is_root_of self.old.table.principal i_number ≡ true → IsOk result }
     {
         let principal = self.principal();
@@ -273,6 +281,7 @@ impl<A: Allocator + Copy> Part<A> {
         ensures acts { (reads : Reading) (user : ℕ) → Agrees (B.held blocks.now) reads → IfOk result (λ fitted. Acts reads user (change_at self.old i_number (Link entry.now)) self.old self.new fitted) }
         ensures principal { OnOk result (self.new.table.principal ≡ self.old.table.principal) }
         ensures missing { IfErr result (LacksAt (B.held blocks.now) self.old i_number true) }
+        ensures taken { OnOk result (HasAt (B.held blocks.now) self.old i_number true) }
     {
         let place = match find(&self.opened, i_number) {
             Ok(place) => {
@@ -304,6 +313,7 @@ impl<A: Allocator + Copy> Part<A> {
         ensures acts { (reads : Reading) (user : ℕ) → Agrees (B.held blocks.now) reads → IfOk result (λ fitted. Acts reads user (change_at self.old i_number (Unlink name.now)) self.old self.new fitted) }
         ensures principal { OnOk result (self.new.table.principal ≡ self.old.table.principal) }
         ensures missing { IfErr result (LacksAt (B.held blocks.now) self.old i_number true) }
+        ensures taken { OnOk result (HasAt (B.held blocks.now) self.old i_number true) }
     {
         let place = match find(&self.opened, i_number) {
             Ok(place) => return Ok(self.opened[place].unlink(name)),
@@ -332,6 +342,7 @@ impl<A: Allocator + Copy> Part<A> {
         ensures acts { (reads : Reading) → Agrees (B.held blocks.now) reads → IfOk result (λ fitted. Acts reads user (change_at self.old i_number (action_of action.now)) self.old self.new fitted) }
         ensures principal { OnOk result (self.new.table.principal ≡ self.old.table.principal) }
         ensures missing { IfErr result (LacksFor (B.held blocks.now) self.old (change_at self.old i_number (action_of action.now))) }
+        ensures taken { is_table_of self.old.table.principal i_number ≡ false → OnOk result (HasFor (B.held blocks.now) self.old (change_at self.old i_number (action_of action.now))) }
     {
         match action {
             Action::Make(inode) => Ok(self.make(user, i_number, *inode)?),
@@ -361,6 +372,8 @@ impl<A: Allocator + Copy> Part<A> {
         ensures principal { OnOk result (self.new.table.principal ≡ self.old.table.principal) }
         ensures missing { (actor : Actor) → actor.user ≡ user → actor.member self.old.table.principal ≡ is_member
             → IfErr result (LacksBy (B.held blocks.now) actor self.old (change_at self.old i_number (action_of action.now))) }
+        ensures taken { (actor : Actor) → actor.user ≡ user → actor.member self.old.table.principal ≡ is_member
+            → OnOk result (HasBy (B.held blocks.now) actor self.old (change_at self.old i_number (action_of action.now))) }
     {
         if !is_permitted(user, is_member, self.principal()) {
             return Ok(false);
@@ -392,6 +405,8 @@ impl<A: Allocator + Copy> Part<A> {
         ensures principal { OnOk result (self.new.table.principal ≡ self.old.table.principal) }
         ensures missing { (actor : Actor) → actor.user ≡ user → actor.member self.old.table.principal ≡ is_member
             → IfErr result (λ e. (change.now.principal ≡ self.old.table.principal) × LacksBy (B.held blocks.now) actor self.old change.now e) }
+        ensures taken { (actor : Actor) → actor.user ≡ user → actor.member self.old.table.principal ≡ is_member
+            → OnOk result (change.now.principal ≡ self.old.table.principal → HasBy (B.held blocks.now) actor self.old change.now) }
     {
         if change.principal().get() != self.principal().get() {
             return Ok(false);

@@ -10,4 +10,6 @@ mod other_users;
 #[cfg(test)]
 mod others_parts;
 #[cfg(test)]
+mod place_of_table;
+#[cfg(test)]
 mod several_users;

@@ -1,7 +1,7 @@
 //! A table of principals of two blocks, through a client: each of its blocks absent, cut, flipped and another one, in the
 //! place of what was asked for, and named by the i-node itself.
 
-use crate::here::Here;
+use crate::here::{Here, let_go};
 use crate::several_users::{broken_by, keep_each};
 use client_aids::clients::{MemoryClient, client_with, declare, step_on};
 use client_tree::Held;
@@ -57,7 +57,7 @@ struct Scene {
 fn new_scene(rt: &impl Host) -> Scene {
     let (key, own) = (key_of(rt, 0), key_of(rt, 1));
     let blocks = blocks_of(rt, &key.public(), &own.public());
-    let mut client = client_with(rt, own, key.public());
+    let mut client = client_with(rt, 1, own, key.public());
     let update = declare(rt, &mut client);
     Scene {
         key,
@@ -91,7 +91,12 @@ fn store_of(rt: &impl Host, blocks: &[Vec<u8>; 2]) -> (Held<Global>, Vec<u8>) {
 }
 
 /// The reply to the certificate after user 0's structure over the i-table of this root.
-fn reply_over(rt: &impl Host, key: &PrivateKey<Global>, root: &[u8], update: &[u8]) -> Vec<u8> {
+pub(crate) fn reply_over(
+    rt: &impl Host,
+    key: &PrivateKey<Global>,
+    root: &[u8],
+    update: &[u8],
+) -> Vec<u8> {
     let superuser = structure_over(rt, key, 1, root);
     let vector = b"\x02\0\0\0\0\x01\x01\0\0\0\x01";
     let plan = plan(rt, 1, 1, &named(update), vector, b"\0");
@@ -158,6 +163,7 @@ fn faults_in_the_place_of_blocks(rt: HostRuntime) {
         step = takes_block(&rt, &mut scene.client, step, block, other);
     }
     check(&rt, matches!(step, Step::Store(_)), "the reply is accepted");
+    let_go(scene);
 }
 
 /// The reply over an i-node that names these blocks breaks the rule first.
@@ -166,6 +172,7 @@ fn breaks_over(rt: &impl Host, scene: &mut Scene, blocks: [Vec<u8>; 2], rule: Op
     let text = reply_over(rt, &scene.key, &root, &scene.update);
     let found = broken_by(rt, &mut scene.client, &store, &text);
     assert!(rt; found == rule, "{found:?} and not {rule:?}");
+    let_go(store);
 }
 
 #[test]
@@ -187,4 +194,5 @@ fn faults_that_the_inode_names(rt: HostRuntime) {
     for (blocks, rule) in cases {
         breaks_over(&rt, &mut scene, blocks, rule);
     }
+    let_go(scene);
 }

@@ -1,6 +1,6 @@
 //! The client of another user, to which user 0's structure is shown.
 
-use crate::here::Here;
+use crate::here::{Here, let_go};
 use client_aids::clients::{MemoryClient, breaks, client_of, declare, step_on};
 use client_verify::{Rule, Step};
 use lms_sign::PublicKey;
@@ -42,9 +42,13 @@ fn forged_structure_of_user_0(rt: HostRuntime) {
     let rt = (rt, Here);
     let text = structure_of_super(&rt);
     let forged = joined(&rt, &[&text, &[0; 2508]]);
-    breaks_after(&rt, &mut user_1(&rt), &forged, Rule::SuperSignature);
+    let mut client = user_1(&rt);
+    breaks_after(&rt, &mut client, &forged, Rule::SuperSignature);
+    let_go(client);
     let another = signed(&rt, &key_of(&rt, 1), 1, &text);
-    breaks_after(&rt, &mut user_1(&rt), &another, Rule::SuperSignature);
+    let mut client = user_1(&rt);
+    breaks_after(&rt, &mut client, &another, Rule::SuperSignature);
+    let_go(client);
 }
 
 /// The root of user 0's i-table at the beginning.
@@ -62,7 +66,9 @@ fn true_structure_of_user_0(rt: HostRuntime) {
     let key = key_of(&rt, 0);
     let root = first_root(&rt, &key.public());
     let structure = structure_over(&rt, &key, 1, &root);
-    breaks_after(&rt, &mut user_1(&rt), &structure, Rule::UnknownUser);
+    let mut client = user_1(&rt);
+    breaks_after(&rt, &mut client, &structure, Rule::UnknownUser);
+    let_go(client);
 }
 
 /// Over another handle its root is asked for first.
@@ -81,4 +87,5 @@ fn table_of_another_handle(rt: HostRuntime) {
     assert!(&rt; client.wants());
     let step = client.on_block(None).expect(&rt, "memory");
     check(&rt, matches!(step, Step::Broken(Rule::Block)), "no root");
+    let_go(client);
 }

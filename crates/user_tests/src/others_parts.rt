@@ -1,7 +1,7 @@
 //! Blocks of parts of others, which user 1's client asks for by handles that others signed: of a group's part, which its
 //! own operation raises, and of parts that it looks at.
 
-use crate::here::Here;
+use crate::here::{Here, let_go};
 use crate::several_users::{
     Operation, SECOND_OF_GROUP, Scene, THIRD, broken_by, first_handle, keep_each, list_of,
     new_scene, own_row, structure_row,
@@ -136,6 +136,8 @@ fn part_of_a_raised_group(rt: HostRuntime) {
         let found = broken_by(&rt, &mut client, &scene.store, &text);
         assert!(&rt; found == part.broken, "{found:?} and not {:?}", part.broken);
     }
+    let_go(client);
+    let_go(scene);
 }
 
 /// User 3's operation after user 2's, which raised the group.
@@ -165,7 +167,9 @@ fn see(rt: &impl Host, client: &mut MemoryClient, store: &Held<Global>, owner: u
             return look;
         };
         assert!(rt; client.looking());
-        look = client.give(store.get(digest)).expect(rt, "memory");
+        let next = client.give(store.get(digest)).expect(rt, "memory");
+        let_go(look);
+        look = next;
     }
     panic!(rt; "too many blocks")
 }
@@ -191,12 +195,16 @@ fn sees_each(rt: &impl Host, client: &mut MemoryClient, store: &Held<Global>) {
         matches!(seen, Look::Broken(Rule::Content)),
         "another's root",
     );
+    let_go(seen);
     let seen = see(rt, client, store, 3);
     check(rt, matches!(seen, Look::Broken(Rule::Block)), "no root");
-    match see(rt, client, store, 64) {
-        Look::File(bytes) => check_text(rt, &bytes, HELLO),
+    let_go(seen);
+    let seen = see(rt, client, store, 64);
+    match &seen {
+        Look::File(bytes) => check_text(rt, bytes, HELLO),
         _ => panic!(rt; "no file"),
     }
+    let_go(seen);
 }
 
 #[test]
@@ -210,4 +218,6 @@ fn parts_that_are_looked_at(rt: HostRuntime) {
     assert!(&rt; found == None, "{found:?}");
     let _structure = sign(&rt, &mut client);
     sees_each(&rt, &mut client, &scene.store);
+    let_go(client);
+    let_go(scene);
 }

@@ -2,7 +2,7 @@
 //! principals made by hand: replies that break no rule, and replies that differ from those in one part and break the rule
 //! of that part.
 
-use crate::here::Here;
+use crate::here::{Here, let_go};
 use client_aids::clients::{MemoryClient, client_with, declare, step_on};
 use client_tree::Held;
 use client_verify::{Rule, Step};
@@ -351,7 +351,7 @@ pub(crate) fn new_scene(rt: &impl Host) -> (Scene, MemoryClient) {
     let (zero, one) = (key_of(rt, 0), key_of(rt, 1));
     let (pinned, public) = (zero.public(), one.public());
     let keys = [zero, key_of(rt, 2), key_of(rt, 3)];
-    let client = client_with(rt, one, pinned);
+    let client = client_with(rt, 1, one, pinned);
     (scene_of(rt, keys, &public), client)
 }
 
@@ -494,4 +494,6 @@ fn each_reply(rt: HostRuntime) {
     for case in &CASES {
         breaks_case(&rt, &scene, &mut client, &update, case);
     }
+    let_go(client);
+    let_go(scene);
 }

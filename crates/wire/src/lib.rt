@@ -5,8 +5,6 @@ mod frames;
 mod kinds;
 mod laws;
 mod stream;
-#[cfg(test)]
-mod tests;
 
 pub use frames::{BODY_LIMIT, body_of, reply_frame, reply_of, request_frame, request_of};
 pub use kinds::{RequestKind, Status};

@@ -9,7 +9,7 @@ use Rattle.update_cert.specs.Part.{IsPartOf, slot_at}
 use Rattle.update_cert.specs.Slots.{slot_after}
 use Rattle.update_cert.specs.Asked.{LacksAskedFor}
 use Rattle.update_cert.specs.Acts.{is_void_of}
-use Rattle.update_cert.proofs.AskedLaws.{lacks_met, handed_on}
+use Rattle.update_cert.proofs.AskedLaws.{all_met, handed_on, lacks_met, met_next}
 use Rattle.update_cert.proofs.TreeLaws.{take_next, part_next, slot_next, voids_next, pushed, not_pushed}
 use Rattle.update_cert.proofs.applying.apply.Goals.{then-branch+in_ok-push, else-branch}
 use Rattle.update_cert.proofs.applying.apply.Goals as goal
@@ -21,6 +21,7 @@ loop-place-init g c = record {
   part = λ reads tree actor agrees is of one. is;
   voids = λ reads tree actor agrees is of one. c.new-numbers.ensures.items;
   slots = λ reads actor agrees of one i. refl;
+  taken = λ actor of one k change inode digest s lt met asked wanted. absurd (omega (arith, lt));
 }
 
 pub returns-in_err-apply_change-clause-missing : goal.returns-in_err-apply_change-clause-missing
@@ -38,6 +39,7 @@ returns-in_err-apply_change-clause-missing g c = λ actor of one.
 pub loop-place-preserved : goal.loop-place-preserved
 loop-place-preserved g c =
     let inv = c.loop-place.invariant in
+    let blocks = g.B.Blocks.held c.args.blocks.now in
     let first = c.args.part in
     let part = c.loop-place.part in
     let new = c.apply_change.new.self in
@@ -68,6 +70,10 @@ loop-place-preserved g c =
           let old = slot_at part i in
           let more = done.slots reads actor agrees (of ∙ sym c.user-user.ensures.same) (ap actor.member inv.principal ∙ one) i ∙ ap (λ (q : ℕ). slot_after reads actor q i (change ∷ []) old) inv.principal in
           slot_next reads actor p i (take k cs) (take (k + 1) cs) change (slot_at first i) old (slot_at new i) front (inv.slots reads actor agrees of one i) more;
+      taken = λ actor of one.
+          met_next blocks actor first part cs k change inv.principal inside at (λ reads agrees. inv.slots reads actor agrees of one)
+          (done.taken actor (of ∙ sym c.user-user.ensures.same) (ap actor.member inv.principal ∙ one))
+          (inv.taken actor of one);
     }
 
 pub returns-clause-part : goal.returns-clause-part
@@ -90,3 +96,9 @@ returns-clause-slots g c = λ reads actor agrees of one i.
     let past = rw c.changes-change-items.ensures at c.loop-place-test.false in
     let all = take_all c.loop-place.place cs past in
     subst (λ (xs : List (Change Digest)). slot_at c.loop-place.part i ≡ slot_after reads actor c.args.part.table.principal i xs (slot_at c.args.part i)) all (c.loop-place.invariant.slots reads actor agrees of one i)
+
+pub returns-clause-taken : goal.returns-clause-taken
+returns-clause-taken g c = λ actor of one.
+    let cs = c.args.cert.now.changes in
+    let past = rw c.changes-change-items.ensures at c.loop-place-test.false in
+    all_met (g.B.Blocks.held c.args.blocks.now) actor cs c.args.part c.loop-place.place past (c.loop-place.invariant.taken actor of one)

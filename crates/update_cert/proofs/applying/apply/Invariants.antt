@@ -4,6 +4,7 @@ use Rattle.update_cert.specs.Reading.{Reading, after_read, void_of_read}
 use Rattle.update_cert.specs.Blocks.{Agrees}
 use Rattle.update_cert.specs.Part.{IsPartOf, slot_at}
 use Rattle.update_cert.specs.Slots.{slot_after}
+use Rattle.update_cert.proofs.AskedLaws.{HasMet}
 use Rattle.update_cert.proofs.applying.apply.Given as goal
 
 abbrev pub invariant-loop-place : goal.invariant-loop-place
@@ -15,4 +16,5 @@ invariant-loop-place g l = record {
       → l.numbers.items ≡ void_of_read reads actor l.fn.part.table.principal (take l.place l.cert.changes) tree;
   slots : (reads : Reading) (actor : Actor) → Agrees (g.B.Blocks.held l.blocks) reads → actor.user ≡ l.cert.user → actor.member l.fn.part.table.principal ≡ l.is_member
       → (i : ℕ) → slot_at l.part i ≡ slot_after reads actor l.fn.part.table.principal i (take l.place l.cert.changes) (slot_at l.fn.part i);
+  taken : (actor : Actor) → actor.user ≡ l.cert.user → actor.member l.fn.part.table.principal ≡ l.is_member → HasMet (g.B.Blocks.held l.blocks) actor l.cert.changes l.fn.part l.place;
 }

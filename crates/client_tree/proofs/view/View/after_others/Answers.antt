@@ -4,11 +4,11 @@ use Rattle.std.specs.Prelude.{filter, slice_index_or}
 use Rattle.update_cert.specs.Part.{IsPartOf, Part}
 use Rattle.principals.specs.Table.{Table}
 use Rattle.update_cert.specs.Reading.{after_read}
-use Rattle.update_cert.specs.Asked.{Lacks, LacksAskedFor}
+use Rattle.update_cert.specs.Asked.{HasAskedFor, Lacks, LacksAskedFor}
 use Rattle.pending_list.specs.Reply.{PendingItem}
 use Rattle.client_tree.specs.View.{actor_of, after_items, comes_after}
-use Rattle.client_tree.specs.Opened.{IsPartAfter, IsReached}
-use Rattle.client_tree.proofs.OpenedLaws.{filter_next, handed_on, in_turn, no_items, of_item, tree_after}
+use Rattle.client_tree.specs.Opened.{HasAskedByItems, IsPartAfter, IsReached}
+use Rattle.client_tree.proofs.OpenedLaws.{asked_next, filter_next, handed_on, in_turn, no_items, none_asked, of_item, tree_after}
 use Rattle.client_tree.proofs.view.View.after_others.Goals.{then-comes_after+in_ok-applied, else-comes_after}
 use Rattle.client_tree.proofs.view.View.after_others.Goals as goal
 
@@ -17,6 +17,7 @@ unfolding after_items
 loop-item-init g c = record {
   after = no_items (g.B.Blocks.held c.args.blocks.now) c.args.self.now.table c.args.part;
   stands = λ reads tree agrees is. is;
+  taken = none_asked (g.B.Blocks.held c.args.blocks.now) c.args.self.now.table c.args.part;
 }
 
 pub returns-in_err-applied-clause-missing : goal.returns-in_err-applied-clause-missing
@@ -55,6 +56,7 @@ loop-item-preserved g c =
             stands = λ reads tree agrees is.
                 rw (tree_after reads x.table done item tree) (subst (λ (t : Table). IsPartOf reads w.in_ok-applied.applied.part (after_read reads (actor_of t item) item.cert.changes (after_items reads x.table done tree))) w.table.ensures
                 (w.in_ok-applied.ensures.part reads (after_items reads x.table done tree) agrees (inv.stands reads tree agrees is)));
+            taken = asked_next held x.table done item c.args.part c.loop-item.after inv.after (subst (λ (t : Table). HasAskedFor held (actor_of t item) item.cert.changes c.loop-item.after) w.table.ensures w.in_ok-applied.ensures.taken) inv.taken;
           })
       | else-comes_after w ↦
           let stays : comes_after x p item ≡ false = sym c.comes_after.ensures ∙ w.if-comes_after.false in
@@ -68,3 +70,10 @@ returns-clause-stands g c = λ reads tree agrees is.
     let past = rw c.others-item-items.ensures at c.loop-item-test.false in
     let all : take c.loop-item.item-index x.others ≡ x.others = take_all c.loop-item.item-index x.others past in
     subst (λ (xs : List PendingItem). IsPartOf reads c.loop-item.after (after_items reads x.table (filter (comes_after x c.args.principal) xs) tree)) all (c.loop-item.invariant.stands reads tree agrees is)
+
+pub returns-clause-taken : goal.returns-clause-taken
+returns-clause-taken g c =
+    let x = c.args.self.now in
+    let past = rw c.others-item-items.ensures at c.loop-item-test.false in
+    let all : take c.loop-item.item-index x.others ≡ x.others = take_all c.loop-item.item-index x.others past in
+    subst (λ (xs : List PendingItem). HasAskedByItems (g.B.Blocks.held c.args.blocks.now) x.table (filter (comes_after x c.args.principal) xs) c.args.part) all c.loop-item.invariant.taken

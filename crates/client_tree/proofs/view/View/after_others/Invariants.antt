@@ -5,7 +5,7 @@ use Rattle.update_cert.specs.Reading.{Reading}
 use Rattle.update_cert.specs.Blocks.{Agrees}
 use Rattle.update_cert.specs.Part.{IsPartOf}
 use Rattle.client_tree.specs.View.{after_items, comes_after}
-use Rattle.client_tree.specs.Opened.{IsPartAfter}
+use Rattle.client_tree.specs.Opened.{HasAskedByItems, IsPartAfter}
 use Rattle.client_tree.proofs.view.View.after_others.Given as goal
 
 abbrev pub invariant-loop-item : goal.invariant-loop-item
@@ -13,4 +13,5 @@ invariant-loop-item g l = record {
   after : IsPartAfter (g.B.Blocks.held l.blocks) l.fn.self.table (filter (comes_after l.fn.self l.fn.principal) (take l.item-index l.fn.self.others)) l.fn.part l.after;
   stands : (reads : Reading) (tree : Tree) → Agrees (g.B.Blocks.held l.blocks) reads → IsPartOf reads l.fn.part tree
       → IsPartOf reads l.after (after_items reads l.fn.self.table (filter (comes_after l.fn.self l.fn.principal) (take l.item-index l.fn.self.others)) tree);
+  taken : HasAskedByItems (g.B.Blocks.held l.blocks) l.fn.self.table (filter (comes_after l.fn.self l.fn.principal) (take l.item-index l.fn.self.others)) l.fn.part;
 }

@@ -1,9 +1,11 @@
-use Rattle.std.proofs.Common.{◌≡◌, ℕ, Some, sym, ap, subst, ◌∙◌}
+use Rattle.std.proofs.Common.{◌≡◌, ℕ, Some, sym, ap, subst, ◌∙◌, rules}
+use Rattle.std.specs.Prelude.{filter}
 use Rattle.layout.specs.Types.{Digest}
 use Rattle.itable.specs.ITable.{digest_at}
 use Rattle.update_cert.specs.Blocks.{inode_told}
 use Rattle.update_cert.specs.Part.{IsPartOf, Part, part_of}
-use Rattle.client_tree.specs.View.{handle_of, named}
+use Rattle.client_tree.specs.View.{comes_after, handle_of, named}
+use Rattle.client_tree.specs.Opened.{HasAskedByItems}
 use Rattle.client_tree.proofs.OpenedLaws.{before_own, named_part}
 use Rattle.client_tree.proofs.view.View.earlier.Goals as goal
 
@@ -20,3 +22,9 @@ returns-clause-stands g c = λ reads users agrees.
     let after = c.in_ok-part.ensures.stands reads (named reads users x) agrees (subst (λ (q : Part). IsPartOf reads q (named reads users x)) (sym is) first) in
     let principal = c.in_ok-part.ensures.after.principal ∙ ap (λ (q : Part). q.table.principal) is ∙ own in
     before_own reads users x p c.in_ok-part.part principal after
+
+pub returns-clause-taken : goal.returns-clause-taken
+returns-clause-taken g c =
+    let x = c.args.self.now in
+    let first : c.of-part.result ≡ part_of c.in_ok-before.before = search rules in
+    subst (HasAskedByItems (g.B.Blocks.held c.args.blocks.now) x.table (filter (comes_after x c.args.principal) x.others)) first c.in_ok-part.ensures.taken

@@ -3,11 +3,11 @@ use Rattle.std.specs.Prelude.{filter}
 use Rattle.principals.specs.Table.{Table}
 use Rattle.update_cert.specs.Reading.{after_read, void_of_read}
 use Rattle.update_cert.specs.Part.{IsPartOf, part_of}
-use Rattle.update_cert.specs.Asked.{Lacks, LacksAskedFor}
+use Rattle.update_cert.specs.Asked.{HasAskedFor, Lacks, LacksAskedFor}
 use Rattle.pending_list.specs.Reply.{PendingItem}
 use Rattle.client_tree.specs.View.{actor_of, comes_after, tree_before}
 use Rattle.client_tree.specs.Opened.{IsPartAfter, IsReached}
-use Rattle.client_tree.proofs.OpenedLaws.{handed_on, of_item}
+use Rattle.client_tree.proofs.OpenedLaws.{asked_next, handed_on, of_item, reached_taken}
 use Rattle.client_tree.proofs.view.View.open.Goals as goal
 
 pub returns-in_err-applied-clause-missing : goal.returns-in_err-applied-clause-missing
@@ -34,6 +34,9 @@ returns-clause-opened g c =
     let part = c.in_ok-applied.applied.part in
     let of_table = subst (λ (t : Table). IsPartAfter held t done before c.in_ok-earlier.earlier.part) (sym c.table.ensures) earlier.after in
     let after = c.in_ok-applied.ensures.after before done of_table in
+    let asked : HasAskedFor held (actor_of x.table x.own) x.own.cert.changes c.in_ok-earlier.earlier.part =
+    subst (λ (i : PendingItem). HasAskedFor held (actor_of x.table i) i.cert.changes c.in_ok-earlier.earlier.part) c.own.ensures
+    (subst (λ (t : Table). HasAskedFor held (actor_of t c.own.result.now) c.own.result.now.cert.changes c.in_ok-earlier.earlier.part) c.table.ensures c.in_ok-applied.ensures.taken) in
     record {
       read = earlier.read;
       told = earlier.told;
@@ -43,6 +46,7 @@ returns-clause-opened g c =
           let is = c.in_ok-applied.ensures.part reads tree agrees (earlier.stands reads users agrees) in
           subst (λ (i : PendingItem). IsPartOf reads part (after_read reads (actor_of x.table i) i.cert.changes tree)) c.own.ensures
           (subst (λ (t : Table). IsPartOf reads part (after_read reads (actor_of t c.own.result.now) c.own.result.now.cert.changes tree)) c.table.ensures is);
+      taken = reached_taken held x p c.in_ok-earlier.earlier.before earlier.read (asked_next held x.table done x.own before c.in_ok-earlier.earlier.part earlier.after asked earlier.taken);
     }
 
 pub returns-clause-voids : goal.returns-clause-voids

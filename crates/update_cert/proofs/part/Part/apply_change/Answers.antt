@@ -6,9 +6,9 @@ use Rattle.update_cert.specs.Change.{Change, action_of, deed_of}
 use Rattle.update_cert.specs.World.{changes_table, is_table}
 use Rattle.update_cert.specs.Part.{slot_at}
 use Rattle.update_cert.specs.Slots.{slot_changes, slot_after_change}
-use Rattle.update_cert.specs.Acts.{LacksBy}
+use Rattle.update_cert.specs.Acts.{HasBy, LacksBy}
 use Rattle.update_cert.proofs.ActLaws.{is_change, is_other, is_tables, at_table, not_of_part, of_table, slots_still, part_foreign, part_followed, void_followed}
-use Rattle.update_cert.proofs.AskedLaws.{handed_on}
+use Rattle.update_cert.proofs.AskedLaws.{handed_on, table_asks}
 use Rattle.update_cert.proofs.TreeLaws.{slot_own, slot_foreign}
 use Rattle.update_cert.proofs.part.Part.apply_change.Goals as goal
 
@@ -92,3 +92,24 @@ returns-in_ok-effect-in-At-clause-void g c = λ reads tree actor agrees stood of
     let told = subst (λ (x : Change Digest). c.in_ok-effect-in-At.effect ≡ slot_changes reads actor x (slot_at part x.i_number)) at (c.in_ok-effect-in-At.ensures.effect reads actor agrees of is) in
     let other = ap changes_table (sym c.deed.ensures ∙ ap deed_of c.in-At.is) ∙ is_other c.in-At.action in
     void_followed reads actor change part tree c.in_ok-effect-in-At.effect own other stood told
+
+-- ---- nothing of it is missing
+
+pub returns-then-get-clause-taken : goal.returns-then-get-clause-taken
+returns-then-get-clause-taken g c = λ actor of is own.
+    let other : c.args.change.now.principal ≢ c.args.self.now.table.principal = search rules in
+    absurd (other own)
+
+pub returns-in-OfTable-clause-taken : goal.returns-in-OfTable-clause-taken
+returns-in-OfTable-clause-taken g c = λ actor of is own asked.
+    let change = c.args.change.now in
+    let tables : changes_table change.action ≡ true = ap changes_table (sym c.deed.ensures ∙ ap deed_of c.in-OfTable.is) ∙ is_tables c.in-OfTable.field-0 in
+    let place : is_table change.principal change.i_number ≡ true = at_table change c.principal.ensures.fits tables in
+    absurd (table_asks actor change place asked)
+
+pub returns-in_ok-effect-in-At-clause-taken : goal.returns-in_ok-effect-in-At-clause-taken
+returns-in_ok-effect-in-At-clause-taken g c = λ actor of is own.
+    let part = c.args.self.now in
+    let change = c.args.change.now in
+    let at = is_change change part c.i_number-i_number.result (action_of c.in-At.action) own c.i_number-i_number.ensures (sym (ap deed_of c.in-At.is) ∙ c.deed.ensures) in
+    subst (λ (x : Change Digest). HasBy (g.B.Blocks.held c.args.blocks.now) actor part x) at (c.in_ok-effect-in-At.ensures.taken actor of is)

@@ -5,7 +5,7 @@ use Rattle.update_cert.specs.World.{permitted, is_table}
 use Rattle.update_cert.specs.Acts.{change_at}
 use Rattle.update_cert.specs.Part.{slot_at}
 use Rattle.update_cert.proofs.ActLaws.{permitted_is, not_permitted, of_table, slots_still, has_acted, slots_acted}
-use Rattle.update_cert.proofs.AskedLaws.{each_by}
+use Rattle.update_cert.proofs.AskedLaws.{each_by, has_by, not_permitted_asks, table_asks}
 use Rattle.update_cert.proofs.part.Part.change.Goals as goal
 
 pub returns-then-not-is_permitted-clause-effect : goal.returns-then-not-is_permitted-clause-effect
@@ -59,3 +59,26 @@ returns-clause-missing g c = λ actor of is.
     let may : permitted actor change ≡ true = permitted_is actor change part.table.principal c.args.user c.args.is_member refl of is ∙ rw c.principal.ensures at (sym c.is_permitted.ensures ∙ c.if-not-is_permitted.false) in
     let place : is_table change.principal change.i_number ≡ false = ap (λ p. is_table p change.i_number) (sym c.principal-2.ensures) ∙ sym c.is_table.ensures ∙ c.if-is_table.false in
     each_by (g.B.Blocks.held c.args.blocks.now) actor part change c.act.result may place c.act.ensures.missing
+
+-- ---- nothing of it is missing
+
+pub returns-then-not-is_permitted-clause-taken : goal.returns-then-not-is_permitted-clause-taken
+returns-then-not-is_permitted-clause-taken g c = λ actor of is asked.
+    let part = c.args.self.now in
+    let change = change_at part c.args.i_number (action_of c.args.action.now) in
+    let not : permitted actor change ≡ false = permitted_is actor change part.table.principal c.args.user c.args.is_member refl of is ∙ rw c.principal.ensures at (sym c.is_permitted.ensures ∙ c.if-not-is_permitted.true) in
+    absurd (not_permitted_asks actor change not asked)
+
+pub returns-then-is_table-clause-taken : goal.returns-then-is_table-clause-taken
+returns-then-is_table-clause-taken g c = λ actor of is asked.
+    let part = c.args.self.now in
+    let change = change_at part c.args.i_number (action_of c.args.action.now) in
+    let place : is_table change.principal change.i_number ≡ true = ap (λ p. is_table p change.i_number) (sym c.principal-2.ensures) ∙ sym c.is_table.ensures ∙ c.if-is_table.true in
+    absurd (table_asks actor change place asked)
+
+pub returns-clause-taken : goal.returns-clause-taken
+returns-clause-taken g c = λ actor of is.
+    let part = c.args.self.now in
+    let change = change_at part c.args.i_number (action_of c.args.action.now) in
+    let place : is_table change.principal change.i_number ≡ false = ap (λ p. is_table p change.i_number) (sym c.principal-2.ensures) ∙ sym c.is_table.ensures ∙ c.if-is_table.false in
+    has_by (g.B.Blocks.held c.args.blocks.now) actor part change c.act.result (c.act.ensures.taken place)

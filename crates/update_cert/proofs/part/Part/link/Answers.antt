@@ -1,4 +1,4 @@
-use Rattle.std.proofs.Common.{◌≡◌, List, Some, None, sym, ap, ◌∙◌, rules}
+use Rattle.std.proofs.Common.{◌≡◌, true, List, Some, None, sym, ap, ◌∙◌, rules}
 use Rattle.std.specs.Prelude.{slice_index_or, if◌then◌else◌}
 use Rattle.std.specs.Option.{option_map}
 use Rattle.directory.specs.Directory.{Entry, linked}
@@ -8,6 +8,7 @@ use Rattle.update_cert.specs.Acts.{change_at, listed}
 use Rattle.update_cert.specs.Part.{Part, opened_at, stands_at}
 use Rattle.update_cert.proofs.PartLaws.{closed}
 use Rattle.update_cert.proofs.ActLaws.{is_part_edited, slot_edited, opened_there, edit_acts, open_acts, void_acts, stands_closed, makes_linked, no_room}
+use Rattle.update_cert.proofs.AskedLaws.{has_opened}
 use Rattle.update_cert.proofs.part.Part.link.Goals as goal
 
 pub invariant_of-self : goal.invariant_of-self
@@ -74,3 +75,23 @@ returns-clause-acts g c = λ reads user agrees.
     let fit = sym c.if-not-branch.false ∙ c.in_ok-link.ensures.room ∙ ap (λ (xs : List Entry). has_room c.args.entry.now.name (Some (Directory xs))) entries in
     let made : o.entries ≡ linked es c.args.entry.now = c.in_ok-link.ensures.entries ∙ ap (λ t. if t then linked c.new-open.result.entries c.args.entry.now else c.new-open.result.entries) c.if-not-branch.false ∙ ap (λ (xs : List Entry). linked xs c.args.entry.now) entries in
     open_acts reads user (change_at part i (Link c.args.entry.now)) part _ (linked es c.args.entry.now) es o.entries here fit (rw key at c.in_ok-open.ensures.slots) (makes_linked reads es c.args.entry.now) made
+
+-- ---- nothing of it is missing
+
+pub returns-in-Ok-clause-taken : goal.returns-in-Ok-clause-taken
+returns-in-Ok-clause-taken g c =
+    let old : Part = record { table = c.self.inside.table; opened = c.self.inside.opened.items } in
+    let d = c.index_mut.result.now in
+    let at = rw c.deref.ensures.value at c.in-Ok.ensures in
+    let here : d ≡ slice_index_or c.self.inside.opened.items c.in-Ok.place d = search rules in
+    let there = opened_there old c.args.i_number c.in-Ok.place d c.link.new.self at here c.link.ensures.i_number in
+    rw (← c.self.view_is) (has_opened (g.B.Blocks.held c.args.blocks.now) old c.args.i_number true d.entries there)
+
+pub returns-in_default-clause-taken : goal.returns-in_default-clause-taken
+returns-in_default-clause-taken g c = c.in_ok-directory.ensures.taken
+
+pub returns-then-not-branch-clause-taken : goal.returns-then-not-branch-clause-taken
+returns-then-not-branch-clause-taken g c = c.in_ok-directory.ensures.taken
+
+pub returns-clause-taken : goal.returns-clause-taken
+returns-clause-taken g c = c.in_ok-directory.ensures.taken

@@ -1,4 +1,4 @@
-use Rattle.std.proofs.Common.{◌≡◌, List, Some, None, sym, ap, ◌∙◌, rules}
+use Rattle.std.proofs.Common.{◌≡◌, true, List, Some, None, sym, ap, ◌∙◌, rules}
 use Rattle.std.specs.Prelude.{slice_index_or, if◌then◌else◌}
 use Rattle.std.specs.Option.{option_map}
 use Rattle.directory.specs.Directory.{Entry, unlinked}
@@ -8,6 +8,7 @@ use Rattle.update_cert.specs.Acts.{change_at, listed}
 use Rattle.update_cert.specs.Part.{Part, opened_at, stands_at}
 use Rattle.update_cert.proofs.PartLaws.{closed}
 use Rattle.update_cert.proofs.ActLaws.{is_part_edited, slot_edited, opened_there, edit_acts, open_acts, void_acts, stands_closed, makes_unlinked, no_name}
+use Rattle.update_cert.proofs.AskedLaws.{has_opened}
 use Rattle.update_cert.proofs.part.Part.unlink.Goals as goal
 
 pub invariant_of-self : goal.invariant_of-self
@@ -67,3 +68,23 @@ returns-clause-acts g c = λ reads user agrees.
     let fit = sym c.if-not-unlink.false ∙ c.unlink-2.ensures.had ∙ ap (λ (xs : List Entry). has_name c.args.name.now (Some (Directory xs))) entries in
     let made : o.entries ≡ unlinked es c.args.name.now = c.unlink-2.ensures.entries ∙ ap (λ t. if t then unlinked c.new-open.result.entries c.args.name.now else c.new-open.result.entries) c.if-not-unlink.false ∙ ap (λ (xs : List Entry). unlinked xs c.args.name.now) entries in
     open_acts reads user (change_at part i (Unlink c.args.name.now)) part _ (unlinked es c.args.name.now) es o.entries here fit (rw key at c.in_ok-open.ensures.slots) (makes_unlinked reads es c.args.name.now) made
+
+-- ---- nothing of it is missing
+
+pub returns-in-Ok-clause-taken : goal.returns-in-Ok-clause-taken
+returns-in-Ok-clause-taken g c =
+    let old : Part = record { table = c.self.inside.table; opened = c.self.inside.opened.items } in
+    let d = c.index_mut.result.now in
+    let at = rw c.deref.ensures.value at c.in-Ok.ensures in
+    let here : d ≡ slice_index_or c.self.inside.opened.items c.in-Ok.place d = search rules in
+    let there = opened_there old c.args.i_number c.in-Ok.place d c.unlink.new.self at here c.unlink.ensures.i_number in
+    rw (← c.self.view_is) (has_opened (g.B.Blocks.held c.args.blocks.now) old c.args.i_number true d.entries there)
+
+pub returns-in_default-clause-taken : goal.returns-in_default-clause-taken
+returns-in_default-clause-taken g c = c.in_ok-directory.ensures.taken
+
+pub returns-then-not-unlink-clause-taken : goal.returns-then-not-unlink-clause-taken
+returns-then-not-unlink-clause-taken g c = c.in_ok-directory.ensures.taken
+
+pub returns-clause-taken : goal.returns-clause-taken
+returns-clause-taken g c = c.in_ok-directory.ensures.taken

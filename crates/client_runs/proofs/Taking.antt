@@ -1,0 +1,187 @@
+-- Steps that are taken: what a call ensures is what its step tells.
+use Rattle.std.proofs.Common.{◌≡◌, ℕ, ◌≤◌, Option, Ok, Err, Result, IfOk, option_map, refl, sym, ap, subst, ◌∙◌}
+use Rattle.std.specs.Prelude.{◌≢◌, ◌⊎◌}
+use Rattle.std.specs.Vec.{vec_items}
+use Rattle.std.specs.declared.vec.Vec.{Vec}
+use Rattle.layout.specs.Types.{Bytes, Digest, INumber, Key, Principal}
+use Rattle.lms_sign.specs.Keys.{public_key_of}
+use Rattle.leaf_ledger.specs.Device.{HasRisen, History, MayLeave, started}
+use Rattle.leaf_ledger.specs.Ledger.{IsForeign}
+use Rattle.client_journal.specs.Records.{IsDamaged}
+use Rattle.update_cert.specs.Change.{Change}
+use Rattle.wire.specs.declared.kinds.Status.{Status}
+use Rattle.client_releases.specs.declared.error.ClientError.{ClientError}
+use Rattle.client_releases.specs.declared.error.ClientError.TheVariants as error
+use Rattle.client_releases.specs.declared.phase.Phase.{Phase}
+use Rattle.client_releases.specs.Releasing.{IsOpening}
+use Rattle.client_releases.specs.Told.{IsToldBy, TellsOfOther}
+use Rattle.client_verify.specs.declared.look.Look.{Look}
+use Rattle.client_verify.specs.declared.step.Step.{Step}
+use Rattle.client_verify.specs.State.{State, opened, released}
+use Rattle.client_runs.specs.declared.world.Accepted.{Accepted}
+use Rattle.client_runs.specs.declared.world.Act.{Act}
+use Rattle.client_runs.specs.declared.world.Act.TheVariants as act
+use Rattle.client_runs.specs.declared.world.Answer.{Answer}
+use Rattle.client_runs.specs.declared.world.Answer.TheVariants as answer
+use Rattle.client_runs.specs.Steps.{Begins, Client, Closed, Closes, Commits, Gives, HasBegun, HasCommitted, HasGiven, HasHeard, HasLooked, HasSigned, HasTaken, Hears, IsHandedBack, IsOpened, IsRefused, IsSound, Looks, Open, Opens, Owner, Parts, Signs, Takes, journal_of, ledger_of, own_key}
+use Rattle.client_runs.specs.Carried.{ComesOf}
+use Rattle.client_runs.specs.NotTaken.{CantFromOpen, MayLeaveBoth}
+use Rattle.client_runs.specs.Slots.{AreSame}
+use Rattle.client_runs.specs.Told.{IsAcceptedBy, IsTold, asked, on_ok, resent, seen, texts_in}
+use Rattle.client_runs.proofs.Same as unchanged
+use Rattle.client_runs.proofs.NotTaken.{crashes, open_stays}
+
+-- what comes of a client comes of it by another name
+pub comes_from : {A : Type 0} (o : Owner) (old before : Client) (t : Act A) (a : Answer A) (new : Client) → old ≡ before → ComesOf o old t a new → ComesOf o before t a new
+comes_from o old before t a new same comes = subst (λ (c : Client). ComesOf o c t a new) same comes
+
+-- what follows of each value follows of a result's
+pub on_each : {T E : Type 0} (r : Result T E) (P Q : T → Type 0) → IfOk r P → ((x : T) → P x → Q x) → IfOk r Q
+on_each (Ok x) P Q given follows = follows x given
+on_each (Err e) P Q given follows = tt
+
+-- ---- calls of an open client
+
+told_signed : {A : Type 0} (r : Result (Accepted A) ClientError) (new : State) → IfOk r (λ x. IsAcceptedBy x new.view) → IsTold act.Sign (answer.Signed r) (Open new)
+told_signed (Ok x) new view = view
+told_signed (Err e) new view = tt
+
+module _ {A : Type 0} (o : Owner) (old new : State) (t : Act A) where
+  -- what comes of a step comes of the same one by another name
+  same_step : (u : Act A) (a : Answer A) (after : Client) → t ≡ u → ComesOf o (Open old) u a after → ComesOf o (Open old) t a after
+  same_step u a after is comes = subst (λ (x : Act A). ComesOf o (Open old) x a after) (sym is) comes
+
+  pub begins : (changes : Vec (Change Digest) A) (laid : Vec (Vec ℕ A) A) (r : Result (Vec ℕ A) ClientError) → t ≡ act.Begin changes laid
+      → HasBegun old changes.items (texts_in laid) (on_ok vec_items r) new → IsSound (Open new) → ComesOf o (Open old) t (answer.Begun r) (Open new)
+  begins changes laid r is b sound =
+      same_step (act.Begin changes laid) (answer.Begun r) (Open new) is
+      (record { call = Begins changes.items (texts_in laid) (on_ok vec_items r); is_call = refl; told = tt; step = b; sound = sound })
+
+  pub hears : (text : Vec ℕ A) (r : Result (Step A) ClientError) → t ≡ act.Reply text
+      → HasHeard old text.items (on_ok asked r) new → IsSound (Open new) → ComesOf o (Open old) t (answer.Asks r) (Open new)
+  hears text r is b sound =
+      same_step (act.Reply text) (answer.Asks r) (Open new) is
+      (record { call = Hears text.items (on_ok asked r); is_call = refl; told = tt; step = b; sound = sound })
+
+  pub takes : (block : Option (Vec ℕ A)) (r : Result (Step A) ClientError) → t ≡ act.Block block
+      → HasTaken old (option_map vec_items block) (on_ok asked r) new → IsSound (Open new) → ComesOf o (Open old) t (answer.Asks r) (Open new)
+  takes block r is b sound =
+      same_step (act.Block block) (answer.Asks r) (Open new) is
+      (record { call = Takes (option_map vec_items block) (on_ok asked r); is_call = refl; told = tt; step = b; sound = sound })
+
+  pub signs : (r : Result (Accepted A) ClientError) → t ≡ act.Sign
+      → HasSigned old (on_ok (λ (x : Accepted A). x.text.items) r) new → IfOk r (λ x. IsAcceptedBy x new.view) → IsSound (Open new)
+      → ComesOf o (Open old) t (answer.Signed r) (Open new)
+  signs r is b view sound =
+      same_step act.Sign (answer.Signed r) (Open new) is
+      (record { call = Signs (on_ok (λ (x : Accepted A). x.text.items) r); is_call = refl; told = told_signed r new view; step = b; sound = sound })
+
+  pub commits : (status : Status) → t ≡ act.Committed status → HasCommitted old status new → IsSound (Open new) → ComesOf o (Open old) t answer.Committed (Open new)
+  commits status is b sound =
+      same_step (act.Committed status) answer.Committed (Open new) is
+      (record { call = Commits status; is_call = refl; told = tt; step = b; sound = sound })
+
+  pub looks : (p : Principal) (i : INumber) (r : Result (Look A) ClientError) → t ≡ act.Look p i
+      → HasLooked old p i (on_ok seen r) new → IsSound (Open new) → ComesOf o (Open old) t (answer.Sees r) (Open new)
+  looks p i r is b sound =
+      same_step (act.Look p i) (answer.Sees r) (Open new) is
+      (record { call = Looks p i (on_ok seen r); is_call = refl; told = tt; step = b; sound = sound })
+
+  pub gives : (block : Option (Vec ℕ A)) (r : Result (Look A) ClientError) → t ≡ act.Give block
+      → HasGiven old (option_map vec_items block) (on_ok seen r) new → IsSound (Open new) → ComesOf o (Open old) t (answer.Sees r) (Open new)
+  gives block r is b sound =
+      same_step (act.Give block) (answer.Sees r) (Open new) is
+      (record { call = Gives (option_map vec_items block) (on_ok seen r); is_call = refl; told = tt; step = b; sound = sound })
+
+  -- it stays as it was where the step can't be taken
+  pub stays : (u : Act A) → t ≡ u → new ≡ old → CantFromOpen old u → ComesOf o (Open old) t answer.NotTaken (Open new)
+  stays u is same cant = same_step u answer.NotTaken (Open new) is (open_stays o old new u same cant)
+
+  pub closes : (p : Parts) → t ≡ act.Close → IsHandedBack old p → ComesOf o (Open old) t answer.Closed (Closed p)
+  closes p is back =
+      same_step act.Close answer.Closed (Closed p) is
+      (record { call = Closes; is_call = refl; told = tt; step = back; sound = tt })
+
+-- whatever comes of an open client, it is of the same key while it stays open
+pub same_key : {A : Type 0} (o : Owner) (old new : State) (t : Act A) (a : Answer A) → ComesOf o (Open old) t a (Open new) → AreSame old new
+same_key o old new t answer.NotTaken h = let is : new ≡ old = cc h.0 in unchanged.stays old new is
+same_key o old new t (answer.Opened how text) h = unchanged.steps old new h.call h.step
+same_key o old new t (answer.Refused error) h = unchanged.steps old new h.call h.step
+same_key o old new t answer.Closed h = unchanged.steps old new h.call h.step
+same_key o old new t (answer.Begun r) h = unchanged.steps old new h.call h.step
+same_key o old new t (answer.Asks r) h = unchanged.steps old new h.call h.step
+same_key o old new t (answer.Signed r) h = unchanged.steps old new h.call h.step
+same_key o old new t answer.Committed h = unchanged.steps old new h.call h.step
+same_key o old new t (answer.Sees r) h = unchanged.steps old new h.call h.step
+same_key o old new t answer.Crashed h = unchanged.steps old new h.call h.step
+
+-- ---- crashes
+
+-- what may be left may be left by another name
+may_of : (file same : History) (left alike : Bytes) → file ≡ same → left ≡ alike → MayLeave file.now left → MayLeave same.now alike
+may_of file same left alike at_file at_left may = subst (λ (x : Bytes). MayLeave same.now x) at_left (subst (λ (h : History). MayLeave h.now left) at_file may)
+
+-- The step, the files of both devices and what is left on them are those of the test and of the crash by other names.
+module _ {A : Type 0} (o : Owner) (before : Client) (t : Act A) (ledger journal : Vec ℕ A) (file other : History) (left kept : Bytes) where
+  -- a crash leaves what it may
+  pub crashed : t ≡ act.Crash ledger journal → file ≡ ledger_of before → other ≡ journal_of before → left ≡ ledger.items → kept ≡ journal.items
+      → MayLeaveBoth file other left kept → (p : Parts) → p.ledger.history ≡ started left → p.journal.history ≡ started kept
+      → ComesOf o before t answer.Crashed (Closed p)
+  crashed is at_file at_other at_left at_kept may p l j =
+      let both : MayLeaveBoth (ledger_of before) (journal_of before) ledger.items journal.items =
+      (may_of file (ledger_of before) left ledger.items at_file at_left may.0, may_of other (journal_of before) kept journal.items at_other at_kept may.1) in
+      subst (λ (x : Act A). ComesOf o before x answer.Crashed (Closed p)) (sym is)
+      (crashes o before ledger journal p both (l ∙ ap started at_left) (j ∙ ap started at_kept))
+
+-- ---- a closed client
+
+module _ (o : Owner) (p : Parts) where
+  pub is_opened : (s : State) (pinned : Key) (seed id : Bytes) → pinned ≡ o.pinned → seed ≡ o.seed → id ≡ o.id
+      → s ≡ opened pinned (released s)
+      → (s.user ≡ o.user) × (s.seed ≡ seed) × (s.id ≡ id)
+      → IsToldBy p.journal.history.now.text (released s)
+      → IsOpening p.ledger.history p.journal.history s.devices.ledger.file s.devices.journal.file
+      → (IsForeign (public_key_of seed id) p.ledger.history.now.text → ⊥)
+      → (p.ledger.faults ≤ s.devices.ledger.faults) × (p.journal.faults ≤ s.devices.journal.faults)
+      → IsOpened o p s
+  is_opened s pinned seed id at_pinned at_seed at_id state whose told moments own later =
+      let key : own_key o ≡ public_key_of seed id = ap (λ (x : Bytes). public_key_of x o.id) (sym at_seed) ∙ ap (λ (x : Bytes). public_key_of seed x) (sym at_id) in
+      record {
+        state = state ∙ ap (λ (k : Key). opened k (released s)) at_pinned;
+        user = whose.0;
+        seed = whose.1 ∙ at_seed;
+        id = whose.2 ∙ at_id;
+        told = told;
+        moments = moments;
+        own = λ is. own (subst (λ (k : Key). IsForeign k p.ledger.history.now.text) key is);
+        ledger_later = later.0;
+        journal_later = later.1;
+      }
+
+  pub is_refused : (e : ClientError) (q : Parts) (seed id : Bytes) → seed ≡ o.seed → id ≡ o.id
+      → IsOpening p.ledger.history p.journal.history q.ledger.history q.journal.history
+      → (e ≡ error.Foreign → IsForeign (public_key_of seed id) p.ledger.history.now.text)
+      → (e ≡ error.Damaged → IsDamaged p.journal.history.now.text ⊎ TellsOfOther o.user p.journal.history.now.text)
+      → (e ≡ error.Device → HasRisen p.ledger.faults q.ledger.faults ⊎ HasRisen p.journal.faults q.journal.faults)
+      → (e ≢ error.NoLeaf) × (e ≢ error.NoNumber)
+      → (p.ledger.faults ≤ q.ledger.faults) × (p.journal.faults ≤ q.journal.faults)
+      → IsRefused o p e q
+  is_refused e q seed id at_seed at_id moments foreign damaged device only later =
+      let key : public_key_of seed id ≡ own_key o = ap (λ (x : Bytes). public_key_of x id) at_seed ∙ ap (λ (x : Bytes). public_key_of o.seed x) at_id in
+      record {
+        moments = moments;
+        foreign = λ is. subst (λ (k : Key). IsForeign k p.ledger.history.now.text) key (foreign is);
+        damaged = damaged;
+        device = device;
+        leaves = only.0;
+        numbers = only.1;
+        ledger_later = later.0;
+        journal_later = later.1;
+      }
+
+  pub opens : {A : Type 0} (s : State) (how : Phase) (text : Vec ℕ A) → IsOpened o p s → IsSound (Open s) → how ≡ s.phase → text.items ≡ resent s.phase s.text
+      → ComesOf o (Closed p) act.Open (answer.Opened how text) (Open s)
+  opens s how text is sound told_phase told_text = record { call = Opens (Ok tt); is_call = refl; told = (told_phase, told_text); step = is; sound = sound }
+
+  pub refuses : {A : Type 0} (q : Parts) (e : ClientError) → IsRefused o p e q → ComesOf {A = A} o (Closed p) act.Open (answer.Refused e) (Closed q)
+  refuses q e is = record { call = Opens (Err e); is_call = refl; told = tt; step = is; sound = tt }

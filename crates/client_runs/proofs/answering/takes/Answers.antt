@@ -1,0 +1,14 @@
+use Rattle.std.proofs.Common.{Option, refl, subst}
+use Rattle.layout.specs.Types.{Bytes}
+use Rattle.client_runs.specs.declared.world.Act.TheVariants as act
+use Rattle.client_runs.specs.Steps.{HasTaken}
+use Rattle.client_runs.specs.Told.{on_ok, asked}
+use Rattle.client_runs.proofs.Taking as taking
+use Rattle.client_runs.proofs.answering.takes.Goals as goal
+
+pub returns-in-Some : goal.returns-in-Some
+returns-in-Some g c =
+    let old = c.args.client.now in
+    let new = c.take.new.client in
+    let told = subst (λ (b : Option Bytes). HasTaken old b (on_ok asked c.in-Some.answer) new) c.lent.ensures c.in-Some.ensures in
+    λ o sound. taking.takes o old new (act.Block c.args.block.now) c.args.block.now c.in-Some.answer refl told sound

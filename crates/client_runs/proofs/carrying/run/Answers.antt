@@ -1,0 +1,27 @@
+use Rattle.client_runs.proofs.Ended.{all_steps, carried_out, none_yet, step_more}
+use Rattle.client_runs.proofs.carrying.run.Goals as goal
+
+pub loop-todo-init : goal.loop-todo-init
+loop-todo-init g c = record {
+  ready = c.in_ok-clients.ensures.ready;
+  stands = none_yet c.new-answers.result.items c.in_ok-clients.clients.slots.items c.new-answers.ensures.items c.in_ok-clients.ensures.first;
+}
+
+pub loop-todo-preserved : goal.loop-todo-preserved
+loop-todo-preserved g c =
+    let is = c.loop-todo.invariant in
+    let e = c.in_ok-answer.ensures in
+    record {
+      ready = e.ready;
+      stands = step_more c.args.steps.now c.loop-todo.todo-index c.todo-item.result c.loop-todo-test.true c.todo-item.is
+          c.loop-todo.answers.items c.push.new.self.items c.in_ok-answer.answer c.loop-todo.clients.slots.items c.carry_out.new.self.slots.items
+          c.in_ok-push.ensures.items e.others is.stands e.step;
+    }
+
+pub returns : goal.returns
+returns g c =
+    let once = c.each_is_used_once.ensures in
+    let agree = c.runs_agree.ensures in
+    carried_out once.leaves once.certificates once.structures agree.accepted agree.numbered agree.ended agree.released agree.growing agree.agreed
+    c.args.steps.now c.loop-todo.answers.items c.loop-todo.clients.slots.items
+    (all_steps c.args.steps.now c.loop-todo.todo-index c.loop-todo.answers.items c.loop-todo.clients.slots.items c.loop-todo-test.false c.loop-todo.invariant.stands)

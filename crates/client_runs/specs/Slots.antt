@@ -1,0 +1,52 @@
+-- Users' clients in memory: for private contracts. Nobody has to believe this file.
+use Rattle.std.specs.Prelude.{◌≡◌, ℕ, List, length, slice_index_or}
+use Rattle.layout.specs.Types.{User}
+use Rattle.client_verify.specs.State.{State}
+use Rattle.client_runs.specs.declared.carrying.Clients.{Clients}
+use Rattle.client_runs.specs.declared.slot.Slot.{Slot}
+use Rattle.client_runs.specs.declared.slot.Slot.TheVariants as slot
+use Rattle.client_runs.specs.declared.world.Act.{Act}
+use Rattle.client_runs.specs.declared.world.Act.TheVariants as act
+use Rattle.client_runs.specs.declared.world.Answer.{Answer}
+use Rattle.client_runs.specs.Steps.{Client, Closed, IsSound, Open, Owner, first}
+use Rattle.client_runs.specs.Runs.{owner, public_key}
+use Rattle.client_runs.specs.Carried.{ComesOf, script_keys}
+
+-- the client in memory
+abbrev pub client_in : {A : Type 0} → Slot A → Client
+client_in slot.Unmade = first
+client_in (slot.Closed p) = Closed (record { ledger = p.ledger; journal = p.journal })
+client_in (slot.Open s) = Open s
+
+-- it has this owner's key
+abbrev pub IsOf : {A : Type 0} → Owner → Slot A → Type 0
+IsOf o slot.Unmade = Unit {0}
+IsOf o (slot.Closed p) = (p.key.seed ≡ o.seed) × (p.key.id ≡ o.id)
+IsOf o (slot.Open s) = (s.seed ≡ o.seed) × (s.id ≡ o.id)
+
+-- the client of the same key
+abbrev pub AreSame : State → State → Type 0
+AreSame old new = (new.seed ≡ old.seed) × (new.id ≡ old.id)
+
+-- what neither closes an open client nor lets it crash
+abbrev pub StaysOpen : {A : Type 0} → Act A → Type 0
+StaysOpen act.Close = ⊥
+StaysOpen (act.Crash ledger journal) = ⊥
+StaysOpen other = Unit {0}
+
+-- what is told of such a step of an open client, whoever's it is, where it is sound after it
+abbrev pub Tells : {A : Type 0} → State → Act A → Answer A → State → Type 0
+Tells old todo answer new = (o : Owner) → IsSound (Open new) → ComesOf o (Open old) todo answer (Open new)
+
+-- each user's client
+abbrev pub client_at : {A : Type 0} → List (Slot A) → User → Client
+client_at slots u = client_in (slice_index_or slots u slot.Unmade)
+
+abbrev pub AreOwn : {A : Type 0} → List (Slot A) → Type 0
+AreOwn slots = (u : ℕ) → IsOf (owner script_keys u) (slice_index_or slots u slot.Unmade)
+
+-- the clients of all users, each of its user, which know user 0's public key
+pub record AreReady {A : Type 0} (clients : Clients A) : Type 0 where
+  pub pinned : clients.pinned ≡ public_key script_keys 0
+  pub size : length clients.slots.items ≡ 64
+  pub own : AreOwn clients.slots.items

@@ -1,0 +1,226 @@
+//! A user's client in memory, open or closed, and a step of it.
+
+ghost use Rattle.std.specs.Prelude.{◌≡◌, false, true, IfOk};
+ghost use Rattle.leaf_ledger.specs.Device.{started};
+ghost use Rattle.client_runs.specs.Steps.{Open, Owner, first};
+ghost use Rattle.client_runs.specs.Runs.{owner, public_key};
+ghost use Rattle.client_runs.specs.Carried.{ComesOf, script_keys};
+ghost use Rattle.client_runs.specs.Slots.{IsOf, client_in};
+ghost use Rattle.client_runs.specs.Told.{resent as resent_in};
+ghost use Rattle.client_runs.specs.NotTaken.{MayLeaveBoth};
+
+use crate::answering::call;
+use crate::armed::{ArmedDevice, Order};
+use crate::calls::{MemoryClient, stands};
+use crate::world::{Act, Answer};
+use client_verify::{Client, Parts, Phase};
+use layout::{Memory, User};
+use lms_sign::{PrivateKey, PublicKey};
+use std::alloc::Allocator;
+
+/// What a client is opened over, in memory.
+type MemoryParts<A> = Parts<ArmedDevice<A>, ArmedDevice<A>, A>;
+
+/// A user's client.
+#[derive(Drop)]
+pub(crate) enum Slot<A: Allocator + Copy> {
+    /// It was never named: nothing stands on its devices.
+    Unmade,
+    /// It is closed.
+    Closed(MemoryParts<A>),
+    /// It is open.
+    Open(MemoryClient<A>),
+}
+
+/// The orders for the devices of the client that takes a step.
+#[derive(Drop)]
+pub(crate) struct Orders<A: Allocator + Copy> {
+    pub(crate) ledger: Order<A>,
+    pub(crate) journal: Order<A>,
+}
+
+/// The key of a user's client: its seed and its identifier are bytes of the user's number.
+pub(crate) fn key_of<A: Allocator>(alloc: A, user: User) -> Result<PrivateKey<A>, Memory>
+    ensures seed { IfOk result (λ key. key.seed ≡ (owner script_keys user).seed) }
+    ensures id { IfOk result (λ key. key.id ≡ (owner script_keys user).id) }
+{
+    PrivateKey::from_seed(alloc, [user.get(); 32], [user.get(); 16])
+}
+
+/// What a user's client is opened over before its first step.
+fn first_parts<A: Allocator + Copy>(
+    alloc: A,
+    user: User,
+    orders: &Orders<A>,
+) -> Result<MemoryParts<A>, Memory>
+    ensures client { IfOk result (λ parts. client_in (Slot.Closed parts) ≡ first) }
+    ensures own { IfOk result (λ parts. IsOf (owner script_keys user) (Slot.Closed parts)) }
+{
+    let key = key_of(alloc, user)?;
+    let ledger = ArmedDevice::empty(alloc, orders.ledger.clone()?)?;
+    let journal = ArmedDevice::empty(alloc, orders.journal.clone()?)?;
+    Ok(Parts {
+        key,
+        ledger,
+        journal,
+    })
+}
+
+/// The text that an opened client has to send again, if there is one.
+fn resent<A: Allocator + Copy>(alloc: A, client: &MemoryClient<A>) -> Result<Vec<u8, A>, Memory>
+    ensures { IfOk result (λ text. text.items ≡ resent_in client.now.phase client.now.text) }
+{
+    match client.phase() {
+        Phase::Declared => Ok(Vec::from_slice(alloc, client.declared())?),
+        Phase::Signed => Ok(Vec::from_slice(alloc, client.signed())?),
+        _ => Ok(Vec::new(alloc)),
+    }
+}
+
+/// Opens a closed client.
+fn open<A: Allocator + Copy>(
+    alloc: A,
+    user: User,
+    pinned: PublicKey,
+    parts: MemoryParts<A>,
+) -> Result<(Slot<A>, Answer<A>), Memory>
+    requires pinned { pinned ≡ public_key script_keys 0 }
+    requires own { IsOf (owner script_keys user) (Slot.Closed parts) }
+    ensures step { IfOk result (λ r. ComesOf (owner script_keys user) (client_in (Slot.Closed parts)) Act.Open r.1 (client_in r.0)) }
+    ensures own { IfOk result (λ r. IsOf (owner script_keys user) r.0) }
+{
+    let Parts {
+        key,
+        ledger,
+        journal,
+    } = parts;
+    match Client::open(alloc, user, key, pinned, ledger, journal) {
+        Ok(client) => {
+            stands(&client);
+            let text = resent(alloc, &client)?;
+            let phase = client.phase();
+            Ok((Slot::Open(client), Answer::Opened(phase, text)))
+        }
+        Err((error, parts)) => Ok((Slot::Closed(parts), Answer::Refused(error))),
+    }
+}
+
+/// Whether a crash may leave these bytes on the devices of a ledger and of a journal.
+fn may_leave<A: Allocator + Copy>(
+    ledger: &ArmedDevice<A>,
+    journal: &ArmedDevice<A>,
+    ledger_left: &[u8],
+    journal_left: &[u8],
+) -> bool
+    ensures yes { result ≡ true → MayLeaveBoth ledger.now.history journal.now.history ledger_left.now journal_left.now }
+    ensures no { result ≡ false → MayLeaveBoth ledger.now.history journal.now.history ledger_left.now journal_left.now → ⊥ }
+{
+    ledger.may_leave(ledger_left) && journal.may_leave(journal_left)
+}
+
+/// What is on the devices after a crash that left these bytes, as it may.
+fn crash<A: Allocator + Copy>(
+    alloc: A,
+    parts: MemoryParts<A>,
+    ledger_left: &[u8],
+    journal_left: &[u8],
+) -> Result<MemoryParts<A>, Memory>
+    requires { MayLeaveBoth parts.ledger.history parts.journal.history ledger_left.now journal_left.now }
+    ensures ledger { IfOk result (λ p. p.ledger.history ≡ started ledger_left.now) }
+    ensures journal { IfOk result (λ p. p.journal.history ≡ started journal_left.now) }
+    ensures key { IfOk result (λ p. p.key ≡ parts.key) }
+{
+    let ledger_left = Vec::from_slice(alloc, ledger_left)?;
+    let journal_left = Vec::from_slice(alloc, journal_left)?;
+    let Parts {
+        key,
+        ledger,
+        journal,
+    } = parts;
+    match (ledger.crash(ledger_left), journal.crash(journal_left)) {
+        (Ok(ledger), Ok(journal)) => Ok(Parts {
+            key,
+            ledger,
+            journal,
+        }),
+        // What a crash may leave it leaves, unless memory runs out.
+        _ => Err(Memory),
+    }
+}
+
+/// A step of a closed client.
+fn closed_step<A: Allocator + Copy>(
+    alloc: A,
+    user: User,
+    pinned: PublicKey,
+    parts: MemoryParts<A>,
+    act: &Act<A>,
+) -> Result<(Slot<A>, Answer<A>), Memory>
+    requires pinned { pinned ≡ public_key script_keys 0 }
+    requires own { IsOf (owner script_keys user) (Slot.Closed parts) }
+    ensures step { IfOk result (λ r. ComesOf (owner script_keys user) (client_in (Slot.Closed parts)) act.now r.1 (client_in r.0)) }
+    ensures own { IfOk result (λ r. IsOf (owner script_keys user) r.0) }
+{
+    match act {
+        Act::Open => open(alloc, user, pinned, parts),
+        Act::Crash(ledger, journal) => {
+            if !may_leave(&parts.ledger, &parts.journal, ledger, journal) {
+                return Ok((Slot::Closed(parts), Answer::NotTaken));
+            }
+            let parts = crash(alloc, parts, ledger, journal)?;
+            Ok((Slot::Closed(parts), Answer::Crashed))
+        }
+        _ => Ok((Slot::Closed(parts), Answer::NotTaken)),
+    }
+}
+
+/// A step of an open client.
+fn open_step<A: Allocator + Copy>(
+    alloc: A,
+    client: MemoryClient<A>,
+    act: &Act<A>,
+) -> Result<(Slot<A>, Answer<A>), Memory>
+    ensures step { IfOk result (λ r. (o : Owner) → ComesOf o (Open client) act.now r.1 (client_in r.0)) }
+    ensures own { IfOk result (λ r. (o : Owner) → client.seed ≡ o.seed → client.id ≡ o.id → IsOf o r.0) }
+{
+    match act {
+        Act::Close => Ok((Slot::Closed(client.close()), Answer::Closed)),
+        Act::Crash(ledger, journal) => {
+            if !may_leave(client.ledger(), client.journal(), ledger, journal) {
+                return Ok((Slot::Open(client), Answer::NotTaken));
+            }
+            let parts = crash(alloc, client.close(), ledger, journal)?;
+            Ok((Slot::Closed(parts), Answer::Crashed))
+        }
+        _ => {
+            let mut client = client;
+            let answer = call(alloc, &mut client, act)?;
+            stands(&client);
+            Ok((Slot::Open(client), answer))
+        }
+    }
+}
+
+/// A step of a user's client.
+pub(crate) fn step<A: Allocator + Copy>(
+    alloc: A,
+    user: User,
+    pinned: PublicKey,
+    orders: &Orders<A>,
+    slot: Slot<A>,
+    act: &Act<A>,
+) -> Result<(Slot<A>, Answer<A>), Memory>
+    requires pinned { pinned ≡ public_key script_keys 0 }
+    requires own { IsOf (owner script_keys user) slot }
+    ensures step { IfOk result (λ r. ComesOf (owner script_keys user) (client_in slot) act.now r.1 (client_in r.0)) }
+    ensures own { IfOk result (λ r. IsOf (owner script_keys user) r.0) }
+{
+    match slot {
+        Slot::Unmade => {
+            let parts = first_parts(alloc, user, orders)?;
+            closed_step(alloc, user, pinned, parts, act)
+        }
+        Slot::Closed(parts) => closed_step(alloc, user, pinned, parts, act),
+        Slot::Open(client) => open_step(alloc, client, act),
+    }
+}

@@ -1,0 +1,7 @@
+//! Tests of journals and of what a client releases: over devices in memory, whose calls fail in turn and which crash.
+#![tactic(auto)]
+
+#[cfg(test)]
+mod journals;
+#[cfg(test)]
+mod releases;

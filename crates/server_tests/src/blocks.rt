@@ -1,0 +1,206 @@
+//! Blocks that are put and fetched, by one thread and by two.
+
+use block_store::{BLOCK_LIMIT, Store, StoreError};
+use layout::Digest;
+use std::alloc::Global;
+use std::sync::Wait;
+use std::test::Fail;
+use std::thread;
+
+/// The SHA-256 of no bytes (FIPS 180-4's own vector).
+const EMPTY: [u8; 32] = [
+    0xe3, 0xb0, 0xc4, 0x42, 0x98, 0xfc, 0x1c, 0x14, 0x9a, 0xfb, 0xf4, 0xc8, 0x99, 0x6f, 0xb9, 0x24,
+    0x27, 0xae, 0x41, 0xe4, 0x64, 0x9b, 0x93, 0x4c, 0xa4, 0x95, 0x99, 0x1b, 0x78, 0x52, 0xb8, 0x55,
+];
+
+/// What the store answers to a block: the digest of its pass.
+fn put<R: Wait>(rt: &R, store: &Store<Global>, bytes: &[u8]) -> Result<Digest, StoreError> {
+    let pass = store.put(rt, bytes)?;
+    Ok(pass.digest())
+}
+
+/// Whether the store gives these bytes for the digest.
+fn gives<R: Wait>(rt: &R, store: &Store<Global>, digest: Digest, bytes: &[u8]) -> bool {
+    match store.fetch(rt, digest) {
+        Ok(Some(block)) => block.as_slice() == bytes,
+        Ok(None) | Err(_) => false,
+    }
+}
+
+#[test]
+fn the_empty_block_is_found(rt: HostRuntime) -> Result<(), Fail> {
+    let store = Store::new(rt.alloc());
+    let empty = Digest::from_bytes(EMPTY);
+    assert!(rt; store.fetch(&rt, empty)?.is_none(), "before the put");
+    assert!(rt; put(&rt, &store, &[])? == empty, "the digest");
+    assert!(rt; gives(&rt, &store, empty, &[]), "after the put");
+    // Again: the block stays, beside others.
+    assert!(rt; put(&rt, &store, &[])? == empty, "the digest again");
+    let other = put(&rt, &store, &[1])?;
+    assert!(rt;
+        gives(&rt, &store, empty, &[]) && gives(&rt, &store, other, &[1]),
+        "both"
+    );
+    assert!(rt;
+        store.fetch(&rt, Digest::from_bytes([0; 32]))?.is_none(),
+        "no such block"
+    );
+    Ok(())
+}
+
+#[test]
+fn the_largest_block_passes(rt: HostRuntime) -> Result<(), Fail> {
+    let store = Store::new(rt.alloc());
+    let mut bytes = vec![in rt.alloc(); 7u8; 32_779]?;
+    let digest = put(&rt, &store, &bytes)?;
+    assert!(rt; gives(&rt, &store, digest, &bytes), "32,779 bytes");
+    bytes.push(7)?;
+    assert!(rt;
+        put(&rt, &store, &bytes) == Err(StoreError::TooLarge),
+        "32,780 bytes"
+    );
+    assert!(rt; BLOCK_LIMIT == 32_779, "the limit");
+    Ok(())
+}
+
+/// The sizes at which blocks of the file system begin or end, and those beside them.
+const SIZES: [usize; 9] = [0, 1, 999, 1_000, 4_095, 4_096, 4_097, 32_778, 32_779];
+
+/// A block of so many bytes, which begins with a number where it has room for it.
+fn sized(alloc: Global, size: usize, number: u8) -> Result<Vec<u8>, StoreError> {
+    let Ok(mut bytes) = vec![in alloc; 0x5a_u8; size] else {
+        return Err(StoreError::Memory);
+    };
+    if let Some(first) = bytes.first_mut() {
+        *first = number;
+    }
+    Ok(bytes)
+}
+
+#[test]
+fn blocks_of_all_sizes_are_found(rt: HostRuntime) -> Result<(), Fail> {
+    let store = Store::new(rt.alloc());
+    for size in SIZES {
+        for number in 0..3u8 {
+            let bytes = sized(rt.alloc(), size, number)?;
+            let wanted = layout::digest(&bytes);
+            let is_known = store.fetch(&rt, wanted)?.is_some();
+            assert!(rt;
+                is_known == (size == 0 && number > 0),
+                "{size} bytes, before"
+            );
+            assert!(rt;
+                put(&rt, &store, &bytes)? == wanted,
+                "{size} bytes, their digest"
+            );
+            assert!(rt; gives(&rt, &store, wanted, &bytes), "{size} bytes, put");
+        }
+    }
+    // After all of them, in the other order.
+    for size in SIZES.iter().rev() {
+        for number in 0..3u8 {
+            let bytes = sized(rt.alloc(), *size, number)?;
+            let digest = layout::digest(&bytes);
+            assert!(rt;
+                gives(&rt, &store, digest, &bytes),
+                "{size} bytes, at the end"
+            );
+        }
+    }
+    Ok(())
+}
+
+#[test]
+fn larger_blocks_are_refused(rt: HostRuntime) -> Result<(), Fail> {
+    let store = Store::new(rt.alloc());
+    for size in [32_780, 32_781, 65_536, 2_097_151] {
+        let bytes = sized(rt.alloc(), size, 1)?;
+        assert!(rt;
+            put(&rt, &store, &bytes) == Err(StoreError::TooLarge),
+            "{size} bytes"
+        );
+        let digest = layout::digest(&bytes);
+        assert!(rt;
+            store.fetch(&rt, digest)?.is_none(),
+            "{size} bytes, not stored"
+        );
+    }
+    Ok(())
+}
+
+/// Puts a block of each size and number, and then fetches all of them. Tells how many came as they were put.
+fn fill_sizes<R: Wait>(rt: &R, alloc: Global, store: &Store<Global>, numbers: [u8; 4]) -> u32 {
+    let mut found = 0u32;
+    for size in SIZES {
+        for number in numbers {
+            if let Ok(bytes) = sized(alloc, size, number) {
+                let _put = put(rt, store, &bytes);
+            }
+        }
+    }
+    for size in SIZES {
+        for number in numbers {
+            if let Ok(bytes) = sized(alloc, size, number) {
+                if gives(rt, store, layout::digest(&bytes), &bytes) {
+                    found = found.wrapping_add(1);
+                }
+            }
+        }
+    }
+    found
+}
+
+#[test]
+fn two_threads_put_blocks_of_all_sizes(rt: HostRuntime) -> Result<(), Fail> {
+    let alloc = rt.alloc();
+    let store = Store::new(alloc);
+    let (first, second) = thread::join(
+        &rt,
+        || fill_sizes(&rt, alloc, &store, [1, 2, 3, 4]),
+        || fill_sizes(&rt, alloc, &store, [3, 4, 5, 6]),
+    );
+    assert_eq!(rt; (first, second), (36, 36));
+    for size in SIZES {
+        for number in 1..=6u8 {
+            let bytes = sized(alloc, size, number)?;
+            let digest = layout::digest(&bytes);
+            assert!(rt;
+                gives(&rt, &store, digest, &bytes),
+                "{size} bytes, number {number}"
+            );
+        }
+    }
+    Ok(())
+}
+
+/// Puts the blocks of these numbers and fetches each. Tells how many came as they were put.
+fn fill<R: Wait>(rt: &R, store: &Store<Global>, from: u32, to: u32) -> u32 {
+    let mut found = 0u32;
+    for number in from..to {
+        let bytes = number.to_be_bytes();
+        if let Ok(digest) = put(rt, store, &bytes) {
+            if gives(rt, store, digest, &bytes) {
+                found = found.wrapping_add(1);
+            }
+        }
+    }
+    found
+}
+
+#[test]
+fn two_threads_put_and_fetch(rt: HostRuntime) -> Result<(), Fail> {
+    let store = Store::new(rt.alloc());
+    // Both put the blocks 1,000 to 1,999.
+    let (first, second) = thread::join(
+        &rt,
+        || fill(&rt, &store, 0, 2_000),
+        || fill(&rt, &store, 1_000, 3_000),
+    );
+    assert_eq!(rt; (first, second), (2_000, 2_000));
+    for number in 0..3_000u32 {
+        let bytes = number.to_be_bytes();
+        let digest = layout::digest(&bytes);
+        assert!(rt; gives(&rt, &store, digest, &bytes), "block {number}");
+    }
+    Ok(())
+}

@@ -1,0 +1,59 @@
+//! Changes of user 0's part, made by hand, and what is laid out for them.
+
+use client_aids::changes::{Planned, lay, nothing, plan_change};
+use layout::digest;
+use std::alloc::Global;
+use test_aids::Host;
+use test_aids::blocks::EMPTY_INODE;
+use test_aids::numbers::{entry, i_number, name, principal};
+use update_cert::{Action, Change};
+
+/// What is done at an i-number of user 0's.
+#[derive(Clone, Copy)]
+pub(crate) enum Deed {
+    /// A file of these bytes is made.
+    Make(&'static [u8]),
+    /// An empty directory is made.
+    MakeDirectory,
+    /// A file has these bytes from now on.
+    Put(&'static [u8]),
+    /// Nothing stands there any more.
+    Remove,
+    /// A directory has this name for an i-number of user 0's, too.
+    Link(&'static [u8], u16),
+    /// A directory hasn't this name any more.
+    Unlink(&'static [u8]),
+}
+
+/// Plans an action at an i-number of user 0's.
+pub(crate) fn plan_action(
+    rt: &impl Host,
+    planned: &mut Planned,
+    number: u16,
+    action: Action<Global>,
+) {
+    let change = Change::new(principal(rt, 0), i_number(rt, number), action);
+    plan_change(rt, planned, change);
+}
+
+/// Plans a deed.
+fn plan_deed(rt: &impl Host, planned: &mut Planned, number: u16, deed: Deed) {
+    let action = match deed {
+        Deed::Make(file) => Action::Make(lay(rt, planned, file)),
+        Deed::MakeDirectory => Action::Make(digest(EMPTY_INODE)),
+        Deed::Put(file) => Action::Put(lay(rt, planned, file)),
+        Deed::Remove => Action::Remove,
+        Deed::Link(name, target) => Action::Link(entry(rt, name, (0, target))),
+        Deed::Unlink(text) => Action::Unlink(name(rt, text)),
+    };
+    plan_action(rt, planned, number, action);
+}
+
+/// These deeds, each at its i-number.
+pub(crate) fn of_deeds(rt: &impl Host, deeds: &[(u16, Deed)]) -> Planned {
+    let mut planned = nothing(rt);
+    for (number, deed) in deeds {
+        plan_deed(rt, &mut planned, *number, *deed);
+    }
+    planned
+}
