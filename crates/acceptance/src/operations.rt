@@ -1,7 +1,7 @@
 //! User 0's first two operations between a client and a server, byte for byte: their certificates, replies, structures
 //! and frames, and what the client shows of them.
 
-use crate::here::{Here, let_go};
+use crate::here::Here;
 use client_aids::clients::{MemoryClient, breaks, declare, end, first_key, sign, superuser};
 use client_aids::servers::{Server, answers_commit, answers_update, server_of};
 use client_verify::Phase;
@@ -9,7 +9,7 @@ use layout::Text;
 use test_aids::texts::{
     FIRST_HANDLE, certificate, joined, key_of, listed, named, plan_of, reply_to, shown,
 };
-use test_aids::{Host, check, check_text};
+use test_aids::{Host, check, check_text, let_go};
 use wire::{RequestKind, Status, reply_frame, request_frame};
 
 /// User 0's operation of a number, after a structure.

@@ -1,14 +1,14 @@
 //! Replies that break a rule, each of which leaves the client as it was.
 
-use crate::here::{Here, let_go};
+use crate::here::Here;
 use client_aids::clients::{MemoryClient, breaks, client_of, declare, end, sign, superuser};
 use client_verify::Rule;
 use layout::digest;
-use test_aids::Host;
 use test_aids::texts::{
     certificate, changed, first_reply, joined, key_of, listed, named, pending, plan, plan_of,
     reply, reply_to, shown, signed, structure,
 };
+use test_aids::{Host, let_go};
 use wire::Status;
 
 /// The vectors of user 0's version 1 or 2, and of its version 1 with version 1 of the first group.

@@ -1,6 +1,6 @@
 //! Three clients of one server over TCP, with their blocks: two write at once, and the third sees both writes.
 
-use crate::here::{Here, let_go};
+use crate::here::Here;
 use block_store::Store;
 use client_aids::changes::{Planned, listing_both, making, nothing};
 use client_aids::clients::{MemoryClient, declare_changes, end, first_key, sign, step_on};
@@ -18,7 +18,7 @@ use std::thread;
 use std::thread::Threads;
 use std::time::Clock;
 use test_aids::numbers::{i_number, principal};
-use test_aids::{Host, check, check_text};
+use test_aids::{Host, check, check_text, let_go};
 use wire::{RequestKind, Status};
 
 /// How many blocks are asked for at most at one go.

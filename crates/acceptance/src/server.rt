@@ -1,13 +1,13 @@
 //! The server: a long history of calls made by hand with their answers, in the order in which faults are told, and a
 //! full log.
 
-use crate::here::{Here, let_go};
+use crate::here::Here;
 use client_aids::servers::{Server, answers_commit, answers_update, server_of};
 use consistency_server::{Call, CallKind, Log, MemoryLog};
 use lms_sign::PrivateKey;
 use std::alloc::Global;
 use test_aids::texts::{joined, key_of, listed, named, plan, reply_to, shown, signed, structure};
-use test_aids::{Host, check, check_text};
+use test_aids::{Host, check, check_text, let_go};
 use wire::Status;
 
 /// The structure that a certificate names.

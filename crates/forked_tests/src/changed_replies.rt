@@ -2,14 +2,14 @@
 //! when the client doesn't verify again what it verified.
 
 use crate::here::Here;
-use crate::two_users::{Scene, Users, accepts, both_are_listed, breaks, end_scene, is_accepted};
+use crate::two_users::{Scene, Users, accepts, both_are_listed, breaks, is_accepted};
 use client_aids::clients::{MemoryClient, declare};
 use client_aids::servers::{Server, answers_update_so};
 use client_tree::Held;
 use client_verify::Rule;
 use std::alloc::Global;
-use test_aids::Host;
 use test_aids::texts::joined;
+use test_aids::{Host, let_go};
 use wire::Status;
 
 /// The place of a byte in a reply whose lowest bit is changed, and the rule that the reply then breaks first.
@@ -158,7 +158,7 @@ fn changes_shown_to_user_0(rt: HostRuntime) {
     let _structure = scene.first_operates(rt);
     waits(rt, &mut scene.server, &mut scene.users.second);
     superuser_judges(rt, &mut scene);
-    end_scene(scene);
+    let_go(scene);
 }
 
 /// User 1 has committed, and user 0's second operation is pending.
@@ -169,5 +169,5 @@ fn changes_shown_to_user_1(rt: HostRuntime) {
     let _structure = scene.first_operates(rt);
     waits(rt, &mut scene.server, &mut scene.users.superuser);
     first_judges(rt, &mut scene);
-    end_scene(scene);
+    let_go(scene);
 }

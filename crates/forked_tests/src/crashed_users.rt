@@ -3,7 +3,7 @@
 
 use crate::here::Here;
 use crate::two_users::{
-    BOTH, NONE, ONE, Scene, Users, accepts, both_are_listed, breaks, is_accepted, put_away,
+    BOTH, NONE, ONE, Scene, Users, accepts, both_are_listed, breaks, is_accepted,
 };
 use client_aids::clients::{Kept, MemoryClient, open_over};
 use client_aids::crashes::{Left, after_crash, has_declared, has_failed, has_signed};
@@ -14,7 +14,7 @@ use layout::User;
 use lms_sign::PublicKey;
 use std::alloc::Global;
 use test_aids::texts::{joined, list, listed, named, only_pending, plan, reply};
-use test_aids::{Host, check, check_text};
+use test_aids::{Host, check, check_text, let_go};
 use wire::Status;
 
 /// The replies to user 1's first certificate.
@@ -68,11 +68,6 @@ struct Fork {
     replies: Replies,
 }
 
-/// The end of a test.
-fn end_fork(fork: Fork) {
-    let _fork = fork;
-}
-
 /// What is left of the scene where user 1's client crashes.
 fn left_of(rt: &impl Host, scene: Scene, replies: Replies) -> (Fork, Kept) {
     let Scene {
@@ -88,8 +83,8 @@ fn left_of(rt: &impl Host, scene: Scene, replies: Replies) -> (Fork, Kept) {
         second,
         store,
     } = users;
-    put_away(superuser);
-    put_away(second);
+    let_go(superuser);
+    let_go(second);
     let fork = Fork {
         pinned,
         server,
@@ -158,7 +153,7 @@ fn signs_beside(rt: &impl Host, fork: &mut Fork, client: MemoryClient) {
     let structure = accepts_beside(rt, fork, &mut client);
     let client = restarted(rt, fork, client);
     has_signed(rt, &client, 1, &structure);
-    put_away(client);
+    let_go(client);
     commits_beside(rt, fork, &structure);
 }
 
@@ -178,7 +173,7 @@ fn another_reply_after_a_crash(rt: HostRuntime) {
     accepts_alone(&rt, &mut fork, &mut client);
     let client = restarted(&rt, &fork, client);
     signs_beside(&rt, &mut fork, client);
-    end_fork(fork);
+    let_go(fork);
 }
 
 /// How many calls an open makes of a journal of one record, and `sign` before it has synced the record, and before it has
@@ -221,7 +216,7 @@ fn another_reply_after_a_crash_in_sign(rt: HostRuntime) {
     let (mut fork, kept) = new_fork(&rt);
     let client = fails_to_sign(&rt, &mut fork, kept, BEFORE_RECORD, Left::Synced);
     signs_beside(&rt, &mut fork, client);
-    end_fork(fork);
+    let_go(fork);
 }
 
 /// The client has signed, and this is its structure.
@@ -238,7 +233,7 @@ fn no_other_reply_once_a_structure_stands(rt: HostRuntime) {
     let client = fails_to_sign(&rt, &mut fork, kept, BEFORE_GATE, Left::Written);
     let structure = structure(&rt, &client);
     is_over(&rt, &structure, &fork.replies.update, ONE);
-    put_away(client);
+    let_go(client);
     commits_alone(&rt, &mut fork, &structure);
-    end_fork(fork);
+    let_go(fork);
 }

@@ -7,13 +7,13 @@ use client_aids::clients::{MemoryClient, declare, declare_changes, end, sign, st
 use client_aids::servers::{Server, answers_commit, answers_update_so, server_of};
 use client_aids::three::{Three, three_clients};
 use client_tree::Held;
-use client_verify::{Parts, Rule, Step};
+use client_verify::{Rule, Step};
 use layout::{Digest, digest};
 use lms_sign::PublicKey;
 use std::alloc::Global;
 use std::ops::Range;
 use test_aids::texts::{joined, list, listed, named, only_pending, pending, plan, reply, shown};
-use test_aids::{Host, check_text};
+use test_aids::{Host, check_text, let_go};
 use update_cert::Blocks;
 use wire::Status;
 
@@ -213,40 +213,6 @@ pub(crate) fn both_are_listed(rt: &impl Host) -> Scene {
     listed_by(rt, users, pinned, (of_one, of_two))
 }
 
-/// Closes the client at the end of a test. A function that lets a client go itself costs its proof minutes.
-pub(crate) fn put_away(client: MemoryClient) {
-    let Parts {
-        key: _key,
-        ledger: _ledger,
-        journal: _journal,
-    } = client.close();
-}
-
-/// Closes the clients at the end of a test.
-fn put_all_away(users: Users) {
-    let Users {
-        superuser,
-        first,
-        second,
-        store: _store,
-    } = users;
-    put_away(superuser);
-    put_away(first);
-    put_away(second);
-}
-
-/// The end of a test.
-pub(crate) fn end_scene(scene: Scene) {
-    let Scene {
-        pinned: _pinned,
-        users,
-        server: _server,
-        other: _other,
-        zero: _zero,
-    } = scene;
-    put_all_away(users);
-}
-
 impl Scene {
     /// User 1 makes an operation without changes: its structure, as replies show it.
     pub(crate) fn first_operates(&mut self, rt: &impl Host) -> Vec<u8> {
@@ -331,7 +297,7 @@ fn reply_to_two_pending_byte_for_byte(rt: HostRuntime) {
     let (two, found) = scene.second_declares(rt);
     check_text(rt, &found, &reply_to_both(rt, &scene.zero, &one, &two));
     let _structure = scene.second_accepts(rt, &found);
-    end_scene(scene);
+    let_go(scene);
 }
 
 /// The replies to an operation, by hand: the honest one, and another one.
@@ -366,7 +332,7 @@ fn forks_that_are_joined(rt: HostRuntime) {
     let (update, found) = scene.first_declares(rt);
     let by_hand = of_lines(rt, &update, &scene.zero, &one, &two);
     first_is_shown(rt, &mut scene, &found, &by_hand, Rule::Numbers);
-    end_scene(scene);
+    let_go(scene);
 }
 
 /// The replies to user 1's fourth operation with its last structure, and with its oldest.
@@ -388,7 +354,7 @@ fn own_structure_of_two_commits_ago(rt: HostRuntime) {
     let (update, found) = scene.first_declares(rt);
     let by_hand = of_ages(rt, &update, &scene.zero, &last, &oldest);
     first_is_shown(rt, &mut scene, &found, &by_hand, Rule::OwnLast);
-    end_scene(scene);
+    let_go(scene);
 }
 
 /// Where the plan lies in user 0's structure, as replies show it: after its size, the tag, and the size of the plan.
@@ -473,5 +439,5 @@ fn plan_that_was_swapped(rt: HostRuntime) {
     scene.second_refuses(rt, &found_out, Rule::Entries);
     let pending_still = with_swapped(rt, &update, [&scene.zero, &by_second], &swapped);
     let _structure = scene.second_accepts(rt, &pending_still);
-    end_scene(scene);
+    let_go(scene);
 }

@@ -18,8 +18,6 @@ mod load;
 mod marks;
 mod memory;
 mod recording;
-#[cfg(test)]
-mod tests;
 
 pub use device::{Device, DeviceError, write_through};
 pub use error::LedgerError;

@@ -2,8 +2,9 @@
 
 ghost use Rattle.std.specs.Prelude.{◌<◌, length};
 
+use crate::crashes::crashed;
 use client_journal::{Journal, JournalError, JournalState, Kind, Record};
-use leaf_ledger::MemoryDevice;
+use leaf_ledger::{Device, MemoryDevice};
 use std::alloc::Global;
 use std::test::Fail;
 
@@ -154,72 +155,8 @@ fn appended(device: MemoryDevice<Global>, from: usize) -> (Option<usize>, Memory
     (well.then_some(count), journal.close())
 }
 
-/// What a crash leaves of an extent that was written since the last sync.
-#[derive(Clone, Copy, Debug)]
-enum Left {
-    Old,
-    New,
-    Filled(u8),
-}
-
-static LEFT: [Left; 6] = [
-    Left::Old,
-    Left::New,
-    Left::Filled(0),
-    Left::Filled(1),
-    Left::Filled(0x7f),
-    Left::Filled(0xff),
-];
-
 /// In how many ways a crash leaves three extents.
 const OUTCOMES: usize = 216;
-
-/// How many bytes a crash leaves. The digits of the outcome, to base 6, say how each extent is left; what lies past the
-/// old end is cut short where the last extents are left old.
-fn size_left(device: &MemoryDevice<Global>, outcome: usize) -> usize {
-    let mut size = device.settled().len();
-    let mut ways = outcome;
-    for extent in device.unsynced() {
-        if ways % 6 != 0 {
-            size = size.max(extent.at.saturating_add(extent.size));
-        }
-        ways /= 6;
-    }
-    size
-}
-
-/// The byte at a place that a crash leaves.
-fn byte_left(device: &MemoryDevice<Global>, outcome: usize, i: usize) -> u8 {
-    let mut byte = device.settled().get(i).copied().unwrap_or(0);
-    let mut ways = outcome;
-    for extent in device.unsynced() {
-        if extent.at <= i && i - extent.at < extent.size {
-            match LEFT[ways % 6] {
-                Left::Old => {}
-                Left::New => byte = device.text().get(i).copied().unwrap_or(0),
-                Left::Filled(filler) => byte = filler,
-            }
-        }
-        ways /= 6;
-    }
-    byte
-}
-
-/// The device after a crash with this outcome.
-fn crashed(
-    alloc: Global,
-    device: MemoryDevice<Global>,
-    outcome: usize,
-) -> Result<MemoryDevice<Global>, Fail> {
-    let mut text = Vec::new(alloc);
-    for i in 0..size_left(&device, outcome) {
-        text.push(byte_left(&device, outcome, i))?;
-    }
-    match device.crash(text) {
-        Ok(device) => Ok(device),
-        Err((error, _)) => Err(Fail::new(error)),
-    }
-}
 
 /// How many calls a new journal makes for three records.
 const CALLS: u64 = OPEN_CALLS + 3 * APPEND_CALLS;
@@ -242,19 +179,28 @@ fn after_appends(
 /// How many calls an open makes of a file with three records, and `state` then.
 const LATER_CALLS: u64 = 2 + 3 * 2 + 1 + 2;
 
-/// Appends records until a call fails, reads them, where another call may fail, and again after a crash. What was told
-/// by the first reading and by the second.
-fn read_twice(
-    alloc: Global,
-    failing: u64,
-    later: u64,
-    outcome: usize,
-) -> Result<(Told, Told), Fail> {
+/// What a file tells by a reading in which a call may fail, and by another one after a crash.
+#[derive(Clone, Copy, Debug)]
+struct Readings {
+    first: Told,
+    /// A call failed in the first reading.
+    failed: bool,
+    second: Told,
+}
+
+/// Appends records until a call fails, reads them, where another call may fail, and again after a crash.
+fn read_twice(alloc: Global, failing: u64, later: u64, outcome: usize) -> Result<Readings, Fail> {
     let (_, mut device) = after_appends(alloc, failing)?;
+    let faults = device.faults();
     device.fail_after(later);
     let (first, device) = read_file(alloc, device);
+    let failed = device.faults() > faults;
     let (second, _) = read_file(alloc, crashed(alloc, device, outcome)?);
-    Ok((first, second))
+    Ok(Readings {
+        first,
+        failed,
+        second,
+    })
 }
 
 #[test]
@@ -264,15 +210,20 @@ fn each_call_of_a_later_open_fails(rt: HostRuntime) -> Result<(), Fail> {
         let before = answered_before(failing);
         for later in 0..=LATER_CALLS {
             for outcome in 0..OUTCOMES {
-                let (first, second) = read_twice(alloc, failing, later, outcome)?;
-                // The second reading finds what the first told, if that met no fault.
+                let found = read_twice(alloc, failing, later, outcome)?;
+                // A reading that fails tells nothing, and else the later one finds the same.
+                let well = match found.first {
+                    Told::Nothing => found.failed,
+                    told => !found.failed && told == found.second,
+                };
                 assert!(rt;
-                    first == second || (first == Told::Nothing && later < LATER_CALLS),
-                    "calls {failing}, {later}, outcome {outcome}: {first:?}, {second:?}"
-                );
-                assert!(rt;
-                    TOLD.iter().skip(before).take(2).any(|told| *told == second),
-                    "calls {failing}, {later}, outcome {outcome}: {second:?}"
+                    well && (!found.failed || later < LATER_CALLS)
+                        && TOLD
+                            .iter()
+                            .skip(before)
+                            .take(2)
+                            .any(|told| *told == found.second),
+                    "calls {failing}, {later}, outcome {outcome}: {found:?}"
                 );
             }
         }

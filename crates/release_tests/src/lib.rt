@@ -1,7 +1,11 @@
-//! Tests of journals and of what a client releases: over devices in memory, whose calls fail in turn and which crash.
+//! Tests of ledgers, of journals and of what a client releases: over devices in memory, whose calls fail in turn and which crash.
 #![tactic(auto)]
 
 #[cfg(test)]
+mod crashes;
+#[cfg(test)]
 mod journals;
+#[cfg(test)]
+mod ledgers;
 #[cfg(test)]
 mod releases;

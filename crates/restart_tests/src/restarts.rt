@@ -13,7 +13,7 @@ use leaf_ledger::MemoryDevice;
 use lms_sign::{PrivateKey, PublicKey};
 use std::alloc::Global;
 use test_aids::texts::{changed, first_reply, joined, key_of, listed, reply_to, shown};
-use test_aids::{Host, check};
+use test_aids::{Host, check, let_go};
 use wire::Status;
 
 /// The client of user 0 over what was kept.
@@ -35,11 +35,6 @@ pub(crate) fn key_in(client: MemoryClient) -> PrivateKey<Global> {
         journal: _journal,
     } = closed(client);
     key
-}
-
-/// Closes the client at the end of a test. A function that lets a client go itself costs its proof minutes.
-fn put_away(client: MemoryClient) {
-    let _key = key_in(client);
 }
 
 /// The journal has so many bytes.
@@ -103,7 +98,7 @@ fn restarts_in_each_phase(rt: HostRuntime) {
     let client = ends_after_restart(&rt, client, &commit);
     // After the structure a header, 42 bytes of certificate, its signature, and a gate.
     let (client, _second) = declares(&rt, client, 2, 7714);
-    put_away(client);
+    let_go(client);
 }
 
 /// The client refuses a reply in which its operation isn't pending.
@@ -121,7 +116,7 @@ fn judges_after_a_restart(rt: HostRuntime) {
     let mut client = restarted(&rt, client, 2557);
     misses_its_own(&rt, &mut client);
     let _commit = signs_first(&rt, &mut client, &update);
-    put_away(client);
+    let_go(client);
 }
 
 /// The first operation from its declaration to its commit: its structure.
@@ -162,7 +157,7 @@ fn knows_its_last_structure_after_a_restart(rt: HostRuntime) {
     let (mut client, update) = declares(&rt, client, 2, 7714);
     knows_its_last(&rt, &mut client, &update, &last);
     let _commit = sign(&rt, &mut client);
-    put_away(client);
+    let_go(client);
 }
 
 /// How many bytes a ledger has before the mark of its last leaf: 56 of its key, and a mark of each other leaf.
@@ -224,7 +219,7 @@ fn one_leaf_declares_and_none_signs(rt: HostRuntime) {
     let mut client = restarted(&rt, client, 2557);
     has_declared(&rt, &client, 1, &update);
     has_no_leaf_to_sign(&rt, &mut client, &update);
-    put_away(client);
+    let_go(client);
 }
 
 #[test]
@@ -235,7 +230,7 @@ fn no_leaf_declares(rt: HostRuntime) {
     check(&rt, client.phase() == Phase::Idle, "nothing is declared");
     let client = restarted(&rt, client, 1);
     has_number(&rt, &client, 0);
-    put_away(client);
+    let_go(client);
 }
 
 /// Why no client of this user is opened over these, which are handed back.
@@ -263,7 +258,7 @@ fn after_a_certificate(rt: &impl Host) -> Kept {
 fn is_opened(rt: &impl Host, kept: Kept) {
     let client = reopened(rt, kept);
     has_number(rt, &client, 1);
-    put_away(client);
+    let_go(client);
 }
 
 #[test]

@@ -2,12 +2,11 @@
 //! crash leaves.
 
 use crate::here::Here;
-use crate::steps::let_go;
 use client_runs::{Act, Answer, WorldStep, run};
 use client_verify::{ClientError, Phase};
 use layout::User;
 use std::alloc::Global;
-use test_aids::{Aided, Host};
+use test_aids::{Aided, Host, let_go};
 use wire::Status;
 
 /// What comes of these steps of user 2's client, of which this call of the ledger's device fails in the second, or this

@@ -4,8 +4,8 @@
 use crate::answers::{Told, sent_again};
 use crate::here::Here;
 use crate::steps::{
-    Fails, Plan, Record, accepts, begins_before, crashes, ends, is_carried_out, let_go, new_record,
-    opens, restarts, signs_before,
+    Fails, Plan, Record, accepts, begins_before, crashes, ends, is_carried_out, new_record, opens,
+    restarts, signs_before,
 };
 use client_aids::clients::{MemoryClient, begun_without_changes, nothing_yet};
 use client_aids::crashes::{Left, has_failed};
@@ -13,7 +13,7 @@ use client_runs::Act;
 use client_verify::Phase;
 use layout::User;
 use test_aids::texts::{first_reply, joined, key_of, listed, reply_to, shown};
-use test_aids::{Host, check};
+use test_aids::{Host, check, let_go};
 
 /// `begin` and `sign` each make two calls of the ledger's device and six of the journal's. After each of these faults a
 /// crash leaves no record.

@@ -3,12 +3,12 @@
 
 use crate::answers::Told;
 use crate::here::Here;
-use crate::steps::{Fails, is_carried_out, let_go, new_record};
+use crate::steps::{Fails, is_carried_out, new_record};
 use client_runs::Act;
 use client_verify::Phase;
 use layout::User;
-use test_aids::Host;
 use test_aids::texts::key_of;
+use test_aids::{Host, let_go};
 
 /// What the next opening comes to.
 #[derive(Clone, Copy)]

@@ -2,14 +2,14 @@
 
 use crate::here::Here;
 use crate::steps::{
-    Plan, Record, accepts, begins, ends, is_carried_out, let_go, new_record, opens, restarts, signs,
+    Plan, Record, accepts, begins, ends, is_carried_out, new_record, opens, restarts, signs,
 };
 use client_aids::clients::{MemoryClient, nothing_yet};
 use client_aids::crashes::Left;
 use client_verify::Phase;
 use layout::User;
 use test_aids::texts::{first_reply, key_of};
-use test_aids::{Host, check};
+use test_aids::{Host, check, let_go};
 
 /// The client crashes, nothing unsynced is left, and it is opened again, in this phase.
 fn restarts_in(

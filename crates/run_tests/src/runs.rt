@@ -3,16 +3,16 @@
 
 use crate::here::Here;
 use crate::steps::{
-    OF_ONE, OF_TWO, Plan, Record, begins, finishes, is_carried_out, joins, judges, let_go,
-    new_record, operates, places, sees,
+    OF_ONE, OF_TWO, Plan, Record, begins, finishes, is_carried_out, joins, judges, new_record,
+    operates, places, sees,
 };
 use client_aids::clients::MemoryClient;
 use client_aids::servers::{Server, answers_commit, answers_update_so, server_of};
 use client_aids::three::{Three, three_clients};
 use client_verify::Rule;
 use lms_sign::PublicKey;
-use test_aids::Host;
 use test_aids::texts::{list, only_pending, reply, shown};
+use test_aids::{Host, let_go};
 use wire::Status;
 
 /// The vector of user 1's second operation after user 0's first.

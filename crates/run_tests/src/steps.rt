@@ -14,7 +14,7 @@ use lms_sign::PublicKey;
 use std::alloc::Global;
 use test_aids::numbers::{i_number, principal};
 use test_aids::texts::joined;
-use test_aids::{Host, check};
+use test_aids::{Host, check, let_go};
 use update_cert::Blocks;
 use wire::Status;
 
@@ -54,12 +54,6 @@ fn journal_fails(fails: Fails) -> Option<u64> {
         Fails::Journal(calls) => Some(calls),
         _ => None,
     }
-}
-
-/// Lets a value go. In a function that lets a client or a record go itself the proof unfolds all that it is of, which
-/// takes minutes.
-pub(crate) fn let_go<T: Drop>(value: T) {
-    let _value = value;
 }
 
 /// User 0's key, the steps, what clients answered to them that stand alone, and the stored blocks.

@@ -71,3 +71,9 @@ pub fn check_text(rt: &impl Aided, found: &[u8], wanted: &[u8]) {
         rt.fail(format_args!("{found:?} is not {wanted:?}"))
     }
 }
+
+/// Lets a value go. In a function that lets a client go itself, or what has one, the proof unfolds all that it is of,
+/// which takes minutes.
+pub fn let_go<T: Drop>(value: T) {
+    let _value = value;
+}

@@ -7,4 +7,4 @@ pub mod numbers;
 pub mod tables;
 pub mod texts;
 
-pub use host::{Aided, Fails, Host, check, check_text, found, given};
+pub use host::{Aided, Fails, Host, check, check_text, found, given, let_go};

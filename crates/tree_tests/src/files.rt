@@ -1,12 +1,12 @@
 //! Files of each size, from their making to a look at them in the view after it, byte for byte.
 
 use crate::changes::plan_action;
-use crate::here::{Here, let_go};
+use crate::here::Here;
 use crate::world::{World, asked_for_so_many, has_lost, new_world, operate, see};
 use client_aids::changes::{Planned, lay, nothing};
 use client_verify::Look;
 use std::alloc::Global;
-use test_aids::{Host, check};
+use test_aids::{Host, check, let_go};
 use update_cert::Action;
 
 /// A file, by its i-number and its size, and how many blocks the operation asks for that makes it: the root of the i-table

@@ -1,7 +1,7 @@
 //! User 0's operations with a group, of which it is a member and then isn't: the table's text, the records of the group
 //! that its structures have, which changes are lost, and what stands in the view. A hostile store changes nothing of it.
 
-use crate::here::{Here, let_go};
+use crate::here::Here;
 use crate::world::{World, has_lost, new_world, operate, see_of};
 use client_aids::changes::{Planned, lay, nothing, plan_change};
 use client_aids::clients::first_key;
@@ -12,7 +12,7 @@ use std::alloc::Global;
 use test_aids::numbers::{i_number, principal};
 use test_aids::tables::{FORM, listing};
 use test_aids::texts::joined;
-use test_aids::{Host, check, check_text};
+use test_aids::{Host, check, check_text, let_go};
 use update_cert::{Action, Change, TableChange};
 
 /// What user 0 does.

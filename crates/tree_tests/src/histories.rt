@@ -3,7 +3,7 @@
 //! SHA-256. A hostile store changes nothing of it.
 
 use crate::changes::{Deed, of_deeds};
-use crate::here::{Here, let_go};
+use crate::here::Here;
 use crate::world::{
     World, asked_for, begin, finish, hand_each, has_lost, look_at, new_world, operate, see,
     sees_file,
@@ -14,7 +14,7 @@ use directory::Directory;
 use std::alloc::Global;
 use test_aids::blocks::{OF_F, OF_F_INODE};
 use test_aids::texts::FIRST_HANDLE;
-use test_aids::{Host, check, check_text};
+use test_aids::{Host, check, check_text, let_go};
 
 /// What stands at an i-number of user 0's.
 #[derive(Clone, Copy)]

@@ -1,17 +1,17 @@
 //! What has to be laid out before changes are declared.
 
 use crate::changes::{Deed, of_deeds, plan_action};
-use crate::here::{Here, let_go};
+use crate::here::Here;
 use client_aids::changes::{Planned, nothing};
 use client_verify::are_laid;
 use layout::digest;
 use std::alloc::Global;
-use test_aids::Host;
 use test_aids::blocks::{
     EMPTY, EMPTY_INODE, HELLO, HELLO_INODE, LONG_INODE, NO_BYTES_INODE, OF_F, OF_F_INODE, REST,
     WHOLE,
 };
 use test_aids::texts::joined;
+use test_aids::{Host, let_go};
 use update_cert::Action;
 
 /// A text that is named by its digest, the texts that are laid out, and whether a make and a put may name it then.

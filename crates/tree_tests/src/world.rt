@@ -2,7 +2,6 @@
 //! hands in something else first: the client answers which rule that breaks, asks for the same block still, and goes on
 //! with it.
 
-use crate::here::let_go;
 use client_aids::changes::Planned;
 use client_aids::clients::{
     MemoryClient, declare_changes, end, first_key, sign, step_on, superuser,
@@ -14,7 +13,7 @@ use layout::{Digest, digest};
 use std::alloc::Global;
 use test_aids::numbers::{i_number, principal};
 use test_aids::texts::{changed, joined};
-use test_aids::{Host, check, check_text};
+use test_aids::{Host, check, check_text, let_go};
 use update_cert::Blocks;
 use wire::Status;
 

@@ -13,9 +13,3 @@ impl<R: Abort> Fails<R> for Here {
         rt.panic(why)
     }
 }
-
-/// Lets a value go. In a function that lets a client or a store go itself the proof unfolds all that it is of, which
-/// takes minutes.
-pub(crate) fn let_go<T: Drop>(value: T) {
-    let _value = value;
-}

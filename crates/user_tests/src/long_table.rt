@@ -1,7 +1,7 @@
 //! A table of principals of two blocks, through a client: each of its blocks absent, cut, flipped and another one, in the
 //! place of what was asked for, and named by the i-node itself.
 
-use crate::here::{Here, let_go};
+use crate::here::Here;
 use crate::several_users::{broken_by, keep_each};
 use client_aids::clients::{MemoryClient, client_with, declare, step_on};
 use client_tree::Held;
@@ -11,7 +11,7 @@ use lms_sign::{PrivateKey, PublicKey};
 use std::alloc::Global;
 use test_aids::tables::{FORM, Texts, listing, structure_over, texts_over};
 use test_aids::texts::{joined, key_of, listed, named, pending, plan, reply, shown};
-use test_aids::{Host, check};
+use test_aids::{Host, check, let_go};
 use update_cert::Blocks;
 
 /// The size of the table: 64 users, and 19 rows.

@@ -1,6 +1,6 @@
 //! The client of another user, to which user 0's structure is shown.
 
-use crate::here::{Here, let_go};
+use crate::here::Here;
 use client_aids::clients::{MemoryClient, breaks, client_of, declare, step_on};
 use client_verify::{Rule, Step};
 use lms_sign::PublicKey;
@@ -9,7 +9,7 @@ use test_aids::texts::{
     certificate, joined, key_of, listed, named, pending, plan, plan_of, reply, shown, signed,
     structure,
 };
-use test_aids::{Host, check, check_text};
+use test_aids::{Host, check, check_text, let_go};
 
 /// The structure of user 0's first operation, with an invented handle.
 fn structure_of_super(rt: &impl Host) -> Vec<u8> {

@@ -1,7 +1,7 @@
 //! Blocks of parts of others, which user 1's client asks for by handles that others signed: of a group's part, which its
 //! own operation raises, and of parts that it looks at.
 
-use crate::here::{Here, let_go};
+use crate::here::Here;
 use crate::several_users::{
     Operation, SECOND_OF_GROUP, Scene, THIRD, broken_by, first_handle, keep_each, list_of,
     new_scene, own_row, structure_row,
@@ -14,7 +14,7 @@ use std::alloc::Global;
 use test_aids::blocks::{HELLO, HELLO_INODE};
 use test_aids::numbers::{i_number, principal};
 use test_aids::texts::{joined, listed, reply};
-use test_aids::{Host, check, check_text};
+use test_aids::{Host, check, check_text, let_go};
 use update_cert::{Action, Blocks, Change};
 
 /// How many blocks are handed in at most for one look.

@@ -1,7 +1,7 @@
 //! User 0's i-table, handed to user 1's client, where no table of principals stands at i-number 1: the block at which
 //! that is seen breaks the rule on contents.
 
-use crate::here::{Here, let_go};
+use crate::here::Here;
 use crate::long_table::reply_over;
 use crate::several_users::keep_each;
 use client_aids::clients::{MemoryClient, client_with, declare, step_on};
@@ -12,7 +12,7 @@ use lms_sign::PrivateKey;
 use std::alloc::Global;
 use test_aids::blocks::{EMPTY_INODE, HELLO, HELLO_INODE, NO_BYTES_INODE};
 use test_aids::texts::{joined, key_of};
-use test_aids::{Host, check};
+use test_aids::{Host, check, let_go};
 use update_cert::Blocks;
 
 /// How many blocks are handed in at most for one reply.

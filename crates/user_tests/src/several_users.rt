@@ -2,19 +2,19 @@
 //! principals made by hand: replies that break no rule, and replies that differ from those in one part and break the rule
 //! of that part.
 
-use crate::here::{Here, let_go};
+use crate::here::Here;
 use client_aids::clients::{MemoryClient, client_with, declare, step_on};
 use client_tree::Held;
 use client_verify::{Rule, Step};
 use layout::digest;
 use lms_sign::{PrivateKey, PublicKey};
 use std::alloc::Global;
-use test_aids::Host;
 use test_aids::tables::{FORM, Texts, listing, structure_over, texts_over};
 use test_aids::texts::{
     certificate_of, joined, key_of, named, pending, plan, reply, shown, signed, structure_of,
     vector_of,
 };
+use test_aids::{Host, let_go};
 use update_cert::Blocks;
 
 /// How many blocks are handed in at most for one reply.

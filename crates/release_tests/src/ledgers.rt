@@ -1,26 +1,10 @@
 //! Ledgers on devices in memory whose calls fail in turn, and which crash.
 
-use crate::{CrashError, Device, DeviceError, Ledger, LedgerError, MemoryDevice};
+use crate::crashes::crashed;
+use leaf_ledger::{CrashError, Device, DeviceError, Ledger, LedgerError, MemoryDevice};
 use lms_sign::{PublicKey, burn};
 use std::alloc::Global;
 use std::test::Fail;
-
-/// What a crash leaves of an extent that was written since the last sync.
-#[derive(Clone, Copy, Debug)]
-enum Left {
-    Old,
-    New,
-    Filled(u8),
-}
-
-static LEFT: [Left; 6] = [
-    Left::Old,
-    Left::New,
-    Left::Filled(0),
-    Left::Filled(1),
-    Left::Filled(0x7f),
-    Left::Filled(0xff),
-];
 
 /// In how many ways a crash leaves two extents.
 const OUTCOMES: usize = 36;
@@ -30,53 +14,6 @@ fn key(byte: u8) -> Option<PublicKey> {
     let mut bytes = [byte; 56];
     bytes[..8].copy_from_slice(&[0, 0, 0, 6, 0, 0, 0, 3]);
     PublicKey::from_bytes(bytes)
-}
-
-/// How many bytes a crash leaves. The digits of the outcome, to base 6, say how each extent is left; what lies past the
-/// old end is cut short where the last extents are left old.
-fn size_left(device: &MemoryDevice<Global>, outcome: usize) -> usize {
-    let mut size = device.settled().len();
-    let mut ways = outcome;
-    for extent in device.unsynced() {
-        if ways % 6 != 0 {
-            size = size.max(extent.at.saturating_add(extent.size));
-        }
-        ways /= 6;
-    }
-    size
-}
-
-/// The byte at a place that a crash leaves.
-fn byte_left(device: &MemoryDevice<Global>, outcome: usize, i: usize) -> u8 {
-    let mut byte = device.settled().get(i).copied().unwrap_or(0);
-    let mut ways = outcome;
-    for extent in device.unsynced() {
-        if extent.at <= i && i - extent.at < extent.size {
-            match LEFT[ways % 6] {
-                Left::Old => {}
-                Left::New => byte = device.text().get(i).copied().unwrap_or(0),
-                Left::Filled(filler) => byte = filler,
-            }
-        }
-        ways /= 6;
-    }
-    byte
-}
-
-/// The device after a crash with this outcome.
-fn crashed(
-    alloc: Global,
-    device: MemoryDevice<Global>,
-    outcome: usize,
-) -> Result<MemoryDevice<Global>, Fail> {
-    let mut text = Vec::new(alloc);
-    for i in 0..size_left(&device, outcome) {
-        text.push(byte_left(&device, outcome, i))?;
-    }
-    match device.crash(text) {
-        Ok(device) => Ok(device),
-        Err((error, _)) => Err(Fail::new(error)),
-    }
 }
 
 /// Opens the ledger of a key, takes leaves while it can, at most so many, and closes it. Their numbers join those before.
