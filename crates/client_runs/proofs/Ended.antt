@@ -15,12 +15,21 @@ use Rattle.client_runs.specs.Steps.{Client, Owner, first}
 use Rattle.client_runs.specs.Runs.{Event, IsRun, Keys, client_of, owner, public_key}
 use Rattle.client_runs.specs.Released.{views}
 use Rattle.client_runs.specs.UsedOnce.{CertificatesOnce, EachClient, LeavesOnce, StructuresOnce}
-use Rattle.client_runs.specs.Agreeing.{AreReleased, EachRun}
-use Rattle.client_runs.specs.Carried.{AreCarriedOut, ComesOf, Keep, script_keys}
+use Rattle.client_runs.specs.Agreeing.{AreReleased, EachRun, Premises}
+use Rattle.client_runs.specs.Carried.{AreCarriedOut, ComesOf, Keep, RunPremises, script_keys}
 use Rattle.client_runs.specs.Slots.{AreOwn, IsOf, client_at, client_in}
 use Rattle.client_runs.proofs.OneMore.{StandsSoFar, more}
+use Rattle.client_runs.proofs.ScriptKeys.{pinned_fits}
 
 -- ---- the end of a run
+
+-- the premises, with the one that is so of the keys of scripts
+all_premises : (run : List Event) → RunPremises run → Premises script_keys run
+all_premises run p = record {
+  no_forgery = p.no_forgery;
+  no_collision = p.no_collision;
+  true_keys = record { pinned = pinned_fits; added = p.added };
+}
 
 module _ (leaves : EachClient LeavesOnce) (certificates : EachClient CertificatesOnce) (structures : EachClient StructuresOnce)
     (accepted : EachRun (λ run. AreAccepted (views run))) (numbered : EachRun (λ run. AreNumbered (views run))) (ended : EachRun (λ run. EndWithOwn (views run)))
@@ -34,12 +43,12 @@ module _ (leaves : EachClient LeavesOnce) (certificates : EachClient Certificate
     certificates = λ u. certificates script_keys s.events u s.is_run;
     structures = λ u. structures script_keys s.events u s.is_run;
     agreed = λ p. record {
-      accepted = accepted script_keys s.events s.is_run p;
-      numbered = numbered script_keys s.events s.is_run p;
-      ended = ended script_keys s.events s.is_run p;
-      released = released script_keys s.events s.is_run p;
-      growing = growing script_keys s.events s.is_run p;
-      agreed = agreed script_keys s.events s.is_run p;
+      accepted = accepted script_keys s.events s.is_run (all_premises s.events p);
+      numbered = numbered script_keys s.events s.is_run (all_premises s.events p);
+      ended = ended script_keys s.events s.is_run (all_premises s.events p);
+      released = released script_keys s.events s.is_run (all_premises s.events p);
+      growing = growing script_keys s.events s.is_run (all_premises s.events p);
+      agreed = agreed script_keys s.events s.is_run (all_premises s.events p);
     };
   }
 

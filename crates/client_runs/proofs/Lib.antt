@@ -24,4 +24,5 @@ mod Telling
 mod Answered
 mod Heard
 mod Taking
+mod ScriptKeys
 mod Ended

@@ -41,11 +41,14 @@ GivesOwnKey keys other = Unit {0}
 abbrev pub IsTrueText : Keys → Bytes → Type 0
 IsTrueText keys text = IfSome (cert_in 0 text) (λ c. All (λ change. GivesOwnKey keys change.action) c.value.changes)
 
--- User 0's key, which every client knows, has the form of a key, and each user that user 0's client added, in a certificate
--- that it released, has its own.
+-- each user that user 0's client added, in a certificate that it released, has its own key
+abbrev pub AddsOwnKeys : Keys → List Event → Type 0
+AddsOwnKeys keys run = All (IsTrueText keys) (released 0 run)
+
+-- that is so, and user 0's key, which every client knows, has the form of a key
 pub record KeysTrue (keys : Keys) (run : List Event) : Type 0 where
   pub pinned : key_form.Fits (public_key keys 0)
-  pub added : All (IsTrueText keys) (released 0 run)
+  pub added : AddsOwnKeys keys run
 
 pub record Premises (keys : Keys) (run : List Event) : Type 0 where
   pub no_forgery : NoForgery keys run

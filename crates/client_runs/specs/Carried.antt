@@ -11,7 +11,7 @@ use Rattle.client_runs.specs.Steps.{Call, Client, IsSound, IsStep, Owner}
 use Rattle.client_runs.specs.Runs.{Event, IsRun, Keys, client_of}
 use Rattle.client_runs.specs.Released.{views}
 use Rattle.client_runs.specs.UsedOnce.{CertificatesOnce, LeavesOnce, StructuresOnce}
-use Rattle.client_runs.specs.Agreeing.{AreReleased, Premises}
+use Rattle.client_runs.specs.Agreeing.{AddsOwnKeys, AreReleased, NoCollision, NoForgery}
 use Rattle.client_runs.specs.Told.{IsTold, call_of}
 use Rattle.client_runs.specs.NotTaken.{CantBeTaken}
 
@@ -33,6 +33,13 @@ Keep (step ∷ steps) (answer.NotTaken ∷ answers) events = CantBeTaken (client
 Keep (step ∷ steps) (answer ∷ answers) (e ∷ events) = IsEventOf step answer e × Keep steps answers events
 Keep steps answers events = ⊥
 
+-- The premises under which accepted views agree. That user 0's key has the form of a key is none of them: of these keys it
+-- is proved.
+pub record RunPremises (run : List Event) : Type 0 where
+  pub no_forgery : NoForgery script_keys run
+  pub no_collision : NoCollision script_keys run
+  pub added : AddsOwnKeys script_keys run
+
 -- what holds of accepted views, under the premises
 pub record AreInAgreement (run : List Event) : Type 0 where
   pub accepted : AreAccepted (views run)
@@ -51,7 +58,7 @@ pub record AreCarriedOut {A : Type 0} (steps : List (WorldStep A)) (answers : Li
   pub leaves : (u : User) → LeavesOnce u events
   pub certificates : (u : User) → CertificatesOnce u events
   pub structures : (u : User) → StructuresOnce u events
-  pub agreed : Premises script_keys events → AreInAgreement events
+  pub agreed : RunPremises events → AreInAgreement events
 
 -- ---- one step
 

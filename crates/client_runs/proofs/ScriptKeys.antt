@@ -1,0 +1,58 @@
+-- The public keys of scripts have the form of a key.
+use Rattle.std.proofs.Common.{◌≡◌, ℕ, zero, suc, ◌<◌, ◌-◌, List, [], ◌∷◌, ◌++◌, length, inl, inr, arith}
+use Rattle.std.specs.Prelude.{replicate}
+use Rattle.std.specs.Int.{w32}
+use Rattle.std.proofs.lemmas.Bool.{cases_lt}
+use Rattle.std.proofs.lemmas.List.{get_or_append_left, length-replicate}
+use Rattle.std.proofs.Math.Seq.{get_or-append_right}
+use Rattle.layout.specs.Format.{IsBytes, be}
+use Rattle.layout.specs.HashLaws.{hash_fits}
+use Rattle.layout.specs.Types.{Bytes}
+use Rattle.lms_sign.specs.Keys.{lms_type, ots_type, public_key_of}
+use Rattle.lms_sign.specs.Tree.{inner_node, node}
+use Rattle.lms_sign.proofs.Validity.{is_key-public, length-public_key}
+use Rattle.principals.specs.TableText.{key as key_form}
+use Rattle.client_runs.specs.Runs.{public_key}
+use Rattle.client_runs.specs.Carried.{script_keys}
+
+-- ---- bytes
+
+joined_bytes : (xs ys : Bytes) → IsBytes xs → IsBytes ys → IsBytes (xs ++ ys)
+joined_bytes xs ys first second i =
+    elim (cases_lt i (length xs)) [
+      | inl lt ↦ rw (get_or_append_left xs ys 0 i lt) (first i)
+      | inr le ↦ rw (get_or-append_right xs ys i 0 le) (second (i - length xs))
+    ]
+
+same_bytes : (n b : ℕ) → b < 256 → IsBytes (replicate n b)
+same_bytes zero b small i = omega arith
+same_bytes (suc n) b small zero = small
+same_bytes (suc n) b small (suc i) = same_bytes n b small i
+
+word_bytes : (n : ℕ) → IsBytes (be w32 n)
+unfolding be
+word_bytes n zero = omega arith
+word_bytes n (suc zero) = omega arith
+word_bytes n (suc (suc zero)) = omega arith
+word_bytes n (suc (suc (suc zero))) = omega arith
+word_bytes n (suc (suc (suc (suc i)))) = omega arith
+
+root_bytes : (seed id : Bytes) → IsBytes (node seed id 10 1)
+unfolding node inner_node
+root_bytes seed id = (hash_fits _).1
+
+-- ---- keys
+
+key_bytes : (seed id : Bytes) → IsBytes id → IsBytes (public_key_of seed id)
+unfolding public_key_of
+key_bytes seed id are =
+    joined_bytes (lms_type ++ ots_type ++ id) (node seed id 10 1)
+    (joined_bytes (lms_type ++ ots_type) id (joined_bytes lms_type ots_type (word_bytes 6) (word_bytes 3)) are)
+    (root_bytes seed id)
+
+key_fits : (seed id : Bytes) → length id ≡ 16 → IsBytes id → key_form.Fits (public_key_of seed id)
+key_fits seed id size are = ((length-public_key seed id size, key_bytes seed id are), is_key-public seed id size)
+
+-- user 0's, which every client knows, has it
+pub pinned_fits : key_form.Fits (public_key script_keys 0)
+pinned_fits = key_fits (replicate 32 0) (replicate 16 0) (length-replicate {A = ℕ} 16 0) (same_bytes 16 0 (omega arith))
