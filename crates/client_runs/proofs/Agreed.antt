@@ -22,8 +22,8 @@ use Rattle.release_runs.specs.Steps as low
 use Rattle.release_runs.proofs.Stories.{IsStory, OfCert, OfStructure, Release, last_in}
 use Rattle.client_runs.specs.Runs.{Event, IsRun, Keys, client_of, owner, public_key}
 use Rattle.client_runs.specs.Released.{accepted_by, hashed, hashed_at, pending_texts, reply_texts, shown_cert, shown_structure, structure_texts, tried_view, views}
-use Rattle.client_runs.specs.Agreeing.{AreReleased, HasReleased, NoForgery, Premises}
-use Rattle.client_runs.proofs.Genuine.{genuine, released_later, released_structure}
+use Rattle.client_runs.specs.Agreeing.{AreReleased, HasReleased, Premises}
+use Rattle.client_runs.proofs.Genuine.{AllGenuine, all_genuine, genuine, released_later, released_structure}
 use Rattle.client_runs.proofs.Holds.{IsTriedOver, known_in, signed_in}
 use Rattle.client_runs.proofs.Judging.{cert_by_super, cert_verified, own_last_is, structure_by_super, structure_fits, structure_verified, unbroken, unbroken_by, value_of, verified}
 use Rattle.client_runs.proofs.Lowering.{low_owner}
@@ -74,7 +74,7 @@ view_text x t i =
 module _ (keys : Keys) where
   -- ---- an accepted view
 
-  module _ (older : List Event) (is : IsRun keys older) (none : NoForgery keys older) (u : User) (x : View) (over : IsTriedOver (owner keys u) (holds_at keys u older is).story older x) where
+  module _ (older : List Event) (is : IsRun keys older) (none : AllGenuine keys older) (u : User) (x : View) (over : IsTriedOver (owner keys u) (holds_at keys u older is).story older x) where
     last_now : option_map value_of (structure_of u x.lists) ≡ last_signed u (views older)
     last_now =
         let h = holds_at keys u older is in
@@ -129,7 +129,7 @@ module _ (keys : Keys) where
   abbrev AllTrue : List Event → Type 0
   AllTrue run = (x : View) → In x (views run) → IsTrueTable keys x
 
-  accepted : (run : List Event) → IsRun keys run → NoForgery keys run → AllTrue run → AreAccepted (views run)
+  accepted : (run : List Event) → IsRun keys run → AllGenuine keys run → AllTrue run → AreAccepted (views run)
   accepted [] is none own = tt
   accepted (e ∷ older) is none own =
       go (one_at_most e.call (client_of e.user older) e.after (tried_view e.user older))
@@ -152,7 +152,7 @@ module _ (keys : Keys) where
         | inr k ↦ hashed_text older is.2 x k t j
       ])
 
-  declared_item : (run : List Event) → IsRun keys run → NoForgery keys run → AllTrue run → (x : View) → In x (views run) → (i : PendingItem) → In i (items x.lists) → HasReleased i.cert.user run (cert.spell i.cert)
+  declared_item : (run : List Event) → IsRun keys run → AllGenuine keys run → AllTrue run → (x : View) → In x (views run) → (i : PendingItem) → In i (items x.lists) → HasReleased i.cert.user run (cert.spell i.cert)
   declared_item [] is none own x k i j = absurd k
   declared_item (e ∷ older) is none own x k i j =
       released_later e older i.cert.user (cert.spell i.cert)
@@ -164,11 +164,14 @@ module _ (keys : Keys) where
 -- ---- the laws
 
 module _ (keys : Keys) (run : List Event) (is : IsRun keys run) (premises : Premises keys run) where
+  all_released_texts : AllGenuine keys run
+  all_released_texts = all_genuine keys run is premises.no_forgery
+
   all_true : (x : View) → In x (views run) → IsTrueTable keys x
-  all_true = true_tables keys run is premises.no_forgery premises.no_collision premises.true_keys
+  all_true = true_tables keys run is all_released_texts premises.no_collision premises.true_keys
 
   pub are_accepted : AreAccepted (views run)
-  are_accepted = accepted keys run is premises.no_forgery all_true
+  are_accepted = accepted keys run is all_released_texts all_true
 
   in_hashed : (b : Bytes) → Contains (flat_map texts_of (views run)) b → Contains (hashed keys run) b
   in_hashed b has =
@@ -198,4 +201,4 @@ module _ (keys : Keys) (run : List Event) (is : IsRun keys run) (premises : Prem
           let k = subst (λ (l : List Cert). In c l) (sym (lines.line_certs (views run) (user_of x) (number_of x))) j in
           let (i, m, same) = in-map (λ (i : PendingItem). i.cert) (lines.items_at (views run) (user_of x) (number_of x)) c k in
           let (y, n, p) = lines.line_pending (views run) (user_of x) (number_of x) i m in
-          subst (λ (d : Cert). HasReleased d.user run (cert.spell d)) (sym same) (declared_item keys run is premises.no_forgery all_true y n i p)
+          subst (λ (d : Cert). HasReleased d.user run (cert.spell d)) (sym same) (declared_item keys run is all_released_texts all_true y n i p)

@@ -1,6 +1,6 @@
 -- Where no signature is forged, what is shown with a valid signature was released.
 use Rattle.std.proofs.Common.{◌≡◌, ℕ, Bool, true, false, ◌==◌, List, [], ◌∷◌, ◌++◌, map, sym, ap, ◌∙◌, subst, inl, inr, if◌then◌else◌}
-use Rattle.std.specs.List.{Contains}
+use Rattle.std.specs.List.{All, Contains}
 use Rattle.layout.specs.Types.{Bytes, User}
 use Rattle.lms_sign.specs.Signature.{signature_of, valid}
 use Rattle.lms_sign.proofs.Validity.{length-signature}
@@ -8,7 +8,7 @@ use Rattle.version_order.specs.Structure.{Structure, lawful_structure, structure
 use Rattle.update_cert.specs.Cert.{cert}
 use Rattle.client_releases.specs.Told.{cert_in}
 use Rattle.agreement.proofs.Formed.{same_spelled}
-use Rattle.agreement.proofs.Members.{In, contains_in, in-append, in-map, in-right, in_contains, map-in, of_all}
+use Rattle.agreement.proofs.Members.{In, contains_in, in-append, in-map, in-right, in_contains, map-in, of_all, to_all}
 use Rattle.release_runs.specs.Released.{unsigned}
 use Rattle.release_runs.specs.Steps as low
 use Rattle.release_runs.proofs.Once.{came}
@@ -17,10 +17,12 @@ use Rattle.release_runs.proofs.Stories.{text as release_text}
 use Rattle.release_runs.proofs.Texts.{no_cert, unsigned_of}
 use Rattle.client_runs.specs.Runs.{Event, IsRun, Keys, owner, public_key}
 use Rattle.client_runs.specs.Released.{Shown, released, released_by, shown, shown_by}
-use Rattle.client_runs.specs.Agreeing.{HasReleased, IsGenuine, NoForgery}
+use Rattle.client_runs.specs.Agreeing.{HasReleased, IsGenuine, NoForgery, NoForgeryIn}
+use Rattle.client_runs.specs.UsedOnce.{LeavesOnce}
 use Rattle.client_runs.proofs.Holds.{structures}
 use Rattle.client_runs.proofs.Lowering.{low_owner}
 use Rattle.client_runs.proofs.Moves.{holds_at, signed_of}
+use Rattle.client_runs.proofs.Once.{leaves_once}
 
 pub released_later : (e : Event) (older : List Event) (u : User) (text : Bytes) → HasReleased u older text → HasReleased u (e ∷ older) text
 released_later e older u text has = go (e.user == u)
@@ -36,11 +38,30 @@ released_later e older u text has = go (e.user == u)
     go true = more
     go false = has
 
-pub genuine : (keys : Keys) (run : List Event) → NoForgery keys run → (t : Shown) → In t (shown run) → valid (public_key keys t.user) t.text t.signature ≡ true → HasReleased t.user run t.text
+-- what verifies under the user's key was released by the user's client
+abbrev pub IsReleasedText : Keys → List Event → Shown → Type 0
+IsReleasedText keys older t = valid (public_key keys t.user) t.text t.signature ≡ true → HasReleased t.user older t.text
+
+-- so does each text that is shown, at an earlier step
+abbrev pub AllGenuine : Keys → List Event → Type 0
+AllGenuine keys [] = Unit {0}
+AllGenuine keys (e ∷ older) = All (IsReleasedText keys older) (shown_by e.call) × AllGenuine keys older
+
+-- no leaf carries two texts, so that what the premise says under this condition holds
+module _ (keys : Keys) (whole : List Event) (once : (u : User) → LeavesOnce u whole) where
+  each_genuine : (run : List Event) → NoForgeryIn keys whole run → AllGenuine keys run
+  each_genuine [] none = tt
+  each_genuine (e ∷ older) none =
+      (to_all (IsReleasedText keys older) (shown_by e.call) (λ t j. of_all (IsGenuine keys whole older) (shown_by e.call) none.0 t j (once t.user)), each_genuine older none.1)
+
+pub all_genuine : (keys : Keys) (run : List Event) → IsRun keys run → NoForgery keys run → AllGenuine keys run
+all_genuine keys run is none = each_genuine keys run (λ u. leaves_once keys run u is) run none
+
+pub genuine : (keys : Keys) (run : List Event) → AllGenuine keys run → (t : Shown) → In t (shown run) → valid (public_key keys t.user) t.text t.signature ≡ true → HasReleased t.user run t.text
 genuine keys [] none t i v = absurd i
 genuine keys (e ∷ older) none t i v =
     elim (in-append t (shown_by e.call) (shown older) i) [
-      | inl j ↦ released_later e older t.user t.text (of_all (IsGenuine keys older) (shown_by e.call) none.0 t j v)
+      | inl j ↦ released_later e older t.user t.text (of_all (IsReleasedText keys older) (shown_by e.call) none.0 t j v)
       | inr j ↦ released_later e older t.user t.text (genuine keys older none.1 t j v)
     ]
 

@@ -41,10 +41,10 @@ use Rattle.release_runs.proofs.Stories.{text as release_text}
 use Rattle.release_runs.proofs.Texts.{cert_read, no_cert}
 use Rattle.client_runs.specs.Runs.{Event, IsRun, Keys, client_of, owner, public_key}
 use Rattle.client_runs.specs.Released.{accepted_by, hashed, hashed_at, released, released_by, shown_cert, shown_structure, tried_view, views}
-use Rattle.client_runs.specs.Agreeing.{GivesOwnKey, HasReleased, IsTrueText, KeysTrue, NoCollision, NoForgery}
+use Rattle.client_runs.specs.Agreeing.{GivesOwnKey, HasReleased, IsTrueText, KeysTrue, NoCollision}
 use Rattle.client_runs.proofs.Among.{of_texts}
 use Rattle.client_runs.proofs.FirstChunk.{HasChunk}
-use Rattle.client_runs.proofs.Genuine.{genuine, message_of, released_structure}
+use Rattle.client_runs.proofs.Genuine.{AllGenuine, genuine, message_of, released_structure}
 use Rattle.client_runs.proofs.Holds.{IsTriedOver, known_in, signed_in}
 use Rattle.client_runs.proofs.Judging.{cert_by_super, structure_by_super, structure_fits, unbroken}
 use Rattle.client_runs.proofs.KnownViews.{IsKnown, IsMade, IsTold, all_known}
@@ -216,7 +216,7 @@ module _ (keys : Keys) where
       pub own : ListsOwn own_key x.table
       pub handle : x.signed.plan.user ≡ 0 → IsTrueHandle x.signed.handle
 
-    module _ (older : List Event) (is : IsRun keys older) (none : NoForgery keys older) (all : AllGive older) (before : (y : View) → In y (views older) → IsTrueView y) (u : User) (x : View)
+    module _ (older : List Event) (is : IsRun keys older) (none : AllGenuine keys older) (all : AllGive older) (before : (y : View) → In y (views older) → IsTrueView y) (u : User) (x : View)
         (over : IsTriedOver (owner keys u) (holds_at keys u older is).story older x) (known : IsKnown texts apart (own_key 0) x) where
       shown_true : (z : Signed Structure) → In z x.lists.structures → z.value.plan.user ≡ 0 → IsTrueHandle z.value.handle
       shown_true z j zero =
@@ -261,7 +261,7 @@ module _ (keys : Keys) where
     abbrev AreHashed : List Event → Type 0
     AreHashed run = (t : Bytes) → In t (flat_map hashed_at run) → In t texts
 
-    pub all_true : (run : List Event) → IsRun keys run → NoForgery keys run → AllGive run → AreHashed run → (x : View) → In x (views run) → IsTrueView x
+    pub all_true : (run : List Event) → IsRun keys run → AllGenuine keys run → AllGive run → AreHashed run → (x : View) → In x (views run) → IsTrueView x
     all_true [] is none all inside x i = absurd i
     all_true (e ∷ older) is none all inside x i =
         let later = λ (t : Bytes) (j : In t (flat_map hashed_at older)). inside t (in-right t (hashed_at e) (flat_map hashed_at older) j) in
@@ -272,7 +272,7 @@ module _ (keys : Keys) where
         ]
 
 -- the tables of all accepted views
-pub true_tables : (keys : Keys) (run : List Event) → IsRun keys run → NoForgery keys run → NoCollision keys run → KeysTrue keys run → (x : View) → In x (views run) → IsTrueTable keys x
+pub true_tables : (keys : Keys) (run : List Event) → IsRun keys run → AllGenuine keys run → NoCollision keys run → KeysTrue keys run → (x : View) → In x (views run) → IsTrueTable keys x
 true_tables keys run is none apart true_keys x i =
     let texts = hashed keys run in
     let view =

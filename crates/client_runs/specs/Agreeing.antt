@@ -13,6 +13,7 @@ use Rattle.agreement.specs.Lines.{line}
 use Rattle.release_runs.specs.Released.{unsigned}
 use Rattle.client_runs.specs.Runs.{Event, IsRun, Keys, public_key}
 use Rattle.client_runs.specs.Released.{Shown, hashed, released, shown_by, views}
+use Rattle.client_runs.specs.UsedOnce.{LeavesOnce}
 
 -- ---- premises
 
@@ -20,14 +21,19 @@ use Rattle.client_runs.specs.Released.{Shown, hashed, released, shown_by, views}
 abbrev pub HasReleased : User → List Event → Bytes → Type 0
 HasReleased u run text = Contains (map unsigned (released u run)) text
 
--- what verifies under the user's key was released by the user's client
-abbrev pub IsGenuine : Keys → List Event → Shown → Type 0
-IsGenuine keys older t = valid (public_key keys t.user) t.text t.signature ≡ true → HasReleased t.user older t.text
+-- what verifies under the user's key was released by the user's client, if no two texts that this client released in the
+-- whole run carry one leaf number
+abbrev pub IsGenuine : Keys → List Event → List Event → Shown → Type 0
+IsGenuine keys whole older t =
+    LeavesOnce t.user whole → valid (public_key keys t.user) t.text t.signature ≡ true → HasReleased t.user older t.text
 
 -- so does each text that is shown, at an earlier step
+abbrev pub NoForgeryIn : Keys → List Event → List Event → Type 0
+NoForgeryIn keys whole [] = Unit {0}
+NoForgeryIn keys whole (e ∷ older) = All (IsGenuine keys whole older) (shown_by e.call) × NoForgeryIn keys whole older
+
 abbrev pub NoForgery : Keys → List Event → Type 0
-NoForgery keys [] = Unit {0}
-NoForgery keys (e ∷ older) = All (IsGenuine keys older) (shown_by e.call) × NoForgery keys older
+NoForgery keys run = NoForgeryIn keys run run
 
 abbrev pub NoCollision : Keys → List Event → Type 0
 NoCollision keys run = NoneCollide (hashed keys run) (hashed keys run)

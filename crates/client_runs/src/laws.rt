@@ -15,7 +15,8 @@ pub fn each_is_used_once()
 {}
 
 /// The accepted views of all clients agree over every run, also across restarts, as long as no digest collides, no
-/// signature is forged, and user 0's client added each user with the user's own key. Of servers nothing is assumed.
+/// signature is forged, user 0's client added each user with the user's own key, and user 0's key has the form of a key.
+/// Of servers nothing is assumed.
 pub fn runs_agree()
     // They are a run of accepted views, whose plans and certificates don't collide.
     ensures accepted { EachRun (λ run. AreAccepted (views run)) }
