@@ -4,7 +4,7 @@ ghost use Rattle.std.specs.Prelude.{◌≡◌, ◌≢◌, ◌⊎◌, ◌↔◌, 
 ghost use Rattle.std.specs.Option.{option_copied};
 ghost use Rattle.lms_sign.specs.Keys.{public_key_of};
 ghost use Rattle.leaf_ledger.specs.Device.{HasRisen, at_rest};
-ghost use Rattle.leaf_ledger.specs.Ledger.{IsFileOf, IsForeign, IsFull, IsLeastFree, LeafNumber};
+ghost use Rattle.leaf_ledger.specs.Ledger.{IsFileOf, IsForeign, IsFull, IsLeastFree, LeafNumber, UsedAsBefore};
 ghost use Rattle.client_journal.specs.Records.{IsDamaged, State as Recorded, TellsState};
 ghost use Rattle.version_order.specs.Structure.{structure as structure_format};
 ghost use Rattle.update_cert.specs.Cert.{Cert as PureCert, cert};
@@ -80,6 +80,7 @@ fn open_both<L: Device, J: Device>(
     ensures moments { IfOk result (λ d. IsOpening (L.history ledger) (J.history journal) d.0.file d.1.file) }
     ensures moments_err { IfErr result (λ e. IsOpening (L.history ledger) (J.history journal) (L.history e.1) (J.history e.2)) }
     ensures records { IfOk result (λ d. (recorded : Recorded) → TellsState recorded d.1.file.now.text → TellsState recorded (J.history journal).now.text) }
+    ensures used { IfOk result (λ d. UsedAsBefore (L.history ledger).now.text d.0.file.now.text) }
     ensures own { IfOk result (λ _. IsForeign key.now (L.history ledger).now.text → ⊥) }
     ensures foreign { IfErr result (λ e. e.0 ≡ ClientError.Foreign → IsForeign key.now (L.history ledger).now.text) }
     ensures damaged { IfErr result (λ e. e.0 ≡ ClientError.Damaged → IsDamaged (J.history journal).now.text) }
@@ -131,6 +132,8 @@ impl<L: Device, J: Device, A: Allocator + Copy> Releases<L, J, A> {
         ensures told { IfOk result (λ r. IsToldBy (J.history journal).now.text r) }
         ensures moments { IfOk result (λ r. IsOpening (L.history ledger) (J.history journal) r.devices.ledger.file r.devices.journal.file) }
         ensures moments_err { IfErr result (λ e. IsOpening (L.history ledger) (J.history journal) (L.history e.1.ledger) (J.history e.1.journal)) }
+        // The same leaves are used as before: none of a new ledger.
+        ensures used { IfOk result (λ r. UsedAsBefore (L.history ledger).now.text r.devices.ledger.file.now.text) }
         ensures own { IfOk result (λ _. IsForeign (public_key_of key.seed key.id) (L.history ledger).now.text → ⊥) }
         ensures foreign { IfErr result (λ e. e.0 ≡ ClientError.Foreign
             → IsForeign (public_key_of key.seed key.id) (L.history ledger).now.text) }

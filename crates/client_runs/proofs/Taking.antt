@@ -6,7 +6,7 @@ use Rattle.std.specs.declared.vec.Vec.{Vec}
 use Rattle.layout.specs.Types.{Bytes, Digest, INumber, Key, Principal}
 use Rattle.lms_sign.specs.Keys.{public_key_of}
 use Rattle.leaf_ledger.specs.Device.{HasRisen, History, MayLeave, started}
-use Rattle.leaf_ledger.specs.Ledger.{IsForeign}
+use Rattle.leaf_ledger.specs.Ledger.{IsForeign, UsedAsBefore}
 use Rattle.client_journal.specs.Records.{IsDamaged}
 use Rattle.update_cert.specs.Change.{Change}
 use Rattle.wire.specs.declared.kinds.Status.{Status}
@@ -141,10 +141,11 @@ module _ (o : Owner) (p : Parts) where
       → (s.user ≡ o.user) × (s.seed ≡ seed) × (s.id ≡ id)
       → IsToldBy p.journal.history.now.text (released s)
       → IsOpening p.ledger.history p.journal.history s.devices.ledger.file s.devices.journal.file
+      → UsedAsBefore p.ledger.history.now.text s.devices.ledger.file.now.text
       → (IsForeign (public_key_of seed id) p.ledger.history.now.text → ⊥)
       → (p.ledger.faults ≤ s.devices.ledger.faults) × (p.journal.faults ≤ s.devices.journal.faults)
       → IsOpened o p s
-  is_opened s pinned seed id at_pinned at_seed at_id state whose told moments own later =
+  is_opened s pinned seed id at_pinned at_seed at_id state whose told moments used own later =
       let key : own_key o ≡ public_key_of seed id = ap (λ (x : Bytes). public_key_of x o.id) (sym at_seed) ∙ ap (λ (x : Bytes). public_key_of seed x) (sym at_id) in
       record {
         state = state ∙ ap (λ (k : Key). opened k (released s)) at_pinned;
@@ -153,6 +154,7 @@ module _ (o : Owner) (p : Parts) where
         id = whose.2 ∙ at_id;
         told = told;
         moments = moments;
+        used = used;
         own = λ is. own (subst (λ (k : Key). IsForeign k p.ledger.history.now.text) key is);
         ledger_later = later.0;
         journal_later = later.1;

@@ -7,7 +7,7 @@ use Rattle.layout.specs.Format.{IsBytes}
 use Rattle.layout.specs.Types.{Bytes, Digest, INumber, Key, Principal, User}
 use Rattle.lms_sign.specs.Keys.{public_key_of}
 use Rattle.leaf_ledger.specs.Device.{HasRisen, History, MayLeave, started}
-use Rattle.leaf_ledger.specs.Ledger.{IsForeign, IsFull, IsLeastFree, LeafNumber}
+use Rattle.leaf_ledger.specs.Ledger.{IsForeign, IsFull, IsLeastFree, LeafNumber, UsedAsBefore}
 use Rattle.client_journal.specs.Records.{IsDamaged}
 use Rattle.version_order.specs.Structure.{structure}
 use Rattle.update_cert.specs.Change.{Change}
@@ -100,6 +100,7 @@ pub record IsOpened (o : Owner) (p : Parts) (new : State) : Type 0 where
   pub id : new.id ≡ o.id
   pub told : IsToldBy p.journal.history.now.text (released new)
   pub moments : IsOpening p.ledger.history p.journal.history new.devices.ledger.file new.devices.journal.file
+  pub used : UsedAsBefore p.ledger.history.now.text new.devices.ledger.file.now.text
   pub own : IsForeign (own_key o) p.ledger.history.now.text → ⊥
   pub ledger_later : p.ledger.faults ≤ new.devices.ledger.faults
   pub journal_later : p.journal.faults ≤ new.devices.journal.faults

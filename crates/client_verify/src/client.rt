@@ -103,7 +103,7 @@ impl<L: Device, J: Device, A: Allocator + Copy> Client<L, J, A> {
     ghost use Rattle.client_tree.specs.Genesis.{first_table, first_texts, table_text};
     ghost use Rattle.lms_sign.specs.Keys.{public_key_of};
     ghost use Rattle.leaf_ledger.specs.Device.{HasRisen};
-    ghost use Rattle.leaf_ledger.specs.Ledger.{IsForeign};
+    ghost use Rattle.leaf_ledger.specs.Ledger.{IsForeign, UsedAsBefore};
     ghost use Rattle.client_journal.specs.Records.{IsDamaged};
     ghost use Rattle.client_releases.specs.Releasing.{IsOpening};
     ghost use Rattle.client_verify.specs.State.{AreReplies, opened, released};
@@ -127,6 +127,8 @@ impl<L: Device, J: Device, A: Allocator + Copy> Client<L, J, A> {
         // What both devices go through meanwhile.
         ensures moments { IfOk result (λ client. IsOpening (L.history ledger) (J.history journal) client.devices.ledger.file client.devices.journal.file) }
         ensures moments_err { IfErr result (λ e. IsOpening (L.history ledger) (J.history journal) (L.history e.1.ledger) (J.history e.1.journal)) }
+        // The same leaves are used as before: none of a new ledger.
+        ensures used { IfOk result (λ client. UsedAsBefore (L.history ledger).now.text client.devices.ledger.file.now.text) }
         ensures own { IfOk result (λ _. IsForeign (public_key_of key.seed key.id) (L.history ledger).now.text → ⊥) }
         ensures foreign { IfErr result (λ e. e.0 ≡ ClientError.Foreign
             → IsForeign (public_key_of key.seed key.id) (L.history ledger).now.text) }

@@ -11,7 +11,7 @@ returns-in_ok-text-in-Ok-clause-step g c =
     let key = c.args.parts.key in
     let e = c.in-Ok.ensures in
     taking.opens o p c.in-Ok.client c.phase-phase.result c.in_ok-text-in-Ok.text
-    (taking.is_opened o p c.in-Ok.client c.args.pinned key.seed key.id c.requires.pinned c.requires.own.0 c.requires.own.1 e.state e.whose e.told e.moments e.own e.later)
+    (taking.is_opened o p c.in-Ok.client c.args.pinned key.seed key.id c.requires.pinned c.requires.own.0 c.requires.own.1 e.state e.whose e.told e.moments e.used e.own e.later)
     c.stands.ensures c.phase-phase.ensures c.in_ok-text-in-Ok.ensures
 
 pub returns-in-Err-clause-step : goal.returns-in-Err-clause-step
