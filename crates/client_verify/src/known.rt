@@ -65,9 +65,11 @@ fn is_signed<A: Allocator + Copy, T: Text<A>>(
 {
     let text = shown.value.text(alloc)?;
     if let Some(before) = before {
-        let verified = before.value.text(alloc)?;
-        if before.signature == shown.signature && verified.as_slice() == text.as_slice() {
-            return Ok(true);
+        if before.signature == shown.signature {
+            let verified = before.value.text(alloc)?;
+            if verified.as_slice() == text.as_slice() {
+                return Ok(true);
+            }
         }
     }
     Ok(verify(key, &text, shown.signature.as_bytes()))
@@ -175,10 +177,13 @@ impl<'a, A: Allocator + Copy> Known<'a, A> {
     fn is_declared(&self, alloc: A, key: &PublicKey, item: &PendingItem<A>) -> Result<bool, Memory>
         ensures { IfOk result (λ is. is ≡ true → valid key.now (cert.spell item.now.cert) item.now.signature ≡ true) }
     {
+        if !self.is_own(key) {
+            return Ok(false);
+        }
         // Of 2,508 bytes.
         let _signature = item.signature().as_bytes();
         let sent = cert_sent(alloc, item)?;
-        Ok(self.is_own(key) && sent.as_slice() == self.declared)
+        Ok(sent.as_slice() == self.declared)
     }
 
     /// Whether a pending certificate is signed under this key. The declared one, and one that was pending so in the lists
