@@ -260,6 +260,22 @@ static THREE: [Shape; 3] = [
     },
 ];
 
+/// Four operations of one user: they have one order, and its beginnings are those of fewer operations of that user.
+static FOUR_OF_ONE: [Shape; 2] = [
+    Shape {
+        steps: 12,
+        second: 0,
+        fixed: 0,
+        first: 0,
+    },
+    Shape {
+        steps: 12,
+        second: 12,
+        fixed: 0,
+        first: 0,
+    },
+];
+
 /// Four operations, by their first steps: two of each, three of user 1, and three of user 2. The orders of one beginning
 /// have a world of their own, at most 126 of them: a key signs 1,024 times, and the log of a script's server takes as
 /// many calls, two of each operation.
@@ -326,7 +342,14 @@ fn three_operations_in_every_order(rt: HostRuntime) {
     }
 }
 
-// Four operations, of which the first steps are those of these users, the earliest one first.
+#[test]
+fn four_operations_of_one_user(rt: HostRuntime) {
+    for shape in &FOUR_OF_ONE {
+        tell_all(&rt, shape);
+    }
+}
+
+// Four operations of both users, of which the first steps are those of these users, the earliest one first.
 
 #[test]
 fn two_each_after_1_1_1(rt: HostRuntime) {
