@@ -1,18 +1,13 @@
 -- Laws of the rule on entries.
-use Rattle.std.proofs.Common.{◌≡◌, ℕ, zero, suc, ◌+◌, ◌<◌, ◌≤◌, Bool, ◌&&◌, List, [], ◌∷◌, ◌++◌, Option, Some, None, length, take, drop, map, refl, sym, ap, ◌∙◌, inl, inr, arith, length-append}
-use Rattle.std.specs.Prelude.{◌==◌, slice_index_or, find}
-use Rattle.std.specs.Option.{option_map_or}
+use Rattle.std.proofs.Common.{◌≡◌, ℕ, zero, suc, ◌+◌, ◌<◌, ◌≤◌, Bool, true, false, ◌&&◌, List, [], ◌∷◌, ◌++◌, Option, Some, length, take, drop, map, refl, sym, ap, ◌∙◌, arith, length-append}
+use Rattle.std.specs.Prelude.{slice_index_or}
 use Rattle.std.specs.List.{take-map}
 use Rattle.std.proofs.lemmas.List.{take_more}
-use Rattle.std.proofs.lemmas.Bool.{cases_lt, cases_eq, eq-eqb, ne_eqb, lt-ltb, le-ltb}
 use Rattle.version_order.specs.declared.plan.Entry.{Entry}
-use Rattle.version_order.specs.Vector.{depth}
 use Rattle.version_order.specs.Plan.{Plan, entry_of}
-use Rattle.version_order.specs.Structure.{Structure}
-use Rattle.pending_list.specs.declared.signed.Signed.{Signed}
-use Rattle.pending_list.specs.Reply.{PendingItem, depth_of, top, depth_of_top}
-use Rattle.reply_rules.specs.Lists.{Lists, items, shown, pending}
-use Rattle.reply_rules.specs.Rules.{entries_of, shows, all_show, rest_of, waiting, above, items_waiting, items_above, other_entries, own_entry_of_top}
+use Rattle.pending_list.specs.Reply.{PendingItem}
+use Rattle.reply_rules.specs.Lists.{Lists, items, pending}
+use Rattle.reply_rules.specs.Rules.{entries_of, left_of, shows, all_show, rest_of, waiting, above, items_waiting, items_above, other_entries}
 use Rattle.reply_rules.specs.Shown.{shows_by}
 use Rattle.reply_rules.proofs.Above.{waiting_plans, above_plans}
 use Rattle.reply_rules.proofs.Tests.{dropped}
@@ -88,11 +83,26 @@ plan_at (j ∷ js) zero i inside at = ap plan_in at
 plan_at (j ∷ js) (suc k) i inside at = plan_at js k i (omega arith) at
 
 -- a plan above with those before it, and then those after it
-pub next_shows : (x : Lists) (ps : List Plan) (k : ℕ) (p : Plan) (rest : Option (List Entry)) → k < length ps → p ≡ slice_index_or ps k p
+next_shows : (x : Lists) (ps : List Plan) (k : ℕ) (p : Plan) (rest : Option (List Entry)) → k < length ps → p ≡ slice_index_or ps k p
     → all_show x (take k ps) rest (drop k ps) ≡ (shows x (take k ps) rest p && all_show x (take (k + 1) ps) (Some (rest_of (take k ps) p)) (drop (k + 1) ps))
 next_shows x ps k p rest inside at =
     ap (all_show x (take k ps) rest) (dropped ps k p inside at)
     ∙ ap (λ (qs : List Plan). shows x (take k ps) rest p && all_show x qs (Some (rest_of (take k ps) p)) (drop (k + 1) ps)) (push_take ps k p inside at)
+
+-- where the plan doesn't show what it has to the answer is false, and else it is that for those after it
+pub stops : (x : Lists) (ps : List Plan) (k : ℕ) (p : Plan) (rest : Option (List Entry)) (r : Bool) → k < length ps → p ≡ slice_index_or ps k p
+    → all_show x (take k ps) rest (drop k ps) ≡ r → shows x (take k ps) rest p ≡ false → false ≡ r
+stops x ps k p rest r inside at so fails =
+    let after : Bool = all_show x (take (k + 1) ps) (Some (rest_of (take k ps) p)) (drop (k + 1) ps) in
+    ap (λ b. b && after) (sym fails) ∙ sym (next_shows x ps k p rest inside at) ∙ so
+
+pub goes_on : (x : Lists) (ps : List Plan) (k : ℕ) (p : Plan) (rest : Option (List Entry)) (left : List Entry) (r : Bool) → k < length ps → p ≡ slice_index_or ps k p
+    → left ≡ rest_of (take k ps) p → all_show x (take k ps) rest (drop k ps) ≡ r → shows x (take k ps) rest p ≡ true
+    → all_show x (take (k + 1) ps) (Some left) (drop (k + 1) ps) ≡ r
+goes_on x ps k p rest left r inside at same so holds =
+    let after : Bool = all_show x (take (k + 1) ps) (Some (rest_of (take k ps) p)) (drop (k + 1) ps) in
+    ap (λ (es : List Entry). all_show x (take (k + 1) ps) (Some es) (drop (k + 1) ps)) same
+    ∙ ap (λ b. b && after) (sym holds) ∙ sym (next_shows x ps k p rest inside at) ∙ so
 
 -- ---- what the code finds
 
@@ -121,3 +131,11 @@ shown_so x waits before earlier rest p q b of_waiting of_earlier same told =
     ∙ ap (λ (w : List Entry). shows_by x w before rest q) of_waiting
     ∙ ap (λ (es : List Entry). shows_by x (entries_of (waiting x)) es rest q) of_earlier
     ∙ ap (λ (r : Plan). shows_by x (entries_of (waiting x)) (entries_of earlier) rest r) same
+
+-- what is left of the entries of a plan above
+pub left_so : (before es left : List Entry) (earlier : List Plan) (p q : Plan) → before ≡ entries_of earlier → es ≡ q.entries → q ≡ p → left ≡ left_of before es
+    → left ≡ rest_of earlier p
+left_so before es left earlier p q of_earlier found same told =
+    told
+    ∙ ap (λ (b : List Entry). left_of b es) of_earlier
+    ∙ ap (left_of (entries_of earlier)) (found ∙ ap (λ (r : Plan). r.entries) same)

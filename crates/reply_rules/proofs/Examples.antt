@@ -1,5 +1,5 @@
 -- The parts of the rules on small lists of users 0, 1 and 2: each holds of a good reply, and not of a copy that differs
--- in one place.
+-- in a place or a few.
 --
 -- User 0 and then user 1 committed their first operations, and user 2's first one was placed before user 1's and is
 -- pending still. After top, which is user 1's structure, user 0's second operation is pending, and the own one, user

@@ -1,5 +1,5 @@
 -- Laws of tests on lists and numbers.
-use Rattle.std.proofs.Common.{◌≡◌, ℕ, zero, suc, ◌+◌, add-one, inl, inr, ◌<◌, Bool, true, false, ◌&&◌, ◌||◌, not, cond, List, [], ◌∷◌, refl, sym, ap, ◌∙◌, map, filter, arith, length, drop, drop-cons}
+use Rattle.std.proofs.Common.{◌≡◌, ℕ, zero, suc, ◌+◌, add-one, inl, inr, ◌<◌, Bool, true, false, ◌&&◌, ◌||◌, cond, List, [], ◌∷◌, refl, sym, ap, ◌∙◌, map, filter, arith, length, drop, drop-cons}
 use Rattle.std.specs.Prelude.{slice_index_or}
 use Rattle.std.specs.List.{list_all, list_any}
 use Rattle.std.proofs.lemmas.Bool.{cases_lt}
@@ -48,26 +48,6 @@ filter-map {A} {B} t f (x ∷ xs) = step (t (f x)) (filter-map t f xs)
     step : (b : Bool) → filter t (map f xs) ≡ map f (filter (λ x. t (f x)) xs) → cond b (f x ∷ filter t (map f xs)) (filter t (map f xs)) ≡ map f (cond b (x ∷ filter (λ x. t (f x)) xs) (filter (λ x. t (f x)) xs))
     step true h = ap (λ (ys : List B). f x ∷ ys) h
     step false h = h
-
--- the test holds of each that is left
-pub all-left : {A : Type 0} (t gone : A → Bool) (xs : List A) → list_all t (filter (λ x. not (gone x)) xs) ≡ list_all (λ x. gone x || t x) xs
-all-left t gone [] = refl
-all-left {A} t gone (x ∷ xs) = step (gone x) (all-left t gone xs)
-  where
-    step : (b : Bool) → list_all t (filter (λ x. not (gone x)) xs) ≡ list_all (λ x. gone x || t x) xs → list_all t (cond (not b) (x ∷ filter (λ x. not (gone x)) xs) (filter (λ x. not (gone x)) xs)) ≡ ((b || t x) && list_all (λ x. gone x || t x) xs)
-    step true h = h
-    step false h = ap (λ c. t x && c) h
-
--- it holds of one that is left
-pub any-left : {A : Type 0} (t gone : A → Bool) (xs : List A) → list_any t (filter (λ x. not (gone x)) xs) ≡ list_any (λ x. t x && not (gone x)) xs
-any-left t gone [] = refl
-any-left {A} t gone (x ∷ xs) = step (gone x) (t x) refl (any-left t gone xs)
-  where
-    step : (b c : Bool) → t x ≡ c → list_any t (filter (λ x. not (gone x)) xs) ≡ list_any (λ x. t x && not (gone x)) xs → list_any t (cond (not b) (x ∷ filter (λ x. not (gone x)) xs) (filter (λ x. not (gone x)) xs)) ≡ ((c && not b) || list_any (λ x. t x && not (gone x)) xs)
-    step true true e h = h
-    step true false e h = h
-    step false true e h = rw e refl
-    step false false e h = rw e h
 
 -- ---- maps
 

@@ -1,12 +1,9 @@
 -- Nobody has to believe this file: an aid of private contracts.
 -- Entries as the code compares them: by the entries of plans, which are made once.
-use Rattle.std.specs.Prelude.{ℕ, zero, suc, List, [], ◌∷◌, Option, Bool, ◌&&◌, ◌||◌, not, if◌then◌else◌, ◌==◌}
+use Rattle.std.specs.Prelude.{ℕ, List, Option, Bool, ◌&&◌, ◌||◌, not, ◌==◌}
 use Rattle.std.specs.List.{list_all}
 use Rattle.version_order.specs.declared.plan.Entry.{Entry}
 use Rattle.version_order.specs.Plan.{Plan}
-use Rattle.version_order.specs.Structure.{Structure}
-use Rattle.pending_list.specs.declared.signed.Signed.{Signed}
-use Rattle.pending_list.specs.Reply.{depth_of}
 use Rattle.reply_rules.specs.Lists.{Lists}
 use Rattle.reply_rules.specs.Rules.{lists_entry, left_of, within, top_entries, own_entry_of_top}
 

@@ -1,11 +1,10 @@
 //! The rule on entries. Each plan's entry is made once.
 
-ghost use Rattle.std.specs.Prelude.{◌≡◌, ◌∷◌, [], ◌&&◌, IfOk, map, take, drop};
-ghost use Rattle.std.specs.List.{list_all};
+ghost use Rattle.std.specs.Prelude.{◌≡◌, ◌∷◌, [], ◌&&◌, IfOk, map};
 ghost use Rattle.version_order.specs.Plan.{entry_of};
 ghost use Rattle.pending_list.specs.Reply as reply_spec;
 ghost use Rattle.reply_rules.specs.Lists.{shown, pending};
-ghost use Rattle.reply_rules.specs.Rules.{waiting, above, entries_of, top_entries, own_entry_of_top, top_known, top_waiting, above_show, other_entries, own_only, own_all, entries};
+ghost use Rattle.reply_rules.specs.Rules.{waiting, above, left_of, entries_of, top_entries, own_entry_of_top, top_known, top_waiting, above_show, other_entries, own_only, own_all, entries};
 ghost use Rattle.reply_rules.specs.Shown.{shows_left, shows_by};
 
 use crate::reply_lists::Lists;
@@ -13,7 +12,7 @@ use crate::rest::{Rest, are_listed, are_of_either};
 use layout::{Memory, User};
 use pending_list::{PendingItem, Signed, outranks};
 use std::alloc::Allocator;
-use version_order::{Entry, Plan, Structure, depth};
+use version_order::{Entry, Plan, Structure};
 
 /// The entries of these structures' plans.
 fn entries_of_structures<A: Allocator + Copy>(
@@ -87,13 +86,13 @@ fn own_entry_of_top<'e, A: Allocator>(lists: &Lists<'_, A>, entered: &'e [Entry]
 
 /// Whether a plan of this user and with these entries shows what it has to, where those left of them without those
 /// before are these.
-fn shows_left(
+fn shows_left<A: Allocator>(
     top: &[Entry],
     own: &[Entry],
     waiting: &[Entry],
     before: &[Entry],
-    left: &Rest<'_>,
-    rest: &Option<Rest<'_>>,
+    left: &Rest<A>,
+    rest: &Option<Rest<A>>,
     entries: &[Entry],
     user: User,
 ) -> bool
@@ -106,46 +105,51 @@ fn shows_left(
         && left.is_within(rest)
 }
 
-/// Whether a plan above shows what it has to, told by the entries of those that wait and of those before it.
+/// Whether a plan above shows what it has to, told by the entries of those that wait and of those before it, and by
+/// what is left of its own without the latter.
 fn shows<A: Allocator>(
     lists: &Lists<'_, A>,
     own: &[Entry],
     waiting: &[Entry],
     before: &[Entry],
-    rest: &Option<Rest<'_>>,
+    left: &Rest<A>,
+    rest: &Option<Rest<A>>,
     plan: &Plan<A>,
 ) -> bool
-    requires { own.now ≡ own_entry_of_top lists.now }
+    requires own { own.now ≡ own_entry_of_top lists.now }
+    requires left { left.now ≡ left_of before.now plan.now.entries }
     ensures { result ≡ shows_by lists.now waiting.now before.now rest.now plan.now }
 {
     let top = top_entries(lists);
     let entries = plan.entries().as_slice();
-    let left = Rest::of(before, entries);
-    shows_left(top, own, waiting, before, &left, rest, entries, plan.user())
+    shows_left(top, own, waiting, before, left, rest, entries, plan.user())
 }
 
 /// Whether each plan above does.
-fn above_show<A: Allocator>(
+fn above_show<A: Allocator + Copy>(
+    alloc: A,
     lists: &Lists<'_, A>,
     own: &[Entry],
     waits: &[Entry],
     later: &[Entry],
-) -> bool
+) -> Result<bool, Memory>
     requires own { own.now ≡ own_entry_of_top lists.now }
     requires waits { waits.now ≡ entries_of (waiting lists.now) }
     requires later { later.now ≡ entries_of (above lists.now) }
-    ensures { result ≡ above_show lists.now }
+    ensures { IfOk result (λ show. show ≡ above_show lists.now) }
 {
     let items = lists.above();
     let mut rest = None;
     for (k, item) in items.iter().enumerate() {
+        let plan = item.plan();
         let before = &later[..k];
-        if !shows(lists, own, waits, before, &rest, item.plan()) {
-            return false;
+        let left = Rest::of(alloc, before, plan.entries().as_slice())?;
+        if !shows(lists, own, waits, before, &left, &rest, plan) {
+            return Ok(false);
         }
-        rest = Some(Rest::of(before, item.plan().entries().as_slice()));
+        rest = Some(left);
     }
-    true
+    Ok(true)
 }
 
 /// Whether the own plan's entries are those of the other pending plans, and all of them.
@@ -177,7 +181,8 @@ fn top_waiting<A: Allocator>(lists: &Lists<'_, A>, waits: &[Entry]) -> bool
 /// Whether the rule on entries holds, told by the entries of the structures, of the pending plans, of those of them that
 /// wait and that are above, and of the others.
 #[tactic(auto, unfolding(crate::specs::Rules::entries))]
-fn all_hold<A: Allocator>(
+fn all_hold<A: Allocator + Copy>(
+    alloc: A,
     lists: &Lists<'_, A>,
     own: &[Entry],
     entered: &[Entry],
@@ -185,36 +190,39 @@ fn all_hold<A: Allocator>(
     waits: &[Entry],
     later: &[Entry],
     others: &[Entry],
-) -> bool
+) -> Result<bool, Memory>
     requires own { own.now ≡ own_entry_of_top lists.now }
     requires entered { entered.now ≡ entries_of (shown lists.now) }
     requires made { made.now ≡ entries_of (pending lists.now) }
     requires waits { waits.now ≡ entries_of (waiting lists.now) }
     requires later { later.now ≡ entries_of (above lists.now) }
     requires others { others.now ≡ other_entries lists.now }
-    ensures { result ≡ entries lists.now }
+    ensures { IfOk result (λ hold. hold ≡ entries lists.now) }
 {
-    top_known(lists, entered, made)
-        && top_waiting(lists, waits)
-        && above_show(lists, own, waits, later)
-        && own_shows(lists, others)
+    Ok(
+        top_known(lists, entered, made)
+            && top_waiting(lists, waits)
+            && above_show(alloc, lists, own, waits, later)?
+            && own_shows(lists, others),
+    )
 }
 
 /// The same, told by the entries of the structures and of the pending plans.
-fn hold_by<A: Allocator>(
+fn hold_by<A: Allocator + Copy>(
+    alloc: A,
     lists: &Lists<'_, A>,
     own: &[Entry],
     entered: &[Entry],
     made: &[Entry],
-) -> bool
+) -> Result<bool, Memory>
     requires own { own.now ≡ own_entry_of_top lists.now }
     requires entered { entered.now ≡ entries_of (shown lists.now) }
     requires made { made.now ≡ entries_of (pending lists.now) }
-    ensures { result ≡ entries lists.now }
+    ensures { IfOk result (λ hold. hold ≡ entries lists.now) }
 {
     let (waits, later) = made.split_at(lists.waiting().len());
     let others = &made[..lists.others().len()];
-    all_hold(lists, own, entered, made, waits, later, others)
+    all_hold(alloc, lists, own, entered, made, waits, later, others)
 }
 
 /// Whether the rule on entries holds.
@@ -227,5 +235,5 @@ pub(crate) fn entries_hold<A: Allocator + Copy>(
     let entered = entries_of_structures(alloc, lists.structures())?;
     let made = entries_of_pending(alloc, lists.pending())?;
     let own = own_entry_of_top(lists, &entered);
-    Ok(hold_by(lists, own, &entered, &made))
+    hold_by(alloc, lists, own, &entered, &made)
 }

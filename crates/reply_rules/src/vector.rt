@@ -10,82 +10,101 @@ use layout::{Group, Memory, Principal};
 use pending_list::{PendingItem, Signed, raised_groups};
 use principals::Table;
 use std::alloc::Allocator;
+use std::marker::Model;
 use version_order::{Plan, PlanError, Structure, Vector, below, depth};
 
+/// A plan with its depth, which is counted once.
+#[derive(Drop)]
+struct CountedPlan<'a, A: Allocator> {
+    plan: &'a Plan<A>,
+    depth: u64,
+}
+
+impl<'a, A: Allocator> Model for CountedPlan<'a, A> {
+    ghost use Rattle.std.specs.Prelude.{◌≡◌};
+    ghost use Rattle.version_order.specs.Plan.{Plan};
+    ghost use Rattle.reply_rules.specs.Rules as rules;
+
+    ghost Value = { Plan };
+
+    ghost view = { λ c. c.plan.now };
+
+    ghost invariant = { λ c. c.depth ≡ rules.depth c.plan.now };
+}
+
+impl<'a, A: Allocator> CountedPlan<'a, A> {
+    /// The plan with its depth.
+    fn of(plan: &'a Plan<A>) -> CountedPlan<'a, A>
+        ensures { result ≡ plan.now }
+    {
+        CountedPlan {
+            plan,
+            depth: depth(plan),
+        }
+    }
+}
+
+/// The plans of these structures.
+fn counted<'a, A: Allocator>(
+    alloc: A,
+    structures: &'a [Signed<Structure<A>>],
+) -> Result<Vec<CountedPlan<'a, A>, A>, Memory>
+    ensures { IfOk result (λ made. made.items ≡ map (λ z. z.value.plan) structures.now) }
+{
+    let mut made = Vec::new(alloc);
+    for structure in structures {
+        made.push(CountedPlan::of(structure.value.plan()))?;
+    }
+    Ok(made)
+}
+
+/// These plans, and after them the pending ones.
+fn with_pending<'a, A: Allocator>(
+    plans: Vec<CountedPlan<'a, A>, A>,
+    pending: &'a [PendingItem<A>],
+) -> Result<Vec<CountedPlan<'a, A>, A>, Memory>
+    ensures { IfOk result (λ made. made.items ≡ plans.entry.items ++ map (λ i. i.plan) pending.now) }
+{
+    let mut made = plans;
+    for item in pending {
+        made.push(CountedPlan::of(item.plan()))?;
+    }
+    Ok(made)
+}
+
 /// Whether the depths differ, and no component falls from the lesser to the greater.
-fn in_order<A: Allocator>(p: &Plan<A>, q: &Plan<A>) -> bool
+fn in_order<A: Allocator>(p: &CountedPlan<'_, A>, q: &CountedPlan<'_, A>) -> bool
     ensures { result ≡ in_order p.now q.now }
 {
-    (depth(p) < depth(q) && below(p, q)) || (depth(q) < depth(p) && below(q, p))
+    (p.depth < q.depth && below(p.plan, q.plan)) || (q.depth < p.depth && below(q.plan, p.plan))
 }
 
-/// Whether the plan is in order with each of these structures.
-fn orders_structures<A: Allocator>(plan: &Plan<A>, structures: &[Signed<Structure<A>>]) -> bool
-    ensures { result ≡ list_all (in_order plan.now) (map (λ z. z.value.plan) structures.now) }
+/// Whether the plan is in order with each of these.
+fn orders<A: Allocator>(plan: &CountedPlan<'_, A>, others: &[CountedPlan<'_, A>]) -> bool
+    ensures { result ≡ list_all (in_order plan.now) others.now }
 {
-    for structure in structures {
-        if !in_order(plan, structure.value.plan()) {
+    others.iter().all(|other| in_order(plan, other))
+}
+
+/// Whether any two of these plans are in order.
+fn any_in_order<A: Allocator>(plans: &[CountedPlan<'_, A>]) -> bool
+    ensures { result ≡ any_two in_order plans.now }
+{
+    for (i, plan) in plans.iter().enumerate() {
+        if !orders(plan, &plans[i + 1..]) {
             return false;
         }
     }
     true
-}
-
-/// Whether it is with each of these pending plans.
-fn orders_pending<A: Allocator>(plan: &Plan<A>, pending: &[PendingItem<A>]) -> bool
-    ensures { result ≡ list_all (in_order plan.now) (map (λ i. i.plan) pending.now) }
-{
-    for item in pending {
-        if !in_order(plan, item.plan()) {
-            return false;
-        }
-    }
-    true
-}
-
-/// Whether it is with all of them.
-fn orders_all<A: Allocator>(
-    plan: &Plan<A>,
-    structures: &[Signed<Structure<A>>],
-    pending: &[PendingItem<A>],
-) -> bool
-    ensures { result ≡ list_all (in_order plan.now) (map (λ z. z.value.plan) structures.now ++ map (λ i. i.plan) pending.now) }
-{
-    orders_structures(plan, structures) && orders_pending(plan, pending)
-}
-
-/// Whether any two of these pending plans are in order.
-fn pending_in_order<A: Allocator>(pending: &[PendingItem<A>]) -> bool
-    ensures { result ≡ any_two in_order (map (λ i. i.plan) pending.now) }
-{
-    for (i, item) in pending.iter().enumerate() {
-        if !orders_pending(item.plan(), &pending[i + 1..]) {
-            return false;
-        }
-    }
-    true
-}
-
-/// Whether any two of all these plans are.
-fn any_in_order<A: Allocator>(
-    structures: &[Signed<Structure<A>>],
-    pending: &[PendingItem<A>],
-) -> bool
-    ensures { result ≡ any_two in_order (map (λ z. z.value.plan) structures.now ++ map (λ i. i.plan) pending.now) }
-{
-    for (i, structure) in structures.iter().enumerate() {
-        if !orders_all(structure.value.plan(), &structures[i + 1..], pending) {
-            return false;
-        }
-    }
-    pending_in_order(pending)
 }
 
 /// Whether any two items are.
-fn all_in_order<A: Allocator>(lists: &Lists<'_, A>) -> bool
-    ensures { result ≡ all_in_order lists.now }
+fn all_in_order<A: Allocator + Copy>(alloc: A, lists: &Lists<'_, A>) -> Result<bool, Memory>
+    ensures { IfOk result (λ b. b ≡ all_in_order lists.now) }
 {
-    any_in_order(lists.structures(), lists.pending())
+    let structures = counted(alloc, lists.structures())?;
+    let plans = with_pending(structures, lists.pending())?;
+    Ok(any_in_order(&plans))
 }
 
 /// Whether the own plan is above.
@@ -169,5 +188,5 @@ pub(crate) fn vector_holds<A: Allocator + Copy>(
 ) -> Result<bool, Memory>
     ensures { IfOk result (λ holds. holds ≡ vector table.now lists.now) }
 {
-    Ok(all_in_order(lists) && own_above(lists) && vectors_follow(alloc, table, lists)?)
+    Ok(all_in_order(alloc, lists)? && own_above(lists) && vectors_follow(alloc, table, lists)?)
 }

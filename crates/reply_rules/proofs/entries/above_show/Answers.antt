@@ -1,10 +1,9 @@
-use Rattle.std.proofs.Common.{◌≡◌, ◌+◌, ◌&&◌, List, Some, take, drop, length, sym, ap, ◌∙◌, arith}
+use Rattle.std.proofs.Common.{List, take, length, sym, ap, ◌∙◌, arith}
 use Rattle.std.proofs.lemmas.List.{length-take-le, drop_all}
 use Rattle.version_order.specs.declared.plan.Entry.{Entry}
-use Rattle.version_order.specs.Plan.{Plan}
-use Rattle.reply_rules.specs.Rules.{above, all_show, left_of, rest_of, entries_of}
+use Rattle.reply_rules.specs.Rules.{above, above_show, all_show}
 use Rattle.pending_list.specs.Reply.{PendingItem}
-use Rattle.reply_rules.proofs.EntriesLaws.{above_size, above_length, above_at, before_at, shown_so, next_shows}
+use Rattle.reply_rules.proofs.EntriesLaws.{above_size, above_length, above_at, before_at, shown_so, left_so, stops, goes_on}
 use Rattle.reply_rules.proofs.entries.above_show.Goals as goal
 
 pub slice_bounds-before-end : goal.slice_bounds-before-end
@@ -20,10 +19,8 @@ returns-then-not-shows g c =
     let k = c.loop-k.k in
     let i = c.index-items-k.result in
     let at = above_at x c.above-items.result.now k i c.above-items.ensures c.loop-k-test.true c.index-items-k.is in
-    let shown = shown_so x c.args.waits.now (take k c.args.later.now) (take k (above x)) c.loop-k.rest i.plan c.plan.result.now c.shows.result c.requires.waits (before_at x c.args.later.now k c.requires.later) c.plan.ensures c.shows.ensures in
-    sym (sym c.loop-k.invariant
-    ∙ next_shows x (above x) k i.plan c.loop-k.rest at.0 at.1
-    ∙ ap (λ b. b && all_show x (take (k + 1) (above x)) (Some (rest_of (take k (above x)) i.plan)) (drop (k + 1) (above x))) (sym shown ∙ c.if-not-shows.true))
+    let shown = shown_so x c.args.waits.now (take k c.args.later.now) (take k (above x)) c.loop-k.rest i.plan c.plan-plan.result.now c.shows.result c.requires.waits (before_at x c.args.later.now k c.requires.later) c.plan-plan.ensures c.shows.ensures in
+    stops x (above x) k i.plan c.loop-k.rest (above_show x) at.0 at.1 c.loop-k.invariant (sym shown ∙ c.if-not-shows.true)
 
 pub loop-k-preserved : goal.loop-k-preserved
 loop-k-preserved g c =
@@ -32,14 +29,10 @@ loop-k-preserved g c =
     let i = c.index-items-k.result in
     let at = above_at x c.above-items.result.now k i c.above-items.ensures c.loop-k-test.true c.index-items-k.is in
     let before = before_at x c.args.later.now k c.requires.later in
-    let shown = shown_so x c.args.waits.now (take k c.args.later.now) (take k (above x)) c.loop-k.rest i.plan c.plan.result.now c.shows.result c.requires.waits before c.plan.ensures c.shows.ensures in
-    let es = c.as_slice.ensures.same ∙ c.entries.ensures ∙ ap (λ (p : Plan). p.entries) c.plan-in-loop-k.ensures in
-    let left : c.of.result ≡ rest_of (take k (above x)) i.plan =
-    c.of.ensures ∙ ap (λ (b : List Entry). left_of b c.as_slice.result.now) before ∙ ap (left_of (entries_of (take k (above x)))) es in
-    ap (λ (r : List Entry). all_show x (take (k + 1) (above x)) (Some r) (drop (k + 1) (above x))) left
-    ∙ sym (next_shows x (above x) k i.plan c.loop-k.rest at.0 at.1
-    ∙ ap (λ b. b && all_show x (take (k + 1) (above x)) (Some (rest_of (take k (above x)) i.plan)) (drop (k + 1) (above x))) (sym shown ∙ c.if-not-shows.false))
-    ∙ c.loop-k.invariant
+    let shown = shown_so x c.args.waits.now (take k c.args.later.now) (take k (above x)) c.loop-k.rest i.plan c.plan-plan.result.now c.shows.result c.requires.waits before c.plan-plan.ensures c.shows.ensures in
+    let es = c.as_slice.ensures.same ∙ c.entries.ensures in
+    let left = left_so (take k c.args.later.now) c.as_slice.result.now _ (take k (above x)) i.plan c.plan-plan.result.now before es c.plan-plan.ensures c.in_ok-left.ensures in
+    goes_on x (above x) k i.plan c.loop-k.rest _ (above_show x) at.0 at.1 left c.loop-k.invariant (sym shown ∙ c.if-not-shows.false)
 
 pub returns : goal.returns
 returns g c =
