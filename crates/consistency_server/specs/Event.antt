@@ -9,17 +9,9 @@ pub data Event : Type 0 where
   Placed : Signed Cert → Event
   Committed : Signed Structure → Event
 
-abbrev pub as_placed : Event → Option (Signed Cert)
-as_placed (Placed c) = Some c
-as_placed (Committed s) = None
-
 abbrev pub as_committed : Event → Option (Signed Structure)
 as_committed (Placed c) = None
 as_committed (Committed s) = Some s
-
--- the operations that were placed
-abbrev pub placed : List Event → List (Signed Cert)
-placed es = filter_map as_placed es
 
 -- the structures that were committed
 abbrev pub committed : List Event → List (Signed Structure)
