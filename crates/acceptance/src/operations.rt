@@ -46,8 +46,8 @@ fn signs(rt: &impl Host, client: &mut MemoryClient, plan: &[u8]) -> Vec<u8> {
     commit
 }
 
-/// The operation from its certificate to its commit. The server places it with the reply that is made by hand, each time
-/// that it comes, and the client accepts that.
+/// The operation from its certificate to its commit. The server places it with the reply that is made by hand, each
+/// time that it comes, and the client accepts that.
 fn completes(
     rt: &impl Host,
     client: &mut MemoryClient,

@@ -131,8 +131,8 @@ fn sees_both(rt: &impl Host, caller: &mut Caller<TcpStream>, superuser: &mut Mem
     sees(rt, caller, superuser, 2, b"two");
 }
 
-/// Users 1 and 2 write at once, and user 0 looks when one of them has committed, and when both have. Their keys are made
-/// before the connection, which the server ends where it waits too long.
+/// Users 1 and 2 write at once, and user 0 looks when one of them has committed, and when both have. Their keys are
+/// made before the connection, which the server ends where it waits too long.
 fn write_and_look<R: Alloc<A = Global> + Abort + Net<Listener = TcpListener, Stream = TcpStream>>(
     rt: &R,
     address: SocketAddr,

@@ -1,5 +1,5 @@
-//! Accepted views agree, whatever the server did: each has a line of operations, and where two views have a structure in
-//! common, their lines are the same up to it; and what honest users read of a view is what its line makes of the
+//! Accepted views agree, whatever the server did: each has a line of operations, and where two views have a structure
+//! in common, their lines are the same up to it; and what honest users read of a view is what its line makes of the
 //! beginning. Laws for callers: nothing here runs.
 #![tactic(auto)]
 

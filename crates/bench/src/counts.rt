@@ -2,8 +2,8 @@
 
 use layout::Hasher;
 
-/// A key: for each of 1,024 leaves the starts of 67 chains, 15 steps each, a text of 2,166 bytes and one of 54; for each
-/// of the other 1,023 nodes a text of 86 bytes.
+/// A key: for each of 1,024 leaves the starts of 67 chains, 15 steps each, a text of 2,166 bytes and one of 54; for
+/// each of the other 1,023 nodes a text of 86 bytes.
 pub(crate) const KEY: u32 = 1024 * (67 * 16 + 34 + 1) + 1023 * 2;
 
 /// A verification above the values: the leaf's key, its node, and the ten nodes above.

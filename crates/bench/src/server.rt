@@ -88,8 +88,8 @@ fn visit<R: Host>(
     Ok((total, seconds))
 }
 
-/// User 0's first operation at a server that runs already, at this address, for which the key of the seed of zeros is user
-/// 0's.
+/// User 0's first operation at a server that runs already, at this address, for which the key of the seed of zeros is
+/// user 0's.
 pub(crate) fn visit_at<R: Host>(rt: &R, address: &str) -> Result<()> {
     let mut superuser = PlainUser::new(rt.alloc(), 0)?;
     let stream = TcpStream::connect(rt, address)?;
@@ -151,8 +151,8 @@ fn signature_seconds<R: Host>(rt: &R) -> Result<f64> {
     Ok(start.elapsed(rt)?.as_secs_f64() / f64::from(OPERATIONS))
 }
 
-/// Prints for each number of connections how many operations a second were committed, and how many one thread could sign
-/// and verify: an operation needs two signatures, each of them made and verified once.
+/// Prints for each number of connections how many operations a second were committed, and how many one thread could
+/// sign and verify: an operation needs two signatures, each of them made and verified once.
 pub(crate) fn report<R: Host>(rt: &R) -> Result<()> {
     let possible = 0.5 / signature_seconds(rt)?;
     println!(rt; "signatures alone, one thread: {possible:.0} operations a second")?;

@@ -8,7 +8,8 @@ use std::time::{Duration, Instant};
 /// How many blocks are compressed to time one.
 const BLOCKS: u32 = 1 << 18;
 
-/// The seconds of a piece of work, the compressions that it needs, and the seconds of one compression in the same round.
+/// The seconds of a piece of work, the compressions that it needs, and the seconds of one compression in the same
+/// round.
 #[derive(Clone, Copy)]
 pub(crate) struct Time {
     pub(crate) seconds: f64,

@@ -76,7 +76,8 @@ pub fn superuser(rt: &impl Aided) -> MemoryClient {
     client_of(rt, 0, 0)
 }
 
-/// What the client answers to the declaration of its next operation, of these changes, for which these texts were laid out.
+/// What the client answers to the declaration of its next operation, of these changes, for which these texts were laid
+/// out.
 pub fn begun(
     rt: &impl Aided,
     client: &mut MemoryClient,

@@ -1,8 +1,8 @@
-//! What one user's client releases: each text that it signs takes a leaf of the ledger and a record of the journal before
-//! it is handed out, and after a restart the journal tells what was released last.
+//! What one user's client releases: each text that it signs takes a leaf of the ledger and a record of the journal
+//! before it is handed out, and after a restart the journal tells what was released last.
 //!
-//! A `Releases` stands on a ledger of the own key's leaves and a journal of the signed texts, each on a device of its own.
-//! It signs certificates and structures in turn, and keeps in memory what the records of the journal tell.
+//! A `Releases` stands on a ledger of the own key's leaves and a journal of the signed texts, each on a device of its
+//! own. It signs certificates and structures in turn, and keeps in memory what the records of the journal tell.
 #![tactic(auto)]
 
 mod error;

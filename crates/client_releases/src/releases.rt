@@ -8,7 +8,8 @@ ghost use Rattle.leaf_ledger.specs.Ledger.{IsFileOf, IsForeign, IsFull, IsLeastF
 ghost use Rattle.client_journal.specs.Records.{IsDamaged, State as Recorded, TellsState};
 ghost use Rattle.version_order.specs.Structure.{structure as structure_format};
 ghost use Rattle.update_cert.specs.Cert.{Cert as PureCert, cert};
-ghost use Rattle.client_releases.specs.Releasing.{AnyMoment, IsKept, IsOpening, IsTried, OneHasRisen, cert_record, structure_record};
+ghost use Rattle.client_releases.specs.Releasing.{AnyMoment, IsKept, IsOpening, IsTried, OneHasRisen, cert_record};
+ghost use Rattle.client_releases.specs.Releasing.{structure_record};
 ghost use Rattle.client_releases.specs.Told.{IsToldBy, TellsOfOther, sent, signed_by, told_by};
 
 use crate::error::ClientError;
@@ -74,21 +75,27 @@ fn open_both<L: Device, J: Device>(
     ledger: L,
     journal: J,
 ) -> Result<(Ledger<L>, Journal<J>), (ClientError, L, J)>
-    ensures opened { IfOk result (λ d. (d.0.key ≡ key.now) × (d.0.usable ≡ true) × (d.0.outstanding ≡ 0) × (d.1.usable ≡ true)) }
-    ensures rests { IfOk result (λ d. (d.0.file.now ≡ at_rest d.0.file.now.text) × (d.1.file.now ≡ at_rest d.1.file.now.text)) }
+    ensures opened { IfOk result (λ d. (d.0.key ≡ key.now) × (d.0.usable ≡ true) × (d.0.outstanding ≡ 0)
+        × (d.1.usable ≡ true)) }
+    ensures rests { IfOk result (λ d. (d.0.file.now ≡ at_rest d.0.file.now.text)
+        × (d.1.file.now ≡ at_rest d.1.file.now.text)) }
     ensures own_file { IfOk result (λ d. IsFileOf key.now d.0.file.now.text) }
     ensures moments { IfOk result (λ d. IsOpening (L.history ledger) (J.history journal) d.0.file d.1.file) }
-    ensures moments_err { IfErr result (λ e. IsOpening (L.history ledger) (J.history journal) (L.history e.1) (J.history e.2)) }
-    ensures records { IfOk result (λ d. (recorded : Recorded) → TellsState recorded d.1.file.now.text → TellsState recorded (J.history journal).now.text) }
+    ensures moments_err { IfErr result
+        (λ e. IsOpening (L.history ledger) (J.history journal) (L.history e.1) (J.history e.2)) }
+    ensures records { IfOk result (λ d. (recorded : Recorded) → TellsState recorded d.1.file.now.text
+        → TellsState recorded (J.history journal).now.text) }
     ensures used { IfOk result (λ d. UsedAsBefore (L.history ledger).now.text d.0.file.now.text) }
     ensures own { IfOk result (λ _. IsForeign key.now (L.history ledger).now.text → ⊥) }
     ensures foreign { IfErr result (λ e. e.0 ≡ ClientError.Foreign → IsForeign key.now (L.history ledger).now.text) }
     ensures damaged { IfErr result (λ e. e.0 ≡ ClientError.Damaged → IsDamaged (J.history journal).now.text) }
     ensures device { IfErr result (λ e. e.0 ≡ ClientError.Device
         → HasRisen (L.fault_count ledger) (L.fault_count e.1) ⊎ HasRisen (J.fault_count journal) (J.fault_count e.2)) }
-    ensures only { IfErr result (λ e. (e.0 ≡ ClientError.Device) ⊎ ((e.0 ≡ ClientError.Foreign) ⊎ (e.0 ≡ ClientError.Damaged))) }
+    ensures only { IfErr result (λ e. (e.0 ≡ ClientError.Device)
+        ⊎ ((e.0 ≡ ClientError.Foreign) ⊎ (e.0 ≡ ClientError.Damaged))) }
     ensures later { IfOk result (λ d. (L.fault_count ledger ≤ d.0.faults) × (J.fault_count journal ≤ d.1.faults)) }
-    ensures later_err { IfErr result (λ e. (L.fault_count ledger ≤ L.fault_count e.1) × (J.fault_count journal ≤ J.fault_count e.2)) }
+    ensures later_err { IfErr result
+        (λ e. (L.fault_count ledger ≤ L.fault_count e.1) × (J.fault_count journal ≤ J.fault_count e.2)) }
 {
     let ledger = match Ledger::open(ledger, key) {
         Ok(ledger) => ledger,
@@ -107,10 +114,12 @@ fn remembered<J: Device, A: Allocator + Copy>(
     journal: &mut Journal<J>,
 ) -> Result<Told<A>, ClientError>
     requires { journal.old.usable ≡ true }
-    ensures told { IfOk result (λ told. (recorded : Recorded) × TellsState recorded journal.old.file.now.text × (told_by user recorded ≡ Some told)) }
+    ensures told { IfOk result (λ told. (recorded : Recorded) × TellsState recorded journal.old.file.now.text
+        × (told_by user recorded ≡ Some told)) }
     ensures damaged { IsErrOf result ClientError.Damaged → TellsOfOther user journal.old.file.now.text }
     ensures device { IsErrOf result ClientError.Device → HasRisen journal.old.faults journal.new.faults }
-    ensures only { IfErr result (λ e. (e ≡ ClientError.Memory) ⊎ ((e ≡ ClientError.Device) ⊎ (e ≡ ClientError.Damaged))) }
+    ensures only { IfErr result (λ e. (e ≡ ClientError.Memory)
+        ⊎ ((e ≡ ClientError.Device) ⊎ (e ≡ ClientError.Damaged))) }
     ensures same { journal.new.file ≡ journal.old.file }
     ensures later { journal.old.faults ≤ journal.new.faults }
     ensures usable { OnOk result (journal.new.usable ≡ true) }
@@ -130,8 +139,10 @@ impl<L: Device, J: Device, A: Allocator + Copy> Releases<L, J, A> {
     ) -> Result<Releases<L, J, A>, (ClientError, Parts<L, J, A>)>
         ensures whose { IfOk result (λ r. (r.user ≡ user) × (r.seed ≡ key.seed) × (r.id ≡ key.id)) }
         ensures told { IfOk result (λ r. IsToldBy (J.history journal).now.text r) }
-        ensures moments { IfOk result (λ r. IsOpening (L.history ledger) (J.history journal) r.devices.ledger.file r.devices.journal.file) }
-        ensures moments_err { IfErr result (λ e. IsOpening (L.history ledger) (J.history journal) (L.history e.1.ledger) (J.history e.1.journal)) }
+        ensures moments { IfOk result (λ r. IsOpening (L.history ledger) (J.history journal) r.devices.ledger.file
+            r.devices.journal.file) }
+        ensures moments_err { IfErr result
+            (λ e. IsOpening (L.history ledger) (J.history journal) (L.history e.1.ledger) (J.history e.1.journal)) }
         // The same leaves are used as before: none of a new ledger.
         ensures used { IfOk result (λ r. UsedAsBefore (L.history ledger).now.text r.devices.ledger.file.now.text) }
         ensures own { IfOk result (λ _. IsForeign (public_key_of key.seed key.id) (L.history ledger).now.text → ⊥) }
@@ -140,10 +151,14 @@ impl<L: Device, J: Device, A: Allocator + Copy> Releases<L, J, A> {
         ensures damaged { IfErr result (λ e. e.0 ≡ ClientError.Damaged
             → IsDamaged (J.history journal).now.text ⊎ TellsOfOther user (J.history journal).now.text) }
         ensures device { IfErr result (λ e. e.0 ≡ ClientError.Device
-            → HasRisen (L.fault_count ledger) (L.fault_count e.1.ledger) ⊎ HasRisen (J.fault_count journal) (J.fault_count e.1.journal)) }
+            → HasRisen (L.fault_count ledger) (L.fault_count e.1.ledger)
+            ⊎ HasRisen (J.fault_count journal) (J.fault_count e.1.journal)) }
         ensures only { IfErr result (λ e. (e.0 ≢ ClientError.NoLeaf) × (e.0 ≢ ClientError.NoNumber)) }
-        ensures later { IfOk result (λ r. (L.fault_count ledger ≤ r.devices.ledger.faults) × (J.fault_count journal ≤ r.devices.journal.faults)) }
-        ensures later_err { IfErr result (λ e. (L.fault_count ledger ≤ L.fault_count e.1.ledger) × (J.fault_count journal ≤ J.fault_count e.1.journal)) }
+        ensures later { IfOk result (λ r. (L.fault_count ledger ≤ r.devices.ledger.faults)
+            × (J.fault_count journal ≤ r.devices.journal.faults)) }
+        ensures later_err { IfErr result
+            (λ e. (L.fault_count ledger ≤ L.fault_count e.1.ledger)
+            × (J.fault_count journal ≤ J.fault_count e.1.journal)) }
         ensures key_err { IfErr result (λ e. e.1.key ≡ key) }
     {
         let (ledger, mut journal) = match open_both(&key.public(), ledger, journal) {
@@ -270,8 +285,8 @@ impl<L: Device, J: Device, A: Allocator> Releases<L, J, A> {
         self.ledger.has_free()
     }
 
-    /// Releases the certificate of the next operation, of this number: it is signed and journaled, and then handed out. It
-    /// takes no memory, and fails by the devices alone.
+    /// Releases the certificate of the next operation, of this number: it is signed and journaled, and then handed out.
+    /// It takes no memory, and fails by the devices alone.
     pub fn declare(
         &mut self,
         number: Version,
@@ -279,14 +294,21 @@ impl<L: Device, J: Device, A: Allocator> Releases<L, J, A> {
     ) -> Result<Vec<u8, A>, ClientError>
         requires idle { self.old.phase ≡ Phase.Idle }
         requires free { IsFull self.old.devices.ledger.file.now.text → ⊥ }
-        requires own { (c : PureCert) × (unsigned ≡ cert.spell c) × cert.Fits c × (c.user ≡ self.old.user) × (c.number ≡ number) }
+        requires own { (c : PureCert) × (unsigned ≡ cert.spell c) × cert.Fits c × (c.user ≡ self.old.user)
+            × (c.number ≡ number) }
         ensures declared { OnOk result ((leaf : LeafNumber)
             × IsKept leaf (cert_record (sent self.old leaf unsigned)) self.old.devices self.new.devices
-            × (self.new ≡ record self.old { devices = self.new.devices; number = number; phase = Phase.Declared; text = sent self.old leaf unsigned })) }
+            × (self.new ≡ record self.old {
+              devices = self.new.devices;
+              number = number;
+              phase = Phase.Declared;
+              text = sent self.old leaf unsigned;
+            })) }
         ensures text { IfOk result (λ text. text.items ≡ self.new.text) }
         ensures any_moment { (leaf : LeafNumber) → IsLeastFree self.old.devices.ledger.file.now.text leaf
             → AnyMoment leaf (cert_record (sent self.old leaf unsigned)) self.old.devices self.new.devices }
-        ensures tried { OnErr result (IsTried (λ leaf. cert_record (sent self.old leaf unsigned)) self.old.devices self.new.devices) }
+        ensures tried { OnErr result (IsTried (λ leaf. cert_record (sent self.old leaf unsigned)) self.old.devices
+            self.new.devices) }
         ensures device { IfErr result (λ e. (e ≡ ClientError.Device) × OneHasRisen self.old.devices self.new.devices) }
         ensures err { OnErr result (self.new ≡ record self.old { devices = self.new.devices; phase = Phase.Failed }) }
     {
@@ -328,12 +350,18 @@ impl<L: Device, J: Device, A: Allocator> Releases<L, J, A> {
         requires own { (structure.plan.user ≡ self.old.user) × (structure.plan.number ≡ self.old.number) }
         ensures signed { OnOk result ((leaf : LeafNumber)
             × IsKept leaf (structure_record (sent self.old leaf unsigned)) self.old.devices self.new.devices
-            × (self.new ≡ record self.old { devices = self.new.devices; last = Some (signed_by self.old.seed self.old.id leaf structure); phase = Phase.Signed; text = sent self.old leaf unsigned })) }
+            × (self.new ≡ record self.old {
+              devices = self.new.devices;
+              last = Some (signed_by self.old.seed self.old.id leaf structure);
+              phase = Phase.Signed;
+              text = sent self.old leaf unsigned;
+            })) }
         ensures text { IfOk result (λ s. s.0.items ≡ self.new.text) }
         ensures signature { IfOk result (λ s. self.new.last ≡ Some (record { value = structure; signature = s.1 })) }
         ensures any_moment { (leaf : LeafNumber) → IsLeastFree self.old.devices.ledger.file.now.text leaf
             → AnyMoment leaf (structure_record (sent self.old leaf unsigned)) self.old.devices self.new.devices }
-        ensures tried { OnErr result (IsTried (λ leaf. structure_record (sent self.old leaf unsigned)) self.old.devices self.new.devices) }
+        ensures tried { OnErr result (IsTried (λ leaf. structure_record (sent self.old leaf unsigned)) self.old.devices
+            self.new.devices) }
         ensures device { IfErr result (λ e. (e ≡ ClientError.Device) × OneHasRisen self.old.devices self.new.devices) }
         ensures err { OnErr result (self.new ≡ record self.old { devices = self.new.devices; phase = Phase.Failed }) }
     {
@@ -380,7 +408,8 @@ impl<L: Device, J: Device, A: Allocator> Releases<L, J, A> {
         ensures key { (result.key.seed ≡ self.seed) × (result.key.id ≡ self.id) }
         ensures ledger { L.history result.ledger ≡ self.devices.ledger.file }
         ensures journal { J.history result.journal ≡ self.devices.journal.file }
-        ensures faults { (L.fault_count result.ledger ≡ self.devices.ledger.faults) × (J.fault_count result.journal ≡ self.devices.journal.faults) }
+        ensures faults { (L.fault_count result.ledger ≡ self.devices.ledger.faults)
+            × (J.fault_count result.journal ≡ self.devices.journal.faults) }
     {
         let Releases {
             user: _,

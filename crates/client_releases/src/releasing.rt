@@ -36,14 +36,22 @@ pub(crate) fn keep<L: Device, J: Device, A: Allocator>(
     requires short { length unsigned + 2508 < 2 ^ 32 }
     ensures kept { IfOk result (λ s. (leaf : LeafNumber)
         × (s.signature ≡ signature_of key.now.seed key.now.id leaf unsigned) × (s.kept.items ≡ unsigned ++ s.signature)
-        × IsKept leaf (record { kind = kind; text = s.kept.items }) (record { ledger = ledger.old; journal = journal.old }) (record { ledger = ledger.new; journal = journal.new })) }
+        × IsKept leaf (record { kind = kind; text = s.kept.items })
+        (record { ledger = ledger.old; journal = journal.old })
+        (record { ledger = ledger.new; journal = journal.new })) }
     ensures sent { IfOk result (λ s. s.sent.items ≡ s.kept.items) }
     ensures fits { IfOk result (λ s. signature_format.Fits s.signature) }
     ensures any_moment { (leaf : LeafNumber) → IsLeastFree ledger.old.file.now.text leaf
-        → AnyMoment leaf (record { kind = kind; text = unsigned ++ signature_of key.now.seed key.now.id leaf unsigned }) (record { ledger = ledger.old; journal = journal.old }) (record { ledger = ledger.new; journal = journal.new }) }
-    ensures tried { OnErr result (IsTried (λ leaf. record { kind = kind; text = unsigned ++ signature_of key.now.seed key.now.id leaf unsigned }) (record { ledger = ledger.old; journal = journal.old }) (record { ledger = ledger.new; journal = journal.new })) }
+        → AnyMoment leaf (record { kind = kind; text = unsigned ++ signature_of key.now.seed key.now.id leaf unsigned })
+        (record { ledger = ledger.old; journal = journal.old })
+        (record { ledger = ledger.new; journal = journal.new }) }
+    ensures tried { OnErr result (IsTried
+        (λ leaf. record { kind = kind; text = unsigned ++ signature_of key.now.seed key.now.id leaf unsigned })
+        (record { ledger = ledger.old; journal = journal.old })
+        (record { ledger = ledger.new; journal = journal.new })) }
     ensures device { IfErr result (λ e. (e ≡ ClientError.Device)
-        × OneHasRisen (record { ledger = ledger.old; journal = journal.old }) (record { ledger = ledger.new; journal = journal.new })) }
+        × OneHasRisen (record { ledger = ledger.old; journal = journal.old })
+        (record { ledger = ledger.new; journal = journal.new })) }
     ensures usable { IfOk result (λ _. (ledger.new.usable ≡ true) × (journal.new.usable ≡ true)) }
     ensures own_file { IsFileOf ledger.old.key ledger.new.file.now.text }
     ensures same_key { ledger.new.key ≡ ledger.old.key }

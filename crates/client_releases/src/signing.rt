@@ -32,7 +32,8 @@ impl<A: Allocator> Model for Unsigned<A> {
 
     ghost view = { λ u. u.kept.items };
 
-    ghost invariant = { λ u. (u.sent.items ≡ u.kept.items) × (vec_len u.kept + 2508 ≤ vec_capacity u.kept) × (vec_len u.sent + 2508 ≤ vec_capacity u.sent) };
+    ghost invariant = { λ u. (u.sent.items ≡ u.kept.items) × (vec_len u.kept + 2508 ≤ vec_capacity u.kept)
+        × (vec_len u.sent + 2508 ≤ vec_capacity u.sent) };
 }
 
 /// The text with room for its signature.

@@ -15,8 +15,8 @@ use std::marker::Model;
 use update_cert::Cert;
 use version_order::Structure;
 
-/// What the records of a journal tell: the number of the operation that was declared last, the structure that was signed
-/// last, how far the operation is, and the text that was released last.
+/// What the records of a journal tell: the number of the operation that was declared last, the structure that was
+/// signed last, how far the operation is, and the text that was released last.
 #[derive(Drop)]
 pub(crate) struct Told<A: Allocator> {
     pub(crate) number: u32,

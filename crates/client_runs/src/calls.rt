@@ -4,7 +4,8 @@ ghost use Rattle.std.specs.Prelude.{◌≡◌, ◌≢◌, IfOk, IfSome, IsSome, 
 ghost use Rattle.std.specs.Option.{option_copied};
 ghost use Rattle.std.specs.Vec.{vec_items};
 ghost use Rattle.layout.specs.Format.{IsBytes};
-ghost use Rattle.client_runs.specs.Steps.{HasBegun, HasCommitted, HasGiven, HasHeard, HasLooked, HasSigned, HasTaken, IsSound, Open};
+ghost use Rattle.client_runs.specs.Steps.{HasBegun, HasCommitted, HasGiven, HasHeard, HasLooked, HasSigned, HasTaken};
+ghost use Rattle.client_runs.specs.Steps.{IsSound, Open};
 ghost use Rattle.client_runs.specs.Told.{IsAcceptedBy, asked, on_ok, seen};
 ghost use Rattle.client_runs.specs.NotTaken.{CantBegin, CantCommit, CantGive, CantHear, CantLook, CantSign, CantTake};
 
@@ -36,7 +37,8 @@ pub(crate) fn begin<A: Allocator + Copy>(
     changes: &[Change<A>],
     laid: &[Vec<u8, A>],
 ) -> Result<Option<Result<Vec<u8, A>, ClientError>>, Memory>
-    ensures { IfOk result (λ done. MatchOption done ((client.new ≡ client.old) × CantBegin client.old changes.now (map vec_items laid.now))
+    ensures { IfOk result (λ done. MatchOption done
+        ((client.new ≡ client.old) × CantBegin client.old changes.now (map vec_items laid.now))
         (λ answer. HasBegun client.old changes.now (map vec_items laid.now) (on_ok vec_items answer) client.new)) }
 {
     if !is_idle(client) || changes.len() > 16 || !are_laid(alloc, laid, changes)? {
@@ -131,7 +133,8 @@ pub(crate) fn sign<A: Allocator + Copy>(
 ) -> Result<Option<Result<Accepted<A>, ClientError>>, Memory>
     ensures signed { IfOk result (λ done. MatchOption done ((client.new ≡ client.old) × CantSign client.old)
         (λ answer. HasSigned client.old (on_ok (λ x. x.text.items) answer) client.new)) }
-    ensures view { IfOk result (λ done. MatchOption done (Unit {0}) (λ answer. IfOk answer (λ x. IsAcceptedBy x client.new.view))) }
+    ensures view { IfOk result (λ done. MatchOption done (Unit {0})
+        (λ answer. IfOk answer (λ x. IsAcceptedBy x client.new.view))) }
 {
     if !client.ready() {
         return Ok(None);

@@ -59,9 +59,11 @@ impl<A: Allocator + Copy> Clients<A> {
     /// Carries out a step.
     fn carry_out(&mut self, todo: &WorldStep<A>) -> Result<Answer<A>, Memory>
         requires { AreReady self.old }
-        ensures step { IfOk result (λ answer. ComesOf (owner script_keys todo.now.user) (client_at self.old.slots.items todo.now.user)
+        ensures step { IfOk result (λ answer. ComesOf (owner script_keys todo.now.user)
+            (client_at self.old.slots.items todo.now.user)
             todo.now.act answer (client_at self.new.slots.items todo.now.user)) }
-        ensures others { OnOk result ((u : ℕ) → u ≢ todo.now.user → client_at self.new.slots.items u ≡ client_at self.old.slots.items u) }
+        ensures others { OnOk result ((u : ℕ) → u ≢ todo.now.user
+            → client_at self.new.slots.items u ≡ client_at self.old.slots.items u) }
         ensures ready { OnOk result (AreReady self.new) }
     {
         // A device that gets no order to fail is to fail never.
@@ -82,8 +84,8 @@ impl<A: Allocator + Copy> Clients<A> {
 
 /// Carries out steps of users' clients, one after another.
 ///
-/// Each user's client has its key of the bytes of the user's number, stands on two devices in memory that hold nothing at
-/// first, and knows user 0's public key. A step that its client can't take, as it is then, is not taken.
+/// Each user's client has its key of the bytes of the user's number, stands on two devices in memory that hold nothing
+/// at first, and knows user 0's public key. A step that its client can't take, as it is then, is not taken.
 pub fn run<A: Allocator + Copy>(alloc: A, steps: &[WorldStep<A>]) -> Result<World<A>, Memory>
     ensures { IfOk result (λ world. AreCarriedOut steps.now world.answers.items) }
 {

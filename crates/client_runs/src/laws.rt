@@ -7,7 +7,8 @@ ghost use Rattle.client_runs.specs.Released.{views};
 ghost use Rattle.client_runs.specs.UsedOnce.{CertificatesOnce, EachClient, LeavesOnce, StructuresOnce};
 
 /// Over every run of a user's client, with any crashes and failures of its devices, no two different texts that it
-/// releases carry one leaf number, no two different certificates one number, and no two different structures one number.
+/// releases carry one leaf number, no two different certificates one number, and no two different structures one
+/// number.
 pub fn each_is_used_once()
     ensures leaves { EachClient LeavesOnce }
     ensures certificates { EachClient CertificatesOnce }
@@ -15,8 +16,8 @@ pub fn each_is_used_once()
 {}
 
 /// The accepted views of all clients agree over every run, also across restarts, as long as no digest collides, no
-/// signature is forged, user 0's client added each user with the user's own key, and user 0's key has the form of a key.
-/// Of servers nothing is assumed.
+/// signature is forged, user 0's client added each user with the user's own key, and user 0's key has the form of a
+/// key. Of servers nothing is assumed.
 pub fn runs_agree()
     // They are a run of accepted views, whose plans and certificates don't collide.
     ensures accepted { EachRun (λ run. AreAccepted (views run)) }

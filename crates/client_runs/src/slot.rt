@@ -86,7 +86,8 @@ fn open<A: Allocator + Copy>(
 ) -> Result<(Slot<A>, Answer<A>), Memory>
     requires pinned { pinned ≡ public_key script_keys 0 }
     requires own { IsOf (owner script_keys user) (Slot.Closed parts) }
-    ensures step { IfOk result (λ r. ComesOf (owner script_keys user) (client_in (Slot.Closed parts)) Act.Open r.1 (client_in r.0)) }
+    ensures step { IfOk result (λ r. ComesOf (owner script_keys user) (client_in (Slot.Closed parts)) Act.Open r.1
+        (client_in r.0)) }
     ensures own { IfOk result (λ r. IsOf (owner script_keys user) r.0) }
 {
     let Parts {
@@ -113,7 +114,8 @@ fn may_leave<A: Allocator + Copy>(
     journal_left: &[u8],
 ) -> bool
     ensures yes { result ≡ true → MayLeaveBoth ledger.now.history journal.now.history ledger_left.now journal_left.now }
-    ensures no { result ≡ false → MayLeaveBoth ledger.now.history journal.now.history ledger_left.now journal_left.now → ⊥ }
+    ensures no { result ≡ false → MayLeaveBoth ledger.now.history journal.now.history ledger_left.now journal_left.now
+        → ⊥ }
 {
     ledger.may_leave(ledger_left) && journal.may_leave(journal_left)
 }
@@ -158,7 +160,8 @@ fn closed_step<A: Allocator + Copy>(
 ) -> Result<(Slot<A>, Answer<A>), Memory>
     requires pinned { pinned ≡ public_key script_keys 0 }
     requires own { IsOf (owner script_keys user) (Slot.Closed parts) }
-    ensures step { IfOk result (λ r. ComesOf (owner script_keys user) (client_in (Slot.Closed parts)) act.now r.1 (client_in r.0)) }
+    ensures step { IfOk result (λ r. ComesOf (owner script_keys user) (client_in (Slot.Closed parts)) act.now r.1
+        (client_in r.0)) }
     ensures own { IfOk result (λ r. IsOf (owner script_keys user) r.0) }
 {
     match act {

@@ -35,10 +35,13 @@ pub(crate) fn read_content<A: Allocator + Copy, B: Blocks>(
     i_number: INumber,
     digest: Digest,
 ) -> Result<Seen<A>, ApplyError>
-    ensures seen { (reads : Reading) → Agrees (B.held blocks.now) reads → IfOk result (λ s. content_seen s ≡ Some (reads.content digest)) }
+    ensures seen { (reads : Reading) → Agrees (B.held blocks.now) reads
+        → IfOk result (λ s. content_seen s ≡ Some (reads.content digest)) }
     // Each of its blocks is what its place takes.
-    ensures taken { OnOk result ((block : DigestBytes) (s : Spot) → IsOfInode (B.held blocks.now) principal i_number digest block s → lacks (B.held blocks.now) block s ≡ false) }
-    ensures missing { IfErr result (Lacks (B.held blocks.now) (IsOfInode (B.held blocks.now) principal i_number digest)) }
+    ensures taken { OnOk result ((block : DigestBytes) (s : Spot)
+        → IsOfInode (B.held blocks.now) principal i_number digest block s → lacks (B.held blocks.now) block s ≡ false) }
+    ensures missing { IfErr result
+        (Lacks (B.held blocks.now) (IsOfInode (B.held blocks.now) principal i_number digest)) }
 {
     let inode = read_inode(alloc, blocks, principal, i_number, digest)?;
     match inode.kind() {

@@ -3,7 +3,8 @@
 ghost use Rattle.std.specs.Prelude.{◌≡◌, ◌∷◌, [], IfOk, length, map};
 ghost use Rattle.std.specs.Vec.{vec_items};
 ghost use Rattle.itable.specs.declared.inode.Kind.TheVariants as kind;
-ghost use Rattle.client_tree.specs.Genesis.{table_text, inode_digest, table_inode, root_inode, first_pairs, first_table, first_table_texts, first_handle, common_texts, first_blocks};
+ghost use Rattle.client_tree.specs.Genesis.{table_text, inode_digest, table_inode, root_inode, first_pairs};
+ghost use Rattle.client_tree.specs.Genesis.{first_table, first_table_texts, first_handle, common_texts, first_blocks};
 ghost use Rattle.client_tree.specs.Held.{keeping_all};
 
 use crate::held::Held;

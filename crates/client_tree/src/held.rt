@@ -1,6 +1,7 @@
 //! The blocks that a client holds.
 
-ghost use Rattle.std.specs.Prelude.{◌≡◌, ◌+◌, ◌<◌, ◌≤◌, None, [], IsOk, IfOk, OnOk, OnErr, MatchResult, map, vec_len, vec_capacity};
+ghost use Rattle.std.specs.Prelude.{◌≡◌, ◌+◌, ◌<◌, ◌≤◌, None, [], IsOk, IfOk, OnOk, OnErr, MatchResult, map, vec_len};
+ghost use Rattle.std.specs.Prelude.{vec_capacity};
 ghost use Rattle.std.specs.Vec.{vec_items};
 ghost use Rattle.layout.specs.Ascending.{Ascends, Stands, IsFree};
 ghost use Rattle.layout.specs.Hash.{hash};
@@ -60,7 +61,8 @@ impl<A: Allocator> Model for Held<A> {
 /// Where the block of a digest stands, or where it would stand.
 fn find<A: Allocator>(blocks: &[Block<A>], digest: Digest) -> Result<usize, usize>
     requires { Ascends by_bytes digest_of None blocks.now }
-    ensures { MatchResult result (Stands by_bytes digest_of blocks.now digest) (IsFree by_bytes digest_of blocks.now digest) }
+    ensures { MatchResult result (Stands by_bytes digest_of blocks.now digest)
+        (IsFree by_bytes digest_of blocks.now digest) }
 {
     let digest = digest.as_bytes().as_slice();
     blocks.binary_search_by(|block| block.digest().as_bytes().as_slice().cmp(digest))

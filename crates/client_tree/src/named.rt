@@ -72,10 +72,18 @@ pub fn table_of<A: Allocator + Copy, B: Blocks>(
     others: &[PendingItem<A>],
     own: &PendingItem<A>,
 ) -> Result<PendingTable<A>, ApplyError>
-    ensures table { IfOk result (λ t. (users : Principals) × IsNamed (B.held blocks.now) (handle_in key.now structures.now 0) users
-        × IsPending users (record { key = key.now; table = t.table; structures = structures.now; others = others.now; own = own.now }) t.voids) }
+    ensures table { IfOk result (λ t. (users : Principals)
+        × IsNamed (B.held blocks.now) (handle_in key.now structures.now 0) users
+        × IsPending users (record {
+          key = key.now;
+          table = t.table;
+          structures = structures.now;
+          others = others.now;
+          own = own.now;
+        }) t.voids) }
     // Missing names a digest that is asked for to read the table, and no text of it is held that its spot takes.
-    ensures missing { IfErr result (Lacks (B.held blocks.now) (IsOfNamed (B.held blocks.now) (handle_in key.now structures.now 0))) }
+    ensures missing { IfErr result
+        (Lacks (B.held blocks.now) (IsOfNamed (B.held blocks.now) (handle_in key.now structures.now 0))) }
 {
     let superuser = Principal::from(User::superuser());
     let handle = handle_in(alloc, key, structures, superuser)?;

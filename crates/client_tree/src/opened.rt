@@ -31,13 +31,19 @@ fn apply_item<A: Allocator + Copy, B: Blocks>(
     item: &PendingItem<A>,
 ) -> Result<Applied<A>, ApplyError>
     ensures part { (reads : Reading) (tree : Tree) → Agrees (B.held blocks.now) reads → IsPartOf reads part tree
-        → IfOk result (λ applied. IsPartOf reads applied.part (after_read reads (actor_of table.now item.now) item.now.cert.changes tree)) }
+        → IfOk result (λ applied. IsPartOf reads applied.part
+        (after_read reads (actor_of table.now item.now) item.now.cert.changes tree)) }
     ensures voids { (reads : Reading) (tree : Tree) → Agrees (B.held blocks.now) reads → IsPartOf reads part tree
-        → IfOk result (λ applied. applied.voids ≡ void_of_read reads (actor_of table.now item.now) part.table.principal item.now.cert.changes tree) }
-    ensures after { (before : PartModel) (items : List Item) → IsPartAfter (B.held blocks.now) table.now items before part
-        → IfOk result (λ applied. IsPartAfter (B.held blocks.now) table.now (items ++ item.now ∷ []) before applied.part) }
-    ensures missing { IfErr result (LacksAskedFor (B.held blocks.now) (actor_of table.now item.now) item.now.cert.changes part) }
-    ensures taken { OnOk result (HasAskedFor (B.held blocks.now) (actor_of table.now item.now) item.now.cert.changes part) }
+        → IfOk result (λ applied. applied.voids
+        ≡ void_of_read reads (actor_of table.now item.now) part.table.principal item.now.cert.changes tree) }
+    ensures after { (before : PartModel) (items : List Item)
+        → IsPartAfter (B.held blocks.now) table.now items before part
+        → IfOk result (λ applied. IsPartAfter (B.held blocks.now) table.now (items ++ item.now ∷ []) before
+        applied.part) }
+    ensures missing { IfErr result
+        (LacksAskedFor (B.held blocks.now) (actor_of table.now item.now) item.now.cert.changes part) }
+    ensures taken { OnOk result (HasAskedFor (B.held blocks.now) (actor_of table.now item.now) item.now.cert.changes
+        part) }
 {
     let is_member = acts_for(table, part.principal(), item);
     apply(alloc, part, blocks, is_member, item.cert())
@@ -72,12 +78,16 @@ impl<'a, A: Allocator + Copy> View<'a, A> {
         principal: Principal,
         part: Part<A>,
     ) -> Result<Part<A>, ApplyError>
-        ensures after { IfOk result (λ after. IsPartAfter (B.held blocks.now) self.now.table (filter (comes_after self.now principal) self.now.others) part after) }
+        ensures after { IfOk result (λ after. IsPartAfter (B.held blocks.now) self.now.table
+            (filter (comes_after self.now principal) self.now.others) part after) }
         ensures stands { (reads : Reading) (tree : Tree) → Agrees (B.held blocks.now) reads → IsPartOf reads part tree
-            → IfOk result (λ after. IsPartOf reads after (after_items reads self.now.table (filter (comes_after self.now principal) self.now.others) tree)) }
-        ensures missing { (before : ITableModel) → IsRead (B.held blocks.now) principal (handle_of self.now principal) before → part ≡ part_of before
+            → IfOk result (λ after. IsPartOf reads after
+            (after_items reads self.now.table (filter (comes_after self.now principal) self.now.others) tree)) }
+        ensures missing { (before : ITableModel)
+            → IsRead (B.held blocks.now) principal (handle_of self.now principal) before → part ≡ part_of before
             → IfErr result (Lacks (B.held blocks.now) (IsReached (B.held blocks.now) self.now principal)) }
-        ensures taken { OnOk result (HasAskedByItems (B.held blocks.now) self.now.table (filter (comes_after self.now principal) self.now.others) part) }
+        ensures taken { OnOk result (HasAskedByItems (B.held blocks.now) self.now.table
+            (filter (comes_after self.now principal) self.now.others) part) }
     {
         let mut after = part;
         for item in self.others() {
@@ -96,13 +106,18 @@ impl<'a, A: Allocator + Copy> View<'a, A> {
         blocks: &B,
         principal: Principal,
     ) -> Result<Earlier<A>, ApplyError>
-        ensures read { IfOk result (λ earlier. IsRead (B.held blocks.now) principal (handle_of self.now principal) earlier.before) }
-        ensures told { IfOk result (λ earlier. (i : ℕ) → inode_told (B.held blocks.now) principal (handle_of self.now principal) i ≡ Some (digest_at earlier.before i)) }
-        ensures after { IfOk result (λ earlier. IsPartAfter (B.held blocks.now) self.now.table (filter (comes_after self.now principal) self.now.others) (part_of earlier.before) earlier.part) }
+        ensures read { IfOk result (λ earlier. IsRead (B.held blocks.now) principal (handle_of self.now principal)
+            earlier.before) }
+        ensures told { IfOk result (λ earlier. (i : ℕ)
+            → inode_told (B.held blocks.now) principal (handle_of self.now principal) i
+            ≡ Some (digest_at earlier.before i)) }
+        ensures after { IfOk result (λ earlier. IsPartAfter (B.held blocks.now) self.now.table
+            (filter (comes_after self.now principal) self.now.others) (part_of earlier.before) earlier.part) }
         ensures stands { (reads : Reading) (users : Principals) → Agrees (B.held blocks.now) reads
             → IfOk result (λ earlier. IsPartOf reads earlier.part (tree_before reads users self.now)) }
         ensures missing { IfErr result (Lacks (B.held blocks.now) (IsReached (B.held blocks.now) self.now principal)) }
-        ensures taken { IfOk result (λ earlier. HasAskedByItems (B.held blocks.now) self.now.table (filter (comes_after self.now principal) self.now.others) (part_of earlier.before)) }
+        ensures taken { IfOk result (λ earlier. HasAskedByItems (B.held blocks.now) self.now.table
+            (filter (comes_after self.now principal) self.now.others) (part_of earlier.before)) }
     {
         let handle = self.handle_of(alloc, principal)?;
         let table = read_table(alloc, blocks, principal, handle)?;
@@ -119,9 +134,12 @@ impl<'a, A: Allocator + Copy> View<'a, A> {
         blocks: &B,
         principal: Principal,
     ) -> Result<Opened<A>, ApplyError>
-        ensures opened { IfOk result (λ opened. IsOpened (B.held blocks.now) self.now principal opened.before opened.part) }
+        ensures opened { IfOk result (λ opened. IsOpened (B.held blocks.now) self.now principal opened.before
+            opened.part) }
         ensures voids { (reads : Reading) (users : Principals) → Agrees (B.held blocks.now) reads
-            → IfOk result (λ opened. opened.voids ≡ void_of_read reads (actor_of self.now.table self.now.own) principal self.now.own.cert.changes (tree_before reads users self.now)) }
+            → IfOk result (λ opened. opened.voids
+            ≡ void_of_read reads (actor_of self.now.table self.now.own) principal self.now.own.cert.changes
+            (tree_before reads users self.now)) }
         ensures missing { IfErr result (Lacks (B.held blocks.now) (IsReached (B.held blocks.now) self.now principal)) }
     {
         let earlier = self.earlier(alloc, blocks, principal)?;

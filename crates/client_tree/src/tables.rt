@@ -26,7 +26,8 @@ pub(crate) fn text_at<'a, A: Allocator + Copy, B: Blocks>(
     ensures held { IfOk result (λ text. B.held blocks.now digest ≡ Some text.now) }
     ensures taken { IfOk result (λ text. takes (B.held blocks.now) spot text.now ≡ true) }
     ensures hashed { IfOk result (λ text. hash text.now ≡ digest) }
-    ensures missing { IfErr result (λ e. e ≡ error.Memory ⊎ ((e ≡ error.Missing digest spot) × (lacks (B.held blocks.now) digest spot ≡ true))) }
+    ensures missing { IfErr result
+        (λ e. e ≡ error.Memory ⊎ ((e ≡ error.Missing digest spot) × (lacks (B.held blocks.now) digest spot ≡ true))) }
 {
     match blocks.get(digest) {
         Some(text) if spot.takes(alloc, blocks, text)? => Ok(text),
@@ -66,8 +67,11 @@ fn chunk_of<A: Allocator + Copy, B: Blocks>(
     ensures found { IfOk result (λ chunk. chunk_held (B.held blocks.now) listed.digest ≡ Some chunk) }
     ensures number { IfOk result (λ chunk. chunk.number ≡ listed.number) }
     ensures hashed { IfOk result (λ chunk. hash (chunk_format.spell chunk) ≡ listed.digest) }
-    ensures taken { OnOk result (lacks (B.held blocks.now) listed.digest (spots.Chunk principal listed.number) ≡ false) }
-    ensures missing { IfErr result (λ e. e ≡ error.Memory ⊎ ((e ≡ error.Missing listed.digest (spots.Chunk principal listed.number)) × (lacks (B.held blocks.now) listed.digest (spots.Chunk principal listed.number) ≡ true))) }
+    ensures taken { OnOk result (lacks (B.held blocks.now) listed.digest (spots.Chunk principal listed.number)
+        ≡ false) }
+    ensures missing { IfErr result
+        (λ e. e ≡ error.Memory ⊎ ((e ≡ error.Missing listed.digest (spots.Chunk principal listed.number))
+        × (lacks (B.held blocks.now) listed.digest (spots.Chunk principal listed.number) ≡ true))) }
 {
     let spot = Spot::Chunk(principal, listed.number);
     let text = text_at(alloc, blocks, listed.digest, spot)?;
@@ -78,8 +82,8 @@ fn chunk_of<A: Allocator + Copy, B: Blocks>(
     }
 }
 
-/// The i-table of a principal that has this handle, read from its root and all its chunks. The errors are Missing of the
-/// root or of a chunk, and Memory.
+/// The i-table of a principal that has this handle, read from its root and all its chunks. The errors are Missing of
+/// the root or of a chunk, and Memory.
 pub fn read_table<A: Allocator + Copy, B: Blocks>(
     alloc: A,
     blocks: &B,
@@ -88,7 +92,8 @@ pub fn read_table<A: Allocator + Copy, B: Blocks>(
 ) -> Result<ITable<A>, ApplyError>
     ensures read { IfOk result (IsRead (B.held blocks.now) principal handle) }
     // The blocks tell each digest of it.
-    ensures told { IfOk result (λ t. (i : ℕ) → inode_told (B.held blocks.now) principal handle i ≡ Some (digest_at t i)) }
+    ensures told { IfOk result (λ t. (i : ℕ)
+        → inode_told (B.held blocks.now) principal handle i ≡ Some (digest_at t i)) }
     // Missing names the handle or the digest of a chunk that its root lists, and no text of it is held that is one.
     ensures missing { IfErr result (LacksOfTable (B.held blocks.now) principal handle) }
 {

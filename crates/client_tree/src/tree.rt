@@ -13,7 +13,8 @@ ghost use Rattle.update_cert.specs.Blocks.{Agrees, Blocks as Held};
 ghost use Rattle.update_cert.specs.Asked.{Lacks};
 ghost use Rattle.client_tree.specs.View.{View as ViewModel, actor_of, shown, tree_before, written};
 ghost use Rattle.client_tree.specs.Opened.{HasLooked, IsLooked, IsOpened, IsReached};
-ghost use Rattle.client_tree.specs.Tree.{IsLost, IsOutcome, IsStored, IsWanted, principals_digest, principals_texts, table_texts};
+ghost use Rattle.client_tree.specs.Tree.{IsLost, IsOutcome, IsStored, IsWanted, principals_digest, principals_texts};
+ghost use Rattle.client_tree.specs.Tree.{table_texts};
 ghost use Rattle.client_tree.specs.Seen.{content_seen};
 
 use crate::contents::{Seen, read_content};
@@ -35,8 +36,8 @@ pub struct Stored<A: Allocator> {
     pub principal: Principal,
     /// The handle of its i-table.
     pub handle: Digest,
-    /// The texts that are new: of each directory that changed its blocks and its i-node; in user 0's part those of the table
-    /// of principals, where it changed; the chunks of the i-table that changed; and its root.
+    /// The texts that are new: of each directory that changed its blocks and its i-node; in user 0's part those of the
+    /// table of principals, where it changed; the chunks of the i-table that changed; and its root.
     pub texts: Vec<Vec<u8, A>, A>,
 }
 
@@ -111,7 +112,8 @@ fn store_laid<A: Allocator + Copy>(
     laid: LaidPart<A>,
 ) -> Result<StoredTable<A>, Memory>
     ensures handle { IfOk result (λ s. s.handle ≡ table_handle laid.table) }
-    ensures texts { IfOk result (λ s. map vec_items s.texts.items ≡ map vec_items laid.texts.items ++ table_texts before laid.table) }
+    ensures texts { IfOk result (λ s. map vec_items s.texts.items
+        ≡ map vec_items laid.texts.items ++ table_texts before laid.table) }
     ensures is_table { OnOk result (IsTable laid.table) }
 {
     let LaidPart { table, mut texts } = laid;
@@ -131,16 +133,18 @@ struct Written<A: Allocator> {
     voids: PartVoids<A>,
 }
 
-/// A part that was laid, and at its place the file of the table of principals, where this i-table was stored before: the
-/// texts of the file come last, and only where it is another one.
+/// A part that was laid, and at its place the file of the table of principals, where this i-table was stored before:
+/// the texts of the file come last, and only where it is another one.
 fn with_principals<A: Allocator + Copy>(
     alloc: A,
     before: &ITable<A>,
     laid: LaidPart<A>,
     users: &Table<A>,
 ) -> Result<LaidPart<A>, Memory>
-    ensures digests { IfOk result (λ new. (i : ℕ) → digest_at new.table i ≡ (if 1 == i then Some (principals_digest users.now) else digest_at laid.table i)) }
-    ensures texts { IfOk result (λ new. map vec_items new.texts.items ≡ map vec_items laid.texts.items ++ principals_texts before.now 0 users.now) }
+    ensures digests { IfOk result (λ new. (i : ℕ)
+        → digest_at new.table i ≡ (if 1 == i then Some (principals_digest users.now) else digest_at laid.table i)) }
+    ensures texts { IfOk result (λ new. map vec_items new.texts.items
+        ≡ map vec_items laid.texts.items ++ principals_texts before.now 0 users.now) }
     ensures principal { IfOk result (λ new. new.table.principal ≡ laid.table.principal) }
 {
     let LaidPart {
@@ -165,9 +169,11 @@ fn with_table<A: Allocator + Copy>(
     laid: LaidPart<A>,
     users: &Table<A>,
 ) -> Result<LaidPart<A>, Memory>
-    ensures digests { IfOk result (λ new. (i : ℕ) → is_table principal i ≡ false → digest_at new.table i ≡ digest_at laid.table i) }
+    ensures digests { IfOk result (λ new. (i : ℕ) → is_table principal i ≡ false
+        → digest_at new.table i ≡ digest_at laid.table i) }
     ensures users { IfOk result (λ new. principal ≡ 0 → digest_at new.table 1 ≡ Some (principals_digest users.now)) }
-    ensures texts { IfOk result (λ new. map vec_items new.texts.items ≡ map vec_items laid.texts.items ++ principals_texts before.now principal users.now) }
+    ensures texts { IfOk result (λ new. map vec_items new.texts.items
+        ≡ map vec_items laid.texts.items ++ principals_texts before.now principal users.now) }
     ensures principal { IfOk result (λ new. new.table.principal ≡ laid.table.principal) }
 {
     if principal.get() == 0 {
@@ -184,7 +190,8 @@ fn store_part<A: Allocator + Copy>(
     opened: Opened<A>,
     users: &Table<A>,
 ) -> Result<Written<A>, Memory>
-    ensures stored { (blocks : Held) (x : ViewModel) → x.table ≡ users.now → IsOpened blocks x principal opened.before opened.part
+    ensures stored { (blocks : Held) (x : ViewModel) → x.table ≡ users.now
+        → IsOpened blocks x principal opened.before opened.part
         → IfOk result (λ w. IsStored blocks x w.stored) }
     ensures principal { IfOk result (λ w. w.stored.principal ≡ principal) }
     ensures voids { IfOk result (λ w. w.voids ≡ record { principal = principal; numbers = opened.voids }) }
@@ -232,7 +239,11 @@ impl<'a, A: Allocator + Copy> View<'a, A> {
         ensures principal { IfOk result (λ w. w.stored.principal ≡ principal) }
         ensures changed { IfOk result (λ w. w.voids.principal ≡ principal) }
         ensures voids { (reads : Reading) (users : Principals) → Agrees (B.held blocks.now) reads
-            → IfOk result (λ w. w.voids ≡ record { principal = principal; numbers = void_of_read reads (actor_of self.now.table self.now.own) principal self.now.own.cert.changes (tree_before reads users self.now) }) }
+            → IfOk result (λ w. w.voids ≡ record {
+              principal = principal;
+              numbers = void_of_read reads (actor_of self.now.table self.now.own) principal self.now.own.cert.changes
+                  (tree_before reads users self.now);
+            }) }
         ensures missing { IfErr result (Lacks (B.held blocks.now) (IsReached (B.held blocks.now) self.now principal)) }
     {
         let opened = self.open(alloc, blocks, principal)?;
@@ -240,8 +251,8 @@ impl<'a, A: Allocator + Copy> View<'a, A> {
         Ok(written)
     }
 
-    /// What the own operation makes of the tree, where these of its changes have no effect on the table of principals. The
-    /// errors are Missing of a block, and Memory.
+    /// What the own operation makes of the tree, where these of its changes have no effect on the table of principals.
+    /// The errors are Missing of a block, and Memory.
     pub fn outcome<B: Blocks>(
         &self,
         alloc: A,
@@ -277,8 +288,10 @@ impl<'a, A: Allocator + Copy> View<'a, A> {
         ensures seen { (reads : Reading) (users : Principals) → Agrees (B.held blocks.now) reads
             → IfOk result (λ s. content_seen s ≡ shown reads users self.now principal i_number) }
         // Each block of what stands there is what its place takes; the table of principals was read before.
-        ensures taken { is_table principal i_number ≡ false → OnOk result (HasLooked (B.held blocks.now) self.now principal i_number) }
-        ensures missing { IfErr result (Lacks (B.held blocks.now) (IsLooked (B.held blocks.now) self.now principal i_number)) }
+        ensures taken { is_table principal i_number ≡ false
+            → OnOk result (HasLooked (B.held blocks.now) self.now principal i_number) }
+        ensures missing { IfErr result
+            (Lacks (B.held blocks.now) (IsLooked (B.held blocks.now) self.now principal i_number)) }
     {
         if is_table(principal, i_number) {
             let text = self.table().text(alloc)?;

@@ -2,7 +2,8 @@
 
 ghost use Rattle.std.specs.Prelude.{◌≡◌, IfOk, IfSome, MatchOption, Some, true, false, nat_lt};
 ghost use Rattle.std.specs.Option.{option_copied, option_map, option_map_or};
-ghost use Rattle.client_tree.specs.View.{acts_for, comes_after, handle_in, handle_of, newer, newest, record_of, structure_of};
+ghost use Rattle.client_tree.specs.View.{acts_for, comes_after, handle_in, handle_of, newer, newest, record_of};
+ghost use Rattle.client_tree.specs.View.{structure_of};
 
 use crate::genesis::first_handle;
 use layout::{Digest, Group, Memory, Principal};
@@ -28,7 +29,13 @@ impl<'a, A: Allocator> Model for View<'a, A> {
 
     ghost Value = { View };
 
-    ghost view = { λ v. record { key = v.key.now; table = v.table.now; structures = v.structures.now; others = v.others.now; own = v.own.now } };
+    ghost view = { λ v. record {
+      key = v.key.now;
+      table = v.table.now;
+      structures = v.structures.now;
+      others = v.others.now;
+      own = v.own.now;
+    } };
 }
 
 /// The group that a principal is, if it isn't a user.
@@ -94,7 +101,13 @@ impl<'a, A: Allocator> View<'a, A> {
         others: &'a [PendingItem<A>],
         own: &'a PendingItem<A>,
     ) -> View<'a, A>
-        ensures { result ≡ record { key = key.now; table = table.now; structures = structures.now; others = others.now; own = own.now } }
+        ensures { result ≡ record {
+          key = key.now;
+          table = table.now;
+          structures = structures.now;
+          others = others.now;
+          own = own.now;
+        } }
     {
         View {
             key,
@@ -198,8 +211,8 @@ impl<'a, A: Allocator + Copy> View<'a, A> {
     }
 }
 
-/// Whether the operation's user is a member of this principal, if it is a group, where membership is judged at its table
-/// version.
+/// Whether the operation's user is a member of this principal, if it is a group, where membership is judged at its
+/// table version.
 pub(crate) fn acts_for<A: Allocator>(
     table: &Table<A>,
     principal: Principal,

@@ -23,7 +23,8 @@ fn structure_is_signed<A: Allocator + Copy>(
     table: &Table<A>,
     shown: &Signed<Structure<A>>,
 ) -> Result<bool, Memory>
-    ensures { IfOk result (λ is. is ≡ verifies table.now shown.now.value.plan.user (structure.spell shown.now.value) shown.now.signature) }
+    ensures { IfOk result (λ is. is
+        ≡ verifies table.now shown.now.value.plan.user (structure.spell shown.now.value) shown.now.signature) }
 {
     let user = shown.value.plan().user();
     if user == User::superuser() {
@@ -42,7 +43,8 @@ fn cert_is_signed<A: Allocator + Copy>(
     table: &Table<A>,
     item: &PendingItem<A>,
 ) -> Result<bool, Memory>
-    ensures { IfOk result (λ is. is ≡ verifies table.now item.now.cert.user (cert.spell item.now.cert) item.now.signature) }
+    ensures { IfOk result (λ is. is
+        ≡ verifies table.now item.now.cert.user (cert.spell item.now.cert) item.now.signature) }
 {
     let user = item.cert().user();
     if user == User::superuser() {
@@ -61,7 +63,8 @@ fn structures_are_signed<A: Allocator + Copy>(
     table: &Table<A>,
     structures: &[Signed<Structure<A>>],
 ) -> Result<bool, Memory>
-    ensures { IfOk result (λ are. are ≡ list_all (λ z. verifies table.now z.value.plan.user (structure.spell z.value) z.signature) structures.now) }
+    ensures { IfOk result (λ are. are
+        ≡ list_all (λ z. verifies table.now z.value.plan.user (structure.spell z.value) z.signature) structures.now) }
 {
     for shown in structures {
         if !structure_is_signed(alloc, known, table, shown)? {
@@ -78,7 +81,8 @@ fn certs_are_signed<A: Allocator + Copy>(
     table: &Table<A>,
     pending: &[PendingItem<A>],
 ) -> Result<bool, Memory>
-    ensures { IfOk result (λ are. are ≡ list_all (λ i. verifies table.now i.cert.user (cert.spell i.cert) i.signature) pending.now) }
+    ensures { IfOk result (λ are. are
+        ≡ list_all (λ i. verifies table.now i.cert.user (cert.spell i.cert) i.signature) pending.now) }
 {
     for item in pending {
         if !cert_is_signed(alloc, known, table, item)? {

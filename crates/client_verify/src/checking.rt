@@ -20,7 +20,9 @@ pub(crate) fn check<'a, A: Allocator + Copy, B: Blocks>(
 ) -> Result<Result<&'a [u8], Rule>, Memory>
     ensures kept { IfOk result (λ checked. IfOk checked (λ text. option_copied block.entry ≡ Some text.now)) }
     ensures hashed { IfOk result (λ checked. IfOk checked (λ text. asked.digest ≡ hash text.now)) }
-    ensures breaks { IfOk result (λ checked. MatchResult checked (λ text. block_breaks (B.held blocks.now) asked (option_copied block.entry) ≡ None) (λ rule. block_breaks (B.held blocks.now) asked (option_copied block.entry) ≡ Some rule)) }
+    ensures breaks { IfOk result (λ checked. MatchResult checked
+        (λ text. block_breaks (B.held blocks.now) asked (option_copied block.entry) ≡ None)
+        (λ rule. block_breaks (B.held blocks.now) asked (option_copied block.entry) ≡ Some rule)) }
     // A block that is absent or has another digest is told without memory.
     ensures told { block_breaks (B.held blocks.now) asked (option_copied block.entry) ≡ Some Rule.Block → IsOk result }
 {

@@ -1,6 +1,8 @@
 //! The client.
 
-ghost use Rattle.std.specs.Prelude.{◌≡◌, ◌≢◌, ◌⊎◌, ◌+◌, ◌<◌, ◌≤◌, [], None, Some, vec_capacity, vec_len, IfOk, IfErr, IsErrOf, IfSome, IsOk, OnOk, OnErr, IsSome, IsSomeAnd, IsTrue, ◌↔◌, true, false, length, map};
+ghost use Rattle.std.specs.Prelude.{◌≡◌, ◌≢◌, ◌⊎◌, ◌+◌, ◌<◌, ◌≤◌, [], None, Some, vec_capacity, vec_len, IfOk, IfErr};
+ghost use Rattle.std.specs.Prelude.{IsErrOf, IfSome, IsOk, OnOk, OnErr, IsSome, IsSomeAnd, IsTrue, ◌↔◌, true, false};
+ghost use Rattle.std.specs.Prelude.{length, map};
 ghost use Rattle.std.specs.Option.{option_copied, option_map};
 ghost use Rattle.std.specs.Ordering.{nat_cmp};
 ghost use Rattle.std.specs.Vec.{vec_items};
@@ -48,8 +50,8 @@ pub struct Client<L: Device, J: Device, A: Allocator> {
     alloc: A,
     pinned: PublicKey,
     releases: Releases<L, J, A>,
-    // Whether it is known that the own key signed the last structure and the last text. It isn't of those that a journal
-    // tells.
+    // Whether it is known that the own key signed the last structure and the last text. It isn't of those that a
+    // journal tells.
     is_own: bool,
     blocks: Held<A>,
     checked: Option<Checked<A>>,
@@ -109,9 +111,9 @@ impl<L: Device, J: Device, A: Allocator + Copy> Client<L, J, A> {
     ghost use Rattle.client_verify.specs.State.{AreReplies, opened, released};
     ghost use Rattle.client_releases.specs.Told.{IsReleased, IsToldBy, TellsOfOther};
 
-    /// Opens the client of this user over its devices, before its first operation or after a crash: a declared operation
-    /// goes on with its certificate, and a signed one with its structure. User 0's public key is known to every client. A
-    /// refusal hands back what was handed in.
+    /// Opens the client of this user over its devices, before its first operation or after a crash: a declared
+    /// operation goes on with its certificate, and a signed one with its structure. User 0's public key is known to
+    /// every client. A refusal hands back what was handed in.
     pub fn open(
         alloc: A,
         user: User,
@@ -125,25 +127,33 @@ impl<L: Device, J: Device, A: Allocator + Copy> Client<L, J, A> {
         // It is as the journal told, and as it tells still.
         ensures told { IfOk result (λ client. IsToldBy (J.history journal).now.text (released client)) }
         // What both devices go through meanwhile.
-        ensures moments { IfOk result (λ client. IsOpening (L.history ledger) (J.history journal) client.devices.ledger.file client.devices.journal.file) }
-        ensures moments_err { IfErr result (λ e. IsOpening (L.history ledger) (J.history journal) (L.history e.1.ledger) (J.history e.1.journal)) }
+        ensures moments { IfOk result (λ client. IsOpening (L.history ledger) (J.history journal)
+            client.devices.ledger.file client.devices.journal.file) }
+        ensures moments_err { IfErr result
+            (λ e. IsOpening (L.history ledger) (J.history journal) (L.history e.1.ledger) (J.history e.1.journal)) }
         // The same leaves are used as before: none of a new ledger.
-        ensures used { IfOk result (λ client. UsedAsBefore (L.history ledger).now.text client.devices.ledger.file.now.text) }
+        ensures used { IfOk result (λ client. UsedAsBefore (L.history ledger).now.text
+            client.devices.ledger.file.now.text) }
         ensures own { IfOk result (λ _. IsForeign (public_key_of key.seed key.id) (L.history ledger).now.text → ⊥) }
         ensures foreign { IfErr result (λ e. e.0 ≡ ClientError.Foreign
             → IsForeign (public_key_of key.seed key.id) (L.history ledger).now.text) }
         ensures damaged { IfErr result (λ e. e.0 ≡ ClientError.Damaged
             → IsDamaged (J.history journal).now.text ⊎ TellsOfOther user (J.history journal).now.text) }
         ensures device { IfErr result (λ e. e.0 ≡ ClientError.Device
-            → HasRisen (L.fault_count ledger) (L.fault_count e.1.ledger) ⊎ HasRisen (J.fault_count journal) (J.fault_count e.1.journal)) }
+            → HasRisen (L.fault_count ledger) (L.fault_count e.1.ledger)
+            ⊎ HasRisen (J.fault_count journal) (J.fault_count e.1.journal)) }
         ensures only { IfErr result (λ e. (e.0 ≢ ClientError.NoLeaf) × (e.0 ≢ ClientError.NoNumber)) }
-        ensures later { IfOk result (λ client. (L.fault_count ledger ≤ client.devices.ledger.faults) × (J.fault_count journal ≤ client.devices.journal.faults)) }
-        ensures later_err { IfErr result (λ e. (L.fault_count ledger ≤ L.fault_count e.1.ledger) × (J.fault_count journal ≤ J.fault_count e.1.journal)) }
+        ensures later { IfOk result (λ client. (L.fault_count ledger ≤ client.devices.ledger.faults)
+            × (J.fault_count journal ≤ client.devices.journal.faults)) }
+        ensures later_err { IfErr result
+            (λ e. (L.fault_count ledger ≤ L.fault_count e.1.ledger)
+            × (J.fault_count journal ≤ J.fault_count e.1.journal)) }
         ensures key_err { IfErr result (λ e. e.1.key ≡ key) }
         // What the i-tables of the beginning have is the tree of the beginning, unless two texts of it have one digest.
         ensures genesis { IfOk result (λ client. NoneCollide (first_texts pinned) (first_texts pinned)
             → (reads : Reading) → Agrees (held client.blocks) reads
-            → (p i : ℕ) → is_table p i ≡ false → option_map reads.content (digest_at (first_table p pinned) i) ≡ first_tree pinned p i) }
+            → (p i : ℕ) → is_table p i ≡ false
+            → option_map reads.content (digest_at (first_table p pinned) i) ≡ first_tree pinned p i) }
         // The table of principals lies in its text, a file.
         ensures table_file { IfOk result (λ client. NoneCollide (first_texts pinned) (first_texts pinned)
             → (reads : Reading) → Agrees (held client.blocks) reads
@@ -180,7 +190,8 @@ impl<L: Device, J: Device, A: Allocator + Copy> Client<L, J, A> {
         ensures key { (result.key.seed ≡ self.seed) × (result.key.id ≡ self.id) }
         ensures ledger { L.history result.ledger ≡ self.devices.ledger.file }
         ensures journal { J.history result.journal ≡ self.devices.journal.file }
-        ensures faults { (L.fault_count result.ledger ≡ self.devices.ledger.faults) × (J.fault_count result.journal ≡ self.devices.journal.faults) }
+        ensures faults { (L.fault_count result.ledger ≡ self.devices.ledger.faults)
+            × (J.fault_count result.journal ≡ self.devices.journal.faults) }
     {
         let Client {
             alloc: _,
@@ -341,14 +352,18 @@ impl<L: Device, J: Device, A: Allocator + Copy> Client<L, J, A> {
     ghost use Rattle.client_verify.specs.Verified.{AreOwn};
     ghost use Rattle.client_verify.specs.FirstBroken.{reply_breaks, reply_in, view_over};
     ghost use Rattle.reply_rules.specs.Lists.{lists_of};
-    ghost use Rattle.client_releases.specs.Releasing.{AnyMoment, IsKept, IsTried, OneHasRisen, cert_record, structure_record};
-    ghost use Rattle.client_verify.specs.State.{IsOfDeclared, asked_of, block_breaks, checked_in, committed, declared, declared_text, failed, holding, known, laying, lists_under, next_cert, next_structure, on, released, signed_over, signed_text};
-    ghost use Rattle.client_verify.specs.Judged.{Goes, GoesOn, Handed, IsReading, IsWriting, Judged, ReadsOn, unjudged, view_of};
+    ghost use Rattle.client_releases.specs.Releasing.{AnyMoment, IsKept, IsTried, OneHasRisen, cert_record};
+    ghost use Rattle.client_releases.specs.Releasing.{structure_record};
+    ghost use Rattle.client_verify.specs.State.{IsOfDeclared, asked_of, block_breaks, checked_in, committed, declared};
+    ghost use Rattle.client_verify.specs.State.{declared_text, failed, holding, known, laying, lists_under, next_cert};
+    ghost use Rattle.client_verify.specs.State.{next_structure, on, released, signed_over, signed_text};
+    ghost use Rattle.client_verify.specs.Judged.{Goes, GoesOn, Handed, IsReading, IsWriting, Judged, ReadsOn, unjudged};
+    ghost use Rattle.client_verify.specs.Judged.{view_of};
     ghost use Rattle.client_verify.specs.Grown.{IsAnswer, IsReached, IsWritten};
     ghost use Rattle.client_verify.specs.Looked.{Looked, Given};
 
-    /// The lists that broke no rule last, whose signatures were verified: of the accepted reply, of the one under check, or
-    /// of the accepted view.
+    /// The lists that broke no rule last, whose signatures were verified: of the accepted reply, of the one under
+    /// check, or of the accepted view.
     fn judged_last(&self) -> Option<&Good<A>>
         ensures { option_map listed (option_copied result) ≡ judged_last self.now }
     {
@@ -391,7 +406,8 @@ impl<L: Device, J: Device, A: Allocator + Copy> Client<L, J, A> {
         requires { self.now.phase ≡ Phase.Idle }
         ensures number { IfOk result (λ number. number ≡ self.now.number + 1) }
         ensures no_leaf { IsErrOf result ClientError.NoLeaf ↔ IsFull self.now.devices.ledger.file.now.text }
-        ensures no_number { IsErrOf result ClientError.NoNumber ↔ ((self.now.number ≡ 4294967295) × (IsFull self.now.devices.ledger.file.now.text → ⊥)) }
+        ensures no_number { IsErrOf result ClientError.NoNumber
+            ↔ ((self.now.number ≡ 4294967295) × (IsFull self.now.devices.ledger.file.now.text → ⊥)) }
         ensures only { IfErr result (λ e. (e ≡ ClientError.NoLeaf) ⊎ (e ≡ ClientError.NoNumber)) }
     {
         if !self.releases.has_free_leaf() {
@@ -425,8 +441,8 @@ impl<L: Device, J: Device, A: Allocator + Copy> Client<L, J, A> {
         Ok(unsigned)
     }
 
-    /// The next certificate, of these changes, with its number: all that it takes of memory is there, and what was laid out
-    /// for it is held.
+    /// The next certificate, of these changes, with its number: all that it takes of memory is there, and what was laid
+    /// out for it is held.
     fn prepare(
         &mut self,
         changes: &[Change<A>],
@@ -441,8 +457,10 @@ impl<L: Device, J: Device, A: Allocator + Copy> Client<L, J, A> {
         ensures free { OnOk result (IsFull self.old.devices.ledger.file.now.text → ⊥) }
         ensures below { OnOk result (self.old.number ≢ 4294967295) }
         ensures no_leaf { IsErrOf result ClientError.NoLeaf ↔ IsFull self.old.devices.ledger.file.now.text }
-        ensures no_number { IsErrOf result ClientError.NoNumber ↔ ((self.old.number ≡ 4294967295) × (IsFull self.old.devices.ledger.file.now.text → ⊥)) }
-        ensures only { IfErr result (λ e. (e ≢ ClientError.Device) × (e ≢ ClientError.Foreign) × (e ≢ ClientError.Damaged)) }
+        ensures no_number { IsErrOf result ClientError.NoNumber
+            ↔ ((self.old.number ≡ 4294967295) × (IsFull self.old.devices.ledger.file.now.text → ⊥)) }
+        ensures only { IfErr result (λ e. (e ≢ ClientError.Device) × (e ≢ ClientError.Foreign)
+            × (e ≢ ClientError.Damaged)) }
         ensures err { OnErr result (self.new ≡ self.old) }
     {
         let number = match self.next_number() {
@@ -455,8 +473,9 @@ impl<L: Device, J: Device, A: Allocator + Copy> Client<L, J, A> {
         }
     }
 
-    /// Declares the next operation, and gives its signed certificate, which stands in the journal by then. What was laid
-    /// out for it is held. All growths come before the leaf is taken. After Device the client has to be opened again.
+    /// Declares the next operation, and gives its signed certificate, which stands in the journal by then. What was
+    /// laid out for it is held. All growths come before the leaf is taken. After Device the client has to be opened
+    /// again.
     pub fn begin(
         &mut self,
         changes: &[Change<A>],
@@ -472,11 +491,14 @@ impl<L: Device, J: Device, A: Allocator + Copy> Client<L, J, A> {
         // What a crash leaves at any moment of the call, whatever it answers.
         ensures any_moment { (leaf : LeafNumber) → IsLeastFree self.old.devices.ledger.file.now.text leaf
             → AnyMoment leaf (cert_record (declared_text self.old leaf changes.now)) self.old.devices self.new.devices }
-        ensures tried { OnErr result (IsTried (λ leaf. cert_record (declared_text self.old leaf changes.now)) self.old.devices self.new.devices) }
+        ensures tried { OnErr result (IsTried (λ leaf. cert_record (declared_text self.old leaf changes.now))
+            self.old.devices self.new.devices) }
         ensures no_leaf { IsErrOf result ClientError.NoLeaf ↔ IsFull self.old.devices.ledger.file.now.text }
-        ensures no_number { IsErrOf result ClientError.NoNumber ↔ ((self.old.number ≡ 4294967295) × (IsFull self.old.devices.ledger.file.now.text → ⊥)) }
+        ensures no_number { IsErrOf result ClientError.NoNumber
+            ↔ ((self.old.number ≡ 4294967295) × (IsFull self.old.devices.ledger.file.now.text → ⊥)) }
         ensures rose { IsErrOf result ClientError.Device → OneHasRisen self.old.devices self.new.devices }
-        ensures fails { IsErrOf result ClientError.Device → self.new ≡ on self.new.devices (failed (laying (map vec_items laid.now) self.old)) }
+        ensures fails { IsErrOf result ClientError.Device
+            → self.new ≡ on self.new.devices (failed (laying (map vec_items laid.now) self.old)) }
         // What is signed can be read again.
         ensures fits { OnOk result (cert.Fits (next_cert self.old changes.now)) }
         ensures fits_device { IsErrOf result ClientError.Device → cert.Fits (next_cert self.old changes.now) }
@@ -536,8 +558,8 @@ impl<L: Device, J: Device, A: Allocator + Copy> Client<L, J, A> {
         }
     }
 
-    /// A reply that breaks none of the rules on itself is one to the declared operation. For the proofs of callers: it does
-    /// nothing.
+    /// A reply that breaks none of the rules on itself is one to the declared operation. For the proofs of callers: it
+    /// does nothing.
     fn is_replied(&self, text: &[u8], reply: &Admitted<A>)
         requires declared { self.now.phase ≡ Phase.Declared }
         requires unbroken { reply_breaks (known self.now) text.now ≡ None }
@@ -582,7 +604,9 @@ impl<L: Device, J: Device, A: Allocator + Copy> Client<L, J, A> {
     fn reach_on(&self, digest: Digest, text: &[u8]) -> Result<Reached<A>, Memory>
         requires hashed { digest ≡ hash text.now }
         requires reading { IsSomeAnd self.now.checked IsReading }
-        ensures { IfSome self.now.checked (λ k. IfOk result (λ reached. IsSomeAnd (unjudged k) (λ x. IsReached (held (keeping self.now.blocks text.now)) self.now.pinned x reached))) }
+        ensures { IfSome self.now.checked
+            (λ k. IfOk result (λ reached. IsSomeAnd (unjudged k)
+            (λ x. IsReached (held (keeping self.now.blocks text.now)) self.now.pinned x reached))) }
     {
         let known = self.known();
         let Some(checked) = &self.checked else {
@@ -631,7 +655,8 @@ impl<L: Device, J: Device, A: Allocator + Copy> Client<L, J, A> {
     fn write_on(&mut self, digest: Digest, text: &[u8]) -> Result<Step<A>, ClientError>
         requires hashed { digest ≡ hash text.now }
         requires writing { IsSomeAnd self.old.checked IsWriting }
-        ensures goes { IfSome self.old.checked (λ k. IfOk result (λ step. GoesOn (holding self.old text.now) k step self.new)) }
+        ensures goes { IfSome self.old.checked
+            (λ k. IfOk result (λ step. GoesOn (holding self.old text.now) k step self.new)) }
         ensures only_memory { IfErr result (λ e. e ≡ ClientError.Memory) }
         ensures err { OnErr result (self.new ≡ self.old) }
     {
@@ -656,9 +681,12 @@ impl<L: Device, J: Device, A: Allocator + Copy> Client<L, J, A> {
     /// Takes the block that the reply under check asks for, or its absence. Only want of memory is an error.
     pub fn on_block(&mut self, block: Option<&[u8]>) -> Result<Step<A>, ClientError>
         requires { IsSome self.old.checked }
-        ensures handed { IfSome self.old.checked (λ k. IfOk result (λ step. Handed self.old k (option_copied block.entry) step self.new)) }
+        ensures handed { IfSome self.old.checked
+            (λ k. IfOk result (λ step. Handed self.old k (option_copied block.entry) step self.new)) }
         // A block that is absent or has another digest is told without memory.
-        ensures told { IfSome self.old.checked (λ k. block_breaks (held self.old.blocks) (asked_of k) (option_copied block.entry) ≡ Some Rule.Block → IsOk result) }
+        ensures told { IfSome self.old.checked
+            (λ k. block_breaks (held self.old.blocks) (asked_of k) (option_copied block.entry) ≡ Some Rule.Block
+            → IsOk result) }
         ensures only_memory { IfErr result (λ e. e ≡ ClientError.Memory) }
         ensures err { OnErr result (self.new ≡ self.old) }
     {
@@ -682,7 +710,8 @@ impl<L: Device, J: Device, A: Allocator + Copy> Client<L, J, A> {
     /// The structure over the accepted reply, not signed yet, and the structures of the reply.
     fn draft(&self) -> Result<(Draft<A>, Vec<Signed<Structure<A>>, A>), Memory>
         requires { IsSome self.now.accepted }
-        ensures structure { IfSome self.now.accepted (λ r. IfOk result (λ d. d.0.structure ≡ next_structure self.now r)) }
+        ensures structure { IfSome self.now.accepted
+            (λ r. IfOk result (λ d. d.0.structure ≡ next_structure self.now r)) }
         ensures shown { IfOk result (λ d. d.0.shown ≡ d.0.structure) }
         ensures text { IfOk result (λ d. d.0.text ≡ structure.spell d.0.structure) }
         ensures fits { IfOk result (λ d. structure.Fits d.0.structure) }
@@ -704,8 +733,9 @@ impl<L: Device, J: Device, A: Allocator + Copy> Client<L, J, A> {
         Ok((draft, copies))
     }
 
-    /// Signs the structure over the accepted reply, and gives it as it is sent; it stands in the journal by then. From here
-    /// on the view is accepted. All growths come before the leaf is taken. After Device the client has to be opened again.
+    /// Signs the structure over the accepted reply, and gives it as it is sent; it stands in the journal by then. From
+    /// here on the view is accepted. All growths come before the leaf is taken. After Device the client has to be
+    /// opened again.
     pub fn sign(&mut self) -> Result<Vec<u8, A>, ClientError>
         requires { IsSome self.old.accepted }
         ensures signed { OnOk result (IfSome self.old.accepted (λ r. (leaf : LeafNumber)
@@ -713,16 +743,21 @@ impl<L: Device, J: Device, A: Allocator + Copy> Client<L, J, A> {
             × (self.new ≡ on self.new.devices (signed_over self.old leaf r)))) }
         ensures text { IfOk result (λ text. text.items ≡ self.new.text) }
         // What a crash leaves at any moment of the call, whatever it answers.
-        ensures any_moment { IfSome self.old.accepted (λ r. (leaf : LeafNumber) → IsLeastFree self.old.devices.ledger.file.now.text leaf
+        ensures any_moment { IfSome self.old.accepted
+            (λ r. (leaf : LeafNumber) → IsLeastFree self.old.devices.ledger.file.now.text leaf
             → AnyMoment leaf (structure_record (signed_text self.old leaf r)) self.old.devices self.new.devices) }
-        ensures tried { IfSome self.old.accepted (λ r. OnErr result (IsTried (λ leaf. structure_record (signed_text self.old leaf r)) self.old.devices self.new.devices)) }
+        ensures tried { IfSome self.old.accepted
+            (λ r. OnErr result (IsTried (λ leaf. structure_record (signed_text self.old leaf r)) self.old.devices
+            self.new.devices)) }
         ensures no_leaf { IsErrOf result ClientError.NoLeaf ↔ IsFull self.old.devices.ledger.file.now.text }
         ensures rose { IsErrOf result ClientError.Device → OneHasRisen self.old.devices self.new.devices }
         ensures fails { IsErrOf result ClientError.Device → self.new ≡ on self.new.devices (failed self.old) }
         // What is signed can be read again.
         ensures fits { OnOk result (IfSome self.old.accepted (λ r. structure.Fits (next_structure self.old r))) }
-        ensures fits_device { IsErrOf result ClientError.Device → IfSome self.old.accepted (λ r. structure.Fits (next_structure self.old r)) }
-        ensures only { IfErr result (λ e. (e ≢ ClientError.NoNumber) × (e ≢ ClientError.Foreign) × (e ≢ ClientError.Damaged)) }
+        ensures fits_device { IsErrOf result ClientError.Device
+            → IfSome self.old.accepted (λ r. structure.Fits (next_structure self.old r)) }
+        ensures only { IfErr result (λ e. (e ≢ ClientError.NoNumber) × (e ≢ ClientError.Foreign)
+            × (e ≢ ClientError.Damaged)) }
         ensures err { IfErr result (λ e. e ≢ ClientError.Device → self.new ≡ self.old) }
     {
         self.releases.stands();
@@ -762,11 +797,12 @@ impl<L: Device, J: Device, A: Allocator + Copy> Client<L, J, A> {
         }
     }
 
-    /// What stands at an i-number of a principal in the accepted view, or the block that is wanted to tell it. A look that
-    /// was under way is over. Only want of memory is an error.
+    /// What stands at an i-number of a principal in the accepted view, or the block that is wanted to tell it. A look
+    /// that was under way is over. Only want of memory is an error.
     pub fn look(&mut self, principal: Principal, i_number: INumber) -> Result<Look<A>, ClientError>
         requires { IsSome self.old.view }
-        ensures looked { IfSome self.old.view (λ v. IfOk result (λ look. Looked self.old v principal i_number look self.new)) }
+        ensures looked { IfSome self.old.view
+            (λ v. IfOk result (λ look. Looked self.old v principal i_number look self.new)) }
         ensures only_memory { IfErr result (λ e. e ≡ ClientError.Memory) }
         ensures err { OnErr result (self.new ≡ self.old) }
     {
@@ -788,7 +824,9 @@ impl<L: Device, J: Device, A: Allocator + Copy> Client<L, J, A> {
     /// Goes on with a look: a block is asked for, or it is over.
     fn answer(&mut self, principal: Principal, i_number: INumber, shown: Shown<A>) -> Look<A>
         requires view { IsSome self.old.view }
-        requires shown { IfSome self.old.view (λ v. IsAnswer (held self.old.blocks) (view_over self.old.pinned v.table v.lists) principal i_number shown) }
+        requires shown { IfSome self.old.view
+            (λ v. IsAnswer (held self.old.blocks) (view_over self.old.pinned v.table v.lists) principal i_number
+            shown) }
         ensures { IfSome self.old.view (λ v. Looked self.old v principal i_number result self.new) }
     {
         let Some(view) = &mut self.view else {
@@ -814,9 +852,13 @@ impl<L: Device, J: Device, A: Allocator + Copy> Client<L, J, A> {
     /// Takes the block that the look asks for, or its absence. Only want of memory is an error.
     pub fn give(&mut self, block: Option<&[u8]>) -> Result<Look<A>, ClientError>
         requires { IsSomeAnd self.old.view (λ v. IsSome v.looking) }
-        ensures given { IfSome self.old.view (λ v. IfSome v.looking (λ l. IfOk result (λ look. Given self.old v l (option_copied block.entry) look self.new))) }
+        ensures given { IfSome self.old.view
+            (λ v. IfSome v.looking (λ l. IfOk result
+            (λ look. Given self.old v l (option_copied block.entry) look self.new))) }
         // A block that is absent or has another digest is told without memory.
-        ensures told { IfSome self.old.view (λ v. IfSome v.looking (λ l. block_breaks (held self.old.blocks) l.asked (option_copied block.entry) ≡ Some Rule.Block → IsOk result)) }
+        ensures told { IfSome self.old.view
+            (λ v. IfSome v.looking (λ l. block_breaks (held self.old.blocks) l.asked (option_copied block.entry)
+            ≡ Some Rule.Block → IsOk result)) }
         ensures only_memory { IfErr result (λ e. e ≡ ClientError.Memory) }
         ensures err { OnErr result (self.new ≡ self.old) }
     {

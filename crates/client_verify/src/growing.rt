@@ -152,7 +152,8 @@ pub(crate) fn write<A: Allocator + Copy, B: Blocks>(
     good: &Good<A>,
     blocks: &B,
 ) -> Result<Written<A>, Memory>
-    ensures { IfOk result (λ written. IsWritten (B.held blocks.now) (view_of pinned.now good.now) good.now.void written) }
+    ensures { IfOk result (λ written. IsWritten (B.held blocks.now) (view_of pinned.now good.now) good.now.void
+        written) }
 {
     let view = good.lists.view(pinned.as_bytes(), &good.table.table);
     write_in(
@@ -173,7 +174,8 @@ fn write_reply<A: Allocator + Copy, B: Blocks>(
     blocks: &B,
 ) -> Result<Written<A>, Memory>
     requires { IsSomeAnd (lists_of reply.now) (λ x. lists_break table.now.table x ≡ None) }
-    ensures { IfOk result (λ written. IsSomeAnd (lists_of reply.now) (λ x. IsWritten (B.held blocks.now) (view_over pinned.now table.now.table x) table.now.voids written)) }
+    ensures { IfOk result (λ written. IsSomeAnd (lists_of reply.now)
+        (λ x. IsWritten (B.held blocks.now) (view_over pinned.now table.now.table x) table.now.voids written)) }
 {
     let (own, _others) = reply.split();
     let view = reply.view(pinned.as_bytes(), &table.table);
@@ -187,7 +189,8 @@ pub(crate) fn reach<A: Allocator + Copy, B: Blocks>(
     reply: &Admitted<A>,
     blocks: &B,
 ) -> Result<Reached<A>, Memory>
-    ensures { IfOk result (λ reached. IsSomeAnd (lists_of reply.now) (λ x. IsReached (B.held blocks.now) known.now.pinned x reached)) }
+    ensures { IfOk result (λ reached. IsSomeAnd (lists_of reply.now)
+        (λ x. IsReached (B.held blocks.now) known.now.pinned x reached)) }
 {
     let (own, others) = reply.split();
     let pinned = known.pinned();
@@ -229,7 +232,8 @@ pub(crate) fn show<A: Allocator + Copy, B: Blocks>(
     i_number: INumber,
     blocks: &B,
 ) -> Result<Shown<A>, Memory>
-    ensures { IfOk result (λ shown. IsAnswer (B.held blocks.now) (view_over pinned.now table.now lists.now) principal i_number shown) }
+    ensures { IfOk result (λ shown. IsAnswer (B.held blocks.now) (view_over pinned.now table.now lists.now) principal
+        i_number shown) }
 {
     let view = lists.view(pinned.as_bytes(), table);
     show_in(alloc, &view, principal, i_number, blocks)
@@ -245,7 +249,8 @@ pub(crate) fn write_with<A: Allocator + Copy>(
     text: &[u8],
 ) -> Result<Written<A>, Memory>
     requires { digest ≡ hash text.now }
-    ensures { IfOk result (λ written. IsWritten (held (keeping blocks.now text.now)) (view_of pinned.now good.now) good.now.void written) }
+    ensures { IfOk result (λ written. IsWritten (held (keeping blocks.now text.now)) (view_of pinned.now good.now)
+        good.now.void written) }
 {
     let with = With::new(blocks, digest, text);
     write(alloc, pinned, good, &with)
@@ -261,7 +266,8 @@ pub(crate) fn reach_with<A: Allocator + Copy>(
     text: &[u8],
 ) -> Result<Reached<A>, Memory>
     requires { digest ≡ hash text.now }
-    ensures { IfOk result (λ reached. IsSomeAnd (lists_of reply.now) (λ x. IsReached (held (keeping blocks.now text.now)) known.now.pinned x reached)) }
+    ensures { IfOk result (λ reached. IsSomeAnd (lists_of reply.now)
+        (λ x. IsReached (held (keeping blocks.now text.now)) known.now.pinned x reached)) }
 {
     let with = With::new(blocks, digest, text);
     reach(alloc, known, reply, &with)
@@ -280,7 +286,8 @@ pub(crate) fn show_with<A: Allocator + Copy>(
     text: &[u8],
 ) -> Result<Shown<A>, Memory>
     requires { digest ≡ hash text.now }
-    ensures { IfOk result (λ shown. IsAnswer (held (keeping blocks.now text.now)) (view_over pinned.now table.now lists.now) principal i_number shown) }
+    ensures { IfOk result (λ shown. IsAnswer (held (keeping blocks.now text.now))
+        (view_over pinned.now table.now lists.now) principal i_number shown) }
 {
     let with = With::new(blocks, digest, text);
     show(alloc, pinned, table, lists, principal, i_number, &with)

@@ -18,8 +18,8 @@ use update_cert::Cert;
 use version_order::Structure;
 
 /// What a client compares a reply with: who it is, user 0's key, the structure that it signed last and its declared
-/// certificate as it was sent. Beside them its own public key, where it is known that it signed both, and the lists that
-/// broke no rule last, whose signatures were verified.
+/// certificate as it was sent. Beside them its own public key, where it is known that it signed both, and the lists
+/// that broke no rule last, whose signatures were verified.
 #[derive(Drop)]
 pub(crate) struct Known<'a, A: Allocator> {
     user: User,
@@ -38,7 +38,12 @@ impl<'a, A: Allocator> Model for Known<'a, A> {
 
     ghost Value = { Known };
 
-    ghost view = { λ k. record { user = k.user; pinned = k.pinned.now; last = option_copied k.last; declared = k.declared.now } };
+    ghost view = { λ k. record {
+      user = k.user;
+      pinned = k.pinned.now;
+      last = option_copied k.last;
+      declared = k.declared.now;
+    } };
 
     ghost invariant = { λ k. IfSome k.own (λ key. AreOwn key (option_copied k.last) k.declared.now) };
 }
@@ -53,7 +58,8 @@ pub(crate) fn cert_sent<A: Allocator + Copy>(
     item.signed_cert().text(alloc)
 }
 
-/// Whether a text is signed under this key. One that is as it was when it was signed under the key isn't verified again.
+/// Whether a text is signed under this key. One that is as it was when it was signed under the key isn't verified
+/// again.
 fn is_signed<A: Allocator + Copy, T: Text<A>>(
     alloc: A,
     key: &PublicKey,
@@ -88,7 +94,12 @@ impl<'a, A: Allocator> Known<'a, A> {
         accepted: Option<&'a Good<A>>,
     ) -> Known<'a, A>
         requires { IfSome own (λ key. AreOwn key (option_copied last) declared.now) }
-        ensures { result ≡ record { user = user; pinned = pinned.now; last = option_copied last.entry; declared = declared.now } }
+        ensures { result ≡ record {
+          user = user;
+          pinned = pinned.now;
+          last = option_copied last.entry;
+          declared = declared.now;
+        } }
     {
         Known {
             user,
@@ -138,8 +149,8 @@ impl<'a, A: Allocator> Known<'a, A> {
         }
     }
 
-    /// A structure of this user that was signed under this key: the own last one, or that of the lists that broke no rule
-    /// last.
+    /// A structure of this user that was signed under this key: the own last one, or that of the lists that broke no
+    /// rule last.
     fn structure_of(&self, key: &PublicKey, user: User) -> Option<&'a Signed<Structure<A>>>
         ensures { IfSome (option_copied result) (λ z. valid key.now (structure.spell z.value) z.signature ≡ true) }
     {
@@ -159,8 +170,8 @@ impl<'a, A: Allocator> Known<'a, A> {
 }
 
 impl<'a, A: Allocator + Copy> Known<'a, A> {
-    /// Whether a structure is signed under this key. The own last one, and one that stands so in the lists that broke no
-    /// rule last, isn't verified again.
+    /// Whether a structure is signed under this key. The own last one, and one that stands so in the lists that broke
+    /// no rule last, isn't verified again.
     pub(crate) fn structure_is_signed(
         &self,
         alloc: A,
@@ -186,8 +197,8 @@ impl<'a, A: Allocator + Copy> Known<'a, A> {
         Ok(sent.as_slice() == self.declared)
     }
 
-    /// Whether a pending certificate is signed under this key. The declared one, and one that was pending so in the lists
-    /// that broke no rule last, isn't verified again.
+    /// Whether a pending certificate is signed under this key. The declared one, and one that was pending so in the
+    /// lists that broke no rule last, isn't verified again.
     pub(crate) fn cert_is_signed(
         &self,
         alloc: A,

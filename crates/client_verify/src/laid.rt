@@ -124,8 +124,8 @@ pub(crate) fn copies<A: Allocator + Copy>(
     Ok(copies)
 }
 
-/// Whether each i-node that a make or a put names is that of a file that stands with all its blocks among these texts, or,
-/// of a make, that of the empty directory.
+/// Whether each i-node that a make or a put names is that of a file that stands with all its blocks among these texts,
+/// or, of a make, that of the empty directory.
 #[tactic(auto, unfolding(crate::specs::Laid::are_laid))]
 pub fn are_laid<A: Allocator + Copy>(
     alloc: A,

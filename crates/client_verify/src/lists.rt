@@ -1,6 +1,7 @@
 //! The lists of a reply that breaks none of the rules on lists.
 
-ghost use Rattle.std.specs.Prelude.{◌≡◌, ◌==◌, ◌<◌, None, Some, IfOk, IsSome, IsSomeAnd, OnOk, MatchResult, find, true, vec_len, vec_capacity};
+ghost use Rattle.std.specs.Prelude.{◌≡◌, ◌==◌, ◌<◌, None, Some, IfOk, IsSome, IsSomeAnd, OnOk, MatchResult, find, true};
+ghost use Rattle.std.specs.Prelude.{vec_len, vec_capacity};
 ghost use Rattle.std.specs.Option.{option_copied};
 ghost use Rattle.std.specs.Ordering.{nat_cmp};
 ghost use Rattle.layout.specs.Ascending.{Ascends, Stands, IsFree};
@@ -88,7 +89,8 @@ impl<A: Allocator> Model for Admitted<A> {
 
     ghost view = { λ a. a.reply };
 
-    ghost invariant = { λ a. (lists a.reply ≡ true) × IsSome (lists_of a.reply) × (super_signature a.pinned a.reply ≡ true) };
+    ghost invariant = { λ a. (lists a.reply ≡ true) × IsSome (lists_of a.reply)
+        × (super_signature a.pinned a.reply ≡ true) };
 }
 
 impl<A: Allocator> Admitted<A> {
@@ -199,7 +201,13 @@ impl<A: Allocator> Lists<A> {
 
     /// The view of these lists, with user 0's key and this table of principals.
     pub(crate) fn view<'a>(&'a self, key: &'a [u8; 56], table: &'a Table<A>) -> View<'a, A>
-        ensures { result ≡ record { key = key.now; table = table.now; structures = self.now.structures; others = self.now.others; own = self.now.own } }
+        ensures { result ≡ record {
+          key = key.now;
+          table = table.now;
+          structures = self.now.structures;
+          others = self.now.others;
+          own = self.now.own;
+        } }
     {
         View::new(key, table, &self.structures, &self.others, &self.own)
     }
@@ -228,7 +236,8 @@ impl<A: Allocator + Copy> Lists<A> {
 /// Where the structure of a user stands, or where it would stand.
 fn find<A: Allocator>(structures: &[Signed<Structure<A>>], user: User) -> Result<usize, usize>
     requires { Ascends nat_cmp user_of None structures.now }
-    ensures { MatchResult result (Stands nat_cmp user_of structures.now user) (IsFree nat_cmp user_of structures.now user) }
+    ensures { MatchResult result (Stands nat_cmp user_of structures.now user)
+        (IsFree nat_cmp user_of structures.now user) }
 {
     structures.binary_search_by_key(&user.get(), |shown| shown.value.plan().user().get())
 }

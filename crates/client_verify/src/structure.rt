@@ -49,7 +49,8 @@ pub(crate) fn draft_over<A: Allocator + Copy>(
     last: Option<&Signed<Structure<A>>>,
     plan: &Plan<A>,
 ) -> Result<Draft<A>, Memory>
-    ensures structure { IfOk result (λ d. d.structure ≡ structure_over handle records.now (option_copied last.entry) plan.now) }
+    ensures structure { IfOk result
+        (λ d. d.structure ≡ structure_over handle records.now (option_copied last.entry) plan.now) }
     ensures shown { IfOk result (λ d. d.shown ≡ d.structure) }
     ensures text { IfOk result (λ d. d.text ≡ structure.spell d.structure) }
     ensures fits { IfOk result (λ d. structure.Fits d.structure) }

@@ -7,7 +7,9 @@ ghost use Rattle.reply_rules.specs.Lists.{lists_of};
 ghost use Rattle.reply_rules.specs.Rules.{lists};
 ghost use Rattle.pending_list.specs.Signed.{signed};
 ghost use Rattle.update_cert.specs.Cert.{cert};
-ghost use Rattle.client_verify.specs.FirstBroken.{own_last, own_pending, super_signature, shown_of, structure_sent, cert_sent, same_bytes, structure_verifies, cert_verifies, of_reply, reply_breaks, reply_in};
+ghost use Rattle.client_verify.specs.FirstBroken.{own_last, own_pending, super_signature, shown_of, structure_sent};
+ghost use Rattle.client_verify.specs.FirstBroken.{cert_sent, same_bytes, structure_verifies, cert_verifies, of_reply};
+ghost use Rattle.client_verify.specs.FirstBroken.{reply_breaks, reply_in};
 
 use crate::known::{Known, cert_sent};
 use crate::lists::{Admitted, shown_of};
@@ -156,7 +158,8 @@ fn broken_alone<A: Allocator + Copy>(
     Ok(None)
 }
 
-/// Reads and judges the bytes of a reply by the rules on the reply itself: the reply, or the first of them that it breaks.
+/// Reads and judges the bytes of a reply by the rules on the reply itself: the reply, or the first of them that it
+/// breaks.
 #[tactic(auto, unfolding(crate::specs::FirstBroken::reply_breaks))]
 pub(crate) fn judge<A: Allocator + Copy>(
     alloc: A,

@@ -67,8 +67,8 @@ impl<A: Allocator> Checked<A> {
     }
 }
 
-/// A reply that breaks no rule by this table, the handle of the own part after the own operation, the records of the groups
-/// that it raises, and the changes that it loses.
+/// A reply that breaks no rule by this table, the handle of the own part after the own operation, the records of the
+/// groups that it raises, and the changes that it loses.
 #[derive(Drop)]
 pub(crate) struct Ready<A: Allocator> {
     pub(crate) good: Good<A>,
@@ -82,7 +82,13 @@ impl<A: Allocator> Model for Ready<A> {
 
     ghost Value = { Ready };
 
-    ghost view = { λ r. record { lists = r.good.lists; table = r.good.table; handle = r.handle; records = r.records.items; lost = r.lost.items } };
+    ghost view = { λ r. record {
+      lists = r.good.lists;
+      table = r.good.table;
+      handle = r.handle;
+      records = r.records.items;
+      lost = r.lost.items;
+    } };
 }
 
 /// A look that is under way: at what, and the block that is asked for.
@@ -93,8 +99,8 @@ pub(crate) struct Looking {
     pub(crate) asked: Asked,
 }
 
-/// The accepted view: the lists of its reply, the table of principals, its structures with the own new one in its user's
-/// place, and the changes that the own operation lost.
+/// The accepted view: the lists of its reply, the table of principals, its structures with the own new one in its
+/// user's place, and the changes that the own operation lost.
 #[derive(Drop)]
 pub(crate) struct AcceptedView<A: Allocator> {
     pub(crate) good: Good<A>,
@@ -108,5 +114,11 @@ impl<A: Allocator> Model for AcceptedView<A> {
 
     ghost Value = { AcceptedView };
 
-    ghost view = { λ v. record { lists = v.good.lists; table = v.good.table; structures = v.structures.items; lost = v.lost.items; looking = v.looking } };
+    ghost view = { λ v. record {
+      lists = v.good.lists;
+      table = v.good.table;
+      structures = v.structures.items;
+      lost = v.lost.items;
+      looking = v.looking;
+    } };
 }

@@ -1,6 +1,7 @@
 //! Operations that are pending.
 
-ghost use Rattle.std.specs.Prelude.{◌≡◌, ◌==◌, ◌&&◌, ◌<◌, ◌++◌, [], ◌∷◌, IfOk, find, filter, not, vec_len, vec_capacity};
+ghost use Rattle.std.specs.Prelude.{◌≡◌, ◌==◌, ◌&&◌, ◌<◌, ◌++◌, [], ◌∷◌, IfOk, find, filter, not, vec_len};
+ghost use Rattle.std.specs.Prelude.{vec_capacity};
 ghost use Rattle.std.specs.List.{list_any};
 ghost use Rattle.std.specs.Option.{option_copied};
 ghost use Rattle.version_order.specs.Plan.{plan as plan_format, entry_of};
@@ -192,7 +193,8 @@ pub(crate) fn take_out<A: Allocator>(
     user: User,
     number: Version,
 )
-    ensures { pending.new.items ≡ filter (λ w. not ((user == w.item.plan.user) && (number == w.item.plan.number))) pending.old.items }
+    ensures { pending.new.items ≡ filter (λ w. not
+        ((user == w.item.plan.user) && (number == w.item.plan.number))) pending.old.items }
 {
     pending.retain(|placement| !placement.is_of(user, number));
 }

@@ -43,8 +43,10 @@ fn carry_out<A: Allocator + Copy, G: Log<Call<A>>>(
     requires { MayHappen state.old judged }
     ensures answer { IfOk result (λ answer. answer ≡ answer_by judged) }
     ensures state { OnOk result (state.new ≡ state_after state.old judged) }
-    ensures history { OnOk result (history.new.items ≡ history.old.items ++ record { kind = kind; text = text.now } ∷ []) }
-    ensures log { OnOk result (G.pushed log.new ≡ G.pushed log.old ++ logged_by judged (record { kind = kind; text = text.now })) }
+    ensures history { OnOk result (history.new.items
+        ≡ history.old.items ++ record { kind = kind; text = text.now } ∷ []) }
+    ensures log { OnOk result (G.pushed log.new
+        ≡ G.pushed log.old ++ logged_by judged (record { kind = kind; text = text.now })) }
     ensures state_err { OnErr result (state.new ≡ state.old) }
     ensures history_err { OnErr result (history.new.items ≡ history.old.items) }
     ensures log_err { OnErr result (G.pushed log.new ≡ G.pushed log.old) }
@@ -67,7 +69,8 @@ fn carry_out<A: Allocator + Copy, G: Log<Call<A>>>(
 }
 
 impl<A: Allocator + Copy> Ordered<A> {
-    ghost use Rattle.consistency_server.specs.History.{call_of, update_of, commit_of, answer_of, logged, is_carried_out};
+    ghost use Rattle.consistency_server.specs.History.{call_of, update_of, commit_of, answer_of, logged};
+    ghost use Rattle.consistency_server.specs.History.{is_carried_out};
     ghost use Rattle.wire.specs.declared.kinds.Status.TheVariants as status;
 
     /// Before the first call. `pinned` is the key that every client knows, user 0's.

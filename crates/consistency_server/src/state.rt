@@ -1,6 +1,7 @@
 //! What the server keeps of its events, and what a call leads to by it.
 
-ghost use Rattle.std.specs.Prelude.{◌≡◌, ◌<◌, ◌∷◌, ◌++◌, [], true, false, None, Err, OnOk, OnErr, IfOk, IsTrue, not, filter, vec_len, vec_capacity};
+ghost use Rattle.std.specs.Prelude.{◌≡◌, ◌<◌, ◌∷◌, ◌++◌, [], true, false, None, Err, OnOk, OnErr, IfOk, IsTrue, not};
+ghost use Rattle.std.specs.Prelude.{filter, vec_len, vec_capacity};
 ghost use Rattle.std.specs.Option.{option_copied, option_map_or};
 ghost use Rattle.std.specs.Ordering.{nat_cmp};
 ghost use Rattle.layout.specs.Ascending.{Ascends, with_row};
@@ -12,7 +13,9 @@ ghost use Rattle.pending_list.specs.Reply.{user_of, reply};
 ghost use Rattle.principals.specs.Table.{genesis};
 ghost use Rattle.consistency_server.specs.Event.{Placed};
 ghost use Rattle.consistency_server.specs.State.{pending_of, next_plan, next_reply, commits};
-ghost use Rattle.consistency_server.specs.Answers.{Happens, outcome_of, read_update, read_commit, placing, placing_beside, committing, same_structure, structure_of, is_next, at_limit};
+ghost use Rattle.consistency_server.specs.Answers.{Happens, outcome_of, read_update, read_commit, placing};
+ghost use Rattle.consistency_server.specs.Answers.{placing_beside, committing, same_structure, structure_of, is_next};
+ghost use Rattle.consistency_server.specs.Answers.{at_limit};
 ghost use Rattle.consistency_server.specs.History.{call_of};
 ghost use Rattle.consistency_server.specs.Judged.{JudgedAs, Admits, changed, table_or};
 
@@ -48,9 +51,15 @@ impl<A: Allocator> Model for State<A> {
 
     ghost Value = { State };
 
-    ghost view = { λ s. record { table = s.table; vector = s.vector; structures = s.structures.items; pending = s.pending.items } };
+    ghost view = { λ s. record {
+      table = s.table;
+      vector = s.vector;
+      structures = s.structures.items;
+      pending = s.pending.items;
+    } };
 
-    ghost invariant = { λ s. IsTidy (record { table = s.table; vector = s.vector; structures = s.structures.items; pending = s.pending.items }) };
+    ghost invariant = { λ s. IsTidy
+        (record { table = s.table; vector = s.vector; structures = s.structures.items; pending = s.pending.items }) };
 }
 
 /// An event, with all that is kept of it.
@@ -157,7 +166,8 @@ impl<A: Allocator + Copy> State<A> {
 
     /// What an UPDATE leads to.
     fn judge_update(&self, alloc: A, text: &[u8]) -> Result<Judged<A>, Memory>
-        ensures { IfOk result (λ judged. JudgedAs self.now judged (read_update self.now (whole (signed cert) text.now))) }
+        ensures { IfOk result (λ judged. JudgedAs self.now judged
+            (read_update self.now (whole (signed cert) text.now))) }
     {
         let Some(found) = read_signed::<A, Cert<A>>(alloc, text)? else {
             return Ok(Judged::Refused(Status::Form));
@@ -249,7 +259,8 @@ impl<A: Allocator + Copy> State<A> {
     ) -> Result<Judged<A>, Memory>
         requires free { pending_of found.value.user self.now.pending ≡ None }
         requires plan { plan ≡ next_plan self.now found.value }
-        ensures { IfOk result (λ judged. JudgedAs self.now judged (Happens (Placed found) (reply.spell (next_reply self.now found)))) }
+        ensures { IfOk result (λ judged. JudgedAs self.now judged
+            (Happens (Placed found) (reply.spell (next_reply self.now found)))) }
     {
         let _user = found.value.user();
         let table = table_after(alloc, &self.table, &found.value)?;
@@ -269,7 +280,8 @@ impl<A: Allocator + Copy> State<A> {
 
     /// What a COMMIT leads to.
     fn judge_commit(&self, alloc: A, text: &[u8]) -> Result<Judged<A>, Memory>
-        ensures { IfOk result (λ judged. JudgedAs self.now judged (read_commit self.now (whole (signed structure) text.now))) }
+        ensures { IfOk result (λ judged. JudgedAs self.now judged
+            (read_commit self.now (whole (signed structure) text.now))) }
     {
         let Some(found) = read_signed::<A, Structure<A>>(alloc, text)? else {
             return Ok(Judged::Refused(Status::Form));
@@ -305,7 +317,8 @@ impl<A: Allocator + Copy> State<A> {
     /// Whether it is its user's last structure, where the text spells it.
     fn is_last(&self, alloc: A, found: &Signed<Structure<A>>, text: &[u8]) -> Result<bool, Memory>
         requires { text.now ≡ (signed structure).spell found.now }
-        ensures { IfOk result (λ same. same ≡ option_map_or (same_structure found.now) (structure_of found.now.value.plan.user self.now) false) }
+        ensures { IfOk result (λ same. same
+            ≡ option_map_or (same_structure found.now) (structure_of found.now.value.plan.user self.now) false) }
     {
         match structure_of(&self.structures, found.value.plan().user()) {
             Some(last) => spells(alloc, text, last),

@@ -21,7 +21,8 @@ fn user_of<A: Allocator>(structure: &Signed<Structure<A>>) -> u8
 /// Where a user's structure stands, or where it would stand.
 fn place_of<A: Allocator>(structures: &[Signed<Structure<A>>], user: u8) -> Result<usize, usize>
     requires { Ascends nat_cmp user_of None structures.now }
-    ensures { MatchResult result (Stands nat_cmp user_of structures.now user) (IsFree nat_cmp user_of structures.now user) }
+    ensures { MatchResult result (Stands nat_cmp user_of structures.now user)
+        (IsFree nat_cmp user_of structures.now user) }
 {
     structures.binary_search_by_key(&user, |structure| user_of(structure))
 }

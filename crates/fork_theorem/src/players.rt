@@ -116,8 +116,8 @@ impl<A: Allocator + Copy> Players<A> {
         Ok(self.list.len() - 1)
     }
 
-    /// Crashes the client of a user, so that nothing unsynced is kept, and opens it again: its phase. Where memory runs out
-    /// the client is gone, and the script ends.
+    /// Crashes the client of a user, so that nothing unsynced is kept, and opens it again: its phase. Where memory runs
+    /// out the client is gone, and the script ends.
     pub(crate) fn restart(&mut self, user: User) -> Result<Phase, Memory> {
         let place = self.place_of(user)?;
         let Player { client, key: _ } = self.list.remove(place);

@@ -59,8 +59,8 @@ fn outcome_of<A: Allocator + Copy>(
     }
 }
 
-/// Runs the script that the reader gives, and writes a line for each command. Lines that are empty or begin with `#` are
-/// skipped.
+/// Runs the script that the reader gives, and writes a line for each command. Lines that are empty or begin with `#`
+/// are skipped.
 pub fn play<A: Allocator + Copy, R: BufRead, W: Write>(
     alloc: A,
     reader: &mut R,

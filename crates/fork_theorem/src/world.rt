@@ -34,7 +34,8 @@ impl<A: Allocator + Copy> World<A> {
         })
     }
 
-    /// Lays out what the tasks name, and declares the operation: only where the user's client has none is anybody named.
+    /// Lays out what the tasks name, and declares the operation: only where the user's client has none is anybody
+    /// named.
     fn begin(&mut self, user: User, tasks: Vec<Task<A>, A>) -> Result<Outcome<A>, Memory> {
         let place = self.players.place_of(user)?;
         if self.players.list[place].client.phase() != Phase::Idle {

@@ -1,5 +1,5 @@
-//! Replies that show what others signed, cut, or with one bit changed: before the honest one is accepted, and after that,
-//! when the client doesn't verify again what it verified.
+//! Replies that show what others signed, cut, or with one bit changed: before the honest one is accepted, and after
+//! that, when the client doesn't verify again what it verified.
 
 use crate::here::Here;
 use crate::two_users::{Scene, Users, accepts, both_are_listed, breaks, is_accepted};
@@ -15,8 +15,8 @@ use wire::Status;
 /// The place of a byte in a reply whose lowest bit is changed, and the rule that the reply then breaks first.
 type Change = (usize, Rule);
 
-/// A reply to user 0 shows its own structure at 5 and user 1's at 2,602, of 92 bytes, and then the pending operations of
-/// user 2 at 5,205 and of user 0 at 7,817. Changed are bytes of each text and each signature, and the counts.
+/// A reply to user 0 shows its own structure at 5 and user 1's at 2,602, of 92 bytes, and then the pending operations
+/// of user 2 at 5,205 and of user 0 at 7,817. Changed are bytes of each text and each signature, and the counts.
 static TO_SUPERUSER: [Change; 16] = [
     (0, Rule::Form),
     (4, Rule::Form),
@@ -39,8 +39,8 @@ static TO_SUPERUSER: [Change; 16] = [
     (10368, Rule::OwnPending),
 ];
 
-/// A reply to user 1 shows user 0's structure at 5 and its own at 2,602, and then the pending operations of user 0 at 5,205
-/// and its own at 7,812.
+/// A reply to user 1 shows user 0's structure at 5 and its own at 2,602, and then the pending operations of user 0 at
+/// 5,205 and its own at 7,812.
 static TO_FIRST: [Change; 9] = [
     // Of user 0's structure: its certificate's digest, its handle, and its signature.
     (22, Rule::SuperSignature),
@@ -108,8 +108,8 @@ fn refuses_changes(
     }
 }
 
-/// The client declares an operation, whose honest reply has this size: it refuses each change of it, accepts it, refuses
-/// each change once more, and accepts and signs it still.
+/// The client declares an operation, whose honest reply has this size: it refuses each change of it, accepts it,
+/// refuses each change once more, and accepts and signs it still.
 fn judges(
     rt: &impl Host,
     store: &mut Held<Global>,

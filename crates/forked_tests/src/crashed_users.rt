@@ -1,5 +1,5 @@
-//! User 1's client crashes once it has declared its first operation, and another server shows it another line than the one
-//! before: a reply is accepted or refused by the rules, and one structure of that number is ever handed out.
+//! User 1's client crashes once it has declared its first operation, and another server shows it another line than the
+//! one before: a reply is accepted or refused by the rules, and one structure of that number is ever handed out.
 
 use crate::here::Here;
 use crate::two_users::{
@@ -144,8 +144,8 @@ fn commits_alone(rt: &impl Host, fork: &mut Fork, structure: &[u8]) {
     answers_commit(rt, &mut fork.server, structure, Status::Ok);
 }
 
-/// It refuses what is mixed, and signs the structure over the other server's reply, which stands after a restart: the other
-/// server commits it, and the first one doesn't.
+/// It refuses what is mixed, and signs the structure over the other server's reply, which stands after a restart: the
+/// other server commits it, and the first one doesn't.
 fn signs_beside(rt: &impl Host, fork: &mut Fork, client: MemoryClient) {
     let mut client = client;
     has_declared(rt, &client, 1, &fork.replies.update);
@@ -176,8 +176,8 @@ fn another_reply_after_a_crash(rt: HostRuntime) {
     let_go(fork);
 }
 
-/// How many calls an open makes of a journal of one record, and `sign` before it has synced the record, and before it has
-/// synced the gate that opens it.
+/// How many calls an open makes of a journal of one record, and `sign` before it has synced the record, and before it
+/// has synced the gate that opens it.
 const BEFORE_RECORD: u64 = 9;
 
 const BEFORE_GATE: u64 = 11;
@@ -196,7 +196,8 @@ fn opened_before(rt: &impl Host, fork: &Fork, kept: Kept, calls: u64) -> MemoryC
     opened(rt, fork, kept)
 }
 
-/// The client accepts the first server's reply, its journal fails after so many calls in `sign`, and a crash leaves this.
+/// The client accepts the first server's reply, its journal fails after so many calls in `sign`, and a crash leaves
+/// this.
 fn fails_to_sign(
     rt: &impl Host,
     fork: &mut Fork,

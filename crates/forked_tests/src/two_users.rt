@@ -1,5 +1,5 @@
-//! Users 1 and 2 at once, with servers in memory: the reply to both byte for byte, and what a server shows of forks, of an
-//! older structure and of a plan that it swapped.
+//! Users 1 and 2 at once, with servers in memory: the reply to both byte for byte, and what a server shows of forks, of
+//! an older structure and of a plan that it swapped.
 
 use crate::here::Here;
 use client_aids::changes::{Planned, listing_both};
@@ -20,8 +20,8 @@ use wire::Status;
 /// How many blocks are handed in at most for one reply.
 const BOUND: usize = 10;
 
-/// The vectors of the first operations of user 0, of user 1 and user 2 after it, and of user 2 after user 1, each after its
-/// count.
+/// The vectors of the first operations of user 0, of user 1 and user 2 after it, and of user 2 after user 1, each after
+/// its count.
 const ZERO: &[u8] = b"\x01\0\0\0\0\x01";
 
 pub(crate) const ONE: &[u8] = b"\x02\0\0\0\0\x01\x01\0\0\0\x01";
@@ -59,8 +59,8 @@ fn handed(
     client.on_block(store.get(digest)).expect(rt, "memory")
 }
 
-/// Hands a reply in, and each block that it asks for: the rule that is broken, or none, where it is accepted and the new
-/// texts are stored.
+/// Hands a reply in, and each block that it asks for: the rule that is broken, or none, where it is accepted and the
+/// new texts are stored.
 fn judged(
     rt: &impl Host,
     store: &mut Held<Global>,

@@ -50,8 +50,8 @@ pub(crate) fn caller<'a, R: Host>(rt: &'a R, pipe: &'a Pipe) -> Caller<ClientEnd
     Caller::new(rt.alloc(), ClientEnd::new(rt, pipe))
 }
 
-/// In its first so many operations no call may be answered Busy. The log has room for 1,024 events, and in the test with the
-/// most of them user 0 makes 2, this user 2 an operation, and the other user 600.
+/// In its first so many operations no call may be answered Busy. The log has room for 1,024 events, and in the test
+/// with the most of them user 0 makes 2, this user 2 an operation, and the other user 600.
 const IN_ROOM: u32 = 210;
 
 /// A user makes so many operations of the same changes over a pipe, which ends then.

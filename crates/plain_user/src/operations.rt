@@ -28,8 +28,8 @@ fn all_operate<R: Host>(
     });
 }
 
-/// Serves user 0, which lists so many others, and these, each of which makes so many operations without changes: the calls
-/// of the history, those that were answered, the bytes of the log, and whether all of it was flushed.
+/// Serves user 0, which lists so many others, and these, each of which makes so many operations without changes: the
+/// calls of the history, those that were answered, the bytes of the log, and whether all of it was flushed.
 fn serve_all<R: Host>(rt: &R, others: u8, count: u32) -> (usize, u64, Vec<u8>) {
     let superuser = PlainUser::new(rt.alloc(), 0).expect(rt, "memory");
     let pinned = superuser.public();

@@ -73,7 +73,8 @@ impl PlainUser {
         self.signed(&[b"SUC1", &user, &number, &last, changes])
     }
 
-    /// The structure over the last plan of the lists with which an UPDATE was answered, with a handle of zeros and no records.
+    /// The structure over the last plan of the lists with which an UPDATE was answered, with a handle of zeros and no
+    /// records.
     pub fn structure(&mut self, lists: &[u8]) -> Result<Vec<u8>, CallError> {
         let Ok(lists) = Reply::read(self.alloc, lists) else {
             return Err(CallError::Form);

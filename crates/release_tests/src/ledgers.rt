@@ -16,8 +16,8 @@ fn key(byte: u8) -> Option<PublicKey> {
     PublicKey::from_bytes(bytes)
 }
 
-/// Opens the ledger of a key, takes leaves while it can, at most so many, and closes it. Their numbers join those before.
-/// What it was refused comes with the device.
+/// Opens the ledger of a key, takes leaves while it can, at most so many, and closes it. Their numbers join those
+/// before. What it was refused comes with the device.
 fn session(
     device: MemoryDevice<Global>,
     key: &PublicKey,

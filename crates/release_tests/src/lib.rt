@@ -1,4 +1,5 @@
-//! Tests of ledgers, of journals and of what a client releases: over devices in memory, whose calls fail in turn and which crash.
+//! Tests of ledgers, of journals and of what a client releases: over devices in memory, whose calls fail in turn and
+//! which crash.
 #![tactic(auto)]
 
 #[cfg(test)]

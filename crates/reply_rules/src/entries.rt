@@ -4,7 +4,9 @@ ghost use Rattle.std.specs.Prelude.{◌≡◌, ◌∷◌, [], ◌&&◌, IfOk, ma
 ghost use Rattle.version_order.specs.Plan.{entry_of};
 ghost use Rattle.pending_list.specs.Reply as reply_spec;
 ghost use Rattle.reply_rules.specs.Lists.{shown, pending};
-ghost use Rattle.reply_rules.specs.Rules.{waiting, above, left_of, entries_of, top_entries, own_entry_of_top, top_known, top_waiting, above_show, other_entries, own_only, own_all, entries};
+ghost use Rattle.reply_rules.specs.Rules.{waiting, above, left_of, entries_of, top_entries, own_entry_of_top};
+ghost use Rattle.reply_rules.specs.Rules.{top_known, top_waiting, above_show, other_entries, own_only, own_all};
+ghost use Rattle.reply_rules.specs.Rules.{entries};
 ghost use Rattle.reply_rules.specs.Shown.{shows_left, shows_by};
 
 use crate::reply_lists::Lists;
@@ -178,8 +180,8 @@ fn top_waiting<A: Allocator>(lists: &Lists<'_, A>, waits: &[Entry]) -> bool
     are_listed(waits, top_entries(lists))
 }
 
-/// Whether the rule on entries holds, told by the entries of the structures, of the pending plans, of those of them that
-/// wait and that are above, and of the others.
+/// Whether the rule on entries holds, told by the entries of the structures, of the pending plans, of those of them
+/// that wait and that are above, and of the others.
 #[tactic(auto, unfolding(crate::specs::Rules::entries))]
 fn all_hold<A: Allocator + Copy>(
     alloc: A,

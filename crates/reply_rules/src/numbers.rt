@@ -5,7 +5,8 @@ ghost use Rattle.std.specs.List.{list_all, list_any};
 ghost use Rattle.std.specs.Option.{option_copied};
 ghost use Rattle.version_order.specs.Vector.{version_of};
 ghost use Rattle.reply_rules.specs.Lists.{number_of};
-ghost use Rattle.reply_rules.specs.Rules.{is_numbered, is_next, pending_next, waits, top_vector, counts_at, top_counts, numbers};
+ghost use Rattle.reply_rules.specs.Rules.{is_numbered, is_next, pending_next, waits, top_vector, counts_at, top_counts};
+ghost use Rattle.reply_rules.specs.Rules.{numbers};
 
 use crate::lists::pending_user;
 use crate::reply_lists::Lists;

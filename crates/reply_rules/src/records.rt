@@ -4,7 +4,9 @@ ghost use Rattle.std.specs.Prelude.{◌≡◌, ◌==◌, ◌&&◌, ◌+◌, IfOk
 ghost use Rattle.std.specs.List.{list_all, list_any};
 ghost use Rattle.version_order.specs.Vector.{version_of};
 ghost use Rattle.pending_list.specs.Groups.{groups, raises};
-ghost use Rattle.reply_rules.specs.Rules.{version_within, table_within, of_member, record_holds, differ, records_once, newest_in, newest, versions_beyond, each_once, has_all, group_complete, group_records};
+ghost use Rattle.reply_rules.specs.Rules.{version_within, table_within, of_member, record_holds, differ, records_once};
+ghost use Rattle.reply_rules.specs.Rules.{newest_in, newest, versions_beyond, each_once, has_all, group_complete};
+ghost use Rattle.reply_rules.specs.Rules.{group_records};
 
 use crate::reply_lists::Lists;
 use layout::{Group, Memory, Principal, User};
@@ -194,8 +196,8 @@ fn is_there(numbers: &[u32], number: u32) -> bool
     numbers.iter().any(|other| *other == number)
 }
 
-/// Whether each number that is greater than the one and at most the other is one of these. It is told from above, so that
-/// it ends at the first that isn't.
+/// Whether each number that is greater than the one and at most the other is one of these. It is told from above, so
+/// that it ends at the first that isn't.
 fn has_all(least: u32, most: u32, numbers: &[u32]) -> bool
     ensures { result ≡ has_all (least + 1) most numbers.now }
 {
@@ -211,12 +213,14 @@ fn has_all(least: u32, most: u32, numbers: &[u32]) -> bool
 
 /// Whether these versions are each number beyond the one up to the other, once.
 fn are_complete(versions: &[u32], newest: u32, own: u32) -> bool
-    ensures { result ≡ (each_once versions.now && (list_all (λ v. nat_le v own) versions.now && has_all (newest + 1) own versions.now)) }
+    ensures { result ≡ (each_once versions.now
+        && (list_all (λ v. nat_le v own) versions.now && has_all (newest + 1) own versions.now)) }
 {
     each_once(versions) && are_within(versions, own) && has_all(newest, own, versions)
 }
 
-/// Whether the pending items that raise the group have each version beyond its newest record up to the own plan's, once.
+/// Whether the pending items that raise the group have each version beyond its newest record up to the own plan's,
+/// once.
 fn group_complete<A: Allocator + Copy>(
     alloc: A,
     table: &Table<A>,

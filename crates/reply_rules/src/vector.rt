@@ -3,7 +3,8 @@
 ghost use Rattle.std.specs.Prelude.{◌≡◌, ◌++◌, IfOk, map, true, false};
 ghost use Rattle.std.specs.List.{list_all};
 ghost use Rattle.version_order.specs.Vector.{version_of, raised, raised_all, vector as vector_format};
-ghost use Rattle.reply_rules.specs.Rules.{in_order, any_two, all_in_order, own_above, top_vector, same_vector, vectors_follow, vector};
+ghost use Rattle.reply_rules.specs.Rules.{in_order, any_two, all_in_order, own_above, top_vector, same_vector};
+ghost use Rattle.reply_rules.specs.Rules.{vectors_follow, vector};
 
 use crate::reply_lists::Lists;
 use layout::{Group, Memory, Principal};
@@ -145,7 +146,8 @@ fn follows<A: Allocator>(
     groups: &[Group],
     next: &mut Vector<A>,
 ) -> Result<bool, Memory>
-    ensures follows { IfOk result (λ follows. follows ≡ same_vector plan.now.vector (raised_all groups.now (raised plan.now.user next.old))) }
+    ensures follows { IfOk result (λ follows. follows
+        ≡ same_vector plan.now.vector (raised_all groups.now (raised plan.now.user next.old))) }
     ensures next { IfOk result (λ follows. follows ≡ true → next.new ≡ plan.now.vector) }
 {
     let _fits = plan.vector().components();

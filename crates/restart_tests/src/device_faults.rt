@@ -1,6 +1,6 @@
-//! Each call of a device in `begin` and in `sign` fails, and a crash comes: nothing is handed out, and the client, opened
-//! again, is as its journal tells and goes on. Under which leaf it signs then is counted by hand: never under one whose
-//! mark the crash left.
+//! Each call of a device in `begin` and in `sign` fails, and a crash comes: nothing is handed out, and the client,
+//! opened again, is as its journal tells and goes on. Under which leaf it signs then is counted by hand: never under
+//! one whose mark the crash left.
 
 use crate::here::Here;
 use crate::restarts::{closed, has_number, key_in, reopened, signed, signs_first};
@@ -59,8 +59,8 @@ static OF_LEDGER: [Fault; 2] = [
     },
 ];
 
-/// The calls of a journal: a header, a text and a closed gate are written, and synced; then the gate before them is opened,
-/// and synced.
+/// The calls of a journal: a header, a text and a closed gate are written, and synced; then the gate before them is
+/// opened, and synced.
 static OF_JOURNAL: [Fault; 6] = [
     Fault {
         failing: Failing::Journal,

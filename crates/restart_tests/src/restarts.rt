@@ -1,5 +1,5 @@
-//! User 0's client, closed and opened again in each phase over devices in memory: it goes on with what its journal tells.
-//! How many bytes the journal has is counted by hand from the formats.
+//! User 0's client, closed and opened again in each phase over devices in memory: it goes on with what its journal
+//! tells. How many bytes the journal has is counted by hand from the formats.
 
 use crate::here::Here;
 use client_aids::clients::{

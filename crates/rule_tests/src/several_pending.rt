@@ -1,5 +1,5 @@
-//! The rules on lists, where several users have operations pending that were placed before top or after it: replies that
-//! break none of them, and replies that differ from those in one part and break the rule of that part.
+//! The rules on lists, where several users have operations pending that were placed before top or after it: replies
+//! that break none of them, and replies that differ from those in one part and break the rule of that part.
 
 use crate::here::Here;
 use crate::rule_parts::first_broken;
@@ -732,8 +732,8 @@ static LINKS: [Case; 3] = [
     },
 ];
 
-/// That no new version is greater than the own plan's can't be broken alone: the own plan is the deepest, and no version
-/// falls from the lesser depth to the greater.
+/// That no new version is greater than the own plan's can't be broken alone: the own plan is the deepest, and no
+/// version falls from the lesser depth to the greater.
 static RECORDS: [Case; 3] = [
     Case {
         name: "a version of two that raise the group",

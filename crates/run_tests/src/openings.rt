@@ -1,5 +1,5 @@
-//! Each call of a device in the first opening of a client fails in turn, and the client is opened again, in one run. What
-//! both openings come to is told by hand.
+//! Each call of a device in the first opening of a client fails in turn, and the client is opened again, in one run.
+//! What both openings come to is told by hand.
 
 use crate::answers::Told;
 use crate::here::Here;
@@ -19,8 +19,8 @@ enum Then {
     IsForeign,
 }
 
-/// A first opening makes five calls of the ledger's device: a sync, the size, the key and the marks written, a sync. And
-/// four of the journal's: a sync, the size, the gate written, a sync. Of a write that fails half is written.
+/// A first opening makes five calls of the ledger's device: a sync, the size, the key and the marks written, a sync.
+/// And four of the journal's: a sync, the size, the gate written, a sync. Of a write that fails half is written.
 static OPENINGS: [(u8, Fails, Then); 9] = [
     (0, Fails::Ledger(0), Then::Opens),
     (1, Fails::Ledger(1), Then::Opens),

@@ -276,9 +276,9 @@ static FOUR_OF_ONE: [Shape; 2] = [
     },
 ];
 
-/// Four operations, by their first steps: two of each, three of user 1, and three of user 2. The orders of one beginning
-/// have a world of their own, at most 126 of them: a key signs 1,024 times, and the log of a script's server takes as
-/// many calls, two of each operation.
+/// Four operations, by their first steps: two of each, three of user 1, and three of user 2. The orders of one
+/// beginning have a world of their own, at most 126 of them: a key signs 1,024 times, and the log of a script's server
+/// takes as many calls, two of each operation.
 const TWO_EACH: Shape = Shape {
     steps: 12,
     second: 6,

@@ -175,7 +175,8 @@ impl<'a> Iterator for Offered<'a> {
     }
 }
 
-/// Offers so many connections of the same bytes to a server of at most so many: how many it took, and what each was replied.
+/// Offers so many connections of the same bytes to a server of at most so many: how many it took, and what each was
+/// replied.
 fn offer<R: AllocGlobal + Abort + Clock + Threads + Wait + Sync>(
     rt: &R,
     input: &[u8],

@@ -14,8 +14,8 @@ const REST: u64 = 10;
 /// How often it is tried to accept one connection: for two minutes, in which clients that say nothing are let go.
 const TRIES: u32 = 12_000;
 
-/// The connections that a listener accepts, so many at most. A fault that passes, as too many open files, is waited out. One
-/// that doesn't ends them: it is put where who made this finds it, and nothing is accepted from then on.
+/// The connections that a listener accepts, so many at most. A fault that passes, as too many open files, is waited
+/// out. One that doesn't ends them: it is put where who made this finds it, and nothing is accepted from then on.
 #[derive(Drop)]
 pub struct Accepted<'a, R: Clock> {
     rt: &'a R,

@@ -25,7 +25,8 @@ pub enum Ended {
 
 /// A stream of bytes both ways.
 pub trait Connection: Drop {
-    ghost use Rattle.std.specs.Prelude.{◌≡◌, ◌≤◌, ◌<◌, ◌++◌, ℕ, List, Bool, [], Option, true, take, length, OnOk, OnErr, IfOk, IfErr, Ok};
+    ghost use Rattle.std.specs.Prelude.{◌≡◌, ◌≤◌, ◌<◌, ◌++◌, ℕ, List, Bool, [], Option, true, take, length, OnOk};
+    ghost use Rattle.std.specs.Prelude.{OnErr, IfOk, IfErr, Ok};
     ghost use Rattle.leaf_ledger.specs.Device.{HasCause};
     ghost use Rattle.server_workers.specs.Conversation.{Told, goes_on};
 
@@ -38,7 +39,8 @@ pub trait Connection: Drop {
     /// How often it has failed, up to 2 ^ 64 - 1.
     ghost fault_count: { Self → ℕ };
 
-    /// Reads bytes into the front of a buffer, and tells how many; none only at the end, or where the buffer has no room.
+    /// Reads bytes into the front of a buffer, and tells how many; none only at the end, or where the buffer has no
+    /// room.
     fn read(&mut self, buffer: &mut [u8]) -> Result<usize, ConnectionFault>
         ensures bound { IfOk result (λ count. count ≤ length buffer.new) }
         ensures ok { IfOk result (λ count. told self.new ≡ goes_on (take count buffer.new) [] (told self.old)) }
@@ -49,7 +51,8 @@ pub trait Connection: Drop {
     /// Writes all bytes, or after a fault a beginning of them.
     fn write(&mut self, bytes: &[u8]) -> Result<(), ConnectionFault>
         ensures ok { OnOk result (told self.new ≡ goes_on [] bytes.now (told self.old)) }
-        ensures err { IfErr result (λ _. (part rest : List ℕ) × (told self.new ≡ goes_on [] part (told self.old)) × (bytes.now ≡ part ++ rest)) }
+        ensures err { IfErr result (λ _. (part rest : List ℕ) × (told self.new ≡ goes_on [] part (told self.old))
+            × (bytes.now ≡ part ++ rest)) }
         ensures cause { HasCause (fault_count self.old) (fault_count self.new) result };
 
     /// How often it has failed. It counts up to the greatest number, and stays there.

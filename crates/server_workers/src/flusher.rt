@@ -17,8 +17,8 @@ use std::time::{Clock, Duration};
 /// How long the flusher rests after a flush, in milliseconds.
 const REST: u64 = 1;
 
-/// Takes calls from the log and writes their records. Contracts see what its pass knows, and whether a write failed. What
-/// was written is always the records of what was taken, or after a failed write a beginning of them.
+/// Takes calls from the log and writes their records. Contracts see what its pass knows, and whether a write failed.
+/// What was written is always the records of what was taken, or after a failed write a beginning of them.
 #[derive(Drop)]
 pub struct Flusher<'a, B: ServerName, R: Wait, W: Write + Drop> {
     rt: &'a R,
@@ -39,7 +39,8 @@ impl<'a, B: ServerName, R: Wait, W: Write + Drop> Model for Flusher<'a, B, R, W>
 
     ghost view = { λ f. record { hand = hand_of f.pass; failed = f.failed } };
 
-    ghost invariant = { λ f. IsPassOf f.queue.now f.pass × (f.pass.table_id ≡ B.queue) × ((hand_of f.pass).pops ≡ true) × Wrote f.failed B.before (W.contents f.writer) (hand_of f.pass).got };
+    ghost invariant = { λ f. IsPassOf f.queue.now f.pass × (f.pass.table_id ≡ B.queue) × ((hand_of f.pass).pops ≡ true)
+        × Wrote f.failed B.before (W.contents f.writer) (hand_of f.pass).got };
 }
 
 /// What is left of a flusher.
@@ -69,7 +70,8 @@ impl<'a, B: ServerName, R: Wait, W: Write + Drop> Flusher<'a, B, R, W> {
     /// Takes a call and writes its record. False where the log was empty or a write failed.
     fn step(&mut self) -> bool
         ensures same { (self.new.hand.pushes ≡ self.old.hand.pushes) × (self.new.hand.sent ≡ self.old.hand.sent) }
-        ensures all { result ≡ false → self.new.failed ≡ false → self.new.hand.pushes ≡ true → self.new.hand.sent ≡ self.new.hand.got }
+        ensures all { result ≡ false → self.new.failed ≡ false → self.new.hand.pushes ≡ true
+            → self.new.hand.sent ≡ self.new.hand.got }
     {
         let Flusher {
             rt,

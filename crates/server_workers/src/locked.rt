@@ -16,8 +16,9 @@ use std::sync::Wait;
 use std::sync::ledger::{Book, Ledger};
 use wire::Status;
 
-/// The one order of calls, the end of the log that pushes, and the book of the tallies. Contracts see the order. Whenever
-/// the lock is got, the log was pushed what the history leaves in it, and as many calls were counted as it has.
+/// The one order of calls, the end of the log that pushes, and the book of the tallies. Contracts see the order.
+/// Whenever the lock is got, the log was pushed what the history leaves in it, and as many calls were counted as it
+/// has.
 #[derive(Drop)]
 pub struct Locked<'a, B: ServerName, L: Ledger, R: Wait> {
     ordered: Ordered<Global>,
@@ -33,7 +34,8 @@ impl<'a, B: ServerName, L: Ledger, R: Wait> Model for Locked<'a, B, L, R> {
 
     ghost view = { λ l. l.ordered };
 
-    ghost invariant = { λ l. (l.ordered.pinned ≡ B.pinned) × (l.log ≡ log_of B.pinned l.ordered.history) × (l.book.total ≡ length l.ordered.history) };
+    ghost invariant = { λ l. (l.ordered.pinned ≡ B.pinned) × (l.log ≡ log_of B.pinned l.ordered.history)
+        × (l.book.total ≡ length l.ordered.history) };
 }
 
 /// A call of this answer was carried out: neither was the log full nor did memory run out.

@@ -52,7 +52,8 @@ impl<'a> Connection for MemoryConnection<'a> {
             ≡ told_of self.old.input.now self.old.given self.old.output.now.items) }
         ensures cause { HasCause self.old.faults self.new.faults result }
         // So many come at once, and not more.
-        ensures count { result ≡ Ok (min (min (length self.old.input.now - self.old.given) (length buffer.old)) self.old.piece) }
+        ensures count { result ≡ Ok (min (min (length self.old.input.now - self.old.given) (length buffer.old))
+            self.old.piece) }
         ensures same { (self.new.input ≡ self.old.input) × (self.new.piece ≡ self.old.piece) }
     {
         let left = self.input.len() - self.given;

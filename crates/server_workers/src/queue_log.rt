@@ -29,7 +29,8 @@ impl<'a, B: ServerName, R: Wait> Model for QueueLog<'a, B, R> {
 
     ghost view = { λ l. (hand_of l.pass).sent };
 
-    ghost invariant = { λ l. IsPassOf l.queue.now l.pass × (l.pass.table_id ≡ B.queue) × (ruled_capacity l.queue.now ≡ 1024) × (hand_of l.pass ≡ hand true false (hand_of l.pass).sent []) };
+    ghost invariant = { λ l. IsPassOf l.queue.now l.pass × (l.pass.table_id ≡ B.queue)
+        × (ruled_capacity l.queue.now ≡ 1024) × (hand_of l.pass ≡ hand true false (hand_of l.pass).sent []) };
 }
 
 impl<'a, B: ServerName, R: Wait> QueueLog<'a, B, R> {

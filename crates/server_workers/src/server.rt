@@ -69,8 +69,8 @@ fn flags(alloc: Global, count: usize) -> Result<Vec<AtomicBool>, Memory>
     Ok(all)
 }
 
-/// Starts a worker for each connection, of at most as many as there are flags, and waits for them all. The number is that
-/// of the connections for which no thread could be started.
+/// Starts a worker for each connection, of at most as many as there are flags, and waits for them all. The number is
+/// that of the connections for which no thread could be started.
 fn gather<
     's,
     'a: 's,
@@ -151,7 +151,8 @@ fn serve_all<
         thread::scope_env(),
         rt,
         move |scope| -> (Tally<L>, usize)
-            requires { I.can_next connections × IsFinite (I.remaining connections) × (length unread.now + 1 ≡ L.parts) × (stock.share.parts ≡ L.parts) × (vec_len running ≡ 0) × (length unread.now ≤ vec_capacity running) }
+            requires { I.can_next connections × IsFinite (I.remaining connections) × (length unread.now + 1 ≡ L.parts)
+                × (stock.share.parts ≡ L.parts) × (vec_len running ≡ 0) × (length unread.now ≤ vec_capacity running) }
             ensures { result.0.share.parts ≡ L.parts }
         { gather(rt, scope, shared, gate, connections, unread, stock, running) },
     )
@@ -187,7 +188,8 @@ fn serve_in<
     requires parts { (blank.parts ≡ L.parts) × (blank.parts ≡ most + 1) }
     ensures pinned { IfOk result (λ s. s.ordered.pinned ≡ B.pinned) }
     ensures counted { IfOk result (λ s. length s.ordered.history ≡ s.answered) }
-    ensures flushed { IfOk result (λ s. IsFlushed s.flushed B.before (W.contents s.writer) (log_of B.pinned s.ordered.history)) }
+    ensures flushed { IfOk result (λ s. IsFlushed s.flushed B.before (W.contents s.writer)
+        (log_of B.pinned s.ordered.history)) }
 {
     let running = Vec::with_capacity(alloc, most)?;
     let unread = flags(alloc, most)?;
@@ -203,7 +205,8 @@ fn serve_in<
         rt,
         move || flusher.run(flag),
         move || -> (Tally<L>, usize)
-            requires { I.can_next connections × IsFinite (I.remaining connections) × (length unread.now + 1 ≡ L.parts) × (stock.share.parts ≡ L.parts) × (vec_len running ≡ 0) × (length unread.now ≤ vec_capacity running) }
+            requires { I.can_next connections × IsFinite (I.remaining connections) × (length unread.now + 1 ≡ L.parts)
+                × (stock.share.parts ≡ L.parts) × (vec_len running ≡ 0) × (length unread.now ≤ vec_capacity running) }
             ensures { result.0.share.parts ≡ L.parts }
         {
             let all = serve_all(rt, workers, gate, connections, unread, stock, running);
@@ -223,8 +226,8 @@ fn serve_in<
     })
 }
 
-/// Serves at most `most` connections, a worker each, which starts at once, beside a flusher that writes the log. `pinned` is
-/// the key of user 0.
+/// Serves at most `most` connections, a worker each, which starts at once, beside a flusher that writes the log.
+/// `pinned` is the key of user 0.
 pub fn serve<
     G: Gate + Sync,
     C: Connection + Send,
@@ -246,7 +249,8 @@ pub fn serve<
     // The workers carried out what they answered.
     ensures counted { IfOk result (λ s. length s.ordered.history ≡ s.answered) }
     // What was taken from the log begins the calls that went to it, and what was written is the records of it.
-    ensures flushed { IfOk result (λ s. IsFlushed s.flushed (W.contents writer) (W.contents s.writer) (log_of pinned s.ordered.history)) }
+    ensures flushed { IfOk result (λ s. IsFlushed s.flushed (W.contents writer) (W.contents s.writer)
+        (log_of pinned s.ordered.history)) }
 {
     let (queue, pass) = empty_queue(alloc)?;
     let blank = Blank::new(most as u64 + 1);

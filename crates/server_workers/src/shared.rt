@@ -34,8 +34,8 @@ pub struct Shared<'a, B: ServerName, L: Ledger, R: Wait> {
 }
 
 impl<'a, B: ServerName, L: Ledger, R: Wait> Shared<'a, B, L, R> {
-    /// Before the first call: what workers share, the tally of what they answer, and the pass of who writes the log. `pass`
-    /// is that of an empty queue, and `pinned` the key of user 0.
+    /// Before the first call: what workers share, the tally of what they answer, and the pass of who writes the log.
+    /// `pass` is that of an empty queue, and `pinned` the key of user 0.
     pub fn new(
         rt: &'a R,
         alloc: Global,

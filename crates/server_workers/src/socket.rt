@@ -11,8 +11,8 @@ use std::time::Duration;
 /// How long a read or a write waits for the client, in seconds.
 const PATIENCE: u64 = 60;
 
-/// A client's stream. It doesn't tell its bytes: no clause says what a socket holds or delivers. A client that sends nothing
-/// for a minute, or takes nothing that is sent to it, counts as a fault.
+/// A client's stream. It doesn't tell its bytes: no clause says what a socket holds or delivers. A client that sends
+/// nothing for a minute, or takes nothing that is sent to it, counts as a fault.
 #[derive(Drop)]
 pub struct Socket {
     stream: TcpStream,

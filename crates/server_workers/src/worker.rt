@@ -1,6 +1,7 @@
 //! The worker of one connection.
 
-ghost use Rattle.std.specs.Prelude.{◌≡◌, ◌≢◌, ◌⊎◌, ◌+◌, ◌<◌, ◌++◌, ◌∷◌, [], List, ℕ, OnOk, IfErr, OnErr, Err, true, length};
+ghost use Rattle.std.specs.Prelude.{◌≡◌, ◌≢◌, ◌⊎◌, ◌+◌, ◌<◌, ◌++◌, ◌∷◌, [], List, ℕ, OnOk, IfErr, OnErr, Err, true};
+ghost use Rattle.std.specs.Prelude.{length};
 ghost use Rattle.leaf_ledger.specs.Device.{HasRisen};
 ghost use Rattle.wire.specs.Frame.{frame, reply_body};
 ghost use Rattle.server_workers.specs.declared.connection.Ended.TheVariants as ended;
@@ -40,8 +41,11 @@ impl From<ConnectionFault> for Ended {
 
 /// Writes the frame of a reply.
 fn answer<C: Connection>(alloc: Global, connection: &mut C, reply: &ReplyBody) -> Result<(), Ended>
-    ensures ok { OnOk result (C.told connection.new ≡ goes_on [] (frame.spell (reply_body reply.now.status reply.now.payload)) (C.told connection.old)) }
-    ensures err { IfErr result (λ _. (part rest : List ℕ) × (C.told connection.new ≡ goes_on [] part (C.told connection.old)) × (frame.spell (reply_body reply.now.status reply.now.payload) ≡ part ++ rest)) }
+    ensures ok { OnOk result (C.told connection.new
+        ≡ goes_on [] (frame.spell (reply_body reply.now.status reply.now.payload)) (C.told connection.old)) }
+    ensures err { IfErr result (λ _. (part rest : List ℕ)
+        × (C.told connection.new ≡ goes_on [] part (C.told connection.old))
+        × (frame.spell (reply_body reply.now.status reply.now.payload) ≡ part ++ rest)) }
     ensures broken { IfErr result (λ e. (e ≡ ended.Fault) ⊎ (e ≡ ended.Memory)) }
     ensures cause { IsCaused (C.fault_count connection.old) (C.fault_count connection.new) result }
 {
@@ -57,8 +61,10 @@ fn read_on<C: Connection>(
     buffer: &mut [u8],
 ) -> Result<(), Ended>
     requires { 0 < length buffer.old }
-    ensures ok { OnOk result ((piece : List ℕ) × (C.told connection.new ≡ goes_on piece [] (C.told connection.old)) × (frames.new ≡ frames.old ++ piece)) }
-    ensures err { OnErr result ((piece : List ℕ) × (C.told connection.new ≡ goes_on piece [] (C.told connection.old)) × (result ≡ Err ended.End → piece ≡ [])) }
+    ensures ok { OnOk result ((piece : List ℕ) × (C.told connection.new ≡ goes_on piece [] (C.told connection.old))
+        × (frames.new ≡ frames.old ++ piece)) }
+    ensures err { OnErr result ((piece : List ℕ) × (C.told connection.new ≡ goes_on piece [] (C.told connection.old))
+        × (result ≡ Err ended.End → piece ≡ [])) }
     ensures kind { IfErr result (λ e. e ≢ ended.Length) }
     ensures end { result ≡ Err ended.End → C.is_at_end connection.new ≡ true }
     ensures cause { IsCaused (C.fault_count connection.old) (C.fault_count connection.new) result }
@@ -83,7 +89,8 @@ fn step<G: Gate, C: Connection, B: ServerName, L: Ledger, R: Wait>(
 ) -> Result<(), Ended>
     requires part { 0 < tally.old.share.parts }
     requires room { 0 < length buffer.old }
-    ensures goes_on { GoesOn B.pinned (record { told = C.told connection.old; answered = tally.old.answered; waiting = frames.old })
+    ensures goes_on { GoesOn B.pinned
+        (record { told = C.told connection.old; answered = tally.old.answered; waiting = frames.old })
         result (record { told = C.told connection.new; answered = tally.new.answered; waiting = frames.new }) }
     ensures end { result ≡ Err ended.End → C.is_at_end connection.new ≡ true }
     ensures cause { IsCaused (C.fault_count connection.old) (C.fault_count connection.new) result }
@@ -109,7 +116,8 @@ pub fn converse<G: Gate, C: Connection, B: ServerName, L: Ledger, R: Wait>(
     tally: &mut Tally<L>,
 ) -> Ended
     requires { 0 < tally.old.share.parts }
-    ensures conversed { Conversed B.pinned (C.told connection.old) (C.told connection.new) tally.old.answered tally.new.answered result }
+    ensures conversed { Conversed B.pinned (C.told connection.old) (C.told connection.new) tally.old.answered
+        tally.new.answered result }
     // It was read to its end.
     ensures end { result ≡ ended.End → C.is_at_end connection.new ≡ true }
     // It did fail.

@@ -9,8 +9,8 @@ use std::alloc::Global;
 use test_aids::{Host, check, let_go};
 use update_cert::Action;
 
-/// A file, by its i-number and its size, and how many blocks the operation asks for that makes it: the root of the i-table
-/// and the one chunk that changed last, but of the beginning none.
+/// A file, by its i-number and its size, and how many blocks the operation asks for that makes it: the root of the
+/// i-table and the one chunk that changed last, but of the beginning none.
 #[derive(Clone, Copy)]
 struct Case {
     number: u16,

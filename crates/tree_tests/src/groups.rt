@@ -1,5 +1,6 @@
 //! User 0's operations with a group, of which it is a member and then isn't: the table's text, the records of the group
-//! that its structures have, which changes are lost, and what stands in the view. A hostile store changes nothing of it.
+//! that its structures have, which changes are lost, and what stands in the view. A hostile store changes nothing of
+//! it.
 
 use crate::here::Here;
 use crate::world::{World, has_lost, new_world, operate, see_of};

@@ -93,8 +93,8 @@ const NEXT_HANDLE: [u8; 32] = *b"\
     \x74\xa0\x47\xd5\x5f\xa7\x14\xb9\x2f\x2f\x8d\x61\xd4\xcf\xd7\xd8";
 
 static FOUR: [Operation; 4] = [
-    // A look at the file asks for nothing, since the client laid it out, and one at the directory neither, since the client
-    // has its entries from the change.
+    // A look at the file asks for nothing, since the client laid it out, and one at the directory neither, since the
+    // client has its entries from the change.
     Operation {
         deeds: FIRST,
         asked: &[],

@@ -1,5 +1,5 @@
-//! A table of principals of two blocks, through a client: each of its blocks absent, cut, flipped and another one, in the
-//! place of what was asked for, and named by the i-node itself.
+//! A table of principals of two blocks, through a client: each of its blocks absent, cut, flipped and another one, in
+//! the place of what was asked for, and named by the i-node itself.
 
 use crate::here::Here;
 use crate::several_users::{broken_by, keep_each};

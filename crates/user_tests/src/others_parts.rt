@@ -1,5 +1,5 @@
-//! Blocks of parts of others, which user 1's client asks for by handles that others signed: of a group's part, which its
-//! own operation raises, and of parts that it looks at.
+//! Blocks of parts of others, which user 1's client asks for by handles that others signed: of a group's part, which
+//! its own operation raises, and of parts that it looks at.
 
 use crate::here::Here;
 use crate::several_users::{

@@ -1,6 +1,6 @@
 //! Replies to user 1 that show structures and pending operations of several users, made by hand over a table of
-//! principals made by hand: replies that break no rule, and replies that differ from those in one part and break the rule
-//! of that part.
+//! principals made by hand: replies that break no rule, and replies that differ from those in one part and break the
+//! rule of that part.
 
 use crate::here::Here;
 use client_aids::clients::{MemoryClient, client_with, declare, step_on};
@@ -20,8 +20,8 @@ use update_cert::Blocks;
 /// How many blocks are handed in at most for one reply.
 const BOUND: usize = 100;
 
-/// The rows of the table after their count: users 1 and 2 are members of group 64 from number 1 of user 0's on, user 3 is
-/// at number 1 alone, and user 2 is one of group 65 from number 2 on.
+/// The rows of the table after their count: users 1 and 2 are members of group 64 from number 1 of user 0's on, user 3
+/// is at number 1 alone, and user 2 is one of group 65 from number 2 on.
 const ROWS: &[u8] = b"\0\x04\
     \x40\x01\0\0\0\x01\0\0\0\0\
     \x40\x02\0\0\0\x01\0\0\0\0\
