@@ -11,11 +11,13 @@ use Rattle.layout.specs.Format.{FitRows, IsBytes, raw}
 use Rattle.principals.specs.Table.{Table}
 use Rattle.version_order.specs.declared.vector.Component.{Component}
 use Rattle.version_order.specs.Plan.{Plan, plan, entry}
-use Rattle.version_order.specs.Structure.{Structure, structure, group_record, nested_plan}
+use Rattle.version_order.specs.Structure.{Structure, structure, group_record}
+use Rattle.version_order.specs.StructureLaws.{nested_plan}
 use Rattle.update_cert.specs.Cert.{Cert, cert, digest_of, change_rows}
 use Rattle.pending_list.specs.declared.signed.Signed.{Signed}
 use Rattle.pending_list.specs.Groups.{groups_below}
-use Rattle.pending_list.specs.Reply.{PendingItem, outranks, reply, pending_item, pending_row_fits, reply_fits, signed_structure, structure_row_fits}
+use Rattle.pending_list.specs.Reply.{PendingItem, outranks, reply, pending_item, signed_structure}
+use Rattle.pending_list.specs.ReplyLaws.{pending_row_fits, reply_fits, structure_row_fits}
 use Rattle.reply_rules.specs.Broken.{broken}
 use Rattle.reply_rules.specs.Rules.{entries, every_below, group_records, link, lists, numbers, unknown_user, vector}
 use Rattle.agreement.specs.Runs.{Accepted, IsRun, View, reply_of}

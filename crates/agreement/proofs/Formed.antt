@@ -2,8 +2,8 @@
 use Rattle.std.proofs.Common.{◌≡◌, ◌<◌, List, [], ◌∷◌, Option, Some, None, Ok, sym, ap, ◌∙◌, subst, inl, inr, arith}
 use Rattle.std.specs.Int.{w8, w32}
 use Rattle.layout.specs.AscendingKeys.{lt_from_less}
-use Rattle.layout.specs.Format.{Format, FitRows, after_row, whole}
-use Rattle.layout.specs.Laws.{Lawful, in_range, whole_again}
+use Rattle.layout.specs.Format.{Format, FitRows, after_row, whole, Lawful}
+use Rattle.layout.specs.Laws.{in_range, whole_again}
 use Rattle.version_order.specs.declared.plan.Entry.{Entry}
 use Rattle.version_order.specs.Plan.{Plan, entry, plan}
 use Rattle.version_order.specs.declared.structure.GroupRecord.{GroupRecord}

@@ -7,9 +7,11 @@ use Rattle.std.proofs.lemmas.Bool.{eqb-true, eq-eqb, ne_eqb, cases_eq, and_parts
 use Rattle.std.proofs.lemmas.Slice.Eq.{bytes_eq-Decides}
 use Rattle.layout.specs.Hash.{hash}
 use Rattle.version_order.specs.declared.plan.Entry.{Entry}
-use Rattle.version_order.specs.Plan.{Plan, lawful_plan, plan}
+use Rattle.version_order.specs.Plan.{Plan, plan}
+use Rattle.version_order.specs.PlanLaws.{lawful_plan}
 use Rattle.version_order.specs.Structure.{Structure}
-use Rattle.update_cert.specs.Cert.{Cert, cert, digest_of, lawful_cert}
+use Rattle.update_cert.specs.Cert.{Cert, cert, digest_of}
+use Rattle.update_cert.specs.CertLaws.{lawful_cert}
 use Rattle.pending_list.specs.declared.signed.Signed.{Signed}
 use Rattle.pending_list.specs.Reply.{PendingItem}
 use Rattle.reply_rules.specs.Lists.{items, pending, shown, structure_of}

@@ -8,7 +8,8 @@ use Rattle.std.proofs.lemmas.List.{append_cancel_right, append-nil, map-append}
 use Rattle.std.proofs.lemmas.List.Elements.{filter-append}
 use Rattle.layout.specs.Types.{Handle, Key}
 use Rattle.principals.specs.Table.{Table, genesis as first_table, is_member, is_member_now}
-use Rattle.principals.specs.TableText.{lawful_table, table}
+use Rattle.principals.specs.TableText.{table}
+use Rattle.principals.specs.TableTextLaws.{lawful_table}
 use Rattle.version_order.specs.declared.plan.Entry.{Entry}
 use Rattle.version_order.specs.Plan.{Plan}
 use Rattle.version_order.specs.Structure.{Structure}

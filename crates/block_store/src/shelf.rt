@@ -35,7 +35,8 @@ impl<A: Allocator + Copy> Shelf<A> {
         requires own { digest ≡ hash bytes.now }
         requires small { length bytes.now ≤ 32779 }
         ensures put { OnOk result (IsPut (blocks_of self.old.blocks) bytes.now (blocks_of self.new.blocks)) }
-        ensures err { OnErr result ((digest : SeenDigest) → blocks_of self.new.blocks digest ≡ blocks_of self.old.blocks digest) }
+        ensures err { OnErr result ((digest : SeenDigest)
+            → blocks_of self.new.blocks digest ≡ blocks_of self.old.blocks digest) }
     {
         if self.blocks.contains_key(&digest) {
             return Ok(());
@@ -59,7 +60,8 @@ impl<A: Allocator + Copy> Shelf<A> {
     /// A copy of the block of a digest, if one is stored.
     pub(crate) fn copy(&self, digest: Digest) -> Result<Option<Vec<u8, A>>, Memory>
         ensures copied { IfOk result (λ copy. option_map vec_items copy ≡ blocks_of self.now.blocks digest) }
-        ensures own { IfOk result (λ copy. IfSome copy (λ block. (hash block.items ≡ digest) × (length block.items ≤ 32779))) }
+        ensures own { IfOk result (λ copy. IfSome copy
+            (λ block. (hash block.items ≡ digest) × (length block.items ≤ 32779))) }
     {
         match self.get(digest) {
             Some(block) => Ok(Some(Vec::from_slice(self.alloc, block)?)),

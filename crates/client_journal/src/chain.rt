@@ -1,9 +1,11 @@
 //! The records of a file, as they are found.
 
-ghost use Rattle.std.specs.Prelude.{◌≡◌, ◌⊎◌, ◌+◌, ◌^◌, ◌<◌, ◌≤◌, ◌==◌, ◌++◌, ◌∷◌, [], List, length, drop, get_or, IfOk, IfSome, IfNone, OnOk, OnErr, IsErrOf};
+ghost use Rattle.std.specs.Prelude.{◌≡◌, ◌⊎◌, ◌+◌, ◌^◌, ◌<◌, ◌≤◌, ◌==◌, ◌++◌, ◌∷◌, [], List, length, drop, get_or};
+ghost use Rattle.std.specs.Prelude.{IfOk, IfSome, IfNone, OnOk, OnErr, IsErrOf};
 ghost use Rattle.leaf_ledger.specs.Device.{end_of_files, synced, IsAtMostSynced, Throughout, HasRisen, HasCause};
 ghost use Rattle.client_journal.specs.Places.{part, Reaches, Ends, IsReady};
-ghost use Rattle.client_journal.specs.Records.{Record, open_gate, closed_gate, size_of_header, spelled, Tells, IsNew, IsOtherKind, EndsEarly, IsDamaged, KeepsJournal, MayBeLeft};
+ghost use Rattle.client_journal.specs.Records.{Record, open_gate, closed_gate, size_of_header, spelled, Tells, IsNew};
+ghost use Rattle.client_journal.specs.Records.{IsOtherKind, EndsEarly, IsDamaged, KeepsJournal, MayBeLeft};
 
 use crate::error::JournalError;
 use crate::kind::Kind;

@@ -16,7 +16,8 @@ pub enum JournalError {
     /// Memory ran out.
     #[error("out of memory")]
     Memory,
-    /// An open gate stands before another kind, before a record out of turn, or where the file ends before the next gate.
+    /// An open gate stands before another kind, before a record out of turn, or where the file ends before the next
+    /// gate.
     #[error("the journal is damaged")]
     Damaged,
 }

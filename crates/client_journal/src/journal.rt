@@ -3,7 +3,9 @@
 ghost use Rattle.std.specs.Prelude.{◌≡◌, ◌≢◌, ◌≤◌, List, [], ◌∷◌, ◌++◌, true, false, IfOk, IfErr, OnOk, OnErr, IsErrOf};
 ghost use Rattle.leaf_ledger.specs.Device.{at_rest, written, Leaves, Throughout, HasRisen};
 ghost use Rattle.client_journal.specs.Told.{state_of_held};
-ghost use Rattle.client_journal.specs.Records.{Record as PureRecord, Idle, closed_gate, chain, Tells, TellsState, TellsWithOrWithout, IsShort, IsNew, IsDamaged, MayCome, MayBeLeft, KeepsJournal};
+ghost use Rattle.client_journal.specs.Records.{Record as PureRecord, Idle, closed_gate, chain, Tells, TellsState};
+ghost use Rattle.client_journal.specs.Records.{TellsWithOrWithout, IsShort, IsNew, IsDamaged, MayCome, MayBeLeft};
+ghost use Rattle.client_journal.specs.Records.{KeepsJournal};
 ghost use Rattle.client_journal.specs.Life.{Nothing, Call, addition_of};
 
 use crate::chain::{End, OPEN, find_end};

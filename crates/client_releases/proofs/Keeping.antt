@@ -6,8 +6,7 @@ use Rattle.leaf_ledger.specs.Life.{Call}
 use Rattle.leaf_ledger.specs.declared.error.LedgerError.{LedgerError}
 use Rattle.leaf_ledger.specs.declared.error.LedgerError.TheVariants as ledger
 use Rattle.client_journal.proofs.Lives.{no_call as no_step}
-use Rattle.client_journal.specs.Life.{Appended, Tried}
-use Rattle.client_journal.specs.Life.{Call as Step}
+use Rattle.client_journal.specs.Life.{Appended, Tried, Call as Step}
 use Rattle.client_journal.specs.declared.kind.Kind.{Kind}
 use Rattle.client_journal.specs.Records.{JournalFile, Record, Tells, TellsWithOrWithout}
 use Rattle.client_releases.specs.Releasing.{AnyMoment, IsKept, IsTried}

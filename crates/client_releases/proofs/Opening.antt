@@ -9,8 +9,7 @@ use Rattle.leaf_ledger.specs.declared.error.LedgerError.{LedgerError}
 use Rattle.leaf_ledger.specs.declared.error.LedgerError.TheVariants as ledger
 use Rattle.client_journal.proofs.Chains.{one_telling}
 use Rattle.client_journal.proofs.Lives.{no_call as no_step}
-use Rattle.client_journal.specs.Life.{Nothing}
-use Rattle.client_journal.specs.Life.{Call as Step}
+use Rattle.client_journal.specs.Life.{Nothing, Call as Step}
 use Rattle.client_journal.specs.Records.{JournalFile, KeepsJournal, MayBeLeft, Record, State as Recorded, Tells, TellsState}
 use Rattle.client_journal.specs.declared.error.JournalError.{JournalError}
 use Rattle.client_journal.specs.declared.error.JournalError.TheVariants as journal

@@ -3,10 +3,13 @@ use Rattle.std.proofs.Common.{◌≡◌, ◌==◌, ℕ, List, ◌++◌, Option, 
 use Rattle.std.proofs.lemmas.Bool.Decides.{nat_tests}
 use Rattle.std.specs.Option.{option_and_then, option_map}
 use Rattle.layout.specs.Laws.{whole_again}
-use Rattle.version_order.specs.Structure.{Structure, structure, lawful_structure}
-use Rattle.update_cert.specs.Cert.{Cert, cert, lawful_cert}
+use Rattle.version_order.specs.Structure.{Structure, structure}
+use Rattle.version_order.specs.StructureLaws.{lawful_structure}
+use Rattle.update_cert.specs.Cert.{Cert, cert}
+use Rattle.update_cert.specs.CertLaws.{lawful_cert}
 use Rattle.pending_list.specs.declared.signed.Signed.{Signed}
-use Rattle.pending_list.specs.Signed.{signed, signature as signature_format, lawful_signed}
+use Rattle.pending_list.specs.Signed.{signed, signature as signature_format}
+use Rattle.pending_list.specs.SignedLaws.{lawful_signed}
 use Rattle.client_journal.specs.Records.{State as Recorded, Idle, Declared, Signed as Ended, may_come, next_state}
 use Rattle.client_journal.specs.declared.kind.Kind.TheVariants as kind
 use Rattle.client_releases.specs.Told.{IsPhase, Told, after_cert, after_structure, cert_in, structure_in, told_by}

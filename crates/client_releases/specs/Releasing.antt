@@ -4,8 +4,7 @@ use Rattle.layout.specs.Types.{Bytes}
 use Rattle.leaf_ledger.specs.Device.{History, HasRisen, Leaves, Throughout, at_rest}
 use Rattle.leaf_ledger.specs.Ledger.{IsFileOf, IsLeastFree, KeepsLedger, LeafNumber, LedgerState, UsedWithOrWithout, with_mark}
 use Rattle.leaf_ledger.specs.Life.{Call}
-use Rattle.client_journal.specs.Life.{Appended, Nothing, Tried}
-use Rattle.client_journal.specs.Life.{Call as Step}
+use Rattle.client_journal.specs.Life.{Appended, Nothing, Tried, Call as Step}
 use Rattle.client_journal.specs.Records.{JournalFile, KeepsJournal, MayBeLeft, Record, Tells, TellsWithOrWithout}
 use Rattle.client_journal.specs.declared.kind.Kind.TheVariants.{Certificate, Structure}
 

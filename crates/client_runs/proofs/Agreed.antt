@@ -8,14 +8,10 @@ use Rattle.version_order.specs.Structure.{Structure, structure}
 use Rattle.update_cert.specs.Cert.{Cert, cert}
 use Rattle.pending_list.specs.declared.signed.Signed.{Signed}
 use Rattle.pending_list.specs.Reply.{PendingItem}
-use Rattle.reply_rules.specs.Lists.{Lists, items, pending, structure_of}
-use Rattle.reply_rules.specs.Lists.{shown as plans_shown}
+use Rattle.reply_rules.specs.Lists.{Lists, items, pending, structure_of, shown as plans_shown}
 use Rattle.client_tree.specs.Genesis.{first_texts}
 use Rattle.agreement.specs.Lines.{Agree, AreNumbered, EndWithOwn, Grow, line}
-use Rattle.agreement.specs.Runs.{Accepted, View, last_signed, number_of, texts_of, user_of}
-use Rattle.agreement.specs.Runs.{IsRun as AreAccepted}
-use Rattle.agreement.specs.Runs.{NoCollision as NoViewCollision}
-use Rattle.agreement.specs.Runs.{structures as structures_of}
+use Rattle.agreement.specs.Runs.{Accepted, View, last_signed, number_of, texts_of, user_of, IsRun as AreAccepted, NoCollision as NoViewCollision, structures as structures_of}
 use Rattle.agreement.proofs.Lines as lines
 use Rattle.agreement.proofs.Members.{In, contains_in, flat_map-in, in-append, in-left, in-map, in-right, in_contains, map-in, to_all}
 use Rattle.release_runs.specs.Steps as low

@@ -4,7 +4,8 @@ use Rattle.std.specs.List.{All, Contains}
 use Rattle.layout.specs.Types.{Bytes, User}
 use Rattle.lms_sign.specs.Signature.{signature_of, valid}
 use Rattle.lms_sign.proofs.Validity.{length-signature}
-use Rattle.version_order.specs.Structure.{Structure, lawful_structure, structure}
+use Rattle.version_order.specs.Structure.{Structure, structure}
+use Rattle.version_order.specs.StructureLaws.{lawful_structure}
 use Rattle.update_cert.specs.Cert.{cert}
 use Rattle.client_releases.specs.Told.{cert_in}
 use Rattle.agreement.proofs.Formed.{same_spelled}
@@ -12,8 +13,7 @@ use Rattle.agreement.proofs.Members.{In, contains_in, in-append, in-map, in-righ
 use Rattle.release_runs.specs.Released.{unsigned}
 use Rattle.release_runs.specs.Steps as low
 use Rattle.release_runs.proofs.Once.{came}
-use Rattle.release_runs.proofs.Stories.{IsStory, OfCert, OfStructure, Release, cert_of, message}
-use Rattle.release_runs.proofs.Stories.{text as release_text}
+use Rattle.release_runs.proofs.Stories.{IsStory, OfCert, OfStructure, Release, cert_of, message, text as release_text}
 use Rattle.release_runs.proofs.Texts.{no_cert, unsigned_of}
 use Rattle.client_runs.specs.Runs.{Event, IsRun, Keys, owner, public_key}
 use Rattle.client_runs.specs.Released.{Shown, released, released_by, shown, shown_by}

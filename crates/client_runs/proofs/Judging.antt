@@ -1,13 +1,14 @@
 -- What a reply tells that breaks no rule.
 use Rattle.std.proofs.Common.{◌≡◌, ℕ, Bool, true, false, ◌==◌, List, [], ◌∷◌, Option, Some, None, Ok, Err, IfSome, find, refl, sym, ap, ◌∙◌, subst, inl, inr, option_map, if◌then◌else◌, not, ◌||◌}
 use Rattle.std.specs.Option.{option_map_or}
-use Rattle.std.proofs.lemmas.Bool.{eqb-true}
+use Rattle.std.proofs.lemmas.Bool.{eqb-true, and_parts}
 use Rattle.std.proofs.lemmas.Slice.Eq.{bytes_eq-Decides}
 use Rattle.layout.specs.Format.{Answer, Format, FitRows, after_row}
 use Rattle.layout.specs.Types.{Bytes, Key, User}
 use Rattle.lms_sign.specs.Signature.{valid}
 use Rattle.principals.specs.Table.{Table, key_of}
-use Rattle.version_order.specs.Structure.{Structure, lawful_structure, structure}
+use Rattle.version_order.specs.Structure.{Structure, structure}
+use Rattle.version_order.specs.StructureLaws.{lawful_structure}
 use Rattle.update_cert.specs.Cert.{cert}
 use Rattle.pending_list.specs.declared.signed.Signed.{Signed}
 use Rattle.pending_list.specs.Reply.{PendingItem, Reply, reply, signed_structure}
@@ -19,7 +20,6 @@ use Rattle.reply_rules.specs.Broken.{broken, later_rules, least}
 use Rattle.client_verify.specs.FirstBroken.{Known, cert_verifies, certificates, lists_break, of_reply, own_last, own_pending, same_bytes, shown_of, signatures, structure_sent, structure_verifies, super_signature, verifies}
 use Rattle.agreement.proofs.Members.{In}
 use Rattle.agreement.proofs.Tests.{all_in, first_holds}
-use Rattle.std.proofs.lemmas.Bool.{and_parts}
 
 -- ---- structures of a reply
 

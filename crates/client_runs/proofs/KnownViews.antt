@@ -39,8 +39,7 @@ use Rattle.agreement.specs.Runs.{View}
 use Rattle.agreement.proofs.Members.{In, in-append, in-left, in-right}
 use Rattle.client_runs.specs.Steps.{Asks, Begins, Call, Client, Closed, Closes, Commits, Crashes, Gives, HasBegun, HasGiven, HasHeard, HasLooked, HasSigned, HasTaken, Hears, IsStep, Looks, Open, Opens, Owner, Sees, Signs, Takes}
 use Rattle.client_runs.specs.Runs.{Event, IsRun, Keys, client_of, owner, public_key}
-use Rattle.client_runs.specs.Released.{accepted_by, hashed_at, hashed_by, in_hand, reply_texts, stored_texts, tried_by, tried_view, views, where_signed}
-use Rattle.client_runs.specs.Released.{view_over as over}
+use Rattle.client_runs.specs.Released.{accepted_by, hashed_at, hashed_by, in_hand, reply_texts, stored_texts, tried_by, tried_view, views, where_signed, view_over as over}
 use Rattle.client_runs.proofs.Among.{AreAmong, agrees_within, among_all_kept, among_kept, among_none, are_within, of_texts}
 use Rattle.client_runs.proofs.FirstChunk.{HasChunk}
 use Rattle.client_runs.proofs.Stored.{Names, NamesSame, made}

@@ -17,7 +17,8 @@ use Rattle.layout.specs.Types.{Bytes, Digest, Key, User, Version}
 use Rattle.principals.specs.declared.table.Listing.{Listing}
 use Rattle.principals.specs.declared.table.Row.{Row}
 use Rattle.principals.specs.Table.{Table, ended, genesis, is_member_now, key_of, lists_user, user_of}
-use Rattle.principals.specs.TableText.{key, lawful_users, rows_of, table, users}
+use Rattle.principals.specs.TableText.{key, rows_of, table, users}
+use Rattle.principals.specs.TableTextLaws.{lawful_users}
 use Rattle.update_cert.specs.Change.{Action, Make, Put, Remove, Link, Unlink, AddUser, AddMember, DropMember, Change, change}
 use Rattle.update_cert.specs.Tables.{alters, table_after, table_after_change, table_becomes, table_effect}
 use Rattle.update_cert.proofs.ActLaws.{at_table}

@@ -7,7 +7,8 @@ use Rattle.layout.specs.Format.{IsBytes, whole}
 use Rattle.layout.specs.Laws.{is_found}
 use Rattle.layout.specs.Types.{Bytes}
 use Rattle.principals.specs.Table.{Table}
-use Rattle.pending_list.specs.Reply.{PendingItem, Reply, lawful_reply, reply}
+use Rattle.pending_list.specs.Reply.{PendingItem, Reply, reply}
+use Rattle.pending_list.specs.ReplyLaws.{lawful_reply}
 use Rattle.reply_rules.specs.Lists.{Lists, items, lists_of}
 use Rattle.reply_rules.specs.ListsLaws.{lists_are, no_lists}
 use Rattle.client_releases.specs.Told.{Released}

@@ -20,14 +20,12 @@ use Rattle.itable.specs.declared.chunk.Pair.{Pair}
 use Rattle.itable.specs.declared.root.ListedChunk.{ListedChunk}
 use Rattle.itable.specs.File.{NoneCollide, blocks_of, inode_of}
 use Rattle.itable.specs.Inode.{Inode, inode}
-use Rattle.itable.specs.ITable.{ITable, IsPair, IsTable, digest_at, digest_in, is_listed, listing, listings, new_texts, root_of, text_of_chunk}
-use Rattle.itable.specs.ITable.{handle_of as table_handle}
+use Rattle.itable.specs.ITable.{ITable, IsPair, IsTable, digest_at, digest_in, is_listed, listing, listings, new_texts, root_of, text_of_chunk, handle_of as table_handle}
 use Rattle.itable.specs.Root.{number_of, root}
 use Rattle.itable.specs.Chunk.{chunk}
 use Rattle.itable.proofs.Blocks.{next_block, no_block}
 use Rattle.itable.proofs.ChunkLaws.{no_text}
-use Rattle.itable.proofs.FileLaws.{file_fits}
-use Rattle.itable.proofs.FileLaws.{joined as blocks_joined}
+use Rattle.itable.proofs.FileLaws.{file_fits, joined as blocks_joined}
 use Rattle.itable.proofs.RootLaws.{lists}
 use Rattle.principals.specs.TableText.{table}
 use Rattle.update_cert.specs.World.{Content, File}
@@ -37,8 +35,7 @@ use Rattle.update_cert.specs.Slots.{changed_texts, has_digest}
 use Rattle.update_cert.proofs.Contents.{file_is, inode_held}
 use Rattle.client_tree.specs.Genesis.{common_texts, first_handle, inode_digest, root_inode, first_table, first_table_texts, first_texts, principals, table_inode, table_text}
 use Rattle.client_tree.specs.Tree.{IsStored, Stored, principals_digest, principals_texts}
-use Rattle.client_tree.specs.View.{View}
-use Rattle.client_tree.specs.View.{handle_of as handle_in_view}
+use Rattle.client_tree.specs.View.{View, handle_of as handle_in_view}
 use Rattle.agreement.proofs.Members.{In, flat_map-in, in-kept, in-left, in-right}
 use Rattle.agreement.proofs.Tests.{any_in}
 use Rattle.client_runs.proofs.Among.{AreAmong, all_held, are_within, of_texts, told_within}

@@ -9,12 +9,12 @@ use Rattle.lms_sign.specs.Signature.{signature_of, valid}
 use Rattle.lms_sign.proofs.Validity.{length-signature}
 use Rattle.itable.specs.File.{NoneCollide}
 use Rattle.principals.specs.Table.{Table, genesis, key_of}
-use Rattle.principals.specs.TableText.{table}
-use Rattle.principals.specs.TableText.{key as key_form}
+use Rattle.principals.specs.TableText.{table, key as key_form}
 use Rattle.version_order.specs.Plan.{Plan}
 use Rattle.version_order.specs.Structure.{Structure, structure}
 use Rattle.update_cert.specs.Change.{Action, Make, Put, Remove, Link, Unlink, AddUser, AddMember, DropMember, Change}
-use Rattle.update_cert.specs.Cert.{Cert, cert, lawful_cert}
+use Rattle.update_cert.specs.Cert.{Cert, cert}
+use Rattle.update_cert.specs.CertLaws.{lawful_cert}
 use Rattle.update_cert.specs.World.{File, Principals, Tree}
 use Rattle.update_cert.specs.Reading.{Reading, after_read}
 use Rattle.update_cert.specs.Tables.{table_after}
@@ -36,8 +36,7 @@ use Rattle.agreement.proofs.Members.{In, in-append, in-filter, in-left, in-map, 
 use Rattle.release_runs.specs.Released.{unsigned}
 use Rattle.release_runs.specs.Steps as low
 use Rattle.release_runs.proofs.Once.{came}
-use Rattle.release_runs.proofs.Stories.{OfCert, OfStructure, Release, cert_of, message}
-use Rattle.release_runs.proofs.Stories.{text as release_text}
+use Rattle.release_runs.proofs.Stories.{OfCert, OfStructure, Release, cert_of, message, text as release_text}
 use Rattle.release_runs.proofs.Texts.{cert_read, no_cert}
 use Rattle.client_runs.specs.Runs.{Event, IsRun, Keys, client_of, owner, public_key}
 use Rattle.client_runs.specs.Released.{accepted_by, hashed, hashed_at, released, released_by, shown_cert, shown_structure, tried_view, views}

@@ -12,9 +12,11 @@ use Rattle.layout.specs.Types.{Bytes, User}
 use Rattle.layout.specs.Laws.{whole_again}
 use Rattle.layout.specs.declared.error.ReadError.{ReadError}
 use Rattle.version_order.specs.Structure.{Structure}
-use Rattle.update_cert.specs.Cert.{Cert, cert, lawful_cert}
+use Rattle.update_cert.specs.Cert.{Cert, cert}
+use Rattle.update_cert.specs.CertLaws.{lawful_cert}
 use Rattle.pending_list.specs.declared.signed.Signed.{Signed}
-use Rattle.pending_list.specs.Signed.{signed, lawful_signed}
+use Rattle.pending_list.specs.Signed.{signed}
+use Rattle.pending_list.specs.SignedLaws.{lawful_signed}
 use Rattle.pending_list.specs.Reply.{PendingItem, Reply, pending_item, reply}
 use Rattle.client_journal.specs.Records.{State as Recorded, Idle, Declared, Signed as Ended}
 use Rattle.client_releases.specs.Told.{IsPhase, IsReleased, Released, Told, after_cert, after_structure, cert_in, structure_in, told_by, told_of}

@@ -16,11 +16,11 @@ use Rattle.layout.specs.Hash.{hash}
 use Rattle.itable.specs.declared.inode.Kind.TheVariants as kind
 use Rattle.itable.specs.Inode.{inode}
 use Rattle.itable.specs.File.{NoneCollide, blocks_of}
-use Rattle.itable.specs.ITable.{digest_in}
+use Rattle.itable.specs.ITable.{digest_in, digest_at}
 use Rattle.itable.proofs.Blocks.{next_block, no_block}
 use Rattle.itable.proofs.FileLaws.{file_fits, inode_fits}
-use Rattle.directory.specs.Directory.{directory, lawful_directory}
-use Rattle.itable.specs.ITable.{digest_at}
+use Rattle.directory.specs.Directory.{directory}
+use Rattle.directory.specs.DirectoryLaws.{lawful_directory}
 use Rattle.update_cert.specs.World.{Content, File, Directory, Principals, genesis, is_table, is_root}
 use Rattle.update_cert.specs.Reading.{Reading}
 use Rattle.update_cert.specs.Blocks.{Agrees, Blocks, directory_over, file_over, if_of_size, joined, of_size}

@@ -1,16 +1,14 @@
 -- The structures of a reply ascend by user.
 use Rattle.std.proofs.Common.{◌≡◌, ℕ, Bool, true, false, ◌&&◌, ◌-◌, List, [], ◌∷◌, ◌++◌, length, Option, Some, None, map, refl, sym, ap, subst, ◌∙◌, arith}
-use Rattle.std.specs.Prelude.{nat_lt}
+use Rattle.std.specs.Prelude.{nat_lt, IfSome, IsSome, IsSomeAnd, slice_get}
 use Rattle.std.specs.Ordering.{nat_cmp, is_lt}
 use Rattle.std.proofs.lemmas.List.{length-append}
 use Rattle.std.proofs.lemmas.Bool.Decides.{nat_tests}
 use Rattle.layout.specs.Ascending.{Ascends}
 use Rattle.version_order.specs.Structure.{Structure}
 use Rattle.pending_list.specs.declared.signed.Signed.{Signed}
-use Rattle.pending_list.specs.Reply.{user_of}
-use Rattle.std.specs.Prelude.{IfSome, IsSome, IsSomeAnd, slice_get}
+use Rattle.pending_list.specs.Reply.{user_of, PendingItem, Reply}
 use Rattle.std.specs.Option.{option_map}
-use Rattle.pending_list.specs.Reply.{PendingItem, Reply}
 use Rattle.reply_rules.specs.Lists.{Lists, lists_of, split_last}
 use Rattle.reply_rules.specs.ListsLaws.{lists_are}
 use Rattle.reply_rules.specs.Rules.{ascends, ascends_after}

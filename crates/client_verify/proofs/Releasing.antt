@@ -1,9 +1,9 @@
 -- What a client's releases do, seen from the client.
 use Rattle.std.proofs.Common.{◌≡◌, ◌≢◌, ℕ, ◌+◌, List, ◌++◌, length, Option, Some, None, Ok, Err, Bool, true, false, inl, inr, refl, sym, ap, subst, ◌<◌, ◌∙◌, length-append, arith}
 use Rattle.std.specs.Prelude.{◌↔◌, ◌⊎◌, Result, IfErr, IfSome, IsErrOf, IsSome, IsSomeAnd, OnErr, OnOk}
-use Rattle.layout.specs.Types.{Bytes, Key}
+use Rattle.layout.specs.Types.{Bytes, Key, Digest}
 use Rattle.layout.specs.Format.{be}
-use Rattle.layout.specs.Hash.{length-hash}
+use Rattle.layout.specs.HashLaws.{length-hash}
 use Rattle.lms_sign.specs.Tree.{inner_node, node}
 use Rattle.lms_sign.specs.Keys.{lms_type, ots_type, public_key_of}
 use Rattle.lms_sign.specs.Signature.{signature_of, valid}
@@ -12,7 +12,6 @@ use Rattle.leaf_ledger.specs.Ledger.{IsFull, IsLeastFree, LeafNumber}
 use Rattle.client_journal.specs.Records.{Record}
 use Rattle.version_order.specs.Structure.{Structure, structure}
 use Rattle.update_cert.specs.Change.{Change}
-use Rattle.layout.specs.Types.{Digest}
 use Rattle.update_cert.specs.Cert.{cert}
 use Rattle.pending_list.specs.declared.signed.Signed.{Signed}
 use Rattle.principals.specs.Table.{Table}

@@ -11,10 +11,13 @@ use Rattle.lms_sign.specs.Signature.{valid}
 use Rattle.version_order.specs.declared.vector.Component.{Component}
 use Rattle.version_order.specs.declared.plan.Entry.{Entry}
 use Rattle.version_order.specs.Vector.{version_of, raised, raised_all, can_raise_all}
-use Rattle.version_order.specs.Plan.{Plan, plan, lawful_plan, entry_of}
-use Rattle.update_cert.specs.Cert.{Cert, cert, lawful_cert, digest_of}
+use Rattle.version_order.specs.Plan.{Plan, plan, entry_of}
+use Rattle.version_order.specs.PlanLaws.{lawful_plan}
+use Rattle.update_cert.specs.Cert.{Cert, cert, digest_of}
+use Rattle.update_cert.specs.CertLaws.{lawful_cert}
 use Rattle.pending_list.specs.declared.signed.Signed.{Signed}
-use Rattle.pending_list.specs.Signed.{signature, signed, lawful_signed}
+use Rattle.pending_list.specs.Signed.{signature, signed}
+use Rattle.pending_list.specs.SignedLaws.{lawful_signed}
 use Rattle.pending_list.specs.Reply.{PendingItem, pending_item, digest_of_last, reply}
 use Rattle.principals.specs.Table.{Table, key_of}
 use Rattle.wire.specs.declared.kinds.Status.TheVariants as status

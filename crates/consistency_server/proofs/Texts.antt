@@ -3,8 +3,7 @@ use Rattle.std.proofs.Common.{◌≡◌, ℕ, true, false, List, [], ◌++◌, R
 use Rattle.std.specs.Prelude.{IfOk}
 use Rattle.std.specs.Str.{bytes_eq}
 use Rattle.std.proofs.lemmas.Slice.Eq.{bytes_eq-Decides}
-use Rattle.layout.specs.Format.{Format, Answer}
-use Rattle.layout.specs.Laws.{Lawful}
+use Rattle.layout.specs.Format.{Format, Answer, Lawful}
 
 -- the value that was read, or the other one
 abbrev value_or : {V : Type 0} → V → Answer V → V

@@ -1,2 +1,4 @@
 pub mod Name
+pub mod NameLaws
 pub mod Directory
+pub mod DirectoryLaws

@@ -5,7 +5,6 @@ use Rattle.std.specs.Int.{w8}
 use Rattle.std.specs.List.{list_any}
 use Rattle.std.specs.Str.{is_utf8, bytes_eq}
 use Rattle.layout.specs.Format.{Format, uint_in, guarded, string}
-use Rattle.layout.specs.Laws.{Lawful, laws}
 use Rattle.layout.specs.declared.error.ReadError.TheVariants.{Range}
 
 abbrev pub has_length : List ℕ → Bool
@@ -29,6 +28,3 @@ is_name bytes = is_utf8 bytes && is_allowed bytes
 -- The length, and as many bytes. A length of 0 is no name's, and one byte holds no greater one than 255.
 abbrev pub name : Format (List ℕ)
 name = guarded (string (uint_in w8 0 255)) is_name Range
-
-pub lawful_name : Lawful name
-lawful_name = search laws depth 9

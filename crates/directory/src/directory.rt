@@ -1,6 +1,7 @@
 //! Directories.
 
-ghost use Rattle.std.specs.Prelude.{◌≡◌, ◌≢◌, ◌↔◌, ◌<◌, ◌≤◌, true, false, [], length, Option, IsSome, MatchResult, IfOk, IfErr, OnErr, OnOk};
+ghost use Rattle.std.specs.Prelude.{◌≡◌, ◌≢◌, ◌↔◌, ◌<◌, ◌≤◌, true, false, [], length, Option, IsSome, MatchResult};
+ghost use Rattle.std.specs.Prelude.{IfOk, IfErr, OnErr, OnOk};
 ghost use Rattle.layout.specs.Ascending.{Stands, IsFree};
 ghost use Rattle.layout.specs.Format.{Reads};
 ghost use Rattle.directory.specs.Name.{is_name};
@@ -34,7 +35,8 @@ impl<A: Allocator> Model for Directory<A> {
 }
 
 impl<A: Allocator + Copy> Text<A> for Directory<A> {
-    ghost use Rattle.directory.specs.Directory.{directory, lawful_directory};
+    ghost use Rattle.directory.specs.Directory.{directory};
+    ghost use Rattle.directory.specs.DirectoryLaws.{lawful_directory};
 
     ghost format = { directory };
 
@@ -57,7 +59,8 @@ impl<A: Allocator + Copy> Text<A> for Directory<A> {
 /// Where the entry of a name stands, or where it would stand.
 fn find<A: Allocator>(entries: &[Entry<A>], name: &[u8]) -> Result<usize, usize>
     requires { directory.Fits entries.now }
-    ensures { MatchResult result (Stands by_bytes name_of entries.now name.now) (IsFree by_bytes name_of entries.now name.now) }
+    ensures { MatchResult result (Stands by_bytes name_of entries.now name.now)
+        (IsFree by_bytes name_of entries.now name.now) }
 {
     entries.binary_search_by(|entry| entry.name().as_bytes().cmp(name))
 }
@@ -73,7 +76,8 @@ fn room_for<'a, A: Allocator>(
     ensures few { OnOk result (length entries.now < 1024) }
     ensures there { (result ≡ Err DirError.There) ↔ IsSome (target_of entries.now name.now) }
     ensures bad_name { (result ≡ Err DirError.BadName) ↔ (is_name name.now ≡ false) }
-    ensures full { (result ≡ Err DirError.Full) ↔ ((target_of entries.now name.now ≡ None) × (is_name name.now ≡ true) × (length entries.now ≡ 1024)) }
+    ensures full { (result ≡ Err DirError.Full)
+        ↔ ((target_of entries.now name.now ≡ None) × (is_name name.now ≡ true) × (length entries.now ≡ 1024)) }
     ensures only { IfErr result (λ e. (e ≢ DirError.Absent) × (e ≢ DirError.Memory)) }
 {
     let Err(place) = find(entries, name) else {
@@ -95,7 +99,8 @@ impl<A: Allocator + Copy> Directory<A> {
         ensures change { OnOk result (ChangesOnly self.old self.new name.now (Some target)) }
         ensures there { (result ≡ Err DirError.There) ↔ IsSome (target_of self.old name.now) }
         ensures bad_name { (result ≡ Err DirError.BadName) ↔ (is_name name.now ≡ false) }
-        ensures full { (result ≡ Err DirError.Full) ↔ ((target_of self.old name.now ≡ None) × (is_name name.now ≡ true) × (length self.old ≡ 1024)) }
+        ensures full { (result ≡ Err DirError.Full)
+            ↔ ((target_of self.old name.now ≡ None) × (is_name name.now ≡ true) × (length self.old ≡ 1024)) }
         ensures only { IfErr result (λ e. e ≢ DirError.Absent) }
         ensures err { OnErr result (self.new ≡ self.old) }
     {
@@ -142,7 +147,7 @@ impl<A: Allocator> Directory<A> {
     }
 
     /// The entries, in the order of the names' bytes.
-    #[tactic(auto, using(crate::specs::Directory::size_of))]
+    #[tactic(auto, using(crate::specs::DirectoryLaws::size_of))]
     pub fn entries(&self) -> &[Entry<A>]
         ensures same { result.now ≡ self.now }
         ensures fits { directory.Fits self.now }

@@ -63,7 +63,8 @@ impl<A: Allocator> Entry<A> {
 }
 
 impl<A: Allocator + Copy> Text<A> for Entry<A> {
-    ghost use Rattle.directory.specs.Directory.{named, lawful_named};
+    ghost use Rattle.directory.specs.Directory.{named};
+    ghost use Rattle.directory.specs.DirectoryLaws.{lawful_named};
 
     ghost format = { named };
 

@@ -54,7 +54,8 @@ fn is_allowed(bytes: &[u8]) -> bool
 /// The bytes as a text, if they are a name.
 #[tactic(auto, using(crate::proofs::Names::name_tests))]
 pub fn name_text(bytes: &[u8]) -> Option<&str>
-    ensures { MatchOption result (is_name bytes.now ≡ false) (λ text. (is_name bytes.now ≡ true) × (text.now ≡ bytes.now)) }
+    ensures { MatchOption result (is_name bytes.now ≡ false)
+        (λ text. (is_name bytes.now ≡ true) × (text.now ≡ bytes.now)) }
 {
     match std::str::from_utf8(bytes) {
         Ok(text) if is_allowed(bytes) => Some(text),
@@ -92,7 +93,8 @@ pub fn read_name<'a>(reader: &mut Reader<'a>) -> Result<&'a str, ReadError>
 }
 
 impl<A: Allocator + Copy> Text<A> for Name<A> {
-    ghost use Rattle.directory.specs.Name.{name, lawful_name};
+    ghost use Rattle.directory.specs.Name.{name};
+    ghost use Rattle.directory.specs.NameLaws.{lawful_name};
 
     ghost format = { name };
 

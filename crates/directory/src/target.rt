@@ -39,7 +39,8 @@ pub(crate) fn read_target(reader: &mut Reader<'_>) -> Result<Target, ReadError>
 }
 
 impl<A: Allocator + Copy> Text<A> for Target {
-    ghost use Rattle.directory.specs.Directory.{target, lawful_target};
+    ghost use Rattle.directory.specs.Directory.{target};
+    ghost use Rattle.directory.specs.DirectoryLaws.{lawful_target};
 
     ghost format = { target };
 

@@ -16,7 +16,8 @@ use Rattle.layout.specs.Sizes.{KeysAscend, least_key, few_rows}
 use Rattle.layout.specs.Ascending.{above, Ascends, row_at}
 use Rattle.layout.specs.AscendingLaws.{ascends_earlier}
 use Rattle.itable.specs.declared.chunk.Pair.{Pair}
-use Rattle.itable.specs.Chunk.{chunk, chunk_number, i_number_of, pair_row, lawful_chunk}
+use Rattle.itable.specs.Chunk.{chunk, chunk_number, i_number_of, pair_row}
+use Rattle.itable.specs.ChunkLaws.{lawful_chunk}
 use Rattle.itable.specs.ITable.{ITable, IsPair, IsTable, is_in, chunk_of, digest_at, text_of_chunk}
 use Rattle.itable.proofs.Runs.{lt_from_less, same_key}
 

@@ -9,7 +9,8 @@ use Rattle.layout.specs.Laws.{in_range_fits, whole_again}
 use Rattle.layout.specs.Hash.{hash}
 use Rattle.itable.specs.declared.inode.Kind.{Kind}
 use Rattle.itable.specs.declared.inode.Kind.TheVariants.{File, Directory}
-use Rattle.itable.specs.Inode.{Inode, block_count, inode, kind, size, digests, lawful_inode}
+use Rattle.itable.specs.Inode.{Inode, block_count, inode, kind, size, digests}
+use Rattle.itable.specs.InodeLaws.{lawful_inode}
 use Rattle.itable.specs.File.{pieces, blocks_of, inode_over, inode_of, AreBlocks, NoneCollide, IsKnown}
 use Rattle.itable.proofs.Hashes.{hashes_fit}
 

@@ -14,7 +14,8 @@ use Rattle.layout.specs.Laws.{in_range_fits, listed_fits, whole_again}
 use Rattle.layout.specs.Hash.{hash}
 use Rattle.layout.specs.Ascending.{above, row_at}
 use Rattle.itable.specs.declared.root.ListedChunk.{ListedChunk}
-use Rattle.itable.specs.Root.{root, chunk_row, number_of, lawful_root}
+use Rattle.itable.specs.Root.{root, chunk_row, number_of}
+use Rattle.itable.specs.RootLaws.{lawful_root}
 use Rattle.itable.specs.ITable.{ITable, IsTable, listing, listings, root_of, text_of_chunk}
 use Rattle.layout.specs.HashLaws.{hash_fits}
 use Rattle.itable.proofs.Runs.{less_from_lt}

@@ -1,10 +1,9 @@
 -- Chunks of an i-table: `STC1`, the number of the chunk, and the pairs of the i-numbers in it, ascending.
 -- The bytes stand in docs/FORMATS.md.
-use Rattle.std.specs.Prelude.{ℕ, ◌/◌, ◌==◌, List, Option, codes}
+use Rattle.std.specs.Prelude.{ℕ, ◌/◌, ◌==◌, List, codes}
 use Rattle.std.specs.Int.{w8}
 use Rattle.std.specs.Ordering.{nat_cmp}
 use Rattle.layout.specs.Format.{Format, RowAfter, uint_in, raw, pair, guarded, followed, headed, mapped, listed}
-use Rattle.layout.specs.Laws.{Lawful, laws}
 use Rattle.layout.specs.Ranges.{i_number}
 use Rattle.layout.specs.Ascending.{above}
 use Rattle.layout.specs.declared.error.ReadError.TheVariants.{Order, Range}
@@ -35,9 +34,3 @@ chunk =
     headed (codes "STC1")
     (mapped (λ p. record { number = p.0; pairs = p.1 }) (λ c. (c.number, c.pairs))
     (followed (uint_in w8 0 63) (λ number. listed (uint_in w8 1 64) (pair_row number))))
-
-pub lawful_pair_row : (number : ℕ) (before : Option Pair) → Lawful (pair_row number before)
-lawful_pair_row number before = search laws depth 9
-
-pub lawful_chunk : Lawful chunk
-lawful_chunk = search (laws, lawful_pair_row) depth 9

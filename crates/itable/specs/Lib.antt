@@ -1,6 +1,9 @@
 pub mod Inode
+pub mod InodeLaws
 pub mod File
 pub mod Chunk
+pub mod ChunkLaws
 pub mod Root
+pub mod RootLaws
 pub mod ITable
 pub mod Known

@@ -4,7 +4,6 @@ use Rattle.std.specs.Prelude.{ℕ, List, Option, codes}
 use Rattle.std.specs.Int.{w8}
 use Rattle.std.specs.Ordering.{nat_cmp}
 use Rattle.layout.specs.Format.{Format, RowAfter, uint_in, raw, pair, guarded, headed, mapped, listed}
-use Rattle.layout.specs.Laws.{Lawful, laws}
 use Rattle.layout.specs.Ranges.{principal}
 use Rattle.layout.specs.Ascending.{above, row_at}
 use Rattle.layout.specs.declared.error.ReadError.TheVariants.{Order}
@@ -33,9 +32,3 @@ root =
     headed (codes "STR1")
     (mapped (λ p. record { principal = p.0; chunks = p.1 }) (λ r. (r.principal, r.chunks))
     (pair principal (listed (uint_in w8 0 64) chunk_row)))
-
-pub lawful_chunk_row : (before : Option ListedChunk) → Lawful (chunk_row before)
-lawful_chunk_row before = search laws depth 9
-
-pub lawful_root : Lawful root
-lawful_root = search (laws, lawful_chunk_row) depth 9

@@ -1,7 +1,8 @@
 //! Chunks of an i-table.
 
 ghost use Rattle.layout.specs.declared.error.ReadError.TheVariants as read_error;
-ghost use Rattle.std.specs.Prelude.{◌≡◌, ◌≢◌, ◌<◌, ◌≤◌, ◌++◌, ◌/◌, Option, Ok, OnOk, OnErr, IfOk, IfErr, MatchOption, length};
+ghost use Rattle.std.specs.Prelude.{◌≡◌, ◌≢◌, ◌<◌, ◌≤◌, ◌++◌, ◌/◌, Option, Ok, OnOk, OnErr, IfOk, IfErr, MatchOption};
+ghost use Rattle.std.specs.Prelude.{length};
 ghost use Rattle.std.specs.Int.{w8};
 ghost use Rattle.std.specs.Option.{option_copied};
 ghost use Rattle.layout.specs.Format.{BeginsWith, Reads, Gives, IsBytes, uint_in, whole};
@@ -143,7 +144,8 @@ pub(crate) fn write_chunk<A: Allocator + Copy>(
     pairs: &[Pair],
 ) -> Result<(), Memory>
     requires { length pairs.now < 256 }
-    ensures ok { OnOk result (writer.new ≡ chunk_format.onto writer.old (record { number = number; pairs = pairs.now })) }
+    ensures ok { OnOk result (writer.new
+        ≡ chunk_format.onto writer.old (record { number = number; pairs = pairs.now })) }
     ensures front { OnErr result (BeginsWith writer.new writer.old) }
 {
     writer.tag(b"STC1")?;
@@ -153,7 +155,8 @@ pub(crate) fn write_chunk<A: Allocator + Copy>(
 }
 
 impl<A: Allocator + Copy> Text<A> for Chunk<A> {
-    ghost use Rattle.itable.specs.Chunk.{chunk, lawful_chunk};
+    ghost use Rattle.itable.specs.Chunk.{chunk};
+    ghost use Rattle.itable.specs.ChunkLaws.{lawful_chunk};
 
     ghost format = { chunk };
 
@@ -196,7 +199,8 @@ pub fn read_chunk<A: Allocator + Copy>(alloc: A, bytes: &[u8]) -> Result<Chunk<A
     // What is read is spelled so.
     ensures found { IfOk result (λ c. chunk_format.Fits c × (bytes.now ≡ chunk_format.spell c)) }
     // What is spelled so is read, unless memory runs out.
-    ensures only { (c : PlainChunk) → chunk_format.Fits c → bytes.now ≡ chunk_format.spell c → Gives (λ y. y) result (Ok c) }
+    ensures only { (c : PlainChunk) → chunk_format.Fits c → bytes.now ≡ chunk_format.spell c
+        → Gives (λ y. y) result (Ok c) }
     // Which fault it is.
     ensures exact { Gives (λ c. c) result (whole chunk_format bytes.now) }
 {

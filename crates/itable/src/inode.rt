@@ -111,7 +111,8 @@ impl<A: Allocator> Model for Inode<A> {
 }
 
 impl<A: Allocator + Copy> Text<A> for Inode<A> {
-    ghost use Rattle.itable.specs.Inode.{inode, lawful_inode};
+    ghost use Rattle.itable.specs.Inode.{inode};
+    ghost use Rattle.itable.specs.InodeLaws.{lawful_inode};
 
     ghost format = { inode };
 

@@ -1,6 +1,7 @@
 //! Pairs that ascend by i-number, as a map.
 
-ghost use Rattle.std.specs.Prelude.{◌≡◌, ◌<◌, ◌≤◌, ◌-◌, take, drop, None, IsSome, IsOk, OnOk, OnErr, MatchResult, filter, length};
+ghost use Rattle.std.specs.Prelude.{◌≡◌, ◌<◌, ◌≤◌, ◌-◌, take, drop, None, IsSome, IsOk, OnOk, OnErr, MatchResult};
+ghost use Rattle.std.specs.Prelude.{filter, length};
 ghost use Rattle.std.specs.Ordering.{nat_cmp};
 ghost use Rattle.std.specs.List.{AllWithin};
 ghost use Rattle.layout.specs.Ascending.{Ascends, Stands, IsFree, row_at, with_row, without_row};
@@ -15,7 +16,8 @@ use std::ops::Range;
 /// Where an i-number stands, or where it would stand.
 fn find(pairs: &[Pair], i_number: INumber) -> Result<usize, usize>
     requires { Ascends nat_cmp i_number_of None pairs.now }
-    ensures { MatchResult result (Stands nat_cmp i_number_of pairs.now i_number) (IsFree nat_cmp i_number_of pairs.now i_number) }
+    ensures { MatchResult result (Stands nat_cmp i_number_of pairs.now i_number)
+        (IsFree nat_cmp i_number_of pairs.now i_number) }
 {
     pairs.binary_search_by_key(&i_number.get(), |pair| pair.i_number.get())
 }

@@ -73,7 +73,8 @@ pub(crate) fn write_root<A: Allocator + Copy>(
     chunks: &[ListedChunk],
 ) -> Result<(), Memory>
     requires { length chunks.now < 256 }
-    ensures ok { OnOk result (writer.new ≡ root_format.onto writer.old (record { principal = principal; chunks = chunks.now })) }
+    ensures ok { OnOk result (writer.new
+        ≡ root_format.onto writer.old (record { principal = principal; chunks = chunks.now })) }
     ensures front { OnErr result (BeginsWith writer.new writer.old) }
 {
     writer.tag(b"STR1")?;
@@ -83,7 +84,8 @@ pub(crate) fn write_root<A: Allocator + Copy>(
 }
 
 impl<A: Allocator + Copy> Text<A> for Root<A> {
-    ghost use Rattle.itable.specs.Root.{root, lawful_root};
+    ghost use Rattle.itable.specs.Root.{root};
+    ghost use Rattle.itable.specs.RootLaws.{lawful_root};
 
     ghost format = { root };
 
@@ -126,7 +128,8 @@ pub fn read_root<A: Allocator + Copy>(alloc: A, bytes: &[u8]) -> Result<Root<A>,
     // What is read is spelled so.
     ensures found { IfOk result (λ r. root_format.Fits r × (bytes.now ≡ root_format.spell r)) }
     // What is spelled so is read, unless memory runs out.
-    ensures only { (r : PlainRoot) → root_format.Fits r → bytes.now ≡ root_format.spell r → Gives (λ y. y) result (Ok r) }
+    ensures only { (r : PlainRoot) → root_format.Fits r → bytes.now ≡ root_format.spell r
+        → Gives (λ y. y) result (Ok r) }
     // Which fault it is.
     ensures exact { Gives (λ r. r) result (whole root_format bytes.now) }
 {

@@ -1,6 +1,7 @@
 //! I-tables.
 
-ghost use Rattle.std.specs.Prelude.{◌≡◌, ◌<◌, ◌≤◌, ◌==◌, ◌↔◌, ◌++◌, ◌∷◌, [], ℕ, Some, None, IsSome, IsOk, Ok, OnOk, OnErr, IfOk, IfSome, length, map, if◌then◌else◌};
+ghost use Rattle.std.specs.Prelude.{◌≡◌, ◌<◌, ◌≤◌, ◌==◌, ◌↔◌, ◌++◌, ◌∷◌, [], ℕ, Some, None, IsSome, IsOk, Ok, OnOk};
+ghost use Rattle.std.specs.Prelude.{OnErr, IfOk, IfSome, length, map, if◌then◌else◌};
 ghost use Rattle.std.specs.List.{All, slice_set};
 ghost use Rattle.layout.specs.Hash.{hash};
 ghost use Rattle.std.specs.Option.{option_map};
@@ -8,8 +9,10 @@ ghost use Rattle.std.specs.Vec.{vec_items};
 ghost use Rattle.layout.specs.Format.{whole};
 ghost use Rattle.itable.specs.Chunk.{chunk, chunk as chunk_format, chunk_number};
 ghost use Rattle.itable.specs.Root.{root, chunk_at};
-ghost use Rattle.itable.specs.ITable.{IsTable, digest_at, digest_in, with_digest, without_digest, chunk_of, IsBare, text_of_chunk};
-ghost use Rattle.itable.specs.ITable.{listing as listing_of, listings as listings_of, root_of, handle_of, IsKnownByDigests, IsKnownByHandle, is_listed, new_texts};
+ghost use Rattle.itable.specs.ITable.{IsTable, digest_at, digest_in, with_digest, without_digest, chunk_of, IsBare};
+ghost use Rattle.itable.specs.ITable.{text_of_chunk};
+ghost use Rattle.itable.specs.ITable.{listing as listing_of, listings as listings_of, root_of, handle_of};
+ghost use Rattle.itable.specs.ITable.{IsKnownByDigests, IsKnownByHandle, is_listed, new_texts};
 
 use crate::chunk::{Chunk, ChunkNumber, Pair, write_chunk};
 use crate::pairs::{pair_at, put, run_of, take_out};
@@ -90,7 +93,8 @@ impl<A: Allocator> ITable<A> {
         ensures ok { OnOk result (self.new ≡ with_digest self.old i_number digest) }
         // It takes memory only where the i-number has no digest.
         ensures mapped { IsSome (digest_at self.old i_number) → IsOk result }
-        ensures digests { OnOk result ((i : ℕ) → digest_at self.new i ≡ (if i_number == i then Some digest else digest_at self.old i)) }
+        ensures digests { OnOk result ((i : ℕ)
+            → digest_at self.new i ≡ (if i_number == i then Some digest else digest_at self.old i)) }
         ensures err { OnErr result (self.new ≡ self.old) }
     {
         // They fit where a chunk has them.
@@ -119,9 +123,12 @@ impl<A: Allocator> ITable<A> {
         requires digest { digest ≡ hash (chunk_format.spell chunk.now) }
         ensures pairs { OnOk result (self.new ≡ record self.old { pairs = self.old.pairs ++ chunk.now.pairs }) }
         // In the chunk it has what the chunk says, and elsewhere what it had.
-        ensures digests { OnOk result ((i : ℕ) → digest_at self.new i ≡ (if chunk_number i == chunk.now.number then digest_in chunk.now.pairs i else digest_at self.old i)) }
+        ensures digests { OnOk result ((i : ℕ)
+            → digest_at self.new i ≡ (if chunk_number i == chunk.now.number then digest_in chunk.now.pairs i
+            else digest_at self.old i)) }
         // Its root lists the chunk after those that it listed.
-        ensures listed { OnOk result (listings_of self.new ≡ listings_of self.old ++ record { number = chunk.now.number; digest = digest } ∷ []) }
+        ensures listed { OnOk result (listings_of self.new
+            ≡ listings_of self.old ++ record { number = chunk.now.number; digest = digest } ∷ []) }
         ensures err { OnErr result (self.new ≡ self.old) }
     {
         let place = usize::from(chunk.number().get());
@@ -133,7 +140,8 @@ impl<A: Allocator> ITable<A> {
     /// The laws of a chunk's text.
     fn chunk_holds(&self, number: ChunkNumber)
         ensures absent { (text_of_chunk self.now number ≡ None) ↔ IsBare number self.now }
-        ensures reads { IfSome (text_of_chunk self.now number) (λ text. whole chunk text ≡ Ok (chunk_of number self.now)) }
+        ensures reads { IfSome (text_of_chunk self.now number)
+            (λ text. whole chunk text ≡ Ok (chunk_of number self.now)) }
         ensures few { length (chunk_of number self.now).pairs ≤ 64 }
     {
         // The chunk is below 64, and the table is as its type keeps it.
@@ -193,7 +201,8 @@ impl<A: Allocator + Copy> ITable<A> {
         // There is none exactly where no i-number of the chunk has a digest.
         ensures absent { (text_of_chunk self.now number ≡ None) ↔ IsBare number self.now }
         // It is read as the chunk.
-        ensures reads { IfSome (text_of_chunk self.now number) (λ text. whole chunk text ≡ Ok (chunk_of number self.now)) }
+        ensures reads { IfSome (text_of_chunk self.now number)
+            (λ text. whole chunk text ≡ Ok (chunk_of number self.now)) }
     {
         self.chunk_holds(number);
         let pairs = run_of(&self.pairs, number);
@@ -270,7 +279,8 @@ impl<A: Allocator + Copy> ITable<A> {
         before: &[ListedChunk],
         chunk: &ListedChunk,
     ) -> Result<Option<Vec<u8, A>>, Memory>
-        ensures { IfOk result (λ text. option_map vec_items text ≡ (if is_listed before.now chunk.now then None else text_of_chunk self.now chunk.now.number)) }
+        ensures { IfOk result (λ text. option_map vec_items text
+            ≡ (if is_listed before.now chunk.now then None else text_of_chunk self.now chunk.now.number)) }
     {
         if lists(before, chunk) {
             return Ok(None);
@@ -278,9 +288,9 @@ impl<A: Allocator + Copy> ITable<A> {
         self.chunk_text(alloc, chunk.number)
     }
 
-    /// The texts by which this table is stored and another one isn't, whose root lists these chunks: those of the chunks
-    /// that aren't listed there, ascending, and that of the root. It hashes the chunks that changed since they were hashed
-    /// last.
+    /// The texts by which this table is stored and another one isn't, whose root lists these chunks: those of the
+    /// chunks that aren't listed there, ascending, and that of the root. It hashes the chunks that changed since they
+    /// were hashed last.
     pub fn new_texts(
         &mut self,
         alloc: A,

@@ -47,6 +47,20 @@ IsBytes bytes = (i : ℕ) → slice_index bytes i < 256
 abbrev pub ends : List ℕ → Bool
 ends bytes = length bytes == 0
 
+-- ---- what a format promises
+
+-- the bytes are the spelling of a value that fits, and then the rest
+pub record Takes {A : Type 0} (f : Format A) (bytes : List ℕ) (x : A) (rest : List ℕ) : Type 0 where
+  pub parts : bytes ≡ f.spell x ++ rest
+  pub rest_fits : IsBytes rest
+  pub fits : f.Fits x
+
+-- what is read is spelled so, what is written is the spelling, and what fits and is spelled so is read
+pub record Lawful {A : Type 0} (f : Format A) : Type 0 where
+  pub takes : (bytes : List ℕ) (x : A) (rest : List ℕ) → IsBytes bytes → f.read bytes ≡ Ok (x, rest) → Takes f bytes x rest
+  pub onto : (old : List ℕ) (x : A) → f.onto old x ≡ old ++ f.spell x
+  pub again : (x : A) (rest : List ℕ) → f.Fits x → f.read (f.spell x ++ rest) ≡ Ok (x, rest)
+
 -- ---- fields
 
 -- the bytes of a number, the high one first: a name that goals show, and that only laws of numbers open

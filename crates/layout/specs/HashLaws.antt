@@ -2,13 +2,18 @@
 -- A digest fits where a text has one: it has 32 bytes, and they are bytes. This is all that is known of it above.
 use Rattle.std.proofs.Common.{ℕ, zero, suc, ◌-◌, List, [], ◌∷◌, ◌++◌, length, inl, inr, arith}
 use Rattle.std.specs.Int.{w32, to_be_bytes}
-use Rattle.std.specs.Prelude.{slice_index}
+use Rattle.std.specs.Prelude.{◌≡◌, slice_index, refl}
 use Rattle.std.proofs.lemmas.Bool.{cases_lt}
 use Rattle.std.proofs.lemmas.List.{get_or_append_left}
 use Rattle.std.proofs.Math.Seq.{get_or-append_right}
 use Rattle.sha2.specs.Sha256.{sha256, digest_bytes}
 use Rattle.layout.specs.Format.{IsBytes, raw}
-use Rattle.layout.specs.Hash.{hash, length-hash}
+use Rattle.layout.specs.Hash.{hash}
+
+-- a digest has 32 bytes
+pub length-hash : (bytes : List ℕ) → length (hash bytes) ≡ 32
+unfolding hash sha256 digest_bytes
+length-hash bytes = refl
 
 bytes_joined : (xs ys : List ℕ) → IsBytes xs → IsBytes ys → IsBytes (xs ++ ys)
 bytes_joined xs ys first second i =

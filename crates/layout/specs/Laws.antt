@@ -3,29 +3,17 @@
 use Rattle.std.proofs.Common.{◌≡◌, ℕ, zero, suc, ◌+◌, ◌*◌, ◌%◌, ◌^◌, ◌<◌, ◌≤◌, Bool, true, false, cond, ◌&&◌, ltb, List, [], ◌∷◌, ◌++◌, length, get_or, take, drop, Option, Some, None, Result, Ok, Err, refl, sym, ap, subst, ◌∙◌, append_assoc, arith, inl, inr}
 use Rattle.std.specs.Prelude.{IfOk, IsSomeAnd, nat_eq, nat_lt, nat_le}
 use Rattle.std.specs.Int.{Width, w8, w16, w32, byte_len, from_be_bytes, to_be_bytes}
-use Rattle.std.specs.List.{starts_with}
+use Rattle.std.specs.List.{starts_with, All}
 use Rattle.std.specs.Option.{option_map_or}
 use Rattle.std.proofs.lemmas.Bool.{cases_lt, ltb-false, le-ltb, le-leb, leb-true, eqb-true, and_from}
 use Rattle.std.proofs.lemmas.List.{append-nil, nil_from_length, take_at, drop_at, take-append-drop, length-append, length-take, get_or-drop, get_or-take, get_or_past}
-use Rattle.std.specs.List.{All}
 use Rattle.std.proofs.lemmas.List.Elements.{All-head, All-tail}
 use Rattle.std.proofs.lemmas.Slice.Eq.{starts_is}
 use Rattle.std.proofs.lemmas.Bool.Decides.{Decides-eqb}
 use Rattle.std.proofs.lemmas.Nat.{be_bytes_2, be_bytes_4, from_be_bytes-to_be_bytes_2, from_be_bytes-to_be_bytes_4}
 use Rattle.layout.specs.declared.error.ReadError.{ReadError}
 use Rattle.layout.specs.declared.error.ReadError.TheVariants.{Short, BadTag, Range, Trailing}
-use Rattle.layout.specs.Format.{Answer, Format, Rows, RowAfter, after_row, IsBytes, ◌>>=◌, ends, be, uint, uint_in, raw, tagged, guarded, followed, headed, mapped, rows_from, read_rows, spell_rows, rows_onto, FitRows, sized, listed_from, listed, string, nested, nothing, variant, whole, Gives}
-
--- what was read from the front of bytes
-pub record Takes {A : Type 0} (f : Format A) (bytes : List ℕ) (x : A) (rest : List ℕ) : Type 0 where
-  pub parts : bytes ≡ f.spell x ++ rest
-  pub rest_fits : IsBytes rest
-  pub fits : f.Fits x
-
-pub record Lawful {A : Type 0} (f : Format A) : Type 0 where
-  pub takes : (bytes : List ℕ) (x : A) (rest : List ℕ) → IsBytes bytes → f.read bytes ≡ Ok (x, rest) → Takes f bytes x rest
-  pub onto : (old : List ℕ) (x : A) → f.onto old x ≡ old ++ f.spell x
-  pub again : (x : A) (rest : List ℕ) → f.Fits x → f.read (f.spell x ++ rest) ≡ Ok (x, rest)
+use Rattle.layout.specs.Format.{Answer, Format, Rows, RowAfter, after_row, IsBytes, ◌>>=◌, ends, be, uint, uint_in, raw, tagged, guarded, followed, headed, mapped, rows_from, read_rows, spell_rows, rows_onto, FitRows, sized, listed_from, listed, string, nested, nothing, variant, whole, Gives, Takes, Lawful}
 
 -- ---- steps
 

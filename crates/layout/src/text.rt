@@ -11,8 +11,7 @@ use std::alloc::Allocator;
 
 /// A text of the protocol, or a part of one that has a spelling of its own.
 pub trait Text<A: Allocator + Copy>: Sized + Drop {
-    ghost use Rattle.layout.specs.Format.{Format};
-    ghost use Rattle.layout.specs.Laws.{Lawful};
+    ghost use Rattle.layout.specs.Format.{Format, Lawful};
 
     ghost format: { Format Self };
 

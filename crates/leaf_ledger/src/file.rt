@@ -1,8 +1,8 @@
 //! A device over a file of the system.
 //!
-//! Beside the file it keeps in memory what the file has to hold, with its history: a read that gives something else is a
-//! fault. So all that a device promises is proved of what is kept. That a crash leaves of the file what it may leave of
-//! what is kept, and that nobody else writes to the file, can't be proved: who opens a device vouches for it.
+//! Beside the file it keeps in memory what the file has to hold, with its history: a read that gives something else is
+//! a fault. So all that a device promises is proved of what is kept. That a crash leaves of the file what it may leave
+//! of what is kept, and that nobody else writes to the file, can't be proved: who opens a device vouches for it.
 
 ghost use Rattle.std.specs.Prelude.{◌≡◌, IfOk};
 ghost use Rattle.leaf_ledger.specs.Device.{started};
@@ -21,8 +21,8 @@ mod tests;
 
 /// A device over a file of the system, which nobody else may write to.
 ///
-/// After a write that failed the file may hold another part of it than what is kept: each call that meets the difference
-/// is a fault, until the file is opened anew.
+/// After a write that failed the file may hold another part of it than what is kept: each call that meets the
+/// difference is a fault, until the file is opened anew.
 #[derive(Drop)]
 pub struct FileDevice<A: Allocator> {
     file: File,

@@ -2,7 +2,8 @@
 
 ghost use Rattle.std.specs.Prelude.{◌≡◌, ◌≢◌, ◌↔◌, ◌+◌, ◌-◌, ◌≤◌, true, false, IfErr, IfOk, OnOk, OnErr, IsErrOf, None};
 ghost use Rattle.leaf_ledger.specs.Device.{at_rest, Throughout, HasRisen};
-ghost use Rattle.leaf_ledger.specs.Ledger.{LeafNumber, with_mark, UsedWith, UsedWithOrWithout, UsedAsBefore, IsLeastFree, IsFull, IsFileOf, IsForeign, KeepsLedger};
+ghost use Rattle.leaf_ledger.specs.Ledger.{LeafNumber, with_mark, UsedWith, UsedWithOrWithout, UsedAsBefore};
+ghost use Rattle.leaf_ledger.specs.Ledger.{IsLeastFree, IsFull, IsFileOf, IsForeign, KeepsLedger};
 ghost use Rattle.leaf_ledger.specs.Life.{Call, handed_by};
 
 use crate::device::{Device, write_through};
@@ -20,8 +21,8 @@ const USED: u8 = 1;
 
 /// The leaves of a public key, those that are used marked on a device.
 ///
-/// A key has one ledger file: who opens two for a key hands out leaves twice. A ledger that is dropped loses its device:
-/// what it marked stays marked.
+/// A key has one ledger file: who opens two for a key hands out leaves twice. A ledger that is dropped loses its
+/// device: what it marked stays marked.
 #[derive(Drop)]
 pub struct Ledger<D: Device> {
     device: D,

@@ -18,7 +18,7 @@ use Rattle.lms_sign.specs.Keys.{lms_type, ots_type, is_key, id_of, root_of, publ
 use Rattle.lms_sign.specs.Signature.{path_of, signature_of, leaf_of, randomizer_in, value_in, path_in, is_signature, root_from, valid}
 use Rattle.lms_sign.proofs.Joining.{joined_same, length-joined, part_of, joined_part}
 use Rattle.lms_sign.proofs.Levels.{ancestor_within, climbed_is}
-use Rattle.layout.specs.Hash.{length-hash}
+use Rattle.layout.specs.HashLaws.{length-hash}
 use Rattle.lms_sign.proofs.Steps.{chained_chained}
 
 -- ---- sizes

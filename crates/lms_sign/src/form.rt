@@ -1,5 +1,5 @@
-//! The form of a signature (RFC 8554 section 5.4): the leaf's number, the LM-OTS type, the randomizer, the values of the
-//! chains, the LMS type, and the path.
+//! The form of a signature (RFC 8554 section 5.4): the leaf's number, the LM-OTS type, the randomizer, the values of
+//! the chains, the LMS type, and the path.
 
 ghost use Rattle.std.specs.Prelude.{◌≡◌, ◌<◌, ◌≤◌, ◌++◌, IsTrue, length, take};
 ghost use Rattle.std.specs.Int.{w32};

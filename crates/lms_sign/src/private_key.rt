@@ -1,6 +1,7 @@
 //! Private keys (RFC 8554 section 5.2).
 
-ghost use Rattle.std.specs.Prelude.{◌≡◌, true, ℕ, ◌+◌, ◌*◌, ◌<◌, ◌≤◌, ◌++◌, IfOk, [], length, slice_index_or, take, vec_len};
+ghost use Rattle.std.specs.Prelude.{◌≡◌, true, ℕ, ◌+◌, ◌*◌, ◌<◌, ◌≤◌, ◌++◌, IfOk, [], length, slice_index_or, take};
+ghost use Rattle.std.specs.Prelude.{vec_len};
 ghost use Rattle.lms_sign.specs.Hashing.{joined};
 ghost use Rattle.lms_sign.specs.Keys.{public_key_of};
 ghost use Rattle.lms_sign.specs.OneTime.{key_of};

@@ -6,7 +6,8 @@ use Rattle.std.proofs.lemmas.List.Elements.{filter-append}
 use Rattle.std.proofs.lemmas.List.Folds.{list_any-append}
 use Rattle.std.proofs.Math.Bool.{and-false, and-true, or-false}
 use Rattle.std.proofs.lemmas.Bool.{cases_eq, eq-eqb, ne_eqb}
-use Rattle.pending_list.specs.Groups.{groups_below, none_below, one_more}
+use Rattle.pending_list.specs.Groups.{groups_below}
+use Rattle.pending_list.specs.GroupsLaws.{none_below, one_more}
 
 -- one group more is kept where the test holds of it
 pub kept_more : (t : ℕ → Bool) (n g : ℕ) → g ≡ 64 + n → t g ≡ true → filter t (groups_below (n + 1)) ≡ filter t (groups_below n) ++ g ∷ []

@@ -8,7 +8,8 @@ use Rattle.std.proofs.lemmas.List.Elements.{All-nil, All-cons, All-append}
 use Rattle.layout.specs.Format.{be, after_row, rows_onto}
 use Rattle.version_order.specs.Structure.{Structure}
 use Rattle.pending_list.specs.declared.signed.Signed.{Signed}
-use Rattle.pending_list.specs.Reply.{PendingItem, signed_structure, pending_item, structure_rows, pending_rows, reply, reply_fits}
+use Rattle.pending_list.specs.Reply.{PendingItem, signed_structure, pending_item, structure_rows, pending_rows, reply}
+use Rattle.pending_list.specs.ReplyLaws.{reply_fits}
 
 -- the last row is written after the others
 pub onto_last : (b : Option PendingItem) (old : List ℕ) (xs : List PendingItem) (x : PendingItem) → rows_onto (after_row pending_rows) b old (xs ++ x ∷ []) ≡ pending_item.onto (rows_onto (after_row pending_rows) b old xs) x

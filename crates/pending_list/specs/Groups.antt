@@ -1,5 +1,4 @@
 -- The groups that an operation raises.
-use Rattle.std.proofs.Common.{◌≡◌, add-one, refl}
 use Rattle.std.specs.Prelude.{ℕ, zero, suc, ◌+◌, ◌-◌, List, [], ◌∷◌, ◌++◌, Bool, ◌&&◌, filter, if◌then◌else◌, ◌==◌}
 use Rattle.std.specs.List.{list_any}
 use Rattle.layout.specs.Types.{Group, Version}
@@ -14,14 +13,6 @@ use Rattle.principals.specs.Table.{Table, is_member}
 unfoldable pub groups_below : ℕ → List ℕ
 groups_below zero = []
 groups_below (suc n) = groups_below n ++ (n + 64) ∷ []
-
-pub none_below : groups_below 0 ≡ []
-unfolding groups_below
-none_below = refl
-
-pub one_more : (n : ℕ) → groups_below (n + 1) ≡ groups_below n ++ (n + 64) ∷ []
-unfolding groups_below
-one_more n = rw add-one refl
 
 -- the groups, 64 to 95
 abbrev pub groups : List ℕ

@@ -38,8 +38,8 @@ pub fn table_version<A: Allocator>(plan: &Plan<A>) -> u32
     }
 }
 
-/// The groups that a certificate raises, ascending, where membership is judged at this version of the table. The error is
-/// Memory.
+/// The groups that a certificate raises, ascending, where membership is judged at this version of the table. The error
+/// is Memory.
 pub fn groups_at<A: Allocator + Copy>(
     alloc: A,
     table: &Table<A>,

@@ -3,7 +3,8 @@
 ghost use Rattle.std.specs.Prelude.{◌≡◌, ◌≤◌, ◌↔◌, [], IfOk, IfSome, IsNone, IsOk};
 ghost use Rattle.std.specs.List.{All, Contains};
 ghost use Rattle.std.specs.Option.{option_copied};
-ghost use Rattle.pending_list.specs.Reply.{depth_of, user_of, outranks, higher, top, depth_of_top, is_above, digest_of_last};
+ghost use Rattle.pending_list.specs.Reply.{depth_of, user_of, outranks, higher, top, depth_of_top, is_above};
+ghost use Rattle.pending_list.specs.Reply.{digest_of_last};
 
 use crate::reply::{PendingItem, Reply};
 use crate::signed::Signed;
@@ -56,7 +57,8 @@ pub fn top<A: Allocator>(reply: &Reply<A>) -> Option<&Signed<Structure<A>>>
     // No structure is deeper.
     ensures deepest { IfSome result (λ top. All (λ s. depth_of s ≤ depth_of top.now) reply.now.structures) }
     // None of equal depth has a lesser user.
-    ensures least { IfSome result (λ top. All (λ s. depth_of s ≡ depth_of top.now → user_of top.now ≤ user_of s) reply.now.structures) }
+    ensures least { IfSome result (λ top. All (λ s. depth_of s ≡ depth_of top.now → user_of top.now ≤ user_of s)
+        reply.now.structures) }
 {
     highest(reply.structures())
 }

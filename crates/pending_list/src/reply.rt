@@ -18,8 +18,8 @@ use version_order::{PLAN_SIZE, Plan, STRUCTURE_SIZE, Structure};
 /// How many structures a reply has at most, and how many pending operations.
 pub const MOST_ROWS: usize = 64;
 
-/// How many bytes the text of a reply has at most: the tag; the structures and the pending operations after their counts,
-/// each text after its size, and each signature.
+/// How many bytes the text of a reply has at most: the tag; the structures and the pending operations after their
+/// counts, each text after its size, and each signature.
 pub const REPLY_SIZE: usize = 4
     + (1 + MOST_ROWS * ((2 + STRUCTURE_SIZE) + SIGNATURE_SIZE))
     + (1 + MOST_ROWS * ((2 + CERT_SIZE) + SIGNATURE_SIZE + (2 + PLAN_SIZE)));
@@ -38,7 +38,8 @@ impl<A: Allocator> Model for PendingItem<A> {
 
     ghost view = { λ i. record { cert = i.cert.value; signature = i.cert.signature; plan = i.plan } };
 
-    ghost invariant = { λ i. pending_item.Fits (record { cert = i.cert.value; signature = i.cert.signature; plan = i.plan }) };
+    ghost invariant = { λ i. pending_item.Fits
+        (record { cert = i.cert.value; signature = i.cert.signature; plan = i.plan }) };
 }
 
 impl<A: Allocator> PendingItem<A> {
@@ -173,7 +174,8 @@ impl<A: Allocator> Model for Reply<A> {
 }
 
 impl<A: Allocator + Copy> Text<A> for Reply<A> {
-    ghost use Rattle.pending_list.specs.Reply.{reply, lawful_reply};
+    ghost use Rattle.pending_list.specs.Reply.{reply};
+    ghost use Rattle.pending_list.specs.ReplyLaws.{lawful_reply};
 
     ghost format = { reply };
 
@@ -236,7 +238,7 @@ impl<A: Allocator> Reply<A> {
     }
 
     /// The latest structure of each user.
-    #[tactic(auto, using(crate::specs::Reply::size_of))]
+    #[tactic(auto, using(crate::specs::ReplyLaws::size_of))]
     pub fn structures(&self) -> &[Signed<Structure<A>>]
         ensures same { result.now ≡ self.now.structures }
         ensures fits { reply.Fits self.now }
@@ -274,7 +276,8 @@ fn write_lists<A: Allocator + Copy>(
 ) -> Result<(), Memory>
     requires few_structures { length structures.now ≤ 64 }
     requires few_pending { length pending.now ≤ 64 }
-    ensures ok { OnOk result (writer.new ≡ reply.onto writer.old (record { structures = structures.now; pending = pending.now })) }
+    ensures ok { OnOk result (writer.new
+        ≡ reply.onto writer.old (record { structures = structures.now; pending = pending.now })) }
     ensures front { OnErr result (BeginsWith writer.new writer.old) }
 {
     writer.tag(b"SRL1")?;
@@ -319,7 +322,8 @@ impl<A: Allocator + Copy> Reply<A> {
     ) -> Result<Vec<u8, A>, Memory>
         requires few_structures { length structures.now ≤ 64 }
         requires few_others { length others.now < 64 }
-        ensures text { IfOk result (λ text. text.items ≡ reply.spell (record { structures = structures.now; pending = map H.item others.now ++ own.now ∷ [] })) }
+        ensures text { IfOk result (λ text. text.items
+            ≡ reply.spell (record { structures = structures.now; pending = map H.item others.now ++ own.now ∷ [] })) }
         ensures size { IfOk result (λ text. length text.items ≤ REPLY_SIZE) }
     {
         structures_fit(structures);

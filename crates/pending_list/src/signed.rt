@@ -66,7 +66,8 @@ pub struct Signed<T> {
 }
 
 impl<A: Allocator + Copy, T: Text<A>> Text<A> for Signed<T> {
-    ghost use Rattle.pending_list.specs.Signed.{signed, lawful_signed};
+    ghost use Rattle.pending_list.specs.Signed.{signed};
+    ghost use Rattle.pending_list.specs.SignedLaws.{lawful_signed};
 
     ghost format = { signed T.format };
 

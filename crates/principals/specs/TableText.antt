@@ -6,7 +6,6 @@ use Rattle.std.specs.List.{All, slice_get}
 use Rattle.std.specs.Option.{option_map_or}
 use Rattle.std.specs.Ordering.{nat_cmp}
 use Rattle.layout.specs.Format.{Format, Rows, RowAfter, uint_in, raw, pair, followed, guarded, headed, mapped, listed, listed_from}
-use Rattle.layout.specs.Laws.{Lawful, laws, lawful_listed_from, lawful_uint_in, wide16}
 use Rattle.layout.specs.Ranges.{user, group, version}
 use Rattle.layout.specs.Ascending.{above}
 use Rattle.layout.specs.declared.error.ReadError.TheVariants.{Order, Range}
@@ -97,32 +96,3 @@ table =
 -- no row begins after this number
 abbrev pub NoneAfter : ℕ → Table → Type 0
 NoneAfter number table = All (λ r. r.begins ≤ number) table.rows
-
-pub lawful_key : Lawful key
-lawful_key = search laws
-
-pub lawful_later_listing : (before : Option Listing) → Lawful (later_listing before)
-lawful_later_listing before = search (laws, lawful_key) depth 12
-
-lawful_who : (before : Option Listing) → Lawful (who before)
-lawful_who None = search laws
-lawful_who (Some before) = search laws
-
-lawful_listed_at : (before : Option Listing) → Lawful (listed_at before)
-lawful_listed_at None = search laws
-lawful_listed_at (Some before) = search laws
-
-pub lawful_listing : (before : Option Listing) → Lawful (listing before)
-lawful_listing before = search (laws, lawful_key, lawful_who, lawful_listed_at) depth 12
-
-pub lawful_users : Lawful users
-lawful_users = search (laws, lawful_listing)
-
-pub lawful_row : (table : Table) → Lawful (row table)
-lawful_row table = search laws depth 15
-
-pub lawful_rows_of : (users : List Listing) → Lawful (rows_of users)
-lawful_rows_of users = lawful_listed_from (uint_in w16 0 65535) member_rows (without_rows users) (lawful_uint_in w16 0 65535 wide16) lawful_row
-
-pub lawful_table : Lawful table
-lawful_table = search (laws, lawful_users, lawful_rows_of) depth 9

@@ -9,7 +9,8 @@ ghost use Rattle.principals.specs.Line.{Step, InOrder, after_step, after_line, u
 pub fn membership()
     // Who is a member at a version is who was one after user 0's operations up to it.
     ensures at_version { (key : List ℕ) (line : List Step) (group user version : ℕ) → InOrder 0 line
-        → is_member (after_line line (genesis key)) group user version ≡ is_member_now (after_line (up_to version line) (genesis key)) group user }
+        → is_member (after_line line (genesis key)) group user version
+        ≡ is_member_now (after_line (up_to version line) (genesis key)) group user }
     // A later operation changes no membership at an earlier version.
     ensures earlier_stay { (step : Step) (table : Table) (group user version : ℕ) → version < step.number
         → is_member (after_step step table) group user version ≡ is_member table group user version }
@@ -18,5 +19,6 @@ pub fn membership()
 /// What a text of a table says of its rows.
 pub fn open_rows()
     // No group and user have two open rows.
-    ensures one { (table : Table) → table_format.Fits table → (group user : ℕ) → length (filter (is_open group user) table.rows) ≤ 1 }
+    ensures one { (table : Table) → table_format.Fits table → (group user : ℕ)
+        → length (filter (is_open group user) table.rows) ≤ 1 }
 {}

@@ -4,7 +4,8 @@ ghost use Rattle.std.specs.Prelude.{◌≡◌, ◌≢◌, ◌<◌, ◌≤◌, �
 ghost use Rattle.std.specs.Option.{option_copied};
 ghost use Rattle.layout.specs.declared.error.ReadError.TheVariants as read_error;
 ghost use Rattle.layout.specs.Format.{IsBytes, Reads, ReadsAs};
-ghost use Rattle.principals.specs.TableText.{key as key_format, who, listed_at, listing, users, listed_user, begins_row, ends_row, rows_of};
+ghost use Rattle.principals.specs.TableText.{key as key_format, who, listed_at, listing, users, listed_user};
+ghost use Rattle.principals.specs.TableText.{begins_row, ends_row, rows_of};
 
 use crate::marks::no_marks;
 use crate::table::{Listing, Row, Table};
@@ -247,7 +248,8 @@ impl<A: Allocator + Copy> RowFormat<A> for Members {
 }
 
 impl<A: Allocator + Copy> Text<A> for Table<A> {
-    ghost use Rattle.principals.specs.TableText.{table, lawful_table};
+    ghost use Rattle.principals.specs.TableText.{table};
+    ghost use Rattle.principals.specs.TableTextLaws.{lawful_table};
 
     ghost format = { table };
 

@@ -1,6 +1,7 @@
 //! The table, and its rows.
 
-ghost use Rattle.std.specs.Prelude.{◌≡◌, ◌≢◌, ◌<◌, ◌≤◌, ◌⊎◌, ◌++◌, ◌∷◌, ◌==◌, ◌&&◌, nat_le, [], true, false, length, map, find, Some, None, IfOk, IfErr, OnOk, OnErr, MatchResult, if◌then◌else◌};
+ghost use Rattle.std.specs.Prelude.{◌≡◌, ◌≢◌, ◌<◌, ◌≤◌, ◌⊎◌, ◌++◌, ◌∷◌, ◌==◌, ◌&&◌, nat_le, [], true, false, length};
+ghost use Rattle.std.specs.Prelude.{map, find, Some, None, IfOk, IfErr, OnOk, OnErr, MatchResult, if◌then◌else◌};
 ghost use Rattle.std.specs.Option.{option_copied};
 ghost use Rattle.std.specs.List.{list_any};
 ghost use Rattle.std.specs.Ordering.{nat_cmp};
@@ -175,7 +176,8 @@ impl<A: Allocator + Copy> Table<A> {
 }
 
 impl<A: Allocator> Table<A> {
-    ghost use Rattle.principals.specs.Table.{key_of, since, is_listed, lists_user, is_member, is_member_now, user_added, member_added, member_dropped, member_refused, drop_refused};
+    ghost use Rattle.principals.specs.Table.{key_of, since, is_listed, lists_user, is_member, is_member_now};
+    ghost use Rattle.principals.specs.Table.{user_added, member_added, member_dropped, member_refused, drop_refused};
     ghost use Rattle.principals.specs.TableText.{table as table_format, with_next, last_begins, NoneAfter};
 
     /// The listing of a user, by one binary search.
@@ -303,7 +305,8 @@ impl<A: Allocator> Table<A> {
     fn open_row(&mut self, number: Version, group: Group, user: User) -> Result<(), TableError>
         ensures ok { OnOk result (self.new ≡ member_added number group user self.old) }
         ensures told { Told (member_refused self.old group user) result }
-        ensures fits { table_format.Fits self.old → NoneAfter number self.old → OnOk result (table_format.Fits self.new) }
+        ensures fits { table_format.Fits self.old → NoneAfter number self.old
+            → OnOk result (table_format.Fits self.new) }
         ensures err { OnErr result (self.new ≡ self.old) }
     {
         if self.is_member_now(group, user) {
@@ -325,8 +328,9 @@ impl<A: Allocator> Table<A> {
         Ok(())
     }
 
-    /// Makes a user a member of a group, by user 0's operation of this number. Listed where it is a member now, Unlisted
-    /// where it isn't listed, NotGroup where the principal is a user, Full at 65,535 rows; of several the least.
+    /// Makes a user a member of a group, by user 0's operation of this number. Listed where it is a member now,
+    /// Unlisted where it isn't listed, NotGroup where the principal is a user, Full at 65,535 rows; of several the
+    /// least.
     pub fn add_member(
         &mut self,
         number: Version,
@@ -336,7 +340,8 @@ impl<A: Allocator> Table<A> {
         ensures ok { OnOk result (self.new ≡ member_added number group user self.old) }
         ensures told { Told (member_refused self.old group user) result }
         // A table that has a text has one afterwards, if the number isn't less than those before.
-        ensures fits { table_format.Fits self.old → NoneAfter number self.old → OnOk result (table_format.Fits self.new) }
+        ensures fits { table_format.Fits self.old → NoneAfter number self.old
+            → OnOk result (table_format.Fits self.new) }
         ensures err { OnErr result (self.new ≡ self.old) }
     {
         match Group::new(group.get()) {
@@ -346,8 +351,8 @@ impl<A: Allocator> Table<A> {
         }
     }
 
-    /// Takes a user out of a group, by user 0's operation of this number, and answers whether it was a member now: one pass
-    /// over the rows. It isn't asked whether the user is listed.
+    /// Takes a user out of a group, by user 0's operation of this number, and answers whether it was a member now: one
+    /// pass over the rows. It isn't asked whether the user is listed.
     pub fn end_member(&mut self, number: Version, group: Group, user: User) -> bool
         ensures member { result ≡ is_member_now self.old group user }
         ensures rows { self.new ≡ (if result then member_dropped number group user self.old else self.old) }
@@ -376,7 +381,8 @@ impl<A: Allocator> Table<A> {
         ensures told { Told (drop_refused self.old group user) result }
         ensures no_memory { IfErr result (λ e. e ≢ table_error.Memory) }
         // A table that has a text has one afterwards, if the number isn't less than those before.
-        ensures fits { table_format.Fits self.old → NoneAfter number self.old → OnOk result (table_format.Fits self.new) }
+        ensures fits { table_format.Fits self.old → NoneAfter number self.old
+            → OnOk result (table_format.Fits self.new) }
         ensures err { OnErr result (self.new ≡ self.old) }
     {
         if !self.lists_user(user) {

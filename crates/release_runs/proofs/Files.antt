@@ -7,8 +7,7 @@ use Rattle.leaf_ledger.specs.Device.{History, MayLeave, at_rest, started}
 use Rattle.leaf_ledger.specs.Ledger.{LeafNumber, is_used}
 use Rattle.leaf_ledger.specs.Life.{Call, IsSure}
 use Rattle.leaf_ledger.specs.Moments.{rest_only, rests}
-use Rattle.client_journal.specs.Life.{Appended, Follows, IsPossible, MayAdd, Nothing, Tried}
-use Rattle.client_journal.specs.Life.{Call as Step}
+use Rattle.client_journal.specs.Life.{Appended, Follows, IsPossible, MayAdd, Nothing, Tried, Call as Step}
 use Rattle.client_journal.specs.Records.{Record, Tells}
 use Rattle.release_runs.proofs.Members.{In, in-map}
 use Rattle.release_runs.specs.Steps.{Owner}

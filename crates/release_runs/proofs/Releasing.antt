@@ -5,8 +5,7 @@ use Rattle.layout.specs.Types.{Bytes}
 use Rattle.lms_sign.specs.Signature.{signature_of}
 use Rattle.leaf_ledger.specs.Ledger.{LeafNumber}
 use Rattle.leaf_ledger.specs.Life.{Call as Handed}
-use Rattle.client_journal.specs.Life.{Appended, Tried}
-use Rattle.client_journal.specs.Life.{Call as Added}
+use Rattle.client_journal.specs.Life.{Appended, Tried, Call as Added}
 use Rattle.client_journal.specs.Records.{Record}
 use Rattle.version_order.specs.Structure.{Structure, structure}
 use Rattle.update_cert.specs.Cert.{Cert, cert}

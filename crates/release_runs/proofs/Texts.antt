@@ -10,8 +10,7 @@ use Rattle.std.proofs.lemmas.List.{append_assoc, length-append, take_all, take_a
 use Rattle.std.proofs.lemmas.Nat.{from_be_bytes-to_be_bytes_4}
 use Rattle.layout.specs.declared.error.ReadError.{ReadError}
 use Rattle.layout.specs.declared.error.ReadError.TheVariants.{Short, BadTag, Trailing}
-use Rattle.layout.specs.Format.{Answer, Format, be, ends, headed, mapped, nested, pair, raw, whole, ◌>>=◌}
-use Rattle.layout.specs.Laws.{Lawful}
+use Rattle.layout.specs.Format.{Answer, Format, be, ends, headed, mapped, nested, pair, raw, whole, ◌>>=◌, Lawful}
 use Rattle.lms_sign.specs.Hashing.{joined}
 use Rattle.lms_sign.specs.Keys.{lms_type, ots_type}
 use Rattle.lms_sign.specs.OneTime.{digest_of, randomizer_of, signed_value}
@@ -19,8 +18,10 @@ use Rattle.lms_sign.specs.Signature.{leaf_of, path_of, signature_of}
 use Rattle.lms_sign.proofs.Validity.{length-signature}
 use Rattle.layout.specs.Ranges.{size, user, version}
 use Rattle.version_order.specs.Plan.{plan}
-use Rattle.version_order.specs.Structure.{Structure, group_records, lawful_structure, structure}
-use Rattle.update_cert.specs.Cert.{Cert, cert, changes, lawful_cert}
+use Rattle.version_order.specs.Structure.{Structure, group_records, structure}
+use Rattle.version_order.specs.StructureLaws.{lawful_structure}
+use Rattle.update_cert.specs.Cert.{Cert, cert, changes}
+use Rattle.update_cert.specs.CertLaws.{lawful_cert}
 use Rattle.pending_list.specs.declared.signed.Signed.{Signed}
 use Rattle.pending_list.specs.Signed.{signature, signed}
 use Rattle.client_releases.specs.Told.{cert_in, own_in, structure_in}

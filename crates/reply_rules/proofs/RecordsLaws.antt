@@ -13,7 +13,8 @@ use Rattle.version_order.specs.Structure.{Structure}
 use Rattle.pending_list.specs.declared.signed.Signed.{Signed}
 use Rattle.pending_list.specs.Reply.{PendingItem}
 use Rattle.principals.specs.Table.{Table}
-use Rattle.pending_list.specs.Groups.{groups_below, none_below, one_more, raises}
+use Rattle.pending_list.specs.Groups.{groups_below, raises}
+use Rattle.pending_list.specs.GroupsLaws.{none_below, one_more}
 use Rattle.reply_rules.specs.Lists.{Lists}
 use Rattle.reply_rules.specs.Rules.{greater, newest_in, newest, versions_beyond, new_versions, own_version, each_once, has_all, group_complete}
 use Rattle.reply_rules.proofs.Tests.{dropped, and_false}

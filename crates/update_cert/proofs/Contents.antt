@@ -8,10 +8,12 @@ use Rattle.std.proofs.lemmas.List.Elements.{All-cons, All-head, All-nil, All-tai
 use Rattle.layout.specs.Format.{whole}
 use Rattle.layout.specs.Hash.{hash}
 use Rattle.layout.specs.Laws.{whole_again}
-use Rattle.itable.specs.Inode.{Inode, inode, lawful_inode}
+use Rattle.itable.specs.Inode.{Inode, inode}
+use Rattle.itable.specs.InodeLaws.{lawful_inode}
 use Rattle.itable.specs.File.{blocks_of}
 use Rattle.itable.specs.declared.inode.Kind.TheVariants as kinds
-use Rattle.directory.specs.Directory.{Entry, directory, lawful_directory}
+use Rattle.directory.specs.Directory.{Entry, directory}
+use Rattle.directory.specs.DirectoryLaws.{lawful_directory}
 use Rattle.update_cert.specs.World.{Content, File, Directory, Principals}
 use Rattle.update_cert.specs.Reading.{Reading}
 use Rattle.update_cert.specs.Blocks.{Blocks, Agrees, IsHeld, IsOf, inode_at, joined, of_size, directory_over, file_over}

@@ -76,11 +76,12 @@ pub fn apply<A: Allocator + Copy, B: Blocks>(
     ensures slots { (reads : Reading) (actor : Actor)
         → Agrees (B.held blocks.now) reads
         → actor.user ≡ cert.now.user → actor.member part.table.principal ≡ is_member
-        → IfOk result (λ applied. (i : ℕ) → slot_at applied.part i ≡ slot_after reads actor part.table.principal i cert.now.changes (slot_at part i)) }
+        → IfOk result (λ applied. (i : ℕ)
+        → slot_at applied.part i ≡ slot_after reads actor part.table.principal i cert.now.changes (slot_at part i)) }
     // Whose part it is stays.
     ensures principal { IfOk result (λ applied. applied.part.table.principal ≡ part.table.principal) }
-    // Missing names an i-node that a change meets at its turn, or a block of the directory that it is of, and no text of it
-    // is held that its spot takes.
+    // Missing names an i-node that a change meets at its turn, or a block of the directory that it is of, and no text
+    // of it is held that its spot takes.
     ensures missing { (actor : Actor) → actor.user ≡ cert.now.user → actor.member part.table.principal ≡ is_member
         → IfErr result (LacksAskedFor (B.held blocks.now) actor cert.now.changes part) }
     // Where they are applied, nothing that they ask for is missing: each block is what its place takes.

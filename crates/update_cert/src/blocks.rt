@@ -27,8 +27,8 @@ pub trait Blocks {
         ensures hashed { IfSome (held self.now digest) (λ text. hash text ≡ digest) };
 }
 
-/// Whatever blocks are held, digests can stand for something that agrees with them: what is said of each such reading is
-/// said of at least one.
+/// Whatever blocks are held, digests can stand for something that agrees with them: what is said of each such reading
+/// is said of at least one.
 pub fn some_reading_agrees()
     ensures { (blocks : Held) → (reads : Reading) × Agrees blocks reads }
 {}

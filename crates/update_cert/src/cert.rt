@@ -35,7 +35,8 @@ impl<A: Allocator> Model for Cert<A> {
 
     ghost view = { λ c. record { user = c.user; number = c.number; last = c.last; changes = c.changes.items } };
 
-    ghost invariant = { λ c. cert.Fits (record { user = c.user; number = c.number; last = c.last; changes = c.changes.items }) };
+    ghost invariant = { λ c. cert.Fits
+        (record { user = c.user; number = c.number; last = c.last; changes = c.changes.items }) };
 }
 
 /// Writes the fields of a certificate of these parts.
@@ -47,7 +48,8 @@ fn write_cert<A: Allocator + Copy>(
     changes: &[Change<A>],
 ) -> Result<(), Memory>
     requires few { length changes.now ≤ 16 }
-    ensures ok { OnOk result (writer.new ≡ cert.onto writer.old (record { user = user; number = number; last = last.now; changes = changes.now })) }
+    ensures ok { OnOk result (writer.new
+        ≡ cert.onto writer.old (record { user = user; number = number; last = last.now; changes = changes.now })) }
     ensures front { OnErr result (BeginsWith writer.new writer.old) }
 {
     writer.tag(b"SUC1")?;
@@ -59,7 +61,8 @@ fn write_cert<A: Allocator + Copy>(
 }
 
 impl<A: Allocator + Copy> Text<A> for Cert<A> {
-    ghost use Rattle.update_cert.specs.Cert.{cert, lawful_cert};
+    ghost use Rattle.update_cert.specs.Cert.{cert};
+    ghost use Rattle.update_cert.specs.CertLaws.{lawful_cert};
 
     ghost format = { cert };
 
@@ -103,7 +106,8 @@ pub fn cert_text<A: Allocator + Copy>(
     changes: &[Change<A>],
 ) -> Result<Vec<u8, A>, Memory>
     requires few { length changes.now ≤ 16 }
-    ensures text { IfOk result (λ text. text.items ≡ cert.spell (record { user = user; number = number; last = last; changes = changes.now })) }
+    ensures text { IfOk result (λ text. text.items
+        ≡ cert.spell (record { user = user; number = number; last = last; changes = changes.now })) }
     // Their own contracts say that the parts fit, so that the text is read again.
     ensures fits { cert.Fits (record { user = user; number = number; last = last; changes = changes.now }) }
 {

@@ -3,7 +3,8 @@
 ghost use Rattle.layout.specs.declared.error.ReadError.TheVariants as read_error;
 ghost use Rattle.std.specs.Prelude.{◌≡◌, ◌≢◌, ◌≤◌, IfErr, OnErr, OnOk};
 ghost use Rattle.layout.specs.Format.{BeginsWith, Reads, ReadsAs};
-ghost use Rattle.update_cert.specs.Change.{action as action_format, placed_fields, table_fields, fields, action_of, table_action_of, deed_of, of_table, change, kind};
+ghost use Rattle.update_cert.specs.Change.{action as action_format, placed_fields, table_fields, fields, action_of};
+ghost use Rattle.update_cert.specs.Change.{table_action_of, deed_of, of_table, change, kind};
 
 use directory::{Entry, Name};
 use layout::{
@@ -68,7 +69,8 @@ impl<A: Allocator> Model for Change<A> {
 
     ghost view = { λ c. record { principal = c.principal; i_number = c.i_number; action = deed_of c.deed } };
 
-    ghost invariant = { λ c. change.Fits (record { principal = c.principal; i_number = c.i_number; action = deed_of c.deed }) };
+    ghost invariant = { λ c. change.Fits
+        (record { principal = c.principal; i_number = c.i_number; action = deed_of c.deed }) };
 }
 
 /// What is done, of this kind, in what is left of a text.
@@ -129,7 +131,8 @@ impl<A: Allocator> Action<A> {
 impl<A: Allocator + Copy> Action<A> {
     /// Writes it at the end of a text, without its kind.
     fn write_to(&self, writer: &mut Writer<A>) -> Result<(), Memory>
-        ensures ok { OnOk result (writer.new ≡ (action_format (kind (action_of self.now))).onto writer.old (action_of self.now)) }
+        ensures ok { OnOk result (writer.new
+            ≡ (action_format (kind (action_of self.now))).onto writer.old (action_of self.now)) }
         ensures front { BeginsWith writer.new writer.old }
         ensures err { OnErr result (writer.new ≡ writer.old) }
     {
@@ -147,7 +150,8 @@ impl<A: Allocator + Copy> Action<A> {
 fn read_table_change(reader: &mut Reader<'_>, kind: u8) -> Result<TableChange, ReadError>
     requires low { 6 ≤ kind }
     requires high { kind ≤ 8 }
-    ensures reads { ReadsAs (λ change. of_table (table_action_of change)) result reader.new ((fields kind).read reader.old) }
+    ensures reads { ReadsAs (λ change. of_table (table_action_of change)) result reader.new
+        ((fields kind).read reader.old) }
     ensures no_memory { IfErr result (λ e. e ≢ read_error.Memory) }
 {
     match kind {
@@ -195,7 +199,8 @@ impl TableChange {
 
     /// Writes it at the end of a text, without its kind.
     fn write_to<A: Allocator + Copy>(&self, writer: &mut Writer<A>) -> Result<(), Memory>
-        ensures ok { OnOk result (writer.new ≡ (fields (kind (table_action_of self.now))).onto writer.old (of_table (table_action_of self.now))) }
+        ensures ok { OnOk result (writer.new
+            ≡ (fields (kind (table_action_of self.now))).onto writer.old (of_table (table_action_of self.now))) }
         ensures front { BeginsWith writer.new writer.old }
     {
         match self {

@@ -18,7 +18,8 @@ pub(crate) fn lay_directory<A: Allocator + Copy>(
     directory: &Directory<A>,
 ) -> Result<Laid<A>, Memory>
     ensures inode { IfOk result (λ laid. laid.inode.items ≡ inode.spell (directory_inode directory.now)) }
-    ensures blocks { IfOk result (λ laid. map vec_items laid.blocks.items ≡ blocks_of (directory_format.spell directory.now)) }
+    ensures blocks { IfOk result (λ laid. map vec_items laid.blocks.items
+        ≡ blocks_of (directory_format.spell directory.now)) }
     ensures read_back { OnOk result (IsReadBack directory.now) }
 {
     // Its text is of a size that an i-node has.

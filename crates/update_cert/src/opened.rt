@@ -74,7 +74,8 @@ impl<A: Allocator + Copy> Open<A> {
     pub(crate) fn link(&mut self, entry: &Entry<A>) -> Result<bool, Memory>
         ensures room { IfOk result (λ room. room ≡ has_room entry.now.name (Some (Listed self.old.entries))) }
         ensures i_number { self.new.i_number ≡ self.old.i_number }
-        ensures entries { IfOk result (λ room. self.new.entries ≡ (if room then linked self.old.entries entry.now else self.old.entries)) }
+        ensures entries { IfOk result (λ room. self.new.entries
+            ≡ (if room then linked self.old.entries entry.now else self.old.entries)) }
     {
         // There are at most 1,024 entries.
         let _entries = self.directory.entries();
@@ -89,7 +90,8 @@ impl<A: Allocator + Copy> Open<A> {
 /// Where the directory of an i-number stands, or where it would stand.
 pub(crate) fn find<A: Allocator>(opened: &[Open<A>], i_number: INumber) -> Result<usize, usize>
     requires { Ascends nat_cmp number_of None opened.now }
-    ensures { MatchResult result (Stands nat_cmp number_of opened.now i_number) (IsFree nat_cmp number_of opened.now i_number) }
+    ensures { MatchResult result (Stands nat_cmp number_of opened.now i_number)
+        (IsFree nat_cmp number_of opened.now i_number) }
 {
     opened.binary_search_by_key(&i_number.get(), |open| open.i_number().get())
 }

@@ -1,6 +1,7 @@
 //! A principal's part of the tree.
 
-ghost use Rattle.std.specs.Prelude.{◌≡◌, ◌==◌, ◌||◌, ◌&&◌, ◌/◌, nat_lt, nat_le, if◌then◌else◌, None, ℕ, List, [], Some, false, IfOk, IsOk, IfErr, OnOk, IsSome, true, map, ◌∷◌};
+ghost use Rattle.std.specs.Prelude.{◌≡◌, ◌==◌, ◌||◌, ◌&&◌, ◌/◌, nat_lt, nat_le, if◌then◌else◌, None, ℕ, List, [], Some};
+ghost use Rattle.std.specs.Prelude.{false, IfOk, IsOk, IfErr, OnOk, IsSome, true, map, ◌∷◌};
 ghost use Rattle.std.specs.Option.{option_copied, option_map};
 ghost use Rattle.std.specs.Vec.{vec_items};
 ghost use Rattle.std.specs.Ordering.{nat_cmp};
@@ -8,12 +9,16 @@ ghost use Rattle.layout.specs.Ascending.{IsFree};
 ghost use Rattle.directory.specs.Directory.{Entry as ListedEntry};
 ghost use Rattle.itable.specs.ITable.{digest_at};
 ghost use Rattle.update_cert.specs.Change.{Make, Put, Remove, Link, Unlink, action_of};
-ghost use Rattle.update_cert.specs.World.{Actor, Tree, after_change, is_file, is_removable, is_root as is_root_of, is_table as is_table_of};
+ghost use Rattle.update_cert.specs.World.{Actor, Tree, after_change, is_file, is_removable, is_root as is_root_of};
+ghost use Rattle.update_cert.specs.World.{is_table as is_table_of};
 ghost use Rattle.update_cert.specs.Reading.{Reading, read_change};
 ghost use Rattle.update_cert.specs.Blocks.{Agrees, inode_at as inode_of};
-ghost use Rattle.update_cert.specs.Part.{Changed, IsPart, IsPartOf, number_of, opened_at as entries_at, part_of, slot_at, slot_in, stands_at};
-ghost use Rattle.update_cert.specs.Acts.{Acts, HasAt, HasBy, HasFor, LacksAt, LacksBy, LacksFor, change_at, is_void_of, listed};
-ghost use Rattle.update_cert.specs.Slots.{IsReadBack, changed_texts, has_digest, laid_under, slot_after, slot_after_change, slot_changes, slot_digest};
+ghost use Rattle.update_cert.specs.Part.{Changed, IsPart, IsPartOf, number_of, opened_at as entries_at, part_of};
+ghost use Rattle.update_cert.specs.Part.{slot_at, slot_in, stands_at};
+ghost use Rattle.update_cert.specs.Acts.{Acts, HasAt, HasBy, HasFor, LacksAt, LacksBy, LacksFor, change_at, is_void_of};
+ghost use Rattle.update_cert.specs.Acts.{listed};
+ghost use Rattle.update_cert.specs.Slots.{IsReadBack, changed_texts, has_digest, laid_under, slot_after};
+ghost use Rattle.update_cert.specs.Slots.{slot_after_change, slot_changes, slot_digest};
 
 use crate::blocks::Blocks;
 use crate::change::{Action, Change, Deed};
@@ -94,7 +99,8 @@ impl<A: Allocator> Part<A> {
         requires { entries_at self.old i_number ≡ None }
         ensures opened { OnOk result (self.new.opened ≡ self.old.opened) }
         ensures principal { OnOk result (self.new.table.principal ≡ self.old.table.principal) }
-        ensures digests { OnOk result ((i : ℕ) → digest_at self.new.table i ≡ (if i_number == i then Some digest else digest_at self.old.table i)) }
+        ensures digests { OnOk result ((i : ℕ)
+            → digest_at self.new.table i ≡ (if i_number == i then Some digest else digest_at self.old.table i)) }
     {
         self.table.set(i_number, digest)
     }
@@ -103,7 +109,8 @@ impl<A: Allocator> Part<A> {
     fn take(&mut self, i_number: INumber)
         ensures opened { (i : ℕ) → entries_at self.new i ≡ (if i_number == i then None else entries_at self.old i) }
         ensures principal { self.new.table.principal ≡ self.old.table.principal }
-        ensures digests { (i : ℕ) → digest_at self.new.table i ≡ (if i_number == i then None else digest_at self.old.table i) }
+        ensures digests { (i : ℕ) → digest_at self.new.table i ≡ (if i_number == i then None
+            else digest_at self.old.table i) }
     {
         take_out(&mut self.opened, i_number);
         let _digest = self.table.remove(i_number);
@@ -111,7 +118,9 @@ impl<A: Allocator> Part<A> {
 
     /// What the i-node of this digest is of stands at an i-number from now on, if nothing stood there.
     fn make(&mut self, user: User, i_number: INumber, digest: Digest) -> Result<bool, Memory>
-        ensures acts { (reads : Reading) → IfOk result (λ fitted. Acts reads user (change_at self.old i_number (Make digest)) self.old self.new fitted) }
+        ensures acts { (reads : Reading)
+            → IfOk result (λ fitted. Acts reads user (change_at self.old i_number (Make digest)) self.old self.new
+            fitted) }
         ensures principal { OnOk result (self.new.table.principal ≡ self.old.table.principal) }
     {
         if self.table.get(i_number).is_some() || !may_make(user, self.principal(), i_number) {
@@ -131,7 +140,8 @@ impl<A: Allocator + Copy> Part<A> {
         i_number: INumber,
     ) -> Result<Option<Inode<A>>, ApplyError>
         requires { entries_at self.now i_number ≡ None }
-        ensures found { IfOk result (λ found. option_map (λ n. Some n) found ≡ option_map (inode_of (B.held blocks.now)) (digest_at self.now.table i_number)) }
+        ensures found { IfOk result (λ found. option_map (λ n. Some n) found
+            ≡ option_map (inode_of (B.held blocks.now)) (digest_at self.now.table i_number)) }
         ensures missing { IfErr result (LacksAt (B.held blocks.now) self.now i_number false) }
         ensures taken { OnOk result (HasAt (B.held blocks.now) self.now i_number false) }
     {
@@ -149,7 +159,8 @@ impl<A: Allocator + Copy> Part<A> {
         blocks: &B,
         i_number: INumber,
     ) -> Result<bool, ApplyError>
-        ensures file { (reads : Reading) → Agrees (B.held blocks.now) reads → IfOk result (λ is. is ≡ is_file (stands_at reads self.now i_number)) }
+        ensures file { (reads : Reading) → Agrees (B.held blocks.now) reads
+            → IfOk result (λ is. is ≡ is_file (stands_at reads self.now i_number)) }
         // It isn't opened then.
         ensures closed { IfOk result (λ is. is ≡ true → entries_at self.now i_number ≡ None) }
         ensures missing { IfErr result (LacksAt (B.held blocks.now) self.now i_number false) }
@@ -162,15 +173,16 @@ impl<A: Allocator + Copy> Part<A> {
         Ok(inode.is_some_and(|inode| inode.kind() == Kind::File))
     }
 
-    /// Whether a file or an empty directory stands at an i-number. The size of its i-node tells whether a directory that
-    /// isn't opened is empty.
+    /// Whether a file or an empty directory stands at an i-number. The size of its i-node tells whether a directory
+    /// that isn't opened is empty.
     fn is_removable<B: Blocks>(
         &self,
         alloc: A,
         blocks: &B,
         i_number: INumber,
     ) -> Result<bool, ApplyError>
-        ensures removable { (reads : Reading) → Agrees (B.held blocks.now) reads → IfOk result (λ is. is ≡ is_removable (stands_at reads self.now i_number)) }
+        ensures removable { (reads : Reading) → Agrees (B.held blocks.now) reads
+            → IfOk result (λ is. is ≡ is_removable (stands_at reads self.now i_number)) }
         ensures missing { IfErr result (LacksAt (B.held blocks.now) self.now i_number false) }
         ensures taken { OnOk result (HasAt (B.held blocks.now) self.now i_number false) }
     {
@@ -189,7 +201,8 @@ impl<A: Allocator + Copy> Part<A> {
         i_number: INumber,
     ) -> Result<Option<Directory<A>>, ApplyError>
         requires { entries_at self.now i_number ≡ None }
-        ensures found { (reads : Reading) → Agrees (B.held blocks.now) reads → IfOk result (λ found. found ≡ listed (option_map reads.content (digest_at self.now.table i_number))) }
+        ensures found { (reads : Reading) → Agrees (B.held blocks.now) reads
+            → IfOk result (λ found. found ≡ listed (option_map reads.content (digest_at self.now.table i_number))) }
         ensures mapped { IfOk result (λ found. IsSome found → IsSome (digest_at self.now.table i_number)) }
         ensures missing { IfErr result (LacksAt (B.held blocks.now) self.now i_number true) }
         ensures taken { OnOk result (HasAt (B.held blocks.now) self.now i_number true) }
@@ -215,11 +228,14 @@ impl<A: Allocator + Copy> Part<A> {
         i_number: INumber,
         digest: Digest,
     ) -> Result<bool, ApplyError>
-        ensures acts { (reads : Reading) (user : ℕ) → Agrees (B.held blocks.now) reads → IfOk result (λ fitted. Acts reads user (change_at self.old i_number (Put digest)) self.old self.new fitted) }
+        ensures acts { (reads : Reading) (user : ℕ) → Agrees (B.held blocks.now) reads
+            → IfOk result (λ fitted. Acts reads user (change_at self.old i_number (Put digest)) self.old self.new
+            fitted) }
         ensures principal { OnOk result (self.new.table.principal ≡ self.old.table.principal) }
         ensures missing { IfErr result (LacksAt (B.held blocks.now) self.old i_number false) }
         // The table of principals isn't looked at.
-        ensures taken { is_table_of self.old.table.principal i_number ≡ false → OnOk result (HasAt (B.held blocks.now) self.old i_number false) }
+        ensures taken { is_table_of self.old.table.principal i_number ≡ false
+            → OnOk result (HasAt (B.held blocks.now) self.old i_number false) }
     {
         let principal = self.principal();
         if is_table(principal, i_number) {
@@ -239,11 +255,13 @@ impl<A: Allocator + Copy> Part<A> {
         blocks: &B,
         i_number: INumber,
     ) -> Result<bool, ApplyError>
-        ensures acts { (reads : Reading) (user : ℕ) → Agrees (B.held blocks.now) reads → IfOk result (λ fitted. Acts reads user (change_at self.old i_number Remove) self.old self.new fitted) }
+        ensures acts { (reads : Reading) (user : ℕ) → Agrees (B.held blocks.now) reads
+            → IfOk result (λ fitted. Acts reads user (change_at self.old i_number Remove) self.old self.new fitted) }
         ensures principal { OnOk result (self.new.table.principal ≡ self.old.table.principal) }
         // The root directory stays, whatever is held.
         ensures missing { IfErr result (LacksAt (B.held blocks.now) self.old i_number false) }
-        ensures taken { is_table_of self.old.table.principal i_number ≡ false → is_root_of self.old.table.principal i_number ≡ false
+        ensures taken { is_table_of self.old.table.principal i_number ≡ false
+            → is_root_of self.old.table.principal i_number ≡ false
             → OnOk result (HasAt (B.held blocks.now) self.old i_number false) }
         ensures root { is_root_of self.old.table.principal i_number ≡ true → IsOk result }
     {
@@ -262,7 +280,9 @@ impl<A: Allocator + Copy> Part<A> {
     fn open(&mut self, place: usize, directory: Open<A>) -> Result<(), Memory>
         requires free { IsFree nat_cmp number_of self.old.opened directory.i_number place }
         requires mapped { IsSome (digest_at self.old.table directory.i_number) }
-        ensures slots { OnOk result ((i : ℕ) → slot_at self.new i ≡ (if directory.i_number == i then Some (Changed (laid_under (slot_at self.old i)) directory.entries) else slot_at self.old i)) }
+        ensures slots { OnOk result ((i : ℕ)
+            → slot_at self.new i ≡ (if directory.i_number == i
+            then Some (Changed (laid_under (slot_at self.old i)) directory.entries) else slot_at self.old i)) }
         ensures table { OnOk result (self.new.table ≡ self.old.table) }
     {
         self.opened.insert(place, directory)?;
@@ -278,7 +298,9 @@ impl<A: Allocator + Copy> Part<A> {
         i_number: INumber,
         entry: &Entry<A>,
     ) -> Result<bool, ApplyError>
-        ensures acts { (reads : Reading) (user : ℕ) → Agrees (B.held blocks.now) reads → IfOk result (λ fitted. Acts reads user (change_at self.old i_number (Link entry.now)) self.old self.new fitted) }
+        ensures acts { (reads : Reading) (user : ℕ) → Agrees (B.held blocks.now) reads
+            → IfOk result (λ fitted. Acts reads user (change_at self.old i_number (Link entry.now)) self.old self.new
+            fitted) }
         ensures principal { OnOk result (self.new.table.principal ≡ self.old.table.principal) }
         ensures missing { IfErr result (LacksAt (B.held blocks.now) self.old i_number true) }
         ensures taken { OnOk result (HasAt (B.held blocks.now) self.old i_number true) }
@@ -301,8 +323,8 @@ impl<A: Allocator + Copy> Part<A> {
         Ok(true)
     }
 
-    /// The directory at an i-number has no entry of this name any more, if one stands there and had it. It is opened only
-    /// then.
+    /// The directory at an i-number has no entry of this name any more, if one stands there and had it. It is opened
+    /// only then.
     fn unlink<B: Blocks>(
         &mut self,
         alloc: A,
@@ -310,7 +332,9 @@ impl<A: Allocator + Copy> Part<A> {
         i_number: INumber,
         name: &[u8],
     ) -> Result<bool, ApplyError>
-        ensures acts { (reads : Reading) (user : ℕ) → Agrees (B.held blocks.now) reads → IfOk result (λ fitted. Acts reads user (change_at self.old i_number (Unlink name.now)) self.old self.new fitted) }
+        ensures acts { (reads : Reading) (user : ℕ) → Agrees (B.held blocks.now) reads
+            → IfOk result (λ fitted. Acts reads user (change_at self.old i_number (Unlink name.now)) self.old self.new
+            fitted) }
         ensures principal { OnOk result (self.new.table.principal ≡ self.old.table.principal) }
         ensures missing { IfErr result (LacksAt (B.held blocks.now) self.old i_number true) }
         ensures taken { OnOk result (HasAt (B.held blocks.now) self.old i_number true) }
@@ -339,10 +363,14 @@ impl<A: Allocator + Copy> Part<A> {
         i_number: INumber,
         action: &Action<A>,
     ) -> Result<bool, ApplyError>
-        ensures acts { (reads : Reading) → Agrees (B.held blocks.now) reads → IfOk result (λ fitted. Acts reads user (change_at self.old i_number (action_of action.now)) self.old self.new fitted) }
+        ensures acts { (reads : Reading) → Agrees (B.held blocks.now) reads
+            → IfOk result (λ fitted. Acts reads user (change_at self.old i_number (action_of action.now)) self.old
+            self.new fitted) }
         ensures principal { OnOk result (self.new.table.principal ≡ self.old.table.principal) }
-        ensures missing { IfErr result (LacksFor (B.held blocks.now) self.old (change_at self.old i_number (action_of action.now))) }
-        ensures taken { is_table_of self.old.table.principal i_number ≡ false → OnOk result (HasFor (B.held blocks.now) self.old (change_at self.old i_number (action_of action.now))) }
+        ensures missing { IfErr result
+            (LacksFor (B.held blocks.now) self.old (change_at self.old i_number (action_of action.now))) }
+        ensures taken { is_table_of self.old.table.principal i_number ≡ false
+            → OnOk result (HasFor (B.held blocks.now) self.old (change_at self.old i_number (action_of action.now))) }
     {
         match action {
             Action::Make(inode) => Ok(self.make(user, i_number, *inode)?),
@@ -365,15 +393,21 @@ impl<A: Allocator + Copy> Part<A> {
     ) -> Result<bool, ApplyError>
         ensures effect { (reads : Reading) (actor : Actor)
             → Agrees (B.held blocks.now) reads → actor.user ≡ user → actor.member self.old.table.principal ≡ is_member
-            → IfOk result (λ effect. effect ≡ slot_changes reads actor (change_at self.old i_number (action_of action.now)) (slot_at self.old i_number)) }
+            → IfOk result (λ effect. effect
+            ≡ slot_changes reads actor (change_at self.old i_number (action_of action.now))
+            (slot_at self.old i_number)) }
         ensures slots { (reads : Reading) (actor : Actor)
             → Agrees (B.held blocks.now) reads → actor.user ≡ user → actor.member self.old.table.principal ≡ is_member
-            → OnOk result ((i : ℕ) → slot_at self.new i ≡ (if i_number == i then slot_after_change reads actor (change_at self.old i_number (action_of action.now)) (slot_at self.old i) else slot_at self.old i)) }
+            → OnOk result ((i : ℕ) → slot_at self.new i ≡ (if i_number == i
+            then slot_after_change reads actor (change_at self.old i_number (action_of action.now))
+            (slot_at self.old i) else slot_at self.old i)) }
         ensures principal { OnOk result (self.new.table.principal ≡ self.old.table.principal) }
         ensures missing { (actor : Actor) → actor.user ≡ user → actor.member self.old.table.principal ≡ is_member
-            → IfErr result (LacksBy (B.held blocks.now) actor self.old (change_at self.old i_number (action_of action.now))) }
+            → IfErr result (LacksBy (B.held blocks.now) actor self.old
+            (change_at self.old i_number (action_of action.now))) }
         ensures taken { (actor : Actor) → actor.user ≡ user → actor.member self.old.table.principal ≡ is_member
-            → OnOk result (HasBy (B.held blocks.now) actor self.old (change_at self.old i_number (action_of action.now))) }
+            → OnOk result (HasBy (B.held blocks.now) actor self.old
+            (change_at self.old i_number (action_of action.now))) }
     {
         if !is_permitted(user, is_member, self.principal()) {
             return Ok(false);
@@ -394,19 +428,24 @@ impl<A: Allocator + Copy> Part<A> {
         change: &Change<A>,
     ) -> Result<bool, ApplyError>
         ensures part { (reads : Reading) (tree : Tree) (actor : Actor)
-            → Agrees (B.held blocks.now) reads → IsPartOf reads self.old tree → actor.user ≡ user → actor.member self.old.table.principal ≡ is_member
+            → Agrees (B.held blocks.now) reads → IsPartOf reads self.old tree → actor.user ≡ user
+            → actor.member self.old.table.principal ≡ is_member
             → OnOk result (IsPartOf reads self.new (after_change actor (read_change reads change.now) tree)) }
         ensures slots { (reads : Reading) (actor : Actor)
             → Agrees (B.held blocks.now) reads → actor.user ≡ user → actor.member self.old.table.principal ≡ is_member
-            → OnOk result ((i : ℕ) → slot_at self.new i ≡ slot_after reads actor self.old.table.principal i (change.now ∷ []) (slot_at self.old i)) }
+            → OnOk result ((i : ℕ) → slot_at self.new i ≡ slot_after reads actor self.old.table.principal i (change.now
+            ∷ []) (slot_at self.old i)) }
         ensures void { (reads : Reading) (tree : Tree) (actor : Actor)
-            → Agrees (B.held blocks.now) reads → IsPartOf reads self.old tree → actor.user ≡ user → actor.member self.old.table.principal ≡ is_member
+            → Agrees (B.held blocks.now) reads → IsPartOf reads self.old tree → actor.user ≡ user
+            → actor.member self.old.table.principal ≡ is_member
             → IfOk result (λ is_void. is_void ≡ is_void_of actor self.old.table.principal change.now tree) }
         ensures principal { OnOk result (self.new.table.principal ≡ self.old.table.principal) }
         ensures missing { (actor : Actor) → actor.user ≡ user → actor.member self.old.table.principal ≡ is_member
-            → IfErr result (λ e. (change.now.principal ≡ self.old.table.principal) × LacksBy (B.held blocks.now) actor self.old change.now e) }
+            → IfErr result (λ e. (change.now.principal ≡ self.old.table.principal)
+            × LacksBy (B.held blocks.now) actor self.old change.now e) }
         ensures taken { (actor : Actor) → actor.user ≡ user → actor.member self.old.table.principal ≡ is_member
-            → OnOk result (change.now.principal ≡ self.old.table.principal → HasBy (B.held blocks.now) actor self.old change.now) }
+            → OnOk result (change.now.principal ≡ self.old.table.principal
+            → HasBy (B.held blocks.now) actor self.old change.now) }
     {
         if change.principal().get() != self.principal().get() {
             return Ok(false);
@@ -484,10 +523,14 @@ impl<A: Allocator + Copy> Part<A> {
     /// operation. Those of a directory that is as it was are left out. Where memory is wanting the part is gone.
     pub fn lay(self, alloc: A, before: &ITable<A>) -> Result<LaidPart<A>, Memory>
         ensures principal { IfOk result (λ laid. laid.table.principal ≡ self.table.principal) }
-        ensures digests { IfOk result (λ laid. (i : ℕ) → digest_at laid.table i ≡ option_map slot_digest (slot_at self i)) }
-        ensures texts { IfOk result (λ laid. map vec_items laid.texts.items ≡ changed_texts before.now self.table self.opened) }
+        ensures digests { IfOk result (λ laid. (i : ℕ)
+            → digest_at laid.table i ≡ option_map slot_digest (slot_at self i)) }
+        ensures texts { IfOk result (λ laid. map vec_items laid.texts.items
+            ≡ changed_texts before.now self.table self.opened) }
         // Whoever holds the texts of a directory that changed reads it from them.
-        ensures read_back { OnOk result ((i : ℕ) (digest : List ℕ) (entries : List ListedEntry) → slot_at self i ≡ Some (Changed digest entries) → IsReadBack entries) }
+        ensures read_back { OnOk result
+            ((i : ℕ) (digest : List ℕ) (entries : List ListedEntry) → slot_at self i ≡ Some (Changed digest entries)
+            → IsReadBack entries) }
         // They ascend by i-number, and each has a digest.
         ensures is_part { IsPart self }
     {

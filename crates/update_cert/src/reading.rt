@@ -4,8 +4,10 @@ ghost use Rattle.std.specs.Prelude.{◌≡◌, ℕ, List, Some, IfOk, IfErr, OnO
 ghost use Rattle.principals.specs.TableText.{table as table_format};
 ghost use Rattle.update_cert.specs.World.{File};
 ghost use Rattle.update_cert.specs.Reading.{Reading};
-ghost use Rattle.update_cert.specs.Blocks.{Agrees, directory_over, file_over, inode_at as inode_of, joined, principals_at, principals_over};
-ghost use Rattle.update_cert.specs.Asked.{HasBlocks, HasPrincipals, Lacks, IsInode, IsBlock, IsOfPrincipals, IsTableBlock};
+ghost use Rattle.update_cert.specs.Blocks.{Agrees, directory_over, file_over, inode_at as inode_of, joined};
+ghost use Rattle.update_cert.specs.Blocks.{principals_at, principals_over};
+ghost use Rattle.update_cert.specs.Asked.{HasBlocks, HasPrincipals, Lacks, IsInode, IsBlock, IsOfPrincipals};
+ghost use Rattle.update_cert.specs.Asked.{IsTableBlock};
 ghost use Rattle.update_cert.specs.Acts.{IsSized, as_table};
 ghost use Rattle.update_cert.specs.Spot.{lacks};
 ghost use Rattle.itable.specs.Inode.{inode as inode_format};
@@ -21,8 +23,8 @@ use layout::{Digest, INumber, Principal, User};
 use principals::Table;
 use std::alloc::Allocator;
 
-/// The i-node of this digest, at an i-number of a principal. The errors are Missing of its text, where none is held that
-/// its place takes, and Memory.
+/// The i-node of this digest, at an i-number of a principal. The errors are Missing of its text, where none is held
+/// that its place takes, and Memory.
 pub fn read_inode<A: Allocator + Copy, B: Blocks>(
     alloc: A,
     blocks: &B,
@@ -53,7 +55,8 @@ fn text_of<A: Allocator + Copy, B: Blocks>(
     ensures fits { inode_format.Fits inode.now }
     ensures joined { IfOk result (λ text. joined (B.held blocks.now) inode.now.blocks ≡ Some text.items) }
     ensures size { IfOk result (λ text. length text.items ≡ inode.now.size) }
-    ensures sized { OnOk result ((k : ℕ) (block : List ℕ) → slice_get inode.now.blocks k ≡ Some block → IsSized (B.held blocks.now) inode.now k block) }
+    ensures sized { OnOk result ((k : ℕ) (block : List ℕ) → slice_get inode.now.blocks k ≡ Some block
+        → IsSized (B.held blocks.now) inode.now k block) }
     ensures missing { IfErr result (Lacks (B.held blocks.now) (IsBlock (B.held blocks.now) inode.now.kind digest)) }
 {
     // It has a block for each 4,096 bytes.
@@ -139,7 +142,8 @@ fn table_text<A: Allocator + Copy, B: Blocks>(
     ensures fits { inode_format.Fits inode.now }
     ensures joined { IfOk result (λ text. joined (B.held blocks.now) inode.now.blocks ≡ Some text.items) }
     ensures size { IfOk result (λ text. length text.items ≡ inode.now.size) }
-    ensures sized { OnOk result ((k : ℕ) (block : List ℕ) → slice_get inode.now.blocks k ≡ Some block → IsSized (B.held blocks.now) inode.now k block) }
+    ensures sized { OnOk result ((k : ℕ) (block : List ℕ) → slice_get inode.now.blocks k ≡ Some block
+        → IsSized (B.held blocks.now) inode.now k block) }
     ensures missing { IfErr result (Lacks (B.held blocks.now) (IsTableBlock (B.held blocks.now) digest)) }
 {
     match text_of(alloc, blocks, digest, inode) {
@@ -174,8 +178,8 @@ fn read_table<A: Allocator + Copy, B: Blocks>(
     Err(ApplyError::Missing(blocks[end], Spot::Table(digest, end as u16)))
 }
 
-/// The table of principals that the i-node of this digest is of, which user 0's i-table has at its i-number 1. The errors
-/// are Missing of the i-node or of a block, and Memory.
+/// The table of principals that the i-node of this digest is of, which user 0's i-table has at its i-number 1. The
+/// errors are Missing of the i-node or of a block, and Memory.
 pub fn read_principals<A: Allocator + Copy, B: Blocks>(
     alloc: A,
     blocks: &B,
@@ -184,7 +188,8 @@ pub fn read_principals<A: Allocator + Copy, B: Blocks>(
     ensures found { IfOk result (λ table. principals_at (B.held blocks.now) digest ≡ Some table) }
     // It has a text, and whatever stands for the digests of which no block tells, the file there is that text.
     ensures fits { IfOk result table_format.Fits }
-    ensures reads { (reads : Reading) → Agrees (B.held blocks.now) reads → IfOk result (λ table. reads.content digest ≡ File (table_format.spell table)) }
+    ensures reads { (reads : Reading) → Agrees (B.held blocks.now) reads
+        → IfOk result (λ table. reads.content digest ≡ File (table_format.spell table)) }
     // Each block is what its place takes.
     ensures taken { OnOk result (HasPrincipals (B.held blocks.now) digest) }
     // Missing names the i-node or a block of it, and no text of it is held that its spot takes.

@@ -3,7 +3,10 @@
 ghost use Rattle.std.specs.Prelude.{◌≡◌, ◌==◌, ◌&&◌, ◌<◌, IfOk, length};
 ghost use Rattle.std.specs.List.{list_any};
 ghost use Rattle.update_cert.specs.Acts.{table_spot};
-ghost use Rattle.update_cert.specs.Spot.{completes as is_whole, is_block_of, is_of_file, size_of_block, spot_of, takes, takes_block as block_is_taken, takes_file_block as file_block_is_taken, takes_table_block as table_block_is_taken, takes_chunk as chunk_is_taken, takes_inode as inode_is_taken, takes_root as root_is_taken};
+ghost use Rattle.update_cert.specs.Spot.{completes as is_whole, is_block_of, is_of_file, size_of_block, spot_of, takes};
+ghost use Rattle.update_cert.specs.Spot.{takes_block as block_is_taken, takes_file_block as file_block_is_taken};
+ghost use Rattle.update_cert.specs.Spot.{takes_table_block as table_block_is_taken, takes_chunk as chunk_is_taken};
+ghost use Rattle.update_cert.specs.Spot.{takes_inode as inode_is_taken, takes_root as root_is_taken};
 
 use crate::blocks::{Blocks, inode_at, join, spelled};
 use directory::Directory;
@@ -207,9 +210,9 @@ impl Spot {
         }
     }
 
-    /// Whether the text is what it asks for: a root or a chunk of the i-table; an i-node, of a file with bytes where the
-    /// table of principals stands; or as many bytes as the block has, and with those before it the text of a directory,
-    /// or of the table of principals, where it is the last one of such. Only want of memory is an error.
+    /// Whether the text is what it asks for: a root or a chunk of the i-table; an i-node, of a file with bytes where
+    /// the table of principals stands; or as many bytes as the block has, and with those before it the text of a
+    /// directory, or of the table of principals, where it is the last one of such. Only want of memory is an error.
     #[tactic(auto, unfolding(crate::specs::Spot::takes))]
     pub fn takes<A: Allocator + Copy, B: Blocks>(
         &self,

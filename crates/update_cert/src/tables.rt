@@ -37,8 +37,11 @@ fn alter<A: Allocator>(
     change: &TableChange,
 ) -> Result<bool, Memory>
     ensures effect { IfOk result (λ effect. effect ≡ alters (table_action_of change.now) table.old) }
-    ensures table { OnOk result (table.new ≡ (if alters (table_action_of change.now) table.old then table_becomes number (table_action_of change.now) table.old else table.old)) }
-    ensures fits { table_format.Fits table.old → NoneAfter number table.old → OnOk result (table_format.Fits table.new) }
+    ensures table { OnOk result (table.new
+        ≡ (if alters (table_action_of change.now) table.old
+        then table_becomes number (table_action_of change.now) table.old else table.old)) }
+    ensures fits { table_format.Fits table.old → NoneAfter number table.old
+        → OnOk result (table_format.Fits table.new) }
     ensures err { OnErr result (table.new ≡ table.old) }
 {
     match change {
@@ -51,8 +54,8 @@ fn alter<A: Allocator>(
     }
 }
 
-/// Applies a change in a user's operation of this number, if it is one of the table, and answers whether it is such a one
-/// and has no effect.
+/// Applies a change in a user's operation of this number, if it is one of the table, and answers whether it is such a
+/// one and has no effect.
 fn apply_change<A: Allocator>(
     table: &mut Table<A>,
     user: User,
@@ -61,7 +64,8 @@ fn apply_change<A: Allocator>(
 ) -> Result<bool, Memory>
     ensures void { IfOk result (λ is_void. is_void ≡ is_void_on user change.now table.old) }
     ensures table { OnOk result (table.new ≡ table_after_change user number change.now table.old) }
-    ensures fits { table_format.Fits table.old → NoneAfter number table.old → OnOk result (table_format.Fits table.new) }
+    ensures fits { table_format.Fits table.old → NoneAfter number table.old
+        → OnOk result (table_format.Fits table.new) }
     ensures err { OnErr result (table.new ≡ table.old) }
 {
     match change.deed() {
@@ -82,8 +86,10 @@ fn apply_each<A: Allocator>(
     cert: &Cert<A>,
 ) -> Result<Vec<u8, A>, Memory>
     ensures table { OnOk result (table.new ≡ table_after cert.now.user cert.now.number cert.now.changes table.old) }
-    ensures voids { IfOk result (λ voids. voids.items ≡ table_voids 1 cert.now.user cert.now.number cert.now.changes table.old) }
-    ensures fits { table_format.Fits table.old → NoneAfter cert.now.number table.old → OnOk result (table_format.Fits table.new) }
+    ensures voids { IfOk result (λ voids. voids.items
+        ≡ table_voids 1 cert.now.user cert.now.number cert.now.changes table.old) }
+    ensures fits { table_format.Fits table.old → NoneAfter cert.now.number table.old
+        → OnOk result (table_format.Fits table.new) }
     ensures stays { may_change cert.now ≡ false → table.new ≡ table.old }
 {
     let user = cert.user();
@@ -122,8 +128,8 @@ fn may_change<A: Allocator>(cert: &Cert<A>) -> bool
     cert.user() == User::superuser() && any_of_table(cert.changes())
 }
 
-/// What a certificate's changes make of the table of principals: those of parts are passed over. Where memory runs out the
-/// table is as it was; one that may change is copied first.
+/// What a certificate's changes make of the table of principals: those of parts are passed over. Where memory runs out
+/// the table is as it was; one that may change is copied first.
 pub fn apply_table<A: Allocator + Copy>(
     alloc: A,
     table: &mut Table<A>,
@@ -139,7 +145,8 @@ pub fn apply_table<A: Allocator + Copy>(
     // The same, said of the table alone.
     ensures after { OnOk result (table.new ≡ table_after cert.now.user cert.now.number cert.now.changes table.old) }
     // A table that has a text has one afterwards, if no row begins later.
-    ensures fits { table_format.Fits table.old → NoneAfter cert.now.number table.old → OnOk result (table_format.Fits table.new) }
+    ensures fits { table_format.Fits table.old → NoneAfter cert.now.number table.old
+        → OnOk result (table_format.Fits table.new) }
     ensures err { OnErr result (table.new ≡ table.old) }
 {
     if !may_change(cert) {
@@ -158,8 +165,10 @@ pub fn table_after<A: Allocator + Copy>(
     table: &Table<A>,
     cert: &Cert<A>,
 ) -> Result<Option<Table<A>>, Memory>
-    ensures changed { IfOk result (λ after. IfSome after (λ new. new ≡ table_after cert.now.user cert.now.number cert.now.changes table.now)) }
-    ensures same { IfOk result (λ after. IsNone after → table_after cert.now.user cert.now.number cert.now.changes table.now ≡ table.now) }
+    ensures changed { IfOk result (λ after. IfSome after
+        (λ new. new ≡ table_after cert.now.user cert.now.number cert.now.changes table.now)) }
+    ensures same { IfOk result (λ after. IsNone after
+        → table_after cert.now.user cert.now.number cert.now.changes table.now ≡ table.now) }
     // An operation that can't change it takes no memory.
     ensures no_memory { may_change cert.now ≡ false → IsOk result }
 {

@@ -13,7 +13,8 @@ use Rattle.layout.specs.Ascending.{Ascends, row_at}
 use Rattle.layout.specs.AscendingKeys.{key_test}
 use Rattle.layout.specs.AscendingLaws.{Ordered, row_at-with_row}
 use Rattle.version_order.specs.declared.vector.Component.{Component}
-use Rattle.version_order.specs.Vector.{principal_of, component, vector, components_ascend, version_of, raised}
+use Rattle.version_order.specs.Vector.{principal_of, component, vector, version_of, raised}
+use Rattle.version_order.specs.VectorLaws.{components_ascend}
 use Rattle.version_order.proofs.Rows.{AreRows, rows_of, are_listed, listed_with}
 
 -- what each component is, wherever it stands

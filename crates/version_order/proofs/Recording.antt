@@ -9,7 +9,8 @@ use Rattle.layout.specs.Ranges.{group, version}
 use Rattle.layout.specs.Ascending.{with_row}
 use Rattle.layout.specs.AscendingLaws.{Ordered}
 use Rattle.version_order.specs.declared.structure.GroupRecord.{GroupRecord}
-use Rattle.version_order.specs.Structure.{group_of, group_record, group_records, records_ascend}
+use Rattle.version_order.specs.Structure.{group_of, group_record, group_records}
+use Rattle.version_order.specs.StructureLaws.{records_ascend}
 use Rattle.version_order.proofs.Rows.{AreRows, rows_of, listed_with}
 
 -- what each record is, wherever it stands

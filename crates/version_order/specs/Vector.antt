@@ -1,18 +1,14 @@
 -- Vectors: a version for each principal that has one, ascending by principal. One that isn't listed has version 0.
 -- The bytes stand in docs/FORMATS.md.
-use Rattle.std.proofs.Common.{arith}
-use Rattle.std.specs.Prelude.{ℕ, ◌+◌, Bool, true, List, [], ◌∷◌, Option, ◌&&◌, nat_lt, nat_le, sum_by, if◌then◌else◌}
-use Rattle.std.specs.Int.{w8, w32}
+use Rattle.std.specs.Prelude.{ℕ, ◌+◌, Bool, true, List, [], ◌∷◌, ◌&&◌, nat_lt, nat_le, sum_by, if◌then◌else◌}
+use Rattle.std.specs.Int.{w8}
 use Rattle.std.specs.List.{list_all}
 use Rattle.std.specs.Option.{option_map_or}
 use Rattle.std.specs.Ordering.{nat_cmp}
 use Rattle.layout.specs.Types.{Principal, Version}
 use Rattle.layout.specs.Format.{Format, RowAfter, uint_in, pair, guarded, mapped, listed}
-use Rattle.layout.specs.Laws.{Lawful, laws, in_range, wide8, wide32}
 use Rattle.layout.specs.Ranges.{principal, version}
 use Rattle.layout.specs.Ascending.{above, row_at, with_row}
-use Rattle.layout.specs.AscendingKeys.{keys_ascend}
-use Rattle.layout.specs.Sizes.{AtMost, KeysAscend, at_most_ascending, at_most_mapped, at_most_pair, at_most_guarded, at_most_uint_in}
 use Rattle.layout.specs.declared.error.ReadError.TheVariants.{Order}
 use Rattle.version_order.specs.declared.vector.Component.{Component}
 
@@ -27,12 +23,6 @@ component before =
 
 abbrev pub vector : Format (List Component)
 vector = listed (uint_in w8 0 255) component
-
-pub lawful_component : (before : Option Component) → Lawful (component before)
-lawful_component before = search laws depth 9
-
-pub lawful_vector : Lawful vector
-lawful_vector = search (laws, lawful_component)
 
 -- the version of a principal
 abbrev pub version_of : Principal → List Component → Version
@@ -63,18 +53,3 @@ depth v = sum_by user_version v
 -- no component of the first is greater than the second's
 abbrev pub is_below : List Component → List Component → Bool
 is_below v w = list_all (λ c. nat_le c.version (version_of c.principal w)) v
-
--- ---- sizes
-
-pub components_ascend : KeysAscend component principal_of 0 96
-components_ascend = keys_ascend component principal_of 0 96 (λ b c fits.
-    let range = in_range w8 0 95 c.principal fits.0.0 in
-    (fits.0.1, (omega arith, omega (arith, range.1))))
-
-at_most_component : (b : Option Component) → AtMost (component b) 5
-at_most_component b =
-    at_most_mapped _ _ _ 5
-    (at_most_pair _ _ 1 4 (at_most_guarded _ _ _ 1 (at_most_uint_in w8 0 95 wide8)) (at_most_uint_in w32 1 4294967295 wide32))
-
-pub at_most_vector : AtMost vector 481
-at_most_vector = at_most_ascending w8 255 component principal_of 0 96 5 wide8 components_ascend at_most_component

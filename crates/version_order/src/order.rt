@@ -34,7 +34,14 @@ pub fn next_plan<A: Allocator + Copy>(
     certificate: Digest,
     groups: &[Group],
 ) -> Result<Plan<A>, PlanError>
-    ensures ok { IfOk result (λ plan. plan ≡ record { user = user; number = number; certificate = certificate; vector = raised_all groups.now (raised user last.now); entries = entries }) }
+    ensures ok { IfOk result (λ plan. plan
+        ≡ record {
+          user = user;
+          number = number;
+          certificate = certificate;
+          vector = raised_all groups.now (raised user last.now);
+          entries = entries;
+        }) }
     ensures within { OnOk result (can_raise_all (user ∷ groups.now) last.now ≡ true) }
     ensures limit { result ≡ Err PlanError.Limit → can_raise_all (user ∷ groups.now) last.now ≡ false }
 {

@@ -78,7 +78,8 @@ impl<A: Allocator> Model for Entries<A> {
 }
 
 impl<A: Allocator + Copy> Text<A> for Entries<A> {
-    ghost use Rattle.version_order.specs.Plan.{entries, lawful_entries};
+    ghost use Rattle.version_order.specs.Plan.{entries};
+    ghost use Rattle.version_order.specs.PlanLaws.{lawful_entries};
 
     ghost format = { entries };
 
@@ -152,9 +153,22 @@ impl<A: Allocator> Model for Plan<A> {
 
     ghost Value = { Plan };
 
-    ghost view = { λ p. record { user = p.user; number = p.number; certificate = p.certificate; vector = p.vector; entries = p.entries } };
+    ghost view = { λ p. record {
+      user = p.user;
+      number = p.number;
+      certificate = p.certificate;
+      vector = p.vector;
+      entries = p.entries;
+    } };
 
-    ghost invariant = { λ p. plan.Fits (record { user = p.user; number = p.number; certificate = p.certificate; vector = p.vector; entries = p.entries }) };
+    ghost invariant = { λ p. plan.Fits
+        (record {
+          user = p.user;
+          number = p.number;
+          certificate = p.certificate;
+          vector = p.vector;
+          entries = p.entries;
+        }) };
 }
 
 impl<A: Allocator> Plan<A> {
@@ -168,7 +182,13 @@ impl<A: Allocator> Plan<A> {
         vector: Vector<A>,
         entries: Entries<A>,
     ) -> Plan<A>
-        ensures { result ≡ record { user = user; number = number; certificate = certificate; vector = vector; entries = entries } }
+        ensures { result ≡ record {
+          user = user;
+          number = number;
+          certificate = certificate;
+          vector = vector;
+          entries = entries;
+        } }
     {
         let _user = user.get();
         let _number = number.get();
@@ -222,7 +242,8 @@ impl<A: Allocator> Plan<A> {
 }
 
 impl<A: Allocator + Copy> Text<A> for Plan<A> {
-    ghost use Rattle.version_order.specs.Plan.{plan, lawful_plan};
+    ghost use Rattle.version_order.specs.Plan.{plan};
+    ghost use Rattle.version_order.specs.PlanLaws.{lawful_plan};
 
     ghost format = { plan };
 

@@ -88,7 +88,8 @@ impl<A: Allocator> Model for GroupRecords<A> {
 }
 
 impl<A: Allocator + Copy> Text<A> for GroupRecords<A> {
-    ghost use Rattle.version_order.specs.Structure.{group_records, lawful_group_records};
+    ghost use Rattle.version_order.specs.Structure.{group_records};
+    ghost use Rattle.version_order.specs.StructureLaws.{lawful_group_records};
 
     ghost format = { group_records };
 
@@ -109,7 +110,8 @@ impl<A: Allocator + Copy> Text<A> for GroupRecords<A> {
 /// Where the record of a group stands, or where it would stand.
 fn find(records: &[GroupRecord], group: Group) -> Result<usize, usize>
     requires { group_records.Fits records.now }
-    ensures { MatchResult result (Stands nat_cmp group_of records.now group) (IsFree nat_cmp group_of records.now group) }
+    ensures { MatchResult result (Stands nat_cmp group_of records.now group)
+        (IsFree nat_cmp group_of records.now group) }
 {
     records.binary_search_by_key(&group.get(), |record| record.group.get())
 }
@@ -191,7 +193,7 @@ impl<A: Allocator> Structure<A> {
     ghost use Rattle.version_order.specs.Structure.{structure};
 
     /// The structure of these parts, whose own contracts say that they fit.
-    #[tactic(auto, using(crate::specs::Structure::nested_plan))]
+    #[tactic(auto, using(crate::specs::StructureLaws::nested_plan))]
     pub fn new(plan: Plan<A>, handle: Digest, groups: GroupRecords<A>) -> Structure<A>
         ensures { result ≡ record { plan = plan; handle = handle; groups = groups } }
     {
@@ -229,7 +231,8 @@ impl<A: Allocator> Structure<A> {
 }
 
 impl<A: Allocator + Copy> Text<A> for Structure<A> {
-    ghost use Rattle.version_order.specs.Structure.{structure, lawful_structure};
+    ghost use Rattle.version_order.specs.Structure.{structure};
+    ghost use Rattle.version_order.specs.StructureLaws.{lawful_structure};
 
     ghost format = { structure };
 

@@ -1,11 +1,13 @@
 //! Vectors of versions.
 
-ghost use Rattle.std.specs.Prelude.{◌≡◌, ◌≢◌, ◌==◌, ℕ, if◌then◌else◌, IfErr, ◌<◌, ◌≤◌, ◌↔◌, ◌+◌, ◌++◌, Option, OnOk, OnErr, IfOk, IsTrue, MatchResult, [], length};
+ghost use Rattle.std.specs.Prelude.{◌≡◌, ◌≢◌, ◌==◌, ℕ, if◌then◌else◌, IfErr, ◌<◌, ◌≤◌, ◌↔◌, ◌+◌, ◌++◌, Option, OnOk};
+ghost use Rattle.std.specs.Prelude.{OnErr, IfOk, IsTrue, MatchResult, [], length};
 ghost use Rattle.std.specs.Option.{option_copied};
 ghost use Rattle.layout.specs.Format.{Reads};
 ghost use Rattle.std.specs.Ordering.{nat_cmp};
 ghost use Rattle.layout.specs.Ascending.{Stands, IsFree};
-ghost use Rattle.version_order.specs.Vector.{principal_of, vector, component, version_of, raised, depth, user_version, is_below};
+ghost use Rattle.version_order.specs.Vector.{principal_of, vector, component, version_of, raised, depth, user_version};
+ghost use Rattle.version_order.specs.Vector.{is_below};
 
 use crate::error::PlanError;
 use layout::{
@@ -70,7 +72,8 @@ impl<A: Allocator> Model for Vector<A> {
 }
 
 impl<A: Allocator + Copy> Text<A> for Vector<A> {
-    ghost use Rattle.version_order.specs.Vector.{vector, lawful_vector};
+    ghost use Rattle.version_order.specs.Vector.{vector};
+    ghost use Rattle.version_order.specs.VectorLaws.{lawful_vector};
 
     ghost format = { vector };
 
@@ -116,7 +119,8 @@ fn depth_of(components: &[Component]) -> u64
 /// Where a principal stands, or where it would stand.
 fn find(components: &[Component], principal: Principal) -> Result<usize, usize>
     requires { vector.Fits components.now }
-    ensures { MatchResult result (Stands nat_cmp principal_of components.now principal) (IsFree nat_cmp principal_of components.now principal) }
+    ensures { MatchResult result (Stands nat_cmp principal_of components.now principal)
+        (IsFree nat_cmp principal_of components.now principal) }
 {
     components.binary_search_by_key(&principal.get(), |component| component.principal.get())
 }
@@ -229,7 +233,8 @@ impl<A: Allocator> Vector<A> {
         ensures within { OnOk result (version_of principal self.old < 4294967295) }
         ensures limit { (result ≡ Err PlanError.Limit) ↔ (version_of principal self.old ≡ 4294967295) }
         // The principal has one more, and each other what it had.
-        ensures versions { OnOk result ((p : ℕ) → version_of p self.new ≡ version_of p self.old + (if principal == p then 1 else 0)) }
+        ensures versions { OnOk result
+            ((p : ℕ) → version_of p self.new ≡ version_of p self.old + (if principal == p then 1 else 0)) }
         // One that is listed takes no memory.
         ensures no_memory { 0 < version_of principal self.old → IfErr result (λ e. e ≢ PlanError.Memory) }
         ensures err { OnErr result (self.new ≡ self.old) }

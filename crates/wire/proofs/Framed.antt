@@ -4,7 +4,8 @@ use Rattle.std.specs.Prelude.{IfOk}
 use Rattle.std.specs.Int.{w32}
 use Rattle.layout.specs.Format.{IsBytes, whole}
 use Rattle.layout.specs.Laws.{whole_again, in_range_fits}
-use Rattle.wire.specs.Frame.{frame, lawful_frame}
+use Rattle.wire.specs.Frame.{frame}
+use Rattle.wire.specs.FrameLaws.{lawful_frame}
 
 more_bytes : (head : ℕ) (payload : List ℕ) → head < 256 → IsBytes payload → IsBytes (head ∷ payload)
 more_bytes head payload few fits zero = few

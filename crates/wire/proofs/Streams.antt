@@ -7,9 +7,10 @@ use Rattle.std.proofs.lemmas.List.{append-nil, drop_at, drop-drop, length-drop, 
 use Rattle.std.proofs.lemmas.List.Elements.{All-nil, All-cons}
 use Rattle.layout.specs.declared.error.ReadError.{ReadError}
 use Rattle.layout.specs.declared.error.ReadError.TheVariants.{Short, Range}
-use Rattle.layout.specs.Format.{Answer, IsBytes, ◌>>=◌, uint, raw}
-use Rattle.layout.specs.Laws.{Takes, lawful_uint, wide32}
-use Rattle.wire.specs.Frame.{frame, lawful_frame}
+use Rattle.layout.specs.Format.{Answer, IsBytes, ◌>>=◌, uint, raw, Takes}
+use Rattle.layout.specs.Laws.{lawful_uint, wide32}
+use Rattle.wire.specs.Frame.{frame}
+use Rattle.wire.specs.FrameLaws.{lawful_frame}
 use Rattle.wire.specs.Stream.{IsFrameThen, BeginsFrame, BeginsAtFault, FramesStep, fed, handed_out, waited, met_fault, lacked_memory, Runs, stream_of, bodies_of, frames_of, IsStreamInFrames, IsCutAnyhow, IsAfterFault, IsFaultForGood}
 
 pub some_holds : {X : Type 0} (P : X → Type 0) (o : Option X) (x : X) → o ≡ Some x → IfSome o P → P x

@@ -1,10 +1,9 @@
 -- Frames: the length of a body, 1 to 2,097,152, and the body. A request's body is its kind and a payload, a reply's is
 -- its status and a payload, which only status 0 has.
 -- The bytes stand in docs/FORMATS.md.
-use Rattle.std.specs.Prelude.{◌≡◌, ℕ, Bool, true, ◌||◌, List, [], ◌∷◌, length, Option, Some, None, option_map, option_and_then, ◌==◌, if◌then◌else◌, refl}
+use Rattle.std.specs.Prelude.{ℕ, Bool, ◌||◌, List, [], ◌∷◌, length, Option, Some, None, option_map, option_and_then, ◌==◌, if◌then◌else◌}
 use Rattle.std.specs.Int.{w32}
 use Rattle.layout.specs.Format.{Format, uint_in, string}
-use Rattle.layout.specs.Laws.{Lawful, laws}
 use Rattle.wire.specs.declared.kinds.RequestKind.{RequestKind}
 use Rattle.wire.specs.declared.kinds.RequestKind.TheVariants.{Update, Commit, Put, Get}
 use Rattle.wire.specs.declared.kinds.Status.{Status}
@@ -13,9 +12,6 @@ use Rattle.wire.specs.declared.kinds.Status.TheVariants.{Ok, Form, UnknownUser, 
 -- a body after its length
 abbrev pub frame : Format (List ℕ)
 frame = string (uint_in w32 1 2097152)
-
-pub lawful_frame : Lawful frame
-lawful_frame = search laws
 
 abbrev pub number_of_kind : RequestKind → ℕ
 number_of_kind Update = 1
@@ -77,25 +73,3 @@ abbrev pub reply_of : List ℕ → Option (Status × List ℕ)
 reply_of [] = None
 reply_of (n ∷ payload) =
     option_and_then (λ status. if may_carry status payload then Some (status, payload) else None) (status_of n)
-
--- what was written is read
-pub request_again : (kind : RequestKind) (payload : List ℕ) → request_of (request kind payload) ≡ Some (kind, payload)
-request_again Update payload = refl
-request_again Commit payload = refl
-request_again Put payload = refl
-request_again Get payload = refl
-
-pub status_again : (status : Status) → status_of (number_of_status status) ≡ Some status
-status_again Ok = refl
-status_again Form = refl
-status_again UnknownUser = refl
-status_again BadSignature = refl
-status_again WrongNumber = refl
-status_again NotPending = refl
-status_again Busy = refl
-status_again TooLarge = refl
-status_again Absent = refl
-status_again Memory = refl
-
-pub reply_again : (status : Status) (payload : List ℕ) → may_carry status payload ≡ true → reply_of (reply_body status payload) ≡ Some (status, payload)
-reply_again status payload may = rw (status_again status, may) refl

@@ -24,7 +24,7 @@ fn framed<A: Allocator>(alloc: A, head: u8, payload: &[u8]) -> Result<Vec<u8, A>
 }
 
 /// The frame of a request.
-#[tactic(auto, using(crate::specs::Frame::request_again))]
+#[tactic(auto, using(crate::specs::FrameLaws::request_again))]
 pub fn request_frame<A: Allocator>(
     alloc: A,
     kind: RequestKind,
@@ -40,7 +40,7 @@ pub fn request_frame<A: Allocator>(
 }
 
 /// The frame of a reply.
-#[tactic(auto, using(crate::specs::Frame::reply_again))]
+#[tactic(auto, using(crate::specs::FrameLaws::reply_again))]
 pub fn reply_frame<A: Allocator>(
     alloc: A,
     status: Status,
@@ -62,7 +62,8 @@ pub fn body_of(bytes: &[u8]) -> Result<&[u8], ReadError>
     // What is read is spelled so.
     ensures found { IfOk result (λ body. frame.Fits body.now × (bytes.now ≡ frame.spell body.now)) }
     // What is spelled so is read.
-    ensures only { (body : List ℕ) → frame.Fits body → bytes.now ≡ frame.spell body → Gives (λ x. x.now) result (Ok body) }
+    ensures only { (body : List ℕ) → frame.Fits body → bytes.now ≡ frame.spell body
+        → Gives (λ x. x.now) result (Ok body) }
     // Which fault it is.
     ensures exact { Gives (λ x. x.now) result (whole frame bytes.now) }
     ensures no_memory { IfErr result (λ e. e ≢ read_error.Memory) }

@@ -1,6 +1,7 @@
 //! A stream that comes in pieces, and its frames.
 
-ghost use Rattle.std.specs.Prelude.{◌≡◌, ◌≢◌, ◌≤◌, ◌<◌, ◌+◌, ◌-◌, MatchBool, ◌++◌, ◌∷◌, [], Err, IfOk, IfErr, IfSome, IfNone, OnOk, OnErr, drop, length};
+ghost use Rattle.std.specs.Prelude.{◌≡◌, ◌≢◌, ◌≤◌, ◌<◌, ◌+◌, ◌-◌, MatchBool, ◌++◌, ◌∷◌, [], Err, IfOk, IfErr, IfSome};
+ghost use Rattle.std.specs.Prelude.{IfNone, OnOk, OnErr, drop, length};
 ghost use Rattle.layout.specs.declared.error.ReadError.TheVariants as read_error;
 ghost use Rattle.wire.specs.declared.stream.FrameError.TheVariants as frame_error;
 ghost use Rattle.wire.specs.Stream.{IsFrameThen, BeginsFrame, BeginsAtFault, Runs, step_of_feed, step_of_next};
@@ -56,8 +57,8 @@ impl<A: Allocator> Model for Frames<A> {
     ghost invariant = { λ f. f.handed_out ≤ length f.bytes.items };
 }
 
-/// Lets go of the bytes in front that were handed out, where they are half of all or more, and tells how many are left of
-/// them.
+/// Lets go of the bytes in front that were handed out, where they are half of all or more, and tells how many are left
+/// of them.
 fn let_go<A: Allocator>(bytes: &mut Vec<u8, A>, handed_out: usize) -> usize
     requires { handed_out ≤ length bytes.old.items }
     ensures waiting { drop result bytes.new.items ≡ drop handed_out bytes.old.items }

@@ -1,6 +1,7 @@
 use Rattle.std.proofs.Common.{◌≡◌, [], rules}
 use Rattle.layout.specs.Laws.{is_text}
-use Rattle.itable.specs.Chunk.{Chunk, chunk, lawful_chunk}
+use Rattle.itable.specs.Chunk.{Chunk, chunk}
+use Rattle.itable.specs.ChunkLaws.{lawful_chunk}
 use Rattle.itable.proofs.table.spelled.Goals as goal
 
 pub returns : goal.returns

@@ -1,5 +1,6 @@
 use Rattle.std.proofs.Common.{filter, sym, ap, ◌∙◌}
-use Rattle.pending_list.specs.Groups.{none_below, raises_at}
+use Rattle.pending_list.specs.Groups.{raises_at}
+use Rattle.pending_list.specs.GroupsLaws.{none_below}
 use Rattle.pending_list.proofs.GroupsLaws.{kept_more, left_out}
 use Rattle.pending_list.proofs.groups.groups_at.Goals.{then-raises_at+in_ok-push, else-raises_at}
 use Rattle.pending_list.proofs.groups.groups_at.Goals as goal

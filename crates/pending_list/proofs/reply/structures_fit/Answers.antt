@@ -2,7 +2,8 @@ use Rattle.std.proofs.Common.{subst}
 use Rattle.std.specs.List.{All}
 use Rattle.std.proofs.lemmas.List.{take_all}
 use Rattle.std.proofs.lemmas.List.Elements.{All-more}
-use Rattle.pending_list.specs.Reply.{signed_structure, structure_row_fits}
+use Rattle.pending_list.specs.Reply.{signed_structure}
+use Rattle.pending_list.specs.ReplyLaws.{structure_row_fits}
 use Rattle.pending_list.proofs.reply.structures_fit.Goals as goal
 
 pub loop-structure-preserved : goal.loop-structure-preserved

@@ -1,5 +1,6 @@
 use Rattle.std.proofs.Common.{◌≡◌, Ok, rules, arith, sym, subst}
-use Rattle.principals.specs.TableText.{users, lawful_users}
+use Rattle.principals.specs.TableText.{users}
+use Rattle.principals.specs.TableTextLaws.{lawful_users}
 use Rattle.principals.proofs.MarksLaws.{no_marks}
 use Rattle.principals.proofs.Parts.{some_users, head_off}
 use Rattle.principals.proofs.reading.read_users.Goals as goal

@@ -1,8 +1,7 @@
-use Rattle.std.proofs.Common.{◌≡◌, ap, ◌∙◌}
+use Rattle.std.proofs.Common.{◌≡◌, ap, ◌∙◌, List}
 use Rattle.version_order.specs.Plan.{Plan}
 use Rattle.version_order.specs.Vector.{version_of}
 use Rattle.pending_list.specs.Reply.{PendingItem}
-use Rattle.std.proofs.Common.{List}
 use Rattle.reply_rules.specs.Rules.{newest, own_version, versions_beyond, new_versions}
 use Rattle.reply_rules.proofs.RecordsLaws.{complete_so}
 use Rattle.reply_rules.proofs.records.group_complete.Goals as goal

@@ -2,7 +2,8 @@ use Rattle.std.proofs.Common.{None, ℕ, List, [], arith, ap, ◌∙◌}
 use Rattle.std.specs.Int.{w8}
 use Rattle.layout.specs.Laws.{listed_fits, rows_fit}
 use Rattle.update_cert.specs.Change.{change}
-use Rattle.update_cert.specs.Cert.{Cert, cert, change_rows, lawful_cert}
+use Rattle.update_cert.specs.Cert.{Cert, cert, change_rows}
+use Rattle.update_cert.specs.CertLaws.{lawful_cert}
 use Rattle.update_cert.proofs.cert.cert_text.Goals as goal
 
 pub returns-in_err-write_cert-clause-fits : goal.returns-in_err-write_cert-clause-fits

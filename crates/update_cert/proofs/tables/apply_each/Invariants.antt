@@ -1,6 +1,5 @@
 use Rattle.std.proofs.Common.{◌≡◌, take}
-use Rattle.principals.specs.TableText.{table as table_format}
-use Rattle.principals.specs.TableText.{NoneAfter}
+use Rattle.principals.specs.TableText.{table as table_format, NoneAfter}
 use Rattle.update_cert.specs.Tables.{table_after}
 use Rattle.update_cert.specs.TableVoids.{table_voids}
 use Rattle.update_cert.proofs.tables.apply_each.Given as goal

@@ -1,6 +1,7 @@
 use Rattle.std.proofs.Common.{arith}
 use Rattle.layout.specs.Laws.{is_found, is_only}
-use Rattle.wire.specs.Frame.{frame, lawful_frame}
+use Rattle.wire.specs.Frame.{frame}
+use Rattle.wire.specs.FrameLaws.{lawful_frame}
 use Rattle.wire.proofs.frames.body_of.Goals as goal
 
 pub returns-clause-found : goal.returns-clause-found

@@ -1,7 +1,7 @@
 use Rattle.std.proofs.Common.{◌∙◌, length, sym, ap, subst, arith}
 use Rattle.leaf_ledger.specs.Ledger.{IsFull}
 use Rattle.client_journal.specs.declared.kind.Kind.TheVariants as kind
-use Rattle.update_cert.specs.Cert.{at_most_cert}
+use Rattle.update_cert.specs.CertLaws.{at_most_cert}
 use Rattle.client_releases.specs.Told.{Released}
 use Rattle.client_releases.proofs.Seen.{declared_of, failed_of, moments_of, risen_of, tried_of}
 use Rattle.client_releases.proofs.Standing.{after_declare, after_fault, cert_turn, stands_idle}

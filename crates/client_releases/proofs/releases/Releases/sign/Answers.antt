@@ -1,7 +1,7 @@
 use Rattle.std.proofs.Common.{◌∙◌, length, sym, ap, subst, arith}
 use Rattle.leaf_ledger.specs.Ledger.{IsFull}
 use Rattle.client_journal.specs.declared.kind.Kind.TheVariants as kind
-use Rattle.version_order.specs.Structure.{at_most_structure}
+use Rattle.version_order.specs.StructureLaws.{at_most_structure}
 use Rattle.client_releases.specs.Told.{Released}
 use Rattle.client_releases.proofs.Seen.{signed_of, failed_of, moments_of, risen_of, tried_of}
 use Rattle.client_releases.proofs.Standing.{after_fault, after_sign, stands_declared, structure_turn}

@@ -8,9 +8,8 @@ use Rattle.layout.specs.Laws.{in_range}
 use Rattle.layout.specs.Types.{Principal}
 use Rattle.principals.specs.Table.{Table}
 use Rattle.update_cert.specs.World.{Tree}
-use Rattle.update_cert.specs.Reading.{Reading}
+use Rattle.update_cert.specs.Reading.{Reading, void_of_read}
 use Rattle.update_cert.specs.Cert.{Cert, cert}
-use Rattle.update_cert.specs.Reading.{void_of_read}
 use Rattle.update_cert.specs.Asked.{Lacks}
 use Rattle.pending_list.specs.Reply.{PendingItem}
 use Rattle.client_tree.specs.Lost.{PartVoids, lost_from}

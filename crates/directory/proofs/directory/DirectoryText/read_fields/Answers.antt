@@ -1,5 +1,6 @@
 use Rattle.std.proofs.Common.{◌≡◌, Ok, rules}
-use Rattle.directory.specs.Directory.{directory, lawful_directory}
+use Rattle.directory.specs.Directory.{directory}
+use Rattle.directory.specs.DirectoryLaws.{lawful_directory}
 use Rattle.directory.proofs.directory.DirectoryText.read_fields.Goals as goal
 
 pub invariant_of-result : goal.invariant_of-result

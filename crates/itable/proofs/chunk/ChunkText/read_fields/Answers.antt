@@ -1,5 +1,6 @@
 use Rattle.std.proofs.Common.{◌≡◌, Ok, rules}
-use Rattle.itable.specs.Chunk.{chunk, lawful_chunk}
+use Rattle.itable.specs.Chunk.{chunk}
+use Rattle.itable.specs.ChunkLaws.{lawful_chunk}
 use Rattle.itable.proofs.chunk.ChunkText.read_fields.Goals as goal
 
 pub invariant_of-result : goal.invariant_of-result

@@ -1,5 +1,6 @@
 use Rattle.std.proofs.Common.{◌≡◌, Ok, rules}
-use Rattle.itable.specs.Inode.{inode, lawful_inode}
+use Rattle.itable.specs.Inode.{inode}
+use Rattle.itable.specs.InodeLaws.{lawful_inode}
 use Rattle.itable.proofs.inode.InodeText.read_fields.Goals as goal
 
 pub invariant_of-result : goal.invariant_of-result

@@ -1,5 +1,6 @@
 use Rattle.std.proofs.Common.{◌≡◌, Ok, rules}
-use Rattle.itable.specs.Root.{root, lawful_root}
+use Rattle.itable.specs.Root.{root}
+use Rattle.itable.specs.RootLaws.{lawful_root}
 use Rattle.itable.proofs.root.RootText.read_fields.Goals as goal
 
 pub invariant_of-result : goal.invariant_of-result

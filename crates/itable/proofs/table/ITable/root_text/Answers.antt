@@ -1,6 +1,7 @@
 use Rattle.std.proofs.Common.{◌≡◌, [], rules}
 use Rattle.layout.specs.Laws.{is_text}
-use Rattle.itable.specs.Root.{root, lawful_root}
+use Rattle.itable.specs.Root.{root}
+use Rattle.itable.specs.RootLaws.{lawful_root}
 use Rattle.itable.specs.ITable.{root_of}
 use Rattle.itable.proofs.table.ITable.root_text.Goals as goal
 

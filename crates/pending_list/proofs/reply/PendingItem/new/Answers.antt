@@ -1,4 +1,4 @@
-use Rattle.pending_list.specs.Reply.{pending_row_fits}
+use Rattle.pending_list.specs.ReplyLaws.{pending_row_fits}
 use Rattle.pending_list.proofs.reply.PendingItem.new.Goals as goal
 
 pub invariant_of-result : goal.invariant_of-result

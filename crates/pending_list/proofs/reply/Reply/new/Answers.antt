@@ -1,6 +1,7 @@
 use Rattle.std.proofs.Common.{arith, subst}
 use Rattle.std.specs.List.{All}
-use Rattle.pending_list.specs.Reply.{signed_structure, pending_item, reply_fits}
+use Rattle.pending_list.specs.Reply.{signed_structure, pending_item}
+use Rattle.pending_list.specs.ReplyLaws.{reply_fits}
 use Rattle.pending_list.proofs.reply.Reply.new.Goals as goal
 
 pub invariant_of-result : goal.invariant_of-result

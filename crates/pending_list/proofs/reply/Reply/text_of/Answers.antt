@@ -4,7 +4,8 @@ use Rattle.std.specs.Prelude.{map}
 use Rattle.std.proofs.lemmas.List.{length-map}
 use Rattle.layout.specs.Laws.{is_text}
 use Rattle.pending_list.specs.declared.reply.TheConstants.{REPLY_SIZE}
-use Rattle.pending_list.specs.Reply.{Reply, reply, lawful_reply, size_of}
+use Rattle.pending_list.specs.Reply.{Reply, reply}
+use Rattle.pending_list.specs.ReplyLaws.{lawful_reply, size_of}
 use Rattle.pending_list.proofs.Rows.{text_onto, answer_fits}
 use Rattle.pending_list.proofs.reply.Reply.text_of.Given as given
 use Rattle.pending_list.proofs.reply.Reply.text_of.Goals as goal

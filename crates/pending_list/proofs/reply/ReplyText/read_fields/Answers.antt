@@ -1,5 +1,6 @@
 use Rattle.std.proofs.Common.{◌≡◌, Ok, rules}
-use Rattle.pending_list.specs.Reply.{reply, lawful_reply}
+use Rattle.pending_list.specs.Reply.{reply}
+use Rattle.pending_list.specs.ReplyLaws.{lawful_reply}
 use Rattle.pending_list.proofs.reply.ReplyText.read_fields.Goals as goal
 
 pub invariant_of-result : goal.invariant_of-result

@@ -1,5 +1,5 @@
 use Rattle.std.proofs.Common.{arith}
-use Rattle.version_order.specs.Structure.{at_most_structure}
+use Rattle.version_order.specs.StructureLaws.{at_most_structure}
 use Rattle.pending_list.proofs.reply.StructureRowsRowFormat.write_fields.Goals as goal
 
 pub write_nested-requires : goal.write_nested-requires

@@ -1,5 +1,6 @@
 use Rattle.std.proofs.Common.{◌≡◌, Ok, rules}
-use Rattle.update_cert.specs.Cert.{cert, lawful_cert}
+use Rattle.update_cert.specs.Cert.{cert}
+use Rattle.update_cert.specs.CertLaws.{lawful_cert}
 use Rattle.update_cert.proofs.cert.CertText.read_fields.Goals as goal
 
 pub invariant_of-result : goal.invariant_of-result

@@ -12,7 +12,8 @@ use Rattle.layout.specs.Ranges.{user, version}
 use Rattle.layout.specs.Ascending.{above}
 use Rattle.layout.specs.AscendingKeys.{less_from_lt}
 use Rattle.version_order.specs.declared.plan.Entry.{Entry}
-use Rattle.version_order.specs.Plan.{user_of, entry, entries, entries_ascend}
+use Rattle.version_order.specs.Plan.{user_of, entry, entries}
+use Rattle.version_order.specs.PlanLaws.{entries_ascend}
 use Rattle.version_order.proofs.plan.Entries.push.Goals as goal
 
 record FitsAlone (x : Entry) : Type 0 where

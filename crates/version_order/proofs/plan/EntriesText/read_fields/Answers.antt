@@ -1,5 +1,6 @@
 use Rattle.std.proofs.Common.{◌≡◌, Ok, rules}
-use Rattle.version_order.specs.Plan.{entries, lawful_entries}
+use Rattle.version_order.specs.Plan.{entries}
+use Rattle.version_order.specs.PlanLaws.{lawful_entries}
 use Rattle.version_order.proofs.plan.EntriesText.read_fields.Goals as goal
 
 pub invariant_of-result : goal.invariant_of-result

@@ -1,5 +1,6 @@
 use Rattle.std.proofs.Common.{◌≡◌, Ok, rules}
-use Rattle.version_order.specs.Structure.{group_records, lawful_group_records}
+use Rattle.version_order.specs.Structure.{group_records}
+use Rattle.version_order.specs.StructureLaws.{lawful_group_records}
 use Rattle.version_order.proofs.structure.GroupRecordsText.read_fields.Goals as goal
 
 pub invariant_of-result : goal.invariant_of-result

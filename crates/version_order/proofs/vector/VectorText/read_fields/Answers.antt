@@ -1,5 +1,6 @@
 use Rattle.std.proofs.Common.{◌≡◌, Ok, rules}
-use Rattle.version_order.specs.Vector.{vector, lawful_vector}
+use Rattle.version_order.specs.Vector.{vector}
+use Rattle.version_order.specs.VectorLaws.{lawful_vector}
 use Rattle.version_order.proofs.vector.VectorText.read_fields.Goals as goal
 
 pub invariant_of-result : goal.invariant_of-result
