@@ -959,7 +959,7 @@ module _ (Plan Entry : Type 0) (shape : Shape Plan Entry) where
         let z : version u p ≡ count u (before ++ p ∷ []) = omega arith in z) in
         record { of_user = of_user; of_number = n ∙ of_user (user p) }
 
-    -- a user's part of a line: behind the line that ends with its structure is its pending plan
+    -- a user's part of a line: after the line that ends with its structure is its pending plan
 
     none_of : (u : ℕ) (l : List Plan) → count u l ≡ 0 → filter (λ p. u == user p) l ≡ []
     none_of u [] h = refl

@@ -31,8 +31,8 @@ impl<A: Allocator + Copy> Store<A> {
     /// Stores a block of at most 32,779 bytes. One that is stored already stays.
     pub fn put<R: Wait>(&self, rt: &R, bytes: &[u8]) -> Result<BlockPass, StoreError>
         ensures digest { IfOk result (λ pass. pass ≡ hash bytes.now) }
-        ensures too_large { 32779 < length bytes.now → result ≡ Err store_error.TooLarge }
-        ensures only { IfErr result (λ e. e ≡ store_error.TooLarge → 32779 < length bytes.now) }
+        ensures too_large { BLOCK_LIMIT < length bytes.now → result ≡ Err store_error.TooLarge }
+        ensures only { IfErr result (λ e. e ≡ store_error.TooLarge → BLOCK_LIMIT < length bytes.now) }
     {
         if bytes.len() > BLOCK_LIMIT {
             return Err(StoreError::TooLarge);
@@ -45,7 +45,7 @@ impl<A: Allocator + Copy> Store<A> {
     /// A copy of the stored block of a digest. None where no block of it is stored.
     pub fn fetch<R: Wait>(&self, rt: &R, digest: Digest) -> Result<Option<Vec<u8, A>>, StoreError>
         ensures own { IfOk result (λ found. IfSome found (λ block. hash block.items ≡ digest)) }
-        ensures small { IfOk result (λ found. IfSome found (λ block. length block.items ≤ 32779)) }
+        ensures small { IfOk result (λ found. IfSome found (λ block. length block.items ≤ BLOCK_LIMIT)) }
         ensures memory { IfErr result (λ e. e ≡ store_error.Memory) }
     {
         Ok(self.shelf.lock(rt).copy(digest)?)

@@ -13,7 +13,7 @@ use Rattle.client_verify.specs.declared.view.Looking.{Looking}
 use Rattle.client_verify.specs.FirstBroken.{reply_in}
 use Rattle.client_verify.specs.Good.{Good}
 use Rattle.client_verify.specs.State.{AcceptedView, Checked, Reading, State, Writing, holding}
-use Rattle.client_verify.specs.Judged.{Goes, GoesOn, Handed, Judged, Taken}
+use Rattle.client_verify.specs.Judged.{AsksOrAccepts, GoesOn, Handed, Judged, Taken}
 use Rattle.client_verify.specs.Looked.{Given, Looked}
 use Rattle.client_runs.specs.Told.{asked, bytes_anywhere, on_ok, seen, texts_anywhere}
 
@@ -25,7 +25,7 @@ same_texts (x ∷ texts) = ap (λ ts. x.items ∷ ts) (same_texts texts)
 
 -- ---- replies
 
-goes : {A : Type 0} (s : State) (x : Good) (answer : Step A) (new : State) → Goes s x answer new → Goes s x (asked answer) new
+goes : {A : Type 0} (s : State) (x : Good) (answer : Step A) (new : State) → AsksOrAccepts s x answer new → AsksOrAccepts s x (asked answer) new
 goes s x (step.Need digest) new h = h
 goes s x (step.Store texts) new h = (h.0, h.1, h.2, h.3, h.4, h.5, same_texts texts.items ∙ h.6)
 goes s x (step.Broken rule) new h = h

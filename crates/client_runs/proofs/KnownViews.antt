@@ -33,7 +33,7 @@ use Rattle.client_verify.specs.declared.view.Looking.{Looking}
 use Rattle.client_verify.specs.FirstBroken.{IsRead, reply_in, view_over}
 use Rattle.client_verify.specs.Good.{Good}
 use Rattle.client_verify.specs.State.{AcceptedView, Checked, Reading, Ready, State, Writing, committed, holding, on, signed_over, signed_text}
-use Rattle.client_verify.specs.Judged.{Goes, GoesOn, Handed, IsGood, Judged, Taken, view_of}
+use Rattle.client_verify.specs.Judged.{AsksOrAccepts, GoesOn, Handed, IsGood, Judged, Taken, view_of}
 use Rattle.client_verify.specs.Looked.{Given, Looked}
 use Rattle.agreement.specs.Runs.{View}
 use Rattle.agreement.proofs.Members.{In, in-append, in-left, in-right}
@@ -108,7 +108,7 @@ module _ (texts : List Bytes) (apart : NoneCollide texts texts) (key : Key) wher
       head_is : (a b : ℕ) (xs ys : List ℕ) → a ∷ xs ≡ b ∷ ys → a ≡ b
       head_is a b xs ys e = cc e
 
-  goes : (s : State) (good : Good) (step : Asks) (new : State) → Knows s → IsTold good.lists good.table → AreIn (stored_texts (Ok step)) → Goes s good step new → Knows new
+  goes : (s : State) (good : Good) (step : Asks) (new : State) → Knows s → IsTold good.lists good.table → AreIn (stored_texts (Ok step)) → AsksOrAccepts s good step new → Knows new
   goes s good (Need digest) new k is inside h =
       subst (λ (n : State). Knows n) (sym h.2) (record { pinned = k.pinned; among = k.among; checked = is; accepted = tt })
   goes s good (Store texts) new k is inside h =

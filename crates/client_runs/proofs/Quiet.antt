@@ -10,7 +10,7 @@ use Rattle.client_verify.specs.declared.view.Looking.{Looking}
 use Rattle.client_verify.specs.FirstBroken.{reply_in}
 use Rattle.client_verify.specs.Good.{Good}
 use Rattle.client_verify.specs.State.{AcceptedView, Checked, Reading, State, Writing, holding, released}
-use Rattle.client_verify.specs.Judged.{Goes, GoesOn, Handed, Judged, Taken}
+use Rattle.client_verify.specs.Judged.{AsksOrAccepts, GoesOn, Handed, Judged, Taken}
 use Rattle.client_verify.specs.Looked.{Given, Looked}
 use Rattle.client_runs.proofs.Replies.{kept}
 use Rattle.client_runs.specs.Steps.{Asks, HasGiven, HasHeard, HasLooked, HasTaken, Sees}
@@ -21,7 +21,7 @@ IsQuiet s new = released new ≡ released s
 
 -- ---- replies
 
-goes : (s : State) (x : Good) (answer : Asks) (new : State) → Goes s x answer new → IsQuiet s new
+goes : (s : State) (x : Good) (answer : Asks) (new : State) → AsksOrAccepts s x answer new → IsQuiet s new
 goes s x (step.Need digest) new h = ap released h.2
 goes s x (step.Store texts) new h = ap released h.3
 goes s x (step.Broken rule) new h = absurd h

@@ -1,6 +1,8 @@
 -- Replies that a client has under check or accepted: they were shown to it, and break no rule that was tried.
 use Rattle.std.proofs.Common.{◌≡◌, List, ◌∷◌, Option, Some, None, Result, Ok, Err, IfSome, IsSomeAnd, refl, sym, ap, ◌∙◌, subst, inl, inr}
+use Rattle.std.specs.Prelude.{is_ok, if◌then◌else◌}
 use Rattle.std.specs.List.{flat_map}
+use Rattle.std.specs.Option.{option_and_then}
 use Rattle.std.specs.Result.{result_ok}
 use Rattle.layout.specs.declared.error.ReadError.{ReadError}
 use Rattle.layout.specs.Format.{IsBytes, whole}
@@ -11,15 +13,16 @@ use Rattle.pending_list.specs.Reply.{PendingItem, Reply, reply}
 use Rattle.pending_list.specs.ReplyLaws.{lawful_reply}
 use Rattle.reply_rules.specs.Lists.{Lists, items, lists_of}
 use Rattle.reply_rules.specs.ListsLaws.{lists_are, no_lists}
+use Rattle.reply_rules.specs.declared.rule.Rule.TheVariants as rule
 use Rattle.client_releases.specs.Told.{Released}
 use Rattle.client_verify.specs.declared.step.Step.{Step}
 use Rattle.client_verify.specs.declared.step.Step.TheVariants.{Need, Store, Broken}
-use Rattle.client_verify.specs.FirstBroken.{Known, lists_break, of_read, of_reply, reply_breaks}
+use Rattle.client_verify.specs.FirstBroken.{Known, lists_break, of_reply, reply_breaks}
 use Rattle.client_verify.specs.Good.{Good}
 use Rattle.client_verify.specs.declared.asked.Asked.{Asked}
 use Rattle.agreement.proofs.Members.{In, in-left, in-right, last_or_nil}
 use Rattle.client_verify.specs.State.{Checked, Reading, Ready, State, Writing, holding, known, released}
-use Rattle.client_verify.specs.Judged.{Goes, GoesOn, Handed, Judged, Taken}
+use Rattle.client_verify.specs.Judged.{AsksOrAccepts, GoesOn, Handed, Judged, Taken}
 use Rattle.client_runs.specs.Runs.{Event}
 use Rattle.client_runs.specs.Released.{Shown, hashed_at, hashed_by, reply_texts, shown, shown_by, shown_in}
 
@@ -151,7 +154,7 @@ accepts run s y g = record {
   sound = record { checked = tt; accepted = g };
 }
 
-pub goes : {A : Type 0} (run : List Event) (s : State) (good : Good) (step : Step A) (new : State) → IsGoodBy run (known s) good.lists good.table → Goes s good step new → GoesSoundly run s new
+pub goes : {A : Type 0} (run : List Event) (s : State) (good : Good) (step : Step A) (new : State) → IsGoodBy run (known s) good.lists good.table → AsksOrAccepts s good step new → GoesSoundly run s new
 goes run s good (Need digest) new g h = subst (λ (n : State). GoesSoundly run s n) (sym h.2) (writes run s good h.0 g)
 goes run s good (Store texts) new g h =
     subst (λ (n : State). GoesSoundly run s n) (sym h.3)
@@ -189,7 +192,7 @@ module _ (e : Event) (older : List Event) (s : State) (text : Bytes) (bytes : Is
       → IsSomeAnd (result_ok read) (λ r. IsSomeAnd (lists_of r) (λ x. Taken s r x step new)) → GoesSoundly (e ∷ older) s new
   unfolding reply_breaks
   read_on step new (Err x) is none h = absurd h
-  read_on step new (Ok r) is none h = some_taken (e ∷ older) s r (lists_of r) step new refl (judged_here r is (sym (ap (of_read (known s)) is) ∙ none)) h
+  read_on step new (Ok r) is none h = some_taken (e ∷ older) s r (lists_of r) step new refl (judged_here r is (sym (ap (λ (o : Result Reply ReadError). if is_ok o then option_and_then (of_reply (known s)) (result_ok o) else Some rule.Form) is) ∙ none)) h
 
   pub judged_on : {A : Type 0} (step : Step A) (new : State) → AreSound older s → Judged s text step new → GoesSoundly (e ∷ older) s new
   judged_on (Broken rule) new sound h = subst (λ (n : State). GoesSoundly (e ∷ older) s n) (sym h.1) (record { quiet = still s; sound = sound_later e older s sound })

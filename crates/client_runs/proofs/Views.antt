@@ -81,11 +81,11 @@ first_in o (OfCert c q ∷ older) = first_in o older
 first_in o (OfStructure z q ∷ older) = refl
 
 module _ (u : User) (vs : List View) (rest : List Structure) (ih : last_signed u vs ≡ first_of rest) where
-  -- behind views of this user, or of another
-  behind : (xs : List View) (w : User) → ((x : View) → In x xs → user_of x ≡ w) → (b : Bool) → (w == u) ≡ b → last_signed u (xs ++ vs) ≡ first_of (if b then map signed_in xs ++ rest else rest)
-  behind [] w each true e = ih
-  behind [] w each false e = ih
-  behind (x ∷ xs) w each b e = go b (user_of x == u) (ap (λ v. v == u) (each x (inl refl)) ∙ e) (behind xs w (λ y i. each y (inr i)) b e)
+  -- after views of this user, or of another
+  after_these : (xs : List View) (w : User) → ((x : View) → In x xs → user_of x ≡ w) → (b : Bool) → (w == u) ≡ b → last_signed u (xs ++ vs) ≡ first_of (if b then map signed_in xs ++ rest else rest)
+  after_these [] w each true e = ih
+  after_these [] w each false e = ih
+  after_these (x ∷ xs) w each b e = go b (user_of x == u) (ap (λ v. v == u) (each x (inl refl)) ∙ e) (after_these xs w (λ y i. each y (inr i)) b e)
     where
       go : (b c : Bool) → c ≡ b → last_signed u (xs ++ vs) ≡ first_of (if b then map signed_in xs ++ rest else rest)
           → option_map signed_in (if c then Some x else find (λ (y : View). user_of y == u) (xs ++ vs)) ≡ first_of (if b then signed_in x ∷ (map signed_in xs ++ rest) else rest)
@@ -108,9 +108,9 @@ module _ (keys : Keys) where
           → last_signed u (views (e ∷ older)) ≡ first_of (if b then map signed_in (accepted_by e.call (client_of u older) e.after (tried_view u older)) ++ signed_of u older else signed_of u older)
       go true same ih =
           subst (λ (v : User). last_signed u (views (e ∷ older)) ≡ first_of (map signed_in (accepted_by e.call (client_of v older) e.after (tried_view v older)) ++ signed_of u older)) (eqb-true e.user u same)
-          (behind u (views older) (signed_of u older) ih (accepted_by e.call (client_of e.user older) e.after (tried_view e.user older)) e.user (λ x i. (over_here e older is x i).user) true same)
+          (after_these u (views older) (signed_of u older) ih (accepted_by e.call (client_of e.user older) e.after (tried_view e.user older)) e.user (λ x i. (over_here e older is x i).user) true same)
       go false other ih =
-          behind u (views older) (signed_of u older) ih (accepted_by e.call (client_of e.user older) e.after (tried_view e.user older)) e.user (λ x i. (over_here e older is x i).user) false other
+          after_these u (views older) (signed_of u older) ih (accepted_by e.call (client_of e.user older) e.after (tried_view e.user older)) e.user (λ x i. (over_here e older is x i).user) false other
 
   -- ---- structures of accepted views
 

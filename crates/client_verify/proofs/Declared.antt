@@ -1,6 +1,6 @@
 -- A reply that breaks none of the rules on itself is one to the declared operation.
 use Rattle.std.proofs.Common.{◌≡◌, ◌-◌, ℕ, Bool, ◌&&◌, true, false, List, [], ◌∷◌, ◌++◌, length, Option, Some, None, Result, Ok, Err, refl, sym, ap, subst, ◌∙◌, inl, inr}
-use Rattle.std.specs.Prelude.{◌==◌, bytes_eq, IsSome, IsSomeAnd, if◌then◌else◌, slice_get}
+use Rattle.std.specs.Prelude.{◌==◌, bytes_eq, is_ok, IsSome, IsSomeAnd, if◌then◌else◌, slice_get}
 use Rattle.std.specs.List.{list_all}
 use Rattle.std.specs.Option.{option_and_then, option_map, option_map_or}
 use Rattle.std.specs.Result.{result_ok}
@@ -28,7 +28,7 @@ use Rattle.reply_rules.specs.Lists.{Lists, lists_of}
 use Rattle.reply_rules.specs.ListsLaws.{lists_are}
 use Rattle.reply_rules.specs.Rules.{is_planned, lists, pending_ascends, pending_once, structures_ascend}
 use Rattle.reply_rules.specs.Broken.{least}
-use Rattle.client_verify.specs.FirstBroken.{Known, cert_sent, of_read, of_reply, own_last, own_pending, reply_breaks, reply_in, super_signature}
+use Rattle.client_verify.specs.FirstBroken.{Known, cert_sent, of_reply, own_last, own_pending, reply_breaks, reply_in, super_signature}
 use Rattle.client_verify.specs.State.{IsOfDeclared}
 use Rattle.client_verify.proofs.Judging.{something_pending}
 use Rattle.client_verify.proofs.ListsLaws.{ends, last_one}
@@ -44,7 +44,7 @@ of_text : (k : Known) (text : Bytes) (r : Reply) → reply_breaks k text ≡ Non
 unfolding reply_breaks
 of_text k text r none read = go (whole reply text) none read
   where
-    go : (o : Result Reply ReadError) → of_read k o ≡ None → result_ok o ≡ Some r → of_reply k r ≡ None
+    go : (o : Result Reply ReadError) → (if is_ok o then option_and_then (of_reply k) (result_ok o) else Some rule.Form) ≡ None → result_ok o ≡ Some r → of_reply k r ≡ None
     go (Ok s) none read = let same : s ≡ r = cc in subst (λ (q : Reply). of_reply k q ≡ None) same none
     go (Err e) none read = absurd (cc read)
 

@@ -9,14 +9,14 @@ use Rattle.client_tree.specs.Held.{Block, held, keeping}
 use Rattle.client_verify.specs.declared.asked.Asked.{Asked}
 use Rattle.client_verify.specs.declared.step.Step.{Step}
 use Rattle.client_verify.specs.declared.step.Step.TheVariants as step
-use Rattle.client_verify.specs.declared.growing.Reached.{Reached}
-use Rattle.client_verify.specs.declared.growing.Reached.TheVariants as reached
-use Rattle.client_verify.specs.declared.growing.Written.{Written}
+use Rattle.client_verify.specs.declared.outcome.Reached.{Reached}
+use Rattle.client_verify.specs.declared.outcome.Reached.TheVariants as reached
+use Rattle.client_verify.specs.declared.outcome.Written.{Written}
 use Rattle.client_verify.specs.Good.{Good}
 use Rattle.client_verify.specs.FirstBroken.{Known, ByTable, IsFirstBroken, IsRead, lists_break, lists_in, reply_breaks, reply_in, view_over}
-use Rattle.client_verify.specs.Grown.{IsReached, IsWritten}
+use Rattle.client_verify.specs.Outcomes.{IsReached, IsWritten}
 use Rattle.client_verify.specs.State.{State, Checked, Reading, asked_of, block_breaks, blocks_with, holding, known}
-use Rattle.client_verify.specs.Judged.{Goes, Handed, Judged, ReadsOn, Taken, unjudged, view_of}
+use Rattle.client_verify.specs.Judged.{AsksOrAccepts, Handed, Judged, ReadsOn, Taken, unjudged, view_of}
 use Rattle.client_verify.proofs.Steps.{some_one, taken_goes, taken_need}
 
 -- ---- what holds of an option's value
@@ -83,7 +83,7 @@ taken_lacks A s new r a st is made reaches =
 pub good_written : {A : Type 0} (blocks : List Block) (key : List ℕ) (r : Reply) (g : Good) (w : Written A) → lists_of r ≡ Some g.lists → IsSomeAnd (lists_of r) (GoesIn blocks key g w) → IsWritten (held blocks) (view_of key g) g.void w
 good_written {A} blocks key r g w lists reaches = (at_one (lists_of r) g.lists (GoesIn {A = A} blocks key g w) lists reaches).2
 
-pub taken_good : {A : Type 0} (s new : State) (r : Reply) (g : Good) (w : Written A) (st : Step A) → lists_of r ≡ Some g.lists → IsSomeAnd (lists_of r) (GoesIn s.blocks s.pinned g w) → Goes s g st new → TakenOf s r st new
+pub taken_good : {A : Type 0} (s new : State) (r : Reply) (g : Good) (w : Written A) (st : Step A) → lists_of r ≡ Some g.lists → IsSomeAnd (lists_of r) (GoesIn s.blocks s.pinned g w) → AsksOrAccepts s g st new → TakenOf s r st new
 taken_good {A} s new r g w st lists reaches goes =
     let here = at_one (lists_of r) g.lists (GoesIn {A = A} s.blocks s.pinned g w) lists reaches in
     some_one (lists_of r) g.lists (λ x. Taken s r x st new) lists (taken_goes s new r g.lists g st (refl, here.0, here.1) goes)

@@ -3,7 +3,7 @@ pub mod ListsLaws
 pub mod Steps
 pub mod LaidLaws
 pub mod GenesisLaws
-pub mod GrowingLaws
+pub mod OutcomeLaws
 pub mod Reaching
 pub mod ByTableLaws
 pub mod Handing

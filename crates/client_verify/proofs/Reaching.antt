@@ -18,12 +18,12 @@ use Rattle.reply_rules.specs.declared.rule.Rule.{Rule}
 use Rattle.client_tree.specs.View.{View, handle_in}
 use Rattle.client_tree.specs.Principals.{IsNamed, IsOfNamed, IsPending}
 use Rattle.client_verify.specs.declared.asked.Asked.{Asked}
-use Rattle.client_verify.specs.declared.growing.Written.{Written}
+use Rattle.client_verify.specs.declared.outcome.Written.{Written}
 use Rattle.client_verify.specs.FirstBroken.{ByTable, IsRead, lists_break, view_over}
 use Rattle.client_verify.specs.Good.{Good}
-use Rattle.client_verify.specs.Grown.{CountsRaised, IsWritten}
+use Rattle.client_verify.specs.Outcomes.{CountsRaised, IsWritten}
 use Rattle.client_verify.specs.Judged.{view_of}
-use Rattle.client_verify.proofs.GrowingLaws.{counts_raised}
+use Rattle.client_verify.proofs.OutcomeLaws.{counts_raised}
 
 -- ---- the first of a list
 

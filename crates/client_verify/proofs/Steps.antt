@@ -20,10 +20,10 @@ use Rattle.client_verify.specs.declared.asked.Asked.{Asked}
 use Rattle.client_verify.specs.FirstBroken.{reply_breaks, reply_in, view_over}
 use Rattle.client_verify.specs.Good.{Good}
 use Rattle.client_verify.specs.State.{State, AcceptedView, Checked, Reading, Writing, asked_of, known, block_breaks, holding}
-use Rattle.client_verify.specs.Judged.{Goes, GoesOn, Handed, IsGood, Judged, Taken, view_of}
+use Rattle.client_verify.specs.Judged.{AsksOrAccepts, GoesOn, Handed, IsGood, Judged, Taken, view_of}
 use Rattle.client_verify.specs.Looked.{Looked, Given}
-use Rattle.client_verify.specs.Grown.{IsAnswer}
-use Rattle.client_verify.specs.declared.growing.Shown.{Shown}
+use Rattle.client_verify.specs.Outcomes.{IsAnswer}
+use Rattle.client_verify.specs.declared.outcome.Shown.{Shown}
 
 pub some_one : {A : Type 0} (o : Option A) (a : A) (P : A → Type 0) → o ≡ Some a → P a → IsSomeAnd o P
 some_one {A} o a P is holds = subst (λ (x : Option A). IsSomeAnd x P) (sym is) holds
@@ -34,23 +34,23 @@ if_some {A} o a P is holds = subst (λ (x : Option A). IfSome x P) (sym is) hold
 -- ---- a reply goes on
 
 -- whether a reply was under check before doesn't matter
-goes_anew : {A : Type 0} (s : State) (o : Option Checked) (x : Good) (r : Step A) (new : State) → Goes (record s { checked = o }) x r new → Goes s x r new
+goes_anew : {A : Type 0} (s : State) (o : Option Checked) (x : Good) (r : Step A) (new : State) → AsksOrAccepts (record s { checked = o }) x r new → AsksOrAccepts s x r new
 goes_anew s o x (step.Need d) new goes = goes
 goes_anew s o x (step.Store texts) new goes = goes
 goes_anew s o x (step.Broken rule) new goes = absurd goes
 
 -- what goes on from the state with a block more, where the reply under check was taken out, goes on from it
 pub goes_from : {A : Type 0} (v old : State) (o : Option Checked) (blocks : List Block) (text : List ℕ) (x y : Good) (r : Step A) (new : State) → v ≡ old → blocks ≡ keeping old.blocks text → x ≡ y
-    → Goes (record v { blocks = blocks; checked = o }) x r new → Goes (holding old text) y r new
+    → AsksOrAccepts (record v { blocks = blocks; checked = o }) x r new → AsksOrAccepts (holding old text) y r new
 goes_from {A} v old o blocks text x y r new is kept same goes =
-    let of_old : Goes (record old { blocks = blocks; checked = o }) x r new = subst (λ (s : State). Goes {A = A} (record s { blocks = blocks; checked = o }) x r new) is goes in
-    let of_kept : Goes (record old { blocks = keeping old.blocks text; checked = o }) x r new = subst (λ (b : List Block). Goes {A = A} (record old { blocks = b; checked = o }) x r new) kept of_old in
-    goes_anew (holding old text) o y r new (subst (λ (z : Good). Goes {A = A} (record old { blocks = keeping old.blocks text; checked = o }) z r new) same of_kept)
+    let of_old : AsksOrAccepts (record old { blocks = blocks; checked = o }) x r new = subst (λ (s : State). AsksOrAccepts {A = A} (record s { blocks = blocks; checked = o }) x r new) is goes in
+    let of_kept : AsksOrAccepts (record old { blocks = keeping old.blocks text; checked = o }) x r new = subst (λ (b : List Block). AsksOrAccepts {A = A} (record old { blocks = b; checked = o }) x r new) kept of_old in
+    goes_anew (holding old text) o y r new (subst (λ (z : Good). AsksOrAccepts {A = A} (record old { blocks = keeping old.blocks text; checked = o }) z r new) same of_kept)
 
 -- a block is asked for that tells what the operation makes
 pub goes_need : (A : Type 0) (s new : State) (x : Good) (a : Asked) (st : Step A) → st ≡ step.Need a.digest → new ≡ record s { checked = Some (Writing x a); accepted = None }
-    → IsWanted (held s.blocks) (view_of s.pinned x) a.digest a.spot × (lacks (held s.blocks) a.digest a.spot ≡ true) → Goes s x st new
-goes_need A s new x a st is made wanted = subst (λ (y : Step A). Goes s x y new) (sym is) (a, refl, made, wanted.0, wanted.1)
+    → IsWanted (held s.blocks) (view_of s.pinned x) a.digest a.spot × (lacks (held s.blocks) a.digest a.spot ≡ true) → AsksOrAccepts s x st new
+goes_need A s new x a st is made wanted = subst (λ (y : Step A). AsksOrAccepts s x y new) (sym is) (a, refl, made, wanted.0, wanted.1)
 
 -- the state with an accepted reply
 pub ready_is : (s old : State) (g good : Good) (one other : Handle) (made records : List GroupRecord) (lost : List ℕ) → s ≡ old → g ≡ good → one ≡ other → made ≡ records
@@ -63,7 +63,7 @@ pub taken_need : (A : Type 0) (s new : State) (r : Reply) (x : Lists) (a : Asked
 taken_need A s new r x a is lacks = inl (a, refl, is, lacks.0, lacks.1)
 
 -- the lists break no rule by the table that was read
-pub taken_goes : {A : Type 0} (s new : State) (r : Reply) (x : Lists) (good : Good) (st : Step A) → IsGood s x good → Goes s good st new → Taken s r x st new
+pub taken_goes : {A : Type 0} (s new : State) (r : Reply) (x : Lists) (good : Good) (st : Step A) → IsGood s x good → AsksOrAccepts s good st new → Taken s r x st new
 taken_goes s new r x good (step.Need d) is goes = inr (good, is, goes)
 taken_goes s new r x good (step.Store texts) is goes = (good, is, goes)
 taken_goes s new r x good (step.Broken rule) is goes = absurd goes

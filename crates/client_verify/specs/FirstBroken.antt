@@ -1,11 +1,10 @@
 -- The first broken rule of a reply: the least whose test doesn't hold.
 -- The rules stand in docs/RULES.md.
-use Rattle.std.specs.Prelude.{◌≡◌, ℕ, ◌-◌, List, [], ◌∷◌, Option, Some, None, Result, Ok, Err, Bool, true, false, ◌&&◌, ◌||◌, ◌==◌, not, length, find, IsSomeAnd}
+use Rattle.std.specs.Prelude.{◌≡◌, ℕ, ◌-◌, List, [], ◌∷◌, Option, Some, None, Bool, true, false, ◌&&◌, ◌||◌, ◌==◌, not, length, find, is_ok, IsSomeAnd, if◌then◌else◌}
 use Rattle.std.specs.List.{list_all, slice_get}
 use Rattle.std.specs.Option.{option_and_then, option_map, option_map_or}
 use Rattle.std.specs.Result.{result_ok}
 use Rattle.std.specs.Str.{bytes_eq}
-use Rattle.layout.specs.declared.error.ReadError.{ReadError}
 use Rattle.layout.specs.Format.{whole}
 use Rattle.layout.specs.Types.{Bytes, Key, User}
 use Rattle.lms_sign.specs.Signature.{valid}
@@ -26,46 +25,46 @@ use Rattle.reply_rules.specs.declared.rule.Rule.TheVariants as rule
 
 -- what a client compares a reply with: who it is, user 0's key, its last signed structure and its declared certificate
 pub record Known : Type 0 where
-  pub user : ℕ
-  pub pinned : List ℕ
+  pub user : User
+  pub pinned : Key
   pub last : Option (Signed Structure)
-  pub declared : List ℕ
+  pub declared : Bytes
 
 -- a structure as it is sent
-abbrev pub structure_sent : Signed Structure → List ℕ
+abbrev pub structure_sent : Signed Structure → Bytes
 structure_sent z = (signed structure).spell z
 
 -- a pending certificate as it was sent
-abbrev pub cert_sent : PendingItem → List ℕ
+abbrev pub cert_sent : PendingItem → Bytes
 cert_sent i = (signed cert).spell (record { value = i.cert; signature = i.signature })
 
 -- nothing and nothing, or the same bytes
-abbrev pub same_bytes : Option (List ℕ) → Option (List ℕ) → Bool
+abbrev pub same_bytes : Option Bytes → Option Bytes → Bool
 same_bytes None None = true
 same_bytes None (Some b) = false
 same_bytes (Some a) None = false
 same_bytes (Some a) (Some b) = bytes_eq a b
 
 -- the structure that a reply has of a user
-abbrev pub shown_of : ℕ → List (Signed Structure) → Option (Signed Structure)
+abbrev pub shown_of : User → List (Signed Structure) → Option (Signed Structure)
 shown_of user zs = find (λ z. z.value.plan.user == user) zs
 
 -- the own structure is the one that was signed last
-unfoldable pub own_last : ℕ → Option (Signed Structure) → Reply → Bool
+unfoldable pub own_last : User → Option (Signed Structure) → Reply → Bool
 own_last user last r = same_bytes (option_map structure_sent (shown_of user r.structures)) (option_map structure_sent last)
 
 -- the last pending certificate is the declared one
-unfoldable pub own_pending : List ℕ → Reply → Bool
+unfoldable pub own_pending : Bytes → Reply → Bool
 own_pending declared r = option_map_or (λ i. bytes_eq (cert_sent i) declared) (slice_get r.pending (length r.pending - 1)) false
 
 -- a structure of user 0 verifies under the key that every client knows; one of another user isn't looked at here
-abbrev pub structure_verifies : List ℕ → Signed Structure → Bool
+abbrev pub structure_verifies : Key → Signed Structure → Bool
 structure_verifies key z = not (z.value.plan.user == 0) || valid key (structure.spell z.value) z.signature
 
-abbrev pub cert_verifies : List ℕ → PendingItem → Bool
+abbrev pub cert_verifies : Key → PendingItem → Bool
 cert_verifies key i = not (i.cert.user == 0) || valid key (cert.spell i.cert) i.signature
 
-unfoldable pub super_signature : List ℕ → Reply → Bool
+unfoldable pub super_signature : Key → Reply → Bool
 super_signature key r = list_all (structure_verifies key) r.structures && list_all (cert_verifies key) r.pending
 
 -- ---- the rules on the reply itself
@@ -78,13 +77,17 @@ of_reply k r =
     ∷ (rule.SuperSignature, super_signature k.pinned r)
     ∷ [])
 
-abbrev pub of_read : Known → Result Reply ReadError → Option Rule
-of_read k (Err e) = Some rule.Form
-of_read k (Ok r) = of_reply k r
+-- the reply that the bytes spell, if they spell one
+abbrev pub reply_in : Bytes → Option Reply
+reply_in text = result_ok (whole reply text)
+
+-- the bytes are a reply text
+abbrev pub form : Bytes → Bool
+form text = is_ok (whole reply text)
 
 -- the first of them that the bytes of a reply break
-unfoldable pub reply_breaks : Known → List ℕ → Option Rule
-reply_breaks k text = of_read k (whole reply text)
+unfoldable pub reply_breaks : Known → Bytes → Option Rule
+reply_breaks k text = if form text then option_and_then (of_reply k) (reply_in text) else Some rule.Form
 
 -- ---- the rules by the table of principals
 
@@ -119,10 +122,7 @@ abbrev pub ByTable : Blocks → Key → Lists → Option Rule → Type 0
 ByTable blocks key x None = (t : Table) (void : List ℕ) → IsRead blocks key x t void → lists_break t x ≡ None
 ByTable blocks key x (Some rule) = (t : Table) × (void : List ℕ) × IsRead blocks key x t void × (lists_break t x ≡ Some rule)
 
--- the reply that the bytes spell, if they spell one, and its lists
-abbrev pub reply_in : Bytes → Option Reply
-reply_in text = result_ok (whole reply text)
-
+-- the lists of the reply that the bytes spell, if they spell one
 abbrev pub lists_in : Bytes → Option Lists
 lists_in text = option_and_then lists_of (reply_in text)
 

@@ -4,6 +4,6 @@ pub mod State
 pub mod Judged
 pub mod Looked
 pub mod Laid
-pub mod Grown
+pub mod Outcomes
 pub mod Verified
 pub mod JudgedLast

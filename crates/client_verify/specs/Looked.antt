@@ -1,6 +1,6 @@
 -- What a client sees in its accepted view.
 use Rattle.std.specs.Prelude.{◌≡◌, ℕ, List, Option, Some, None, IsSomeAnd, true, false}
-use Rattle.layout.specs.Types.{INumber, Principal}
+use Rattle.layout.specs.Types.{Bytes, INumber, Principal}
 use Rattle.update_cert.specs.World.{Content, File, Directory, is_table}
 use Rattle.update_cert.specs.Reading.{Reading}
 use Rattle.update_cert.specs.Blocks.{Agrees}
@@ -37,7 +37,7 @@ Looked s v p i (look.Broken rule) new = ⊥
 
 -- The block that a look asks for, or its absence: Broken where it isn't that block, and then the client is as before;
 -- else it is held, and the look goes on.
-abbrev pub Given : {A : Type 0} → State → AcceptedView → Looking → Option (List ℕ) → Look A → State → Type 0
+abbrev pub Given : {A : Type 0} → State → AcceptedView → Looking → Option Bytes → Look A → State → Type 0
 Given old v l block (look.Broken rule) new = (block_breaks (held old.blocks) l.asked block ≡ Some rule) × (new ≡ old)
 Given old v l block answer new =
     (block_breaks (held old.blocks) l.asked block ≡ None) × IsSomeAnd block (λ text. Looked (holding old text) v l.principal l.i_number answer new)

@@ -1,10 +1,10 @@
 -- A client as a machine: its state, and what each call makes of it.
-use Rattle.std.specs.Prelude.{◌≡◌, ℕ, ◌+◌, List, [], fold, Option, Some, None, IfSome, IsSomeAnd, if◌then◌else◌}
+use Rattle.std.specs.Prelude.{◌≡◌, ℕ, ◌+◌, Bool, false, List, [], ◌∷◌, fold, Option, Some, None, IfSome, IsSomeAnd, if◌then◌else◌}
 use Rattle.std.specs.Option.{option_map_or}
 use Rattle.std.specs.Ordering.{nat_cmp}
 use Rattle.layout.specs.Ascending.{with_row}
 use Rattle.layout.specs.Hash.{hash}
-use Rattle.layout.specs.Types.{Digest, Handle}
+use Rattle.layout.specs.Types.{Bytes, Digest, Handle, Key, User, Version}
 use Rattle.leaf_ledger.specs.Ledger.{LeafNumber}
 use Rattle.version_order.specs.declared.structure.GroupRecord.{GroupRecord}
 use Rattle.version_order.specs.Plan.{Plan}
@@ -20,6 +20,7 @@ use Rattle.pending_list.specs.declared.signed.Signed.{Signed}
 use Rattle.pending_list.specs.Signed.{signed}
 use Rattle.pending_list.specs.Reply.{Reply, digest_of_last, user_of}
 use Rattle.reply_rules.specs.Lists.{Lists, lists_of}
+use Rattle.reply_rules.specs.Broken.{least}
 use Rattle.reply_rules.specs.declared.rule.Rule.{Rule}
 use Rattle.reply_rules.specs.declared.rule.Rule.TheVariants as rule
 use Rattle.std.specs.Str.{bytes_eq}
@@ -70,21 +71,21 @@ pub record AcceptedView : Type 0 where
   pub looking : Option Looking
 
 pub record State : Type 0 where
-  pub user : ℕ
+  pub user : User
   -- what the own key is made of
-  pub seed : List ℕ
-  pub id : List ℕ
+  pub seed : Bytes
+  pub id : Bytes
   -- user 0's public key
-  pub pinned : List ℕ
+  pub pinned : Key
   -- the leaves of the own key, and the signed texts that were released
   pub devices : Devices
   -- what the records of the journal tell (client_releases/specs/Told.antt): the number of the operation that was declared last, 0 where none
   -- was; the structure that was signed last; how far the operation is, but for its commit; and the signed text that was
   -- released last, a certificate or a structure
-  pub number : ℕ
+  pub number : Version
   pub last : Option (Signed Structure)
   pub phase : Phase
-  pub text : List ℕ
+  pub text : Bytes
   -- the blocks that are held: those of the beginning, those that were laid out, and those that were checked
   pub blocks : List Block
   -- the reply under check
@@ -98,7 +99,7 @@ abbrev pub known : State → Known
 known s = record { user = s.user; pinned = s.pinned; last = s.last; declared = s.text }
 
 -- a client of this user and key as it is opened: what it released, and the blocks of the beginning
-abbrev pub opened : List ℕ → Released → State
+abbrev pub opened : Key → Released → State
 opened pinned r = record {
   user = r.user;
   seed = r.seed;
@@ -134,15 +135,15 @@ abbrev pub next_cert : State → List (Change Digest) → Cert
 next_cert s changes = record { user = s.user; number = s.number + 1; last = digest_of_last s.last; changes = changes }
 
 -- the certificate of these changes that comes next, as it is sent, signed by this leaf
-abbrev pub declared_text : State → LeafNumber → List (Change Digest) → List ℕ
+abbrev pub declared_text : State → LeafNumber → List (Change Digest) → Bytes
 declared_text s leaf changes = sent (released s) leaf (cert.spell (next_cert s changes))
 
 -- the state with these blocks, which were laid out
-abbrev pub laying : List (List ℕ) → State → State
+abbrev pub laying : List Bytes → State → State
 laying laid s = record s { blocks = keeping_all s.blocks laid }
 
 -- the state after these changes are declared by this leaf, for which these blocks were laid out
-abbrev pub declared : State → LeafNumber → List (Change Digest) → List (List ℕ) → State
+abbrev pub declared : State → LeafNumber → List (Change Digest) → List Bytes → State
 declared s leaf changes laid = record (laying laid s) {
   number = s.number + 1;
   phase = phase.Declared;
@@ -153,18 +154,24 @@ declared s leaf changes laid = record (laying laid s) {
 
 -- ---- judging
 
--- which rule a block breaks that was handed in for this one
-abbrev pub block_breaks : Blocks → Asked → Option (List ℕ) → Option Rule
-block_breaks blocks a None = Some rule.Block
-block_breaks blocks a (Some block) =
-    if bytes_eq (hash block) a.digest then (if takes blocks a.spot block then None else Some rule.Content) else Some rule.Block
+-- a block was handed in, and has the digest that was asked for
+abbrev pub block : Asked → Option Bytes → Bool
+block a handed = option_map_or (λ b. bytes_eq (hash b) a.digest) handed false
+
+-- it is what its place asks for
+abbrev pub content : Blocks → Asked → Option Bytes → Bool
+content blocks a handed = option_map_or (takes blocks a.spot) handed false
+
+-- the first of these rules that what was handed in for a block breaks
+abbrev pub block_breaks : Blocks → Asked → Option Bytes → Option Rule
+block_breaks blocks a handed = least ((rule.Block, block a handed) ∷ (rule.Content, content blocks a handed) ∷ [])
 
 -- the state with one block more
-abbrev pub holding : State → List ℕ → State
+abbrev pub holding : State → Bytes → State
 holding s block = record s { blocks = keeping s.blocks block }
 
 -- the blocks with this one, if there is one
-abbrev pub blocks_with : State → Option (List ℕ) → List Block
+abbrev pub blocks_with : State → Option Bytes → List Block
 blocks_with s block = option_map_or (keeping s.blocks) block s.blocks
 
 -- ---- signing
@@ -188,7 +195,7 @@ abbrev pub signed_structure : State → LeafNumber → Ready → Signed Structur
 signed_structure s leaf r = signed_by s.seed s.id leaf (next_structure s r)
 
 -- the structure over an accepted reply, as it is sent, signed by this leaf
-abbrev pub signed_text : State → LeafNumber → Ready → List ℕ
+abbrev pub signed_text : State → LeafNumber → Ready → Bytes
 signed_text s leaf r = (signed structure).spell (signed_structure s leaf r)
 
 -- the structures, which ascend by user, with this one in its user's place

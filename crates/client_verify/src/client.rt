@@ -11,19 +11,19 @@ ghost use Rattle.leaf_ledger.specs.Ledger.{IsFull, IsLeastFree, LeafNumber};
 ghost use Rattle.version_order.specs.Structure.{structure};
 ghost use Rattle.update_cert.specs.Cert.{cert};
 ghost use Rattle.pending_list.specs.Reply.{user_of};
-ghost use Rattle.client_verify.specs.Grown.{IsTold};
+ghost use Rattle.client_verify.specs.Outcomes.{IsTold};
 ghost use Rattle.client_verify.specs.Laid.{are_laid};
 
 use crate::asked::Asked;
 use crate::checking::check;
 use crate::good::Good;
-use crate::growing::{
-    Made, Reached, Shown, Written, reach, reach_with, show, show_with, write_with,
-};
 use crate::known::Known;
 use crate::laid::copies;
 use crate::lists::{Admitted, with_own};
 use crate::look::Look;
+use crate::outcome::{
+    Made, Reached, Shown, Written, reach, reach_with, show, show_with, write_with,
+};
 use crate::step::Step;
 use crate::structure::{Draft, draft_over};
 use crate::verdict::judge;
@@ -357,9 +357,10 @@ impl<L: Device, J: Device, A: Allocator + Copy> Client<L, J, A> {
     ghost use Rattle.client_verify.specs.State.{IsOfDeclared, asked_of, block_breaks, checked_in, committed, declared};
     ghost use Rattle.client_verify.specs.State.{declared_text, failed, holding, known, laying, lists_under, next_cert};
     ghost use Rattle.client_verify.specs.State.{next_structure, on, released, signed_over, signed_text};
-    ghost use Rattle.client_verify.specs.Judged.{Goes, GoesOn, Handed, IsReading, IsWriting, Judged, ReadsOn, unjudged};
+    ghost use Rattle.client_verify.specs.Judged.{AsksOrAccepts, GoesOn, Handed, IsReading, IsWriting, Judged, ReadsOn};
+    ghost use Rattle.client_verify.specs.Judged.{unjudged};
     ghost use Rattle.client_verify.specs.Judged.{view_of};
-    ghost use Rattle.client_verify.specs.Grown.{IsAnswer, IsReached, IsWritten};
+    ghost use Rattle.client_verify.specs.Outcomes.{IsAnswer, IsReached, IsWritten};
     ghost use Rattle.client_verify.specs.Looked.{Looked, Given};
 
     /// The lists that broke no rule last, whose signatures were verified: of the accepted reply, of the one under
@@ -531,7 +532,7 @@ impl<L: Device, J: Device, A: Allocator + Copy> Client<L, J, A> {
     fn go(&mut self, good: Good<A>, written: Written<A>) -> Step<A>
         requires written { IsWritten (held self.old.blocks) (view_of self.old.pinned good) good.void written }
         requires own { IsOfDeclared (released self.old) good.lists.own.plan }
-        ensures { Goes self.old good result self.new }
+        ensures { AsksOrAccepts self.old good result self.new }
     {
         match written {
             Written::Lacks(asked) => {
@@ -593,7 +594,7 @@ impl<L: Device, J: Device, A: Allocator + Copy> Client<L, J, A> {
                 let digest = asked.digest;
                 Ok(self.ask(Stage::Reading(reply, asked), digest))
             }
-            Reached::Goes(table, written) => {
+            Reached::BreaksNone(table, written) => {
                 let lists = reply.into_lists();
                 Ok(self.go(Good { lists, table }, written))
             }
@@ -644,7 +645,7 @@ impl<L: Device, J: Device, A: Allocator + Copy> Client<L, J, A> {
                 let digest = asked.digest;
                 Ok(self.ask(Stage::Reading(reply, asked), digest))
             }
-            Reached::Goes(table, written) => {
+            Reached::BreaksNone(table, written) => {
                 let lists = reply.into_lists();
                 Ok(self.go(Good { lists, table }, written))
             }

@@ -8,10 +8,10 @@ use Rattle.principals.specs.Table.{Table, genesis}
 use Rattle.version_order.specs.declared.vector.Component.{Component}
 use Rattle.version_order.specs.Structure.{Structure}
 use Rattle.pending_list.specs.declared.signed.Signed.{Signed}
-use Rattle.consistency_server.specs.declared.state.Change.{Change as Kept}
-use Rattle.consistency_server.specs.declared.state.Change.TheVariants.{Places, Commits}
-use Rattle.consistency_server.specs.declared.state.Judged.{Judged}
-use Rattle.consistency_server.specs.declared.state.Judged.TheVariants as judged
+use Rattle.consistency_server.specs.declared.state.Kept.{Kept}
+use Rattle.consistency_server.specs.declared.state.Kept.TheVariants.{Places, Commits}
+use Rattle.consistency_server.specs.declared.state.Verdict.{Verdict}
+use Rattle.consistency_server.specs.declared.state.Verdict.TheVariants as judged
 use Rattle.consistency_server.specs.Event.{Event, Placed, Committed, structures}
 use Rattle.consistency_server.specs.State.{State, Placement, next_vector, next_placement, table_after, vector_after, commits, pending_after, state_after}
 use Rattle.consistency_server.specs.Answers.{Call, Outcome, answer, happened, cert_of}
@@ -48,12 +48,12 @@ kept_changed pinned es (Commits s) user = sym (committed_keeps pinned es s user)
 
 -- ---- what was found
 
-pub may_happen : {A : Type 0} (state : State) (j : Judged A) (o : Outcome) → JudgedAs state j o → MayHappen state j
+pub may_happen : {A : Type 0} (state : State) (j : Verdict A) (o : Outcome) → JudgedAs state j o → MayHappen state j
 may_happen state (judged.Refused s) o is = tt
 may_happen state (judged.Repeated text) o is = tt
 may_happen state (judged.Happens change text) o is = is.1
 
-pub kept_after : {A : Type 0} (pinned : List ℕ) (es : List Event) (state : State) (j : Judged A) (o : Outcome) → state ≡ state_after pinned es → JudgedAs state j o → found.state_after state j ≡ state_after pinned (happened o ++ es)
+pub kept_after : {A : Type 0} (pinned : List ℕ) (es : List Event) (state : State) (j : Verdict A) (o : Outcome) → state ≡ state_after pinned es → JudgedAs state j o → found.state_after state j ≡ state_after pinned (happened o ++ es)
 kept_after pinned es state (judged.Refused s) o kept is = kept ∙ ap (λ (p : Outcome). state_after pinned (happened p ++ es)) (sym is)
 kept_after pinned es state (judged.Repeated text) o kept is = kept ∙ ap (λ (p : Outcome). state_after pinned (happened p ++ es)) (sym is)
 kept_after pinned es state (judged.Happens change text) o kept is =
@@ -61,12 +61,12 @@ kept_after pinned es state (judged.Happens change text) o kept is =
     ∙ kept_changed pinned es change (subst (λ (s : State). Admits s change) kept is.1)
     ∙ ap (λ (p : Outcome). state_after pinned (happened p ++ es)) (sym is.0)
 
-pub answer_judged : {A : Type 0} (state : State) (j : Judged A) (o : Outcome) → JudgedAs state j o → answer o ≡ answer_by j
+pub answer_judged : {A : Type 0} (state : State) (j : Verdict A) (o : Outcome) → JudgedAs state j o → answer o ≡ answer_by j
 answer_judged state (judged.Refused s) o is = ap answer is
 answer_judged state (judged.Repeated text) o is = ap answer is
 answer_judged state (judged.Happens change text) o is = ap answer is.0
 
-pub logged_judged : {A : Type 0} (state : State) (j : Judged A) (o : Outcome) (call : Call) → JudgedAs state j o → logged_of (happened o) call ≡ logged_by j call
+pub logged_judged : {A : Type 0} (state : State) (j : Verdict A) (o : Outcome) (call : Call) → JudgedAs state j o → logged_of (happened o) call ≡ logged_by j call
 logged_judged state (judged.Refused s) o call is = ap (λ (p : Outcome). logged_of (happened p) call) is
 logged_judged state (judged.Repeated text) o call is = ap (λ (p : Outcome). logged_of (happened p) call) is
 logged_judged state (judged.Happens change text) o call is = ap (λ (p : Outcome). logged_of (happened p) call) is.0

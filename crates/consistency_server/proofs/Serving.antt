@@ -15,7 +15,7 @@ use Rattle.principals.specs.Table.{genesis, key_of}
 use Rattle.wire.specs.declared.kinds.Status.TheVariants as status
 use Rattle.consistency_server.specs.declared.call.CallKind.{CallKind}
 use Rattle.consistency_server.specs.declared.call.CallKind.TheVariants.{Update, Commit}
-use Rattle.consistency_server.specs.declared.state.Judged.{Judged}
+use Rattle.consistency_server.specs.declared.state.Verdict.{Verdict}
 use Rattle.consistency_server.specs.Event.{Placed, Committed}
 use Rattle.consistency_server.specs.State.{Placement, State, next_reply}
 use Rattle.consistency_server.specs.Answers.{Call, Outcome, Refused, Repeated, Happens, answer, outcome_of, by_kind, same_cert, is_next, at_limit, placing_beside, placing, verified_update, read_update, structure_of, same_structure, is_pending, committing, verified_commit, read_commit}
@@ -89,7 +89,7 @@ pub settled_history : (pinned : List ℕ) (old new : List Call) (call : Call) (s
 settled_history pinned old new call server is more =
     ap (ordered pinned) (ap reverse more ∙ reverse_more old call) ∙ ap (λ (s : Ordered). ordered s.pinned (call ∷ s.history)) is
 
-pub kept_settled : {A X E : Type 0} (r : Result X E) (pinned : List ℕ) (old new : List Call) (call : Call) (state state' : State) (j : Judged A) → state ≡ kept pinned (reverse old) → JudgedAs state j (outcome_of state call)
+pub kept_settled : {A X E : Type 0} (r : Result X E) (pinned : List ℕ) (old new : List Call) (call : Call) (state state' : State) (j : Verdict A) → state ≡ kept pinned (reverse old) → JudgedAs state j (outcome_of state call)
     → OnOk r (state' ≡ state_after state j) → OnOk r (new ≡ old ++ call ∷ []) → OnErr r (state' ≡ state) → OnErr r (new ≡ old) → state' ≡ kept pinned (reverse new)
 unfolding events
 kept_settled (Ok x) pinned old new call state state' j is found moved more none none' =

@@ -8,10 +8,10 @@ use Rattle.update_cert.specs.Cert.{cert}
 use Rattle.pending_list.specs.Reply.{user_of}
 use Rattle.principals.specs.Table.{Table}
 use Rattle.wire.specs.declared.kinds.Status.TheVariants as status
-use Rattle.consistency_server.specs.declared.state.Change.{Change}
-use Rattle.consistency_server.specs.declared.state.Change.TheVariants.{Places, Commits}
-use Rattle.consistency_server.specs.declared.state.Judged.{Judged}
-use Rattle.consistency_server.specs.declared.state.Judged.TheVariants as judged
+use Rattle.consistency_server.specs.declared.state.Kept.{Kept}
+use Rattle.consistency_server.specs.declared.state.Kept.TheVariants.{Places, Commits}
+use Rattle.consistency_server.specs.declared.state.Verdict.{Verdict}
+use Rattle.consistency_server.specs.declared.state.Verdict.TheVariants as judged
 use Rattle.consistency_server.specs.Event.{Event, Placed, Committed}
 use Rattle.consistency_server.specs.State.{State, Placement, after_operation, next_vector, pending_of, next_placement, commits}
 use Rattle.consistency_server.specs.Answers.{Call, Answer, Outcome, Refused, Repeated, Happens, cert_of}
@@ -22,7 +22,7 @@ table_or None kept = kept
 table_or (Some new) kept = new
 
 -- what is kept after a change
-abbrev pub changed : {A : Type 0} → State → Change A → State
+abbrev pub changed : {A : Type 0} → State → Kept A → State
 changed state (Places table vector placement) = record {
   table = table_or table state.table;
   vector = vector;
@@ -37,7 +37,7 @@ changed state (Commits s) = record {
 }
 
 -- the event that a change is of
-abbrev pub event_of : {A : Type 0} → Change A → Event
+abbrev pub event_of : {A : Type 0} → Kept A → Event
 event_of (Places table vector placement) = Placed (cert_of placement.item)
 event_of (Commits s) = Committed s
 
@@ -50,36 +50,36 @@ pub record IsNext (state : State) (brought : Option Table) (new : List Component
   pub placement : w ≡ next_placement state (cert_of w.item)
 
 -- what is kept admits the change
-abbrev pub Admits : {A : Type 0} → State → Change A → Type 0
+abbrev pub Admits : {A : Type 0} → State → Kept A → Type 0
 Admits state (Places table vector placement) = IsNext state table vector placement
 Admits state (Commits s) = user_of s < 64
 
 -- what was found is this outcome
-abbrev pub JudgedAs : {A : Type 0} → State → Judged A → Outcome → Type 0
+abbrev pub JudgedAs : {A : Type 0} → State → Verdict A → Outcome → Type 0
 JudgedAs state (judged.Refused s) o = o ≡ Refused s
 JudgedAs state (judged.Repeated text) o = o ≡ Repeated text
 JudgedAs state (judged.Happens change text) o = (o ≡ Happens (event_of change) text) × Admits state change
 
 -- what was found may happen
-abbrev pub MayHappen : {A : Type 0} → State → Judged A → Type 0
+abbrev pub MayHappen : {A : Type 0} → State → Verdict A → Type 0
 MayHappen state (judged.Refused s) = Unit {0}
 MayHappen state (judged.Repeated text) = Unit {0}
 MayHappen state (judged.Happens change text) = Admits state change
 
 -- what is kept after a call
-abbrev pub state_after : {A : Type 0} → State → Judged A → State
+abbrev pub state_after : {A : Type 0} → State → Verdict A → State
 state_after state (judged.Refused s) = state
 state_after state (judged.Repeated text) = state
 state_after state (judged.Happens change text) = changed state change
 
 -- the answer
-abbrev pub answer_by : {A : Type 0} → Judged A → Answer
+abbrev pub answer_by : {A : Type 0} → Verdict A → Answer
 answer_by (judged.Refused s) = record { status = s; payload = [] }
 answer_by (judged.Repeated text) = record { status = status.Ok; payload = text }
 answer_by (judged.Happens change text) = record { status = status.Ok; payload = text }
 
 -- what goes to the log
-abbrev pub logged_by : {A : Type 0} → Judged A → Call → List Call
+abbrev pub logged_by : {A : Type 0} → Verdict A → Call → List Call
 logged_by (judged.Refused s) call = []
 logged_by (judged.Repeated text) call = []
 logged_by (judged.Happens change text) call = call ∷ []

@@ -6,7 +6,7 @@ ghost use Rattle.consistency_server.specs.Judged.{MayHappen, answer_by, state_af
 use crate::call::{Answer, Call, CallKind};
 use crate::log::Log;
 use crate::refusal::Refusal;
-use crate::state::{Judged, State};
+use crate::state::{State, Verdict};
 use lms_sign::PublicKey;
 use std::alloc::Allocator;
 use std::marker::Model;
@@ -38,7 +38,7 @@ fn carry_out<A: Allocator + Copy, G: Log<Call<A>>>(
     log: &mut G,
     kind: CallKind,
     text: &[u8],
-    judged: Judged<A>,
+    judged: Verdict<A>,
 ) -> Result<Answer<A>, Refusal>
     requires { MayHappen state.old judged }
     ensures answer { IfOk result (λ answer. answer ≡ answer_by judged) }
@@ -57,9 +57,9 @@ fn carry_out<A: Allocator + Copy, G: Log<Call<A>>>(
     let call = Call::new(kind, Vec::from_slice(alloc, text)?);
     history.reserve(1)?;
     let answer = match judged {
-        Judged::Refused(status) => Answer::bare(alloc, status),
-        Judged::Repeated(payload) => Answer::with_payload(payload),
-        Judged::Happens(change, payload) => {
+        Verdict::Refused(status) => Answer::bare(alloc, status),
+        Verdict::Repeated(payload) => Answer::with_payload(payload),
+        Verdict::Happens(change, payload) => {
             state.happen(log, Call::new(kind, Vec::from_slice(alloc, text)?), change)?;
             Answer::with_payload(payload)
         }

@@ -64,7 +64,7 @@ impl<A: Allocator> Model for State<A> {
 
 /// An event, with all that is kept of it.
 #[derive(Drop)]
-pub(crate) enum Change<A: Allocator> {
+pub(crate) enum Kept<A: Allocator> {
     /// An operation is placed: the table after it, if it may change the table; the vector after it; and the operation.
     Places(Option<Table<A>>, Vector<A>, Placement<A>),
     /// Its structure is committed.
@@ -73,13 +73,13 @@ pub(crate) enum Change<A: Allocator> {
 
 /// What a call leads to.
 #[derive(Drop)]
-pub(crate) enum Judged<A: Allocator> {
+pub(crate) enum Verdict<A: Allocator> {
     /// Nothing, for this reason.
     Refused(Status),
     /// The same payload as before.
     Repeated(Payload<A>),
     /// A change, and the payload.
-    Happens(Change<A>, Payload<A>),
+    Happens(Kept<A>, Payload<A>),
 }
 
 /// Keeps a new table, if there is one.
@@ -114,7 +114,7 @@ impl<A: Allocator> State<A> {
         &mut self,
         log: &mut G,
         call: Call<A>,
-        change: Change<A>,
+        change: Kept<A>,
     ) -> Result<(), Refusal>
         requires { Admits self.old change }
         ensures state { OnOk result (self.new ≡ changed self.old change) }
@@ -127,12 +127,12 @@ impl<A: Allocator> State<A> {
         self.pending.reserve(1)?;
         log.try_push(call)?;
         match change {
-            Change::Places(table, vector, placement) => {
+            Kept::Places(table, vector, placement) => {
                 keep(&mut self.table, table);
                 self.vector = vector;
                 place(&mut self.pending, placement);
             }
-            Change::Commits(structure) => {
+            Kept::Commits(structure) => {
                 commit(&mut self.structures, &mut self.pending, structure);
             }
         }
@@ -155,7 +155,7 @@ impl<A: Allocator + Copy> State<A> {
 
     /// What a call leads to.
     #[tactic(auto, unfolding(crate::specs::Answers::outcome_of))]
-    pub(crate) fn judge(&self, alloc: A, kind: CallKind, text: &[u8]) -> Result<Judged<A>, Memory>
+    pub(crate) fn judge(&self, alloc: A, kind: CallKind, text: &[u8]) -> Result<Verdict<A>, Memory>
         ensures { IfOk result (λ judged. JudgedAs self.now judged (outcome_of self.now (call_of kind text.now))) }
     {
         match kind {
@@ -165,18 +165,18 @@ impl<A: Allocator + Copy> State<A> {
     }
 
     /// What an UPDATE leads to.
-    fn judge_update(&self, alloc: A, text: &[u8]) -> Result<Judged<A>, Memory>
+    fn judge_update(&self, alloc: A, text: &[u8]) -> Result<Verdict<A>, Memory>
         ensures { IfOk result (λ judged. JudgedAs self.now judged
             (read_update self.now (whole (signed cert) text.now))) }
     {
         let Some(found) = read_signed::<A, Cert<A>>(alloc, text)? else {
-            return Ok(Judged::Refused(Status::Form));
+            return Ok(Verdict::Refused(Status::Form));
         };
         let Some(key) = self.table.key_of(found.value.user()) else {
-            return Ok(Judged::Refused(Status::UnknownUser));
+            return Ok(Verdict::Refused(Status::UnknownUser));
         };
         if !is_signed::<A, Cert<A>>(&key, &found, text) {
-            return Ok(Judged::Refused(Status::BadSignature));
+            return Ok(Verdict::Refused(Status::BadSignature));
         }
         self.judge_certificate(alloc, text, found)
     }
@@ -187,29 +187,29 @@ impl<A: Allocator + Copy> State<A> {
         alloc: A,
         text: &[u8],
         found: Signed<Cert<A>>,
-    ) -> Result<Judged<A>, Memory>
+    ) -> Result<Verdict<A>, Memory>
         requires { text.now ≡ (signed cert).spell found }
         ensures { IfOk result (λ judged. JudgedAs self.now judged (placing self.now found)) }
     {
         match with_cert(alloc, &self.pending, &found, text)? {
-            Some(placement) => Ok(Judged::Repeated(placement.reply().copy(alloc)?)),
+            Some(placement) => Ok(Verdict::Repeated(placement.reply().copy(alloc)?)),
             None => self.judge_new(alloc, text, found),
         }
     }
 
     /// What a certificate leads to that isn't pending.
-    fn judge_new(&self, alloc: A, text: &[u8], found: Signed<Cert<A>>) -> Result<Judged<A>, Memory>
+    fn judge_new(&self, alloc: A, text: &[u8], found: Signed<Cert<A>>) -> Result<Verdict<A>, Memory>
         requires { text.now ≡ (signed cert).spell found }
         ensures { IfOk result (λ judged. JudgedAs self.now judged (placing_beside None self.now found)) }
     {
         if !self.is_next(alloc, &found.value)? {
-            return Ok(Judged::Refused(Status::WrongNumber));
+            return Ok(Verdict::Refused(Status::WrongNumber));
         }
         let certificate = digest(unsigned::<A, Cert<A>>(&found, text));
         match self.plan(alloc, &found.value, certificate) {
             Ok(plan) => self.judge_planned(alloc, found, plan),
             Err(error) => match error {
-                PlanError::Limit => Ok(Judged::Refused(Status::TooLarge)),
+                PlanError::Limit => Ok(Verdict::Refused(Status::TooLarge)),
                 PlanError::Memory => Err(Memory),
             },
         }
@@ -256,7 +256,7 @@ impl<A: Allocator + Copy> State<A> {
         alloc: A,
         found: Signed<Cert<A>>,
         plan: Plan<A>,
-    ) -> Result<Judged<A>, Memory>
+    ) -> Result<Verdict<A>, Memory>
         requires free { pending_of found.value.user self.now.pending ≡ None }
         requires plan { plan ≡ next_plan self.now found.value }
         ensures { IfOk result (λ judged. JudgedAs self.now judged
@@ -275,22 +275,22 @@ impl<A: Allocator + Copy> State<A> {
         )?);
         let payload = reply.copy(alloc)?;
         let placement = Placement::new(item, entry, reply);
-        Ok(Judged::Happens(Change::Places(table, vector, placement), payload))
+        Ok(Verdict::Happens(Kept::Places(table, vector, placement), payload))
     }
 
     /// What a COMMIT leads to.
-    fn judge_commit(&self, alloc: A, text: &[u8]) -> Result<Judged<A>, Memory>
+    fn judge_commit(&self, alloc: A, text: &[u8]) -> Result<Verdict<A>, Memory>
         ensures { IfOk result (λ judged. JudgedAs self.now judged
             (read_commit self.now (whole (signed structure) text.now))) }
     {
         let Some(found) = read_signed::<A, Structure<A>>(alloc, text)? else {
-            return Ok(Judged::Refused(Status::Form));
+            return Ok(Verdict::Refused(Status::Form));
         };
         let Some(key) = self.table.key_of(found.value.plan().user()) else {
-            return Ok(Judged::Refused(Status::UnknownUser));
+            return Ok(Verdict::Refused(Status::UnknownUser));
         };
         if !is_signed::<A, Structure<A>>(&key, &found, text) {
-            return Ok(Judged::Refused(Status::BadSignature));
+            return Ok(Verdict::Refused(Status::BadSignature));
         }
         self.judge_structure(alloc, text, found)
     }
@@ -301,17 +301,17 @@ impl<A: Allocator + Copy> State<A> {
         alloc: A,
         text: &[u8],
         found: Signed<Structure<A>>,
-    ) -> Result<Judged<A>, Memory>
+    ) -> Result<Verdict<A>, Memory>
         requires { text.now ≡ (signed structure).spell found }
         ensures { IfOk result (λ judged. JudgedAs self.now judged (committing self.now found)) }
     {
         if self.is_last(alloc, &found, text)? {
-            return Ok(Judged::Repeated(Payload::empty(alloc)));
+            return Ok(Verdict::Repeated(Payload::empty(alloc)));
         }
         if !have_plan(alloc, &self.pending, found.value.plan())? {
-            return Ok(Judged::Refused(Status::NotPending));
+            return Ok(Verdict::Refused(Status::NotPending));
         }
-        Ok(Judged::Happens(Change::Commits(found), Payload::empty(alloc)))
+        Ok(Verdict::Happens(Kept::Commits(found), Payload::empty(alloc)))
     }
 
     /// Whether it is its user's last structure, where the text spells it.

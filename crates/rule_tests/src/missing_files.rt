@@ -88,7 +88,13 @@ fn wants_file(rt: &impl Host, shown: &Shown, held: &mut Held<Global>) {
 }
 
 /// What stands at an i-number of a principal.
-fn see(rt: &impl Host, shown: &Shown, held: &Held<Global>, user: u8, number: u16) -> Seen<Global> {
+fn look_through(
+    rt: &impl Host,
+    shown: &Shown,
+    held: &Held<Global>,
+    user: u8,
+    number: u16,
+) -> Seen<Global> {
     let seen = view(rt, shown).look(rt.alloc(), held, principal(rt, user), i_number(rt, number));
     seen.expect(rt, "no block is missing")
 }
@@ -101,7 +107,7 @@ fn look_wants_its_texts(rt: HostRuntime) {
     let mut held = held_table(&rt, &texts);
     wants_file(&rt, &shown, &mut held);
     let _root = keep(&rt, &mut held, ROOT_OF_1);
-    let Seen::File(file) = see(&rt, &shown, &held, 0, 3) else {
+    let Seen::File(file) = look_through(&rt, &shown, &held, 0, 3) else {
         panic!(&rt; "no file");
     };
     check(
@@ -111,12 +117,12 @@ fn look_wants_its_texts(rt: HostRuntime) {
     );
     check(
         &rt,
-        matches!(see(&rt, &shown, &held, 0, 5), Seen::Nothing),
+        matches!(look_through(&rt, &shown, &held, 0, 5), Seen::Nothing),
         "nothing at 0:5",
     );
     check(
         &rt,
-        matches!(see(&rt, &shown, &held, 1, 3), Seen::Nothing),
+        matches!(look_through(&rt, &shown, &held, 1, 3), Seen::Nothing),
         "nothing of user 1's",
     );
 }

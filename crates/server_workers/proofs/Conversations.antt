@@ -111,9 +111,9 @@ replied pinned told told' answered answered' waiting rest request reply (Err bro
       counts = let h = counted_snoc so.exchanges e in let c = so.counts in omega (arith, h, c, counts);
     }
 
--- what is read is behind what waits
-read_behind : (es : List Exchange) (waiting piece : Bytes) → (requests es ++ waiting) ++ piece ≡ requests es ++ (waiting ++ piece)
-read_behind es waiting piece = append_assoc (requests es) waiting piece
+-- what is read is after what waits
+read_after : (es : List Exchange) (waiting piece : Bytes) → (requests es ++ waiting) ++ piece ≡ requests es ++ (waiting ++ piece)
+read_after es waiting piece = append_assoc (requests es) waiting piece
 
 at_end : (e : Ended) (waiting piece : Bytes) → (e ≡ ended.End → piece ≡ []) → e ≢ ended.Length → (¬ BeginsFrame waiting) × (¬ BeginsAtFault waiting) → EndsWith e (waiting ++ piece) []
 at_end ended.End waiting piece none other all =
@@ -134,7 +134,7 @@ reads pinned told told' answered waiting waiting' (Ok x) (piece, read, more) bro
   exchanges = so.exchanges;
   allowed = so.allowed;
   told = two_steps start.told told told' (requests so.exchanges ++ waiting) piece (replies so.exchanges) [] _ _ so.told read
-      (read_behind so.exchanges waiting piece ∙ ap (λ l. requests so.exchanges ++ l) (sym more)) (append-nil (replies so.exchanges));
+      (read_after so.exchanges waiting piece ∙ ap (λ l. requests so.exchanges ++ l) (sym more)) (append-nil (replies so.exchanges));
   counts = so.counts;
 }
 reads pinned told told' answered waiting waiting' (Err e) ok (piece, read, none) kind all start so = record {
@@ -144,7 +144,7 @@ reads pinned told told' answered waiting waiting' (Err e) ok (piece, read, none)
   unwritten = [];
   allowed = so.allowed;
   told = two_steps start.told told told' (requests so.exchanges ++ waiting) piece (replies so.exchanges) [] _ _ so.told read
-      (read_behind so.exchanges waiting piece) (append-nil (replies so.exchanges));
+      (read_after so.exchanges waiting piece) (append-nil (replies so.exchanges));
   in_order = sym (append-nil (replies so.exchanges));
   whole = at_end e waiting piece (λ is. none (ap (λ f. Err f) is)) kind all;
   counts = so.counts;

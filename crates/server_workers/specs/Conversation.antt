@@ -17,7 +17,7 @@ use Rattle.server_workers.specs.declared.connection.Ended.TheVariants.{End, Faul
 
 -- ---- replies
 
--- a status with nothing behind it
+-- a status with nothing after it
 abbrev pub bare : Status → Answer
 bare s = record { status = s; payload = [] }
 

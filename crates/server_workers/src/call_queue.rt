@@ -78,7 +78,7 @@ impl Join<Hand> for Roles {
     ghost spent = { hand false false [] [] };
 }
 
-/// A push: the call comes behind what was pushed. A full queue holds an end of what was pushed.
+/// A push: the call comes after what was pushed. A full queue holds an end of what was pushed.
 pub struct Pushes;
 
 impl Outcome<Call<Global>, Hand> for Pushes {
@@ -94,7 +94,7 @@ impl Lesson<Call<Global>, Hand> for Pushes {
     ghost fact = { HoldsEnd };
 }
 
-/// A pop: the call comes behind what was popped. Who holds both ends knows what the queue holds.
+/// A pop: the call comes after what was popped. Who holds both ends knows what the queue holds.
 pub struct Takes;
 
 impl Outcome<Call<Global>, Hand> for Takes {

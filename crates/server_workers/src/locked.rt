@@ -5,6 +5,7 @@ ghost use Rattle.consistency_server.specs.History.{call_of, answer_of, log_of, i
 ghost use Rattle.wire.specs.declared.kinds.Status.TheVariants as status;
 ghost use Rattle.server_workers.specs.Hands.{hand, hand_of};
 ghost use Rattle.server_workers.specs.Counting.{count_of};
+ghost use Rattle.server_workers.specs.declared.call_queue.TheConstants.{QUEUE_ROOM};
 
 use crate::call_queue::{CallPass, ServerName};
 use crate::queue_log::QueueLog;
@@ -102,7 +103,8 @@ impl<'a, B: ServerName, L: Ledger, R: Wait> Locked<'a, B, L, R> {
             → self.new ≡ record self.old { history = call_of kind text.now ∷ self.old.history } }
         ensures same { is_carried_out result.status ≡ false → self.new ≡ self.old }
         ensures bare { is_carried_out result.status ≡ false → result.payload ≡ [] }
-        ensures busy { result.status ≡ status.Busy → IsTrue (leb 1024 (length (log_of B.pinned self.old.history))) }
+        ensures busy { result.status ≡ status.Busy
+            → IsTrue (leb QUEUE_ROOM (length (log_of B.pinned self.old.history))) }
         ensures counted { mine.new.answered ≡ mine.old.answered + count_of result.status }
         ensures parts { mine.new.share.parts ≡ mine.old.share.parts }
     {

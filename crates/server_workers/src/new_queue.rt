@@ -10,7 +10,7 @@ use std::alloc::Global;
 
 /// A queue with nothing in it, and its pass, which may push and pop.
 pub fn empty_queue(alloc: Global) -> Result<(CallQueue, CallPass), Memory>
-    ensures { IfOk result (λ made. IsPassOf made.0 made.1 × (ruled_capacity made.0 ≡ 1024)
+    ensures { IfOk result (λ made. IsPassOf made.0 made.1 × (ruled_capacity made.0 ≡ QUEUE_ROOM)
         × (hand_of made.1 ≡ hand true true [] [])) }
 {
     let (queue, pass) = CallQueue::ruled(alloc, QUEUE_ROOM)?;

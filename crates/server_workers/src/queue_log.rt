@@ -3,6 +3,7 @@
 ghost use Rattle.std.specs.Prelude.{◌≡◌, [], ◌∷◌, ◌++◌, true, false, length};
 ghost use Rattle.crossbeam_queue.specs.Passes.{IsPassOf, ruled_capacity};
 ghost use Rattle.server_workers.specs.Hands.{hand, hand_of};
+ghost use Rattle.server_workers.specs.declared.call_queue.TheConstants.{QUEUE_ROOM};
 
 use crate::call_queue::{CallPass, CallQueue, Pushes, ServerName};
 use consistency_server::{Call, Log, LogFull};
@@ -24,19 +25,20 @@ impl<'a, B: ServerName, R: Wait> Model for QueueLog<'a, B, R> {
     ghost use Rattle.crossbeam_queue.specs.Passes.{IsPassOf, ruled_capacity};
     ghost use Rattle.consistency_server.specs.Answers.{Call};
     ghost use Rattle.server_workers.specs.Hands.{hand, hand_of};
+    ghost use Rattle.server_workers.specs.declared.call_queue.TheConstants.{QUEUE_ROOM};
 
     ghost Value = { List Call };
 
     ghost view = { λ l. (hand_of l.pass).sent };
 
     ghost invariant = { λ l. IsPassOf l.queue.now l.pass × (l.pass.table_id ≡ B.queue)
-        × (ruled_capacity l.queue.now ≡ 1024) × (hand_of l.pass ≡ hand true false (hand_of l.pass).sent []) };
+        × (ruled_capacity l.queue.now ≡ QUEUE_ROOM) × (hand_of l.pass ≡ hand true false (hand_of l.pass).sent []) };
 }
 
 impl<'a, B: ServerName, R: Wait> QueueLog<'a, B, R> {
     /// The end of a queue into which nothing was pushed.
     pub(crate) fn new(rt: &'a R, queue: &'a CallQueue, pass: CallPass) -> QueueLog<'a, B, R>
-        requires queue { IsPassOf queue.now pass × (pass.table_id ≡ B.queue) × (ruled_capacity queue.now ≡ 1024) }
+        requires queue { IsPassOf queue.now pass × (pass.table_id ≡ B.queue) × (ruled_capacity queue.now ≡ QUEUE_ROOM) }
         requires empty { hand_of pass ≡ hand true false [] [] }
         ensures { result ≡ [] }
     {
@@ -59,11 +61,12 @@ impl<'a, B: ServerName, R: Wait> QueueLog<'a, B, R> {
 
 impl<'a, B: ServerName, R: Wait> Log<Call<Global>> for QueueLog<'a, B, R> {
     ghost use Rattle.std.specs.Prelude.{leb, length};
+    ghost use Rattle.server_workers.specs.declared.call_queue.TheConstants.{QUEUE_ROOM};
 
     ghost pushed = { λ l. l };
 
     // Once it was full, at least 1,024 calls were pushed.
-    ghost may_be_full = { λ l. leb 1024 (length l) };
+    ghost may_be_full = { λ l. leb QUEUE_ROOM (length l) };
 
     fn try_push(&mut self, event: Call<Global>) -> Result<(), LogFull> {
         match self

@@ -2,6 +2,7 @@
 
 ghost use Rattle.std.specs.Prelude.{◌≡◌, ◌<◌, length, IfOk};
 ghost use Rattle.wire.specs.Frame.{frame, reply_body};
+ghost use Rattle.wire.specs.declared.frames.TheConstants.{BODY_LIMIT};
 ghost use Rattle.server_workers.specs.Conversation.{bare, ok};
 
 use consistency_server::Answer;
@@ -21,16 +22,17 @@ impl Model for ReplyBody {
     ghost use Rattle.std.specs.Prelude.{◌≡◌, ◌<◌, true, length};
     ghost use Rattle.wire.specs.Frame.{may_carry};
     ghost use Rattle.consistency_server.specs.Answers.{Answer};
+    ghost use Rattle.wire.specs.declared.frames.TheConstants.{BODY_LIMIT};
 
     ghost Value = { Answer };
 
     ghost view = { λ r. record { status = r.status; payload = r.payload.items } };
 
-    ghost invariant = { λ r. (may_carry r.status r.payload.items ≡ true) × (length r.payload.items < 2097152) };
+    ghost invariant = { λ r. (may_carry r.status r.payload.items ≡ true) × (length r.payload.items < BODY_LIMIT) };
 }
 
 impl ReplyBody {
-    /// A status with nothing behind it.
+    /// A status with nothing after it.
     pub(crate) fn bare(alloc: Global, status: Status) -> ReplyBody
         ensures { result ≡ bare status }
     {
@@ -42,7 +44,7 @@ impl ReplyBody {
 
     /// `Ok`, with what comes with it.
     pub(crate) fn ok(payload: Vec<u8>) -> ReplyBody
-        requires { length payload.items < 2097152 }
+        requires { length payload.items < BODY_LIMIT }
         ensures { result ≡ ok payload.items }
     {
         ReplyBody {

@@ -6,6 +6,7 @@ ghost use Rattle.crossbeam_queue.specs.Passes.{IsPassOf, ruled_capacity};
 ghost use Rattle.consistency_server.specs.History.{log_of};
 ghost use Rattle.server_workers.specs.Hands.{hand, hand_of};
 ghost use Rattle.server_workers.specs.Flushing.{IsFlushed};
+ghost use Rattle.server_workers.specs.declared.call_queue.TheConstants.{QUEUE_ROOM};
 
 use crate::call_queue::{CallPass, CallQueue, ServerName};
 use crate::connection::Connection;
@@ -181,7 +182,7 @@ fn serve_in<
     writer: W,
 ) -> Result<Served<W>, Memory>
     requires can { I.can_next connections × IsFinite (I.remaining connections) }
-    requires queue { IsPassOf queue.now pass × (pass.table_id ≡ B.queue) × (ruled_capacity queue.now ≡ 1024) }
+    requires queue { IsPassOf queue.now pass × (pass.table_id ≡ B.queue) × (ruled_capacity queue.now ≡ QUEUE_ROOM) }
     requires first { hand_of pass ≡ hand true true [] [] }
     requires server { (W.contents writer ≡ B.before) × (pinned ≡ B.pinned) }
     requires name { blank.name ≡ L.name }

@@ -7,6 +7,7 @@ ghost use Rattle.consistency_server.specs.History.{call_of};
 ghost use Rattle.server_workers.specs.Counting.{count_of};
 ghost use Rattle.server_workers.specs.Hands.{hand, hand_of};
 ghost use Rattle.server_workers.specs.Conversation.{RepliesToCall, RepliesToPut, RepliesToGet, RepliesToBody, count_in};
+ghost use Rattle.server_workers.specs.declared.call_queue.TheConstants.{QUEUE_ROOM};
 
 use crate::call_queue::{CallPass, CallQueue, Roles, ServerName};
 use crate::gate::Gate;
@@ -45,7 +46,7 @@ impl<'a, B: ServerName, L: Ledger, R: Wait> Shared<'a, B, L, R> {
         store: &'a Store<Global>,
         pinned: PublicKey,
     ) -> (Shared<'a, B, L, R>, Tally<L>, CallPass)
-        requires queue { IsPassOf queue.now pass × (pass.table_id ≡ B.queue) × (ruled_capacity queue.now ≡ 1024) }
+        requires queue { IsPassOf queue.now pass × (pass.table_id ≡ B.queue) × (ruled_capacity queue.now ≡ QUEUE_ROOM) }
         requires first { hand_of pass ≡ hand true true [] [] }
         requires key { pinned ≡ B.pinned }
         requires name { blank.name ≡ L.name }

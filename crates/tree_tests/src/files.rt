@@ -2,7 +2,7 @@
 
 use crate::changes::plan_action;
 use crate::here::Here;
-use crate::world::{World, asked_for_so_many, has_lost, new_world, operate, see};
+use crate::world::{World, asked_for_so_many, has_lost, look_through, new_world, operate};
 use client_aids::changes::{Planned, lay, nothing};
 use client_verify::Look;
 use std::alloc::Global;
@@ -90,7 +90,7 @@ fn is_file(rt: &impl Host, seen: &Look<Global>, size: usize) {
 
 /// The file of a case stands at its i-number. A look at it asks for nothing, since the client laid it out.
 fn stands(rt: &impl Host, world: &mut World, case: Case) {
-    let seen = see(rt, world, case.number);
+    let seen = look_through(rt, world, case.number);
     is_file(rt, &seen, case.size);
     let_go(seen);
     asked_for_so_many(rt, world, 0);
@@ -117,7 +117,7 @@ fn files_of_each_size(rt: HostRuntime) {
     let mut world = new_world(&rt, false);
     makes_each(&rt, &mut world);
     stands_each(&rt, &mut world);
-    let none = see(&rt, &mut world, 5);
+    let none = look_through(&rt, &mut world, 5);
     check(&rt, matches!(none, Look::None), "nothing at 0:5");
     let_go(none);
     let_go(world);

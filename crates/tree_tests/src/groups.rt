@@ -3,7 +3,7 @@
 //! it.
 
 use crate::here::Here;
-use crate::world::{World, has_lost, new_world, operate, see_of};
+use crate::world::{World, has_lost, look_through_of, new_world, operate};
 use client_aids::changes::{Planned, lay, nothing, plan_change};
 use client_aids::clients::first_key;
 use client_verify::Look;
@@ -139,7 +139,7 @@ fn has_records(rt: &impl Host, world: &World, size: usize, records: &[u8]) {
 
 /// The file at an i-number of a principal.
 fn file_at(rt: &impl Host, world: &mut World, owner: u8, number: u16) -> Vec<u8> {
-    match see_of(rt, world, owner, number) {
+    match look_through_of(rt, world, owner, number) {
         Look::File(bytes) => bytes,
         _ => panic!(rt; "no file at {owner}:{number}"),
     }

@@ -5,8 +5,8 @@
 use crate::changes::{Deed, of_deeds};
 use crate::here::Here;
 use crate::world::{
-    World, asked_for, begin, finish, hand_each, has_lost, look_at, new_world, operate, see,
-    sees_file,
+    World, asked_for, begin, finish, hand_each, has_lost, look_at, look_through, new_world,
+    operate, sees_file,
 };
 use client_aids::clients::breaks;
 use client_verify::{Look, Rule};
@@ -26,7 +26,7 @@ enum Seen {
 }
 
 /// What is seen at an i-number, and the blocks that the look asks for.
-struct Sight {
+struct LookedAt {
     number: u16,
     seen: Seen,
     asked: &'static [&'static [u8]],
@@ -42,7 +42,7 @@ struct Operation {
     lost: &'static [u8],
     /// That of the own i-table after it.
     handle: [u8; 32],
-    sights: &'static [Sight],
+    looks: &'static [LookedAt],
 }
 
 /// Makes a file, and links it in the root directory.
@@ -101,13 +101,13 @@ static FOUR: [Operation; 4] = [
         stored: &[OF_F, OF_F_INODE, CHUNK, ROOT],
         lost: &[],
         handle: HANDLE,
-        sights: &[
-            Sight {
+        looks: &[
+            LookedAt {
                 number: 3,
                 seen: Seen::File(b"hello"),
                 asked: &[],
             },
-            Sight {
+            LookedAt {
                 number: 2,
                 seen: Seen::DirectoryOfF,
                 asked: &[],
@@ -120,13 +120,13 @@ static FOUR: [Operation; 4] = [
         stored: &[NEXT_CHUNK, NEXT_ROOT],
         lost: &[1, 3, 4],
         handle: NEXT_HANDLE,
-        sights: &[
-            Sight {
+        looks: &[
+            LookedAt {
                 number: 3,
                 seen: Seen::File(b"y"),
                 asked: &[],
             },
-            Sight {
+            LookedAt {
                 number: 2,
                 seen: Seen::DirectoryOfF,
                 asked: &[],
@@ -140,7 +140,7 @@ static FOUR: [Operation; 4] = [
         stored: &[],
         lost: &[],
         handle: NEXT_HANDLE,
-        sights: &[],
+        looks: &[],
     },
     // The directory is changed, and is as before, after the changes: nothing has to be stored.
     Operation {
@@ -149,7 +149,7 @@ static FOUR: [Operation; 4] = [
         stored: &[],
         lost: &[],
         handle: NEXT_HANDLE,
-        sights: &[Sight {
+        looks: &[LookedAt {
             number: 2,
             seen: Seen::DirectoryOfF,
             asked: &[],
@@ -206,7 +206,7 @@ static MADE_AND_REMOVED: [Operation; 2] = [
         handle: *b"\
         \xd0\xf9\x28\xf4\x58\x61\x8f\x5c\x29\x77\x3b\xd0\xa3\x0d\xcf\x4a\
         \xa0\x57\x7e\x81\x10\x23\x00\x8f\x5a\xad\xc6\x7f\xdd\x76\x6a\x6f",
-        sights: &[],
+        looks: &[],
     },
     // The directory is removed once it is empty, and isn't stored.
     Operation {
@@ -220,13 +220,13 @@ static MADE_AND_REMOVED: [Operation; 2] = [
         stored: &[FIRST_CHUNK, FIRST_ROOT],
         lost: &[1],
         handle: FIRST_HANDLE,
-        sights: &[
-            Sight {
+        looks: &[
+            LookedAt {
                 number: 3,
                 seen: Seen::Nothing,
                 asked: &[],
             },
-            Sight {
+            LookedAt {
                 number: 4,
                 seen: Seen::Nothing,
                 asked: &[],
@@ -261,16 +261,16 @@ fn is_directory_of_f(rt: &impl Host, directory: &Directory<Global>) {
 }
 
 /// A look sees this, and asks for these blocks.
-fn is_seen(rt: &impl Host, world: &mut World, sight: &Sight) {
-    let seen = see(rt, world, sight.number);
-    match (&seen, sight.seen) {
+fn is_seen(rt: &impl Host, world: &mut World, look: &LookedAt) {
+    let seen = look_through(rt, world, look.number);
+    match (&seen, look.seen) {
         (Look::File(found), Seen::File(file)) => check_text(rt, found, file),
         (Look::Dir(found), Seen::DirectoryOfF) => is_directory_of_f(rt, found),
         (Look::None, Seen::Nothing) => {}
-        _ => panic!(rt; "something else at 0:{}", sight.number),
+        _ => panic!(rt; "something else at 0:{}", look.number),
     }
     let_go(seen);
-    asked_for(rt, world, sight.asked);
+    asked_for(rt, world, look.asked);
 }
 
 /// What is told once an operation is accepted.
@@ -279,8 +279,8 @@ fn is_accepted(rt: &impl Host, world: &mut World, operation: &Operation, texts: 
     are_texts(rt, texts, operation.stored);
     has_handle(rt, world, &operation.handle);
     has_lost(rt, world, operation.lost);
-    for sight in operation.sights {
-        is_seen(rt, world, sight);
+    for look in operation.looks {
+        is_seen(rt, world, look);
     }
 }
 
@@ -315,7 +315,7 @@ static UNSEEN: Operation = Operation {
     stored: &[NEXT_CHUNK, NEXT_ROOT],
     lost: &[1, 3, 4],
     handle: NEXT_HANDLE,
-    sights: &[Sight {
+    looks: &[LookedAt {
         number: 3,
         seen: Seen::File(b"y"),
         asked: &[],

@@ -190,7 +190,12 @@ fn give(rt: &impl Host, world: &mut World, digest: Digest) -> Look<Global> {
 }
 
 /// What stands at an i-number of a principal.
-pub(crate) fn see_of(rt: &impl Host, world: &mut World, owner: u8, number: u16) -> Look<Global> {
+pub(crate) fn look_through_of(
+    rt: &impl Host,
+    world: &mut World,
+    owner: u8,
+    number: u16,
+) -> Look<Global> {
     let mut look = look_of(rt, world, owner, number);
     for _ in 0..BOUND {
         match look {
@@ -206,13 +211,13 @@ pub(crate) fn see_of(rt: &impl Host, world: &mut World, owner: u8, number: u16) 
 }
 
 /// What stands at an i-number of user 0's.
-pub(crate) fn see(rt: &impl Host, world: &mut World, number: u16) -> Look<Global> {
-    see_of(rt, world, 0, number)
+pub(crate) fn look_through(rt: &impl Host, world: &mut World, number: u16) -> Look<Global> {
+    look_through_of(rt, world, 0, number)
 }
 
 /// A file of these bytes stands at an i-number of user 0's.
 pub(crate) fn sees_file(rt: &impl Host, world: &mut World, number: u16, bytes: &[u8]) {
-    let seen = see(rt, world, number);
+    let seen = look_through(rt, world, number);
     let Look::File(file) = &seen else {
         panic!(rt; "no file");
     };

@@ -158,7 +158,12 @@ fn reply_beside(rt: &impl Host, scene: &Scene, handles: &[[u8; 32]; 3], update: 
 }
 
 /// What stands at i-number 5 of a principal.
-fn see(rt: &impl Host, client: &mut MemoryClient, store: &Held<Global>, owner: u8) -> Look<Global> {
+fn look_through(
+    rt: &impl Host,
+    client: &mut MemoryClient,
+    store: &Held<Global>,
+    owner: u8,
+) -> Look<Global> {
     assert!(rt; client.has_view());
     let look = client.look(principal(rt, owner), i_number(rt, 5));
     let mut look = look.expect(rt, "memory");
@@ -189,17 +194,17 @@ fn handles_of(rt: &impl Host, scene: &mut Scene) -> [[u8; 32]; 3] {
 
 /// What the looks see.
 fn sees_each(rt: &impl Host, client: &mut MemoryClient, store: &Held<Global>) {
-    let seen = see(rt, client, store, 2);
+    let seen = look_through(rt, client, store, 2);
     check(
         rt,
         matches!(seen, Look::Broken(Rule::Content)),
         "another's root",
     );
     let_go(seen);
-    let seen = see(rt, client, store, 3);
+    let seen = look_through(rt, client, store, 3);
     check(rt, matches!(seen, Look::Broken(Rule::Block)), "no root");
     let_go(seen);
-    let seen = see(rt, client, store, 64);
+    let seen = look_through(rt, client, store, 64);
     match &seen {
         Look::File(bytes) => check_text(rt, bytes, HELLO),
         _ => panic!(rt; "no file"),

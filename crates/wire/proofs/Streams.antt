@@ -103,12 +103,12 @@ fault_by bytes fits (Err fault) is e =
 pub range_is_fault : (bytes : List ℕ) → IsBytes bytes → frame.read bytes ≡ Err Range → BeginsAtFault bytes
 range_is_fault bytes fits e = fault_by bytes fits ((uint w32).read bytes) refl e
 
--- what is behind the front of the end of a list
-pub end_behind : (from : ℕ) (xs front rest : List ℕ) → drop from xs ≡ front ++ rest → length rest ≤ length xs
-end_behind from xs front rest is = omega (arith, length-drop from xs, ap length is, length-append front rest)
+-- what is after the front of the end of a list
+pub end_after : (from : ℕ) (xs front rest : List ℕ) → drop from xs ≡ front ++ rest → length rest ≤ length xs
+end_after from xs front rest is = omega (arith, length-drop from xs, ap length is, length-append front rest)
 
-pub drop_behind : (from : ℕ) (xs front rest : List ℕ) → from ≤ length xs → drop from xs ≡ front ++ rest → drop (length xs - length rest) xs ≡ rest
-drop_behind from xs front rest within is =
+pub drop_after : (from : ℕ) (xs front rest : List ℕ) → from ≤ length xs → drop from xs ≡ front ++ rest → drop (length xs - length rest) xs ≡ rest
+drop_after from xs front rest within is =
     let size : length xs - length rest ≡ from + length front = omega (arith, length-drop from xs, ap length is, length-append front rest) in
     ap (λ n. drop n xs) size ∙ sym (drop-drop (length front) from xs) ∙ ap (drop (length front)) is ∙ drop_at front rest (length front) refl
 

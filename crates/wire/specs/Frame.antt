@@ -3,6 +3,7 @@
 -- The bytes stand in docs/FORMATS.md.
 use Rattle.std.specs.Prelude.{ℕ, Bool, ◌||◌, List, [], ◌∷◌, length, Option, Some, None, option_map, option_and_then, ◌==◌, if◌then◌else◌}
 use Rattle.std.specs.Int.{w32}
+use Rattle.layout.specs.Types.{Bytes}
 use Rattle.layout.specs.Format.{Format, uint_in, string}
 use Rattle.wire.specs.declared.kinds.RequestKind.{RequestKind}
 use Rattle.wire.specs.declared.kinds.RequestKind.TheVariants.{Update, Commit, Put, Get}
@@ -10,7 +11,7 @@ use Rattle.wire.specs.declared.kinds.Status.{Status}
 use Rattle.wire.specs.declared.kinds.Status.TheVariants.{Ok, Form, UnknownUser, BadSignature, WrongNumber, NotPending, Busy, TooLarge, Absent, Memory}
 
 -- a body after its length
-abbrev pub frame : Format (List ℕ)
+abbrev pub frame : Format Bytes
 frame = string (uint_in w32 1 2097152)
 
 abbrev pub number_of_kind : RequestKind → ℕ
@@ -54,22 +55,22 @@ status_of n =
     else None
 
 -- the body of a request
-abbrev pub request : RequestKind → List ℕ → List ℕ
+abbrev pub request : RequestKind → Bytes → Bytes
 request kind payload = number_of_kind kind ∷ payload
 
 -- the body of a reply
-abbrev pub reply_body : Status → List ℕ → List ℕ
+abbrev pub reply_body : Status → Bytes → Bytes
 reply_body status payload = number_of_status status ∷ payload
 
-abbrev pub request_of : List ℕ → Option (RequestKind × List ℕ)
+abbrev pub request_of : Bytes → Option (RequestKind × Bytes)
 request_of [] = None
 request_of (n ∷ payload) = option_map (λ kind. (kind, payload)) (kind_of n)
 
 -- only status 0 has a payload
-abbrev pub may_carry : Status → List ℕ → Bool
+abbrev pub may_carry : Status → Bytes → Bool
 may_carry status payload = (number_of_status status == 0) || (length payload == 0)
 
-abbrev pub reply_of : List ℕ → Option (Status × List ℕ)
+abbrev pub reply_of : Bytes → Option (Status × Bytes)
 reply_of [] = None
 reply_of (n ∷ payload) =
     option_and_then (λ status. if may_carry status payload then Some (status, payload) else None) (status_of n)

@@ -13,7 +13,7 @@ use std::alloc::Allocator;
 pub const BODY_LIMIT: u32 = 2_097_152;
 
 fn framed<A: Allocator>(alloc: A, head: u8, payload: &[u8]) -> Result<Vec<u8, A>, Memory>
-    requires { length payload.now < 2097152 }
+    requires { length payload.now < BODY_LIMIT }
     ensures { IfOk result (λ bytes. bytes.items ≡ frame.spell (head ∷ payload.now)) }
 {
     let mut writer = Writer::new(alloc);
@@ -30,7 +30,7 @@ pub fn request_frame<A: Allocator>(
     kind: RequestKind,
     payload: &[u8],
 ) -> Result<Vec<u8, A>, Memory>
-    requires { length payload.now < 2097152 }
+    requires { length payload.now < BODY_LIMIT }
     ensures frame { IfOk result (λ bytes. bytes.items ≡ frame.spell (request kind payload.now)) }
     // What is framed is read back.
     ensures body { IfOk result (λ bytes. whole frame bytes.items ≡ Ok (request kind payload.now)) }
@@ -46,7 +46,7 @@ pub fn reply_frame<A: Allocator>(
     status: Status,
     payload: &[u8],
 ) -> Result<Vec<u8, A>, Memory>
-    requires small { length payload.now < 2097152 }
+    requires small { length payload.now < BODY_LIMIT }
     // Only status 0 has a payload.
     requires carried { may_carry status payload.now ≡ true }
     ensures frame { IfOk result (λ bytes. bytes.items ≡ frame.spell (reply_body status payload.now)) }

@@ -105,7 +105,7 @@ impl<A: Allocator> Frames<A> {
         &self.bytes[self.handed_out..]
     }
 
-    /// The body of the frame that begins what waits, and what waits behind it, if it is whole.
+    /// The body of the frame that begins what waits, and what waits after it, if it is whole.
     fn next_body(&self) -> Result<Option<(&[u8], &[u8])>, FrameError>
         ensures frame { IfOk result (λ next. IfSome next (λ x. IsFrameThen x.0.now x.1.now self.now)) }
         ensures none { IfOk result (λ next. IfNone next (¬ BeginsFrame self.now × ¬ BeginsAtFault self.now)) }
@@ -136,9 +136,9 @@ impl<A: Allocator + Copy> Frames<A> {
     {
         let alloc = *self.bytes.allocator();
         match self.next_body()? {
-            Some((body, behind)) => {
+            Some((body, after)) => {
                 let body = Vec::from_slice(alloc, body)?;
-                let waiting = behind.len();
+                let waiting = after.len();
                 self.handed_out = self.bytes.len() - waiting;
                 Ok(Some(body))
             }

@@ -1,5 +1,5 @@
 use Rattle.std.proofs.Common.{◌≡◌, Some, None, refl, rules}
-use Rattle.client_verify.specs.declared.growing.Reached.TheVariants as reached
+use Rattle.client_verify.specs.declared.outcome.Reached.TheVariants as reached
 use Rattle.client_verify.specs.Good.{Good}
 use Rattle.client_verify.specs.FirstBroken.{reply_breaks, reply_in}
 use Rattle.client_verify.specs.State.{known}
@@ -11,9 +11,9 @@ go-requires-clause-written g c =
     let old = c.args.self.now in
     let r = c.in-Ok.reply in
     let by : c.known-known.result ≡ known old = search rules in
-    let t = c.in-Goes.table in
-    let reaches = reached_there _ old _ r c.in_ok-rule.field-0 (reached.Goes t c.in-Goes.written) c.self.view_is by c.in-Goes.is c.in_ok-rule.ensures in
-    good_written old.blocks old.pinned r (record { lists = c.into_lists-lists.result; table = t.table; void = t.voids }) c.in-Goes.written c.into_lists-lists.ensures reaches
+    let t = c.in-BreaksNone.table in
+    let reaches = reached_there _ old _ r c.in_ok-rule.field-0 (reached.BreaksNone t c.in-BreaksNone.written) c.self.view_is by c.in-BreaksNone.is c.in_ok-rule.ensures in
+    good_written old.blocks old.pinned r (record { lists = c.into_lists-lists.result; table = t.table; void = t.voids }) c.in-BreaksNone.written c.into_lists-lists.ensures reaches
 
 pub returns-in-Breaks-clause-judged : goal.returns-in-Breaks-clause-judged
 returns-in-Breaks-clause-judged g c =
@@ -35,17 +35,17 @@ returns-in-Lacks-clause-judged g c =
     let lacks = reached_there _ old _ r c.in_ok-rule.field-0 (reached.Lacks c.in-Lacks.asked) c.self.view_is by c.in-Lacks.is c.in_ok-rule.ensures in
     judged_of old c.ask.new.self c.args.text.now r c.ask.result none read (taken_lacks _ old c.ask.new.self r c.in-Lacks.asked c.ask.result c.ask.ensures.step c.ask.ensures.state lacks)
 
-pub returns-in-Goes-clause-judged : goal.returns-in-Goes-clause-judged
-returns-in-Goes-clause-judged g c =
+pub returns-in-BreaksNone-clause-judged : goal.returns-in-BreaksNone-clause-judged
+returns-in-BreaksNone-clause-judged g c =
     let old = c.args.self.now in
     let r = c.in-Ok.reply in
     let by : c.known-known.result ≡ known old = search rules in
-    let t = c.in-Goes.table in
+    let t = c.in-BreaksNone.table in
     let none = c.is_replied.ensures.unbroken in
     let read = c.is_replied.ensures.read in
-    let reaches = reached_there _ old _ r c.in_ok-rule.field-0 (reached.Goes t c.in-Goes.written) c.self.view_is by c.in-Goes.is c.in_ok-rule.ensures in
+    let reaches = reached_there _ old _ r c.in_ok-rule.field-0 (reached.BreaksNone t c.in-BreaksNone.written) c.self.view_is by c.in-BreaksNone.is c.in_ok-rule.ensures in
     let good : Good = record { lists = c.into_lists-lists.result; table = t.table; void = t.voids } in
-    judged_of old c.go.new.self c.args.text.now r c.go.result none read (taken_good old c.go.new.self r good c.in-Goes.written c.go.result c.into_lists-lists.ensures reaches c.go.ensures)
+    judged_of old c.go.new.self c.args.text.now r c.go.result none read (taken_good old c.go.new.self r good c.in-BreaksNone.written c.go.result c.into_lists-lists.ensures reaches c.go.ensures)
 
 pub go-requires-clause-own : goal.go-requires-clause-own
 go-requires-clause-own g c = at_one _ c.into_lists-lists.result _ c.into_lists-lists.ensures c.is_replied.ensures.own

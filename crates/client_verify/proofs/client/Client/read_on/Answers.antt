@@ -2,7 +2,7 @@ use Rattle.std.proofs.Common.{◌≡◌, Some, refl, sym, ap, ◌∙◌, rules}
 use Rattle.pending_list.specs.Reply.{Reply}
 use Rattle.reply_rules.specs.Lists.{lists_of}
 use Rattle.client_tree.specs.Held.{keeping}
-use Rattle.client_verify.specs.declared.growing.Reached.TheVariants as reached
+use Rattle.client_verify.specs.declared.outcome.Reached.TheVariants as reached
 use Rattle.client_verify.specs.Good.{Good}
 use Rattle.client_verify.specs.State.{Reading, checked_in, holding}
 use Rattle.client_verify.proofs.Steps.{goes_from, if_some}
@@ -32,23 +32,23 @@ returns-in-Lacks g c =
       err = tt;
     }
 
-pub returns-in-Goes : goal.returns-in-Goes
-returns-in-Goes g c =
+pub returns-in-BreaksNone : goal.returns-in-BreaksNone
+returns-in-BreaksNone g c =
     let old = c.args.self.now in
     let text = c.args.text.now in
     let k = c.in-Some.checked in
     let s = c.in-Reading.reply in
     let b = c.in-Reading.field-1 in
-    let t = c.in-Goes.table in
+    let t = c.in-BreaksNone.table in
     let there : old.checked ≡ Some k = search rules in
     let kept : c.keep_as.new.self ≡ keeping old.blocks text = search rules in
     let is : Reading s b ≡ k = sym (ap checked_in c.in-Reading.is) ∙ c.checked.view_is in
-    let reaches = reached_taken old text k s b c.in_ok-reached.reached (reached.Goes t c.in-Goes.written) is c.in-Goes.is (if_at old.checked k _ there c.in_ok-reached.ensures) in
+    let reaches = reached_taken old text k s b c.in_ok-reached.reached (reached.BreaksNone t c.in-BreaksNone.written) is c.in-BreaksNone.is (if_at old.checked k _ there c.in_ok-reached.ensures) in
     let lists : lists_of s ≡ Some c.into_lists-lists.result = ap lists_of (sym c.in-Reading.reply-is) ∙ c.into_lists-lists.ensures in
     let good : Good = record { lists = c.into_lists-lists.result; table = t.table; void = t.voids } in
     let goes = goes_from _ old c.take.new.self c.keep_as.new.self text good good c.go.result c.go.new.self c.self.view_is kept refl c.go.ensures in
     record {
-      goes = if_some old.checked k _ there (reads_taken old c.go.new.self k text s b c.go.result is (taken_good (holding old text) c.go.new.self s good c.in-Goes.written c.go.result lists reaches goes));
+      goes = if_some old.checked k _ there (reads_taken old c.go.new.self k text s b c.go.result is (taken_good (holding old text) c.go.new.self s good c.in-BreaksNone.written c.go.result lists reaches goes));
       only_memory = tt;
       err = tt;
     }

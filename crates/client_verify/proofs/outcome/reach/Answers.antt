@@ -3,9 +3,9 @@ use Rattle.std.specs.Prelude.{IsSomeAnd}
 use Rattle.layout.specs.Types.{Key}
 use Rattle.reply_rules.specs.Lists.{lists_of}
 use Rattle.client_verify.specs.FirstBroken.{view_over}
-use Rattle.client_verify.specs.Grown.{IsWritten}
+use Rattle.client_verify.specs.Outcomes.{IsWritten}
 use Rattle.client_verify.proofs.Reaching.{reply_breaks, reply_goes, reply_lacks}
-use Rattle.client_verify.proofs.growing.reach.Goals as goal
+use Rattle.client_verify.proofs.outcome.reach.Goals as goal
 
 pub returns-in-Err : goal.returns-in-Err
 returns-in-Err g c =

@@ -3,9 +3,9 @@ use Rattle.std.specs.List.{All, flat_map}
 use Rattle.std.specs.Vec.{vec_items}
 use Rattle.std.specs.Vec.Iter.{into_iter_items, into_iter_len}
 use Rattle.client_tree.specs.Tree.{Stored}
-use Rattle.client_verify.specs.Grown.{IsRaisedIn}
+use Rattle.client_verify.specs.Outcomes.{IsRaisedIn}
 use Rattle.client_verify.specs.Judged.{record_over}
-use Rattle.client_verify.proofs.growing.gather.Given as goal
+use Rattle.client_verify.proofs.outcome.gather.Given as goal
 
 abbrev pub invariant-loop-group : goal.invariant-loop-group
 invariant-loop-group g l = record {

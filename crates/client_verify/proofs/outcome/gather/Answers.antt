@@ -6,10 +6,10 @@ use Rattle.std.specs.Vec.{vec_items}
 use Rattle.std.specs.Vec.Iter.{into_iter_items}
 use Rattle.version_order.specs.declared.structure.GroupRecord.{GroupRecord}
 use Rattle.client_tree.specs.Tree.{Stored}
-use Rattle.client_verify.specs.Grown.{IsRaisedIn}
+use Rattle.client_verify.specs.Outcomes.{IsRaisedIn}
 use Rattle.client_verify.specs.Judged.{record_over}
-use Rattle.client_verify.proofs.GrowingLaws.{records_next, texts_next}
-use Rattle.client_verify.proofs.growing.gather.Goals as goal
+use Rattle.client_verify.proofs.OutcomeLaws.{records_next, texts_next}
+use Rattle.client_verify.proofs.outcome.gather.Goals as goal
 
 pub loop-group-preserved : goal.loop-group-preserved
 loop-group-preserved g c =

@@ -1,6 +1,6 @@
 use Rattle.reply_rules.specs.Lists.{lists_of}
 use Rattle.client_verify.proofs.Reaching.{reply_counts, reply_written}
-use Rattle.client_verify.proofs.growing.write_reply.Goals as goal
+use Rattle.client_verify.proofs.outcome.write_reply.Goals as goal
 
 pub write_in-requires-clause-raised : goal.write_in-requires-clause-raised
 write_in-requires-clause-raised g c =

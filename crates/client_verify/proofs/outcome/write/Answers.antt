@@ -1,5 +1,5 @@
 use Rattle.client_verify.proofs.Reaching.{counts_seen, good_written}
-use Rattle.client_verify.proofs.growing.write.Goals as goal
+use Rattle.client_verify.proofs.outcome.write.Goals as goal
 
 pub write_in-requires-clause-raised : goal.write_in-requires-clause-raised
 write_in-requires-clause-raised g c =

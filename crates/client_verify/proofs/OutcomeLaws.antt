@@ -21,7 +21,7 @@ use Rattle.client_tree.specs.View.{View, written}
 use Rattle.client_tree.specs.Tree.{IsOutcome, Stored}
 use Rattle.update_cert.specs.Blocks.{Blocks}
 use Rattle.client_verify.specs.FirstBroken.{certificates, lists_break, signatures, view_over}
-use Rattle.client_verify.specs.Grown.{CountsRaised, IsRaisedIn}
+use Rattle.client_verify.specs.Outcomes.{CountsRaised, IsRaisedIn}
 
 -- ---- the rules hold
 

@@ -23,13 +23,13 @@ use Rattle.client_tree.specs.Seen.{content_seen}
 use Rattle.client_tree.specs.declared.contents.Seen.{Seen}
 use Rattle.client_verify.specs.declared.look.Look.{Look}
 use Rattle.client_verify.specs.declared.look.Look.TheVariants as look
-use Rattle.client_verify.specs.declared.growing.Written.{Written}
-use Rattle.client_verify.specs.declared.growing.Written.TheVariants as written
-use Rattle.client_verify.specs.declared.growing.Made.{Made}
-use Rattle.client_verify.specs.declared.growing.Reached.{Reached}
-use Rattle.client_verify.specs.declared.growing.Reached.TheVariants as reached
-use Rattle.client_verify.specs.declared.growing.Shown.{Shown}
-use Rattle.client_verify.specs.declared.growing.Shown.TheVariants as answer
+use Rattle.client_verify.specs.declared.outcome.Written.{Written}
+use Rattle.client_verify.specs.declared.outcome.Written.TheVariants as written
+use Rattle.client_verify.specs.declared.outcome.Made.{Made}
+use Rattle.client_verify.specs.declared.outcome.Reached.{Reached}
+use Rattle.client_verify.specs.declared.outcome.Reached.TheVariants as reached
+use Rattle.client_verify.specs.declared.outcome.Shown.{Shown}
+use Rattle.client_verify.specs.declared.outcome.Shown.TheVariants as answer
 
 -- a group's part, where the plan has a version of the group
 abbrev pub IsRaisedIn : Plan → Stored → Type 0
@@ -52,7 +52,7 @@ IsWritten blocks x void (written.Parts m) =
 abbrev pub IsReached : {A : Type 0} → Blocks → Key → Lists → Reached A → Type 0
 IsReached blocks key x (reached.Lacks a) = IsOfNamed blocks (handle_in key x.structures 0) a.digest a.spot × (lacks blocks a.digest a.spot ≡ true)
 IsReached blocks key x (reached.Breaks rule) = ByTable blocks key x (Some rule)
-IsReached blocks key x (reached.Goes t w) = IsRead blocks key x t.table t.voids × (lists_break t.table x ≡ None) × IsWritten blocks (view_over key t.table x) t.voids w
+IsReached blocks key x (reached.BreaksNone t w) = IsRead blocks key x t.table t.voids × (lists_break t.table x ≡ None) × IsWritten blocks (view_over key t.table x) t.voids w
 
 abbrev pub IsAnswer : {A : Type 0} → Blocks → View → Principal → INumber → Shown A → Type 0
 IsAnswer blocks x p i (answer.Lacks a) = IsLooked blocks x p i a.digest a.spot × (lacks blocks a.digest a.spot ≡ true)

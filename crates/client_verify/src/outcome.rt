@@ -9,7 +9,7 @@ ghost use Rattle.client_tree.specs.Held.{held, keeping};
 ghost use Rattle.version_order.specs.Vector.{version_of};
 ghost use Rattle.client_verify.specs.FirstBroken.{lists_break, view_over};
 ghost use Rattle.client_verify.specs.Judged.{record_over, view_of};
-ghost use Rattle.client_verify.specs.Grown.{CountsRaised, IsAnswer, IsMade, IsRaisedIn, IsReached, IsWritten};
+ghost use Rattle.client_verify.specs.Outcomes.{CountsRaised, IsAnswer, IsMade, IsRaisedIn, IsReached, IsWritten};
 
 use crate::asked::Asked;
 use crate::by_table::lists_broken;
@@ -54,7 +54,7 @@ pub(crate) enum Reached<A: Allocator> {
     /// The lists break this rule by the table.
     Breaks(Rule),
     /// They break none by this table.
-    Goes(PendingTable<A>, Written<A>),
+    BreaksNone(PendingTable<A>, Written<A>),
 }
 
 /// What stands at an i-number, or the block that is wanted to tell it.
@@ -203,7 +203,7 @@ pub(crate) fn reach<A: Allocator + Copy, B: Blocks>(
         return Ok(Reached::Breaks(rule));
     }
     let written = write_reply(alloc, pinned, &table, reply, blocks)?;
-    Ok(Reached::Goes(table, written))
+    Ok(Reached::BreaksNone(table, written))
 }
 
 /// What stands at an i-number of a principal in the tree of a view.

@@ -1,10 +1,10 @@
 use Rattle.std.proofs.Common.{◌<◌, ◌∷◌, length, sym, subst}
 use Rattle.version_order.specs.Plan.{Plan}
 use Rattle.client_tree.specs.Tree.{IsLost, IsOutcome}
-use Rattle.client_verify.specs.Grown.{IsMade}
-use Rattle.client_verify.proofs.GrowingLaws.{raised_parts, some_part}
+use Rattle.client_verify.specs.Outcomes.{IsMade}
+use Rattle.client_verify.proofs.OutcomeLaws.{raised_parts, some_part}
 use Rattle.client_verify.proofs.Reaching.{first_before, some_length}
-use Rattle.client_verify.proofs.growing.write_in.Goals as goal
+use Rattle.client_verify.proofs.outcome.write_in.Goals as goal
 
 pub gather-requires : goal.gather-requires
 gather-requires g c =

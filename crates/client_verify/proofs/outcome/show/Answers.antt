@@ -2,9 +2,9 @@ use Rattle.std.proofs.Common.{◌≡◌, ap, subst, ◌∙◌}
 use Rattle.std.specs.Prelude.{IfOk}
 use Rattle.layout.specs.Types.{Key}
 use Rattle.client_tree.specs.View.{View}
-use Rattle.client_verify.specs.Grown.{IsAnswer}
+use Rattle.client_verify.specs.Outcomes.{IsAnswer}
 use Rattle.client_verify.specs.FirstBroken.{view_over}
-use Rattle.client_verify.proofs.growing.show.Goals as goal
+use Rattle.client_verify.proofs.outcome.show.Goals as goal
 
 pub returns : goal.returns
 returns g c =
