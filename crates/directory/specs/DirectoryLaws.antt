@@ -7,6 +7,7 @@ use Rattle.std.specs.Int.{w8, w16}
 use Rattle.layout.specs.Format.{be, after_row, spell_rows, Lawful}
 use Rattle.layout.specs.Laws.{laws, wide8, wide16}
 use Rattle.layout.specs.Sizes.{AtMost, at_most_headed, at_most_guarded, at_most_listed, at_most_mapped, at_most_pair, at_most_string, at_most_uint_in}
+use Rattle.directory.specs.declared.directory.TheConstants.{DIRECTORY_SIZE}
 use Rattle.directory.specs.Name.{name}
 use Rattle.directory.specs.NameLaws.{lawful_name}
 use Rattle.directory.specs.Directory.{Entry, target, named, entry, directory}
@@ -38,11 +39,11 @@ at_most_named = at_most_mapped _ _ _ 259 (at_most_pair _ _ 256 3 at_most_name at
 at_most_entry : (before : Option Entry) → AtMost (entry before) 259
 at_most_entry before = at_most_mapped _ _ _ 259 (at_most_pair _ _ 256 3 (at_most_guarded _ _ _ 256 at_most_name) at_most_target)
 
-at_most_directory : AtMost directory 265222
+at_most_directory : AtMost directory DIRECTORY_SIZE
 at_most_directory = at_most_headed (codes "SDI1") _ 265218 (at_most_listed w16 0 1024 entry 259 wide16 at_most_entry)
 
--- a text of a directory has 6 to 265,222 bytes
-pub size_of : (entries : List Entry) → directory.Fits entries → (6 ≤ length (directory.spell entries)) × (length (directory.spell entries) ≤ 265222)
+-- a text of a directory has 6 bytes or more, and no more than this
+pub size_of : (entries : List Entry) → directory.Fits entries → (6 ≤ length (directory.spell entries)) × (length (directory.spell entries) ≤ DIRECTORY_SIZE)
 unfolding be
 size_of entries fits =
     (omega (arith, length-append (codes "SDI1") (be w16 (length entries) ++ spell_rows (after_row entry) None entries), length-append (be w16 (length entries)) (spell_rows (after_row entry) None entries), wide16.len (length entries)), at_most_directory.holds entries fits)

@@ -15,6 +15,13 @@ use layout::{Memory, ReadError, Reader, Text, Writer, read_rows, write_rows};
 use std::alloc::Allocator;
 use std::marker::Model;
 
+/// How many entries a directory has at most.
+pub const MOST_ENTRIES: usize = 1024;
+
+/// How many bytes the text of a directory has at most: the tag and the count; of each entry the length of its name, the
+/// name, and what it stands for.
+pub const DIRECTORY_SIZE: usize = 4 + 2 + MOST_ENTRIES * (1 + 255 + 3);
+
 /// A map from names to what each stands for: at most 1,024 entries, in the order of the names' bytes.
 #[derive(Drop)]
 pub struct Directory<A: Allocator> {
@@ -42,7 +49,7 @@ impl<A: Allocator + Copy> Text<A> for Directory<A> {
 
     fn read_fields(alloc: A, reader: &mut Reader<'_>) -> Result<Directory<A>, ReadError> {
         reader.tag(b"SDI1")?;
-        let count = reader.u16_in(0, 1024)?;
+        let count = reader.u16_in(0, MOST_ENTRIES as u16)?;
         let entries = read_rows(alloc, reader, &Entries, usize::from(count))?;
         Ok(Directory { entries })
     }
@@ -73,11 +80,11 @@ fn room_for<'a, A: Allocator>(
     requires { directory.Fits entries.now }
     ensures room { IfOk result (λ room. IsFree by_bytes name_of entries.now name.now room.0) }
     ensures name { IfOk result (λ room. (is_name name.now ≡ true) × (room.1.now ≡ name.now)) }
-    ensures few { OnOk result (length entries.now < 1024) }
+    ensures few { OnOk result (length entries.now < MOST_ENTRIES) }
     ensures there { (result ≡ Err DirError.There) ↔ IsSome (target_of entries.now name.now) }
     ensures bad_name { (result ≡ Err DirError.BadName) ↔ (is_name name.now ≡ false) }
     ensures full { (result ≡ Err DirError.Full)
-        ↔ ((target_of entries.now name.now ≡ None) × (is_name name.now ≡ true) × (length entries.now ≡ 1024)) }
+        ↔ ((target_of entries.now name.now ≡ None) × (is_name name.now ≡ true) × (length entries.now ≡ MOST_ENTRIES)) }
     ensures only { IfErr result (λ e. (e ≢ DirError.Absent) × (e ≢ DirError.Memory)) }
 {
     let Err(place) = find(entries, name) else {
@@ -86,7 +93,7 @@ fn room_for<'a, A: Allocator>(
     let Some(text) = name_text(name) else {
         return Err(DirError::BadName);
     };
-    if entries.len() >= 1024 {
+    if entries.len() >= MOST_ENTRIES {
         return Err(DirError::Full);
     }
     Ok((place, text))
@@ -100,7 +107,7 @@ impl<A: Allocator + Copy> Directory<A> {
         ensures there { (result ≡ Err DirError.There) ↔ IsSome (target_of self.old name.now) }
         ensures bad_name { (result ≡ Err DirError.BadName) ↔ (is_name name.now ≡ false) }
         ensures full { (result ≡ Err DirError.Full)
-            ↔ ((target_of self.old name.now ≡ None) × (is_name name.now ≡ true) × (length self.old ≡ 1024)) }
+            ↔ ((target_of self.old name.now ≡ None) × (is_name name.now ≡ true) × (length self.old ≡ MOST_ENTRIES)) }
         ensures only { IfErr result (λ e. e ≢ DirError.Absent) }
         ensures err { OnErr result (self.new ≡ self.old) }
     {
@@ -152,7 +159,7 @@ impl<A: Allocator> Directory<A> {
         ensures same { result.now ≡ self.now }
         ensures fits { directory.Fits self.now }
         // Its text has 6 to 265,222 bytes.
-        ensures size { (6 ≤ length (directory.spell self.now)) × (length (directory.spell self.now) ≤ 265222) }
+        ensures size { (6 ≤ length (directory.spell self.now)) × (length (directory.spell self.now) ≤ DIRECTORY_SIZE) }
     {
         self.entries.as_slice()
     }

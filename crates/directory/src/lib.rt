@@ -7,7 +7,7 @@ mod error;
 mod name;
 mod target;
 
-pub use directory::Directory;
+pub use directory::{DIRECTORY_SIZE, Directory, MOST_ENTRIES};
 pub use entry::Entry;
 pub use error::DirError;
 pub use name::{Name, name_text, read_name};

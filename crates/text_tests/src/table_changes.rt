@@ -5,7 +5,7 @@ use lms_sign::PublicKey;
 use principals::Table;
 use std::alloc::{Alloc, Global};
 use std::process::Abort;
-use update_cert::{Cert, Change, Deed, TableChange, apply_table, table_after};
+use update_cert::{Cert, Change, TableChange, Work, apply_table, table_after};
 
 /// Where a test has its memory, and where it ends.
 trait Host: Alloc<A = Global> + Abort {}
@@ -138,7 +138,7 @@ fn text_of_the_tables_changes(rt: HostRuntime) {
     let again: Cert<Global> = Cert::read(rt.alloc(), &by_hand).expect(&rt, "a certificate");
     for change in again.changes() {
         assert!(rt; change.principal().get() == 0 && change.i_number().get() == 1);
-        assert!(rt; matches!(change.deed(), Deed::OfTable(_)));
+        assert!(rt; matches!(change.work(), Work::OfTable(_)));
     }
 }
 

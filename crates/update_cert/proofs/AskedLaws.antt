@@ -15,8 +15,8 @@ use Rattle.update_cert.specs.Spot.{lacks}
 use Rattle.update_cert.specs.Part.{Laid, Part, opened_at, slot_at, slot_of}
 use Rattle.update_cert.specs.Slots.{slot_after}
 use Rattle.itable.specs.declared.inode.Kind.TheVariants as kind
-use Rattle.update_cert.specs.Asked.{HasAskedFor, Lacks, IsInode, IsBlock, IsAskedFor, IsMetAt, IsWantedBy, LacksAskedFor, asks, needs_inode, needs_entries}
-use Rattle.update_cert.specs.Acts.{HasAt, HasBy, HasFor, LiesAt, LacksAt, LacksFor, LacksBy}
+use Rattle.update_cert.specs.Asked.{HasAskedFor, Lacks, IsInode, IsBlock, IsAskedFor, IsMetAt, IsWantedBy, asks, needs_inode, needs_entries}
+use Rattle.update_cert.specs.Acts.{HasAt, HasBy, HasFor, LiesAt, LiesBy, LiesFor}
 use Rattle.update_cert.specs.declared.error.ApplyError.{ApplyError}
 use Rattle.update_cert.specs.declared.error.ApplyError.TheVariants as error
 use Rattle.update_cert.specs.declared.spot.Spot.{Spot}
@@ -32,32 +32,32 @@ got : (cs : List (Change Digest)) (k : ℕ) (c : Change Digest) → k < length c
 got cs k c inside at = slice_get_read cs (length cs) k c refl inside at
 
 -- what lacks at an i-number is what the action there asks for
-lacks_for : (blocks : Blocks) (part : Part) (c : Change Digest) (i : ℕ) (entries : Bool) (e : ApplyError) → i ≡ c.i_number → needs_entries c.action ≡ entries → needs_inode c.principal c.i_number c.action ≡ true → LacksAt blocks part i entries e → LacksFor blocks part c e
+lacks_for : (blocks : Blocks) (part : Part) (c : Change Digest) (i : ℕ) (entries : Bool) (e : ApplyError) → i ≡ c.i_number → needs_entries c.action ≡ entries → needs_inode c.principal c.i_number c.action ≡ true → Lacks blocks (LiesAt blocks part i entries) e → Lacks blocks (LiesFor blocks part c) e
 lacks_for blocks part c i entries e here are needs lacks =
     lacks_wider blocks (LiesAt blocks part i entries) (λ digest s. (needs_inode c.principal c.i_number c.action ≡ true) × LiesAt blocks part c.i_number (needs_entries c.action) digest s) e
     (λ digest s lies. (needs, subst (λ (n : ℕ). LiesAt blocks part n (needs_entries c.action) digest s) here (subst (λ (t : Bool). LiesAt blocks part i t digest s) (sym are) lies)))
     lacks
 
 pub each_for : (blocks : Blocks) (part : Part) (c : Change Digest) (i : ℕ) (entries : Bool) (r : Result Bool ApplyError) → i ≡ c.i_number → needs_entries c.action ≡ entries → (IsErr r → needs_inode c.principal c.i_number c.action ≡ true)
-    → IfErr r (LacksAt blocks part i entries) → IfErr r (LacksFor blocks part c)
+    → IfErr r (Lacks blocks (LiesAt blocks part i entries)) → IfErr r (Lacks blocks (LiesFor blocks part c))
 each_for blocks part c i entries (Ok t) here are needs lacks = tt
 each_for blocks part c i entries (Err e) here are needs lacks = lacks_for blocks part c i entries e here are (needs refl) lacks
 
 -- where it is permitted, and isn't done to the table of principals, so does the change
-lacks_by : (blocks : Blocks) (actor : Actor) (part : Part) (c : Change Digest) (e : ApplyError) → permitted actor c ≡ true → is_table c.principal c.i_number ≡ false → LacksFor blocks part c e → LacksBy blocks actor part c e
+lacks_by : (blocks : Blocks) (actor : Actor) (part : Part) (c : Change Digest) (e : ApplyError) → permitted actor c ≡ true → is_table c.principal c.i_number ≡ false → Lacks blocks (LiesFor blocks part c) e → Lacks blocks (LiesBy blocks actor part c) e
 lacks_by blocks actor part c e may place lacks =
     lacks_wider blocks (λ digest s. (needs_inode c.principal c.i_number c.action ≡ true) × LiesAt blocks part c.i_number (needs_entries c.action) digest s) (λ digest s. (asks actor c ≡ true) × LiesAt blocks part c.i_number (needs_entries c.action) digest s) e
     (λ digest s (needs, lies). (rw (may, place, needs) refl, lies))
     lacks
 
-pub each_by : (blocks : Blocks) (actor : Actor) (part : Part) (c : Change Digest) (r : Result Bool ApplyError) → permitted actor c ≡ true → is_table c.principal c.i_number ≡ false → IfErr r (LacksFor blocks part c) → IfErr r (LacksBy blocks actor part c)
+pub each_by : (blocks : Blocks) (actor : Actor) (part : Part) (c : Change Digest) (r : Result Bool ApplyError) → permitted actor c ≡ true → is_table c.principal c.i_number ≡ false → IfErr r (Lacks blocks (LiesFor blocks part c)) → IfErr r (Lacks blocks (LiesBy blocks actor part c))
 each_by blocks actor part c (Ok t) may place lacks = tt
 each_by blocks actor part c (Err e) may place lacks = lacks_by blocks actor part c e may place lacks
 
 -- a change that lacks something at its turn lacks what is asked for
 pub lacks_met : (blocks : Blocks) (actor : Actor) (first part : Part) (cs : List (Change Digest)) (k : ℕ) (c : Change Digest) (e : ApplyError) → part.table.principal ≡ first.table.principal → c.principal ≡ part.table.principal → k < length cs → c ≡ slice_index_or cs k c
     → ((reads : Reading) → Agrees blocks reads → (n : ℕ) → slot_at part n ≡ slot_after reads actor first.table.principal n (take k cs) (slot_at first n))
-    → LacksBy blocks actor part c e → LacksAskedFor blocks actor cs first e
+    → Lacks blocks (LiesBy blocks actor part c) e → Lacks blocks (IsAskedFor blocks actor cs first) e
 lacks_met blocks actor first part cs k c e same of inside at slots lacks =
     lacks_wider blocks (λ digest s. (asks actor c ≡ true) × LiesAt blocks part c.i_number (needs_entries c.action) digest s) (IsAskedFor blocks actor cs first) e
     (λ digest s (asked, (inode, lies, wanted)). (

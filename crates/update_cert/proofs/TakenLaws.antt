@@ -1,8 +1,9 @@
 -- The blocks that were read are what their places take.
-use Rattle.std.proofs.Common.{◌≡◌, ℕ, ◌+◌, ◌<◌, ◌≤◌, true, false, List, ◌++◌, length, take, Option, Some, None, Result, Ok, Err, refl, sym, ap, subst, ◌∙◌, inl, inr, arith}
+use Rattle.std.proofs.Common.{◌≡◌, ℕ, ◌+◌, ◌*◌, ◌<◌, ◌≤◌, min, true, false, List, ◌++◌, length, take, Option, Some, None, Result, Ok, Err, refl, sym, ap, subst, ◌∙◌, inl, inr, arith}
 use Rattle.std.specs.Prelude.{not, ◌||◌, ◌==◌, is_some, IsSome, IsSomeAnd, OnOk, nat_lt, slice_get, slice_index_or}
 use Rattle.std.proofs.lemmas.Bool.{cases_lt, eq-eqb}
 use Rattle.std.proofs.lemmas.Bool.Decides.{nat_tests}
+use Rattle.std.proofs.lemmas.List.{length-append, take_all}
 use Rattle.std.proofs.lemmas.Option.{get_or_from_slice_get, slice_get_read, slice_get_within}
 use Rattle.std.specs.Option.{option_map_or}
 use Rattle.std.specs.Result.{result_ok}
@@ -20,7 +21,8 @@ use Rattle.update_cert.specs.Spot.{takes, completes, size_of_block, spot_of, lac
 use Rattle.update_cert.specs.declared.error.ApplyError.{ApplyError}
 use Rattle.update_cert.specs.declared.spot.Spot.{Spot}
 use Rattle.update_cert.specs.declared.spot.Spot.TheVariants as spot
-use Rattle.update_cert.proofs.ReadingLaws.{block_taken, count_is, front_and_last, joined_last, table_taken_by, taken_by, with_last}
+use Rattle.update_cert.proofs.Joins.{joined_end}
+use Rattle.update_cert.proofs.ReadingLaws.{block_taken, count_is, front_and_last, joined_last, joined_more, next_size, table_taken_by, taken_by, with_last}
 
 -- ---- the first blocks, and one more
 
@@ -43,6 +45,33 @@ sized_next blocks n place d bytes inside at held size before k block lt here =
 
 pub all_sized : (blocks : Blocks) (n : Inode) (place : ℕ) → length n.blocks ≤ place → AreSized blocks n place → (k : ℕ) (block : List ℕ) → slice_get n.blocks k ≡ Some block → IsSized blocks n k block
 all_sized blocks n place past sized k block here = sized k block (let inside = slice_get_within n.blocks k block here in omega (arith, inside)) here
+
+-- the first blocks are held, and make as many bytes as that many blocks have
+abbrev pub AreWhole : Blocks → Inode → ℕ → Type 0
+AreWhole blocks n place = IsSomeAnd (joined blocks (take place n.blocks)) (λ text. length text ≡ min (4096 * place) n.size)
+
+pub whole_first : (blocks : Blocks) (n : Inode) → AreWhole blocks n 0
+whole_first blocks n = rw (joined_end blocks) (omega arith)
+
+whole_more : (blocks : Blocks) (n : Inode) (place : ℕ) (d bytes : List ℕ) (front : Option (List ℕ)) → joined blocks (take place n.blocks) ≡ front → IsSomeAnd front (λ text. length text ≡ min (4096 * place) n.size)
+    → place < length n.blocks → d ≡ slice_index_or n.blocks place d → blocks d ≡ Some bytes → length bytes ≡ size_of_block n.size place → AreWhole blocks n (place + 1)
+whole_more blocks n place d bytes None is before inside at held size = absurd before
+whole_more blocks n place d bytes (Some old) is before inside at held size =
+    let all : joined blocks (take (place + 1) n.blocks) ≡ Some (old ++ bytes) = joined_more blocks n.blocks place d old bytes (old ++ bytes) inside at held refl is in
+    rw all (next_size n.size place (length bytes) (length old) (length (old ++ bytes)) before size (length-append old bytes))
+
+pub whole_next : (blocks : Blocks) (n : Inode) (place : ℕ) (d bytes : List ℕ) → place < length n.blocks → d ≡ slice_index_or n.blocks place d → blocks d ≡ Some bytes → length bytes ≡ size_of_block n.size place → AreWhole blocks n place → AreWhole blocks n (place + 1)
+whole_next blocks n place d bytes inside at held size before = whole_more blocks n place d bytes (joined blocks (take place n.blocks)) refl before inside at held size
+
+pub all_whole : (blocks : Blocks) (n : Inode) (place : ℕ) → inode.Fits n → length n.blocks ≤ place → AreWhole blocks n place → IsSomeAnd (joined blocks n.blocks) (λ text. length text ≡ n.size)
+all_whole blocks n place fits past whole =
+    let bytes : min (4096 * place) n.size ≡ n.size = omega (arith, past, count_is n fits) in
+    subst (λ (ds : List (List ℕ)). IsSomeAnd (joined blocks ds) (λ text. length text ≡ n.size)) (take_all place n.blocks past)
+    (subst (λ (size : ℕ). IsSomeAnd (joined blocks (take place n.blocks)) (λ text. length text ≡ size)) bytes whole)
+
+pub some_whole : (found : Option (List ℕ)) (size : ℕ) → IsSomeAnd found (λ text. length text ≡ size) → IsSome found
+some_whole None size is = absurd is
+some_whole (Some text) size is = refl
 
 -- ---- what their places take
 

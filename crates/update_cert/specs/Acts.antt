@@ -12,7 +12,7 @@ use Rattle.update_cert.specs.Blocks.{Blocks}
 use Rattle.update_cert.specs.Spot.{lacks, size_of_block}
 use Rattle.update_cert.specs.Part.{Part, Laid, slot_at, stands_at}
 use Rattle.itable.specs.declared.inode.Kind.TheVariants as kind
-use Rattle.update_cert.specs.Asked.{Lacks, IsInode, IsBlock, asks, needs_inode, needs_entries}
+use Rattle.update_cert.specs.Asked.{IsInode, IsBlock, asks, needs_inode, needs_entries}
 use Rattle.update_cert.specs.Slots.{slot_becomes}
 use Rattle.update_cert.specs.declared.error.ApplyError.{ApplyError}
 use Rattle.update_cert.specs.declared.error.ApplyError.TheVariants as error
@@ -27,7 +27,7 @@ change_at part i action = record { principal = part.table.principal; i_number = 
 -- makes of it; all else is as before.
 pub record Acts (reads : Reading) (user : User) (c : Change Digest) (old new : Part) (fitted : Bool) : Type 0 where
   pub is_fit : fitted ≡ fits user c (stands_at reads old c.i_number)
-  pub slots : (i : ℕ) → slot_at new i ≡ (if fitted && (c.i_number == i) then slot_becomes reads c.action (slot_at old i) else slot_at old i)
+  pub slots : (i : INumber) → slot_at new i ≡ (if fitted && (c.i_number == i) then slot_becomes reads c.action (slot_at old i) else slot_at old i)
 
 -- the change is done in this principal's part, and has no effect on the tree
 abbrev pub is_void_of : {C : Type 0} → Actor → Principal → Change C → Tree → Bool
@@ -47,22 +47,17 @@ LiesAt blocks part i entries digest s =
     (inode : Digest) × (slot_at part i ≡ Some (Laid inode))
     × (IsInode part.table.principal i inode digest s ⊎ ((entries ≡ true) × IsBlock blocks kind.Directory inode digest s))
 
--- what is missing is that
-abbrev pub LacksAt : Blocks → Part → INumber → Bool → ApplyError → Type 0
-LacksAt blocks part i entries e = Lacks blocks (LiesAt blocks part i entries) e
-
 -- nothing of that is missing
 abbrev pub HasAt : Blocks → Part → INumber → Bool → Type 0
 HasAt blocks part i entries = (digest : Digest) (s : Spot) → LiesAt blocks part i entries digest s → lacks blocks digest s ≡ false
 
--- what is missing is what the action asks for there
-abbrev pub LacksFor : Blocks → Part → Change Digest → ApplyError → Type 0
-LacksFor blocks part c e =
-    Lacks blocks (λ digest s. (needs_inode c.principal c.i_number c.action ≡ true) × LiesAt blocks part c.i_number (needs_entries c.action) digest s) e
+-- the action asks for it there
+abbrev pub LiesFor : Blocks → Part → Change Digest → Digest → Spot → Type 0
+LiesFor blocks part c digest s = (needs_inode c.principal c.i_number c.action ≡ true) × LiesAt blocks part c.i_number (needs_entries c.action) digest s
 
--- and what the change asks for at its turn
-abbrev pub LacksBy : Blocks → Actor → Part → Change Digest → ApplyError → Type 0
-LacksBy blocks actor part c e = Lacks blocks (λ digest s. (asks actor c ≡ true) × LiesAt blocks part c.i_number (needs_entries c.action) digest s) e
+-- and the change at its turn
+abbrev pub LiesBy : Blocks → Actor → Part → Change Digest → Digest → Spot → Type 0
+LiesBy blocks actor part c digest s = (asks actor c ≡ true) × LiesAt blocks part c.i_number (needs_entries c.action) digest s
 
 -- nothing that the action asks for there is missing
 abbrev pub HasFor : Blocks → Part → Change Digest → Type 0

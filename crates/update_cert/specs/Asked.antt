@@ -6,8 +6,7 @@ use Rattle.itable.specs.declared.inode.Kind.TheVariants as kind
 use Rattle.update_cert.specs.Change.{Action, Make, Put, Remove, Link, Unlink, AddUser, AddMember, DropMember, Change}
 use Rattle.layout.specs.Types.{Digest, INumber, Principal}
 use Rattle.update_cert.specs.World.{Actor, is_root, is_table, permitted}
-use Rattle.update_cert.specs.Reading.{Reading}
-use Rattle.update_cert.specs.Blocks.{Blocks, Agrees, inode_at, joined}
+use Rattle.update_cert.specs.Blocks.{Blocks, ForEachReading, inode_at, joined}
 use Rattle.update_cert.specs.Spot.{lacks, spot_of}
 use Rattle.update_cert.specs.Part.{Part, Laid, slot_at}
 use Rattle.update_cert.specs.Slots.{slot_after}
@@ -89,15 +88,12 @@ IsWantedBy blocks c inode digest s = IsInode c.principal c.i_number inode digest
 abbrev pub IsMetAt : Blocks → Actor → List (Change Digest) → Part → ℕ → Change Digest → Digest → Type 0
 IsMetAt blocks actor changes part k c inode =
     (slice_get changes k ≡ Some c) × (c.principal ≡ part.table.principal)
-    × ((reads : Reading) → Agrees blocks reads → slot_after reads actor part.table.principal c.i_number (take k changes) (slot_at part c.i_number) ≡ Some (Laid inode))
+    × ForEachReading blocks (λ reads. slot_after reads actor part.table.principal c.i_number (take k changes) (slot_at part c.i_number) ≡ Some (Laid inode))
 
 -- The digest is asked for by one of these changes, at its turn.
 abbrev pub IsAskedFor : Blocks → Actor → List (Change Digest) → Part → Digest → Spot → Type 0
 IsAskedFor blocks actor changes part digest s =
     (k : ℕ) × (c : Change Digest) × (inode : Digest) × IsMetAt blocks actor changes part k c inode × (asks actor c ≡ true) × IsWantedBy blocks c inode digest s
-
-abbrev pub LacksAskedFor : Blocks → Actor → List (Change Digest) → Part → ApplyError → Type 0
-LacksAskedFor blocks actor changes part e = Lacks blocks (IsAskedFor blocks actor changes part) e
 
 -- nothing that they ask for is missing
 abbrev pub HasAskedFor : Blocks → Actor → List (Change Digest) → Part → Type 0

@@ -95,3 +95,7 @@ inode_told blocks p handle i = option_and_then (told_under blocks p i) (root_at 
 pub record Agrees (blocks : Blocks) (reads : Reading) : Type 0 where
   pub contents : (digest : Digest) (n : Inode) → inode_at blocks digest ≡ Some n → IsOf blocks n (reads.content digest)
   pub inodes : (p : Principal) (handle : Handle) (i : INumber) (told : Option Digest) → inode_told blocks p handle i ≡ Some told → reads.inode p handle i ≡ told
+
+-- this holds of each reading that tells what the held blocks tell, whatever stands for the digests of which no block tells
+abbrev pub ForEachReading : Blocks → (Reading → Type 0) → Type 0
+ForEachReading blocks P = (reads : Reading) → Agrees blocks reads → P reads

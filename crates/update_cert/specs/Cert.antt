@@ -8,6 +8,7 @@ use Rattle.layout.specs.Ranges.{user, version}
 use Rattle.layout.specs.Hash.{hash}
 use Rattle.layout.specs.Types.{Digest, User, Version}
 use Rattle.update_cert.specs.Change.{Change, change}
+use Rattle.update_cert.specs.declared.cert.TheConstants.{MOST_CHANGES}
 
 -- a certificate without where it lies in memory
 pub record Cert : Type 0 where
@@ -22,7 +23,7 @@ abbrev pub change_rows : RowAfter (Change Digest)
 change_rows before = change
 
 abbrev pub changes : Format (List (Change Digest))
-changes = listed (uint_in w8 0 16) change_rows
+changes = listed (uint_in w8 0 MOST_CHANGES) change_rows
 
 abbrev pub cert : Format Cert
 cert =

@@ -1,5 +1,5 @@
 -- A principal's part of the tree, as a client has it: the i-table, and the directories that changed.
-use Rattle.std.specs.Prelude.{◌≡◌, ℕ, false, List, [], Option, Some, None, IsSome}
+use Rattle.std.specs.Prelude.{◌≡◌, false, List, [], Option, Some, None, IsSome}
 use Rattle.std.specs.Option.{option_map}
 use Rattle.std.specs.Ordering.{nat_cmp}
 use Rattle.layout.specs.Ascending.{Ascends, row_at}
@@ -21,7 +21,7 @@ pub record Part : Type 0 where
   pub table : ITable
   pub opened : List Open
 
-abbrev pub number_of : Open → ℕ
+abbrev pub number_of : Open → INumber
 number_of o = o.i_number
 
 -- the entries at an i-number that was opened
@@ -63,7 +63,7 @@ part_of table = record { table = table; opened = [] }
 -- opened directories ascend by i-number, and have digests in the table
 pub record IsPart (part : Part) : Type 0 where
   pub ascending : Ascends nat_cmp number_of None part.opened
-  pub mapped : (i : ℕ) → IsSome (opened_at part i) → IsSome (digest_at part.table i)
+  pub mapped : (i : INumber) → IsSome (opened_at part i) → IsSome (digest_at part.table i)
 
 -- at its place stands the table of principals
 abbrev pub HasTable : Tree → Type 0

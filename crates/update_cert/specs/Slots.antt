@@ -13,7 +13,7 @@ use Rattle.layout.specs.Types.{Bytes, Digest, INumber, Principal}
 use Rattle.update_cert.specs.Change.{Action, Make, Put, Remove, Link, Unlink, AddUser, AddMember, DropMember, Change}
 use Rattle.update_cert.specs.World.{Content, Directory, Actor, entries_of, has_effect, is_table}
 use Rattle.update_cert.specs.Reading.{Reading}
-use Rattle.update_cert.specs.Blocks.{Blocks, Agrees, IsHeld}
+use Rattle.update_cert.specs.Blocks.{Blocks, ForEachReading, IsHeld}
 use Rattle.update_cert.specs.Part.{Open, Slot, Laid, Changed, content_of}
 
 -- what a slot holds, if it holds anything
@@ -73,7 +73,7 @@ directory_texts entries = blocks_of (directory.spell entries) ++ inode.spell (di
 -- whoever holds the texts of this directory reads it from them: its digest stands for it
 abbrev pub IsReadBack : List Entry → Type 0
 IsReadBack entries =
-    (blocks : Blocks) (reads : Reading) → Agrees blocks reads → All (IsHeld blocks) (directory_texts entries) → reads.content (directory_digest entries) ≡ Directory entries
+    (blocks : Blocks) → ForEachReading blocks (λ reads. All (IsHeld blocks) (directory_texts entries) → reads.content (directory_digest entries) ≡ Directory entries)
 
 -- the i-table has this digest at an i-number
 abbrev pub has_digest : ITable → INumber → Digest → Bool

@@ -4,6 +4,7 @@
 use Rattle.std.specs.Prelude.{ℕ, ◌+◌, ◌/◌, ◌==◌, Bool, true, false, ◌&&◌, ◌||◌, not, List, [], ◌∷◌, length, Option, Some, None, is_some, nat_le, nat_lt, if◌then◌else◌}
 use Rattle.layout.specs.Types.{Bytes, Group, INumber, Key, Principal, User, Version}
 use Rattle.directory.specs.Directory.{Entry, target_of, linked, unlinked}
+use Rattle.directory.specs.declared.directory.TheConstants.{MOST_ENTRIES}
 use Rattle.principals.specs.Table.{Table, genesis as first_table, lists_user, is_member_now, user_added, member_added, member_dropped}
 use Rattle.update_cert.specs.Change.{Action, Make, Put, Remove, Link, Unlink, AddUser, AddMember, DropMember, Change}
 
@@ -63,7 +64,7 @@ is_removable (Some (Principals table)) = false
 abbrev pub has_room : Bytes → Option Content → Bool
 has_room name None = false
 has_room name (Some (File bytes)) = false
-has_room name (Some (Directory entries)) = not (is_some (target_of entries name)) && nat_lt (length entries) 1024
+has_room name (Some (Directory entries)) = not (is_some (target_of entries name)) && nat_lt (length entries) MOST_ENTRIES
 has_room name (Some (Principals table)) = false
 
 -- a directory that has this name
@@ -153,7 +154,7 @@ after actor [] tree = tree
 after actor (c ∷ cs) tree = after actor cs (after_change actor c tree)
 
 -- the numbers, counted from this one, of the changes among these that have no effect
-unfoldable pub void_from : Version → Actor → (Change Content → Bool) → List (Change Content) → Tree → List ℕ
+unfoldable pub void_from : ℕ → Actor → (Change Content → Bool) → List (Change Content) → Tree → List ℕ
 void_from n actor among [] tree = []
 void_from n actor among (c ∷ cs) tree =
     if among c && not (has_effect actor c (tree c.principal c.i_number))

@@ -2,10 +2,10 @@
 
 ghost use Rattle.std.specs.Prelude.{◌≡◌, ℕ, List, IfOk, IfErr, OnOk};
 ghost use Rattle.update_cert.specs.World.{Actor, Tree};
-ghost use Rattle.update_cert.specs.Reading.{Reading, after_read, void_of_read};
-ghost use Rattle.update_cert.specs.Blocks.{Agrees};
+ghost use Rattle.update_cert.specs.Reading.{after_read, void_of_read};
+ghost use Rattle.update_cert.specs.Blocks.{ForEachReading};
 ghost use Rattle.update_cert.specs.Part.{IsPartOf, slot_at};
-ghost use Rattle.update_cert.specs.Asked.{HasAskedFor, LacksAskedFor};
+ghost use Rattle.update_cert.specs.Asked.{HasAskedFor, IsAskedFor, Lacks};
 ghost use Rattle.update_cert.specs.Slots.{slot_after};
 
 use crate::blocks::Blocks;
@@ -64,26 +64,26 @@ pub fn apply<A: Allocator + Copy, B: Blocks>(
     cert: &Cert<A>,
 ) -> Result<Applied<A>, ApplyError>
     // For each tree of which this is the principal's part, whatever stands for digests that no block tells of.
-    ensures part { (reads : Reading) (tree : Tree) (actor : Actor)
-        → Agrees (B.held blocks.now) reads → IsPartOf reads part tree
+    ensures part { ForEachReading (B.held blocks.now) (λ reads.
+        (tree : Tree) (actor : Actor) → IsPartOf reads part tree
         → actor.user ≡ cert.now.user → actor.member part.table.principal ≡ is_member
-        → IfOk result (λ applied. IsPartOf reads applied.part (after_read reads actor cert.now.changes tree)) }
-    ensures voids { (reads : Reading) (tree : Tree) (actor : Actor)
-        → Agrees (B.held blocks.now) reads → IsPartOf reads part tree
+        → IfOk result (λ applied. IsPartOf reads applied.part (after_read reads actor cert.now.changes tree))) }
+    ensures voids { ForEachReading (B.held blocks.now) (λ reads.
+        (tree : Tree) (actor : Actor) → IsPartOf reads part tree
         → actor.user ≡ cert.now.user → actor.member part.table.principal ≡ is_member
-        → IfOk result (λ applied. applied.voids ≡ void_of_read reads actor part.table.principal cert.now.changes tree) }
+        → IfOk result (λ applied. applied.voids
+        ≡ void_of_read reads actor part.table.principal cert.now.changes tree)) }
     // By which digest, or by which entries, each thing stands there.
-    ensures slots { (reads : Reading) (actor : Actor)
-        → Agrees (B.held blocks.now) reads
-        → actor.user ≡ cert.now.user → actor.member part.table.principal ≡ is_member
+    ensures slots { ForEachReading (B.held blocks.now) (λ reads.
+        (actor : Actor) → actor.user ≡ cert.now.user → actor.member part.table.principal ≡ is_member
         → IfOk result (λ applied. (i : ℕ)
-        → slot_at applied.part i ≡ slot_after reads actor part.table.principal i cert.now.changes (slot_at part i)) }
+        → slot_at applied.part i ≡ slot_after reads actor part.table.principal i cert.now.changes (slot_at part i))) }
     // Whose part it is stays.
     ensures principal { IfOk result (λ applied. applied.part.table.principal ≡ part.table.principal) }
     // Missing names an i-node that a change meets at its turn, or a block of the directory that it is of, and no text
     // of it is held that its spot takes.
     ensures missing { (actor : Actor) → actor.user ≡ cert.now.user → actor.member part.table.principal ≡ is_member
-        → IfErr result (LacksAskedFor (B.held blocks.now) actor cert.now.changes part) }
+        → IfErr result (Lacks (B.held blocks.now) (IsAskedFor (B.held blocks.now) actor cert.now.changes part)) }
     // Where they are applied, nothing that they ask for is missing: each block is what its place takes.
     ensures taken { (actor : Actor) → actor.user ≡ cert.now.user → actor.member part.table.principal ≡ is_member
         → OnOk result (HasAskedFor (B.held blocks.now) actor cert.now.changes part) }

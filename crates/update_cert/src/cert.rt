@@ -47,7 +47,7 @@ fn write_cert<A: Allocator + Copy>(
     last: &Digest,
     changes: &[Change<A>],
 ) -> Result<(), Memory>
-    requires few { length changes.now ≤ 16 }
+    requires few { length changes.now ≤ MOST_CHANGES }
     ensures ok { OnOk result (writer.new
         ≡ cert.onto writer.old (record { user = user; number = number; last = last.now; changes = changes.now })) }
     ensures front { OnErr result (BeginsWith writer.new writer.old) }
@@ -71,7 +71,7 @@ impl<A: Allocator + Copy> Text<A> for Cert<A> {
         let user = reader.user()?;
         let number = reader.version()?;
         let last = reader.digest()?;
-        let count = reader.u8_in(0, 16)?;
+        let count = reader.u8_in(0, MOST_CHANGES as u8)?;
         let changes = read_rows(alloc, reader, &Changes, usize::from(count))?;
         Ok(Cert {
             user,
@@ -105,7 +105,7 @@ pub fn cert_text<A: Allocator + Copy>(
     last: Digest,
     changes: &[Change<A>],
 ) -> Result<Vec<u8, A>, Memory>
-    requires few { length changes.now ≤ 16 }
+    requires few { length changes.now ≤ MOST_CHANGES }
     ensures text { IfOk result (λ text. text.items
         ≡ cert.spell (record { user = user; number = number; last = last; changes = changes.now })) }
     // Their own contracts say that the parts fit, so that the text is read again.
@@ -122,7 +122,7 @@ pub fn cert_text<A: Allocator + Copy>(
 impl<A: Allocator> Cert<A> {
     /// The certificate of these parts, whose own contracts say that they fit.
     pub fn new(user: User, number: Version, last: Digest, changes: Vec<Change<A>, A>) -> Cert<A>
-        requires few { vec_len changes ≤ 16 }
+        requires few { vec_len changes ≤ MOST_CHANGES }
         ensures { result ≡ record { user = user; number = number; last = last; changes = changes.items } }
     {
         let _range = (user.get(), number.get());

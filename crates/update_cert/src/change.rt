@@ -4,7 +4,7 @@ ghost use Rattle.layout.specs.declared.error.ReadError.TheVariants as read_error
 ghost use Rattle.std.specs.Prelude.{◌≡◌, ◌≢◌, ◌≤◌, IfErr, OnErr, OnOk};
 ghost use Rattle.layout.specs.Format.{BeginsWith, Reads, ReadsAs};
 ghost use Rattle.update_cert.specs.Change.{action as action_format, placed_fields, table_fields, fields, action_of};
-ghost use Rattle.update_cert.specs.Change.{table_action_of, deed_of, of_table, change, kind};
+ghost use Rattle.update_cert.specs.Change.{table_action_of, work_of, of_table, change, kind};
 
 use directory::{Entry, Name};
 use layout::{
@@ -46,7 +46,7 @@ pub enum TableChange {
 
 /// What a change does.
 #[derive(Drop)]
-pub enum Deed<A: Allocator> {
+pub enum Work<A: Allocator> {
     /// This, at its i-number of its principal.
     At(Action<A>),
     /// This, to the table of principals.
@@ -58,19 +58,19 @@ pub enum Deed<A: Allocator> {
 pub struct Change<A: Allocator> {
     principal: Principal,
     i_number: INumber,
-    deed: Deed<A>,
+    work: Work<A>,
 }
 
 impl<A: Allocator> Model for Change<A> {
     ghost use Rattle.layout.specs.Types.{Digest};
-    ghost use Rattle.update_cert.specs.Change.{Change, deed_of, change};
+    ghost use Rattle.update_cert.specs.Change.{Change, work_of, change};
 
     ghost Value = { Change Digest };
 
-    ghost view = { λ c. record { principal = c.principal; i_number = c.i_number; action = deed_of c.deed } };
+    ghost view = { λ c. record { principal = c.principal; i_number = c.i_number; action = work_of c.work } };
 
     ghost invariant = { λ c. change.Fits
-        (record { principal = c.principal; i_number = c.i_number; action = deed_of c.deed }) };
+        (record { principal = c.principal; i_number = c.i_number; action = work_of c.work }) };
 }
 
 /// What is done, of this kind, in what is left of a text.
@@ -257,14 +257,14 @@ impl<A: Allocator + Copy> RowFormat<A> for Changes {
     }
 
     fn write_fields(&self, writer: &mut Writer<A>, row: &Change<A>) -> Result<(), Memory> {
-        match &row.deed {
-            Deed::At(action) => {
+        match &row.work {
+            Work::At(action) => {
                 writer.u8(action.kind())?;
                 writer.principal(row.principal)?;
                 writer.i_number(row.i_number)?;
                 action.write_to(writer)
             }
-            Deed::OfTable(change) => {
+            Work::OfTable(change) => {
                 writer.u8(change.kind())?;
                 change.write_to(writer)
             }
@@ -282,7 +282,7 @@ impl<A: Allocator> Change<A> {
         Change {
             principal,
             i_number,
-            deed: Deed::At(action),
+            work: Work::At(action),
         }
     }
 
@@ -294,7 +294,7 @@ impl<A: Allocator> Change<A> {
         Change {
             principal: Principal::from(User::superuser()),
             i_number: INumber::table(),
-            deed: Deed::OfTable(change),
+            work: Work::OfTable(change),
         }
     }
 
@@ -314,9 +314,9 @@ impl<A: Allocator> Change<A> {
     }
 
     /// What is done there.
-    pub fn deed(&self) -> &Deed<A>
-        ensures { deed_of result.now ≡ self.now.action }
+    pub fn work(&self) -> &Work<A>
+        ensures { work_of result.now ≡ self.now.action }
     {
-        &self.deed
+        &self.work
     }
 }

@@ -12,16 +12,17 @@ ghost use Rattle.update_cert.specs.Change.{Make, Put, Remove, Link, Unlink, acti
 ghost use Rattle.update_cert.specs.World.{Actor, Tree, after_change, is_file, is_removable, is_root as is_root_of};
 ghost use Rattle.update_cert.specs.World.{is_table as is_table_of};
 ghost use Rattle.update_cert.specs.Reading.{Reading, read_change};
-ghost use Rattle.update_cert.specs.Blocks.{Agrees, inode_at as inode_of};
+ghost use Rattle.update_cert.specs.Blocks.{ForEachReading, inode_at as inode_of};
 ghost use Rattle.update_cert.specs.Part.{Changed, IsPart, IsPartOf, number_of, opened_at as entries_at, part_of};
 ghost use Rattle.update_cert.specs.Part.{slot_at, slot_in, stands_at};
-ghost use Rattle.update_cert.specs.Acts.{Acts, HasAt, HasBy, HasFor, LacksAt, LacksBy, LacksFor, change_at, is_void_of};
+ghost use Rattle.update_cert.specs.Asked.{Lacks};
+ghost use Rattle.update_cert.specs.Acts.{Acts, HasAt, HasBy, HasFor, LiesAt, LiesBy, LiesFor, change_at, is_void_of};
 ghost use Rattle.update_cert.specs.Acts.{listed};
 ghost use Rattle.update_cert.specs.Slots.{IsReadBack, changed_texts, has_digest, laid_under, slot_after};
 ghost use Rattle.update_cert.specs.Slots.{slot_after_change, slot_changes, slot_digest};
 
 use crate::blocks::Blocks;
-use crate::change::{Action, Change, Deed};
+use crate::change::{Action, Change, Work};
 use crate::error::ApplyError;
 use crate::laying::lay_directory;
 use crate::opened::{Open, find, take_out};
@@ -142,7 +143,8 @@ impl<A: Allocator + Copy> Part<A> {
         requires { entries_at self.now i_number ≡ None }
         ensures found { IfOk result (λ found. option_map (λ n. Some n) found
             ≡ option_map (inode_of (B.held blocks.now)) (digest_at self.now.table i_number)) }
-        ensures missing { IfErr result (LacksAt (B.held blocks.now) self.now i_number false) }
+        ensures missing { IfErr result
+            (Lacks (B.held blocks.now) (LiesAt (B.held blocks.now) self.now i_number false)) }
         ensures taken { OnOk result (HasAt (B.held blocks.now) self.now i_number false) }
     {
         let Some(digest) = self.table.get(i_number) else {
@@ -159,11 +161,12 @@ impl<A: Allocator + Copy> Part<A> {
         blocks: &B,
         i_number: INumber,
     ) -> Result<bool, ApplyError>
-        ensures file { (reads : Reading) → Agrees (B.held blocks.now) reads
-            → IfOk result (λ is. is ≡ is_file (stands_at reads self.now i_number)) }
+        ensures file { ForEachReading (B.held blocks.now) (λ reads.
+            IfOk result (λ is. is ≡ is_file (stands_at reads self.now i_number))) }
         // It isn't opened then.
         ensures closed { IfOk result (λ is. is ≡ true → entries_at self.now i_number ≡ None) }
-        ensures missing { IfErr result (LacksAt (B.held blocks.now) self.now i_number false) }
+        ensures missing { IfErr result
+            (Lacks (B.held blocks.now) (LiesAt (B.held blocks.now) self.now i_number false)) }
         ensures taken { OnOk result (HasAt (B.held blocks.now) self.now i_number false) }
     {
         if self.opened_at(i_number).is_some() {
@@ -181,9 +184,10 @@ impl<A: Allocator + Copy> Part<A> {
         blocks: &B,
         i_number: INumber,
     ) -> Result<bool, ApplyError>
-        ensures removable { (reads : Reading) → Agrees (B.held blocks.now) reads
-            → IfOk result (λ is. is ≡ is_removable (stands_at reads self.now i_number)) }
-        ensures missing { IfErr result (LacksAt (B.held blocks.now) self.now i_number false) }
+        ensures removable { ForEachReading (B.held blocks.now) (λ reads.
+            IfOk result (λ is. is ≡ is_removable (stands_at reads self.now i_number))) }
+        ensures missing { IfErr result
+            (Lacks (B.held blocks.now) (LiesAt (B.held blocks.now) self.now i_number false)) }
         ensures taken { OnOk result (HasAt (B.held blocks.now) self.now i_number false) }
     {
         if let Some(directory) = self.opened_at(i_number) {
@@ -201,10 +205,11 @@ impl<A: Allocator + Copy> Part<A> {
         i_number: INumber,
     ) -> Result<Option<Directory<A>>, ApplyError>
         requires { entries_at self.now i_number ≡ None }
-        ensures found { (reads : Reading) → Agrees (B.held blocks.now) reads
-            → IfOk result (λ found. found ≡ listed (option_map reads.content (digest_at self.now.table i_number))) }
+        ensures found { ForEachReading (B.held blocks.now) (λ reads.
+            IfOk result (λ found. found ≡ listed (option_map reads.content (digest_at self.now.table i_number)))) }
         ensures mapped { IfOk result (λ found. IsSome found → IsSome (digest_at self.now.table i_number)) }
-        ensures missing { IfErr result (LacksAt (B.held blocks.now) self.now i_number true) }
+        ensures missing { IfErr result
+            (Lacks (B.held blocks.now) (LiesAt (B.held blocks.now) self.now i_number true)) }
         ensures taken { OnOk result (HasAt (B.held blocks.now) self.now i_number true) }
     {
         let Some(digest) = self.table.get(i_number) else {
@@ -228,11 +233,12 @@ impl<A: Allocator + Copy> Part<A> {
         i_number: INumber,
         digest: Digest,
     ) -> Result<bool, ApplyError>
-        ensures acts { (reads : Reading) (user : ℕ) → Agrees (B.held blocks.now) reads
-            → IfOk result (λ fitted. Acts reads user (change_at self.old i_number (Put digest)) self.old self.new
-            fitted) }
+        ensures acts { ForEachReading (B.held blocks.now) (λ reads.
+            (user : ℕ) → IfOk result (λ fitted.
+            Acts reads user (change_at self.old i_number (Put digest)) self.old self.new fitted)) }
         ensures principal { OnOk result (self.new.table.principal ≡ self.old.table.principal) }
-        ensures missing { IfErr result (LacksAt (B.held blocks.now) self.old i_number false) }
+        ensures missing { IfErr result
+            (Lacks (B.held blocks.now) (LiesAt (B.held blocks.now) self.old i_number false)) }
         // The table of principals isn't looked at.
         ensures taken { is_table_of self.old.table.principal i_number ≡ false
             → OnOk result (HasAt (B.held blocks.now) self.old i_number false) }
@@ -255,11 +261,13 @@ impl<A: Allocator + Copy> Part<A> {
         blocks: &B,
         i_number: INumber,
     ) -> Result<bool, ApplyError>
-        ensures acts { (reads : Reading) (user : ℕ) → Agrees (B.held blocks.now) reads
-            → IfOk result (λ fitted. Acts reads user (change_at self.old i_number Remove) self.old self.new fitted) }
+        ensures acts { ForEachReading (B.held blocks.now) (λ reads.
+            (user : ℕ) → IfOk result (λ fitted.
+            Acts reads user (change_at self.old i_number Remove) self.old self.new fitted)) }
         ensures principal { OnOk result (self.new.table.principal ≡ self.old.table.principal) }
         // The root directory stays, whatever is held.
-        ensures missing { IfErr result (LacksAt (B.held blocks.now) self.old i_number false) }
+        ensures missing { IfErr result
+            (Lacks (B.held blocks.now) (LiesAt (B.held blocks.now) self.old i_number false)) }
         ensures taken { is_table_of self.old.table.principal i_number ≡ false
             → is_root_of self.old.table.principal i_number ≡ false
             → OnOk result (HasAt (B.held blocks.now) self.old i_number false) }
@@ -298,11 +306,12 @@ impl<A: Allocator + Copy> Part<A> {
         i_number: INumber,
         entry: &Entry<A>,
     ) -> Result<bool, ApplyError>
-        ensures acts { (reads : Reading) (user : ℕ) → Agrees (B.held blocks.now) reads
-            → IfOk result (λ fitted. Acts reads user (change_at self.old i_number (Link entry.now)) self.old self.new
-            fitted) }
+        ensures acts { ForEachReading (B.held blocks.now) (λ reads.
+            (user : ℕ) → IfOk result (λ fitted.
+            Acts reads user (change_at self.old i_number (Link entry.now)) self.old self.new fitted)) }
         ensures principal { OnOk result (self.new.table.principal ≡ self.old.table.principal) }
-        ensures missing { IfErr result (LacksAt (B.held blocks.now) self.old i_number true) }
+        ensures missing { IfErr result
+            (Lacks (B.held blocks.now) (LiesAt (B.held blocks.now) self.old i_number true)) }
         ensures taken { OnOk result (HasAt (B.held blocks.now) self.old i_number true) }
     {
         let place = match find(&self.opened, i_number) {
@@ -332,11 +341,12 @@ impl<A: Allocator + Copy> Part<A> {
         i_number: INumber,
         name: &[u8],
     ) -> Result<bool, ApplyError>
-        ensures acts { (reads : Reading) (user : ℕ) → Agrees (B.held blocks.now) reads
-            → IfOk result (λ fitted. Acts reads user (change_at self.old i_number (Unlink name.now)) self.old self.new
-            fitted) }
+        ensures acts { ForEachReading (B.held blocks.now) (λ reads.
+            (user : ℕ) → IfOk result (λ fitted.
+            Acts reads user (change_at self.old i_number (Unlink name.now)) self.old self.new fitted)) }
         ensures principal { OnOk result (self.new.table.principal ≡ self.old.table.principal) }
-        ensures missing { IfErr result (LacksAt (B.held blocks.now) self.old i_number true) }
+        ensures missing { IfErr result
+            (Lacks (B.held blocks.now) (LiesAt (B.held blocks.now) self.old i_number true)) }
         ensures taken { OnOk result (HasAt (B.held blocks.now) self.old i_number true) }
     {
         let place = match find(&self.opened, i_number) {
@@ -363,12 +373,13 @@ impl<A: Allocator + Copy> Part<A> {
         i_number: INumber,
         action: &Action<A>,
     ) -> Result<bool, ApplyError>
-        ensures acts { (reads : Reading) → Agrees (B.held blocks.now) reads
-            → IfOk result (λ fitted. Acts reads user (change_at self.old i_number (action_of action.now)) self.old
-            self.new fitted) }
+        ensures acts { ForEachReading (B.held blocks.now) (λ reads.
+            IfOk result (λ fitted. Acts reads user (change_at self.old i_number (action_of action.now)) self.old
+            self.new fitted)) }
         ensures principal { OnOk result (self.new.table.principal ≡ self.old.table.principal) }
         ensures missing { IfErr result
-            (LacksFor (B.held blocks.now) self.old (change_at self.old i_number (action_of action.now))) }
+            (Lacks (B.held blocks.now) (LiesFor (B.held blocks.now) self.old
+            (change_at self.old i_number (action_of action.now)))) }
         ensures taken { is_table_of self.old.table.principal i_number ≡ false
             → OnOk result (HasFor (B.held blocks.now) self.old (change_at self.old i_number (action_of action.now))) }
     {
@@ -391,20 +402,20 @@ impl<A: Allocator + Copy> Part<A> {
         i_number: INumber,
         action: &Action<A>,
     ) -> Result<bool, ApplyError>
-        ensures effect { (reads : Reading) (actor : Actor)
-            → Agrees (B.held blocks.now) reads → actor.user ≡ user → actor.member self.old.table.principal ≡ is_member
+        ensures effect { ForEachReading (B.held blocks.now) (λ reads.
+            (actor : Actor) → actor.user ≡ user → actor.member self.old.table.principal ≡ is_member
             → IfOk result (λ effect. effect
             ≡ slot_changes reads actor (change_at self.old i_number (action_of action.now))
-            (slot_at self.old i_number)) }
-        ensures slots { (reads : Reading) (actor : Actor)
-            → Agrees (B.held blocks.now) reads → actor.user ≡ user → actor.member self.old.table.principal ≡ is_member
+            (slot_at self.old i_number))) }
+        ensures slots { ForEachReading (B.held blocks.now) (λ reads.
+            (actor : Actor) → actor.user ≡ user → actor.member self.old.table.principal ≡ is_member
             → OnOk result ((i : ℕ) → slot_at self.new i ≡ (if i_number == i
             then slot_after_change reads actor (change_at self.old i_number (action_of action.now))
-            (slot_at self.old i) else slot_at self.old i)) }
+            (slot_at self.old i) else slot_at self.old i))) }
         ensures principal { OnOk result (self.new.table.principal ≡ self.old.table.principal) }
         ensures missing { (actor : Actor) → actor.user ≡ user → actor.member self.old.table.principal ≡ is_member
-            → IfErr result (LacksBy (B.held blocks.now) actor self.old
-            (change_at self.old i_number (action_of action.now))) }
+            → IfErr result (Lacks (B.held blocks.now) (LiesBy (B.held blocks.now) actor self.old
+            (change_at self.old i_number (action_of action.now)))) }
         ensures taken { (actor : Actor) → actor.user ≡ user → actor.member self.old.table.principal ≡ is_member
             → OnOk result (HasBy (B.held blocks.now) actor self.old
             (change_at self.old i_number (action_of action.now))) }
@@ -427,22 +438,22 @@ impl<A: Allocator + Copy> Part<A> {
         is_member: bool,
         change: &Change<A>,
     ) -> Result<bool, ApplyError>
-        ensures part { (reads : Reading) (tree : Tree) (actor : Actor)
-            → Agrees (B.held blocks.now) reads → IsPartOf reads self.old tree → actor.user ≡ user
+        ensures part { ForEachReading (B.held blocks.now) (λ reads.
+            (tree : Tree) (actor : Actor) → IsPartOf reads self.old tree → actor.user ≡ user
             → actor.member self.old.table.principal ≡ is_member
-            → OnOk result (IsPartOf reads self.new (after_change actor (read_change reads change.now) tree)) }
-        ensures slots { (reads : Reading) (actor : Actor)
-            → Agrees (B.held blocks.now) reads → actor.user ≡ user → actor.member self.old.table.principal ≡ is_member
+            → OnOk result (IsPartOf reads self.new (after_change actor (read_change reads change.now) tree))) }
+        ensures slots { ForEachReading (B.held blocks.now) (λ reads.
+            (actor : Actor) → actor.user ≡ user → actor.member self.old.table.principal ≡ is_member
             → OnOk result ((i : ℕ) → slot_at self.new i ≡ slot_after reads actor self.old.table.principal i (change.now
-            ∷ []) (slot_at self.old i)) }
-        ensures void { (reads : Reading) (tree : Tree) (actor : Actor)
-            → Agrees (B.held blocks.now) reads → IsPartOf reads self.old tree → actor.user ≡ user
+            ∷ []) (slot_at self.old i))) }
+        ensures void { ForEachReading (B.held blocks.now) (λ reads.
+            (tree : Tree) (actor : Actor) → IsPartOf reads self.old tree → actor.user ≡ user
             → actor.member self.old.table.principal ≡ is_member
-            → IfOk result (λ is_void. is_void ≡ is_void_of actor self.old.table.principal change.now tree) }
+            → IfOk result (λ is_void. is_void ≡ is_void_of actor self.old.table.principal change.now tree)) }
         ensures principal { OnOk result (self.new.table.principal ≡ self.old.table.principal) }
         ensures missing { (actor : Actor) → actor.user ≡ user → actor.member self.old.table.principal ≡ is_member
             → IfErr result (λ e. (change.now.principal ≡ self.old.table.principal)
-            × LacksBy (B.held blocks.now) actor self.old change.now e) }
+            × Lacks (B.held blocks.now) (LiesBy (B.held blocks.now) actor self.old change.now) e) }
         ensures taken { (actor : Actor) → actor.user ≡ user → actor.member self.old.table.principal ≡ is_member
             → OnOk result (change.now.principal ≡ self.old.table.principal
             → HasBy (B.held blocks.now) actor self.old change.now) }
@@ -450,13 +461,13 @@ impl<A: Allocator + Copy> Part<A> {
         if change.principal().get() != self.principal().get() {
             return Ok(false);
         }
-        match change.deed() {
-            Deed::At(action) => {
+        match change.work() {
+            Work::At(action) => {
                 let i_number = change.i_number();
                 let effect = self.change(alloc, blocks, user, is_member, i_number, action)?;
                 Ok(!effect)
             }
-            Deed::OfTable(_) => Ok(false),
+            Work::OfTable(_) => Ok(false),
         }
     }
 }

@@ -1,10 +1,9 @@
 //! I-nodes, files and directories, read from the blocks that are held.
 
-ghost use Rattle.std.specs.Prelude.{◌≡◌, ℕ, List, Some, IfOk, IfErr, OnOk, false, length, slice_get};
+ghost use Rattle.std.specs.Prelude.{◌≡◌, ℕ, List, Some, IsSomeAnd, IfOk, IfErr, OnOk, false, length, slice_get};
 ghost use Rattle.principals.specs.TableText.{table as table_format};
 ghost use Rattle.update_cert.specs.World.{File};
-ghost use Rattle.update_cert.specs.Reading.{Reading};
-ghost use Rattle.update_cert.specs.Blocks.{Agrees, directory_over, file_over, inode_at as inode_of, joined};
+ghost use Rattle.update_cert.specs.Blocks.{ForEachReading, directory_over, file_over, inode_at as inode_of, joined};
 ghost use Rattle.update_cert.specs.Blocks.{principals_at, principals_over};
 ghost use Rattle.update_cert.specs.Asked.{HasBlocks, HasPrincipals, Lacks, IsInode, IsBlock, IsOfPrincipals};
 ghost use Rattle.update_cert.specs.Asked.{IsTableBlock};
@@ -14,7 +13,7 @@ ghost use Rattle.itable.specs.Inode.{inode as inode_format};
 ghost use Rattle.itable.specs.declared.inode.Kind.TheVariants as kinds;
 ghost use Rattle.update_cert.specs.declared.spot.Spot.TheVariants as spots;
 
-use crate::blocks::{Blocks, inode_at, spelled};
+use crate::blocks::{Blocks, inode_at, join, spelled};
 use crate::error::ApplyError;
 use crate::spot::{Spot, size_of_block, takes_inode};
 use directory::Directory;
@@ -44,6 +43,37 @@ pub fn read_inode<A: Allocator + Copy, B: Blocks>(
     }
 }
 
+/// Looks whether each block of what an i-node is of is held and has its size, and copies none. The error is Missing of
+/// the first that isn't.
+fn find_blocks<A: Allocator, B: Blocks>(
+    blocks: &B,
+    digest: Digest,
+    inode: &Inode<A>,
+) -> Result<(), ApplyError>
+    requires { inode_of (B.held blocks.now) digest ≡ Some inode.now }
+    ensures fits { inode_format.Fits inode.now }
+    ensures whole { OnOk result (IsSomeAnd (joined (B.held blocks.now) inode.now.blocks)
+        (λ text. length text ≡ inode.now.size)) }
+    ensures sized { OnOk result ((k : ℕ) (block : List ℕ) → slice_get inode.now.blocks k ≡ Some block
+        → IsSized (B.held blocks.now) inode.now k block) }
+    ensures missing { IfErr result (Lacks (B.held blocks.now) (IsBlock (B.held blocks.now) inode.now.kind digest)) }
+{
+    // It has a block for each 4,096 bytes.
+    let kind = inode.kind();
+    for (place, block) in inode.blocks().iter().enumerate() {
+        let place = place as u16;
+        let size = size_of_block(inode.size(), place) as usize;
+        match blocks.get(*block) {
+            Some(bytes) if bytes.len() == size => {}
+            _ => {
+                let spot = Spot::of_block(kind, digest, place);
+                return Err(ApplyError::Missing(*block, spot));
+            }
+        }
+    }
+    Ok(())
+}
+
 /// The blocks of what an i-node is of, one after another: each has its size.
 fn text_of<A: Allocator + Copy, B: Blocks>(
     alloc: A,
@@ -59,20 +89,11 @@ fn text_of<A: Allocator + Copy, B: Blocks>(
         → IsSized (B.held blocks.now) inode.now k block) }
     ensures missing { IfErr result (Lacks (B.held blocks.now) (IsBlock (B.held blocks.now) inode.now.kind digest)) }
 {
-    // It has a block for each 4,096 bytes.
-    let kind = inode.kind();
-    let mut text = Vec::new(alloc);
-    for (place, block) in inode.blocks().iter().enumerate() {
-        let place = place as u16;
-        let size = size_of_block(inode.size(), place) as usize;
-        match blocks.get(*block) {
-            Some(bytes) if bytes.len() == size => text.extend_from_slice(bytes)?,
-            _ => {
-                let spot = Spot::of_block(kind, digest, place);
-                return Err(ApplyError::Missing(*block, spot));
-            }
-        }
-    }
+    find_blocks(blocks, digest, inode)?;
+    let Some(text) = join(alloc, blocks, inode.blocks())? else {
+        // All of them are held.
+        unreachable!()
+    };
     Ok(text)
 }
 
@@ -188,8 +209,8 @@ pub fn read_principals<A: Allocator + Copy, B: Blocks>(
     ensures found { IfOk result (λ table. principals_at (B.held blocks.now) digest ≡ Some table) }
     // It has a text, and whatever stands for the digests of which no block tells, the file there is that text.
     ensures fits { IfOk result table_format.Fits }
-    ensures reads { (reads : Reading) → Agrees (B.held blocks.now) reads
-        → IfOk result (λ table. reads.content digest ≡ File (table_format.spell table)) }
+    ensures reads { ForEachReading (B.held blocks.now) (λ reads.
+        IfOk result (λ table. reads.content digest ≡ File (table_format.spell table))) }
     // Each block is what its place takes.
     ensures taken { OnOk result (HasPrincipals (B.held blocks.now) digest) }
     // Missing names the i-node or a block of it, and no text of it is held that its spot takes.

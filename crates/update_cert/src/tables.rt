@@ -12,7 +12,7 @@ ghost use Rattle.update_cert.specs.TableVoids.{ToldEffect, is_void_on, table_voi
 
 use crate::applying::Voids;
 use crate::cert::Cert;
-use crate::change::{Change, Deed, TableChange};
+use crate::change::{Change, TableChange, Work};
 use layout::{Memory, Principal, User, Version};
 use principals::{Table, TableError};
 use std::alloc::Allocator;
@@ -68,10 +68,10 @@ fn apply_change<A: Allocator>(
         → OnOk result (table_format.Fits table.new) }
     ensures err { OnErr result (table.new ≡ table.old) }
 {
-    match change.deed() {
-        Deed::At(_) => Ok(false),
-        Deed::OfTable(_) if user != User::superuser() => Ok(true),
-        Deed::OfTable(change) => {
+    match change.work() {
+        Work::At(_) => Ok(false),
+        Work::OfTable(_) if user != User::superuser() => Ok(true),
+        Work::OfTable(change) => {
             let effect = alter(table, number, change)?;
             Ok(!effect)
         }
@@ -107,9 +107,9 @@ fn apply_each<A: Allocator>(
 fn is_of_table<A: Allocator>(change: &Change<A>) -> bool
     ensures { result ≡ is_of_table change.now }
 {
-    match change.deed() {
-        Deed::At(_) => false,
-        Deed::OfTable(_) => true,
+    match change.work() {
+        Work::At(_) => false,
+        Work::OfTable(_) => true,
     }
 }
 

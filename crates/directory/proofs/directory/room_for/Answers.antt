@@ -23,13 +23,13 @@ returns-in_default-name_text-clause-there g c =
     let none = ap is_some (target_of-IsFree c.args.entries.now c.args.name.now c.in-Err.place c.in-Err.ensures) in
     (λ e. absurd cc, λ some. absurd cc)
 
-pub returns-then-entries-ge1024-clause-there : goal.returns-then-entries-ge1024-clause-there
-returns-then-entries-ge1024-clause-there g c =
+pub returns-then-entries-ge-MOST_ENTRIES-clause-there : goal.returns-then-entries-ge-MOST_ENTRIES-clause-there
+returns-then-entries-ge-MOST_ENTRIES-clause-there g c =
     let none = ap is_some (target_of-IsFree c.args.entries.now c.args.name.now c.in-Err.place c.in-Err.ensures) in
     (λ e. absurd cc, λ some. absurd cc)
 
-pub returns-then-entries-ge1024-clause-full : goal.returns-then-entries-ge1024-clause-full
-returns-then-entries-ge1024-clause-full g c =
+pub returns-then-entries-ge-MOST_ENTRIES-clause-full : goal.returns-then-entries-ge-MOST_ENTRIES-clause-full
+returns-then-entries-ge-MOST_ENTRIES-clause-full g c =
     let none = target_of-IsFree c.args.entries.now c.args.name.now c.in-Err.place c.in-Err.ensures in
     (λ e. (none, c.in-Some.ensures.0, omega (arith, few c.args.entries.now c.requires)), λ e. refl)
 

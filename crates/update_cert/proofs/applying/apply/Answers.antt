@@ -7,7 +7,7 @@ use Rattle.update_cert.specs.World.{after, void_from}
 use Rattle.update_cert.specs.Reading.{after_read, void_of_read}
 use Rattle.update_cert.specs.Part.{IsPartOf, slot_at}
 use Rattle.update_cert.specs.Slots.{slot_after}
-use Rattle.update_cert.specs.Asked.{LacksAskedFor}
+use Rattle.update_cert.specs.Asked.{IsAskedFor, Lacks}
 use Rattle.update_cert.specs.Acts.{is_void_of}
 use Rattle.update_cert.proofs.AskedLaws.{all_met, handed_on, lacks_met, met_next}
 use Rattle.update_cert.proofs.TreeLaws.{take_next, part_next, slot_next, voids_next, pushed, not_pushed}
@@ -18,9 +18,9 @@ pub loop-place-init : goal.loop-place-init
 unfolding after void_from slot_after
 loop-place-init g c = record {
   principal = refl;
-  part = λ reads tree actor agrees is of one. is;
-  voids = λ reads tree actor agrees is of one. c.new-numbers.ensures.items;
-  slots = λ reads actor agrees of one i. refl;
+  part = λ reads agrees tree actor is of one. is;
+  voids = λ reads agrees tree actor is of one. c.new-numbers.ensures.items;
+  slots = λ reads agrees actor of one i. refl;
   taken = λ actor of one k change inode digest s lt met asked wanted. absurd (omega (arith, lt));
 }
 
@@ -33,8 +33,8 @@ returns-in_err-apply_change-clause-missing g c = λ actor of one.
     let missing = c.in_err-apply_change.ensures.missing actor (of ∙ sym c.user-user.ensures.same) (ap actor.member inv.principal ∙ one) in
     let inside = rw c.changes-change-items.ensures at c.loop-place-test.true in
     let at = rw c.changes-change-items.ensures at c.change-item.is in
-    let lacks : LacksAskedFor blocks actor cs c.args.part e = lacks_met blocks actor c.args.part c.loop-place.part cs c.loop-place.place c.change-item.result e inv.principal missing.0 inside at (λ reads agrees. inv.slots reads actor agrees of one) missing.1 in
-    handed_on c.from_residual.result e (LacksAskedFor blocks actor cs c.args.part) c.from_residual.ensures.1 lacks
+    let lacks : Lacks blocks (IsAskedFor blocks actor cs c.args.part) e = lacks_met blocks actor c.args.part c.loop-place.part cs c.loop-place.place c.change-item.result e inv.principal missing.0 inside at (λ reads agrees. inv.slots reads agrees actor of one) missing.1 in
+    handed_on c.from_residual.result e (Lacks blocks (IsAskedFor blocks actor cs c.args.part)) c.from_residual.ensures.1 lacks
 
 pub loop-place-preserved : goal.loop-place-preserved
 loop-place-preserved g c =
@@ -53,49 +53,49 @@ loop-place-preserved g c =
     let long : length (take k cs) ≡ k = length-take k cs ∙ omega (arith, inside) in
     record {
       principal = done.principal ∙ inv.principal;
-      part = λ reads tree actor agrees is of one.
+      part = λ reads agrees tree actor is of one.
           part_next reads actor (take k cs) (take (k + 1) cs) change new tree front
-          (done.part reads (after_read reads actor (take k cs) tree) actor agrees (inv.part reads tree actor agrees is of one) (of ∙ sym c.user-user.ensures.same) (ap actor.member inv.principal ∙ one));
-      voids = λ reads tree actor agrees is of one.
-          let told = done.void reads (after_read reads actor (take k cs) tree) actor agrees (inv.part reads tree actor agrees is of one) (of ∙ sym c.user-user.ensures.same) (ap actor.member inv.principal ∙ one) in
+          (done.part reads agrees (after_read reads actor (take k cs) tree) actor (inv.part reads agrees tree actor is of one) (of ∙ sym c.user-user.ensures.same) (ap actor.member inv.principal ∙ one));
+      voids = λ reads agrees tree actor is of one.
+          let told = done.void reads agrees (after_read reads actor (take k cs) tree) actor (inv.part reads agrees tree actor is of one) (of ∙ sym c.user-user.ensures.same) (ap actor.member inv.principal ∙ one) in
           voids_next reads actor first.table.principal k (take k cs) (take (k + 1) cs) change tree c.loop-place.numbers.items c.if-branch.numbers.items c.in_ok-apply_change.field-0 front long
           (told ∙ ap (λ (p : ℕ). is_void_of actor p change (after_read reads actor (take k cs) tree)) inv.principal)
-          (inv.voids reads tree actor agrees is of one)
+          (inv.voids reads agrees tree actor is of one)
           (elim c.if-branch.branch [
             | then-branch+in_ok-push w ↦ pushed c.loop-place.numbers.items c.if-branch.numbers.items (k + 1) c.in_ok-apply_change.field-0 w.if-branch.true (ap vec_items w.numbers-is ∙ w.in_ok-push.ensures.items)
             | else-branch w ↦ not_pushed c.loop-place.numbers.items c.if-branch.numbers.items (k + 1) c.in_ok-apply_change.field-0 w.if-branch.false (ap vec_items w.numbers-is)
           ]);
-      slots = λ reads actor agrees of one i.
+      slots = λ reads agrees actor of one i.
           let p = first.table.principal in
           let old = slot_at part i in
-          let more = done.slots reads actor agrees (of ∙ sym c.user-user.ensures.same) (ap actor.member inv.principal ∙ one) i ∙ ap (λ (q : ℕ). slot_after reads actor q i (change ∷ []) old) inv.principal in
-          slot_next reads actor p i (take k cs) (take (k + 1) cs) change (slot_at first i) old (slot_at new i) front (inv.slots reads actor agrees of one i) more;
+          let more = done.slots reads agrees actor (of ∙ sym c.user-user.ensures.same) (ap actor.member inv.principal ∙ one) i ∙ ap (λ (q : ℕ). slot_after reads actor q i (change ∷ []) old) inv.principal in
+          slot_next reads actor p i (take k cs) (take (k + 1) cs) change (slot_at first i) old (slot_at new i) front (inv.slots reads agrees actor of one i) more;
       taken = λ actor of one.
-          met_next blocks actor first part cs k change inv.principal inside at (λ reads agrees. inv.slots reads actor agrees of one)
+          met_next blocks actor first part cs k change inv.principal inside at (λ reads agrees. inv.slots reads agrees actor of one)
           (done.taken actor (of ∙ sym c.user-user.ensures.same) (ap actor.member inv.principal ∙ one))
           (inv.taken actor of one);
     }
 
 pub returns-clause-part : goal.returns-clause-part
-returns-clause-part g c = λ reads tree actor agrees is of one.
+returns-clause-part g c = λ reads agrees tree actor is of one.
     let cs = c.args.cert.now.changes in
     let past = rw c.changes-change-items.ensures at c.loop-place-test.false in
     let all = take_all c.loop-place.place cs past in
-    subst (λ (xs : List (Change Digest)). IsPartOf reads c.loop-place.part (after_read reads actor xs tree)) all (c.loop-place.invariant.part reads tree actor agrees is of one)
+    subst (λ (xs : List (Change Digest)). IsPartOf reads c.loop-place.part (after_read reads actor xs tree)) all (c.loop-place.invariant.part reads agrees tree actor is of one)
 
 pub returns-clause-voids : goal.returns-clause-voids
-returns-clause-voids g c = λ reads tree actor agrees is of one.
+returns-clause-voids g c = λ reads agrees tree actor is of one.
     let cs = c.args.cert.now.changes in
     let past = rw c.changes-change-items.ensures at c.loop-place-test.false in
     let all = take_all c.loop-place.place cs past in
-    subst (λ (xs : List (Change Digest)). c.loop-place.numbers.items ≡ void_of_read reads actor c.args.part.table.principal xs tree) all (c.loop-place.invariant.voids reads tree actor agrees is of one)
+    subst (λ (xs : List (Change Digest)). c.loop-place.numbers.items ≡ void_of_read reads actor c.args.part.table.principal xs tree) all (c.loop-place.invariant.voids reads agrees tree actor is of one)
 
 pub returns-clause-slots : goal.returns-clause-slots
-returns-clause-slots g c = λ reads actor agrees of one i.
+returns-clause-slots g c = λ reads agrees actor of one i.
     let cs = c.args.cert.now.changes in
     let past = rw c.changes-change-items.ensures at c.loop-place-test.false in
     let all = take_all c.loop-place.place cs past in
-    subst (λ (xs : List (Change Digest)). slot_at c.loop-place.part i ≡ slot_after reads actor c.args.part.table.principal i xs (slot_at c.args.part i)) all (c.loop-place.invariant.slots reads actor agrees of one i)
+    subst (λ (xs : List (Change Digest)). slot_at c.loop-place.part i ≡ slot_after reads actor c.args.part.table.principal i xs (slot_at c.args.part i)) all (c.loop-place.invariant.slots reads agrees actor of one i)
 
 pub returns-clause-taken : goal.returns-clause-taken
 returns-clause-taken g c = λ actor of one.

@@ -10,11 +10,11 @@ use Rattle.update_cert.proofs.applying.apply.Given as goal
 abbrev pub invariant-loop-place : goal.invariant-loop-place
 invariant-loop-place g l = record {
   principal : l.part.table.principal ≡ l.fn.part.table.principal;
-  part : (reads : Reading) (tree : Tree) (actor : Actor) → Agrees (g.B.Blocks.held l.blocks) reads → IsPartOf reads l.fn.part tree → actor.user ≡ l.cert.user → actor.member l.fn.part.table.principal ≡ l.is_member
+  part : (reads : Reading) → Agrees (g.B.Blocks.held l.blocks) reads → (tree : Tree) (actor : Actor) → IsPartOf reads l.fn.part tree → actor.user ≡ l.cert.user → actor.member l.fn.part.table.principal ≡ l.is_member
       → IsPartOf reads l.part (after_read reads actor (take l.place l.cert.changes) tree);
-  voids : (reads : Reading) (tree : Tree) (actor : Actor) → Agrees (g.B.Blocks.held l.blocks) reads → IsPartOf reads l.fn.part tree → actor.user ≡ l.cert.user → actor.member l.fn.part.table.principal ≡ l.is_member
+  voids : (reads : Reading) → Agrees (g.B.Blocks.held l.blocks) reads → (tree : Tree) (actor : Actor) → IsPartOf reads l.fn.part tree → actor.user ≡ l.cert.user → actor.member l.fn.part.table.principal ≡ l.is_member
       → l.numbers.items ≡ void_of_read reads actor l.fn.part.table.principal (take l.place l.cert.changes) tree;
-  slots : (reads : Reading) (actor : Actor) → Agrees (g.B.Blocks.held l.blocks) reads → actor.user ≡ l.cert.user → actor.member l.fn.part.table.principal ≡ l.is_member
+  slots : (reads : Reading) → Agrees (g.B.Blocks.held l.blocks) reads → (actor : Actor) → actor.user ≡ l.cert.user → actor.member l.fn.part.table.principal ≡ l.is_member
       → (i : ℕ) → slot_at l.part i ≡ slot_after reads actor l.fn.part.table.principal i (take l.place l.cert.changes) (slot_at l.fn.part i);
   taken : (actor : Actor) → actor.user ≡ l.cert.user → actor.member l.fn.part.table.principal ≡ l.is_member → HasMet (g.B.Blocks.held l.blocks) actor l.cert.changes l.fn.part l.place;
 }

@@ -9,35 +9,35 @@ use Rattle.update_cert.proofs.AskedLaws.{each_by, has_by, not_permitted_asks, ta
 use Rattle.update_cert.proofs.part.Part.change.Goals as goal
 
 pub returns-then-not-is_permitted-clause-effect : goal.returns-then-not-is_permitted-clause-effect
-returns-then-not-is_permitted-clause-effect g c = λ reads actor agrees of is.
+returns-then-not-is_permitted-clause-effect g c = λ reads agrees actor of is.
     let part = c.args.self.now in
     let change = change_at part c.args.i_number (action_of c.args.action.now) in
     let not : permitted actor change ≡ false = permitted_is actor change part.table.principal c.args.user c.args.is_member refl of is ∙ rw c.principal.ensures at (sym c.is_permitted.ensures ∙ c.if-not-is_permitted.true) in
     sym (not_permitted reads actor change (slot_at part change.i_number) not)
 
 pub returns-then-not-is_permitted-clause-slots : goal.returns-then-not-is_permitted-clause-slots
-returns-then-not-is_permitted-clause-slots g c = λ reads actor agrees of is i.
+returns-then-not-is_permitted-clause-slots g c = λ reads agrees actor of is i.
     let part = c.args.self.now in
     let change = change_at part c.args.i_number (action_of c.args.action.now) in
     let not : permitted actor change ≡ false = permitted_is actor change part.table.principal c.args.user c.args.is_member refl of is ∙ rw c.principal.ensures at (sym c.is_permitted.ensures ∙ c.if-not-is_permitted.true) in
     slots_still reads actor change part i (not_permitted reads actor change (slot_at part i) not)
 
 pub returns-then-is_table-clause-effect : goal.returns-then-is_table-clause-effect
-returns-then-is_table-clause-effect g c = λ reads actor agrees of is.
+returns-then-is_table-clause-effect g c = λ reads agrees actor of is.
     let part = c.args.self.now in
     let change = change_at part c.args.i_number (action_of c.args.action.now) in
     let place : is_table change.principal change.i_number ≡ true = ap (λ p. is_table p change.i_number) (sym c.principal-2.ensures) ∙ sym c.is_table.ensures ∙ c.if-is_table.true in
     sym (of_table reads actor change (slot_at part change.i_number) place)
 
 pub returns-then-is_table-clause-slots : goal.returns-then-is_table-clause-slots
-returns-then-is_table-clause-slots g c = λ reads actor agrees of is i.
+returns-then-is_table-clause-slots g c = λ reads agrees actor of is i.
     let part = c.args.self.now in
     let change = change_at part c.args.i_number (action_of c.args.action.now) in
     let place : is_table change.principal change.i_number ≡ true = ap (λ p. is_table p change.i_number) (sym c.principal-2.ensures) ∙ sym c.is_table.ensures ∙ c.if-is_table.true in
     slots_still reads actor change part i (of_table reads actor change (slot_at part i) place)
 
 pub returns-clause-effect : goal.returns-clause-effect
-returns-clause-effect g c = λ reads actor agrees of is.
+returns-clause-effect g c = λ reads agrees actor of is.
     let part = c.args.self.now in
     let change = change_at part c.args.i_number (action_of c.args.action.now) in
     let may : permitted actor change ≡ true = permitted_is actor change part.table.principal c.args.user c.args.is_member refl of is ∙ rw c.principal.ensures at (sym c.is_permitted.ensures ∙ c.if-not-is_permitted.false) in
@@ -45,7 +45,7 @@ returns-clause-effect g c = λ reads actor agrees of is.
     IfOk-weaker c.act.result _ _ (λ fitted acts. has_acted reads c.args.user actor change part c.act.new.self fitted place may of acts) (c.act.ensures.acts reads agrees)
 
 pub returns-clause-slots : goal.returns-clause-slots
-returns-clause-slots g c = λ reads actor agrees of is.
+returns-clause-slots g c = λ reads agrees actor of is.
     let part = c.args.self.now in
     let change = change_at part c.args.i_number (action_of c.args.action.now) in
     let may : permitted actor change ≡ true = permitted_is actor change part.table.principal c.args.user c.args.is_member refl of is ∙ rw c.principal.ensures at (sym c.is_permitted.ensures ∙ c.if-not-is_permitted.false) in

@@ -26,7 +26,7 @@ invariant_of-self-in-Ok g c =
     is_part_edited old c.args.i_number c.in-Ok.place c.index_mut.result.now c.link.new.self at here c.link.ensures.i_number c.self.invariant
 
 pub returns-in-Ok-clause-acts : goal.returns-in-Ok-clause-acts
-returns-in-Ok-clause-acts g c = λ reads user agrees.
+returns-in-Ok-clause-acts g c = λ reads agrees user.
     let old : Part = record { table = c.self.inside.table; opened = c.self.inside.opened.items } in
     let i = c.args.i_number in
     let d = c.index_mut.result.now in
@@ -39,7 +39,7 @@ returns-in-Ok-clause-acts g c = λ reads user agrees.
 
 -- no directory stands there
 pub returns-in_default-clause-acts : goal.returns-in_default-clause-acts
-returns-in_default-clause-acts g c = λ reads user agrees.
+returns-in_default-clause-acts g c = λ reads agrees user.
     let part = c.args.self.now in
     let i = c.args.i_number in
     let free = rw c.deref.ensures.value at c.in-Err.ensures in
@@ -49,7 +49,7 @@ returns-in_default-clause-acts g c = λ reads user agrees.
 
 -- what was read doesn't take it
 pub returns-then-not-branch-clause-acts : goal.returns-then-not-branch-clause-acts
-returns-then-not-branch-clause-acts g c = λ reads user agrees.
+returns-then-not-branch-clause-acts g c = λ reads agrees user.
     let part = c.args.self.now in
     let i = c.args.i_number in
     let es = c.in-Some.directory in
@@ -62,7 +62,7 @@ returns-then-not-branch-clause-acts g c = λ reads user agrees.
 
 -- or it does
 pub returns-clause-acts : goal.returns-clause-acts
-returns-clause-acts g c = λ reads user agrees.
+returns-clause-acts g c = λ reads agrees user.
     let part = c.args.self.now in
     let i = c.args.i_number in
     let es = c.in-Some.directory in
