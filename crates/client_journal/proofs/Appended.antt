@@ -159,14 +159,14 @@ module _ (old : History) (gate : ℕ) (at : Phase) (ready : IsReady old.now gate
           ∙ new_is
           ∙ sym (chain-push rs r (0 ∷ left))
           ∙ sym (append_assoc (chain (rs ++ r ∷ [])) (0 ∷ []) left)
-          ∙ ap (λ (l : List ℕ). (chain (rs ++ r ∷ []) ++ 0 ∷ []) ++ l) behind
+          ∙ ap (λ (l : List ℕ). (chain (rs ++ r ∷ []) ++ 0 ∷ []) ++ l) following
         where
           size : gate + 1 + length (spelled r ++ 0 ∷ []) ≡ 0 + length (chain (rs ++ r ∷ []) ++ 0 ∷ [])
           size =
               omega (arith, reaches.size, ap length (chain-push rs r (0 ∷ [])), length-append (chain rs) (1 ∷ (spelled r ++ 0 ∷ [])))
 
-          behind : left ≡ drop (0 + length (chain (rs ++ r ∷ []) ++ 0 ∷ [])) file
-          behind = ap (λ (k : ℕ). drop k file) size
+          following : left ≡ drop (0 + length (chain (rs ++ r ∷ []) ++ 0 ∷ [])) file
+          following = ap (λ (k : ℕ). drop k file) size
 
       pub done : Throughout (TellsWithOrWithout rs r) old new
       done =

@@ -49,9 +49,9 @@ from_front : (rs front : List Record) (gate : ℕ) (rest tail : List ℕ) → ga
 from_front rs [] gate rest tail shut short short' is = (rs, refl, sym is, short)
 from_front [] (r ∷ front) gate rest tail shut short short' is = absurd (shut (ap (λ (l : List ℕ). get_or l 0 0) is))
 from_front (r ∷ rs) (s ∷ front) gate rest tail shut short short' is =
-    let behind : spelled r ++ (chain rs ++ gate ∷ rest) ≡ spelled s ++ (chain front ++ tail) =
+    let following : spelled r ++ (chain rs ++ gate ∷ rest) ≡ spelled s ++ (chain front ++ tail) =
     sym (append_assoc (spelled r) (chain rs) (gate ∷ rest)) ∙ ap (λ (l : List ℕ). drop 1 l) is ∙ append_assoc (spelled s) (chain front) tail in
-    let one = one_record r s (chain rs ++ gate ∷ rest) (chain front ++ tail) short.0 short'.0 behind in
+    let one = one_record r s (chain rs ++ gate ∷ rest) (chain front ++ tail) short.0 short'.0 following in
     let all = from_front rs front gate rest tail shut short.1 short'.1 one.1 in
     (all.0, ap (λ (x : Record). x ∷ rs) one.0 ∙ ap (λ (l : List Record). s ∷ l) all.1, all.2, all.3)
 

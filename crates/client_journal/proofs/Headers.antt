@@ -86,8 +86,8 @@ one_record r s a b short short' is = (ap (λ (k : Kind). named k r.text) kinds.0
         ∙ ap (λ (l : List ℕ). take 5 l) both
         ∙ take_at (header s.kind (length s.text)) (s.text ++ b) 5 (length-header s.kind (length s.text)))
 
-    behind : r.text ++ a ≡ s.text ++ b
-    behind =
+    following : r.text ++ a ≡ s.text ++ b
+    following =
         sym (drop_at (header r.kind (length r.text)) (r.text ++ a) 5 (length-header r.kind (length r.text)))
         ∙ ap (λ (l : List ℕ). drop 5 l) both
         ∙ drop_at (header s.kind (length s.text)) (s.text ++ b) 5 (length-header s.kind (length s.text))
@@ -95,13 +95,13 @@ one_record r s a b short short' is = (ap (λ (k : Kind). named k r.text) kinds.0
     texts : r.text ≡ s.text
     texts =
         sym (take_at r.text a (length s.text) kinds.1)
-        ∙ ap (λ (l : List ℕ). take (length s.text) l) behind
+        ∙ ap (λ (l : List ℕ). take (length s.text) l) following
         ∙ take_at s.text b (length s.text) refl
 
     rests : a ≡ b
     rests =
         sym (drop_at r.text a (length s.text) kinds.1)
-        ∙ ap (λ (l : List ℕ). drop (length s.text) l) behind
+        ∙ ap (λ (l : List ℕ). drop (length s.text) l) following
         ∙ drop_at s.text b (length s.text) refl
 
 -- a record's kind is no other

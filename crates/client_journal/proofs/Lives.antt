@@ -1,4 +1,4 @@
--- What the calls of a life add to the records, one behind another.
+-- What the calls of a life add to the records, one after another.
 use Rattle.std.proofs.Common.{◌≡◌, ◌⊎◌, inl, inr, ℕ, List, [], ◌∷◌, ◌++◌, length, Result, Err, refl, sym, ◌∙◌, ap, subst}
 use Rattle.std.proofs.lemmas.Bool.{cases_lt}
 use Rattle.std.proofs.lemmas.List.{append_assoc, append-nil}
@@ -8,22 +8,22 @@ use Rattle.client_journal.specs.Records.{Record, Tells, TellsWithOrWithout, IsNe
 use Rattle.client_journal.specs.Life.{Addition, Nothing, Appended, Tried, addition_of, cut_short, MayAdd, IsPossible, Follows, Call, Event, Called, Crashed, IsLife, end_of, additions}
 use Rattle.client_journal.proofs.Opened.{both_new}
 
--- ---- one behind another
+-- ---- one after another
 
-behind : (adds : Addition) (calls : List Addition) (x y : List Record) → MayAdd (adds ∷ []) x → MayAdd calls y → MayAdd (adds ∷ calls) (x ++ y)
-behind Nothing calls x y first then = subst (λ (l : List Record). MayAdd calls (l ++ y)) (sym first) then
-behind (Appended r) calls x y first then = (y, ap (λ (l : List Record). l ++ y) (first.1 ∙ ap (λ (l : List Record). r ∷ l) first.2), then)
-behind (Tried r) calls x y (inl none) then = inl (subst (λ (l : List Record). MayAdd calls (l ++ y)) (sym none) then)
-behind (Tried r) calls x y (inr first) then = inr (y, ap (λ (l : List Record). l ++ y) (first.1 ∙ ap (λ (l : List Record). r ∷ l) first.2), then)
+one_after : (adds : Addition) (calls : List Addition) (x y : List Record) → MayAdd (adds ∷ []) x → MayAdd calls y → MayAdd (adds ∷ calls) (x ++ y)
+one_after Nothing calls x y first then = subst (λ (l : List Record). MayAdd calls (l ++ y)) (sym first) then
+one_after (Appended r) calls x y first then = (y, ap (λ (l : List Record). l ++ y) (first.1 ∙ ap (λ (l : List Record). r ∷ l) first.2), then)
+one_after (Tried r) calls x y (inl none) then = inl (subst (λ (l : List Record). MayAdd calls (l ++ y)) (sym none) then)
+one_after (Tried r) calls x y (inr first) then = inr (y, ap (λ (l : List Record). l ++ y) (first.1 ∙ ap (λ (l : List Record). r ∷ l) first.2), then)
 
-one_behind : (adds : Addition) (calls : List Addition) (old mid : History) (file : List ℕ) (then : Follows calls mid file) → Follows (adds ∷ []) old then.before → Follows (adds ∷ calls) old file
-one_behind adds calls old mid file then first = record {
+one_call_more : (adds : Addition) (calls : List Addition) (old mid : History) (file : List ℕ) (then : Follows calls mid file) → Follows (adds ∷ []) old then.before → Follows (adds ∷ calls) old file
+one_call_more adds calls old mid file then first = record {
   before = first.before;
   possible = first.possible;
   tells = λ rs told.
       let x = first.tells rs told in
       let y = then.tells (rs ++ x.0) x.2 in
-      (x.0 ++ y.0, behind adds calls x.0 y.0 x.1 y.1, subst (λ (l : List Record). Tells l file) (append_assoc rs x.0 y.0) y.2);
+      (x.0 ++ y.0, one_after adds calls x.0 y.0 x.1 y.1, subst (λ (l : List Record). Tells l file) (append_assoc rs x.0 y.0) y.2);
 }
 
 only : (left file : List ℕ) → IsPossible (started left) file → file ≡ left
@@ -33,10 +33,10 @@ only left file (inr may) = rest_only left file may
 pub all_follow : (h : History) (events : List Event) → IsLife h events → (file : List ℕ) → IsPossible (end_of h events) file → Follows (additions events) h file
 all_follow h [] life file here = record { before = file; possible = here; tells = λ rs told. ([], refl, subst (λ (l : List Record). Tells l file) (sym (append-nil rs)) told) }
 all_follow h (Called adds new ∷ events) life file here =
-    let then = all_follow new events life.1 file here in one_behind adds (additions events) h new file then (life.0.after then.before then.possible)
+    let then = all_follow new events life.1 file here in one_call_more adds (additions events) h new file then (life.0.after then.before then.possible)
 all_follow h (Crashed adds new left ∷ events) life file here =
     let then = all_follow (started left) events life.2 file here in
-    one_behind (cut_short adds) (additions events) h (started left) file then
+    one_call_more (cut_short adds) (additions events) h (started left) file then
     (subst (λ (l : List ℕ). Follows (cut_short adds ∷ []) h l) (sym (only left then.before then.possible)) (life.0.inside left life.1))
 
 -- ---- a call that adds nothing

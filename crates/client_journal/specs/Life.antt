@@ -34,7 +34,7 @@ MayAdd (Tried r ∷ calls) added =
 abbrev pub IsPossible : History → Bytes → Type 0
 IsPossible h file = (file ≡ h.now.text) ⊎ MayLeave h.now file
 
--- The file tells what some file told that was possible before these calls, and behind that what they may have added.
+-- The file tells what some file told that was possible before these calls, and after that what they may have added.
 pub record Follows (calls : List Addition) (old : History) (file : Bytes) : Type 0 where
   pub before : Bytes
   pub possible : IsPossible old before

@@ -17,7 +17,7 @@ pub fn files_tell_or_are_damaged()
     ensures one { (file : Bytes) (some others : List Record) → Tells some file → Tells others file → some ≡ others }
 {}
 
-/// Over every list of calls and crashes, also inside a call, the records are those that were there before, and behind
+/// Over every list of calls and crashes, also inside a call, the records are those that were there before, and after
 /// them, in order, those of the appends that were answered Ok, and of the other appends each or not.
 pub fn records_stay()
     ensures { (start : History) (rs : List Record) → Tells rs start.now.text → Leaves (Tells rs) start.now

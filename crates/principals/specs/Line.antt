@@ -1,17 +1,18 @@
 -- Tables that come about by changes of one line, each of an operation of user 0's.
-use Rattle.std.specs.Prelude.{ℕ, ◌≤◌, List, [], ◌∷◌, Option, filter, is_none, nat_le, if◌then◌else◌}
+use Rattle.std.specs.Prelude.{◌≤◌, List, [], ◌∷◌, Option, filter, is_none, nat_le, if◌then◌else◌}
+use Rattle.layout.specs.Types.{Key, Principal, User, Version}
 use Rattle.principals.specs.declared.error.TableError.{TableError}
 use Rattle.principals.specs.Table.{Table, user_added, member_added, member_dropped, user_refused, member_refused, drop_refused}
 
 -- what is done to a table
 pub data TableChange : Type 0 where
-  AddUser : ℕ → List ℕ → TableChange
-  AddMember : ℕ → ℕ → TableChange
-  DropMember : ℕ → ℕ → TableChange
+  AddUser : User → Key → TableChange
+  AddMember : Principal → User → TableChange
+  DropMember : Principal → User → TableChange
 
 -- by user 0's operation of this number
 pub record Step : Type 0 where
-  pub number : ℕ
+  pub number : Version
   pub change : TableChange
 
 -- why it has no effect, if it has none
@@ -20,7 +21,7 @@ refused (AddUser user key) table = user_refused table user
 refused (AddMember group user) table = member_refused table group user
 refused (DropMember group user) table = drop_refused table group user
 
-abbrev pub effect : ℕ → TableChange → Table → Table
+abbrev pub effect : Version → TableChange → Table → Table
 effect number (AddUser user key) table = user_added number user key table
 effect number (AddMember group user) table = member_added number group user table
 effect number (DropMember group user) table = member_dropped number group user table
@@ -33,10 +34,10 @@ after_line [] table = table
 after_line (s ∷ ss) table = after_line ss (after_step s table)
 
 -- the numbers never fall, and none is below this one
-abbrev pub InOrder : ℕ → List Step → Type 0
+abbrev pub InOrder : Version → List Step → Type 0
 InOrder least [] = Unit {0}
 InOrder least (s ∷ ss) = (least ≤ s.number) × InOrder s.number ss
 
 -- the steps up to a number of user 0's
-abbrev pub up_to : ℕ → List Step → List Step
+abbrev pub up_to : Version → List Step → List Step
 up_to version line = filter (λ s. nat_le s.number version) line

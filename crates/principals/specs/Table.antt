@@ -1,9 +1,10 @@
 -- The table of principals: who is a user, since when and by which key, and who is a member of which group.
-use Rattle.std.specs.Prelude.{◌≡◌, ◌⊎◌, ℕ, Bool, not, List, [], ◌∷◌, ◌++◌, length, Option, Some, None, Result, Ok, Err, ◌==◌, ◌&&◌, ◌||◌, nat_lt, nat_le, find, map, if◌then◌else◌}
+use Rattle.std.specs.Prelude.{◌≡◌, ◌⊎◌, Bool, not, List, [], ◌∷◌, ◌++◌, length, Option, Some, None, Result, Ok, Err, ◌==◌, ◌&&◌, ◌||◌, nat_lt, nat_le, find, map, if◌then◌else◌}
 use Rattle.std.specs.List.{list_any}
 use Rattle.std.specs.Option.{option_map}
 use Rattle.std.specs.Ordering.{nat_cmp}
 use Rattle.layout.specs.Ascending.{with_row}
+use Rattle.layout.specs.Types.{Group, Key, Principal, User, Version}
 use Rattle.principals.specs.declared.error.TableError.{TableError}
 use Rattle.principals.specs.declared.error.TableError.TheVariants.{Listed, Unlisted, NotGroup, NotMember, Full, Memory}
 use Rattle.principals.specs.declared.table.Listing.{Listing}
@@ -15,80 +16,80 @@ pub record Table : Type 0 where
   pub rows : List Row
 
 -- the table of the beginning: user 0, since 0, with the key that every client knows; nobody is a member of a group
-abbrev pub genesis : List ℕ → Table
+abbrev pub genesis : Key → Table
 genesis key = record { users = record { user = 0; since = 0; key = key } ∷ []; rows = [] }
 
 -- ---- users
 
 -- the listing of a user
-abbrev pub listing_of : ℕ → Table → Option Listing
+abbrev pub listing_of : User → Table → Option Listing
 listing_of user table = find (λ l. l.user == user) table.users
 
-abbrev pub key_of : ℕ → Table → Option (List ℕ)
+abbrev pub key_of : User → Table → Option Key
 key_of user table = option_map (λ l. l.key) (listing_of user table)
 
 -- the number of user 0's that listed the user
-abbrev pub since : ℕ → Table → Option ℕ
+abbrev pub since : User → Table → Option Version
 since user table = option_map (λ l. l.since) (listing_of user table)
 
 -- the user is listed since this number of user 0's or before
-abbrev pub is_listed : Table → ℕ → ℕ → Bool
+abbrev pub is_listed : Table → User → Version → Bool
 is_listed table user number = list_any (λ l. (l.user == user) && nat_le l.since number) table.users
 
 -- ---- members
 
-abbrev pub is_row_of : ℕ → ℕ → Row → Bool
+abbrev pub is_row_of : Group → User → Row → Bool
 is_row_of group user r = (r.group == group) && (r.user == user)
 
 -- the row counts at this number of user 0's
-abbrev pub counts_at : ℕ → Row → Bool
+abbrev pub counts_at : Version → Row → Bool
 counts_at version r = nat_le r.begins version && ((r.until == 0) || nat_lt version r.until)
 
 -- the user is a member of the group at this number of user 0's
-abbrev pub is_member : Table → ℕ → ℕ → ℕ → Bool
+abbrev pub is_member : Table → Group → User → Version → Bool
 is_member table group user version = list_any (λ r. is_row_of group user r && counts_at version r) table.rows
 
 -- ---- changes, each of an operation of user 0's with this number
 
 -- the user is listed, since whenever
-abbrev pub lists_user : Table → ℕ → Bool
+abbrev pub lists_user : Table → User → Bool
 lists_user table user = list_any (λ l. l.user == user) table.users
 
 -- the row of a member whose membership hasn't ended
-abbrev pub is_open : ℕ → ℕ → Row → Bool
+abbrev pub is_open : Group → User → Row → Bool
 is_open group user r = is_row_of group user r && (r.until == 0)
 
 -- the user is a member of the group after all of user 0's operations
-abbrev pub is_member_now : Table → ℕ → ℕ → Bool
+abbrev pub is_member_now : Table → Group → User → Bool
 is_member_now table group user = list_any (is_open group user) table.rows
 
--- the number by which the users ascend
-abbrev pub user_of : Listing → ℕ
+-- the user of a listing, by which they ascend
+abbrev pub user_of : Listing → User
 user_of l = l.user
 
 -- the user stands among the others, in its place
-abbrev pub user_added : ℕ → ℕ → List ℕ → Table → Table
+abbrev pub user_added : Version → User → Key → Table → Table
 user_added number user key table = record { users = with_row nat_cmp user_of table.users (record { user = user; since = number; key = key }); rows = table.rows }
 
-abbrev pub member_added : ℕ → ℕ → ℕ → Table → Table
+abbrev pub member_added : Version → Group → User → Table → Table
 member_added number group user table = record { users = table.users; rows = table.rows ++ record { group = group; user = user; begins = number; until = 0 } ∷ [] }
 
 -- an open row of the group and the user ends; others stay
-abbrev pub ended : ℕ → ℕ → ℕ → Row → Row
+abbrev pub ended : Version → Group → User → Row → Row
 ended number group user r = if is_open group user r then record { group = r.group; user = r.user; begins = r.begins; until = number } else r
 
-abbrev pub member_dropped : ℕ → ℕ → ℕ → Table → Table
+abbrev pub member_dropped : Version → Group → User → Table → Table
 member_dropped number group user table = record { users = table.users; rows = map (ended number group user) table.rows }
 
 -- ---- why a change is refused, the least of several errors
 
-abbrev pub is_group : ℕ → Bool
+abbrev pub is_group : Principal → Bool
 is_group principal = nat_le 64 principal
 
-abbrev pub user_refused : Table → ℕ → Option TableError
+abbrev pub user_refused : Table → User → Option TableError
 user_refused table user = if lists_user table user then Some Listed else None
 
-abbrev pub member_refused : Table → ℕ → ℕ → Option TableError
+abbrev pub member_refused : Table → Principal → User → Option TableError
 member_refused table group user =
     if is_group group && is_member_now table group user then Some Listed
     else if not (lists_user table user) then Some Unlisted
@@ -96,7 +97,7 @@ member_refused table group user =
     else if nat_le 65535 (length table.rows) then Some Full
     else None
 
-abbrev pub drop_refused : Table → ℕ → ℕ → Option TableError
+abbrev pub drop_refused : Table → Principal → User → Option TableError
 drop_refused table group user =
     if not (lists_user table user) then Some Unlisted
     else if not (is_group group) then Some NotGroup

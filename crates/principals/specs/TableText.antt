@@ -1,6 +1,6 @@
 -- The text of the table of principals: `SPT1`, the users after their count, and the rows of the members after theirs.
 -- The bytes stand in docs/FORMATS.md.
-use Rattle.std.specs.Prelude.{ℕ, ◌==◌, ◌-◌, ◌≤◌, Bool, not, List, [], ◌∷◌, ◌++◌, length, Option, Some, None, codes, nat_le, if◌then◌else◌}
+use Rattle.std.specs.Prelude.{◌==◌, ◌-◌, ◌≤◌, Bool, not, List, [], ◌∷◌, ◌++◌, length, Option, Some, None, codes, nat_le, if◌then◌else◌}
 use Rattle.std.specs.Int.{w8, w16, w32}
 use Rattle.std.specs.List.{All, slice_get}
 use Rattle.std.specs.Option.{option_map_or}
@@ -8,6 +8,7 @@ use Rattle.std.specs.Ordering.{nat_cmp}
 use Rattle.layout.specs.Format.{Format, Rows, RowAfter, uint_in, raw, pair, followed, guarded, headed, mapped, listed, listed_from}
 use Rattle.layout.specs.Ranges.{user, group, version}
 use Rattle.layout.specs.Ascending.{above}
+use Rattle.layout.specs.Types.{Group, Key, User, Version}
 use Rattle.layout.specs.declared.error.ReadError.TheVariants.{Order, Range}
 use Rattle.lms_sign.specs.Keys.{is_key}
 use Rattle.principals.specs.declared.table.Listing.{Listing}
@@ -16,19 +17,19 @@ use Rattle.principals.specs.Table.{Table, user_of, lists_user, is_member_now}
 
 -- ---- users
 
-abbrev pub key : Format (List ℕ)
+abbrev pub key : Format Key
 key = guarded (raw 56) is_key Range
 
-abbrev pub listing_of : Format ℕ → Format ℕ → Format Listing
+abbrev pub listing_of : Format User → Format Version → Format Listing
 listing_of who since = mapped (λ p. record { user = p.0; since = p.1.0; key = p.1.1 }) (λ l. (l.user, (l.since, l.key))) (pair who (pair since key))
 
 -- user 0 comes first
-abbrev pub who : Option Listing → Format ℕ
+abbrev pub who : Option Listing → Format User
 who None = guarded user (λ u. u == 0) Range
 who (Some before) = guarded user (above nat_cmp user_of (Some before)) Order
 
 -- and is listed at 0; each other one is listed by an operation of user 0's
-abbrev pub listed_at : Option Listing → Format ℕ
+abbrev pub listed_at : Option Listing → Format Version
 listed_at None = uint_in w32 0 0
 listed_at (Some before) = uint_in w32 1 4294967295
 
@@ -45,20 +46,20 @@ users = listed (uint_in w8 1 255) listing
 -- ---- rows of members
 
 -- where the last row begins, 0 where there is none
-abbrev pub last_begins : Table → ℕ
+abbrev pub last_begins : Table → Version
 last_begins table = option_map_or (λ r. r.begins) (slice_get table.rows (length table.rows - 1)) 0
 
 -- what may end a row of the group and the user: nothing as yet, where no row of theirs is open, or no number before it
-abbrev pub may_end : Table → ℕ → ℕ → ℕ → ℕ → Bool
+abbrev pub may_end : Table → Group → User → Version → Version → Bool
 may_end table group user begins until = if until == 0 then not (is_member_now table group user) else nat_le begins until
 
-abbrev pub listed_user : Table → Format ℕ
+abbrev pub listed_user : Table → Format User
 listed_user table = guarded user (lists_user table) Range
 
-abbrev pub begins_row : Table → Format ℕ
+abbrev pub begins_row : Table → Format Version
 begins_row table = guarded version (nat_le (last_begins table)) Order
 
-abbrev pub ends_row : Table → ℕ → ℕ → ℕ → Format ℕ
+abbrev pub ends_row : Table → Group → User → Version → Format Version
 ends_row table g u begins = guarded (uint_in w32 0 4294967295) (may_end table g u begins) Range
 
 abbrev pub row : Table → Format Row
@@ -94,5 +95,5 @@ table =
     (followed users rows_of))
 
 -- no row begins after this number
-abbrev pub NoneAfter : ℕ → Table → Type 0
+abbrev pub NoneAfter : Version → Table → Type 0
 NoneAfter number table = All (λ r. r.begins ≤ number) table.rows

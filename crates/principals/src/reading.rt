@@ -39,7 +39,8 @@ pub fn read_key(reader: &mut Reader<'_>) -> Result<PublicKey, ReadError>
 
 /// Who is listed next.
 fn read_who(reader: &mut Reader<'_>, before: Option<&Listing>) -> Result<User, ReadError>
-    ensures { Reads result reader.new ((who (option_copied before.entry)).read reader.old) }
+    ensures reads { Reads result reader.new ((who (option_copied before.entry)).read reader.old) }
+    ensures no_memory { IfErr result (λ e. e ≢ read_error.Memory) }
 {
     let user = reader.user()?;
     match before {
@@ -51,7 +52,8 @@ fn read_who(reader: &mut Reader<'_>, before: Option<&Listing>) -> Result<User, R
 
 /// Since when that user is listed.
 fn read_since(reader: &mut Reader<'_>, before: Option<&Listing>) -> Result<u32, ReadError>
-    ensures { Reads result reader.new ((listed_at (option_copied before.entry)).read reader.old) }
+    ensures reads { Reads result reader.new ((listed_at (option_copied before.entry)).read reader.old) }
+    ensures no_memory { IfErr result (λ e. e ≢ read_error.Memory) }
 {
     match before {
         None => reader.u32_in(0, 0),
@@ -123,7 +125,8 @@ fn read_begins<A: Allocator>(
     table: &Table<A>,
     reader: &mut Reader<'_>,
 ) -> Result<Version, ReadError>
-    ensures { Reads result reader.new ((begins_row table.now).read reader.old) }
+    ensures reads { Reads result reader.new ((begins_row table.now).read reader.old) }
+    ensures no_memory { IfErr result (λ e. e ≢ read_error.Memory) }
 {
     let begins = reader.version()?;
     if begins.get() < table.last_begins() {
@@ -140,7 +143,8 @@ fn read_until<A: Allocator>(
     user: User,
     begins: Version,
 ) -> Result<u32, ReadError>
-    ensures { Reads result reader.new ((ends_row table.now group user begins).read reader.old) }
+    ensures reads { Reads result reader.new ((ends_row table.now group user begins).read reader.old) }
+    ensures no_memory { IfErr result (λ e. e ≢ read_error.Memory) }
 {
     let until = reader.u32_in(0, u32::MAX)?;
     let may = if until == 0 {
@@ -156,7 +160,8 @@ fn read_until<A: Allocator>(
 
 /// A listed user.
 fn read_listed<A: Allocator>(table: &Table<A>, reader: &mut Reader<'_>) -> Result<User, ReadError>
-    ensures { Reads result reader.new ((listed_user table.now).read reader.old) }
+    ensures reads { Reads result reader.new ((listed_user table.now).read reader.old) }
+    ensures no_memory { IfErr result (λ e. e ≢ read_error.Memory) }
 {
     let user = reader.user()?;
     if !table.lists_user(user) {

@@ -27,6 +27,21 @@ pub struct Entry {
     pub plan: Digest,
 }
 
+impl Entry {
+    ghost use Rattle.layout.specs.Format.{raw};
+    ghost use Rattle.layout.specs.Ranges.{user, version};
+
+    /// That its fields fit their texts, as their own contracts say.
+    fn fits(&self)
+        ensures user { user.Fits self.now.user }
+        ensures number { version.Fits self.now.number }
+        ensures plan { (raw 32).Fits self.now.plan }
+    {
+        let _numbers = (self.user.get(), self.number.get());
+        let _plan = self.plan.as_bytes();
+    }
+}
+
 /// The rows of the entries.
 #[derive(Clone, Copy)]
 struct EntryRows;
@@ -123,8 +138,7 @@ impl<A: Allocator> Entries<A> {
         ensures ok { OnOk result (self.new ≡ self.old ++ entry ∷ []) }
         ensures err { OnErr result (self.new ≡ self.old) }
     {
-        let _range = (entry.user.get(), entry.number.get());
-        let _plan = entry.plan.as_bytes();
+        entry.fits();
         self.rows.push(entry)?;
         Ok(())
     }

@@ -30,6 +30,21 @@ pub struct GroupRecord {
     pub handle: Digest,
 }
 
+impl GroupRecord {
+    ghost use Rattle.layout.specs.Format.{raw};
+    ghost use Rattle.layout.specs.Ranges.{group, version};
+
+    /// That its fields fit their texts, as their own contracts say.
+    fn fits(&self)
+        ensures group { group.Fits self.now.group }
+        ensures version { version.Fits self.now.version }
+        ensures handle { (raw 32).Fits self.now.handle }
+    {
+        let _numbers = (self.group.get(), self.version.get());
+        let _handle = self.handle.as_bytes();
+    }
+}
+
 /// The rows of the group records.
 #[derive(Clone, Copy)]
 struct GroupRecordRows;
@@ -164,9 +179,7 @@ impl<A: Allocator> GroupRecords<A> {
         ensures listed { IsSome (row_at nat_cmp group_of self.old state.group) → IsOk result }
         ensures err { OnErr result (self.new ≡ self.old) }
     {
-        let _group = state.group.get();
-        let _version = state.version.get();
-        let _handle = state.handle.as_bytes();
+        state.fits();
         put(&mut self.records, state)
     }
 }

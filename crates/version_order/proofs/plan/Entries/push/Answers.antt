@@ -38,10 +38,10 @@ fits_either (Err u) xs ys x alone all fits e = subst entries.Fits (sym e) fits
 
 pub invariant_of-self : goal.invariant_of-self
 invariant_of-self g c =
-    fits_either c.push.result c.self.inside.rows.items c.push.new.self.items c.args.entry (record { user = c.get.ensures.fits; number = c.get-2.ensures.fits; plan = c.as_bytes-plan.ensures.fits })
+    fits_either c.push.result c.self.inside.rows.items c.push.new.self.items c.args.entry (record { user = c.fits.ensures.user; number = c.fits.ensures.number; plan = c.fits.ensures.plan })
     (subst (All (λ e. e.user < c.args.entry.user)) (sym c.self.view_is) c.requires.above) c.self.invariant c.push.ensures.items
 
 pub invariant_of-self-2 : goal.invariant_of-self-2
 invariant_of-self-2 g c =
-    fits_either c.push.result c.self.inside.rows.items c.push.new.self.items c.args.entry (record { user = c.get.ensures.fits; number = c.get-2.ensures.fits; plan = c.as_bytes-plan.ensures.fits })
+    fits_either c.push.result c.self.inside.rows.items c.push.new.self.items c.args.entry (record { user = c.fits.ensures.user; number = c.fits.ensures.number; plan = c.fits.ensures.plan })
     (subst (All (λ e. e.user < c.args.entry.user)) (sym c.self.view_is) c.requires.above) c.self.invariant c.push.ensures.items

@@ -9,5 +9,5 @@ invariant_of-self g c =
     let small : c.args.state.table < 4294967296 = search rules in
     let table = in_range_fits w32 0 4294967295 c.args.state.table (omega (arith, small)) (omega arith) (omega (arith, small)) in
     fits_set c.put.result c.args.state c.self.inside.records.items c.put.new.records.items
-    (c.get-group.ensures.fits, (c.get-version.ensures.fits, (table, c.as_bytes-handle.ensures.fits)))
+    (c.fits.ensures.group, (c.fits.ensures.version, (table, c.fits.ensures.handle)))
     c.self.invariant c.put.ensures.ok c.put.ensures.err
