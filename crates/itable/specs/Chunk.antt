@@ -26,12 +26,12 @@ i_number_of p = p.i_number
 -- a pair in a chunk: another chunk's i-number is out of range
 abbrev pub pair_row : ℕ → RowAfter Pair
 pair_row number before =
-    mapped (λ p. record { i_number = p.0; digest = p.1 }) (λ p. (p.i_number, p.digest))
+    mapped (λ (i_number, digest). record { i_number = i_number; digest = digest }) (λ p. (p.i_number, p.digest))
     (pair (guarded (guarded i_number (λ i. chunk_number i == number) Range) (above nat_cmp i_number_of before) Order) (raw 32))
 
 -- a chunk has at least one pair
 abbrev pub chunk : Format Chunk
 chunk =
     headed (codes "STC1")
-    (mapped (λ p. record { number = p.0; pairs = p.1 }) (λ c. (c.number, c.pairs))
+    (mapped (λ (number, pairs). record { number = number; pairs = pairs }) (λ c. (c.number, c.pairs))
     (followed (uint_in w8 0 63) (λ number. listed (uint_in w8 1 64) (pair_row number))))

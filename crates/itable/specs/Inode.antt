@@ -41,5 +41,5 @@ digests count = listed (uint_in w16 count count) (λ _. raw 32)
 abbrev pub inode : Format Inode
 inode =
     headed (codes "SIN1")
-    (mapped (λ p. record { kind = p.0; size = p.1.0; blocks = p.1.1 }) (λ i. (i.kind, (i.size, i.blocks)))
+    (mapped (λ (kind, (size, blocks)). record { kind = kind; size = size; blocks = blocks }) (λ i. (i.kind, (i.size, i.blocks)))
     (followed kind (λ k. followed (size k) (λ bytes. digests (block_count bytes)))))

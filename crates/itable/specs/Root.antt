@@ -25,11 +25,11 @@ chunk_at r n = row_at nat_cmp number_of r.chunks n
 
 abbrev pub chunk_row : RowAfter ListedChunk
 chunk_row before =
-    mapped (λ p. record { number = p.0; digest = p.1 }) (λ c. (c.number, c.digest))
+    mapped (λ (number, digest). record { number = number; digest = digest }) (λ c. (c.number, c.digest))
     (pair (guarded (uint_in w8 0 63) (above nat_cmp number_of before) Order) (raw 32))
 
 abbrev pub root : Format Root
 root =
     headed (codes "STR1")
-    (mapped (λ p. record { principal = p.0; chunks = p.1 }) (λ r. (r.principal, r.chunks))
+    (mapped (λ (principal, chunks). record { principal = principal; chunks = chunks }) (λ r. (r.principal, r.chunks))
     (pair principal (listed (uint_in w8 0 64) chunk_row)))

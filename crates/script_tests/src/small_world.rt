@@ -7,7 +7,7 @@ use std::io::Write;
 
 /// What a change does; the texts of files are numbers.
 #[derive(Clone, Copy)]
-enum Deed {
+enum Task {
     /// The user's own file has a new text.
     PutOwn,
     /// The group's file is made.
@@ -85,31 +85,31 @@ const LINES_BEFORE: &[u8] = b"0 begin 1\n\
     2 committed\n";
 
 /// The changes of a user's operation: user 1 makes the group's file and writes it, user 2 writes it and removes it.
-fn deeds_of(user: u8, number: u32) -> &'static [Deed] {
+fn tasks_of(user: u8, number: u32) -> &'static [Task] {
     match (user, number % 2) {
-        (1, 0) => &[Deed::PutOwn, Deed::MakeShared],
-        (1, _) => &[Deed::PutShared],
-        (_, 0) => &[Deed::PutOwn, Deed::PutShared],
-        (_, _) => &[Deed::RemoveShared],
+        (1, 0) => &[Task::PutOwn, Task::MakeShared],
+        (1, _) => &[Task::PutShared],
+        (_, 0) => &[Task::PutOwn, Task::PutShared],
+        (_, _) => &[Task::RemoveShared],
     }
 }
 
 /// Whether a change has an effect, where the group's file stands or doesn't.
-fn fits(deed: Deed, stands: bool) -> bool {
-    match deed {
-        Deed::PutOwn => true,
-        Deed::MakeShared => !stands,
-        Deed::PutShared | Deed::RemoveShared => stands,
+fn fits(task: Task, stands: bool) -> bool {
+    match task {
+        Task::PutOwn => true,
+        Task::MakeShared => !stands,
+        Task::PutShared | Task::RemoveShared => stands,
     }
 }
 
 /// Writes a change as the script has it.
-fn write_deed(rt: &impl Host, script: &mut Vec<u8>, user: u8, deed: Deed, text: u32) {
-    let written = match deed {
-        Deed::PutOwn => write!(script, " put {user} 3 {text}"),
-        Deed::MakeShared => write!(script, " make 64 65 file {text}"),
-        Deed::PutShared => write!(script, " put 64 65 {text}"),
-        Deed::RemoveShared => write!(script, " remove 64 65"),
+fn write_task(rt: &impl Host, script: &mut Vec<u8>, user: u8, task: Task, text: u32) {
+    let written = match task {
+        Task::PutOwn => write!(script, " put {user} 3 {text}"),
+        Task::MakeShared => write!(script, " make 64 65 file {text}"),
+        Task::PutShared => write!(script, " put 64 65 {text}"),
+        Task::RemoveShared => write!(script, " remove 64 65"),
     };
     written.expect(rt, "memory");
 }
@@ -132,11 +132,11 @@ impl Story {
         let Member { user, number, .. } = member;
         let (number, text) = (number.wrapping_add(1), self.texts.wrapping_add(1));
         write!(self.script, "begin {user}").expect(rt, "memory");
-        for (place, deed) in deeds_of(user, number).iter().enumerate() {
+        for (place, task) in tasks_of(user, number).iter().enumerate() {
             if place > 0 {
                 write!(self.script, ";").expect(rt, "memory");
             }
-            write_deed(rt, &mut self.script, user, *deed, text);
+            write_task(rt, &mut self.script, user, *task, text);
         }
         write!(self.script, "\n").expect(rt, "memory");
         write!(self.lines, "{user} begin {number}\n").expect(rt, "memory");
@@ -150,11 +150,11 @@ impl Story {
     }
 
     /// What the change makes of the files.
-    fn change(&mut self, member: &mut Member, deed: Deed) {
-        match deed {
-            Deed::PutOwn => member.file = member.writes,
-            Deed::MakeShared | Deed::PutShared => self.shared = Some(member.writes),
-            Deed::RemoveShared => self.shared = None,
+    fn change(&mut self, member: &mut Member, task: Task) {
+        match task {
+            Task::PutOwn => member.file = member.writes,
+            Task::MakeShared | Task::PutShared => self.shared = Some(member.writes),
+            Task::RemoveShared => self.shared = None,
         }
     }
 
@@ -164,9 +164,9 @@ impl Story {
         write!(self.script, "update {user} a\n").expect(rt, "memory");
         write!(self.lines, "{user} accepted {number}").expect(rt, "memory");
         let mut loses = false;
-        for (place, deed) in deeds_of(user, number).iter().enumerate() {
-            if fits(*deed, self.shared.is_some()) {
-                self.change(&mut member, *deed);
+        for (place, task) in tasks_of(user, number).iter().enumerate() {
+            if fits(*task, self.shared.is_some()) {
+                self.change(&mut member, *task);
             } else {
                 let before = if loses { "" } else { " lost" };
                 write!(self.lines, "{before} {}", place.wrapping_add(1)).expect(rt, "memory");

@@ -10,7 +10,7 @@ use update_cert::{Action, Change};
 
 /// What is done at an i-number of user 0's.
 #[derive(Clone, Copy)]
-pub(crate) enum Deed {
+pub(crate) enum Task {
     /// A file of these bytes is made.
     Make(&'static [u8]),
     /// An empty directory is made.
@@ -36,24 +36,24 @@ pub(crate) fn plan_action(
     plan_change(rt, planned, change);
 }
 
-/// Plans a deed.
-fn plan_deed(rt: &impl Host, planned: &mut Planned, number: u16, deed: Deed) {
-    let action = match deed {
-        Deed::Make(file) => Action::Make(lay(rt, planned, file)),
-        Deed::MakeDirectory => Action::Make(digest(EMPTY_INODE)),
-        Deed::Put(file) => Action::Put(lay(rt, planned, file)),
-        Deed::Remove => Action::Remove,
-        Deed::Link(name, target) => Action::Link(entry(rt, name, (0, target))),
-        Deed::Unlink(text) => Action::Unlink(name(rt, text)),
+/// Plans a task.
+fn plan_task(rt: &impl Host, planned: &mut Planned, number: u16, task: Task) {
+    let action = match task {
+        Task::Make(file) => Action::Make(lay(rt, planned, file)),
+        Task::MakeDirectory => Action::Make(digest(EMPTY_INODE)),
+        Task::Put(file) => Action::Put(lay(rt, planned, file)),
+        Task::Remove => Action::Remove,
+        Task::Link(name, target) => Action::Link(entry(rt, name, (0, target))),
+        Task::Unlink(text) => Action::Unlink(name(rt, text)),
     };
     plan_action(rt, planned, number, action);
 }
 
-/// These deeds, each at its i-number.
-pub(crate) fn of_deeds(rt: &impl Host, deeds: &[(u16, Deed)]) -> Planned {
+/// These tasks, each at its i-number.
+pub(crate) fn of_tasks(rt: &impl Host, tasks: &[(u16, Task)]) -> Planned {
     let mut planned = nothing(rt);
-    for (number, deed) in deeds {
-        plan_deed(rt, &mut planned, *number, *deed);
+    for (number, task) in tasks {
+        plan_task(rt, &mut planned, *number, *task);
     }
     planned
 }

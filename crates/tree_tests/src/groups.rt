@@ -18,7 +18,7 @@ use update_cert::{Action, Change, TableChange};
 
 /// What user 0 does.
 #[derive(Clone, Copy)]
-enum Deed {
+enum Task {
     /// Lists user 1.
     AddUser,
     /// Makes a user a member of group 64.
@@ -34,7 +34,7 @@ enum Deed {
 /// An operation, its changes that are lost, and the text of its structure: its size, and how it ends, which are the
 /// records after their count.
 struct Operation {
-    deeds: &'static [Deed],
+    tasks: &'static [Task],
     lost: &'static [u8],
     size: usize,
     records: &'static [u8],
@@ -43,18 +43,18 @@ struct Operation {
 /// The digests in the records, of the roots of the group's i-table, are another program's SHA-256.
 static OPERATIONS: [Operation; 4] = [
     Operation {
-        deeds: &[
-            Deed::AddUser,
-            Deed::AddUser,
-            Deed::AddMember(0),
-            Deed::AddMember(2),
+        tasks: &[
+            Task::AddUser,
+            Task::AddUser,
+            Task::AddMember(0),
+            Task::AddMember(2),
         ],
         lost: &[2, 4],
         size: 87,
         records: b"\0",
     },
     Operation {
-        deeds: &[Deed::Make(1, b"a"), Deed::Make(64, b"b")],
+        tasks: &[Task::Make(1, b"a"), Task::Make(64, b"b")],
         lost: &[2],
         size: 133,
         records: b"\x01\x40\0\0\0\x01\0\0\0\x01\
@@ -62,13 +62,13 @@ static OPERATIONS: [Operation; 4] = [
             \x93\x3e\x93\x02\xc6\xfd\x3f\x05\x3b\xdf\xcb\x3a\x9a\xd6\xa3\x1e",
     },
     Operation {
-        deeds: &[Deed::Drop, Deed::Put(b"c")],
+        tasks: &[Task::Drop, Task::Put(b"c")],
         lost: &[],
         size: 133,
         records: LAST,
     },
     Operation {
-        deeds: &[Deed::Put(b"d")],
+        tasks: &[Task::Put(b"d")],
         lost: &[1],
         size: 133,
         records: LAST,
@@ -93,34 +93,34 @@ fn change_at(rt: &impl Host, number: u16, action: Action<Global>) -> Change<Glob
     Change::new(principal(rt, 64), i_number(rt, number), action)
 }
 
-/// The change that a deed is, with what is laid out for it.
-fn change_of(rt: &impl Host, planned: &mut Planned, deed: Deed) -> Change<Global> {
-    match deed {
-        Deed::AddUser => {
+/// The change that a task is, with what is laid out for it.
+fn change_of(rt: &impl Host, planned: &mut Planned, task: Task) -> Change<Global> {
+    match task {
+        Task::AddUser => {
             let key = PublicKey::from_bytes(*FORM).expect(rt, "a key");
             Change::of_table(TableChange::AddUser(user(rt, 1), key))
         }
-        Deed::AddMember(number) => {
+        Task::AddMember(number) => {
             let change = TableChange::AddMember(group(rt), user(rt, number));
             Change::of_table(change)
         }
-        Deed::Drop => Change::of_table(TableChange::DropMember(group(rt), user(rt, 0))),
-        Deed::Make(number, file) => {
+        Task::Drop => Change::of_table(TableChange::DropMember(group(rt), user(rt, 0))),
+        Task::Make(number, file) => {
             let inode = lay(rt, planned, file);
             change_at(rt, number, Action::Make(inode))
         }
-        Deed::Put(file) => {
+        Task::Put(file) => {
             let inode = lay(rt, planned, file);
             change_at(rt, 1, Action::Put(inode))
         }
     }
 }
 
-/// These deeds.
-fn planned_of(rt: &impl Host, deeds: &[Deed]) -> Planned {
+/// These tasks.
+fn planned_of(rt: &impl Host, tasks: &[Task]) -> Planned {
     let mut planned = nothing(rt);
-    for deed in deeds {
-        let change = change_of(rt, &mut planned, *deed);
+    for task in tasks {
+        let change = change_of(rt, &mut planned, *task);
         plan_change(rt, &mut planned, change);
     }
     planned
@@ -168,7 +168,7 @@ fn has_table(rt: &impl Host, world: &mut World, key: &PublicKey, until: u8) {
 
 /// The operation happens, loses these changes and has these records.
 fn happens(rt: &impl Host, world: &mut World, operation: &Operation) {
-    let _texts = operate(rt, world, planned_of(rt, operation.deeds));
+    let _texts = operate(rt, world, planned_of(rt, operation.tasks));
     has_lost(rt, world, operation.lost);
     has_records(rt, world, operation.size, operation.records);
 }

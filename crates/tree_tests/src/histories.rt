@@ -2,7 +2,7 @@
 //! changes are lost, and what stands in the view after it. The digests in the texts are another program's LMS and
 //! SHA-256. A hostile store changes nothing of it.
 
-use crate::changes::{Deed, of_deeds};
+use crate::changes::{Task, of_tasks};
 use crate::here::Here;
 use crate::world::{
     World, asked_for, begin, finish, hand_each, has_lost, look_at, look_through, new_world,
@@ -34,7 +34,7 @@ struct LookedAt {
 
 /// An operation.
 struct Operation {
-    deeds: &'static [(u16, Deed)],
+    tasks: &'static [(u16, Task)],
     /// The blocks that it asks for.
     asked: &'static [&'static [u8]],
     /// The texts that it hands out.
@@ -46,14 +46,14 @@ struct Operation {
 }
 
 /// Makes a file, and links it in the root directory.
-const FIRST: &[(u16, Deed)] = &[(3, Deed::Make(b"hello")), (2, Deed::Link(b"f", 3))];
+const FIRST: &[(u16, Task)] = &[(3, Task::Make(b"hello")), (2, Task::Link(b"f", 3))];
 
 /// Only the second one of these has an effect.
-const SECOND: &[(u16, Deed)] = &[
-    (3, Deed::Make(b"x")),
-    (3, Deed::Put(b"y")),
-    (2, Deed::Remove),
-    (2, Deed::Unlink(b"g")),
+const SECOND: &[(u16, Task)] = &[
+    (3, Task::Make(b"x")),
+    (3, Task::Put(b"y")),
+    (2, Task::Remove),
+    (2, Task::Unlink(b"g")),
 ];
 
 /// Chunk 0 and the root of user 0's i-table after the first operation, and after the second one.
@@ -96,7 +96,7 @@ static FOUR: [Operation; 4] = [
     // A look at the file asks for nothing, since the client laid it out, and one at the directory neither, since the
     // client has its entries from the change.
     Operation {
-        deeds: FIRST,
+        tasks: FIRST,
         asked: &[],
         stored: &[OF_F, OF_F_INODE, CHUNK, ROOT],
         lost: &[],
@@ -115,7 +115,7 @@ static FOUR: [Operation; 4] = [
         ],
     },
     Operation {
-        deeds: SECOND,
+        tasks: SECOND,
         asked: &[ROOT, CHUNK, OF_F_INODE, OF_F],
         stored: &[NEXT_CHUNK, NEXT_ROOT],
         lost: &[1, 3, 4],
@@ -135,7 +135,7 @@ static FOUR: [Operation; 4] = [
     },
     // Without changes.
     Operation {
-        deeds: &[],
+        tasks: &[],
         asked: &[NEXT_ROOT, NEXT_CHUNK],
         stored: &[],
         lost: &[],
@@ -144,7 +144,7 @@ static FOUR: [Operation; 4] = [
     },
     // The directory is changed, and is as before, after the changes: nothing has to be stored.
     Operation {
-        deeds: &[(2, Deed::Unlink(b"f")), (2, Deed::Link(b"f", 3))],
+        tasks: &[(2, Task::Unlink(b"f")), (2, Task::Link(b"f", 3))],
         asked: &[],
         stored: &[],
         lost: &[],
@@ -195,10 +195,10 @@ const FIRST_ROOT: &[u8] = b"STR1\0\x01\0\
 /// A directory that is made, filled, emptied and removed again, so that the i-table is that of the beginning.
 static MADE_AND_REMOVED: [Operation; 2] = [
     Operation {
-        deeds: &[
-            (3, Deed::MakeDirectory),
-            (4, Deed::Make(b"hello")),
-            (3, Deed::Link(b"a", 4)),
+        tasks: &[
+            (3, Task::MakeDirectory),
+            (4, Task::Make(b"hello")),
+            (3, Task::Link(b"a", 4)),
         ],
         asked: &[],
         stored: &[OF_A, OF_A_INODE, MADE_CHUNK, MADE_ROOT],
@@ -210,11 +210,11 @@ static MADE_AND_REMOVED: [Operation; 2] = [
     },
     // The directory is removed once it is empty, and isn't stored.
     Operation {
-        deeds: &[
-            (3, Deed::Remove),
-            (3, Deed::Unlink(b"a")),
-            (3, Deed::Remove),
-            (4, Deed::Remove),
+        tasks: &[
+            (3, Task::Remove),
+            (3, Task::Unlink(b"a")),
+            (3, Task::Remove),
+            (4, Task::Remove),
         ],
         asked: &[MADE_ROOT, MADE_CHUNK, OF_A_INODE, OF_A],
         stored: &[FIRST_CHUNK, FIRST_ROOT],
@@ -288,7 +288,7 @@ fn is_accepted(rt: &impl Host, world: &mut World, operation: &Operation, texts: 
 fn happen(rt: &impl Host, operations: &[Operation], is_hostile: bool) {
     let mut world = new_world(rt, is_hostile);
     for operation in operations {
-        let texts = operate(rt, &mut world, of_deeds(rt, operation.deeds));
+        let texts = operate(rt, &mut world, of_tasks(rt, operation.tasks));
         is_accepted(rt, &mut world, operation, &texts);
     }
     let_go(world);
@@ -310,7 +310,7 @@ fn directory_is_made_and_removed(rt: HostRuntime) {
 
 /// The second operation, where the directory wasn't looked at before.
 static UNSEEN: Operation = Operation {
-    deeds: SECOND,
+    tasks: SECOND,
     asked: &[ROOT, CHUNK, OF_F_INODE, OF_F],
     stored: &[NEXT_CHUNK, NEXT_ROOT],
     lost: &[1, 3, 4],
@@ -328,8 +328,8 @@ fn broken_reply_before_the_blocks(rt: HostRuntime) {
     let rt = (rt, Here);
     check(&rt, Rule::Block.number() == 6, "the rule's number");
     let mut world = new_world(&rt, true);
-    let _texts = operate(&rt, &mut world, of_deeds(&rt, FIRST));
-    let step = begin(&rt, &mut world, of_deeds(&rt, UNSEEN.deeds));
+    let _texts = operate(&rt, &mut world, of_tasks(&rt, FIRST));
+    let step = begin(&rt, &mut world, of_tasks(&rt, UNSEEN.tasks));
     breaks(&rt, &mut world.client, b"SRL1\0\0", Some(Rule::OwnLast));
     let texts = hand_each(&rt, &mut world, step);
     finish(&rt, &mut world, &texts);
@@ -342,8 +342,8 @@ fn broken_reply_before_the_blocks(rt: HostRuntime) {
 fn another_look_in_the_place_of_one(rt: HostRuntime) {
     let rt = (rt, Here);
     let mut world = new_world(&rt, true);
-    let _texts = operate(&rt, &mut world, of_deeds(&rt, FIRST));
-    let _none = operate(&rt, &mut world, of_deeds(&rt, &[]));
+    let _texts = operate(&rt, &mut world, of_tasks(&rt, FIRST));
+    let _none = operate(&rt, &mut world, of_tasks(&rt, &[]));
     let look = look_at(&rt, &mut world, 2);
     check(&rt, matches!(look, Look::Need(_)), "a block is asked for");
     let_go(look);

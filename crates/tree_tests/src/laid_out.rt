@@ -1,6 +1,6 @@
 //! What has to be laid out before changes are declared.
 
-use crate::changes::{Deed, of_deeds, plan_action};
+use crate::changes::{Task, of_tasks, plan_action};
 use crate::here::Here;
 use client_aids::changes::{Planned, nothing};
 use client_verify::are_laid;
@@ -134,17 +134,17 @@ fn each_naming(rt: HostRuntime) {
 }
 
 /// What names no i-node.
-static OTHERS: [(u16, Deed); 3] = [
-    (3, Deed::Remove),
-    (2, Deed::Link(b"f", 3)),
-    (2, Deed::Unlink(b"f")),
+static OTHERS: [(u16, Task); 3] = [
+    (3, Task::Remove),
+    (2, Task::Link(b"f", 3)),
+    (2, Task::Unlink(b"f")),
 ];
 
 /// Each i-node has to be laid out, and other changes need nothing.
 #[test]
 fn several_changes(rt: HostRuntime) {
     let rt = (rt, Here);
-    let mut planned = of_deeds(&rt, &OTHERS);
+    let mut planned = of_tasks(&rt, &OTHERS);
     assert!(rt; planned.laid.is_empty() && is_laid(&rt, &planned));
     plan_action(&rt, &mut planned, 3, Action::Make(digest(EMPTY_INODE)));
     assert!(rt; is_laid(&rt, &planned));

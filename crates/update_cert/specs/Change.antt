@@ -114,7 +114,7 @@ action (suc (suc (suc (suc (suc n))))) = variant (λ old. Unlink old) as_unlink 
 -- the fields after the kinds 1 to 5: whose i-number, which, and what is done there
 abbrev pub placed_fields : ℕ → Format (Change Digest)
 placed_fields k =
-    mapped (λ p. record { principal = p.0; i_number = p.1.0; action = p.1.1 }) (λ c. (c.principal, (c.i_number, c.action)))
+    mapped (λ (principal, (i_number, action)). record { principal = principal; i_number = i_number; action = action }) (λ c. (c.principal, (c.i_number, c.action)))
     (pair principal (pair i_number (action k)))
 
 -- where the change is one of the table, what its action has

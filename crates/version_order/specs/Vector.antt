@@ -18,7 +18,7 @@ principal_of c = c.principal
 
 abbrev pub component : RowAfter Component
 component before =
-    mapped (λ p. record { principal = p.0; version = p.1 }) (λ c. (c.principal, c.version))
+    mapped (λ (principal, version). record { principal = principal; version = version }) (λ c. (c.principal, c.version))
     (pair (guarded principal (above nat_cmp principal_of before) Order) version)
 
 abbrev pub vector : Format (List Component)
