@@ -1,9 +1,9 @@
 -- What the records of a journal tell of a client.
-use Rattle.std.specs.Prelude.{◌≡◌, ◌⊎◌, ℕ, List, [], ◌++◌, Option, Some, None, true, ◌==◌, if◌then◌else◌}
+use Rattle.std.specs.Prelude.{◌≡◌, ◌⊎◌, List, [], ◌++◌, Option, Some, None, true, ◌==◌, if◌then◌else◌}
 use Rattle.std.specs.Option.{option_and_then, option_map}
 use Rattle.std.specs.Result.{result_ok}
 use Rattle.layout.specs.Format.{Format, whole}
-use Rattle.layout.specs.Types.{Bytes, User}
+use Rattle.layout.specs.Types.{Bytes, User, Version}
 use Rattle.lms_sign.specs.Keys.{public_key_of}
 use Rattle.lms_sign.specs.Signature.{signature_of}
 use Rattle.version_order.specs.Structure.{Structure, structure}
@@ -32,7 +32,7 @@ structure_in user text = own_in (signed structure) (λ z. z.value.plan.user) use
 -- the number of the operation that was declared last, 0 where none was; the structure that was signed last; how far the
 -- operation is, but for its commit, of which no record tells; and the text that was released last
 pub record Told : Type 0 where
-  pub number : ℕ
+  pub number : Version
   pub last : Option (Signed Structure)
   pub phase : Phase
   pub text : Bytes
@@ -54,10 +54,10 @@ told_by user (Ended text) = option_map (after_structure text) (structure_in user
 -- and what these tell.
 pub record Released : Type 0 where
   pub user : User
-  pub seed : List ℕ
-  pub id : List ℕ
+  pub seed : Bytes
+  pub id : Bytes
   pub devices : Devices
-  pub number : ℕ
+  pub number : Version
   pub last : Option (Signed Structure)
   pub phase : Phase
   pub text : Bytes
@@ -67,7 +67,7 @@ abbrev pub sent : Released → LeafNumber → Bytes → Bytes
 sent r leaf text = text ++ signature_of r.seed r.id leaf text
 
 -- a structure with its signature by this leaf
-abbrev pub signed_by : List ℕ → List ℕ → LeafNumber → Structure → Signed Structure
+abbrev pub signed_by : Bytes → Bytes → LeafNumber → Structure → Signed Structure
 signed_by seed id leaf z = record { value = z; signature = signature_of seed id leaf (structure.spell z) }
 
 -- what is released tells so, in this phase

@@ -13,7 +13,7 @@ use crate::error::ClientError;
 use crate::signing::{Sealed, Unsigned};
 use client_journal::{Journal, Kind, Record};
 use leaf_ledger::{Device, Ledger};
-use lms_sign::{PrivateKey, sign};
+use lms_sign::{PrivateKey, SIGNATURE_SIZE, sign};
 use pending_list::Signature;
 use std::alloc::Allocator;
 
@@ -33,7 +33,7 @@ pub(crate) fn keep<L: Device, J: Device, A: Allocator>(
     requires journal_usable { journal.old.usable ≡ true }
     requires journal_rests { journal.old.file.now ≡ at_rest journal.old.file.now.text }
     requires turn { MayCome kind journal.old.file.now.text }
-    requires short { length unsigned + 2508 < 2 ^ 32 }
+    requires short { length unsigned + SIGNATURE_SIZE < 2 ^ 32 }
     ensures kept { IfOk result (λ s. (leaf : LeafNumber)
         × (s.signature ≡ signature_of key.now.seed key.now.id leaf unsigned) × (s.kept.items ≡ unsigned ++ s.signature)
         × IsKept leaf (record { kind = kind; text = s.kept.items })

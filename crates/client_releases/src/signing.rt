@@ -39,7 +39,7 @@ impl<A: Allocator> Model for Unsigned<A> {
 /// The text with room for its signature.
 fn with_room<A: Allocator>(text: Vec<u8, A>) -> Result<Vec<u8, A>, Memory>
     ensures text { IfOk result (λ roomy. roomy.items ≡ text.items) }
-    ensures room { IfOk result (λ roomy. vec_len roomy + 2508 ≤ vec_capacity roomy) }
+    ensures room { IfOk result (λ roomy. vec_len roomy + SIGNATURE_SIZE ≤ vec_capacity roomy) }
 {
     let mut roomy = text;
     roomy.reserve(SIGNATURE_SIZE)?;
@@ -48,7 +48,7 @@ fn with_room<A: Allocator>(text: Vec<u8, A>) -> Result<Vec<u8, A>, Memory>
 
 /// The text with a signature after it, where there is room.
 fn with_signature<A: Allocator>(text: Vec<u8, A>, signature: &Signature) -> Vec<u8, A>
-    requires { vec_len text + 2508 ≤ vec_capacity text }
+    requires { vec_len text + SIGNATURE_SIZE ≤ vec_capacity text }
     ensures { result.items ≡ text.items ++ signature.now }
 {
     let mut signed = text;

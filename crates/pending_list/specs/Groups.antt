@@ -10,12 +10,12 @@ use Rattle.pending_list.specs.Reply.{PendingItem}
 use Rattle.principals.specs.Table.{Table, is_member}
 
 -- the n groups from 64 on, ascending
-unfoldable pub groups_below : ℕ → List ℕ
+unfoldable pub groups_below : ℕ → List Group
 groups_below zero = []
 groups_below (suc n) = groups_below n ++ (n + 64) ∷ []
 
 -- the groups, 64 to 95
-abbrev pub groups : List ℕ
+abbrev pub groups : List Group
 groups = groups_below 32
 
 -- the change is of the group; the target of a Link doesn't count

@@ -3,6 +3,7 @@
 use Rattle.std.specs.Prelude.{ℕ, ◌==◌, Bool, ◌&&◌, ◌||◌, List, [], ◌∷◌, Option, Some, None, nat_lt, codes, replicate, if◌then◌else◌}
 use Rattle.std.specs.Int.{w8}
 use Rattle.std.specs.Option.{option_map_or}
+use Rattle.layout.specs.Types.{Digest, Signature, User}
 use Rattle.layout.specs.Format.{Format, RowAfter, uint_in, pair, headed, mapped, listed, nested}
 use Rattle.layout.specs.Ranges.{size}
 use Rattle.version_order.specs.declared.vector.Component.{Component}
@@ -16,7 +17,7 @@ use Rattle.pending_list.specs.Signed.{signature, signed}
 -- an operation that is pending, without where it lies in memory
 pub record PendingItem : Type 0 where
   pub cert : Cert
-  pub signature : List ℕ
+  pub signature : Signature
   pub plan : Plan
 
 -- the latest structure of each user, and the pending operations, in order
@@ -49,7 +50,7 @@ reply =
 -- ---- what a certificate names
 
 -- the digest of a user's last structure, 32 zeros where it has none
-abbrev pub digest_of_last : Option (Signed Structure) → List ℕ
+abbrev pub digest_of_last : Option (Signed Structure) → Digest
 digest_of_last last = option_map_or (λ s. digest_of_structure s.value) last (replicate 32 0)
 
 -- ---- the top
@@ -57,7 +58,7 @@ digest_of_last last = option_map_or (λ s. digest_of_structure s.value) last (re
 abbrev pub depth_of : Signed Structure → ℕ
 depth_of s = depth s.value.plan.vector
 
-abbrev pub user_of : Signed Structure → ℕ
+abbrev pub user_of : Signed Structure → User
 user_of s = s.value.plan.user
 
 -- the first counts more operations than the second, or as many for a lesser user
@@ -86,6 +87,10 @@ top_vector ss = option_map_or (λ p. p.vector) (top_plan ss) []
 abbrev pub depth_of_top : List (Signed Structure) → ℕ
 depth_of_top ss = depth (top_vector ss)
 
+-- the plan counts more operations than this many
+abbrev pub is_deeper : ℕ → Plan → Bool
+is_deeper top p = nat_lt top (depth p.vector)
+
 -- the plan is above: it counts more than top
 abbrev pub is_above : List (Signed Structure) → Plan → Bool
-is_above ss p = nat_lt (depth_of_top ss) (depth p.vector)
+is_above ss p = is_deeper (depth_of_top ss) p

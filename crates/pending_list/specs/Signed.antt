@@ -1,10 +1,10 @@
 -- Signed texts: the text, and after it a signature of 2,508 bytes.
 -- The bytes stand in docs/FORMATS.md.
-use Rattle.std.specs.Prelude.{ℕ, List}
+use Rattle.layout.specs.Types.{Signature}
 use Rattle.layout.specs.Format.{Format, raw, pair, mapped}
 use Rattle.pending_list.specs.declared.signed.Signed.{Signed}
 
-abbrev pub signature : Format (List ℕ)
+abbrev pub signature : Format Signature
 signature = raw 2508
 
 abbrev pub signed : {V : Type 0} → Format V → Format (Signed V)

@@ -7,6 +7,6 @@ mod reply;
 mod signed;
 
 pub use groups::{groups_at, raised_groups, raises, table_version};
-pub use order::{depth_of_top, digest_of_last, is_above, outranks, top};
+pub use order::{depth_of_top, digest_of_last, is_above, is_deeper, outranks, top};
 pub use reply::{HasItem, MOST_ROWS, PendingItem, REPLY_SIZE, Reply};
-pub use signed::{SIGNATURE_SIZE, Signature, Signed};
+pub use signed::{Signature, Signed};

@@ -4,7 +4,7 @@ ghost use Rattle.std.specs.Prelude.{◌≡◌, ◌≤◌, ◌↔◌, [], IfOk, I
 ghost use Rattle.std.specs.List.{All, Contains};
 ghost use Rattle.std.specs.Option.{option_copied};
 ghost use Rattle.pending_list.specs.Reply.{depth_of, user_of, outranks, higher, top, depth_of_top, is_above};
-ghost use Rattle.pending_list.specs.Reply.{digest_of_last};
+ghost use Rattle.pending_list.specs.Reply.{digest_of_last, is_deeper};
 
 use crate::reply::{PendingItem, Reply};
 use crate::signed::Signed;
@@ -73,11 +73,18 @@ pub fn depth_of_top<A: Allocator>(reply: &Reply<A>) -> u64
     }
 }
 
+/// Whether a pending operation counts more operations than this many.
+pub fn is_deeper<A: Allocator>(item: &PendingItem<A>, top: u64) -> bool
+    ensures { result ≡ is_deeper top item.now.plan }
+{
+    top < depth(item.plan())
+}
+
 /// Whether a pending operation counts more than the top.
 pub fn is_above<A: Allocator>(reply: &Reply<A>, item: &PendingItem<A>) -> bool
     ensures { result ≡ is_above reply.now.structures item.now.plan }
 {
-    depth_of_top(reply) < depth(item.plan())
+    is_deeper(item, depth_of_top(reply))
 }
 
 /// The digest by which a certificate names its user's last structure: 32 zeros where it has none.

@@ -5,11 +5,12 @@ ghost use Rattle.std.specs.List.{All};
 ghost use Rattle.layout.specs.Format.{BeginsWith, Reads, after_row, rows_onto};
 ghost use Rattle.pending_list.specs.Reply.{reply, structure_rows, pending_rows, signed_structure, pending_item};
 
-use crate::signed::{SIGNATURE_SIZE, Signature, Signed};
+use crate::signed::{Signature, Signed};
 use layout::{
     Memory, ReadError, Reader, RowFormat, Text, Writer, read_nested, read_rows, write_nested,
     write_rows,
 };
+use lms_sign::SIGNATURE_SIZE;
 use std::alloc::Allocator;
 use std::marker::Model;
 use update_cert::{CERT_SIZE, Cert};
@@ -53,6 +54,13 @@ impl<A: Allocator> PendingItem<A> {
         let _signature = cert.signature.as_bytes();
         let _planned = plan.user();
         PendingItem { cert, plan }
+    }
+
+    /// That it fits its row, as its own contract says.
+    fn fits(&self)
+        ensures { pending_item.Fits self.now }
+    {
+        let _cert = self.cert();
     }
 
     /// The certificate.
@@ -213,7 +221,7 @@ fn pending_fit<A: Allocator>(pending: &[PendingItem<A>])
     ensures { All pending_item.Fits pending.now }
 {
     for item in pending {
-        let _cert = item.cert();
+        item.fits();
     }
 }
 
@@ -225,8 +233,8 @@ impl<A: Allocator> Reply<A> {
         structures: Vec<Signed<Structure<A>>, A>,
         pending: Vec<PendingItem<A>, A>,
     ) -> Reply<A>
-        requires few_structures { vec_len structures ≤ 64 }
-        requires few_pending { vec_len pending ≤ 64 }
+        requires few_structures { vec_len structures ≤ MOST_ROWS }
+        requires few_pending { vec_len pending ≤ MOST_ROWS }
         ensures { result ≡ record { structures = structures.items; pending = pending.items } }
     {
         structures_fit(&structures);
@@ -274,8 +282,8 @@ fn write_lists<A: Allocator + Copy>(
     structures: &[Signed<Structure<A>>],
     pending: &[PendingItem<A>],
 ) -> Result<(), Memory>
-    requires few_structures { length structures.now ≤ 64 }
-    requires few_pending { length pending.now ≤ 64 }
+    requires few_structures { length structures.now ≤ MOST_ROWS }
+    requires few_pending { length pending.now ≤ MOST_ROWS }
     ensures ok { OnOk result (writer.new
         ≡ reply.onto writer.old (record { structures = structures.now; pending = pending.now })) }
     ensures front { OnErr result (BeginsWith writer.new writer.old) }
@@ -292,7 +300,7 @@ fn others_fit<A: Allocator, H: HasItem<A>>(others: &[H])
     ensures { All pending_item.Fits (map H.item others.now) }
 {
     for other in others {
-        let _cert = other.item().cert();
+        other.item().fits();
     }
 }
 
@@ -320,15 +328,15 @@ impl<A: Allocator + Copy> Reply<A> {
         others: &[H],
         own: &PendingItem<A>,
     ) -> Result<Vec<u8, A>, Memory>
-        requires few_structures { length structures.now ≤ 64 }
-        requires few_others { length others.now < 64 }
+        requires few_structures { length structures.now ≤ MOST_ROWS }
+        requires few_others { length others.now < MOST_ROWS }
         ensures text { IfOk result (λ text. text.items
             ≡ reply.spell (record { structures = structures.now; pending = map H.item others.now ++ own.now ∷ [] })) }
         ensures size { IfOk result (λ text. length text.items ≤ REPLY_SIZE) }
     {
         structures_fit(structures);
         others_fit(others);
-        let _own = own.cert();
+        own.fits();
         let mut writer = Writer::new(alloc);
         writer.tag(b"SRL1")?;
         writer.u8(structures.len() as u8)?;

@@ -6,11 +6,9 @@ ghost use Rattle.layout.specs.Format.{IsBytes, Reads};
 ghost use Rattle.pending_list.specs.Signed.{signature};
 
 use layout::{Memory, ReadError, Reader, Text, Writer, are_bytes};
+use lms_sign::SIGNATURE_SIZE;
 use std::alloc::Allocator;
 use std::marker::Model;
-
-/// How many bytes a signature has.
-pub const SIGNATURE_SIZE: usize = 2508;
 
 /// A signature of LMS (RFC 8554 section 5.4): 2,508 bytes.
 #[derive(Clone, Copy, PartialEq, Eq)]
@@ -28,16 +26,16 @@ impl Model for Signature {
 
 impl Signature {
     /// The signature that these bytes are.
-    pub fn from_bytes(bytes: [u8; 2508]) -> Signature
+    pub fn from_bytes(bytes: [u8; SIGNATURE_SIZE]) -> Signature
         ensures { result ≡ bytes }
     {
         Signature(bytes)
     }
 
     /// Its 2,508 bytes.
-    pub fn as_bytes(&self) -> &[u8; 2508]
+    pub fn as_bytes(&self) -> &[u8; SIGNATURE_SIZE]
         ensures same { result.now ≡ self.now }
-        ensures size { length result.now ≡ 2508 }
+        ensures size { length result.now ≡ SIGNATURE_SIZE }
         ensures fits { signature.Fits self.now }
     {
         are_bytes(&self.0);
@@ -51,8 +49,8 @@ impl Signature {
         ensures bytes { IsBytes reader.old }
         ensures err { OnErr result (reader.new ≡ reader.old) }
     {
-        let bytes = reader.bytes(2508)?;
-        let mut copy = [0; 2508];
+        let bytes = reader.bytes(SIGNATURE_SIZE)?;
+        let mut copy = [0; SIGNATURE_SIZE];
         copy.copy_from_slice(bytes);
         Ok(Signature(copy))
     }

@@ -10,7 +10,7 @@ use Rattle.pending_list.proofs.reply.others_fit.Goals as goal
 pub loop-other-preserved : goal.loop-other-preserved
 loop-other-preserved g c =
     let item = g.H.HasItem.item in
-    let fits : pending_item.Fits (item c.other-item.result) = subst pending_item.Fits c.item.ensures c.cert-cert.ensures.fits in
+    let fits : pending_item.Fits (item c.other-item.result) = subst pending_item.Fits c.item.ensures c.fits.ensures in
     subst (All pending_item.Fits) (sym (seen_more item c.args.others.now c.loop-other.other-index c.other-item.result c.loop-other-test.true c.other-item.is))
     (All-append pending_item.Fits (map item _) (item c.other-item.result ∷ []) c.loop-other.invariant (All-cons pending_item.Fits (item c.other-item.result) [] fits (All-nil pending_item.Fits)))
 

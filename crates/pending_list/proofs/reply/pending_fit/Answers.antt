@@ -7,7 +7,7 @@ use Rattle.pending_list.proofs.reply.pending_fit.Goals as goal
 
 pub loop-item-preserved : goal.loop-item-preserved
 loop-item-preserved g c =
-    let fits : pending_item.Fits c.item-item.result = c.cert-cert.ensures.fits in
+    let fits : pending_item.Fits c.item-item.result = c.fits.ensures in
     All-more pending_item.Fits c.args.pending.now c.loop-item.item-index c.item-item.result c.loop-item-test.true c.loop-item.invariant (subst pending_item.Fits c.item-item.is fits)
 
 pub returns : goal.returns

@@ -26,5 +26,5 @@ returns-clause-text g c = written g c
 pub returns-clause-size : goal.returns-clause-size
 returns-clause-size g c =
     let few : length (map g.H.HasItem.item c.args.others.now) < 64 = omega (arith, c.requires.few_others, length-map c.args.others.now g.H.HasItem.item) in
-    let fits = answer_fits c.args.structures.now (map g.H.HasItem.item c.args.others.now) c.args.own.now c.requires.few_structures few c.structures_fit.ensures c.others_fit.ensures c.cert-own.ensures.fits in
+    let fits = answer_fits c.args.structures.now (map g.H.HasItem.item c.args.others.now) c.args.own.now c.requires.few_structures few c.structures_fit.ensures c.others_fit.ensures c.fits.ensures in
     subst (λ (t : List ℕ). length t ≤ REPLY_SIZE) (sym (written g c)) (size_of (lists g c) fits)
