@@ -8,4 +8,4 @@ abbrev pub signature : Format Signature
 signature = raw 2508
 
 abbrev pub signed : {V : Type 0} → Format V → Format (Signed V)
-signed f = mapped (λ p. record { value = p.0; signature = p.1 }) (λ s. (s.value, s.signature)) (pair f signature)
+signed f = mapped (λ (value, signature). record { value = value; signature = signature }) (λ s. (s.value, s.signature)) (pair f signature)
