@@ -36,7 +36,7 @@ pub look_stands : (blocks : Blocks) (reads : Reading) (users : Table) (x : View)
     → shown reads users x p i ≡ option_map (content_of reads) s
 look_stands blocks reads users x p i before part s is agrees place at =
     let own : part.table.principal ≡ p = is.after.principal ∙ is.read.principal in
-    let stands = (is.stands reads users agrees).stands i (ap (λ (q : ℕ). is_table q i) own ∙ place) in
+    let stands = (is.stands reads agrees users).stands i (ap (λ (q : ℕ). is_table q i) own ∙ place) in
     rw place (ap (λ (q : ℕ). tree reads users x q i) (sym own) ∙ stands ∙ ap (option_map (content_of reads)) at)
 
 -- where what the i-node there is of was read, nothing of it is missing

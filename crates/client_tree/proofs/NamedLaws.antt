@@ -26,7 +26,7 @@ use Rattle.update_cert.specs.Reading.{Reading}
 use Rattle.update_cert.specs.Asked.{HasPrincipals, IsOfPrincipals, Lacks}
 use Rattle.principals.specs.Table.{Table}
 use Rattle.principals.specs.TableText.{table}
-use Rattle.client_tree.specs.Tables.{IsRead, LacksOfTable, table_at}
+use Rattle.client_tree.specs.Tables.{IsOfTable, IsRead, table_at}
 use Rattle.client_tree.specs.Principals.{IsNamed, IsOfNamed}
 
 -- ---- the row of a key
@@ -129,7 +129,7 @@ named_is blocks handle before inode users is told at fits content has = record {
 
 -- ---- what is missing of it
 
-pub lacks_table : (blocks : Blocks) (handle : Handle) (e : ApplyError) → LacksOfTable blocks 0 handle e → Lacks blocks (IsOfNamed blocks handle) e
+pub lacks_table : (blocks : Blocks) (handle : Handle) (e : ApplyError) → Lacks blocks (IsOfTable blocks 0 handle) e → Lacks blocks (IsOfNamed blocks handle) e
 lacks_table blocks handle (error.Missing digest s) (is, none) = (inl is, none)
 lacks_table blocks handle error.Memory none = tt
 

@@ -13,7 +13,7 @@ use Rattle.update_cert.specs.Reading.{Reading, after_read, read_changes}
 use Rattle.update_cert.specs.Blocks.{Blocks, Agrees, inode_told}
 use Rattle.update_cert.specs.Part.{HasTable, IsPartOf, Part, Slot, content_of, part_of, slot_at, slot_of, stands_at}
 use Rattle.update_cert.specs.Slots.{slot_after}
-use Rattle.update_cert.specs.Asked.{HasAskedFor, Lacks, IsAskedFor, LacksAskedFor}
+use Rattle.update_cert.specs.Asked.{HasAskedFor, Lacks, IsAskedFor}
 use Rattle.update_cert.specs.Spot.{lacks}
 use Rattle.update_cert.specs.declared.error.ApplyError.{ApplyError}
 use Rattle.update_cert.specs.declared.error.ApplyError.TheVariants as error
@@ -22,7 +22,7 @@ use Rattle.update_cert.proofs.ActLaws.{has_table_after}
 use Rattle.update_cert.proofs.SomeReading.{some_reading}
 use Rattle.std.proofs.Math.Seq.{take-suc}
 use Rattle.pending_list.specs.Reply.{PendingItem}
-use Rattle.client_tree.specs.Tables.{IsOfTable, IsRead, LacksOfTable}
+use Rattle.client_tree.specs.Tables.{IsOfTable, IsRead}
 use Rattle.client_tree.specs.View.{View, actor_of, after_items, comes_after, handle_of, is_superusers, named, tree_before}
 use Rattle.client_tree.specs.Opened.{HasAskedByItems, IsPartAfter, IsReached, items_on, slot_after_items}
 
@@ -115,12 +115,12 @@ pub wider : (blocks : Blocks) (P Q : Digest → Spot → Type 0) (e : ApplyError
 wider blocks P Q (error.Missing digest s) to (is, lacks) = (to digest s is, lacks)
 wider blocks P Q error.Memory to lacks = tt
 
-pub of_table : (blocks : Blocks) (x : View) (p : Principal) (handle : Handle) (e : ApplyError) → handle ≡ handle_of x p → LacksOfTable blocks p handle e → Lacks blocks (IsReached blocks x p) e
+pub of_table : (blocks : Blocks) (x : View) (p : Principal) (handle : Handle) (e : ApplyError) → handle ≡ handle_of x p → Lacks blocks (IsOfTable blocks p handle) e → Lacks blocks (IsReached blocks x p) e
 of_table blocks x p handle e is lacks =
-    wider blocks (IsOfTable blocks p (handle_of x p)) (IsReached blocks x p) e (λ digest s asked. inl asked) (subst (λ (h : Handle). LacksOfTable blocks p h e) is lacks)
+    wider blocks (IsOfTable blocks p (handle_of x p)) (IsReached blocks x p) e (λ digest s asked. inl asked) (subst (λ (h : Handle). Lacks blocks (IsOfTable blocks p h) e) is lacks)
 
 pub of_item : (blocks : Blocks) (x : View) (p : Principal) (before : ITable) (part : Part) (earlier later : List PendingItem) (item : PendingItem) (e : ApplyError) → IsRead blocks p (handle_of x p) before → items_on x p ≡ earlier ++ item ∷ later
-    → IsPartAfter blocks x.table earlier (part_of before) part → LacksAskedFor blocks (actor_of x.table item) item.cert.changes part e → Lacks blocks (IsReached blocks x p) e
+    → IsPartAfter blocks x.table earlier (part_of before) part → Lacks blocks (IsAskedFor blocks (actor_of x.table item) item.cert.changes part) e → Lacks blocks (IsReached blocks x p) e
 of_item blocks x p before part earlier later item e read turn after lacks =
     wider blocks (IsAskedFor blocks (actor_of x.table item) item.cert.changes part) (IsReached blocks x p) e
     (λ digest s asked. inr (record { before = before; read = read; earlier = earlier; item = item; later = later; in_turn = turn; part = part; after = after; asked = asked })) lacks

@@ -4,13 +4,14 @@ use Rattle.std.specs.Prelude.{◌==◌, IsSomeAnd, not, slice_index_or, if◌the
 use Rattle.std.proofs.Math.Seq.{take-suc}
 use Rattle.std.proofs.lemmas.List.{append-nil}
 use Rattle.std.specs.List.{All}
-use Rattle.std.specs.Option.{option_and_then, option_map}
+use Rattle.std.specs.Option.{option_and_then, option_map, option_map_or}
+use Rattle.std.specs.Result.{result_ok}
 use Rattle.std.specs.Ordering.{nat_cmp, is_lt, is_eq}
 use Rattle.std.proofs.lemmas.Bool.{and_parts, eqb-true, eq-eqb}
 use Rattle.std.proofs.lemmas.Bool.Decides.{nat_tests}
 use Rattle.std.proofs.lemmas.Cmp.{nat_cmp_total}
 use Rattle.std.proofs.lemmas.List.Elements.{All-append, All-cons, All-head, All-nil, All-tail, All-weaker}
-use Rattle.layout.specs.Format.{whole, uint_in, raw}
+use Rattle.layout.specs.Format.{Format, whole, uint_in, raw}
 use Rattle.layout.specs.Hash.{hash}
 use Rattle.layout.specs.Ascending.{Ascends, row_at}
 use Rattle.layout.specs.AscendingLaws.{Ordered, ascends_from_fits, HasOther, row_in_first, row_in_last}
@@ -21,26 +22,49 @@ use Rattle.itable.specs.Chunk.{Chunk, chunk, chunk_number}
 use Rattle.itable.specs.Root.{Root, root, chunk_row, number_of, chunk_at}
 use Rattle.itable.specs.ITable.{ITable, digest_at, digest_in, listings, handle_of}
 use Rattle.update_cert.specs.Blocks.{Blocks, chunk_held, inode_told, root_at, told_by}
-use Rattle.update_cert.specs.Spot.{takes, lacks}
+use Rattle.update_cert.specs.Spot.{takes, takes_chunk, takes_root, lacks}
 use Rattle.update_cert.specs.declared.error.ApplyError.{ApplyError}
 use Rattle.update_cert.specs.declared.error.ApplyError.TheVariants as error
 use Rattle.update_cert.specs.declared.spot.Spot.{Spot}
 use Rattle.update_cert.specs.declared.spot.Spot.TheVariants as spot
-use Rattle.client_tree.specs.Tables.{pairs_over, table_at, IsOfTable, LacksOfTable}
+use Rattle.update_cert.specs.Asked.{Lacks}
+use Rattle.client_tree.specs.Tables.{pairs_over, table_at, IsOfTable}
 
 -- ---- what a spot takes
 
-pub taken_root : (blocks : Blocks) (p : ℕ) (text : List ℕ) (r : Root) → takes blocks (spot.Root p) text ≡ true → whole root text ≡ Ok r → r.principal ≡ p
-unfolding takes
-taken_root blocks p text r taken read = eqb-true _ _ (and_parts _ _ (rw read at taken)).0
+no_value : {T : Type 0} (f : Format T) (is : T → Bool) (text : Option (List ℕ)) → option_map_or is (option_and_then (λ t. result_ok (whole f t)) text) false ≡ false
+    → not (option_map_or (λ t. option_map_or is (result_ok (whole f t)) false) text false) ≡ true
+no_value f is None none = refl
+no_value f is (Some t) none = ap not none
 
-pub taken_chunk : (blocks : Blocks) (p n : ℕ) (text : List ℕ) (c : Chunk) → takes blocks (spot.Chunk p n) text ≡ true → whole chunk text ≡ Ok c → c.number ≡ n
-unfolding takes
-taken_chunk blocks p n text c taken read = eqb-true _ _ (and_parts _ _ (rw read at taken)).0
+one_value : {T : Type 0} (f : Format T) (is : T → Bool) (x : T) (text : Option (List ℕ)) → option_and_then (λ t. result_ok (whole f t)) text ≡ Some x → is x ≡ true
+    → not (option_map_or (λ t. option_map_or is (result_ok (whole f t)) false) text false) ≡ false
+one_value f is x None at taken = absurd cc
+one_value f is x (Some t) at taken = ap (λ (found : Option _). not (option_map_or is found false)) at ∙ ap not taken
 
--- what a spot takes is held
-pub not_lacking : (blocks : Blocks) (digest text : List ℕ) (s : Spot) → blocks digest ≡ Some text → takes blocks s text ≡ true → lacks blocks digest s ≡ false
-not_lacking blocks digest text s held taken = rw held (ap not taken)
+-- a root that its spot takes is there, and is the principal's
+pub root_taken : (blocks : Blocks) (p : ℕ) (handle : List ℕ) (r : Root) → root_at blocks handle ≡ Some r → takes_root p r ≡ true → lacks blocks handle (spot.Root p) ≡ false
+unfolding takes
+root_taken blocks p handle r at taken = one_value root (takes_root p) r (blocks handle) at taken
+
+pub root_of_it : (p : ℕ) (r : Root) → takes_root p r ≡ true → r.principal ≡ p
+root_of_it p r taken = eqb-true _ _ (and_parts _ _ taken).0
+
+pub root_missing : (blocks : Blocks) (p : ℕ) (handle : List ℕ) → option_map_or (takes_root p) (root_at blocks handle) false ≡ false → lacks blocks handle (spot.Root p) ≡ true
+unfolding takes
+root_missing blocks p handle none = no_value root (takes_root p) (blocks handle) none
+
+-- a chunk that its spot takes is there, and has the number
+pub chunk_taken : (blocks : Blocks) (p n : ℕ) (digest : List ℕ) (x : Chunk) → chunk_held blocks digest ≡ Some x → takes_chunk p n x ≡ true → lacks blocks digest (spot.Chunk p n) ≡ false
+unfolding takes
+chunk_taken blocks p n digest x at taken = one_value chunk (takes_chunk p n) x (blocks digest) at taken
+
+pub chunk_of_it : (p n : ℕ) (x : Chunk) → takes_chunk p n x ≡ true → x.number ≡ n
+chunk_of_it p n x taken = eqb-true _ _ (and_parts _ _ taken).0
+
+pub chunk_missing : (blocks : Blocks) (p n : ℕ) (digest : List ℕ) → option_map_or (takes_chunk p n) (chunk_held blocks digest) false ≡ false → lacks blocks digest (spot.Chunk p n) ≡ true
+unfolding takes
+chunk_missing blocks p n digest none = no_value chunk (takes_chunk p n) (blocks digest) none
 
 -- ---- the pairs of the chunks
 
@@ -195,15 +219,15 @@ handle_is t r handle of chunks hashed =
 
 -- ---- what is missing
 
-abbrev pub Lacks : Blocks → List ℕ → Spot → ApplyError → Type 0
-Lacks blocks digest s e = (e ≡ error.Memory) ⊎ ((e ≡ error.Missing digest s) × (lacks blocks digest s ≡ true))
+abbrev pub LacksText : Blocks → List ℕ → Spot → ApplyError → Type 0
+LacksText blocks digest s e = (e ≡ error.Memory) ⊎ ((e ≡ error.Missing digest s) × (lacks blocks digest s ≡ true))
 
-pub lacks_root : (blocks : Blocks) (p : ℕ) (handle : List ℕ) (e : ApplyError) → Lacks blocks handle (spot.Root p) e → LacksOfTable blocks p handle e
-lacks_root blocks p handle e (inl memory) = subst (LacksOfTable blocks p handle) (sym memory) tt
-lacks_root blocks p handle e (inr missing) = subst (LacksOfTable blocks p handle) (sym missing.0) ((refl, refl), missing.1)
+pub lacks_root : (blocks : Blocks) (p : ℕ) (handle : List ℕ) (e : ApplyError) → LacksText blocks handle (spot.Root p) e → Lacks blocks (IsOfTable blocks p handle) e
+lacks_root blocks p handle e (inl memory) = subst (Lacks blocks (IsOfTable blocks p handle)) (sym memory) tt
+lacks_root blocks p handle e (inr missing) = subst (Lacks blocks (IsOfTable blocks p handle)) (sym missing.0) ((refl, refl), missing.1)
 
-pub lacks_chunk : (blocks : Blocks) (p : ℕ) (handle : List ℕ) (r : Root) (c : ListedChunk) (e : ApplyError) → root_at blocks handle ≡ Some r → lacks blocks handle (spot.Root p) ≡ false → chunk_at r c.number ≡ Some c → Lacks blocks c.digest (spot.Chunk p c.number) e → LacksOfTable blocks p handle e
-lacks_chunk blocks p handle r c e held found at (inl memory) = subst (LacksOfTable blocks p handle) (sym memory) tt
+pub lacks_chunk : (blocks : Blocks) (p : ℕ) (handle : List ℕ) (r : Root) (c : ListedChunk) (e : ApplyError) → root_at blocks handle ≡ Some r → lacks blocks handle (spot.Root p) ≡ false → chunk_at r c.number ≡ Some c → LacksText blocks c.digest (spot.Chunk p c.number) e → Lacks blocks (IsOfTable blocks p handle) e
+lacks_chunk blocks p handle r c e held found at (inl memory) = subst (Lacks blocks (IsOfTable blocks p handle)) (sym memory) tt
 lacks_chunk blocks p handle r c e held found at (inr missing) =
     let listed : option_map (λ x. x.digest) (chunk_at r c.number) ≡ Some c.digest = ap (option_map (λ (x : ListedChunk). x.digest)) at in
-    subst (LacksOfTable blocks p handle) (sym missing.0) ((refl, found, subst (λ (o : Option Root). IsSomeAnd o (λ x. option_map (λ y. y.digest) (chunk_at x c.number) ≡ Some c.digest)) (sym held) listed), missing.1)
+    subst (Lacks blocks (IsOfTable blocks p handle)) (sym missing.0) ((refl, found, subst (λ (o : Option Root). IsSomeAnd o (λ x. option_map (λ y. y.digest) (chunk_at x c.number) ≡ Some c.digest)) (sym held) listed), missing.1)

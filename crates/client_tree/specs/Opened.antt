@@ -7,7 +7,7 @@ use Rattle.itable.specs.declared.inode.Kind.{Kind}
 use Rattle.principals.specs.Table.{Table}
 use Rattle.update_cert.specs.World.{is_table}
 use Rattle.update_cert.specs.Reading.{Reading}
-use Rattle.update_cert.specs.Blocks.{Blocks, Agrees, inode_told}
+use Rattle.update_cert.specs.Blocks.{Blocks, ForEachReading, inode_told}
 use Rattle.update_cert.specs.Part.{Part, Slot, Laid, IsPartOf, part_of, slot_at}
 use Rattle.update_cert.specs.Slots.{slot_after}
 use Rattle.update_cert.specs.Spot.{lacks}
@@ -25,7 +25,7 @@ slot_after_items reads t p i (x ∷ xs) s = slot_after_items reads t p i xs (slo
 -- what these operations, in turn, make of a part, whatever stands for the digests of which no block tells
 pub record IsPartAfter (blocks : Blocks) (t : Table) (items : List PendingItem) (before part : Part) : Type 0 where
   pub principal : part.table.principal ≡ before.table.principal
-  pub slots : (reads : Reading) → Agrees blocks reads → (i : INumber) → slot_at part i ≡ slot_after_items reads t before.table.principal i items (slot_at before i)
+  pub slots : ForEachReading blocks (λ reads. (i : INumber) → slot_at part i ≡ slot_after_items reads t before.table.principal i items (slot_at before i))
 
 -- the operations that are applied to a principal's part: of others each that comes after its handle, and the own one,
 -- which is the last
@@ -65,7 +65,7 @@ pub record IsOpened (blocks : Blocks) (x : View) (p : Principal) (before : ITabl
   pub read : IsRead blocks p (handle_of x p) before
   pub told : (i : INumber) → inode_told blocks p (handle_of x p) i ≡ Some (digest_at before i)
   pub after : IsPartAfter blocks x.table (items_on x p) (part_of before) part
-  pub stands : (reads : Reading) (users : Table) → Agrees blocks reads → IsPartOf reads part (tree reads users x)
+  pub stands : ForEachReading blocks (λ reads. (users : Table) → IsPartOf reads part (tree reads users x))
   pub taken : (digest : Digest) (s : Spot) → IsReached blocks x p digest s → lacks blocks digest s ≡ false
 
 -- ---- a look

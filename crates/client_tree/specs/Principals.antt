@@ -8,7 +8,7 @@ use Rattle.principals.specs.Table.{Table}
 use Rattle.principals.specs.TableText.{table}
 use Rattle.update_cert.specs.World.{File, Principals}
 use Rattle.update_cert.specs.Reading.{Reading, void_of_table_read}
-use Rattle.update_cert.specs.Blocks.{Blocks, Agrees}
+use Rattle.update_cert.specs.Blocks.{Blocks, ForEachReading}
 use Rattle.update_cert.specs.Asked.{IsOfPrincipals}
 use Rattle.update_cert.specs.Spot.{lacks}
 use Rattle.update_cert.specs.declared.spot.Spot.{Spot}
@@ -26,7 +26,7 @@ IsOfNamed blocks handle digest s =
 -- of which no block tells.
 pub record IsNamed (blocks : Blocks) (handle : Handle) (users : Table) : Type 0 where
   pub fits : table.Fits users
-  pub file : (reads : Reading) → Agrees blocks reads → option_map reads.content (reads.inode 0 handle 1) ≡ Some (File (table.spell users))
+  pub file : ForEachReading blocks (λ reads. option_map reads.content (reads.inode 0 handle 1) ≡ Some (File (table.spell users)))
   -- nothing of it is missing
   pub taken : (digest : Digest) (s : Spot) → IsOfNamed blocks handle digest s → lacks blocks digest s ≡ false
 

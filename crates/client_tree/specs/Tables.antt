@@ -9,8 +9,6 @@ use Rattle.itable.specs.declared.root.ListedChunk.{ListedChunk}
 use Rattle.layout.specs.Types.{Digest, Handle, Principal}
 use Rattle.update_cert.specs.Blocks.{Blocks, root_at, chunk_held}
 use Rattle.update_cert.specs.Spot.{lacks}
-use Rattle.update_cert.specs.Asked.{Lacks}
-use Rattle.update_cert.specs.declared.error.ApplyError.{ApplyError}
 use Rattle.update_cert.specs.declared.spot.Spot.{Spot}
 use Rattle.update_cert.specs.declared.spot.Spot.TheVariants as spot
 
@@ -36,10 +34,6 @@ IsOfTable blocks p handle digest (spot.Root q) = (q ≡ p) × (digest ≡ handle
 IsOfTable blocks p handle digest (spot.Chunk q n) =
     (q ≡ p) × (lacks blocks handle (spot.Root p) ≡ false) × IsSomeAnd (root_at blocks handle) (λ r. option_map (λ c. c.digest) (chunk_at r n) ≡ Some digest)
 IsOfTable blocks p handle digest other = ⊥
-
--- what is missing is asked for so, and no text of it is held that its spot takes; want of memory says nothing
-abbrev pub LacksOfTable : Blocks → Principal → Handle → ApplyError → Type 0
-LacksOfTable blocks p handle e = Lacks blocks (IsOfTable blocks p handle) e
 
 -- The table is the one of this handle that the blocks spell, and nothing of it is missing: its root and each chunk that
 -- the root lists are what their spots take.

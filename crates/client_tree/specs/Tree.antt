@@ -14,7 +14,7 @@ use Rattle.principals.specs.Table.{Table}
 use Rattle.principals.specs.TableText.{table as table_format}
 use Rattle.update_cert.specs.World.{Directory, is_table}
 use Rattle.update_cert.specs.Reading.{Reading}
-use Rattle.update_cert.specs.Blocks.{Blocks, Agrees}
+use Rattle.update_cert.specs.Blocks.{Blocks, ForEachReading}
 use Rattle.update_cert.specs.Part.{Part, Changed, IsPart, slot_at}
 use Rattle.update_cert.specs.Slots.{slot_digest, directory_digest, changed_texts, has_digest, IsReadBack}
 use Rattle.update_cert.specs.declared.spot.Spot.{Spot}
@@ -64,8 +64,8 @@ pub record IsStored (blocks : Blocks) (x : View) (s : Stored) : Type 0 where
   pub users : s.principal ≡ 0 → digest_at table 1 ≡ Some (principals_digest x.table)
   pub named : s.handle ≡ table_handle table
   -- and is that of the view's tree, where the digests of directories that changed stand for them,
-  pub world : (reads : Reading) (users : Table) → Agrees blocks reads → ReadsChanged reads part
-      → (i : INumber) → is_table s.principal i ≡ false → option_map reads.content (digest_at table i) ≡ tree reads users x s.principal i
+  pub world : ForEachReading blocks (λ reads. (users : Table) → ReadsChanged reads part
+      → (i : INumber) → is_table s.principal i ≡ false → option_map reads.content (digest_at table i) ≡ tree reads users x s.principal i)
   -- as they do for who holds their texts
   pub read_back : (i : INumber) (digest : Digest) (entries : List Entry) → slot_at part i ≡ Some (Changed digest entries) → IsReadBack entries
   -- the new texts are those of the directories that changed, of the table of principals, where it changed, of the chunks
@@ -80,7 +80,7 @@ pub record IsOutcome (blocks : Blocks) (x : View) (parts : List Stored) : Type 0
 -- These are the numbers of the own changes that have no effect, whatever stands for the digests of which no block tells,
 -- where these are those of the changes of the table of principals among them.
 abbrev pub IsLost : Blocks → View → List ℕ → List ℕ → Type 0
-IsLost blocks x void numbers = (users : Table) → IsPending users x void → (reads : Reading) → Agrees blocks reads → numbers ≡ lost_of reads users x
+IsLost blocks x void numbers = (users : Table) → IsPending users x void → ForEachReading blocks (λ reads. numbers ≡ lost_of reads users x)
 
 -- a block by which a part is opened that the own operation may change
 abbrev pub IsWanted : Blocks → View → Digest → Spot → Type 0

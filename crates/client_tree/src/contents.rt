@@ -2,8 +2,7 @@
 
 ghost use Rattle.std.specs.Prelude.{◌≡◌, ℕ, List, Some, IfOk, IfErr, OnOk, false};
 ghost use Rattle.layout.specs.Types.{Digest as DigestBytes};
-ghost use Rattle.update_cert.specs.Reading.{Reading};
-ghost use Rattle.update_cert.specs.Blocks.{Agrees};
+ghost use Rattle.update_cert.specs.Blocks.{ForEachReading};
 ghost use Rattle.update_cert.specs.Asked.{Lacks};
 ghost use Rattle.update_cert.specs.Spot.{lacks};
 ghost use Rattle.update_cert.specs.declared.spot.Spot.{Spot};
@@ -35,8 +34,8 @@ pub(crate) fn read_content<A: Allocator + Copy, B: Blocks>(
     i_number: INumber,
     digest: Digest,
 ) -> Result<Seen<A>, ApplyError>
-    ensures seen { (reads : Reading) → Agrees (B.held blocks.now) reads
-        → IfOk result (λ s. content_seen s ≡ Some (reads.content digest)) }
+    ensures seen { ForEachReading (B.held blocks.now) (λ reads.
+        IfOk result (λ s. content_seen s ≡ Some (reads.content digest))) }
     // Each of its blocks is what its place takes.
     ensures taken { OnOk result ((block : DigestBytes) (s : Spot)
         → IsOfInode (B.held blocks.now) principal i_number digest block s → lacks (B.held blocks.now) block s ≡ false) }

@@ -4,10 +4,10 @@ ghost use Rattle.std.specs.Prelude.{◌≡◌, ◌++◌, ◌∷◌, [], ℕ, Lis
 ghost use Rattle.itable.specs.ITable.{ITable as ITableModel, digest_at};
 ghost use Rattle.principals.specs.Table.{Table as Principals};
 ghost use Rattle.update_cert.specs.World.{Tree};
-ghost use Rattle.update_cert.specs.Reading.{Reading, after_read, void_of_read};
-ghost use Rattle.update_cert.specs.Blocks.{Agrees, inode_told};
+ghost use Rattle.update_cert.specs.Reading.{after_read, void_of_read};
+ghost use Rattle.update_cert.specs.Blocks.{ForEachReading, inode_told};
 ghost use Rattle.update_cert.specs.Part.{Part as PartModel, IsPartOf, part_of};
-ghost use Rattle.update_cert.specs.Asked.{HasAskedFor, Lacks, LacksAskedFor};
+ghost use Rattle.update_cert.specs.Asked.{HasAskedFor, IsAskedFor, Lacks};
 ghost use Rattle.pending_list.specs.Reply.{PendingItem as Item};
 ghost use Rattle.client_tree.specs.Tables.{IsRead};
 ghost use Rattle.client_tree.specs.View.{actor_of, after_items, comes_after, handle_of, tree_before};
@@ -30,18 +30,21 @@ fn apply_item<A: Allocator + Copy, B: Blocks>(
     table: &Table<A>,
     item: &PendingItem<A>,
 ) -> Result<Applied<A>, ApplyError>
-    ensures part { (reads : Reading) (tree : Tree) → Agrees (B.held blocks.now) reads → IsPartOf reads part tree
+    ensures part { ForEachReading (B.held blocks.now) (λ reads.
+        (tree : Tree) → IsPartOf reads part tree
         → IfOk result (λ applied. IsPartOf reads applied.part
-        (after_read reads (actor_of table.now item.now) item.now.cert.changes tree)) }
-    ensures voids { (reads : Reading) (tree : Tree) → Agrees (B.held blocks.now) reads → IsPartOf reads part tree
+        (after_read reads (actor_of table.now item.now) item.now.cert.changes tree))) }
+    ensures voids { ForEachReading (B.held blocks.now) (λ reads.
+        (tree : Tree) → IsPartOf reads part tree
         → IfOk result (λ applied. applied.voids
-        ≡ void_of_read reads (actor_of table.now item.now) part.table.principal item.now.cert.changes tree) }
+        ≡ void_of_read reads (actor_of table.now item.now) part.table.principal item.now.cert.changes tree)) }
     ensures after { (before : PartModel) (items : List Item)
         → IsPartAfter (B.held blocks.now) table.now items before part
         → IfOk result (λ applied. IsPartAfter (B.held blocks.now) table.now (items ++ item.now ∷ []) before
         applied.part) }
     ensures missing { IfErr result
-        (LacksAskedFor (B.held blocks.now) (actor_of table.now item.now) item.now.cert.changes part) }
+        (Lacks (B.held blocks.now)
+        (IsAskedFor (B.held blocks.now) (actor_of table.now item.now) item.now.cert.changes part)) }
     ensures taken { OnOk result (HasAskedFor (B.held blocks.now) (actor_of table.now item.now) item.now.cert.changes
         part) }
 {
@@ -80,9 +83,10 @@ impl<'a, A: Allocator + Copy> View<'a, A> {
     ) -> Result<Part<A>, ApplyError>
         ensures after { IfOk result (λ after. IsPartAfter (B.held blocks.now) self.now.table
             (filter (comes_after self.now principal) self.now.others) part after) }
-        ensures stands { (reads : Reading) (tree : Tree) → Agrees (B.held blocks.now) reads → IsPartOf reads part tree
+        ensures stands { ForEachReading (B.held blocks.now) (λ reads.
+            (tree : Tree) → IsPartOf reads part tree
             → IfOk result (λ after. IsPartOf reads after
-            (after_items reads self.now.table (filter (comes_after self.now principal) self.now.others) tree)) }
+            (after_items reads self.now.table (filter (comes_after self.now principal) self.now.others) tree))) }
         ensures missing { (before : ITableModel)
             → IsRead (B.held blocks.now) principal (handle_of self.now principal) before → part ≡ part_of before
             → IfErr result (Lacks (B.held blocks.now) (IsReached (B.held blocks.now) self.now principal)) }
@@ -113,8 +117,9 @@ impl<'a, A: Allocator + Copy> View<'a, A> {
             ≡ Some (digest_at earlier.before i)) }
         ensures after { IfOk result (λ earlier. IsPartAfter (B.held blocks.now) self.now.table
             (filter (comes_after self.now principal) self.now.others) (part_of earlier.before) earlier.part) }
-        ensures stands { (reads : Reading) (users : Principals) → Agrees (B.held blocks.now) reads
-            → IfOk result (λ earlier. IsPartOf reads earlier.part (tree_before reads users self.now)) }
+        ensures stands { ForEachReading (B.held blocks.now) (λ reads.
+            (users : Principals)
+            → IfOk result (λ earlier. IsPartOf reads earlier.part (tree_before reads users self.now))) }
         ensures missing { IfErr result (Lacks (B.held blocks.now) (IsReached (B.held blocks.now) self.now principal)) }
         ensures taken { IfOk result (λ earlier. HasAskedByItems (B.held blocks.now) self.now.table
             (filter (comes_after self.now principal) self.now.others) (part_of earlier.before)) }
@@ -136,10 +141,10 @@ impl<'a, A: Allocator + Copy> View<'a, A> {
     ) -> Result<Opened<A>, ApplyError>
         ensures opened { IfOk result (λ opened. IsOpened (B.held blocks.now) self.now principal opened.before
             opened.part) }
-        ensures voids { (reads : Reading) (users : Principals) → Agrees (B.held blocks.now) reads
-            → IfOk result (λ opened. opened.voids
+        ensures voids { ForEachReading (B.held blocks.now) (λ reads.
+            (users : Principals) → IfOk result (λ opened. opened.voids
             ≡ void_of_read reads (actor_of self.now.table self.now.own) principal self.now.own.cert.changes
-            (tree_before reads users self.now)) }
+            (tree_before reads users self.now))) }
         ensures missing { IfErr result (Lacks (B.held blocks.now) (IsReached (B.held blocks.now) self.now principal)) }
     {
         let earlier = self.earlier(alloc, blocks, principal)?;

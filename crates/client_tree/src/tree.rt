@@ -9,7 +9,7 @@ ghost use Rattle.principals.specs.Table.{Table as Principals};
 ghost use Rattle.principals.specs.TableText.{table as table_format};
 ghost use Rattle.update_cert.specs.World.{is_table};
 ghost use Rattle.update_cert.specs.Reading.{Reading, void_of_read};
-ghost use Rattle.update_cert.specs.Blocks.{Agrees, Blocks as Held};
+ghost use Rattle.update_cert.specs.Blocks.{Agrees, Blocks as Held, ForEachReading};
 ghost use Rattle.update_cert.specs.Asked.{Lacks};
 ghost use Rattle.client_tree.specs.View.{View as ViewModel, actor_of, shown, tree_before, written};
 ghost use Rattle.client_tree.specs.Opened.{HasLooked, IsLooked, IsOpened, IsReached};
@@ -238,12 +238,12 @@ impl<'a, A: Allocator + Copy> View<'a, A> {
         ensures stored { IfOk result (λ w. IsStored (B.held blocks.now) self.now w.stored) }
         ensures principal { IfOk result (λ w. w.stored.principal ≡ principal) }
         ensures changed { IfOk result (λ w. w.voids.principal ≡ principal) }
-        ensures voids { (reads : Reading) (users : Principals) → Agrees (B.held blocks.now) reads
-            → IfOk result (λ w. w.voids ≡ record {
+        ensures voids { ForEachReading (B.held blocks.now) (λ reads.
+            (users : Principals) → IfOk result (λ w. w.voids ≡ record {
               principal = principal;
               numbers = void_of_read reads (actor_of self.now.table self.now.own) principal self.now.own.cert.changes
                   (tree_before reads users self.now);
-            }) }
+            })) }
         ensures missing { IfErr result (Lacks (B.held blocks.now) (IsReached (B.held blocks.now) self.now principal)) }
     {
         let opened = self.open(alloc, blocks, principal)?;

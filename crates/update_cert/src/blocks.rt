@@ -1,7 +1,7 @@
 //! Blocks that a client holds.
 
 ghost use Rattle.std.specs.Prelude.{◌≡◌, ℕ, List, IfOk, IfSome};
-ghost use Rattle.std.specs.Option.{option_copied, option_map};
+ghost use Rattle.std.specs.Option.{option_and_then, option_copied, option_map};
 ghost use Rattle.std.specs.Result.{result_ok};
 ghost use Rattle.std.specs.Vec.{vec_items};
 ghost use Rattle.layout.specs.Format.{whole};
@@ -45,6 +45,24 @@ pub(crate) fn spelled<A: Allocator + Copy, T: Text<A>>(
         Ok(found) => Ok(Some(found)),
         Err(ReadError::Memory) => Err(Memory),
         Err(_) => Ok(None),
+    }
+}
+
+/// The value that the text of a digest spells, if it is held and spells one.
+pub fn value_at<A: Allocator + Copy, B: Blocks, T: Text<A>>(
+    alloc: A,
+    blocks: &B,
+    digest: Digest,
+) -> Result<Option<T>, Memory>
+    ensures found { IfOk result (λ found. found
+        ≡ option_and_then (λ text. result_ok (whole T.format text)) (B.held blocks.now digest)) }
+    // Its own text is the one that is held.
+    ensures text { IfOk result (λ found. IfSome found
+        (λ x. T.format.Fits x × (hash (T.format.spell x) ≡ digest))) }
+{
+    match blocks.get(digest) {
+        Some(text) => spelled(alloc, text),
+        None => Ok(None),
     }
 }
 

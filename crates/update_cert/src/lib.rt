@@ -15,12 +15,12 @@ mod spot;
 mod tables;
 
 pub use applying::{Applied, Voids, apply};
-pub use blocks::{Blocks, some_reading_agrees};
+pub use blocks::{Blocks, some_reading_agrees, value_at};
 pub use cert::{CERT_SIZE, Cert, MOST_CHANGES, cert_text};
 pub use change::{Action, CHANGE_SIZE, Change, TableChange, Work};
 pub use error::ApplyError;
 pub use laws::{table_in_trees, voids_in_turn};
 pub use part::{LaidPart, Part, Slot, has_digest};
 pub use reading::{read_directory, read_file, read_inode, read_principals};
-pub use spot::{Spot, is_table, size_of_block};
+pub use spot::{Spot, is_table, size_of_block, takes_chunk, takes_root};
 pub use tables::{apply_table, table_after};

@@ -170,7 +170,7 @@ fn has_first<A: Allocator>(chunk: &Chunk<A>) -> bool
 }
 
 /// Whether the root is of this principal's i-table; user 0's lists chunk 0, which has the table of principals.
-fn takes_root<A: Allocator>(principal: Principal, root: &Root<A>) -> bool
+pub fn takes_root<A: Allocator>(principal: Principal, root: &Root<A>) -> bool
     ensures { result ≡ root_is_taken principal root.now }
 {
     if root.principal() != principal {
@@ -180,7 +180,11 @@ fn takes_root<A: Allocator>(principal: Principal, root: &Root<A>) -> bool
 }
 
 /// Whether the chunk has this number; user 0's chunk 0 has the table of principals.
-fn takes_chunk<A: Allocator>(principal: Principal, number: ChunkNumber, chunk: &Chunk<A>) -> bool
+pub fn takes_chunk<A: Allocator>(
+    principal: Principal,
+    number: ChunkNumber,
+    chunk: &Chunk<A>,
+) -> bool
     ensures { result ≡ chunk_is_taken principal number chunk.now }
 {
     if chunk.number() != number {

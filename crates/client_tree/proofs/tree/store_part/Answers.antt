@@ -30,7 +30,7 @@ returns-clause-stored g c = λ blocks x is_table opened.
       digests = digests;
       users = λ first. subst (λ (t : Table). digest_at table 1 ≡ Some (principals_digest t)) (sym is_table) (laid.users first);
       named = c.in_ok-handle.ensures.handle;
-      world = λ reads users agrees changed i place. world_is reads users x p part table i own (opened.after.principal ∙ opened.read.principal) (opened.stands reads users agrees) changed digests place;
+      world = λ reads agrees users changed i place. world_is reads users x p part table i own (opened.after.principal ∙ opened.read.principal) (opened.stands reads agrees users) changed digests place;
       read_back = part_laid.read_back;
       stored = c.in_ok-handle.ensures.texts
           ∙ ap (λ (ts : List (List ℕ)). ts ++ table_texts before table) (laid.texts ∙ ap (λ (ts : List (List ℕ)). ts ++ principals_texts before p c.args.users.now) part_laid.texts)

@@ -4,7 +4,7 @@ use Rattle.std.specs.Prelude.{filter, slice_index_or}
 use Rattle.update_cert.specs.Part.{IsPartOf, Part}
 use Rattle.principals.specs.Table.{Table}
 use Rattle.update_cert.specs.Reading.{after_read}
-use Rattle.update_cert.specs.Asked.{HasAskedFor, Lacks, LacksAskedFor}
+use Rattle.update_cert.specs.Asked.{HasAskedFor, IsAskedFor, Lacks}
 use Rattle.pending_list.specs.Reply.{PendingItem}
 use Rattle.client_tree.specs.View.{actor_of, after_items, comes_after}
 use Rattle.client_tree.specs.Opened.{HasAskedByItems, IsPartAfter, IsReached}
@@ -16,7 +16,7 @@ pub loop-item-init : goal.loop-item-init
 unfolding after_items
 loop-item-init g c = record {
   after = no_items (g.B.Blocks.held c.args.blocks.now) c.args.self.now.table c.args.part;
-  stands = λ reads tree agrees is. is;
+  stands = λ reads agrees tree is. is;
   taken = none_asked (g.B.Blocks.held c.args.blocks.now) c.args.self.now.table c.args.part;
 }
 
@@ -34,7 +34,7 @@ returns-in_err-applied-clause-missing g c = λ before read is.
     let turn = in_turn (comes_after x p) x.others k item x.own inside at comes in
     handed_on c.from_residual.result c.in_err-applied.field-0.0 (Lacks held (IsReached held x p)) c.from_residual.ensures.1
     (of_item held x p before c.loop-item.after (filter (comes_after x p) (take k x.others)) (filter (comes_after x p) (drop (k + 1) x.others) ++ x.own ∷ []) item c.in_err-applied.field-0.0 read turn after
-    (subst (λ (t : Table). LacksAskedFor held (actor_of t item) item.cert.changes c.loop-item.after c.in_err-applied.field-0.0) c.table.ensures c.in_err-applied.ensures.missing))
+    (subst (λ (t : Table). Lacks held (IsAskedFor held (actor_of t item) item.cert.changes c.loop-item.after) c.in_err-applied.field-0.0) c.table.ensures c.in_err-applied.ensures.missing))
 
 pub loop-item-preserved : goal.loop-item-preserved
 loop-item-preserved g c =
@@ -53,9 +53,9 @@ loop-item-preserved g c =
           let next : filter (comes_after x p) (take (k + 1) x.others) ≡ done ++ item ∷ [] = filter_next (comes_after x p) x.others k item true inside at comes in
           rw (next, w.after-is) (record {
             after = subst (λ (t : Table). IsPartAfter held t (done ++ item ∷ []) c.args.part w.in_ok-applied.applied.part) w.table.ensures (w.in_ok-applied.ensures.after c.args.part done (subst (λ (t : Table). IsPartAfter held t done c.args.part c.loop-item.after) (sym w.table.ensures) inv.after));
-            stands = λ reads tree agrees is.
+            stands = λ reads agrees tree is.
                 rw (tree_after reads x.table done item tree) (subst (λ (t : Table). IsPartOf reads w.in_ok-applied.applied.part (after_read reads (actor_of t item) item.cert.changes (after_items reads x.table done tree))) w.table.ensures
-                (w.in_ok-applied.ensures.part reads (after_items reads x.table done tree) agrees (inv.stands reads tree agrees is)));
+                (w.in_ok-applied.ensures.part reads agrees (after_items reads x.table done tree) (inv.stands reads agrees tree is)));
             taken = asked_next held x.table done item c.args.part c.loop-item.after inv.after (subst (λ (t : Table). HasAskedFor held (actor_of t item) item.cert.changes c.loop-item.after) w.table.ensures w.in_ok-applied.ensures.taken) inv.taken;
           })
       | else-comes_after w ↦
@@ -65,11 +65,11 @@ loop-item-preserved g c =
     ]
 
 pub returns-clause-stands : goal.returns-clause-stands
-returns-clause-stands g c = λ reads tree agrees is.
+returns-clause-stands g c = λ reads agrees tree is.
     let x = c.args.self.now in
     let past = rw c.others-item-items.ensures at c.loop-item-test.false in
     let all : take c.loop-item.item-index x.others ≡ x.others = take_all c.loop-item.item-index x.others past in
-    subst (λ (xs : List PendingItem). IsPartOf reads c.loop-item.after (after_items reads x.table (filter (comes_after x c.args.principal) xs) tree)) all (c.loop-item.invariant.stands reads tree agrees is)
+    subst (λ (xs : List PendingItem). IsPartOf reads c.loop-item.after (after_items reads x.table (filter (comes_after x c.args.principal) xs) tree)) all (c.loop-item.invariant.stands reads agrees tree is)
 
 pub returns-clause-taken : goal.returns-clause-taken
 returns-clause-taken g c =

@@ -11,7 +11,7 @@ use Rattle.client_tree.proofs.view.View.after_others.Given as goal
 abbrev pub invariant-loop-item : goal.invariant-loop-item
 invariant-loop-item g l = record {
   after : IsPartAfter (g.B.Blocks.held l.blocks) l.fn.self.table (filter (comes_after l.fn.self l.fn.principal) (take l.item-index l.fn.self.others)) l.fn.part l.after;
-  stands : (reads : Reading) (tree : Tree) → Agrees (g.B.Blocks.held l.blocks) reads → IsPartOf reads l.fn.part tree
+  stands : (reads : Reading) → Agrees (g.B.Blocks.held l.blocks) reads → (tree : Tree) → IsPartOf reads l.fn.part tree
       → IsPartOf reads l.after (after_items reads l.fn.self.table (filter (comes_after l.fn.self l.fn.principal) (take l.item-index l.fn.self.others)) tree);
   taken : HasAskedByItems (g.B.Blocks.held l.blocks) l.fn.self.table (filter (comes_after l.fn.self l.fn.principal) (take l.item-index l.fn.self.others)) l.fn.part;
 }

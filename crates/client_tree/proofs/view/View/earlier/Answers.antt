@@ -10,7 +10,7 @@ use Rattle.client_tree.proofs.OpenedLaws.{before_own, named_part}
 use Rattle.client_tree.proofs.view.View.earlier.Goals as goal
 
 pub returns-clause-stands : goal.returns-clause-stands
-returns-clause-stands g c = λ reads users agrees.
+returns-clause-stands g c = λ reads agrees users.
     let held = g.B.Blocks.held c.args.blocks.now in
     let x = c.args.self.now in
     let p = c.args.principal in
@@ -19,7 +19,7 @@ returns-clause-stands g c = λ reads users agrees.
     let told : (i : ℕ) → inode_told held p (handle_of x p) i ≡ Some (digest_at t i) = λ i. ap (λ (h : Digest). inode_told held p h i) (sym c.in_ok-handle.ensures) ∙ c.in_ok-table.ensures.told i in
     let first : IsPartOf reads (part_of t) (named reads users x) = named_part held reads users x p t own told agrees in
     let is : c.of-part.result ≡ part_of t = c.of-part.ensures in
-    let after = c.in_ok-part.ensures.stands reads (named reads users x) agrees (subst (λ (q : Part). IsPartOf reads q (named reads users x)) (sym is) first) in
+    let after = c.in_ok-part.ensures.stands reads agrees (named reads users x) (subst (λ (q : Part). IsPartOf reads q (named reads users x)) (sym is) first) in
     let principal = c.in_ok-part.ensures.after.principal ∙ ap (λ (q : Part). q.table.principal) is ∙ own in
     before_own reads users x p c.in_ok-part.part principal after
 

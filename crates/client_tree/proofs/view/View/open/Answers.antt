@@ -3,7 +3,7 @@ use Rattle.std.specs.Prelude.{filter}
 use Rattle.principals.specs.Table.{Table}
 use Rattle.update_cert.specs.Reading.{after_read, void_of_read}
 use Rattle.update_cert.specs.Part.{IsPartOf, part_of}
-use Rattle.update_cert.specs.Asked.{HasAskedFor, Lacks, LacksAskedFor}
+use Rattle.update_cert.specs.Asked.{HasAskedFor, IsAskedFor, Lacks}
 use Rattle.pending_list.specs.Reply.{PendingItem}
 use Rattle.client_tree.specs.View.{actor_of, comes_after, tree_before}
 use Rattle.client_tree.specs.Opened.{IsPartAfter, IsReached}
@@ -17,9 +17,9 @@ returns-in_err-applied-clause-missing g c =
     let p = c.args.principal in
     let e = c.in_err-applied.field-0.0 in
     let earlier = c.in_ok-earlier.ensures in
-    let missing : LacksAskedFor held (actor_of x.table x.own) x.own.cert.changes c.in_ok-earlier.earlier.part e =
-    subst (λ (i : PendingItem). LacksAskedFor held (actor_of x.table i) i.cert.changes c.in_ok-earlier.earlier.part e) c.own.ensures
-    (subst (λ (t : Table). LacksAskedFor held (actor_of t c.own.result.now) c.own.result.now.cert.changes c.in_ok-earlier.earlier.part e) c.table.ensures c.in_err-applied.ensures.missing) in
+    let missing : Lacks held (IsAskedFor held (actor_of x.table x.own) x.own.cert.changes c.in_ok-earlier.earlier.part) e =
+    subst (λ (i : PendingItem). Lacks held (IsAskedFor held (actor_of x.table i) i.cert.changes c.in_ok-earlier.earlier.part) e) c.own.ensures
+    (subst (λ (t : Table). Lacks held (IsAskedFor held (actor_of t c.own.result.now) c.own.result.now.cert.changes c.in_ok-earlier.earlier.part) e) c.table.ensures c.in_err-applied.ensures.missing) in
     handed_on c.from_residual-in_err-applied.result e (Lacks held (IsReached held x p)) c.from_residual-in_err-applied.ensures.1
     (of_item held x p c.in_ok-earlier.earlier.before c.in_ok-earlier.earlier.part (filter (comes_after x p) x.others) [] x.own e earlier.read refl earlier.after missing)
 
@@ -41,22 +41,22 @@ returns-clause-opened g c =
       read = earlier.read;
       told = earlier.told;
       after = subst (λ (i : PendingItem). IsPartAfter held x.table (done ++ i ∷ []) before part) c.own.ensures (subst (λ (t : Table). IsPartAfter held t (done ++ c.own.result.now ∷ []) before part) c.table.ensures after);
-      stands = λ reads users agrees.
+      stands = λ reads agrees users.
           let tree = tree_before reads users x in
-          let is = c.in_ok-applied.ensures.part reads tree agrees (earlier.stands reads users agrees) in
+          let is = c.in_ok-applied.ensures.part reads agrees tree (earlier.stands reads agrees users) in
           subst (λ (i : PendingItem). IsPartOf reads part (after_read reads (actor_of x.table i) i.cert.changes tree)) c.own.ensures
           (subst (λ (t : Table). IsPartOf reads part (after_read reads (actor_of t c.own.result.now) c.own.result.now.cert.changes tree)) c.table.ensures is);
       taken = reached_taken held x p c.in_ok-earlier.earlier.before earlier.read (asked_next held x.table done x.own before c.in_ok-earlier.earlier.part earlier.after asked earlier.taken);
     }
 
 pub returns-clause-voids : goal.returns-clause-voids
-returns-clause-voids g c = λ reads users agrees.
+returns-clause-voids g c = λ reads agrees users.
     let x = c.args.self.now in
     let tree = tree_before reads users x in
     let earlier = c.in_ok-earlier.ensures in
     let own = earlier.after.principal ∙ earlier.read.principal in
     let part = c.in_ok-earlier.earlier.part in
-    c.in_ok-applied.ensures.voids reads tree agrees (earlier.stands reads users agrees)
+    c.in_ok-applied.ensures.voids reads agrees tree (earlier.stands reads agrees users)
     ∙ ap (λ (t : Table). void_of_read reads (actor_of t c.own.result.now) part.table.principal c.own.result.now.cert.changes tree) c.table.ensures
     ∙ ap (λ (i : PendingItem). void_of_read reads (actor_of x.table i) part.table.principal i.cert.changes tree) c.own.ensures
     ∙ ap (λ (q : ℕ). void_of_read reads (actor_of x.table x.own) q x.own.cert.changes tree) own

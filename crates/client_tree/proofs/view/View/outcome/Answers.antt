@@ -55,11 +55,11 @@ loop-principal-preserved g c =
       principals = ap (map (λ (s : Stored). s.principal)) c.in_ok-push.ensures.items ∙ map-append (λ (s : Stored). s.principal) c.loop-principal.parts.items (stored ∷ []) ∙ ap (λ (ps : List Principal). ps ++ stored.principal ∷ []) inv.principals ∙ ap (λ (q : Principal). take k (written x) ++ q ∷ []) done.principal ∙ sym next;
       stored = subst (All (IsStored held x)) (sym c.in_ok-push.ensures.items) (All-append (IsStored held x) c.loop-principal.parts.items (stored ∷ []) inv.stored (All-cons (IsStored held x) stored [] done.stored (All-nil (IsStored held x))));
       parts = ap (map (λ (v : PartVoids). v.principal)) c.in_ok-push-2.ensures.items ∙ map-append (λ (v : PartVoids). v.principal) c.loop-principal.of_parts.items (voids ∷ []) ∙ ap (λ (ps : List Principal). ps ++ voids.principal ∷ []) inv.parts ∙ ap (λ (q : Principal). take k (written x) ++ q ∷ []) done.changed ∙ sym next;
-      voids = λ reads users agrees.
+      voids = λ reads agrees users.
           let tree = tree_before reads users x in
-          let is = done.voids reads users agrees in
+          let is = done.voids reads agrees users in
           let numbers : HasVoids reads x.table x.own tree voids = ap (λ (v : PartVoids). v.numbers) is ∙ ap (λ (q : ℕ). void_of_read reads (actor_of x.table x.own) q x.own.cert.changes tree) (sym (ap (λ (v : PartVoids). v.principal) is)) in
-          subst (All (HasVoids reads x.table x.own tree)) (sym c.in_ok-push-2.ensures.items) (All-append (HasVoids reads x.table x.own tree) c.loop-principal.of_parts.items (voids ∷ []) (inv.voids reads users agrees) (All-cons (HasVoids reads x.table x.own tree) voids [] numbers (All-nil (HasVoids reads x.table x.own tree))));
+          subst (All (HasVoids reads x.table x.own tree)) (sym c.in_ok-push-2.ensures.items) (All-append (HasVoids reads x.table x.own tree) c.loop-principal.of_parts.items (voids ∷ []) (inv.voids reads agrees users) (All-cons (HasVoids reads x.table x.own tree) voids [] numbers (All-nil (HasVoids reads x.table x.own tree))));
     }
 
 pub lost_among-requires : goal.lost_among-requires
@@ -87,4 +87,4 @@ returns-clause-lost g c = λ users is reads agrees.
     let cs : c.changes-changes.result.now ≡ x.own.cert.changes = c.changes-changes.ensures ∙ ap (λ (k : Cert). k.changes) c.cert.ensures.same ∙ ap (λ (i : PendingItem). i.cert.changes) c.own.ensures in
     let fits : cert.Fits x.own.cert = subst (λ (i : PendingItem). cert.Fits i.cert) c.own.ensures c.cert.ensures.fits.0.0.1 in
     c.in_ok-lost.ensures ∙ ap (λ (ps : List PartVoids). lost_from 1 ps c.numbers.result.now c.changes-changes.result.now) c.deref.ensures.value ∙ ap (λ (ns : List ℕ). lost_from 1 vs ns c.changes-changes.result.now) c.numbers.ensures ∙ ap (lost_from 1 vs table) cs
-    ∙ lost_is_void reads (actor_of x.table x.own) vs table x.own.cert.changes (tree_before reads users x) (inv.voids reads users agrees) (is.void reads) (are_listed x vs fits (inv.parts ∙ all))
+    ∙ lost_is_void reads (actor_of x.table x.own) vs table x.own.cert.changes (tree_before reads users x) (inv.voids reads agrees users) (is.void reads) (are_listed x vs fits (inv.parts ∙ all))

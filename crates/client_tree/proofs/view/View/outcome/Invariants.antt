@@ -13,6 +13,6 @@ invariant-loop-principal g l = record {
   principals : map (λ (s : Stored). s.principal) l.parts.items ≡ take l.principal-index (written l.fn.self);
   stored : All (IsStored (g.B.Blocks.held l.blocks) l.fn.self) l.parts.items;
   parts : map (λ (v : PartVoids). v.principal) l.of_parts.items ≡ take l.principal-index (written l.fn.self);
-  voids : (reads : Reading) (users : Table) → Agrees (g.B.Blocks.held l.blocks) reads
+  voids : (reads : Reading) → Agrees (g.B.Blocks.held l.blocks) reads → (users : Table)
       → All (λ v. v.numbers ≡ void_of_read reads (actor_of l.fn.self.table l.fn.self.own) v.principal l.fn.self.own.cert.changes (tree_before reads users l.fn.self)) l.of_parts.items;
 }
