@@ -19,7 +19,7 @@ use Rattle.pending_list.specs.Reply.{PendingItem, Reply, reply, top}
 use Rattle.pending_list.specs.Reply as reply_spec
 use Rattle.pending_list.proofs.Highest.{none_listed, top_is}
 use Rattle.reply_rules.specs.Lists.{Lists, items, number_of, pending, shown, structure_of}
-use Rattle.reply_rules.specs.Rules.{above, above_show, all_show, ascends_after, counts_at, depth, each_once, entries, entries_of, follow, group_records, is_above, is_next, is_numbered, is_planned, items_above, left_of, link, lists, lists_entry, names_certificate, names_last, next_vector, numbers, other_entries, own_above, own_all, own_entry_of_top, own_only, pending_ascends, pending_next, pending_numbered, pending_once, rest_known, rest_of, rest_others, rest_waiting, same_vector, shows, shows_earlier, structures_ascend, structures_numbered, top_counts, top_entries, top_known, top_plan, top_vector, top_waiting, unknown_user, vector, vectors_follow, waiting, waits, within, all_in_order, is_known}
+use Rattle.reply_rules.specs.Rules.{above, above_show, all_show, ascends_after, counts_at, depth, each_once, entries, entries_of, each_has_next_vector, group_records, is_above, is_next, is_numbered, is_planned, items_above, left_of, link, lists, lists_entry, names_certificate, names_last, next_vector, numbers, other_entries, own_above, own_all, own_entry_of_top, own_only, pending_ascends, pending_next, pending_numbered, pending_once, rest_known, rest_of, rest_others, rest_waiting, same_vector, shows, shows_earlier, structures_ascend, structures_numbered, top_counts, top_entries, top_known, top_plan, top_vector, top_waiting, unknown_user, vector, vectors_follow, waiting, waits, within, all_in_order, is_known}
 use Rattle.reply_rules.specs.Broken.{broken, later_rules}
 use Rattle.reply_rules.specs.declared.rule.Rule.TheVariants as rule
 use Rattle.reply_rules.proofs.Above.{above_plans}
@@ -207,10 +207,10 @@ next_version t i v u l e =
           omega arith)
     ]
 
-follow_chained : (t : Table) (v : List Component) (is : List PendingItem) → ((i : PendingItem) → In i is → i.plan.user < 64) → follow t v is ≡ true → Plans.Chained Plan Entry shape (λ u. users_version u v) (map plan_in_item is)
+follow_chained : (t : Table) (v : List Component) (is : List PendingItem) → ((i : PendingItem) → In i is → i.plan.user < 64) → each_has_next_vector t v is ≡ true → Plans.Chained Plan Entry shape (λ u. users_version u v) (map plan_in_item is)
 follow_chained t v [] users h = tt
 follow_chained t v (i ∷ is) users h =
-    let parts = and_parts (same_vector i.plan.vector (next_vector t i v)) (follow t i.plan.vector is) h in
+    let parts = and_parts (same_vector i.plan.vector (next_vector t i v)) (each_has_next_vector t i.plan.vector is) h in
     let e = same_vector_is i.plan.vector (next_vector t i v) parts.0 in
     ((λ u. next_version t i v u (users i (inl refl)) e), follow_chained t i.plan.vector is (λ j k. users j (inr k)) parts.1)
 

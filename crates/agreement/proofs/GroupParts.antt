@@ -19,7 +19,7 @@ use Rattle.pending_list.specs.declared.signed.Signed.{Signed}
 use Rattle.pending_list.specs.Groups.{raises, table_version, touches}
 use Rattle.pending_list.specs.Reply.{PendingItem}
 use Rattle.reply_rules.specs.Lists.{items, pending, shown, structure_of}
-use Rattle.reply_rules.specs.Rules.{above, depth, follow, items_above, is_above, next_vector, same_vector, top_plan, top_vector}
+use Rattle.reply_rules.specs.Rules.{above, depth, each_has_next_vector, items_above, is_above, next_vector, same_vector, top_plan, top_vector}
 use Rattle.reply_rules.proofs.Above.{above_plans}
 use Rattle.reply_rules.proofs.SameVector.{same_vector_is}
 use Rattle.client_tree.specs.Genesis.{first_handle}
@@ -181,11 +181,11 @@ module _ (reads : Reading) (key : Key) (run : List View) (first : NameFirst read
 
     -- ---- versions of the group along the line
 
-    follows_group : (y : View) → In y run → Good (of_view y) → (w : List Component) (is : List PendingItem) → ((i : PendingItem) → In i is → In i (items_above y.lists)) → follow y.table w is ≡ true
+    follows_group : (y : View) → In y run → Good (of_view y) → (w : List Component) (is : List PendingItem) → ((i : PendingItem) → In i is → In i (items_above y.lists)) → each_has_next_vector y.table w is ≡ true
         → Chain (version_of g w) (map plan_in_item is)
     follows_group y j good w [] f t = tt
     follows_group y j good w (i ∷ is) f t =
-        let q = and_parts (same_vector i.plan.vector (next_vector y.table i w)) (follow y.table i.plan.vector is) t in
+        let q = and_parts (same_vector i.plan.vector (next_vector y.table i w)) (each_has_next_vector y.table i.plan.vector is) t in
         let a = (accepted_in run v y j).1 in
         let above_i = f i (inl refl) in
         let user = above_user y.table y.lists a.read a.lists a.rules i above_i in

@@ -12,7 +12,7 @@ use Rattle.version_order.proofs.Raising.{version_of-raised}
 use Rattle.pending_list.specs.Groups.{raised_groups, raises}
 use Rattle.pending_list.specs.Reply.{PendingItem}
 use Rattle.reply_rules.specs.Lists.{Lists}
-use Rattle.reply_rules.specs.Rules.{follow, is_above, items_above, next_vector, own_above, same_vector, top_vector, vector, vectors_follow}
+use Rattle.reply_rules.specs.Rules.{each_has_next_vector, is_above, items_above, next_vector, own_above, same_vector, top_vector, vector, vectors_follow}
 use Rattle.reply_rules.proofs.RaisedLaws.{version-grows}
 use Rattle.reply_rules.proofs.SameVector.{same_vector_is}
 
@@ -29,9 +29,9 @@ raised_counts g [] v none = absurd cc
 raised_counts g (p ∷ ps) v some = counts g p ps v (p == g) refl some (λ w rest. raised_counts g ps w rest)
 
 -- the last one's vector follows from one before it
-follow_last : (t : Table) (v : List Component) (is : List PendingItem) (own : PendingItem) → follow t v (is ++ own ∷ []) ≡ true → (w : List Component) × (same_vector own.plan.vector (next_vector t own w) ≡ true)
+follow_last : (t : Table) (v : List Component) (is : List PendingItem) (own : PendingItem) → each_has_next_vector t v (is ++ own ∷ []) ≡ true → (w : List Component) × (same_vector own.plan.vector (next_vector t own w) ≡ true)
 follow_last t v [] own all = (v, (and_parts (same_vector own.plan.vector (next_vector t own v)) true all).0)
-follow_last t v (i ∷ is) own all = follow_last t i.plan.vector is own (and_parts (same_vector i.plan.vector (next_vector t i v)) (follow t i.plan.vector (is ++ own ∷ [])) all).1
+follow_last t v (i ∷ is) own all = follow_last t i.plan.vector is own (and_parts (same_vector i.plan.vector (next_vector t i v)) (each_has_next_vector t i.plan.vector (is ++ own ∷ [])) all).1
 
 above_last : (x : Lists) → own_above x ≡ true → items_above x ≡ filter (λ i. is_above x i.plan) x.others ++ x.own ∷ []
 above_last x above = filter-append (λ (i : PendingItem). is_above x i.plan) x.others (x.own ∷ []) ∙ rw above refl
@@ -42,7 +42,7 @@ unfolding vector
 own_counts t x g holds is =
     let rest = (and_parts _ _ holds).1 in
     let parts = and_parts (own_above x) (vectors_follow t x) rest in
-    let follows : follow t (top_vector x) (filter (λ i. is_above x i.plan) x.others ++ x.own ∷ []) ≡ true = subst (λ (is : List PendingItem). follow t (top_vector x) is ≡ true) (above_last x parts.0) parts.1 in
+    let follows : each_has_next_vector t (top_vector x) (filter (λ i. is_above x i.plan) x.others ++ x.own ∷ []) ≡ true = subst (λ (is : List PendingItem). each_has_next_vector t (top_vector x) is ≡ true) (above_last x parts.0) parts.1 in
     let last = follow_last t (top_vector x) (filter (λ i. is_above x i.plan) x.others) x.own follows in
     let same = same_vector_is x.own.plan.vector (next_vector t x.own last.0) last.1 in
     subst (λ (v : List Component). 0 < version_of g v) (sym same) (raised_counts g (raised_groups t x.own) _ is)

@@ -1,7 +1,8 @@
 -- The lists of a reply in which something is pending: the structures, the pending items of others, and the own item,
 -- which is the last.
-use Rattle.std.specs.Prelude.{ℕ, List, [], ◌∷◌, ◌++◌, Option, Some, None, ◌==◌, map, find}
+use Rattle.std.specs.Prelude.{List, [], ◌∷◌, ◌++◌, Option, Some, None, ◌==◌, map, find}
 use Rattle.std.specs.Option.{option_map, option_map_or}
+use Rattle.layout.specs.Types.{User, Version}
 use Rattle.version_order.specs.Plan.{Plan}
 use Rattle.version_order.specs.Structure.{Structure}
 use Rattle.pending_list.specs.declared.signed.Signed.{Signed}
@@ -34,9 +35,9 @@ abbrev pub pending : Lists → List Plan
 pending x = map (λ i. i.plan) (items x)
 
 -- the structure of a user
-abbrev pub structure_of : ℕ → Lists → Option (Signed Structure)
+abbrev pub structure_of : User → Lists → Option (Signed Structure)
 structure_of u x = find (λ z. z.value.plan.user == u) x.structures
 
 -- the number of a user's structure, 0 where there is none
-abbrev pub number_of : ℕ → Lists → ℕ
+abbrev pub number_of : User → Lists → Version
 number_of u x = option_map_or (λ z. z.value.plan.number) (structure_of u x) 0

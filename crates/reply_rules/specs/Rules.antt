@@ -9,6 +9,7 @@ use Rattle.std.specs.Prelude.{ℕ, zero, suc, ◌+◌, List, [], ◌∷◌, ◌+
 use Rattle.std.specs.List.{list_all, list_any}
 use Rattle.std.specs.Option.{option_map_or}
 use Rattle.std.specs.Str.{bytes_eq}
+use Rattle.layout.specs.Types.{Digest, Group, User, Version}
 use Rattle.version_order.specs.declared.vector.Component.{Component}
 use Rattle.version_order.specs.declared.plan.Entry.{Entry}
 use Rattle.version_order.specs.Vector.{version_of, raised_all, is_below}
@@ -118,14 +119,14 @@ abbrev pub pending_next : Lists → Bool
 pending_next x = list_all (is_next x) (pending x)
 
 -- a pending plan of the user isn't above
-abbrev pub waits : Lists → ℕ → Bool
+abbrev pub waits : Lists → User → Bool
 waits x u = list_any (λ p. p.user == u) (waiting x)
 
 -- how many operations of the user top has seen: that of its structure, and one that is pending and not above
-abbrev pub count_seen : ℕ → Lists → ℕ
+abbrev pub count_seen : User → Lists → ℕ
 count_seen u x = number_of u x + (if waits x u then 1 else 0)
 
-abbrev pub counts_at : Lists → ℕ → Bool
+abbrev pub counts_at : Lists → User → Bool
 counts_at x u = version_of u (top_vector x) == count_seen u x
 
 -- the test holds of each number below n
@@ -171,12 +172,13 @@ abbrev pub next_vector : Table → PendingItem → List Component → List Compo
 next_vector t i v = raised_all (raised_groups t i) (vector_spec.raised i.plan.user v)
 
 -- each has the vector that follows from the one before it
-abbrev pub follow : Table → List Component → List PendingItem → Bool
-follow t v [] = true
-follow t v (i ∷ is) = same_vector i.plan.vector (next_vector t i v) && follow t i.plan.vector is
+abbrev pub each_has_next_vector : Table → List Component → List PendingItem → Bool
+each_has_next_vector t v [] = true
+each_has_next_vector t v (i ∷ is) =
+    same_vector i.plan.vector (next_vector t i v) && each_has_next_vector t i.plan.vector is
 
 abbrev pub vectors_follow : Table → Lists → Bool
-vectors_follow t x = follow t (top_vector x) (items_above x)
+vectors_follow t x = each_has_next_vector t (top_vector x) (items_above x)
 
 unfoldable pub vector : Table → Lists → Bool
 vector t x = all_in_order x && (own_above x && vectors_follow t x)
@@ -270,7 +272,7 @@ abbrev pub names_certificate : PendingItem → Bool
 names_certificate i = bytes_eq i.plan.certificate (cert_spec.digest_of i.cert)
 
 -- the digest of a user's structure, zeros where there is none
-abbrev pub last_digest : ℕ → Lists → List ℕ
+abbrev pub last_digest : User → Lists → Digest
 last_digest u x = lists_spec.digest_of_last (structure_of u x)
 
 -- a certificate names its user's structure
@@ -314,26 +316,26 @@ records_once (z ∷ zs) = list_all (differ z) zs && records_once zs
 abbrev pub greater : ℕ → ℕ → ℕ
 greater m n = if nat_lt m n then n else m
 
-abbrev pub newest_in : ℕ → List GroupRecord → ℕ
+abbrev pub newest_in : Group → List GroupRecord → Version
 newest_in g [] = 0
 newest_in g (r ∷ rs) = if r.group == g then greater r.version (newest_in g rs) else newest_in g rs
 
 -- the greatest version of a group in a record, 0 without one
-abbrev pub newest : ℕ → List (Signed Structure) → ℕ
+abbrev pub newest : Group → List (Signed Structure) → Version
 newest g [] = 0
 newest g (z ∷ zs) = greater (newest_in g z.value.groups) (newest g zs)
 
 -- the versions of a group beyond this one, of those of these pending items that raise it
-abbrev pub versions_beyond : Table → ℕ → ℕ → List PendingItem → List ℕ
+abbrev pub versions_beyond : Table → Group → Version → List PendingItem → List Version
 versions_beyond t g r is =
     map (λ i. version_of g i.plan.vector) (filter (λ i. raises t g i && nat_lt r (version_of g i.plan.vector)) is)
 
 -- the versions of a group beyond its newest record, of the pending items that raise it
-abbrev pub new_versions : Table → Lists → ℕ → List ℕ
+abbrev pub new_versions : Table → Lists → Group → List Version
 new_versions t x g = versions_beyond t g (newest g x.structures) (items x)
 
 -- the own plan's version of a group
-abbrev pub own_version : Lists → ℕ → ℕ
+abbrev pub own_version : Lists → Group → Version
 own_version x g = version_of g x.own.plan.vector
 
 -- each number from m on to n is one of these
@@ -342,18 +344,18 @@ has_all m zero ns = true
 has_all m (suc n) ns = nat_lt (suc n) m || (list_any (λ k. k == suc n) ns && has_all m n ns)
 
 -- no new version comes twice
-abbrev pub versions_once : Table → Lists → ℕ → Bool
+abbrev pub versions_once : Table → Lists → Group → Bool
 versions_once t x g = each_once (new_versions t x g)
 
 -- none is greater than the own plan's
-abbrev pub versions_within : Table → Lists → ℕ → Bool
+abbrev pub versions_within : Table → Lists → Group → Bool
 versions_within t x g = list_all (λ v. nat_le v (own_version x g)) (new_versions t x g)
 
 -- and none up to the own plan's is missing
-abbrev pub versions_complete : Table → Lists → ℕ → Bool
+abbrev pub versions_complete : Table → Lists → Group → Bool
 versions_complete t x g = has_all (newest g x.structures + 1) (own_version x g) (new_versions t x g)
 
-abbrev pub group_complete : Table → Lists → ℕ → Bool
+abbrev pub group_complete : Table → Lists → Group → Bool
 group_complete t x g = versions_once t x g && (versions_within t x g && versions_complete t x g)
 
 unfoldable pub group_records : Table → Lists → Bool

@@ -2,14 +2,13 @@
 
 ghost use Rattle.std.specs.Prelude.{◌≡◌, ◌≤◌, ◌++◌, length, filter, true};
 ghost use Rattle.std.specs.Option.{option_copied};
-ghost use Rattle.pending_list.specs.Reply.{top, depth_of_top};
-ghost use Rattle.pending_list.specs.Reply as reply_spec;
+ghost use Rattle.pending_list.specs.Reply.{top, depth_of_top, is_above};
 ghost use Rattle.reply_rules.specs.Lists.{lists_of, items, structure_of};
-ghost use Rattle.reply_rules.specs.Rules.{lists, is_above, items_waiting, items_above};
+ghost use Rattle.reply_rules.specs.Rules.{lists, items_waiting, items_above};
 ghost use Rattle.reply_rules.specs.Split.{place_above};
 
 use crate::lists::shown_user;
-use pending_list::{PendingItem, Reply, Signed, depth_of_top, top};
+use pending_list::{PendingItem, Reply, Signed, depth_of_top, is_deeper, top};
 use std::alloc::Allocator;
 use std::marker::Model;
 use version_order::{Structure, depth};
@@ -47,7 +46,7 @@ fn place_above<A: Allocator>(pending: &[PendingItem<A>], top: u64) -> usize
 {
     let mut before = 0;
     for item in pending {
-        if top < depth(item.plan()) {
+        if is_deeper(item, top) {
             return before;
         }
         before += 1;
@@ -59,7 +58,7 @@ fn place_above<A: Allocator>(pending: &[PendingItem<A>], top: u64) -> usize
 /// the pending list.
 pub fn above_top<A: Allocator>(reply: &Reply<A>) -> &[PendingItem<A>]
     requires { lists reply.now ≡ true }
-    ensures { result.now ≡ filter (λ i. reply_spec.is_above reply.now.structures i.plan) reply.now.pending }
+    ensures { result.now ≡ filter (λ i. is_above reply.now.structures i.plan) reply.now.pending }
 {
     let pending = reply.pending();
     let place = place_above(pending, depth_of_top(reply));

@@ -168,7 +168,7 @@ fn vectors_follow<A: Allocator + Copy>(
     table: &Table<A>,
     lists: &Lists<'_, A>,
 ) -> Result<bool, Memory>
-    ensures { IfOk result (λ follow. follow ≡ vectors_follow table.now lists.now) }
+    ensures { IfOk result (λ holds. holds ≡ vectors_follow table.now lists.now) }
 {
     let mut next = top_vector(alloc, lists)?;
     let above = lists.above();

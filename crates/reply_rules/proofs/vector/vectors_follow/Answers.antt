@@ -4,7 +4,7 @@ use Rattle.version_order.specs.Plan.{Plan}
 use Rattle.version_order.specs.declared.vector.Component.{Component}
 use Rattle.version_order.specs.Vector.{raised, raised_all}
 use Rattle.pending_list.specs.Groups.{raised_groups}
-use Rattle.reply_rules.specs.Rules.{follow, same_vector, next_vector}
+use Rattle.reply_rules.specs.Rules.{each_has_next_vector, same_vector, next_vector}
 use Rattle.reply_rules.proofs.VectorLaws.{next_follows}
 use Rattle.reply_rules.proofs.vector.vectors_follow.Goals as goal
 
@@ -22,6 +22,6 @@ loop-item-preserved g c =
     ∙ sym c.in_ok-follows.ensures.follows
     ∙ c.if-not-branch.false in
     let new : c.follows.new.next ≡ i.plan.vector = c.in_ok-follows.ensures.next c.if-not-branch.false ∙ ap (λ (p : Plan). p.vector) c.plan.ensures in
-    ap (λ (w : List Component). follow t w (drop (k + 1) is)) new
-    ∙ sym (next_follows t v is k i c.loop-item-test.true c.item-item.is ∙ ap (λ b. b && follow t i.plan.vector (drop (k + 1) is)) told)
+    ap (λ (w : List Component). each_has_next_vector t w (drop (k + 1) is)) new
+    ∙ sym (next_follows t v is k i c.loop-item-test.true c.item-item.is ∙ ap (λ b. b && each_has_next_vector t i.plan.vector (drop (k + 1) is)) told)
     ∙ c.loop-item.invariant
