@@ -29,7 +29,7 @@ Principal = ℕ
 abbrev pub INumber : Type 0
 INumber = ℕ
 
--- the number of an operation among its user's, from 1; a principal's version, from 1
+-- the number of an operation among its user's, or a principal's version: from 1, and 0 where there is none
 abbrev pub Version : Type 0
 Version = ℕ
 

@@ -123,7 +123,7 @@ not_signed {V} f user_of u bytes refused =
     let own : Signed V → Option (Signed V) = λ v. if user_of v.value == u then Some v else None in
     ap (λ (r : Answer V). option_and_then own (result_ok (r >>= paired >>= made >>= done))) refused.1
 
--- the formats behind the tags
+-- the formats after the tags
 cert_body : Format Cert
 cert_body =
     mapped (λ p. record { user = p.0; number = p.1.0; last = p.1.1.0; changes = p.1.1.1 }) (λ c. (c.user, (c.number, (c.last, c.changes))))

@@ -157,7 +157,7 @@ fn no_crash_leaves_what_was_not_written(rt: HostRuntime) {
     let_go(told);
 }
 
-/// An open client has a ledger of 1,080 settled bytes, which no crash takes away: it stays open.
+/// An open client has a ledger of 1,080 synced bytes, which no crash takes away: it stays open.
 #[test]
 fn no_crash_of_an_open_client_leaves_less(rt: HostRuntime) {
     let rt = &(rt, Here);

@@ -56,7 +56,7 @@ const EMPTY: [u8; 32] = [
     0x27, 0xae, 0x41, 0xe4, 0x64, 0x9b, 0x93, 0x4c, 0xa4, 0x95, 0x99, 0x1b, 0x78, 0x52, 0xb8, 0x55,
 ];
 
-/// Puts the frame of this kind or status, and what comes with it, behind others.
+/// Puts the frame of this kind or status, and what comes with it, after others.
 pub(crate) fn put_frame(frames: &mut Vec<u8>, head: u8, payload: &[u8]) -> Result<(), Fail> {
     let [.., a, b, c, d] = payload.len().wrapping_add(1).to_be_bytes();
     frames.extend_from_slice(&[a, b, c, d, head])?;
