@@ -5,6 +5,7 @@ use Rattle.std.specs.Int.{w8}
 use Rattle.std.specs.Ordering.{nat_cmp}
 use Rattle.layout.specs.Format.{Format, RowAfter, uint_in, raw, pair, guarded, followed, headed, mapped, listed}
 use Rattle.layout.specs.Ranges.{i_number}
+use Rattle.layout.specs.Types.{INumber}
 use Rattle.layout.specs.Ascending.{above}
 use Rattle.layout.specs.declared.error.ReadError.TheVariants.{Order, Range}
 use Rattle.itable.specs.declared.chunk.Pair.{Pair}
@@ -15,11 +16,11 @@ pub record Chunk : Type 0 where
   pub pairs : List Pair
 
 -- which chunk an i-number is in
-abbrev pub chunk_number : ℕ → ℕ
+abbrev pub chunk_number : INumber → ℕ
 chunk_number i = i / 64
 
 -- the key by which pairs ascend
-abbrev pub i_number_of : Pair → ℕ
+abbrev pub i_number_of : Pair → INumber
 i_number_of p = p.i_number
 
 -- a pair in a chunk: another chunk's i-number is out of range

@@ -10,6 +10,7 @@ use Rattle.layout.specs.Format.{raw}
 use Rattle.layout.specs.Ranges.{principal as principals, i_number as i_numbers}
 use Rattle.layout.specs.Ascending.{Ascends, row_at, with_row, without_row}
 use Rattle.layout.specs.Hash.{hash}
+use Rattle.layout.specs.Types.{Bytes, Digest, Handle, INumber, Principal}
 use Rattle.itable.specs.declared.chunk.Pair.{Pair}
 use Rattle.itable.specs.declared.root.ListedChunk.{ListedChunk}
 use Rattle.itable.specs.Chunk.{Chunk, chunk, chunk_number, i_number_of}
@@ -17,7 +18,7 @@ use Rattle.itable.specs.Root.{Root, root}
 
 -- a table without where it lies in memory
 pub record ITable : Type 0 where
-  pub principal : ℕ
+  pub principal : Principal
   pub pairs : List Pair
 
 -- an i-number, and bytes that are a digest
@@ -31,19 +32,19 @@ pub record IsTable (t : ITable) : Type 0 where
   pub ascending : Ascends nat_cmp i_number_of None t.pairs
 
 -- the digest that pairs have at an i-number, if they have one
-abbrev pub digest_in : List Pair → ℕ → Option (List ℕ)
+abbrev pub digest_in : List Pair → INumber → Option Digest
 digest_in pairs i = option_map (λ p. p.digest) (row_at nat_cmp i_number_of pairs i)
 
 -- and that a table has
-abbrev pub digest_at : ITable → ℕ → Option (List ℕ)
+abbrev pub digest_at : ITable → INumber → Option Digest
 digest_at t i = digest_in t.pairs i
 
 -- the table with this digest at an i-number
-abbrev pub with_digest : ITable → ℕ → List ℕ → ITable
+abbrev pub with_digest : ITable → INumber → Digest → ITable
 with_digest t i d = record t { pairs = with_row nat_cmp i_number_of t.pairs (record { i_number = i; digest = d }) }
 
 -- and with none there
-abbrev pub without_digest : ITable → ℕ → ITable
+abbrev pub without_digest : ITable → INumber → ITable
 without_digest t i = record t { pairs = without_row nat_cmp i_number_of t.pairs i }
 
 -- the pair's i-number is in this chunk
@@ -56,10 +57,10 @@ chunk_of n t = record { number = n; pairs = filter (is_in n) t.pairs }
 
 -- no i-number of the chunk has a digest
 abbrev pub IsBare : ℕ → ITable → Type 0
-IsBare n t = (i : ℕ) → chunk_number i ≡ n → digest_at t i ≡ None
+IsBare n t = (i : INumber) → chunk_number i ≡ n → digest_at t i ≡ None
 
 -- the text of a chunk, if it has pairs
-unfoldable pub text_of_chunk : ITable → ℕ → Option (List ℕ)
+unfoldable pub text_of_chunk : ITable → ℕ → Option Bytes
 text_of_chunk t n = if length (chunk_of n t).pairs == 0 then None else Some (chunk.spell (chunk_of n t))
 
 -- a chunk as the root lists it, if it has pairs
@@ -75,7 +76,7 @@ abbrev pub root_of : ITable → Root
 root_of t = record { principal = t.principal; chunks = listings t }
 
 -- the handle of a table is the digest of its root's text
-abbrev pub handle_of : ITable → List ℕ
+abbrev pub handle_of : ITable → Handle
 handle_of t = hash (root.spell (root_of t))
 
 -- a root that lists these chunks lists this one, with this digest
@@ -84,18 +85,18 @@ is_listed before c = list_any (λ b. (b.number == c.number) && bytes_eq b.digest
 
 -- the texts by which a table is stored and another one isn't, whose root lists these chunks: of each chunk that isn't
 -- listed there, and of the root
-unfoldable pub new_texts : List ListedChunk → ITable → List (List ℕ)
+unfoldable pub new_texts : List ListedChunk → ITable → List Bytes
 new_texts before t =
     filter_map (λ c. text_of_chunk t c.number) (filter (λ c. not (is_listed before c)) (listings t)) ++ root.spell (root_of t) ∷ []
 
 -- a table of the same principal with the same digests has the same handle
 abbrev pub IsKnownByDigests : ITable → Type 0
-IsKnownByDigests t = (u : ITable) → IsTable u → u.principal ≡ t.principal → ((i : ℕ) → digest_at u i ≡ digest_at t i) → handle_of u ≡ handle_of t
+IsKnownByDigests t = (u : ITable) → IsTable u → u.principal ≡ t.principal → ((i : INumber) → digest_at u i ≡ digest_at t i) → handle_of u ≡ handle_of t
 
 -- no text of the one has the digest of a different text of the other: neither the roots, nor two chunks of one number
 pub record KeepApart (t u : ITable) : Type 0 where
   pub roots : hash (root.spell (root_of u)) ≡ hash (root.spell (root_of t)) → root.spell (root_of u) ≡ root.spell (root_of t)
-  pub chunks : (n : ℕ) (x y : List ℕ) → text_of_chunk u n ≡ Some x → text_of_chunk t n ≡ Some y → hash x ≡ hash y → x ≡ y
+  pub chunks : (n : ℕ) (x y : Bytes) → text_of_chunk u n ≡ Some x → text_of_chunk t n ≡ Some y → hash x ≡ hash y → x ≡ y
 
 -- no other table has this one's handle, unless texts collide
 abbrev pub IsKnownByHandle : ITable → Type 0

@@ -5,13 +5,14 @@ use Rattle.std.specs.Int.{w8}
 use Rattle.std.specs.Ordering.{nat_cmp}
 use Rattle.layout.specs.Format.{Format, RowAfter, uint_in, raw, pair, guarded, headed, mapped, listed}
 use Rattle.layout.specs.Ranges.{principal}
+use Rattle.layout.specs.Types.{Principal}
 use Rattle.layout.specs.Ascending.{above, row_at}
 use Rattle.layout.specs.declared.error.ReadError.TheVariants.{Order}
 use Rattle.itable.specs.declared.root.ListedChunk.{ListedChunk}
 
 -- a root without where it lies in memory
 pub record Root : Type 0 where
-  pub principal : ℕ
+  pub principal : Principal
   pub chunks : List ListedChunk
 
 -- the key by which the chunks ascend

@@ -51,13 +51,14 @@ pub fn blocks_of<A: Allocator + Copy>(alloc: A, bytes: &[u8]) -> Result<Vec<Vec<
 fn laws_hold(file: &[u8])
     ensures joined { concat (blocks_of file.now) ≡ file.now }
     ensures whole_blocks { AreBlocks (blocks_of file.now) }
-    ensures reads { length file.now ≤ 4194304 → whole inode (inode.spell (inode_of file.now)) ≡ Ok (inode_of file.now) }
-    ensures known { length file.now ≤ 4194304 → IsKnown file.now }
+    ensures reads { length file.now ≤ FILE_SIZE
+        → whole inode (inode.spell (inode_of file.now)) ≡ Ok (inode_of file.now) }
+    ensures known { length file.now ≤ FILE_SIZE → IsKnown file.now }
 {}
 
 /// A file that is small enough, in blocks.
 fn lay_small<A: Allocator + Copy>(alloc: A, file: &[u8]) -> Result<Laid<A>, Memory>
-    requires { length file.now ≤ 4194304 }
+    requires { length file.now ≤ FILE_SIZE }
     ensures inode { IfOk result (λ laid. laid.inode.items ≡ inode.spell (inode_of file.now)) }
     ensures blocks { IfOk result (λ laid. map vec_items laid.blocks.items ≡ blocks_of file.now) }
 {
@@ -71,7 +72,7 @@ fn lay_small<A: Allocator + Copy>(alloc: A, file: &[u8]) -> Result<Laid<A>, Memo
 pub fn lay_file<A: Allocator + Copy>(alloc: A, file: &[u8]) -> Result<Laid<A>, LayError>
     ensures inode { IfOk result (λ laid. laid.inode.items ≡ inode.spell (inode_of file.now)) }
     ensures blocks { IfOk result (λ laid. map vec_items laid.blocks.items ≡ blocks_of file.now) }
-    ensures too_large { (result ≡ Err LayError.TooLarge) ↔ (4194304 < length file.now) }
+    ensures too_large { (result ≡ Err LayError.TooLarge) ↔ (FILE_SIZE < length file.now) }
     // The blocks joined are the file, and all are whole but the last.
     ensures joined { concat (blocks_of file.now) ≡ file.now }
     ensures whole_blocks { AreBlocks (blocks_of file.now) }

@@ -17,10 +17,11 @@ use std::marker::Model;
 pub const BLOCK_SIZE: u32 = 4096;
 
 /// How many bytes a file has at most.
-pub const FILE_SIZE: u32 = 4194304;
+pub const FILE_SIZE: u32 = 1024 * BLOCK_SIZE;
 
-/// How many bytes the text of a directory has at most.
-pub const DIRECTORY_SIZE: u32 = 265222;
+/// How many bytes the text of a directory has at most: the tag and the count; 1,024 entries, each the length of its
+/// name, the name, and what it stands for.
+pub const DIRECTORY_SIZE: u32 = 6 + 1024 * (1 + 255 + 3);
 
 /// What an i-node is of.
 #[derive(Clone, Copy, Debug, PartialEq, Eq)]
@@ -143,7 +144,7 @@ impl<A: Allocator> Inode<A> {
 
     /// The i-node of a file.
     pub fn of_file(alloc: A, file: &[u8]) -> Result<Inode<A>, Memory>
-        requires { length file.now ≤ 4194304 }
+        requires { length file.now ≤ FILE_SIZE }
         ensures { IfOk result (λ inode. inode ≡ inode_of file.now) }
     {
         Inode::over(alloc, Kind::File, file)
@@ -152,7 +153,7 @@ impl<A: Allocator> Inode<A> {
     /// The i-node of the text of a directory.
     pub fn of_directory(alloc: A, text: &[u8]) -> Result<Inode<A>, Memory>
         requires low { 6 ≤ length text.now }
-        requires high { length text.now ≤ 265222 }
+        requires high { length text.now ≤ DIRECTORY_SIZE }
         ensures { IfOk result (λ inode. inode ≡ inode_over kinds.Directory text.now) }
     {
         Inode::over(alloc, Kind::Directory, text)
@@ -161,7 +162,7 @@ impl<A: Allocator> Inode<A> {
     /// The i-node over bytes that are a file, or the text of a directory.
     pub(crate) fn over(alloc: A, kind: Kind, bytes: &[u8]) -> Result<Inode<A>, Memory>
         requires fits { (size_format kind).Fits (length bytes.now) }
-        requires few { length bytes.now ≤ 4194304 }
+        requires few { length bytes.now ≤ FILE_SIZE }
         ensures { IfOk result (λ inode. inode ≡ inode_over kind bytes.now) }
     {
         let size = bytes.len() as u32;

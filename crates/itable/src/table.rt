@@ -176,6 +176,20 @@ fn spelled<A: Allocator + Copy>(
     Ok(writer.finish())
 }
 
+/// The text of the root of these chunks.
+fn spelled_root<A: Allocator + Copy>(
+    alloc: A,
+    principal: Principal,
+    chunks: &[ListedChunk],
+) -> Result<Vec<u8, A>, Memory>
+    requires { length chunks.now ≤ 64 }
+    ensures { IfOk result (λ text. text.items ≡ root.spell (record { principal = principal; chunks = chunks.now })) }
+{
+    let mut writer = Writer::new(alloc);
+    write_root(&mut writer, principal, chunks)?;
+    Ok(writer.finish())
+}
+
 /// Whether a root that lists these chunks lists this one, with this digest.
 fn lists(before: &[ListedChunk], chunk: &ListedChunk) -> bool
     ensures { result ≡ is_listed before.now chunk.now }
@@ -184,14 +198,16 @@ fn lists(before: &[ListedChunk], chunk: &ListedChunk) -> bool
 }
 
 impl<A: Allocator + Copy> ITable<A> {
-    /// The same table once more, whose chunks' digests are computed anew. The error is Memory.
+    /// The same table once more, which keeps the digests of chunks that are known. The error is Memory.
     pub fn copy(&self, alloc: A) -> Result<ITable<A>, Memory>
         ensures { IfOk result (λ copy. copy ≡ self.now) }
     {
+        let mut known = [None; 64];
+        known.copy_from_slice(&self.known);
         Ok(ITable {
             principal: self.principal,
             pairs: Vec::from_slice(alloc, &self.pairs)?,
-            known: [None; 64],
+            known,
         })
     }
 
@@ -254,9 +270,7 @@ impl<A: Allocator + Copy> ITable<A> {
     {
         self.root_holds();
         let chunks = self.listings(alloc)?;
-        let mut writer = Writer::new(alloc);
-        write_root(&mut writer, self.principal, &chunks)?;
-        Ok(writer.finish())
+        spelled_root(alloc, self.principal, &chunks)
     }
 
     /// The i-handle: the digest of the root's text.
@@ -299,6 +313,7 @@ impl<A: Allocator + Copy> ITable<A> {
         ensures texts { IfOk result (λ texts. map vec_items texts.items ≡ new_texts before.now self.old) }
         ensures same { self.new ≡ self.old }
     {
+        self.root_holds();
         let chunks = self.listings(alloc)?;
         let mut texts = Vec::new(alloc);
         for chunk in &chunks {
@@ -306,7 +321,7 @@ impl<A: Allocator + Copy> ITable<A> {
                 texts.push(text)?;
             }
         }
-        let root = self.root_text(alloc)?;
+        let root = spelled_root(alloc, self.principal, &chunks)?;
         texts.push(root)?;
         Ok(texts)
     }

@@ -2,8 +2,9 @@ use Rattle.std.proofs.Common.{◌≡◌, ◌∷◌, ◌++◌, [], ℕ, List, map
 use Rattle.std.proofs.lemmas.List.{map-append}
 use Rattle.std.specs.Option.{option_map}
 use Rattle.std.specs.Vec.{vec_items}
+use Rattle.itable.specs.declared.root.ListedChunk.{ListedChunk}
 use Rattle.itable.specs.Root.{root}
-use Rattle.itable.specs.ITable.{ITable, listings, root_of}
+use Rattle.itable.specs.ITable.{ITable, listings}
 use Rattle.itable.proofs.NewTexts.{new_of, some_next, none_next, all_new}
 use Rattle.itable.proofs.table.ITable.new_texts.Goals.{in-Some+in_ok-push, in_default}
 use Rattle.itable.proofs.table.ITable.new_texts.Goals as goal
@@ -34,6 +35,8 @@ returns-clause-texts g c =
     let cs = c.deref-chunk-items.result.now in
     let old = map vec_items c.loop-chunk.texts.items in
     let all : cs ≡ listings t = c.deref-chunk-items.ensures.value ∙ c.in_ok-chunks.ensures.listed in
-    let root_is = c.in_ok-root.ensures.text ∙ ap (λ (u : ITable). root.spell (root_of u)) c.in_ok-chunks.ensures.same in
+    let principal : c.self-2.inside.principal ≡ t.principal = ap (λ (u : ITable). u.principal) (c.self-2.view_is ∙ c.in_ok-chunks.ensures.same) in
+    let root_is = c.in_ok-root.ensures ∙ ap (λ (p : ℕ). root.spell (record { principal = p; chunks = c.deref.result.now })) principal
+    ∙ ap (λ (xs : List ListedChunk). root.spell (record { principal = t.principal; chunks = xs })) (c.deref.ensures.value ∙ c.in_ok-chunks.ensures.listed) in
     let grown = ap (map vec_items) c.in_ok-push-2.ensures.items ∙ map-append vec_items c.loop-chunk.texts.items (c.in_ok-root.root ∷ []) ∙ ap (λ (text : List ℕ). old ++ text ∷ []) root_is in
     all_new before t c.loop-chunk.chunk-index old (map vec_items c.push-2.new.self.items) (rw all at c.loop-chunk-test.false) (rw all at c.loop-chunk.invariant) grown
