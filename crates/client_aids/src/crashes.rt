@@ -19,7 +19,7 @@ pub enum Left {
 /// The bytes that such a crash leaves of the device.
 pub fn bytes_left(rt: &impl Aided, device: &MemoryDevice<Global>, left: Left) -> Vec<u8> {
     match left {
-        Left::Synced => joined(rt, &[device.settled()]),
+        Left::Synced => joined(rt, &[device.synced_text()]),
         Left::Written => joined(rt, &[device.text()]),
     }
 }

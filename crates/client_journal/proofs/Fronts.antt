@@ -18,7 +18,7 @@ three file header text last at fits five =
 module _ (place : ℕ) (file : List ℕ) (old : History) (rest : old.now ≡ at_rest file) (fits : place ≤ length file) where
   -- before the place all is as it was
   pub record Run (h : History) : Type 0 where
-    pub settled : h.now.settled ≡ file
+    pub synced_text : h.now.synced_text ≡ file
     pub after : AreAfter place h.now.unsynced
     pub front : take place h.now.text ≡ take place file
     pub long : place ≤ length h.now.text
@@ -29,7 +29,7 @@ module _ (place : ℕ) (file : List ℕ) (old : History) (rest : old.now ≡ at_
 
   pub start : Run old
   start = record {
-    settled = ap (λ (d : Disk). d.settled) rest;
+    synced_text = ap (λ (d : Disk). d.synced_text) rest;
     after = subst (λ (d : Disk). AreAfter place d.unsynced) (sym rest) tt;
     front = ap (λ (d : Disk). take place d.text) rest;
     long = subst (λ (d : Disk). place ≤ length d.text) (sym rest) fits;
@@ -38,14 +38,14 @@ module _ (place : ℕ) (file : List ℕ) (old : History) (rest : old.now ≡ at_
 
   module _ (h : History) (run : Run h) where
     leaves : Leaves (KeepsFront place file) h.now
-    leaves left torn = torn_front file left place h.now.unsynced run.after fits (subst (λ (l : List ℕ). Torn l h.now.unsynced left) run.settled torn)
+    leaves left torn = torn_front file left place h.now.unsynced run.after fits (subst (λ (l : List ℕ). Torn l h.now.unsynced left) run.synced_text torn)
 
     -- a write from the place on
     module _ (at n : ℕ) (later : place ≤ at) where
-      torn_more : (left : List ℕ) → Torn h.now.settled (h.now.unsynced ++ extent at n ∷ []) left → KeepsFront place file left
+      torn_more : (left : List ℕ) → Torn h.now.synced_text (h.now.unsynced ++ extent at n ∷ []) left → KeepsFront place file left
       torn_more left torn =
           torn_front file left place (h.now.unsynced ++ extent at n ∷ []) (after-push place h.now.unsynced (extent at n) run.after later) fits
-          (subst (λ (l : List ℕ). Torn l (h.now.unsynced ++ extent at n ∷ []) left) run.settled torn)
+          (subst (λ (l : List ℕ). Torn l (h.now.unsynced ++ extent at n ∷ []) left) run.synced_text torn)
 
       pub failed : (new : History) → WroteSome at n h new → Throughout (KeepsFront place file) old new
       failed new some = along (KeepsFront place file) old h new run.always (some_write (KeepsFront place file) h at n leaves torn_more new some)
@@ -59,7 +59,7 @@ module _ (place : ℕ) (file : List ℕ) (old : History) (rest : old.now ≡ at_
 
     pub goes_on : (at : ℕ) (bytes : List ℕ) (new : History) → place ≤ at → at ≤ length h.now.text → new ≡ wrote_bytes at bytes h → Run new
     goes_on at bytes new later inside is = subst (λ (x : History). Run x) (sym is) (record {
-      settled = run.settled;
+      synced_text = run.synced_text;
       after = after-push place h.now.unsynced (extent at (length bytes)) run.after later;
       front =
           sym (take-take place at (written at bytes h.now.text) later)

@@ -33,7 +33,7 @@ fn crashed<A: Allocator + Copy>(
     alloc: A,
     device: MemoryDevice<A>,
 ) -> Result<MemoryDevice<A>, Memory> {
-    let left = Vec::from_slice(alloc, device.settled())?;
+    let left = Vec::from_slice(alloc, device.synced_text())?;
     match device.crash(left) {
         Ok(device) => Ok(device),
         // What stood there at the last sync is always left.

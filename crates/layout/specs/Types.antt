@@ -36,3 +36,7 @@ Version = ℕ
 -- the 56 bytes of a public key
 abbrev pub Key : Type 0
 Key = Bytes
+
+-- the 2,508 bytes of a signature
+abbrev pub Signature : Type 0
+Signature = Bytes

@@ -15,7 +15,7 @@ extent at n = record { at = at; size = n }
 -- since, the first of it first.
 pub record Disk : Type 0 where
   pub text : Bytes
-  pub settled : Bytes
+  pub synced_text : Bytes
   pub unsynced : List Extent
 
 -- the place is in none of the extents
@@ -37,7 +37,7 @@ pub record Torn (old : Bytes) (extents : List Extent) (new : Bytes) : Type 0 whe
 
 -- what a crash now may leave
 abbrev pub MayLeave : Disk → Bytes → Type 0
-MayLeave disk left = Torn disk.settled disk.unsynced left
+MayLeave disk left = Torn disk.synced_text disk.unsynced left
 
 -- each text that a crash now may leave has P
 abbrev pub Leaves : (Bytes → Type 0) → Disk → Type 0
@@ -45,7 +45,7 @@ Leaves P disk = (left : Bytes) → MayLeave disk left → P left
 
 -- nothing was written since the last sync
 abbrev pub at_rest : Bytes → Disk
-at_rest text = record { text = text; settled = text; unsynced = [] }
+at_rest text = record { text = text; synced_text = text; unsynced = [] }
 
 -- what a device holds now, and what it held at each moment before, the last of them first
 pub record History : Type 0 where
@@ -70,7 +70,7 @@ written at bytes text = take at text ++ bytes ++ drop (at + length bytes) text
 -- after a write of n bytes, from which on a read gives this text
 abbrev pub wrote : ℕ → ℕ → Bytes → History → History
 wrote at n text h =
-    then h (record { text = text; settled = h.now.settled; unsynced = h.now.unsynced ++ extent at n ∷ [] })
+    then h (record { text = text; synced_text = h.now.synced_text; unsynced = h.now.unsynced ++ extent at n ∷ [] })
 
 -- after a write of these bytes
 abbrev pub wrote_bytes : ℕ → Bytes → History → History

@@ -74,7 +74,7 @@ weakened P Q old new leads all = record { since = all.since; goes_on = all.goes_
 
 -- A write to a device, whose crashes then leave what has P, and its sync.
 module _ (P : Bytes → Type 0) (old : History) (at n : ℕ) (before : Leaves P old.now)
-    (torn : (left : Bytes) → Torn old.now.settled (old.now.unsynced ++ extent at n ∷ []) left → P left) where
+    (torn : (left : Bytes) → Torn old.now.synced_text (old.now.unsynced ++ extent at n ∷ []) left → P left) where
   pub one_write : (text : Bytes) → Throughout P old (wrote at n text old)
   one_write text = one_more P old old (wrote at n text old).now (stayed P old before) torn
 
@@ -89,8 +89,8 @@ module _ (P : Bytes → Type 0) (old : History) (at n : ℕ) (before : Leaves P 
 -- The same from a device at rest.
 module _ (P : Bytes → Type 0) (old : History) (file : Bytes) (rest : old.now ≡ at_rest file) (at n : ℕ) (before : P file)
     (torn : (left : Bytes) → Torn file (extent at n ∷ []) left → P left) where
-  torn_from : (left : Bytes) → Torn old.now.settled (old.now.unsynced ++ extent at n ∷ []) left → P left
-  torn_from left may = torn left (subst (λ (d : Disk). Torn d.settled (d.unsynced ++ extent at n ∷ []) left) rest may)
+  torn_from : (left : Bytes) → Torn old.now.synced_text (old.now.unsynced ++ extent at n ∷ []) left → P left
+  torn_from left may = torn left (subst (λ (d : Disk). Torn d.synced_text (d.unsynced ++ extent at n ∷ []) left) rest may)
 
   pub some_put : (new : History) → WroteSome at n old new → Throughout P old new
   some_put = some_write P old at n (rests P old.now file rest before) torn_from

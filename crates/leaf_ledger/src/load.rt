@@ -1,7 +1,7 @@
 //! The file of a ledger, as it is made and read.
 
-ghost use Rattle.std.specs.Prelude.{◌≡◌, ◌≢◌, ◌-◌, ◌^◌, ◌<◌, ◌≤◌, ◌++◌, length, IfOk, OnOk, IsErrOf};
-ghost use Rattle.leaf_ledger.specs.Device.{at_rest, HasCause, HasRisen};
+ghost use Rattle.std.specs.Prelude.{◌≡◌, ◌≢◌, ◌-◌, ◌^◌, ◌<◌, ◌≤◌, ◌++◌, length, IfOk, OnOk, OnErr, IsErrOf};
+ghost use Rattle.leaf_ledger.specs.Device.{at_rest, synced, IsAtMostSynced, HasCause, HasRisen};
 ghost use Rattle.leaf_ledger.specs.Ledger.{UsedAsBefore, IsForeign, KeepsLedger};
 
 use crate::device::{Device, DeviceError, write_through};
@@ -22,6 +22,18 @@ fn make<D: Device>(device: &mut D, key: &[u8], marks: &[u8]) -> Result<(), Devic
     Ok(())
 }
 
+/// Syncs, and tells how long the file is.
+fn synced_size<D: Device>(device: &mut D) -> Result<usize, DeviceError>
+    ensures synced { OnOk result (D.history device.new ≡ synced (D.history device.old)) }
+    ensures size { IfOk result (λ size. size ≡ length (D.history device.old).now.text) }
+    ensures err { OnErr result (IsAtMostSynced (D.history device.old) (D.history device.new)) }
+    ensures cause { HasCause (D.fault_count device.old) (D.fault_count device.new) result }
+{
+    device.sync()?;
+    let size = device.len()?;
+    Ok(size)
+}
+
 /// The marks in the file of a key, which is made where there is none.
 pub(crate) fn load<D: Device>(device: &mut D, key: &[u8; 56]) -> Result<[u8; 1024], LedgerError>
     ensures at_rest { IfOk result (λ marks. (D.history device.new).now ≡ at_rest (key.now ++ marks)) }
@@ -35,8 +47,7 @@ pub(crate) fn load<D: Device>(device: &mut D, key: &[u8; 56]) -> Result<[u8; 102
     ensures device { IsErrOf result LedgerError.Device
         → HasRisen (D.fault_count device.old) (D.fault_count device.new) }
 {
-    device.sync()?;
-    let size = device.len()?;
+    let size = synced_size(device)?;
     let mut marks = [0; 1024];
     if size == 0 {
         make(device, key, &marks)?;

@@ -72,10 +72,10 @@ impl<A: Allocator + Copy> MemoryDevice<A> {
     }
 
     /// What stood there at the last sync that succeeded.
-    pub fn settled(&self) -> &[u8]
-        ensures { result.now ≡ self.now.history.now.settled }
+    pub fn synced_text(&self) -> &[u8]
+        ensures { result.now ≡ self.now.history.now.synced_text }
     {
-        self.recording.settled()
+        self.recording.synced_text()
     }
 
     /// What was written since the last sync that succeeded, the first of it first.

@@ -53,15 +53,15 @@ fn reaches(extents: &[Extent], size: usize, length: usize) -> bool
 }
 
 /// Whether a text may be left where these extents of another were written.
-fn may_be_left(settled: &[u8], unsynced: &[Extent], left: &[u8]) -> bool
-    ensures yes { result ≡ true → Torn settled.now unsynced.now left.now }
-    ensures no { result ≡ false → Torn settled.now unsynced.now left.now → ⊥ }
+fn may_be_left(synced_text: &[u8], unsynced: &[Extent], left: &[u8]) -> bool
+    ensures yes { result ≡ true → Torn synced_text.now unsynced.now left.now }
+    ensures no { result ≡ false → Torn synced_text.now unsynced.now left.now → ⊥ }
 {
-    if left.len() < settled.len() || !reaches(unsynced, settled.len(), left.len()) {
+    if left.len() < synced_text.len() || !reaches(unsynced, synced_text.len(), left.len()) {
         return false;
     }
-    for i in 0..settled.len() {
-        if left[i] != settled[i] && is_outside(unsynced, i) {
+    for i in 0..synced_text.len() {
+        if left[i] != synced_text[i] && is_outside(unsynced, i) {
             return false;
         }
     }
@@ -75,7 +75,7 @@ pub(crate) struct Recording<A: Allocator> {
     first: Vec<u8, A>,
     calls: Vec<DeviceCall<A>, A>,
     text: Vec<u8, A>,
-    settled: Vec<u8, A>,
+    synced_text: Vec<u8, A>,
     unsynced: Vec<Extent, A>,
 }
 
@@ -89,7 +89,7 @@ impl<A: Allocator> Model for Recording<A> {
     ghost view = { λ r. replayed (started r.first.items) r.calls.items };
 
     ghost invariant = { λ r. (replayed (started r.first.items) r.calls.items).now
-        ≡ record { text = r.text.items; settled = r.settled.items; unsynced = r.unsynced.items } };
+        ≡ record { text = r.text.items; synced_text = r.synced_text.items; unsynced = r.unsynced.items } };
 }
 
 impl<A: Allocator + Copy> Recording<A> {
@@ -98,12 +98,12 @@ impl<A: Allocator + Copy> Recording<A> {
         ensures { IfOk result (λ recording. recording ≡ started text.items) }
     {
         let first = Vec::from_slice(alloc, &text)?;
-        let settled = Vec::from_slice(alloc, &text)?;
+        let synced_text = Vec::from_slice(alloc, &text)?;
         Ok(Recording {
             first,
             calls: Vec::new(alloc),
             text,
-            settled,
+            synced_text,
             unsynced: Vec::new(alloc),
         })
     }
@@ -124,14 +124,14 @@ impl<A: Allocator + Copy> Recording<A> {
         Ok(())
     }
 
-    /// Settles what a read gives.
+    /// Syncs: what a read gives is the synced text from now on.
     pub(crate) fn sync(&mut self) -> Result<(), Memory>
         ensures ok { OnOk result (self.new ≡ synced self.old) }
         ensures err { OnErr result (self.new ≡ self.old) }
     {
-        let settled = Vec::from_slice(*self.calls.allocator(), &self.text)?;
+        let synced_text = Vec::from_slice(*self.calls.allocator(), &self.text)?;
         self.calls.push(DeviceCall::Sync)?;
-        self.settled = settled;
+        self.synced_text = synced_text;
         self.unsynced.clear();
         Ok(())
     }
@@ -146,10 +146,10 @@ impl<A: Allocator> Recording<A> {
     }
 
     /// What stood there at the last sync that succeeded.
-    pub(crate) fn settled(&self) -> &[u8]
-        ensures { result.now ≡ self.now.now.settled }
+    pub(crate) fn synced_text(&self) -> &[u8]
+        ensures { result.now ≡ self.now.now.synced_text }
     {
-        &self.settled
+        &self.synced_text
     }
 
     /// What was written since.
@@ -164,6 +164,6 @@ impl<A: Allocator> Recording<A> {
         ensures yes { result ≡ true → MayLeave self.now.now left.now }
         ensures no { result ≡ false → MayLeave self.now.now left.now → ⊥ }
     {
-        may_be_left(&self.settled, &self.unsynced, left)
+        may_be_left(&self.synced_text, &self.unsynced, left)
     }
 }

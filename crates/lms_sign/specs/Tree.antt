@@ -1,19 +1,20 @@
 -- The tree over the leaves (RFC 8554 section 5.3), whose nodes go by their numbers: the root is 1, below r lie 2r and
 -- 2r + 1, and 1024 + q is the node of leaf q.
-use Rattle.std.specs.Prelude.{ℕ, zero, suc, ◌+◌, ◌-◌, ◌*◌, ◌/◌, ◌%◌, List, ◌++◌, if◌then◌else◌, ◌==◌}
+use Rattle.std.specs.Prelude.{ℕ, zero, suc, ◌+◌, ◌-◌, ◌*◌, ◌/◌, ◌%◌, ◌++◌, if◌then◌else◌, ◌==◌}
+use Rattle.layout.specs.Types.{Bytes, Digest}
 use Rattle.lms_sign.specs.Hashing.{hash_of}
 use Rattle.lms_sign.specs.OneTime.{key_of}
 
 -- the node of a leaf with this key; 0x8282 is D_LEAF
-unfoldable pub leaf_node : List ℕ → ℕ → List ℕ → List ℕ
+unfoldable pub leaf_node : Bytes → ℕ → Digest → Digest
 leaf_node id number key = hash_of id number 0x8282 key
 
 -- the node above two; 0x8383 is D_INTR
-unfoldable pub inner_node : List ℕ → ℕ → List ℕ → List ℕ → List ℕ
+unfoldable pub inner_node : Bytes → ℕ → Digest → Digest → Digest
 inner_node id number left right = hash_of id number 0x8383 (left ++ right)
 
 -- T: the node with this number, which lies this high above the leaves
-unfoldable pub node : List ℕ → List ℕ → ℕ → ℕ → List ℕ
+unfoldable pub node : Bytes → Bytes → ℕ → ℕ → Digest
 node seed id zero number = leaf_node id number (key_of seed id (number - 1024))
 node seed id (suc height) number = inner_node id number (node seed id height (2 * number)) (node seed id height (2 * number + 1))
 
@@ -27,10 +28,10 @@ unfoldable pub sibling : ℕ → ℕ
 sibling number = if number % 2 == 0 then number + 1 else number - 1
 
 -- the node above one of these numbers, from it and its sibling
-unfoldable pub parent : List ℕ → ℕ → List ℕ → List ℕ → List ℕ
+unfoldable pub parent : Bytes → ℕ → Digest → Digest → Digest
 parent id number other value = if number % 2 == 0 then inner_node id (number / 2) value other else inner_node id (number / 2) other value
 
 -- the node so high above one, from it and the siblings on the way
-unfoldable pub climbed : List ℕ → ℕ → (ℕ → List ℕ) → List ℕ → ℕ → List ℕ
+unfoldable pub climbed : Bytes → ℕ → (ℕ → Digest) → Digest → ℕ → Digest
 climbed id number path value zero = value
 climbed id number path value (suc height) = parent id (ancestor number height) (path height) (climbed id number path value height)

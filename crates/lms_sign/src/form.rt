@@ -49,8 +49,8 @@ pub(crate) fn leaf_of(signature: &[u8]) -> u32
 #[tactic(auto, unfolding(crate::specs::Signature::is_signature, layout::specs::Format::be))]
 pub(crate) fn is_signature(signature: &[u8]) -> bool
     ensures form { result ≡ is_signature signature.now }
-    ensures size { IsTrue result → length signature.now ≡ 2508 }
-    ensures leaf { IsTrue result → leaf_of signature.now < 1024 }
+    ensures size { IsTrue result → length signature.now ≡ SIGNATURE_SIZE }
+    ensures leaf { IsTrue result → leaf_of signature.now < LEAF_COUNT }
 {
     signature.len() == SIGNATURE_SIZE
         && &signature[OTS_TYPE_AT..RANDOMIZER_AT] == OTS_TYPE.as_slice()
@@ -61,7 +61,7 @@ pub(crate) fn is_signature(signature: &[u8]) -> bool
 /// Writes what stands before the values.
 #[tactic(auto, unfolding(layout::specs::Format::be))]
 pub(crate) fn put_front(signature: &mut [u8], leaf: u32, randomizer: &Digest)
-    requires { length signature.old ≡ 2508 }
+    requires { length signature.old ≡ SIGNATURE_SIZE }
     ensures { take 40 signature.new ≡ be w32 leaf ++ ots_type ++ randomizer.now }
 {
     put(signature, 0, &leaf.to_be_bytes());

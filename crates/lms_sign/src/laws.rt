@@ -4,19 +4,23 @@ ghost use Rattle.std.specs.Prelude.{◌≡◌, ℕ, ◌<◌, List, length, true}
 ghost use Rattle.lms_sign.specs.Keys.{is_key, public_key_of};
 ghost use Rattle.lms_sign.specs.Signature.{signature_of, valid};
 
+use crate::form::SIGNATURE_SIZE;
+use crate::public_key::KEY_SIZE;
+use crate::tree::LEAF_COUNT;
+
 /// A public key has 56 bytes, and a signature 2,508.
 pub fn sizes()
-    ensures key { (key : List ℕ) → is_key key ≡ true → length key ≡ 56 }
-    ensures public_key { (seed id : List ℕ) → length id ≡ 16 → length (public_key_of seed id) ≡ 56 }
+    ensures key { (key : List ℕ) → is_key key ≡ true → length key ≡ KEY_SIZE }
+    ensures public_key { (seed id : List ℕ) → length id ≡ 16 → length (public_key_of seed id) ≡ KEY_SIZE }
     ensures signature { (seed id text : List ℕ) (leaf : ℕ)
-        → length (signature_of seed id leaf text) ≡ 2508 }
+        → length (signature_of seed id leaf text) ≡ SIGNATURE_SIZE }
     ensures valid { (key text signature : List ℕ) → valid key text signature ≡ true
-        → length signature ≡ 2508 }
+        → length signature ≡ SIGNATURE_SIZE }
 {}
 
 /// What a leaf of a key signs is valid under its public key.
 pub fn signed_is_valid()
     ensures key { (seed id : List ℕ) → length id ≡ 16 → is_key (public_key_of seed id) ≡ true }
-    ensures signature { (seed id text : List ℕ) (leaf : ℕ) → length id ≡ 16 → leaf < 1024
+    ensures signature { (seed id text : List ℕ) (leaf : ℕ) → length id ≡ 16 → leaf < LEAF_COUNT
         → valid (public_key_of seed id) text (signature_of seed id leaf text) ≡ true }
 {}

@@ -1,6 +1,7 @@
 //! Leaves, as values that are spent once.
 
 use crate::public_key::PublicKey;
+use crate::tree::LEAF_COUNT;
 use std::marker::Model;
 
 /// A leaf of a public key that has signed nothing: a value that can be neither copied nor dropped, so that who holds it
@@ -26,7 +27,7 @@ impl Leaf {
 
     /// The leaf with this number. A leaf must be issued once only: who issues it vouches for that.
     pub fn issue(key: &PublicKey, number: u32) -> Leaf
-        requires { number < 1024 }
+        requires { number < LEAF_COUNT }
         ensures key { result.key ≡ key.now }
         ensures number { result.number ≡ number }
     {
@@ -36,7 +37,7 @@ impl Leaf {
     /// Its number among the key's leaves.
     pub fn number(&self) -> u32
         ensures value { result ≡ self.now.number }
-        ensures below { result < 1024 }
+        ensures below { result < LEAF_COUNT }
     {
         self.number
     }
@@ -51,7 +52,7 @@ impl Leaf {
     /// Its key and its number, where it ends.
     pub(crate) fn into_parts(self) -> (PublicKey, u32)
         ensures parts { record { key = result.0; number = result.1 } ≡ self }
-        ensures below { result.1 < 1024 }
+        ensures below { result.1 < LEAF_COUNT }
     {
         let Leaf { key, number } = self;
         (key, number)

@@ -8,7 +8,7 @@ ghost use Rattle.lms_sign.specs.Signature.{value_in};
 use crate::bytes::{DIGEST_SIZE, digest_at, headed_hasher, put};
 use crate::chains::{advance, draw};
 use crate::digits::{LAST_DIGIT, coefficient, with_checksum};
-use crate::form::VALUES_AT;
+use crate::form::{SIGNATURE_SIZE, VALUES_AT};
 use layout::Digest;
 
 /// How many chains a leaf has.
@@ -57,7 +57,7 @@ pub(crate) fn text_digest(id: &[u8; 16], leaf: u32, randomizer: &Digest, text: &
 
 /// The one-time public key that a signature leads to.
 pub(crate) fn candidate_key(id: &[u8; 16], leaf: u32, digest: &Digest, signature: &[u8]) -> Digest
-    requires { length signature.now ≡ 2508 }
+    requires { length signature.now ≡ SIGNATURE_SIZE }
     ensures { result ≡ candidate id.now leaf digest.now (value_in signature.now) }
 {
     let checked = with_checksum(digest);
@@ -79,7 +79,7 @@ pub(crate) fn put_values(
     leaf: u32,
     digest: &Digest,
 )
-    requires { length signature.old ≡ 2508 }
+    requires { length signature.old ≡ SIGNATURE_SIZE }
     ensures { take 2184 signature.new
         ≡ take 40 signature.old ++ joined 67 (signed_value seed.now id.now leaf digest.now) }
 {

@@ -54,9 +54,9 @@ fn leaf_nodes<A: Allocator>(
 ) -> Result<Vec<Digest, A>, Memory>
     ensures size { IfOk result (λ nodes. vec_len nodes ≡ 2048) }
     ensures leaves { IfOk result
-        (λ nodes. (leaf : ℕ) → leaf < 1024
-        → slice_index_or nodes.items (1024 + leaf) []
-        ≡ leaf_node id.now (1024 + leaf) (key_of seed.now id.now leaf)) }
+        (λ nodes. (leaf : ℕ) → leaf < LEAF_COUNT
+        → slice_index_or nodes.items (LEAF_COUNT + leaf) []
+        ≡ leaf_node id.now (LEAF_COUNT + leaf) (key_of seed.now id.now leaf)) }
 {
     let mut nodes = vec![in alloc; Digest::from_bytes([0; 32]); PLACE_COUNT]?;
     for leaf in 0..LEAF_COUNT {
@@ -69,9 +69,9 @@ fn leaf_nodes<A: Allocator>(
 /// Fills the places of the inner nodes.
 fn fill_inner_nodes(nodes: &mut [Digest], id: &[u8; 16])
     requires { length nodes.old ≡ 2048 }
-    ensures leaves { (number : ℕ) → 1024 ≤ number
+    ensures leaves { (number : ℕ) → LEAF_COUNT ≤ number
         → slice_index_or nodes.new number [] ≡ slice_index_or nodes.old number [] }
-    ensures inner { (number : ℕ) → 1 ≤ number → number < 1024
+    ensures inner { (number : ℕ) → 1 ≤ number → number < LEAF_COUNT
         → slice_index_or nodes.new number []
         ≡ inner_node id.now number (slice_index_or nodes.new (2 * number) [])
         (slice_index_or nodes.new (2 * number + 1) []) }
@@ -102,9 +102,9 @@ impl<A: Allocator> PrivateKey<A> {
 
     /// Writes the path of a leaf into a signature.
     fn put_path(&self, signature: &mut [u8], leaf: u32)
-        requires size { length signature.old ≡ 2508 }
-        requires leaf { leaf < 1024 }
-        ensures { take 2508 signature.new
+        requires size { length signature.old ≡ SIGNATURE_SIZE }
+        requires leaf { leaf < LEAF_COUNT }
+        ensures { take SIGNATURE_SIZE signature.new
             ≡ take 2188 signature.old ++ joined 10 (path_of self.now.seed self.now.id leaf) }
     {
         put_path(signature, &self.nodes, leaf);
@@ -112,7 +112,7 @@ impl<A: Allocator> PrivateKey<A> {
 
     /// The signature of a text by one of the leaves.
     pub(crate) fn signature(&self, leaf: u32, text: &[u8]) -> [u8; 2508]
-        requires { leaf < 1024 }
+        requires { leaf < LEAF_COUNT }
         ensures signature { result ≡ signature_of self.now.seed self.now.id leaf text.now }
         ensures valid { valid (public_key_of self.now.seed self.now.id) text.now result ≡ true }
     {

@@ -70,7 +70,7 @@ impl PublicKey {
     /// Its 56 bytes.
     pub fn as_bytes(&self) -> &[u8; 56]
         ensures same { result.now ≡ self.now }
-        ensures size { length result.now ≡ 56 }
+        ensures size { length result.now ≡ KEY_SIZE }
         ensures key { is_key self.now ≡ true }
     {
         &self.bytes

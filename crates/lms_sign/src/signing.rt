@@ -4,6 +4,7 @@ ghost use Rattle.std.specs.Prelude.{◌≡◌, true, length};
 ghost use Rattle.lms_sign.specs.Keys.{public_key_of};
 ghost use Rattle.lms_sign.specs.Signature.{signature_of, valid};
 
+use crate::form::SIGNATURE_SIZE;
 use crate::leaf::Leaf;
 use crate::private_key::PrivateKey;
 use crate::spent_leaf::{SpentLeaf, burn};
@@ -14,7 +15,7 @@ pub fn sign<A: Allocator>(key: &PrivateKey<A>, leaf: Leaf, text: &[u8]) -> ([u8;
     requires { leaf.key ≡ public_key_of key.now.seed key.now.id }
     ensures signature { result.0 ≡ signature_of key.now.seed key.now.id leaf.number text.now }
     ensures valid { valid (public_key_of key.now.seed key.now.id) text.now result.0 ≡ true }
-    ensures size { length result.0 ≡ 2508 }
+    ensures size { length result.0 ≡ SIGNATURE_SIZE }
     ensures spent { result.1 ≡ leaf }
 {
     let signature = key.signature(leaf.number(), text);

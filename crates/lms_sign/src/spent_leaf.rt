@@ -4,6 +4,7 @@ ghost use Rattle.std.specs.Prelude.{◌≡◌};
 
 use crate::leaf::Leaf;
 use crate::public_key::PublicKey;
+use crate::tree::LEAF_COUNT;
 use std::marker::Model;
 
 /// A leaf that nothing more can be signed with. It can't be dropped either: whoever keeps account of leaves sees each
@@ -30,7 +31,7 @@ impl SpentLeaf {
     /// Its number among the key's leaves.
     pub fn number(&self) -> u32
         ensures value { result ≡ self.now.number }
-        ensures below { result < 1024 }
+        ensures below { result < LEAF_COUNT }
     {
         self.number
     }

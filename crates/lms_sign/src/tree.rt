@@ -6,7 +6,7 @@ ghost use Rattle.lms_sign.specs.Signature.{path_in};
 ghost use Rattle.lms_sign.specs.Tree.{leaf_node, inner_node, ancestor, sibling, parent, climbed};
 
 use crate::bytes::{DIGEST_SIZE, digest_at, headed_hasher, put};
-use crate::form::PATH_AT;
+use crate::form::{PATH_AT, SIGNATURE_SIZE};
 use layout::Digest;
 
 /// How many leaves a key has: so many texts can be signed.
@@ -56,9 +56,9 @@ fn parent(id: &[u8; 16], number: u32, other: &Digest, value: &Digest) -> Digest
 /// The root that a leaf's node and a signature's path lead to.
 #[tactic(auto, unfolding(crate::specs::Tree::climbed, crate::specs::Tree::ancestor))]
 pub(crate) fn climb(id: &[u8; 16], leaf: u32, node: Digest, signature: &[u8]) -> Digest
-    requires leaf { leaf < 1024 }
-    requires size { length signature.now ≡ 2508 }
-    ensures { result ≡ climbed id.now (1024 + leaf) (path_in signature.now) node 10 }
+    requires leaf { leaf < LEAF_COUNT }
+    requires size { length signature.now ≡ SIGNATURE_SIZE }
+    ensures { result ≡ climbed id.now (LEAF_COUNT + leaf) (path_in signature.now) node 10 }
 {
     let mut number = LEAF_COUNT + leaf;
     let mut node = node;
@@ -86,12 +86,12 @@ fn sibling(number: u32) -> u32
 
 /// Writes the siblings from a leaf's node upwards.
 pub(crate) fn put_path(signature: &mut [u8], nodes: &[Digest], leaf: u32)
-    requires size { length signature.old ≡ 2508 }
+    requires size { length signature.old ≡ SIGNATURE_SIZE }
     requires nodes { length nodes.now ≡ 2048 }
-    requires leaf { leaf < 1024 }
-    ensures { take 2508 signature.new
+    requires leaf { leaf < LEAF_COUNT }
+    ensures { take SIGNATURE_SIZE signature.new
         ≡ take 2188 signature.old
-        ++ joined 10 (λ height. slice_index_or nodes.now (sibling (ancestor (1024 + leaf) height)) []) }
+        ++ joined 10 (λ height. slice_index_or nodes.now (sibling (ancestor (LEAF_COUNT + leaf) height)) []) }
 {
     let mut number = LEAF_COUNT + leaf;
     for height in 0..HEIGHT {

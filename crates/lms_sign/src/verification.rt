@@ -4,7 +4,7 @@ ghost use Rattle.std.specs.Prelude.{◌≡◌, ◌<◌, IsTrue, length};
 ghost use Rattle.lms_sign.specs.Signature.{leaf_of, root_from, valid};
 
 use crate::bytes::digest_at;
-use crate::form::{RANDOMIZER_AT, is_signature, leaf_of};
+use crate::form::{RANDOMIZER_AT, SIGNATURE_SIZE, is_signature, leaf_of};
 use crate::one_time::{candidate_key, text_digest};
 use crate::public_key::PublicKey;
 use crate::tree::{LEAF_COUNT, climb, leaf_node};
@@ -13,8 +13,8 @@ use layout::Digest;
 /// The root that a signature of a text leads to.
 #[tactic(auto, unfolding(crate::specs::Signature::root_from))]
 fn root_from(id: &[u8; 16], text: &[u8], signature: &[u8]) -> Digest
-    requires size { length signature.now ≡ 2508 }
-    requires leaf { leaf_of signature.now < 1024 }
+    requires size { length signature.now ≡ SIGNATURE_SIZE }
+    requires leaf { leaf_of signature.now < LEAF_COUNT }
     ensures { result ≡ root_from id.now text.now signature.now }
 {
     let leaf = leaf_of(signature);
@@ -28,7 +28,7 @@ fn root_from(id: &[u8; 16], text: &[u8], signature: &[u8]) -> Digest
 #[tactic(auto, unfolding(crate::specs::Signature::valid))]
 pub fn verify(key: &PublicKey, text: &[u8], signature: &[u8]) -> bool
     ensures valid { result ≡ valid key.now text.now signature.now }
-    ensures size { IsTrue result → length signature.now ≡ 2508 }
+    ensures size { IsTrue result → length signature.now ≡ SIGNATURE_SIZE }
 {
     if !is_signature(signature) {
         return false;

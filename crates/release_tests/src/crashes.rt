@@ -25,7 +25,7 @@ static LEFT: [Left; 6] = [
 /// How many bytes a crash leaves. The digits of the outcome, to base 6, say how each extent is left; what lies past the
 /// old end is cut short where the last extents are left old.
 fn size_left(device: &MemoryDevice<Global>, outcome: usize) -> usize {
-    let mut size = device.settled().len();
+    let mut size = device.synced_text().len();
     let mut ways = outcome;
     for extent in device.unsynced() {
         if ways % 6 != 0 {
@@ -38,7 +38,7 @@ fn size_left(device: &MemoryDevice<Global>, outcome: usize) -> usize {
 
 /// The byte at a place that a crash leaves.
 fn byte_left(device: &MemoryDevice<Global>, outcome: usize, i: usize) -> u8 {
-    let mut byte = device.settled().get(i).copied().unwrap_or(0);
+    let mut byte = device.synced_text().get(i).copied().unwrap_or(0);
     let mut ways = outcome;
     for extent in device.unsynced() {
         if extent.at <= i && i - extent.at < extent.size {
