@@ -4,6 +4,7 @@ use Rattle.std.specs.Prelude.{◌≡◌, ℕ, zero, suc, ◌<◌, ◌^◌, Bool,
 use Rattle.std.specs.Int.{Width, byte_len, from_be_bytes, to_be_bytes}
 use Rattle.std.specs.List.{starts_with}
 use Rattle.std.specs.Option.{option_map_or}
+use Rattle.layout.specs.Types.{Bytes}
 use Rattle.layout.specs.declared.error.ReadError.{ReadError}
 use Rattle.layout.specs.declared.error.ReadError.TheVariants.{Short, BadTag, Range, Trailing, Memory}
 
@@ -14,15 +15,15 @@ abbrev pub ◌>>=◌ : {A B : Type 0} → Result A ReadError → (A → Result B
 
 -- What reading answers: the value and the bytes after it, or the first fault.
 abbrev pub Answer : Type 0 → Type 0
-Answer A = Result (A × List ℕ) ReadError
+Answer A = Result (A × Bytes) ReadError
 
 pub record Format (A : Type 0) : Type 1 where
   -- the one spelling
-  pub spell : A → List ℕ
+  pub spell : A → Bytes
   -- a text with the spelling at its end, field by field, as code writes it
-  pub onto : List ℕ → A → List ℕ
+  pub onto : Bytes → A → Bytes
   -- what is read from the front of bytes
-  pub read : List ℕ → Answer A
+  pub read : Bytes → Answer A
   -- what has a spelling
   pub Fits : A → Type 0
 
@@ -30,41 +31,41 @@ pub record Format (A : Type 0) : Type 1 where
 abbrev pub Fails : {Y : Type 0} → ReadError → Result Y ReadError → Type 0
 Fails e read = ¬ (e ≡ Memory) → read ≡ Err e
 
-abbrev pub ReadsAs : {X Y : Type 0} → (X → Y) → Result X ReadError → List ℕ → Answer Y → Type 0
+abbrev pub ReadsAs : {X Y : Type 0} → (X → Y) → Result X ReadError → Bytes → Answer Y → Type 0
 ReadsAs view (Ok x) left read = read ≡ Ok (view x, left)
 ReadsAs view (Err e) left read = Fails e read
 
-abbrev pub Reads : {X : Type 0} → Result X ReadError → List ℕ → Answer X → Type 0
+abbrev pub Reads : {X : Type 0} → Result X ReadError → Bytes → Answer X → Type 0
 Reads r left read = ReadsAs (λ x. x) r left read
 
 -- the text begins with these bytes
-abbrev pub BeginsWith : List ℕ → List ℕ → Type 0
+abbrev pub BeginsWith : Bytes → Bytes → Type 0
 BeginsWith text front = take (length front) text ≡ front
 
-abbrev pub IsBytes : List ℕ → Type 0
+abbrev pub IsBytes : Bytes → Type 0
 IsBytes bytes = (i : ℕ) → slice_index bytes i < 256
 
-abbrev pub ends : List ℕ → Bool
+abbrev pub ends : Bytes → Bool
 ends bytes = length bytes == 0
 
 -- ---- what a format promises
 
 -- the bytes are the spelling of a value that fits, and then the rest
-pub record Takes {A : Type 0} (f : Format A) (bytes : List ℕ) (x : A) (rest : List ℕ) : Type 0 where
+pub record Takes {A : Type 0} (f : Format A) (bytes : Bytes) (x : A) (rest : Bytes) : Type 0 where
   pub parts : bytes ≡ f.spell x ++ rest
   pub rest_fits : IsBytes rest
   pub fits : f.Fits x
 
 -- what is read is spelled so, what is written is the spelling, and what fits and is spelled so is read
 pub record Lawful {A : Type 0} (f : Format A) : Type 0 where
-  pub takes : (bytes : List ℕ) (x : A) (rest : List ℕ) → IsBytes bytes → f.read bytes ≡ Ok (x, rest) → Takes f bytes x rest
-  pub onto : (old : List ℕ) (x : A) → f.onto old x ≡ old ++ f.spell x
-  pub again : (x : A) (rest : List ℕ) → f.Fits x → f.read (f.spell x ++ rest) ≡ Ok (x, rest)
+  pub takes : (bytes : Bytes) (x : A) (rest : Bytes) → IsBytes bytes → f.read bytes ≡ Ok (x, rest) → Takes f bytes x rest
+  pub onto : (old : Bytes) (x : A) → f.onto old x ≡ old ++ f.spell x
+  pub again : (x : A) (rest : Bytes) → f.Fits x → f.read (f.spell x ++ rest) ≡ Ok (x, rest)
 
 -- ---- fields
 
 -- the bytes of a number, the high one first: a name that goals show, and that only laws of numbers open
-unfoldable pub be : Width → ℕ → List ℕ
+unfoldable pub be : Width → ℕ → Bytes
 be w n = to_be_bytes w n
 
 -- a number of so many bytes
@@ -77,7 +78,7 @@ uint w = record {
 }
 
 -- that many bytes, whatever they are
-abbrev pub raw : ℕ → Format (List ℕ)
+abbrev pub raw : ℕ → Format Bytes
 raw count = record {
   spell = λ bytes. bytes;
   onto = λ old bytes. old ++ bytes;
@@ -86,7 +87,7 @@ raw count = record {
 }
 
 -- these very bytes
-abbrev pub tagged : List ℕ → Format (Unit {0})
+abbrev pub tagged : Bytes → Format (Unit {0})
 tagged tag = record {
   spell = λ _. tag;
   onto = λ old _. old ++ tag;
@@ -119,7 +120,7 @@ abbrev pub pair : {A B : Type 0} → Format A → Format B → Format (A × B)
 pair f g = followed f (λ _. g)
 
 -- a value after a tag
-abbrev pub headed : {A : Type 0} → List ℕ → Format A → Format A
+abbrev pub headed : {A : Type 0} → Bytes → Format A → Format A
 headed tag f = record {
   spell = λ x. tag ++ f.spell x;
   onto = λ old x. f.onto (old ++ tag) x;
@@ -149,15 +150,15 @@ RowAfter A = Option A → Format A
 abbrev pub after_row : {A : Type 0} → RowAfter A → Rows (Option A) A
 after_row row = record { row = row; next = λ _ x. Some x }
 
-unfoldable pub read_rows : {S A : Type 0} → Rows S A → ℕ → S → List ℕ → Answer (List A)
+unfoldable pub read_rows : {S A : Type 0} → Rows S A → ℕ → S → Bytes → Answer (List A)
 read_rows rows zero state bytes = Ok ([], bytes)
 read_rows rows (suc n) state bytes = (rows.row state).read bytes >>= λ x. read_rows rows n (rows.next state x.0) x.1 >>= λ xs. Ok (x.0 ∷ xs.0, xs.1)
 
-unfoldable pub spell_rows : {S A : Type 0} → Rows S A → S → List A → List ℕ
+unfoldable pub spell_rows : {S A : Type 0} → Rows S A → S → List A → Bytes
 spell_rows rows state [] = []
 spell_rows rows state (x ∷ xs) = (rows.row state).spell x ++ spell_rows rows (rows.next state x) xs
 
-unfoldable pub rows_onto : {S A : Type 0} → Rows S A → S → List ℕ → List A → List ℕ
+unfoldable pub rows_onto : {S A : Type 0} → Rows S A → S → Bytes → List A → Bytes
 rows_onto rows state old [] = old
 rows_onto rows state old (x ∷ xs) = rows_onto rows (rows.next state x) ((rows.row state).onto old x) xs
 
@@ -171,7 +172,7 @@ state_after rows state [] = state
 state_after rows state (x ∷ xs) = state_after rows (rows.next state x) xs
 
 -- the state after that many rows are read
-abbrev pub read_state : {S A : Type 0} → Rows S A → ℕ → S → List ℕ → Answer S
+abbrev pub read_state : {S A : Type 0} → Rows S A → ℕ → S → Bytes → Answer S
 read_state rows count state bytes = read_rows rows count state bytes >>= λ x. Ok (state_after rows state x.0, x.1)
 
 -- that many rows, the first one at this state
@@ -198,7 +199,7 @@ abbrev pub listed : {A : Type 0} → Format ℕ → RowAfter A → Format (List 
 listed count row = listed_from count (after_row row) None
 
 -- all of the bytes
-abbrev pub whole : {A : Type 0} → Format A → List ℕ → Result A ReadError
+abbrev pub whole : {A : Type 0} → Format A → Bytes → Result A ReadError
 whole f bytes = f.read bytes >>= λ x. if ends x.1 then Ok x.0 else Err Trailing
 
 -- What a function returned, seen by view, is what reading gives, unless memory ran out.
@@ -207,7 +208,7 @@ Gives view (Ok x) read = read ≡ Ok (view x)
 Gives view (Err e) read = Fails e read
 
 -- a size, and as many bytes
-abbrev pub string : Format ℕ → Format (List ℕ)
+abbrev pub string : Format ℕ → Format Bytes
 string count = sized count length raw
 
 -- a text inside another: its size, and in that many bytes the text and nothing else

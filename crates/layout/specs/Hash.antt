@@ -1,6 +1,6 @@
 -- SHA-256 (FIPS 180-4 section 6.2), which no proof above this crate unfolds.
-use Rattle.std.specs.Prelude.{ℕ, List}
+use Rattle.layout.specs.Types.{Bytes}
 use Rattle.sha2.specs.Sha256.{sha256}
 
-unfoldable pub hash : List ℕ → List ℕ
+unfoldable pub hash : Bytes → Bytes
 hash bytes = sha256 bytes
