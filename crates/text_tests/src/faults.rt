@@ -6,7 +6,9 @@ use directory::Directory;
 use itable::{Chunk, Inode, Root};
 use layout::{ReadError, Text};
 use pending_list::{Reply, Signed};
+use principals::Table;
 use std::alloc::Global;
+use test_aids::tables::FORM;
 use test_aids::texts::joined;
 use test_aids::{Host, check, check_text};
 use update_cert::Cert;
@@ -27,6 +29,7 @@ enum Kind {
     Chunk,
     Root,
     Directory,
+    Principals,
     Frame,
 }
 
@@ -500,6 +503,245 @@ static DIRECTORIES: [Row; 28] = [
     Row(Kind::Directory, &[b"SDI1\0\x01\x01f\x60"], RANGE),
 ];
 
+/// Forms of keys of other types: another tree, and other one-time keys.
+const OTHER_TREE: &[u8; 56] =
+    b"\x00\x00\x00\x05\x00\x00\x00\x03................................................";
+
+const OTHER_ONCE: &[u8; 56] =
+    b"\x00\x00\x00\x06\x00\x00\x00\x04................................................";
+
+/// Changes of the table of principals: kinds 6 to 8, and 9.
+static TABLE_CHANGES: [Row; 15] = [
+    Row(Kind::Certificate, &[CERT, b"\x01\x06\x01", FORM], NONE),
+    Row(Kind::Certificate, &[CERT, b"\x01\x06\x3f", FORM], NONE),
+    Row(Kind::Certificate, &[CERT, b"\x01\x06\x40"], RANGE),
+    Row(
+        Kind::Certificate,
+        &[CERT, b"\x01\x06\x01\0\0\0\x06\0\0\0\x04"],
+        SHORT,
+    ),
+    Row(
+        Kind::Certificate,
+        &[CERT, b"\x01\x06\x01", OTHER_ONCE],
+        RANGE,
+    ),
+    Row(Kind::Certificate, &[CERT, b"\x01\x07\x40\0"], NONE),
+    Row(Kind::Certificate, &[CERT, b"\x01\x07\x5f\x3f"], NONE),
+    Row(Kind::Certificate, &[CERT, b"\x01\x07\x3f"], RANGE),
+    Row(Kind::Certificate, &[CERT, b"\x01\x07\x60"], RANGE),
+    Row(Kind::Certificate, &[CERT, b"\x01\x07\x40\x40"], RANGE),
+    Row(Kind::Certificate, &[CERT, b"\x01\x08\x40"], SHORT),
+    Row(Kind::Certificate, &[CERT, b"\x01\x08\x5f\x3f"], NONE),
+    Row(Kind::Certificate, &[CERT, b"\x01\x08\x3f\0"], RANGE),
+    Row(Kind::Certificate, &[CERT, b"\x01\x08\x40\x40"], RANGE),
+    Row(Kind::Certificate, &[CERT, b"\x01\x09"], RANGE),
+];
+
+/// Tables of principals up to the end of the users.
+static USERS: [Row; 17] = [
+    Row(Kind::Principals, &[b"SPT"], SHORT),
+    Row(Kind::Principals, &[b"SPT2\x00"], TAG),
+    Row(Kind::Principals, &[b"SPT1"], SHORT),
+    // no user
+    Row(Kind::Principals, &[b"SPT1\x00"], RANGE),
+    // the first isn't user 0, or is no user
+    Row(Kind::Principals, &[b"SPT1\x01\x01"], RANGE),
+    Row(Kind::Principals, &[b"SPT1\x01\x40"], RANGE),
+    // user 0's listing isn't of 0
+    Row(Kind::Principals, &[b"SPT1\x01\x00\x00\x00\x00"], SHORT),
+    Row(Kind::Principals, &[b"SPT1\x01\x00\x00\x00\x00\x01"], RANGE),
+    // a key of another type, as soon as its bytes are there
+    Row(
+        Kind::Principals,
+        &[b"SPT1\x01\x00\x00\x00\x00\x00\x00\x00\x00\x05"],
+        SHORT,
+    ),
+    Row(
+        Kind::Principals,
+        &[b"SPT1\x01\x00\x00\x00\x00\x00", OTHER_TREE],
+        RANGE,
+    ),
+    // the second user isn't above the first, or is no user
+    Row(
+        Kind::Principals,
+        &[b"SPT1\x02\x00\x00\x00\x00\x00", FORM, b"\x00"],
+        ORDER,
+    ),
+    Row(
+        Kind::Principals,
+        &[b"SPT1\x02\x00\x00\x00\x00\x00", FORM, b"\x40"],
+        RANGE,
+    ),
+    // a listing of 0
+    Row(
+        Kind::Principals,
+        &[
+            b"SPT1\x02\x00\x00\x00\x00\x00",
+            FORM,
+            b"\x01\x00\x00\x00\x00",
+        ],
+        RANGE,
+    ),
+    Row(
+        Kind::Principals,
+        &[
+            b"SPT1\x02\x00\x00\x00\x00\x00",
+            FORM,
+            b"\x01\x00\x00\x00\x01",
+            OTHER_TREE,
+        ],
+        RANGE,
+    ),
+    // as many users as are counted
+    Row(
+        Kind::Principals,
+        &[
+            b"SPT1\x02\x00\x00\x00\x00\x00",
+            FORM,
+            b"\x05\x00\x00\x00\x01",
+            FORM,
+        ],
+        SHORT,
+    ),
+    Row(
+        Kind::Principals,
+        &[
+            b"SPT1\x03\x00\x00\x00\x00\x00",
+            FORM,
+            b"\x05\x00\x00\x00\x01",
+            FORM,
+            b"\x05",
+        ],
+        ORDER,
+    ),
+    Row(
+        Kind::Principals,
+        &[
+            b"SPT1\x02\x00\x00\x00\x00\x00",
+            FORM,
+            b"\x05\x00\x00\x00\x01",
+            FORM,
+            b"\x00\x00",
+        ],
+        NONE,
+    ),
+];
+
+/// A table of users 0 and 1 up to the count of its rows of members.
+const TWO_USERS: &[u8] = b"SPT1\x02\0\0\0\0\0\
+    \0\0\0\x06\0\0\0\x03................................................\
+    \x01\0\0\0\x02\
+    \0\0\0\x06\0\0\0\x03................................................";
+
+/// Its rows of members.
+static MEMBERS: [Row; 19] = [
+    Row(Kind::Principals, &[TWO_USERS, b"\x00"], SHORT),
+    Row(Kind::Principals, &[TWO_USERS, b"\x00\x00\x00"], TRAILING),
+    Row(Kind::Principals, &[TWO_USERS, b"\x00\x01"], SHORT),
+    // no group
+    Row(Kind::Principals, &[TWO_USERS, b"\x00\x01\x3f"], RANGE),
+    Row(Kind::Principals, &[TWO_USERS, b"\x00\x01\x60"], RANGE),
+    // no user, or one that isn't listed
+    Row(Kind::Principals, &[TWO_USERS, b"\x00\x01\x40\x40"], RANGE),
+    Row(Kind::Principals, &[TWO_USERS, b"\x00\x01\x40\x02"], RANGE),
+    // it begins at no operation
+    Row(
+        Kind::Principals,
+        &[TWO_USERS, b"\x00\x01\x40\x01\x00\x00\x00\x00"],
+        RANGE,
+    ),
+    Row(
+        Kind::Principals,
+        &[TWO_USERS, b"\x00\x01\x40\x01\x00\x00\x00\x03\x00\x00\x00"],
+        SHORT,
+    ),
+    // it ends before it begins, or where it begins
+    Row(
+        Kind::Principals,
+        &[
+            TWO_USERS,
+            b"\x00\x01\x40\x01\x00\x00\x00\x03\x00\x00\x00\x02",
+        ],
+        RANGE,
+    ),
+    Row(
+        Kind::Principals,
+        &[
+            TWO_USERS,
+            b"\x00\x01\x40\x01\x00\x00\x00\x03\x00\x00\x00\x03",
+        ],
+        NONE,
+    ),
+    Row(
+        Kind::Principals,
+        &[
+            TWO_USERS,
+            b"\x00\x01\x5f\x00\x00\x00\x00\x03\x00\x00\x00\x00",
+        ],
+        NONE,
+    ),
+    Row(
+        Kind::Principals,
+        &[
+            TWO_USERS,
+            b"\x00\x01\x5f\x00\x00\x00\x00\x03\x00\x00\x00\x00\x00",
+        ],
+        TRAILING,
+    ),
+    // the second begins before the first, or where it does
+    Row(
+        Kind::Principals,
+        &[
+            TWO_USERS,
+            b"\x00\x02\x40\x01\x00\x00\x00\x03\x00\x00\x00\x00\x40\x00\x00\x00\x00\x02",
+        ],
+        ORDER,
+    ),
+    Row(
+        Kind::Principals,
+        &[
+            TWO_USERS,
+            b"\x00\x02\x40\x01\x00\x00\x00\x03\x00\x00\x00\x00\x40\x00\x00\x00\x00\x03\x00\x00\x00\x00",
+        ],
+        NONE,
+    ),
+    // a second open row of the pair
+    Row(
+        Kind::Principals,
+        &[
+            TWO_USERS,
+            b"\x00\x02\x40\x01\x00\x00\x00\x03\x00\x00\x00\x00\x40\x01\x00\x00\x00\x04\x00\x00\x00\x00",
+        ],
+        RANGE,
+    ),
+    // the second one of the pair ended, or the first did
+    Row(
+        Kind::Principals,
+        &[
+            TWO_USERS,
+            b"\x00\x02\x40\x01\x00\x00\x00\x03\x00\x00\x00\x00\x40\x01\x00\x00\x00\x04\x00\x00\x00\x05",
+        ],
+        NONE,
+    ),
+    Row(
+        Kind::Principals,
+        &[
+            TWO_USERS,
+            b"\x00\x02\x40\x01\x00\x00\x00\x03\x00\x00\x00\x04\x40\x01\x00\x00\x00\x04\x00\x00\x00\x00",
+        ],
+        NONE,
+    ),
+    // the same user of another group
+    Row(
+        Kind::Principals,
+        &[
+            TWO_USERS,
+            b"\x00\x02\x40\x01\x00\x00\x00\x03\x00\x00\x00\x00\x41\x01\x00\x00\x00\x03\x00\x00\x00\x00",
+        ],
+        NONE,
+    ),
+];
+
 static FRAMES: [Row; 6] = [
     Row(Kind::Frame, &[b"\0\0\0\x01\x06"], NONE),
     Row(Kind::Frame, &[b"\0\0\0\x02\x05\0"], NONE),
@@ -554,6 +796,7 @@ fn fault_in(rt: &impl Host, kind: Kind, text: &[u8]) -> &'static str {
         Kind::Chunk => fault_of::<Chunk<Global>, _>(rt, text),
         Kind::Root => fault_of::<Root<Global>, _>(rt, text),
         Kind::Directory => fault_of::<Directory<Global>, _>(rt, text),
+        Kind::Principals => fault_of::<Table<Global>, _>(rt, text),
         Kind::Frame => fault_of_frame(text),
     }
 }
@@ -585,49 +828,17 @@ fn have_faults(rt: &impl Host, rows: &[Row]) {
 }
 
 #[test]
-fn faults_of_certificates(rt: HostRuntime) {
+fn texts_have_their_faults(rt: HostRuntime) {
     let rt = (rt, Here);
     have_faults(&rt, &CERTIFICATES);
-}
-
-#[test]
-fn faults_of_plans(rt: HostRuntime) {
-    let rt = (rt, Here);
+    have_faults(&rt, &TABLE_CHANGES);
     have_faults(&rt, &PLANS);
-}
-
-#[test]
-fn faults_of_records(rt: HostRuntime) {
-    let rt = (rt, Here);
     have_faults(&rt, &RECORDS);
-}
-
-#[test]
-fn faults_of_replies(rt: HostRuntime) {
-    let rt = (rt, Here);
     have_faults(&rt, &REPLIES);
-}
-
-#[test]
-fn faults_of_inodes(rt: HostRuntime) {
-    let rt = (rt, Here);
     have_faults(&rt, &INODES);
-}
-
-#[test]
-fn faults_of_tables(rt: HostRuntime) {
-    let rt = (rt, Here);
     have_faults(&rt, &TABLES);
-}
-
-#[test]
-fn faults_of_directories(rt: HostRuntime) {
-    let rt = (rt, Here);
     have_faults(&rt, &DIRECTORIES);
-}
-
-#[test]
-fn faults_of_frames(rt: HostRuntime) {
-    let rt = (rt, Here);
+    have_faults(&rt, &USERS);
+    have_faults(&rt, &MEMBERS);
     have_faults(&rt, &FRAMES);
 }

@@ -1,16 +1,14 @@
-//! Changes of the table: their bytes and faults, what they make of a table, and which have no effect.
+//! Changes of the table: their bytes, what they make of a table, and which have no effect.
 
-use layout::{Digest, Group, ReadError, Text, User, Version};
+use crate::faults::CERT;
+use crate::here::Here;
+use layout::{Digest, Group, Text, User, Version};
 use lms_sign::PublicKey;
 use principals::Table;
-use std::alloc::{Alloc, Global};
-use std::process::Abort;
+use std::alloc::Global;
+use test_aids::texts::joined;
+use test_aids::{Aided, Host, check_text};
 use update_cert::{Cert, Change, Deed, TableChange, apply_table, table_after};
-
-/// Where a test has its memory, and where it ends.
-trait Host: Alloc<A = Global> + Abort {}
-
-impl<R: Alloc<A = Global> + Abort> Host for R {}
 
 /// Forms of keys, without meaning: user 0's, and user 1's.
 const PINNED: &[u8; 56] =
@@ -18,14 +16,6 @@ const PINNED: &[u8; 56] =
 
 const KEY: &[u8; 56] =
     b"\x00\x00\x00\x06\x00\x00\x00\x03################################################";
-
-/// The same of another type.
-const OTHER_KEY: &[u8; 56] =
-    b"\x00\x00\x00\x06\x00\x00\x00\x04################################################";
-
-/// User 0's first certificate up to the count of its changes: 41 bytes.
-const CERT: &[u8] = b"SUC1\0\0\0\0\x01\
-    \0\0\0\0\0\0\0\0\0\0\0\0\0\0\0\0\0\0\0\0\0\0\0\0\0\0\0\0\0\0\0\0";
 
 fn key(rt: &impl Host, bytes: &[u8; 56]) -> PublicKey {
     PublicKey::from_bytes(*bytes).expect(rt, "a key")
@@ -37,64 +27,6 @@ fn user(rt: &impl Host, number: u8) -> User {
 
 fn group(rt: &impl Host, number: u8) -> Group {
     Group::new(number).expect(rt, "a group")
-}
-
-fn joined(rt: &impl Host, pieces: &[&[u8]]) -> Vec<u8> {
-    let mut text = Vec::new(rt.alloc());
-    for piece in pieces {
-        text.extend_from_slice(piece).expect(rt, "memory");
-    }
-    text
-}
-
-fn check(rt: &impl Host, found: &[u8], wanted: &[u8]) {
-    assert!(rt; found == wanted, "{found:?} is not {wanted:?}");
-}
-
-const NONE: &str = "none";
-
-const SHORT: &str = "short";
-
-const RANGE: &str = "range";
-
-fn fault_in(rt: &impl Host, text: &[u8]) -> &'static str {
-    let read: Result<Cert<Global>, ReadError> = Cert::read(rt.alloc(), text);
-    match read {
-        Ok(_) => NONE,
-        Err(ReadError::Short) => SHORT,
-        Err(ReadError::Range) => RANGE,
-        Err(_) => "another",
-    }
-}
-
-/// One change after its count, by its pieces, and its first fault.
-struct Row(&'static [&'static [u8]], &'static str);
-
-static ROWS: [Row; 15] = [
-    Row(&[b"\x06\x01", KEY], NONE),
-    Row(&[b"\x06\x3f", KEY], NONE),
-    Row(&[b"\x06\x40"], RANGE),
-    Row(&[b"\x06\x01\0\0\0\x06\0\0\0\x04"], SHORT),
-    Row(&[b"\x06\x01", OTHER_KEY], RANGE),
-    Row(&[b"\x07\x40\0"], NONE),
-    Row(&[b"\x07\x5f\x3f"], NONE),
-    Row(&[b"\x07\x3f"], RANGE),
-    Row(&[b"\x07\x60"], RANGE),
-    Row(&[b"\x07\x40\x40"], RANGE),
-    Row(&[b"\x08\x40"], SHORT),
-    Row(&[b"\x08\x5f\x3f"], NONE),
-    Row(&[b"\x08\x3f\0"], RANGE),
-    Row(&[b"\x08\x40\x40"], RANGE),
-    Row(&[b"\x09"], RANGE),
-];
-
-#[test]
-fn faults_of_the_tables_changes(rt: HostRuntime) {
-    for Row(pieces, fault) in &ROWS {
-        let text = joined(&rt, &[CERT, b"\x01", &joined(&rt, pieces)]);
-        let found = fault_in(&rt, &text);
-        assert!(rt; found == *fault, "{pieces:?}: {found}");
-    }
 }
 
 /// The certificate of a user with these changes of the table.
@@ -122,6 +54,7 @@ fn first(rt: &impl Host) -> Cert<Global> {
 
 #[test]
 fn text_of_the_tables_changes(rt: HostRuntime) {
+    let rt = (rt, Here);
     let by_hand = joined(
         &rt,
         &[
@@ -134,7 +67,7 @@ fn text_of_the_tables_changes(rt: HostRuntime) {
         ],
     );
     let text = first(&rt).text(rt.alloc()).expect(&rt, "memory");
-    check(&rt, &text, &by_hand);
+    check_text(&rt, &text, &by_hand);
     let again: Cert<Global> = Cert::read(rt.alloc(), &by_hand).expect(&rt, "a certificate");
     for change in again.changes() {
         assert!(rt; change.principal().get() == 0 && change.i_number().get() == 1);
@@ -145,7 +78,7 @@ fn text_of_the_tables_changes(rt: HostRuntime) {
 /// The table after an operation, whose changes of these numbers have no effect.
 fn applied(rt: &impl Host, table: &mut Table<Global>, cert: &Cert<Global>, void: &[u8]) {
     let voids = apply_table(rt.alloc(), table, cert).expect(rt, "memory");
-    check(rt, voids.numbers(), void);
+    check_text(rt, voids.numbers(), void);
 }
 
 /// The bytes of the table, with this row of a member.
@@ -159,12 +92,13 @@ fn check_table(rt: &impl Host, table: &Table<Global>, row: &[u8; 10]) {
         b"\0\x01",
         row,
     ];
-    check(rt, &text, &joined(rt, &wanted));
+    check_text(rt, &text, &joined(rt, &wanted));
     assert!(rt; text.len() == 139);
 }
 
 #[test]
 fn table_of_three_operations(rt: HostRuntime) {
+    let rt = (rt, Here);
     let (one, group) = (user(&rt, 1), group(&rt, 64));
     let mut table = Table::genesis(rt.alloc(), key(&rt, PINNED));
     applied(&rt, &mut table, &first(&rt), &[3, 4]);
