@@ -6,7 +6,6 @@ use crate::digits::{coefficient, with_checksum};
 use crate::{Leaf, PrivateKey, PublicKey, burn, sign, verify};
 use layout::{Digest, Hasher};
 use std::process::Abort;
-use std::test::Fail;
 
 /// The digits of the checksum of a digest.
 fn checksum_digits(digest: [u8; 32]) -> [u8; 3] {
@@ -45,8 +44,8 @@ fn refuses_others(rt: &impl Abort, key: &PublicKey, signature: &[u8; 2508]) {
 }
 
 #[test]
-fn key_of_zeros(rt: HostRuntime) -> Result<(), Fail> {
-    let private = PrivateKey::from_seed(rt.alloc(), [0; 32], [0; 16])?;
+fn key_of_zeros(rt: HostRuntime) {
+    let private = PrivateKey::from_seed(rt.alloc(), [0; 32], [0; 16]).expect(&rt, "memory");
     let key = private.public();
     let leaf = Leaf::issue(&key, 0);
     assert_eq!(rt; leaf.number(), 0);
@@ -58,7 +57,6 @@ fn key_of_zeros(rt: HostRuntime) -> Result<(), Fail> {
     burn(Leaf::issue(&key, 1)).end();
     assert!(rt; verify(&key, b"a", &signature));
     refuses_others(&rt, &key, &signature);
-    Ok(())
 }
 
 #[test]
@@ -104,7 +102,7 @@ fn signatures_digest<A: std::alloc::Allocator>(
 // By Bouncy Castle 1.72 (Debian's libbcprov-java), which draws a randomizer as we do, for the seed 00 01 .. 1f and the
 // identifier d0 d1 .. df: the public key, and for a leaf SHA-256 of the six signatures, one after another.
 #[test]
-fn as_bouncy_castle(rt: HostRuntime) -> Result<(), Fail> {
+fn as_bouncy_castle(rt: HostRuntime) {
     let mut seed = [0; 32];
     for k in 0..32 {
         seed[k] = k as u8;
@@ -113,7 +111,7 @@ fn as_bouncy_castle(rt: HostRuntime) -> Result<(), Fail> {
     for k in 0..16 {
         id[k] = 0xd0 + k as u8;
     }
-    let private = PrivateKey::from_seed(rt.alloc(), seed, id)?;
+    let private = PrivateKey::from_seed(rt.alloc(), seed, id).expect(&rt, "memory");
     let key = b"\x00\x00\x00\x06\x00\x00\x00\x03\xd0\xd1\xd2\xd3\xd4\xd5\xd6\xd7\
         \xd8\xd9\xda\xdb\xdc\xdd\xde\xdf\xe2\x3b\xe3\xd6\xa9\xc9\x33\x01\
         \xcc\x5e\xac\xde\x28\x56\x7b\xea\xcc\x1f\x05\xe4\xed\x76\x2a\x12\
@@ -148,5 +146,4 @@ fn as_bouncy_castle(rt: HostRuntime) -> Result<(), Fail> {
             "leaf {leaf}"
         );
     }
-    Ok(())
 }

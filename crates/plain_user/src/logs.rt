@@ -2,8 +2,9 @@
 
 ghost use Rattle.std.specs.Prelude.{◌≤◌, length};
 
+use crate::caller::Caller;
 use crate::connections::{Host, caller, pipes, serve_pipes};
-use crate::pipe::Pipe;
+use crate::pipe::{ClientEnd, Pipe};
 use crate::rows::ask;
 use crate::user::PlainUser;
 use block_store::Store;
@@ -11,7 +12,6 @@ use lms_sign::PublicKey;
 use server_workers::{MemoryConnection, OpenGate, Served, serve};
 use std::alloc::Global;
 use std::io::{self, ErrorKind, Write};
-use std::test::Fail;
 use std::thread;
 use wire::{RequestKind, Status, request_frame};
 
@@ -60,122 +60,165 @@ impl Write for Failing {
     }
 }
 
-/// Sixteen users are listed.
-fn sixteen_users(alloc: Global) -> Result<Vec<u8>, Fail> {
-    let mut changes = Vec::from_slice(alloc, &[16])?;
-    for user in 1..=16u8 {
-        changes.extend_from_slice(&[6, user, 0, 0, 0, 6, 0, 0, 0, 3])?;
-        changes.extend_from_slice(&[user; 48])?;
+/// Appends these pieces.
+fn append<R: Host>(rt: &R, text: &mut Vec<u8>, pieces: &[&[u8]]) {
+    for piece in pieces {
+        text.extend_from_slice(piece).expect(rt, "memory");
     }
-    Ok(changes)
+}
+
+/// Sixteen users are listed.
+fn sixteen_users<R: Host>(rt: &R) -> Vec<u8> {
+    let mut changes = Vec::new(rt.alloc());
+    append(rt, &mut changes, &[&[16]]);
+    for user in 1..=16u8 {
+        let row: [&[u8]; 2] = [&[6, user, 0, 0, 0, 6, 0, 0, 0, 3], &[user; 48]];
+        append(rt, &mut changes, &row);
+    }
+    changes
 }
 
 /// Sixteen names of 255 bytes are linked.
-fn sixteen_names(alloc: Global) -> Result<Vec<u8>, Fail> {
-    let mut changes = Vec::from_slice(alloc, &[16])?;
+fn sixteen_names<R: Host>(rt: &R) -> Vec<u8> {
+    let mut changes = Vec::new(rt.alloc());
+    append(rt, &mut changes, &[&[16]]);
     for letter in b'a'..=b'p' {
-        changes.extend_from_slice(&[4, 0, 0, 2, 255])?;
-        changes.extend_from_slice(&[letter; 255])?;
-        changes.extend_from_slice(&[0, 0, 3])?;
+        let row: [&[u8]; 3] = [&[4, 0, 0, 2, 255], &[letter; 255], &[0, 0, 3]];
+        append(rt, &mut changes, &row);
     }
-    Ok(changes)
+    changes
 }
 
-/// The texts of operations of these changes, as a server takes them: certificate, structure, certificate and so on.
-fn texts<R: Host>(rt: &R, pipe: &Pipe, user: PlainUser, all: &[Vec<u8>]) -> Vec<Vec<u8>> {
+/// Makes an operation of these changes, whose texts join those before: its certificate and its structure.
+fn operate<R: Host>(
+    rt: &R,
+    caller: &mut Caller<ClientEnd<'_, R>>,
+    user: &mut PlainUser,
+    changes: &[u8],
+    texts: &mut Vec<Vec<u8>>,
+) {
+    let certificate = user.certificate(changes).expect(rt, "a certificate");
+    let placed = ask(rt, caller, RequestKind::Update, &certificate);
+    assert!(rt; placed.status == Status::Ok, "{:?}", placed.status);
+    let structure = user.structure(&placed.payload).expect(rt, "a structure");
+    let committed = ask(rt, caller, RequestKind::Commit, &structure);
+    assert!(rt; committed.status == Status::Ok, "{:?}", committed.status);
+    texts.push(certificate).expect(rt, "memory");
+    texts.push(structure).expect(rt, "memory");
+}
+
+/// The texts of two operations of a user, as a server takes them, certificate and structure in turn: the first lists
+/// sixteen users, the second links sixteen names.
+fn texts<R: Host>(rt: &R, pipe: &Pipe, user: PlainUser) -> Vec<Vec<u8>> {
     let mut user = user;
     let mut caller = caller(rt, pipe);
     let mut texts = Vec::new(rt.alloc());
-    for changes in all {
-        let certificate = user.certificate(changes).expect(rt, "a certificate");
-        let placed = ask(rt, &mut caller, RequestKind::Update, &certificate);
-        assert!(rt; placed.status == Status::Ok, "{:?}", placed.status);
-        let structure = user.structure(&placed.payload).expect(rt, "a structure");
-        let committed = ask(rt, &mut caller, RequestKind::Commit, &structure);
-        assert!(rt; committed.status == Status::Ok, "{:?}", committed.status);
-        texts.push(certificate).expect(rt, "memory");
-        texts.push(structure).expect(rt, "memory");
+    for changes in [sixteen_users(rt), sixteen_names(rt)] {
+        operate(rt, &mut caller, &mut user, &changes, &mut texts);
     }
     pipe.close(rt);
     texts
 }
 
-/// Both operations over a pipe: their texts, and the server.
-fn both_operations<R: Host>(rt: &R) -> Result<(Vec<Vec<u8>>, Served<Vec<u8>>, PublicKey), Fail> {
-    let user = PlainUser::new(rt.alloc(), 0)?;
+/// Both operations over a pipe: their texts, the server, and the key that it knows.
+fn both_operations<R: Host>(rt: &R) -> (Vec<Vec<u8>>, Served<Vec<u8>>, PublicKey) {
+    let user = PlainUser::new(rt.alloc(), 0).expect(rt, "memory");
     let pinned = user.public();
     let pipes = pipes(rt, 1);
     let pipe = pipes.first().expect(rt, "a pipe");
-    let changes = vec![in rt.alloc(); sixteen_users(rt.alloc())?, sixteen_names(rt.alloc())?]?;
-    let changes = changes.as_slice();
     let (served, texts) = thread::join(
         rt,
         || serve_pipes(rt, &OpenGate, &pipes, pinned),
-        move || texts(rt, pipe, user, changes),
+        move || texts(rt, pipe, user),
     );
-    Ok((texts, served, pinned))
+    (texts, served, pinned)
 }
 
 /// The kind of each text in turn: its request's, and its record's.
-const KINDS: [(RequestKind, u8); 2] = [(RequestKind::Update, 1), (RequestKind::Commit, 2)];
+static KINDS: [(RequestKind, u8); 2] = [(RequestKind::Update, 1), (RequestKind::Commit, 2)];
 
 /// The log of these texts: of each its kind, the size and the text itself.
-fn log_of(alloc: Global, texts: &[Vec<u8>]) -> Result<Vec<u8>, Fail> {
-    let mut log = Vec::new(alloc);
+fn log_of<R: Host>(rt: &R, texts: &[Vec<u8>]) -> Vec<u8> {
+    let mut log = Vec::new(rt.alloc());
     for (text, (_, number)) in texts.iter().zip(KINDS.iter().cycle()) {
         let [.., a, b, c, d] = text.len().to_be_bytes();
-        log.extend_from_slice(&[*number, a, b, c, d])?;
-        log.extend_from_slice(text)?;
+        append(rt, &mut log, &[&[*number, a, b, c, d], text]);
     }
-    Ok(log)
+    log
 }
 
-/// Serves these texts once more over memory, with a log whose writer fails at so many bytes.
-fn serve_again<R: Host>(
-    rt: &R,
-    texts: &[Vec<u8>],
-    pinned: PublicKey,
-    left: usize,
-) -> Result<Served<Failing>, Fail> {
-    let alloc = rt.alloc();
-    let mut input = Vec::new(alloc);
+/// The requests that bring these texts.
+fn requests<R: Host>(rt: &R, texts: &[Vec<u8>]) -> Vec<u8> {
+    let mut requests = Vec::new(rt.alloc());
     for (text, (kind, _)) in texts.iter().zip(KINDS.iter().cycle()) {
         assert!(rt; text.len() < 2_097_152, "a text of a frame");
-        input.extend_from_slice(&request_frame(alloc, *kind, text)?)?;
+        let frame = request_frame(rt.alloc(), *kind, text).expect(rt, "memory");
+        append(rt, &mut requests, &[&frame]);
     }
+    requests
+}
+
+/// Serves requests over memory, with a log whose writer fails at so many bytes.
+fn serve_failing<R: Host>(
+    rt: &R,
+    requests: &[u8],
+    pinned: PublicKey,
+    left: usize,
+) -> Served<Failing> {
+    let alloc = rt.alloc();
     let store = Store::new(alloc);
     let mut output = Vec::new(alloc);
     let mut connections = Vec::new(alloc);
-    connections.push(MemoryConnection::new(&input, 1000, &mut output))?;
+    connections
+        .push(MemoryConnection::new(requests, 1000, &mut output))
+        .expect(rt, "memory");
     let writer = Failing::new(alloc, left);
     let connections = connections.into_iter();
-    let served = serve(rt, alloc, &OpenGate, connections, 1, &store, pinned, writer)?;
-    assert_eq!(rt; (served.answered, served.unserved), (4, 0));
-    Ok(served)
+    let served = serve(rt, alloc, &OpenGate, connections, 1, &store, pinned, writer);
+    served.expect(rt, "memory")
 }
 
+/// Serves the four texts of these requests once more: what was written of the log, and whether all of it was.
+fn written<R: Host>(rt: &R, requests: &[u8], pinned: PublicKey, left: usize) -> (Vec<u8>, bool) {
+    let served = serve_failing(rt, requests, pinned, left);
+    assert_eq!(rt; (served.answered, served.unserved), (4, 0));
+    (served.writer.bytes, served.flushed)
+}
+
+/// How many bytes the writer takes before it fails.
+static FAILING_AT: [usize; 11] = [
+    0, 1, 5, 6, 3_482, 3_483, 3_484, 6_000, 6_083, 12_840, 15_445,
+];
+
 /// A beginning of the log is written up to where the writer fails, and nothing afterwards, though it would take it.
-#[test]
-fn long_records_and_writers_that_fail(rt: HostRuntime) -> Result<(), Fail> {
-    let (texts, served, pinned) = both_operations(&rt)?;
-    let log = log_of(rt.alloc(), &texts)?;
+fn log_ends_at_the_fault<R: Host>(rt: &R, requests: &[u8], pinned: PublicKey, log: &[u8]) {
+    for left in &FAILING_AT {
+        let (bytes, is_whole) = written(rt, requests, pinned, *left);
+        assert!(rt; !is_whole, "failed at {left}");
+        assert!(rt;
+            Some(bytes.as_slice()) == log.get(..*left),
+            "what was written up to {left}"
+        );
+    }
+}
+
+/// The log of both operations, which was flushed.
+fn log_of_both<R: Host>(rt: &R, texts: &[Vec<u8>], served: Served<Vec<u8>>) -> Vec<u8> {
+    let log = log_of(rt, texts);
     let sizes = [3_478, 2_595, 6_758, 2_595];
     assert!(rt; texts.iter().map(Vec::len).eq(sizes), "the texts");
     assert!(rt; served.flushed, "flushed");
     assert!(rt; served.writer == log, "the log");
-    for left in [
-        0usize, 1, 5, 6, 3_482, 3_483, 3_484, 6_000, 6_083, 12_840, 15_445,
-    ] {
-        let served = serve_again(&rt, &texts, pinned, left)?;
-        let written = served.writer.bytes.as_slice();
-        assert!(rt; !served.flushed, "failed at {left}");
-        assert!(rt;
-            Some(written) == log.get(..left),
-            "what was written up to {left}"
-        );
-    }
-    let served = serve_again(&rt, &texts, pinned, log.len())?;
-    assert!(rt; served.flushed, "it never failed");
-    assert!(rt; served.writer.bytes == log, "the whole log");
-    Ok(())
+    log
+}
+
+#[test]
+fn long_records_and_writers_that_fail(rt: HostRuntime) {
+    let (texts, served, pinned) = both_operations(&rt);
+    let log = log_of_both(&rt, &texts, served);
+    let requests = requests(&rt, &texts);
+    log_ends_at_the_fault(&rt, &requests, pinned, &log);
+    let (bytes, is_whole) = written(&rt, &requests, pinned, log.len());
+    assert!(rt; is_whole, "it never failed");
+    assert!(rt; bytes == log, "the whole log");
 }

@@ -1,8 +1,21 @@
-//! What a crash leaves of a device in memory, in each way that is tried.
+//! What these tests share: what they run in, devices in memory, and what a crash leaves of them, in each way that is
+//! tried.
 
 use leaf_ledger::MemoryDevice;
 use std::alloc::Global;
-use std::test::Fail;
+use std::process::Abort;
+
+/// What a test runs in.
+pub(crate) trait Host: Alloc<A = Global> + Abort {}
+
+impl<R: Alloc<A = Global> + Abort> Host for R {}
+
+/// A device in memory with this text.
+pub(crate) fn device_of(rt: &impl Host, text: &[u8]) -> MemoryDevice<Global> {
+    let alloc = rt.alloc();
+    let text = Vec::from_slice(alloc, text).expect(rt, "memory");
+    MemoryDevice::new(alloc, text).expect(rt, "memory")
+}
 
 /// What a crash leaves of an extent that was written since the last sync.
 #[derive(Clone, Copy, Debug)]
@@ -55,16 +68,17 @@ fn byte_left(device: &MemoryDevice<Global>, outcome: usize, i: usize) -> u8 {
 
 /// The device after a crash with this outcome.
 pub(crate) fn crashed(
-    alloc: Global,
+    rt: &impl Host,
     device: MemoryDevice<Global>,
     outcome: usize,
-) -> Result<MemoryDevice<Global>, Fail> {
-    let mut text = Vec::new(alloc);
+) -> MemoryDevice<Global> {
+    let mut text = Vec::new(rt.alloc());
     for i in 0..size_left(&device, outcome) {
-        text.push(byte_left(&device, outcome, i))?;
+        text.push(byte_left(&device, outcome, i))
+            .expect(rt, "memory");
     }
     match device.crash(text) {
-        Ok(device) => Ok(device),
-        Err((error, _)) => Err(Fail::new(error)),
+        Ok(device) => device,
+        Err((error, _)) => panic!(rt; "{error}"),
     }
 }

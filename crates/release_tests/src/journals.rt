@@ -2,11 +2,10 @@
 
 ghost use Rattle.std.specs.Prelude.{◌<◌, length};
 
-use crate::crashes::crashed;
+use crate::crashes::{Host, crashed, device_of};
 use client_journal::{Journal, JournalError, JournalState, Kind, Record};
 use leaf_ledger::{Device, MemoryDevice};
 use std::alloc::Global;
-use std::test::Fail;
 
 /// What a file tells. Each text has one byte.
 #[derive(Clone, Copy, Debug, PartialEq, Eq)]
@@ -96,32 +95,33 @@ static FILES: [(&[u8], Told); 18] = [
     (&[1, 1, 0, 0, 0, 1, 9, 1], Told::Damaged),
 ];
 
+/// A file tells this, and keeps its length; one of at most one byte becomes that of a new journal.
+fn file_tells(rt: &impl Host, file: &[u8], wanted: Told) {
+    let (found, device) = read_file(rt.alloc(), device_of(rt, file));
+    assert!(rt; found == wanted, "{file:?}: {found:?}");
+    assert!(rt; device.text().len() == file.len().max(1), "{file:?}");
+    assert!(rt;
+        file.len() > 1 || device.text() == [0].as_slice(),
+        "{file:?}"
+    );
+}
+
 #[test]
-fn files_tell(rt: HostRuntime) -> Result<(), Fail> {
-    let alloc = rt.alloc();
+fn files_tell(rt: HostRuntime) {
     for (file, wanted) in &FILES {
-        let device = MemoryDevice::new(alloc, Vec::from_slice(alloc, file)?)?;
-        let (found, device) = read_file(alloc, device);
-        assert!(rt; found == *wanted, "{file:?}: {found:?}");
-        // A file of at most one byte is made.
-        assert!(rt; device.text().len() == file.len().max(1), "{file:?}");
-        assert!(rt;
-            file.len() > 1 || device.text() == [0].as_slice(),
-            "{file:?}"
-        );
+        file_tells(&rt, file, *wanted);
     }
-    Ok(())
 }
 
 /// Records that follow one another, each with a text of one byte.
-const RECORDS: [(Kind, u8); 3] = [
+static RECORDS: [(Kind, u8); 3] = [
     (Kind::Certificate, 1),
     (Kind::Structure, 2),
     (Kind::Certificate, 3),
 ];
 
 /// What so many of them tell.
-const TOLD: [Told; 4] = [
+static TOLD: [Told; 4] = [
     Told::Idle,
     Told::Declared(None, 1),
     Told::Signed(2),
@@ -167,13 +167,10 @@ fn answered_before(failing: u64) -> usize {
 }
 
 /// A new device to which records are appended until a call fails. Tells how many there are then, if none failed.
-fn after_appends(
-    alloc: Global,
-    failing: u64,
-) -> Result<(Option<usize>, MemoryDevice<Global>), Fail> {
-    let mut device = MemoryDevice::new(alloc, Vec::new(alloc))?;
+fn after_appends(rt: &impl Host, failing: u64) -> (Option<usize>, MemoryDevice<Global>) {
+    let mut device = device_of(rt, b"");
     device.fail_after(failing);
-    Ok(appended(device, 0))
+    appended(device, 0)
 }
 
 /// How many calls an open makes of a file with three records, and `state` then.
@@ -189,131 +186,142 @@ struct Readings {
 }
 
 /// Appends records until a call fails, reads them, where another call may fail, and again after a crash.
-fn read_twice(alloc: Global, failing: u64, later: u64, outcome: usize) -> Result<Readings, Fail> {
-    let (_, mut device) = after_appends(alloc, failing)?;
+fn read_twice(rt: &impl Host, failing: u64, later: u64, outcome: usize) -> Readings {
+    let (_, mut device) = after_appends(rt, failing);
     let faults = device.faults();
     device.fail_after(later);
-    let (first, device) = read_file(alloc, device);
+    let (first, device) = read_file(rt.alloc(), device);
     let failed = device.faults() > faults;
-    let (second, _) = read_file(alloc, crashed(alloc, device, outcome)?);
-    Ok(Readings {
+    let (second, _) = read_file(rt.alloc(), crashed(rt, device, outcome));
+    Readings {
         first,
         failed,
         second,
-    })
+    }
+}
+
+/// A reading that fails tells nothing, and else the later one finds the same.
+fn agree(found: &Readings) -> bool {
+    match found.first {
+        Told::Nothing => found.failed,
+        told => !found.failed && told == found.second,
+    }
+}
+
+/// What is told by so many records, or by one more.
+fn is_told(told: Told, count: usize) -> bool {
+    TOLD.iter().skip(count).take(2).any(|it| *it == told)
+}
+
+/// The readings agree, and tell the records that were answered, or one more.
+fn readings_agree(rt: &impl Host, failing: u64, later: u64, outcome: usize) {
+    let found = read_twice(rt, failing, later, outcome);
+    let well = agree(&found) && (!found.failed || later < LATER_CALLS);
+    assert!(rt;
+        well && is_told(found.second, answered_before(failing)),
+        "calls {failing}, {later}, outcome {outcome}: {found:?}"
+    );
 }
 
 #[test]
-fn each_call_of_a_later_open_fails(rt: HostRuntime) -> Result<(), Fail> {
-    let alloc = rt.alloc();
+fn each_call_of_a_later_open_fails(rt: HostRuntime) {
     for failing in 0..=CALLS {
-        let before = answered_before(failing);
         for later in 0..=LATER_CALLS {
             for outcome in 0..OUTCOMES {
-                let found = read_twice(alloc, failing, later, outcome)?;
-                // A reading that fails tells nothing, and else the later one finds the same.
-                let well = match found.first {
-                    Told::Nothing => found.failed,
-                    told => !found.failed && told == found.second,
-                };
-                assert!(rt;
-                    well && (!found.failed || later < LATER_CALLS)
-                        && TOLD
-                            .iter()
-                            .skip(before)
-                            .take(2)
-                            .any(|told| *told == found.second),
-                    "calls {failing}, {later}, outcome {outcome}: {found:?}"
-                );
+                readings_agree(&rt, failing, later, outcome);
             }
         }
     }
-    Ok(())
 }
 
 /// How many records there are after a crash with this outcome, and the device.
 fn count_after(
-    alloc: Global,
+    rt: &impl Host,
     failing: u64,
     outcome: usize,
-) -> Result<(Option<usize>, MemoryDevice<Global>), Fail> {
-    let (_, device) = after_appends(alloc, failing)?;
-    let (found, device) = read_file(alloc, crashed(alloc, device, outcome)?);
-    Ok((TOLD.iter().position(|told| *told == found), device))
+) -> (Option<usize>, MemoryDevice<Global>) {
+    let (_, device) = after_appends(rt, failing);
+    let (found, device) = read_file(rt.alloc(), crashed(rt, device, outcome));
+    (TOLD.iter().position(|told| *told == found), device)
+}
+
+/// A crash leaves the records that were answered, or one more, and the journal goes on from there.
+fn leaves_records(rt: &impl Host, failing: u64, outcome: usize) {
+    let before = answered_before(failing);
+    let (count, device) = count_after(rt, failing, outcome);
+    let count = count.expect(rt, "it tells records");
+    assert!(rt;
+        count == before || count == before.saturating_add(1),
+        "call {failing}, outcome {outcome}: {count}"
+    );
+    let (well, device) = appended(device, count);
+    let (last, _) = read_file(rt.alloc(), device);
+    assert!(rt;
+        well == Some(3) && last == TOLD[3],
+        "call {failing}, outcome {outcome}: {last:?}"
+    );
 }
 
 #[test]
-fn crashes_leave_records(rt: HostRuntime) -> Result<(), Fail> {
-    let alloc = rt.alloc();
+fn crashes_leave_records(rt: HostRuntime) {
     for failing in 0..=CALLS {
-        let before = answered_before(failing);
         for outcome in 0..OUTCOMES {
-            let (count, device) = count_after(alloc, failing, outcome)?;
-            let count = count.expect(&rt, "it tells records");
-            assert!(rt;
-                count == before || count == before.saturating_add(1),
-                "call {failing}, outcome {outcome}: {count}"
-            );
-            // It goes on from there.
-            let (well, device) = appended(device, count);
-            let (last, _) = read_file(alloc, device);
-            assert!(rt;
-                well == Some(3) && last == TOLD[3],
-                "call {failing}, outcome {outcome}: {last:?}"
-            );
+            leaves_records(&rt, failing, outcome);
         }
     }
-    Ok(())
 }
 
 #[test]
-fn a_failed_call_is_answered(rt: HostRuntime) -> Result<(), Fail> {
-    let alloc = rt.alloc();
+fn a_failed_call_is_answered(rt: HostRuntime) {
     for failing in 0..=CALLS {
-        let (well, _) = after_appends(alloc, failing)?;
+        let (well, _) = after_appends(&rt, failing);
         assert!(rt; well == (failing == CALLS).then_some(3), "call {failing}");
     }
-    Ok(())
 }
 
 /// What the journal tells after a crash that left the gate so, once it was opened and not synced.
-fn gate_left(alloc: Global, outcome: usize) -> Result<Told, Fail> {
-    let (_, device) = after_appends(alloc, OPEN_CALLS + 5)?;
-    let (found, _) = read_file(alloc, crashed(alloc, device, outcome)?);
-    Ok(found)
+fn gate_left(rt: &impl Host, outcome: usize) -> Told {
+    let (_, device) = after_appends(rt, OPEN_CALLS + 5);
+    let (found, _) = read_file(rt.alloc(), crashed(rt, device, outcome));
+    found
+}
+
+/// A gate that is left 00, 01 and 7f, and how many records are told then.
+static GATES: [(usize, usize); 3] = [(2, 0), (3, 1), (4, 0)];
+
+#[test]
+fn gates_tell(rt: HostRuntime) {
+    for (outcome, count) in &GATES {
+        let found = gate_left(&rt, *outcome);
+        assert!(rt; TOLD.get(*count) == Some(&found), "outcome {outcome}");
+    }
 }
 
 /// Opens a journal, appends a record of this kind where it is its turn, and closes it.
 fn appended_once(
+    rt: &impl Host,
     device: MemoryDevice<Global>,
     kind: Kind,
     text: &[u8],
-) -> Result<MemoryDevice<Global>, Fail>
+) -> MemoryDevice<Global>
     requires { length text.now < 4294967296 }
 {
     let Ok(mut journal) = Journal::open(device) else {
-        return Err(Fail::new("it wasn't opened"));
+        panic!(rt; "it wasn't opened");
     };
     if journal.usable() && journal.next() == kind {
         let _ = journal.append(Record { kind, text });
     }
-    Ok(journal.close())
+    journal.close()
 }
 
+/// A signed certificate without changes, and the structure after it.
 #[test]
-fn gates_and_sizes(rt: HostRuntime) -> Result<(), Fail> {
-    let alloc = rt.alloc();
-    // A gate left 00, 01 and 7f.
-    for (outcome, wanted) in [(2, TOLD[0]), (3, TOLD[1]), (4, TOLD[0])] {
-        assert!(rt; gate_left(alloc, outcome)? == wanted, "outcome {outcome}");
-    }
-    // A signed certificate without changes, and the structure after it.
-    let device = MemoryDevice::new(alloc, Vec::new(alloc))?;
-    let device = appended_once(device, Kind::Certificate, &[5; 2550])?;
+fn sizes_of_records(rt: HostRuntime) {
+    let device = appended_once(&rt, device_of(&rt, b""), Kind::Certificate, &[5; 2550]);
     assert_eq!(rt; device.text().len(), 2557);
-    let device = appended_once(device, Kind::Structure, &[6; 2595])?;
+    let device = appended_once(&rt, device, Kind::Structure, &[6; 2595]);
     assert_eq!(rt; device.text().len(), 5158);
-    Ok(())
 }
 
 static ERRORS: [(JournalError, &str); 3] = [

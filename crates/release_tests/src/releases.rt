@@ -5,32 +5,20 @@ ghost use Rattle.std.specs.Prelude.{◌≡◌};
 ghost use Rattle.version_order.specs.Structure.{structure as structure_format};
 ghost use Rattle.update_cert.specs.Cert.{Cert as PureCert, cert};
 
+use crate::crashes::{Host, device_of};
 use client_releases::{ClientError, Parts, Phase, Releases, Unsigned};
 use layout::{Digest, Text, User, Version};
 use leaf_ledger::MemoryDevice;
 use lms_sign::{PrivateKey, SIGNATURE_SIZE, verify};
 use std::alloc::Global;
-use std::process::Abort;
 use update_cert::cert_text;
 use version_order::{Entries, GroupRecords, Plan, Structure, Vector};
-
-/// What a test runs in.
-trait Host: Alloc<A = Global> + Abort {}
-
-impl<R: Alloc<A = Global> + Abort> Host for R {}
 
 /// Releases over devices in memory.
 type InMemory = Releases<MemoryDevice<Global>, MemoryDevice<Global>, Global>;
 
 /// What they are opened over.
 type Kept = Parts<MemoryDevice<Global>, MemoryDevice<Global>, Global>;
-
-/// A device in memory with this text.
-fn device_of(rt: &impl Host, text: &[u8]) -> MemoryDevice<Global> {
-    let alloc = rt.alloc();
-    let text = Vec::from_slice(alloc, text).expect(rt, "memory");
-    MemoryDevice::new(alloc, text).expect(rt, "memory")
-}
 
 /// A key and devices of which nothing was made yet.
 fn nothing_yet(rt: &impl Host) -> Kept {

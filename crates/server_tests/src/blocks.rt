@@ -1,10 +1,10 @@
 //! Blocks that are put and fetched, by one thread and by two.
 
+use crate::by_hand::Host;
 use block_store::{BLOCK_LIMIT, Store, StoreError};
 use layout::Digest;
 use std::alloc::Global;
 use std::sync::Wait;
-use std::test::Fail;
 use std::thread;
 
 /// The SHA-256 of no bytes (FIPS 180-4's own vector).
@@ -15,8 +15,10 @@ const EMPTY: [u8; 32] = [
 
 /// What the store answers to a block: the digest of its pass.
 fn put<R: Wait>(rt: &R, store: &Store<Global>, bytes: &[u8]) -> Result<Digest, StoreError> {
-    let pass = store.put(rt, bytes)?;
-    Ok(pass.digest())
+    match store.put(rt, bytes) {
+        Ok(pass) => Ok(pass.digest()),
+        Err(error) => Err(error),
+    }
 }
 
 /// Whether the store gives these bytes for the digest.
@@ -27,48 +29,38 @@ fn gives<R: Wait>(rt: &R, store: &Store<Global>, digest: Digest, bytes: &[u8]) -
     }
 }
 
+/// Whether the store has no block of this digest.
+fn lacks(rt: &impl Host, store: &Store<Global>, digest: Digest) -> bool {
+    store.fetch(rt, digest).expect(rt, "memory").is_none()
+}
+
+/// Whether a block is put under this digest, and given.
+fn takes(rt: &impl Host, store: &Store<Global>, digest: Digest, bytes: &[u8]) -> bool {
+    put(rt, store, bytes) == Ok(digest) && gives(rt, store, digest, bytes)
+}
+
 #[test]
-fn the_empty_block_is_found(rt: HostRuntime) -> Result<(), Fail> {
+fn the_empty_block_is_found(rt: HostRuntime) {
     let store = Store::new(rt.alloc());
     let empty = Digest::from_bytes(EMPTY);
-    assert!(rt; store.fetch(&rt, empty)?.is_none(), "before the put");
-    assert!(rt; put(&rt, &store, &[])? == empty, "the digest");
-    assert!(rt; gives(&rt, &store, empty, &[]), "after the put");
+    assert!(rt; lacks(&rt, &store, empty), "before the put");
+    assert!(rt; takes(&rt, &store, empty, &[]), "put and got");
     // Again: the block stays, beside others.
-    assert!(rt; put(&rt, &store, &[])? == empty, "the digest again");
-    let other = put(&rt, &store, &[1])?;
+    assert!(rt; put(&rt, &store, &[]) == Ok(empty), "the digest again");
     assert!(rt;
-        gives(&rt, &store, empty, &[]) && gives(&rt, &store, other, &[1]),
-        "both"
+        takes(&rt, &store, layout::digest(&[1]), &[1]),
+        "another one"
     );
+    assert!(rt; gives(&rt, &store, empty, &[]), "the first, beside it");
     assert!(rt;
-        store.fetch(&rt, Digest::from_bytes([0; 32]))?.is_none(),
+        lacks(&rt, &store, Digest::from_bytes([0; 32])),
         "no such block"
     );
-    Ok(())
 }
-
-#[test]
-fn the_largest_block_passes(rt: HostRuntime) -> Result<(), Fail> {
-    let store = Store::new(rt.alloc());
-    let mut bytes = vec![in rt.alloc(); 7u8; 32_779]?;
-    let digest = put(&rt, &store, &bytes)?;
-    assert!(rt; gives(&rt, &store, digest, &bytes), "32,779 bytes");
-    bytes.push(7)?;
-    assert!(rt;
-        put(&rt, &store, &bytes) == Err(StoreError::TooLarge),
-        "32,780 bytes"
-    );
-    assert!(rt; BLOCK_LIMIT == 32_779, "the limit");
-    Ok(())
-}
-
-/// The sizes at which blocks of the file system begin or end, and those beside them.
-const SIZES: [usize; 9] = [0, 1, 999, 1_000, 4_095, 4_096, 4_097, 32_778, 32_779];
 
 /// A block of so many bytes, which begins with a number where it has room for it.
 fn sized(alloc: Global, size: usize, number: u8) -> Result<Vec<u8>, StoreError> {
-    let Ok(mut bytes) = vec![in alloc; 0x5a_u8; size] else {
+    let Ok(mut bytes) = Vec::from_elem(alloc, 0x5a_u8, size) else {
         return Err(StoreError::Memory);
     };
     if let Some(first) = bytes.first_mut() {
@@ -77,70 +69,99 @@ fn sized(alloc: Global, size: usize, number: u8) -> Result<Vec<u8>, StoreError> 
     Ok(bytes)
 }
 
+/// The same, where the test fails without memory.
+fn block(rt: &impl Host, size: usize, number: u8) -> Vec<u8> {
+    sized(rt.alloc(), size, number).expect(rt, "memory")
+}
+
+/// Whether the block of this size and number is given.
+fn gives_sized(rt: &impl Host, store: &Store<Global>, size: usize, number: u8) -> bool {
+    let bytes = block(rt, size, number);
+    gives(rt, store, layout::digest(&bytes), &bytes)
+}
+
 #[test]
-fn blocks_of_all_sizes_are_found(rt: HostRuntime) -> Result<(), Fail> {
+fn the_largest_block_passes(rt: HostRuntime) {
     let store = Store::new(rt.alloc());
-    for size in SIZES {
+    let mut bytes = Vec::from_elem(rt.alloc(), 7_u8, 32_779).expect(&rt, "memory");
+    let digest = layout::digest(&bytes);
+    assert!(rt; takes(&rt, &store, digest, &bytes), "32,779 bytes");
+    bytes.push(7).expect(&rt, "memory");
+    assert!(rt;
+        put(&rt, &store, &bytes) == Err(StoreError::TooLarge),
+        "32,780 bytes"
+    );
+    assert!(rt; BLOCK_LIMIT == 32_779, "the limit");
+}
+
+/// The sizes at which blocks of the file system begin or end, and those beside them.
+static SIZES: [usize; 9] = [0, 1, 999, 1_000, 4_095, 4_096, 4_097, 32_778, 32_779];
+
+/// Puts the block of this size and number. It isn't there before, but for the empty one, which has no number.
+fn put_sized(rt: &impl Host, store: &Store<Global>, size: usize, number: u8) {
+    let bytes = block(rt, size, number);
+    let digest = layout::digest(&bytes);
+    assert!(rt;
+        lacks(rt, store, digest) != (size == 0 && number > 0),
+        "{size} bytes, before"
+    );
+    assert!(rt; takes(rt, store, digest, &bytes), "{size} bytes, put");
+}
+
+/// The blocks of this size are given, with each of these numbers.
+fn gives_numbers(rt: &impl Host, store: &Store<Global>, size: usize, numbers: &[u8]) {
+    for number in numbers {
+        assert!(rt;
+            gives_sized(rt, store, size, *number),
+            "{size} bytes, number {number}"
+        );
+    }
+}
+
+#[test]
+fn blocks_of_all_sizes_are_found(rt: HostRuntime) {
+    let store = Store::new(rt.alloc());
+    for size in &SIZES {
         for number in 0..3u8 {
-            let bytes = sized(rt.alloc(), size, number)?;
-            let wanted = layout::digest(&bytes);
-            let is_known = store.fetch(&rt, wanted)?.is_some();
-            assert!(rt;
-                is_known == (size == 0 && number > 0),
-                "{size} bytes, before"
-            );
-            assert!(rt;
-                put(&rt, &store, &bytes)? == wanted,
-                "{size} bytes, their digest"
-            );
-            assert!(rt; gives(&rt, &store, wanted, &bytes), "{size} bytes, put");
+            put_sized(&rt, &store, *size, number);
         }
     }
     // After all of them, in the other order.
     for size in SIZES.iter().rev() {
-        for number in 0..3u8 {
-            let bytes = sized(rt.alloc(), *size, number)?;
-            let digest = layout::digest(&bytes);
-            assert!(rt;
-                gives(&rt, &store, digest, &bytes),
-                "{size} bytes, at the end"
-            );
-        }
+        gives_numbers(&rt, &store, *size, &[0, 1, 2]);
     }
-    Ok(())
 }
 
+/// Sizes of blocks that are too large, up to that of the largest frame.
+static TOO_LARGE: [usize; 4] = [32_780, 32_781, 65_536, 2_097_151];
+
 #[test]
-fn larger_blocks_are_refused(rt: HostRuntime) -> Result<(), Fail> {
+fn larger_blocks_are_refused(rt: HostRuntime) {
     let store = Store::new(rt.alloc());
-    for size in [32_780, 32_781, 65_536, 2_097_151] {
-        let bytes = sized(rt.alloc(), size, 1)?;
+    for size in &TOO_LARGE {
+        let bytes = block(&rt, *size, 1);
         assert!(rt;
             put(&rt, &store, &bytes) == Err(StoreError::TooLarge),
             "{size} bytes"
         );
         let digest = layout::digest(&bytes);
-        assert!(rt;
-            store.fetch(&rt, digest)?.is_none(),
-            "{size} bytes, not stored"
-        );
+        assert!(rt; lacks(&rt, &store, digest), "{size} bytes, not stored");
     }
-    Ok(())
 }
 
 /// Puts a block of each size and number, and then fetches all of them. Tells how many came as they were put.
 fn fill_sizes<R: Wait>(rt: &R, alloc: Global, store: &Store<Global>, numbers: [u8; 4]) -> u32 {
     let mut found = 0u32;
-    for size in SIZES {
+    for size in &SIZES {
         for number in numbers {
-            if let Ok(bytes) = sized(alloc, size, number) {
+            if let Ok(bytes) = sized(alloc, *size, number) {
                 let _put = put(rt, store, &bytes);
             }
         }
     }
-    for size in SIZES {
+    for size in &SIZES {
         for number in numbers {
-            if let Ok(bytes) = sized(alloc, size, number) {
+            if let Ok(bytes) = sized(alloc, *size, number) {
                 if gives(rt, store, layout::digest(&bytes), &bytes) {
                     found = found.wrapping_add(1);
                 }
@@ -151,7 +172,7 @@ fn fill_sizes<R: Wait>(rt: &R, alloc: Global, store: &Store<Global>, numbers: [u
 }
 
 #[test]
-fn two_threads_put_blocks_of_all_sizes(rt: HostRuntime) -> Result<(), Fail> {
+fn two_threads_put_blocks_of_all_sizes(rt: HostRuntime) {
     let alloc = rt.alloc();
     let store = Store::new(alloc);
     let (first, second) = thread::join(
@@ -160,17 +181,9 @@ fn two_threads_put_blocks_of_all_sizes(rt: HostRuntime) -> Result<(), Fail> {
         || fill_sizes(&rt, alloc, &store, [3, 4, 5, 6]),
     );
     assert_eq!(rt; (first, second), (36, 36));
-    for size in SIZES {
-        for number in 1..=6u8 {
-            let bytes = sized(alloc, size, number)?;
-            let digest = layout::digest(&bytes);
-            assert!(rt;
-                gives(&rt, &store, digest, &bytes),
-                "{size} bytes, number {number}"
-            );
-        }
+    for size in &SIZES {
+        gives_numbers(&rt, &store, *size, &[1, 2, 3, 4, 5, 6]);
     }
-    Ok(())
 }
 
 /// Puts the blocks of these numbers and fetches each. Tells how many came as they were put.
@@ -188,7 +201,7 @@ fn fill<R: Wait>(rt: &R, store: &Store<Global>, from: u32, to: u32) -> u32 {
 }
 
 #[test]
-fn two_threads_put_and_fetch(rt: HostRuntime) -> Result<(), Fail> {
+fn two_threads_put_and_fetch(rt: HostRuntime) {
     let store = Store::new(rt.alloc());
     // Both put the blocks 1,000 to 1,999.
     let (first, second) = thread::join(
@@ -202,5 +215,4 @@ fn two_threads_put_and_fetch(rt: HostRuntime) -> Result<(), Fail> {
         let digest = layout::digest(&bytes);
         assert!(rt; gives(&rt, &store, digest, &bytes), "block {number}");
     }
-    Ok(())
 }

@@ -3,12 +3,9 @@
 ghost use Rattle.std.specs.Prelude.{◌≤◌, None};
 ghost use Rattle.leaf_ledger.specs.Device.{HasRisen};
 
-use crate::by_hand::conversed;
+use crate::by_hand::{Host, conversed};
 use crate::requests::key;
-use lms_sign::PublicKey;
 use server_workers::{Connection, ConnectionFault, Ended, OpenGate};
-use std::process::Abort;
-use std::sync::Wait;
 
 /// A connection of which the first reads give these bytes each, and every later read and every write fails. It notes
 /// what it was asked for.
@@ -127,13 +124,10 @@ static CASES: [Case; 4] = [
 ];
 
 /// The conversation ends by a fault, the only one, after so many calls, reads and writes.
-fn ends_by_a_fault<R: AllocGlobal + Abort + Wait>(rt: &R, case: &Case) {
-    let alloc = rt.alloc();
-    let pinned = PublicKey::from_bytes(key()).expect(rt, "a key");
+fn ends_by_a_fault<R: Host>(rt: &R, case: &Case) {
     let mut connection = Failing::new(case.request, case.good);
-    let log = Vec::new(alloc);
-    let conversation = conversed(rt, alloc, &OpenGate, pinned, &mut connection, log);
-    let (ended, answered, log) = conversation.expect(rt, "memory");
+    let log = Vec::new(rt.alloc());
+    let (ended, answered, log) = conversed(rt, &OpenGate, key(rt), &mut connection, log);
     assert_eq!(rt; (ended, connection.faults()), (Ended::Fault, 1));
     assert_eq!(rt; (answered, connection.reads), (case.answered, case.reads));
     assert_eq!(rt;
