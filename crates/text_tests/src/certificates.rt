@@ -8,7 +8,7 @@ use std::alloc::Global;
 use test_aids::numbers::{entry, i_number, name, principal};
 use test_aids::texts::{certificate, joined};
 use test_aids::{Host, check, check_text};
-use update_cert::{Action, Cert, Change, Work};
+use update_cert::{Action, AnyAction, Cert, Change};
 
 /// A change: its bytes, and what they say.
 struct Case {
@@ -117,9 +117,9 @@ fn target(action: &Action<Global>) -> Option<(u8, u16)> {
 
 /// What a change does at its i-number.
 fn action_at<'a>(rt: &impl Host, change: &'a Change<Global>) -> &'a Action<Global> {
-    let action = match change.work() {
-        Work::At(action) => Some(action),
-        Work::OfTable(_) => None,
+    let action = match change.action() {
+        AnyAction::At(action) => Some(action),
+        AnyAction::OfTable(_) => None,
     };
     action.expect(rt, "an action at an i-number")
 }

@@ -8,7 +8,7 @@ use principals::Table;
 use std::alloc::Global;
 use test_aids::texts::joined;
 use test_aids::{Aided, Host, check_text};
-use update_cert::{Cert, Change, TableChange, Work, apply_table, table_after};
+use update_cert::{AnyAction, Cert, Change, TableChange, apply_table, table_after};
 
 /// Forms of keys, without meaning: user 0's, and user 1's.
 const PINNED: &[u8; 56] =
@@ -71,7 +71,7 @@ fn text_of_the_tables_changes(rt: HostRuntime) {
     let again: Cert<Global> = Cert::read(rt.alloc(), &by_hand).expect(&rt, "a certificate");
     for change in again.changes() {
         assert!(rt; change.principal().get() == 0 && change.i_number().get() == 1);
-        assert!(rt; matches!(change.work(), Work::OfTable(_)));
+        assert!(rt; matches!(change.action(), AnyAction::OfTable(_)));
     }
 }
 
@@ -96,6 +96,24 @@ fn check_table(rt: &impl Host, table: &Table<Global>, row: &[u8; 10]) {
     assert!(rt; text.len() == 139);
 }
 
+/// The table after user 0's second operation, told without changing the one before.
+fn after_second_drop(rt: &impl Host, table: &Table<Global>, second: &Cert<Global>) {
+    let after = table_after(rt.alloc(), table, second).expect(rt, "memory");
+    check_table(
+        rt,
+        &after.expect(rt, "a table"),
+        b"\x40\x01\0\0\0\x01\0\0\0\x02",
+    );
+}
+
+/// Another user's changes leave the table as it was.
+fn others_drop_nobody(rt: &impl Host, table: &mut Table<Global>, others: &Cert<Global>) {
+    applied(rt, table, others, &[1, 2]);
+    check_table(rt, table, b"\x40\x01\0\0\0\x01\0\0\0\0");
+    let after = table_after(rt.alloc(), table, others).expect(rt, "memory");
+    assert!(rt; after.is_none());
+}
+
 #[test]
 fn table_of_three_operations(rt: HostRuntime) {
     let rt = (rt, Here);
@@ -104,21 +122,9 @@ fn table_of_three_operations(rt: HostRuntime) {
     applied(&rt, &mut table, &first(&rt), &[3, 4]);
     check_table(&rt, &table, b"\x40\x01\0\0\0\x01\0\0\0\0");
     let dropped = [TableChange::DropMember(group, one); 2];
-    let others = cert_of(&rt, one, 1, &dropped);
-    applied(&rt, &mut table, &others, &[1, 2]);
-    check_table(&rt, &table, b"\x40\x01\0\0\0\x01\0\0\0\0");
-    assert!(rt;
-        table_after(rt.alloc(), &table, &others)
-            .expect(&rt, "memory")
-            .is_none()
-    );
+    others_drop_nobody(&rt, &mut table, &cert_of(&rt, one, 1, &dropped));
     let second = cert_of(&rt, User::superuser(), 2, &dropped);
-    let after = table_after(rt.alloc(), &table, &second).expect(&rt, "memory");
-    check_table(
-        &rt,
-        &after.expect(&rt, "a table"),
-        b"\x40\x01\0\0\0\x01\0\0\0\x02",
-    );
+    after_second_drop(&rt, &table, &second);
     applied(&rt, &mut table, &second, &[2]);
     assert!(rt; table.is_member(group, one, 1) && !table.is_member(group, one, 2));
 }

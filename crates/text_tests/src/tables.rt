@@ -66,24 +66,52 @@ fn text_of_one_member(rt: HostRuntime) {
     check_table(&rt, &table, &text);
 }
 
+/// A table in which user 1 is listed at operation 2, a member of group 64 from 3 to 4, and again from 8.
+fn member_twice(rt: &impl Host) -> Table<Global> {
+    let mut table = Table::genesis(rt.alloc(), key(rt));
+    let (one, friends) = (user(rt, 1), principal(rt, 64));
+    table
+        .add_user(version(rt, 2), one, key(rt))
+        .expect(rt, "a new user");
+    table
+        .add_member(version(rt, 3), friends, one)
+        .expect(rt, "a new member");
+    table
+        .drop_member(version(rt, 5), friends, one)
+        .expect(rt, "a member");
+    table
+        .add_member(version(rt, 8), friends, one)
+        .expect(rt, "no member now");
+    table
+}
+
+/// User 1 is a member of group 64 at this number, or it isn't; neither of another group, nor is another user.
+fn is_member_at(rt: &impl Host, table: &Table<Global>, number: u32, is: bool) {
+    let (one, friends) = (user(rt, 1), group(rt, 64));
+    assert_eq!(rt; table.is_member(friends, one, number), is, "at {number}");
+    assert!(rt;
+        !table.is_member(group(rt, 65), one, number),
+        "another group"
+    );
+    assert!(rt;
+        !table.is_member(friends, user(rt, 0), number),
+        "another user"
+    );
+}
+
+/// User 1 is listed at operation 2, and nobody after it.
+fn one_is_listed(rt: &impl Host, table: &Table<Global>) {
+    let one = user(rt, 1);
+    assert_eq!(rt; table.since(one), Some(2));
+    assert!(rt; table.is_listed(one, 2) && !table.is_listed(one, 1));
+    assert!(rt; table.key_of(one) == Some(key(rt)) && table.key_of(user(rt, 2)).is_none());
+}
+
 /// A member at operation 3, dropped at 5, and taken in again at 8.
 #[test]
 fn membership_at_versions(rt: HostRuntime) {
     let rt = (rt, Here);
-    let mut table = Table::genesis(rt.alloc(), key(&rt));
-    let (one, friends) = (user(&rt, 1), principal(&rt, 64));
-    table
-        .add_user(version(&rt, 2), one, key(&rt))
-        .expect(&rt, "a new user");
-    table
-        .add_member(version(&rt, 3), friends, one)
-        .expect(&rt, "a new member");
-    table
-        .drop_member(version(&rt, 5), friends, one)
-        .expect(&rt, "a member");
-    table
-        .add_member(version(&rt, 8), friends, one)
-        .expect(&rt, "no member now");
+    let table = member_twice(&rt);
     let rows = [
         (0, false),
         (2, false),
@@ -92,26 +120,12 @@ fn membership_at_versions(rt: HostRuntime) {
         (5, false),
         (7, false),
         (8, true),
-        (4294967295, true),
+        (u32::MAX, true),
     ];
     for (number, is) in rows {
-        assert_eq!(rt;
-            table.is_member(group(&rt, 64), one, number),
-            is,
-            "at {number}"
-        );
-        assert!(rt;
-            !table.is_member(group(&rt, 65), one, number),
-            "another group"
-        );
-        assert!(rt;
-            !table.is_member(group(&rt, 64), user(&rt, 0), number),
-            "another user"
-        );
+        is_member_at(&rt, &table, number, is);
     }
-    assert_eq!(rt; table.since(one), Some(2));
-    assert!(rt; table.is_listed(one, 2) && !table.is_listed(one, 1));
-    assert!(rt; table.key_of(one) == Some(key(&rt)) && table.key_of(user(&rt, 2)).is_none());
+    one_is_listed(&rt, &table);
 }
 
 #[test]
