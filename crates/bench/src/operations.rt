@@ -5,7 +5,8 @@
 //! seen all structures. A signature that the client has seen under its key isn't verified again, so that it verifies
 //! 63 structures in the first setting, and the certificates of those that wait in the second.
 //!
-//! `update` is the server's call that places the certificate, where it verifies one signature. `on_reply` is the
+//! Each operation puts a small file anew. `begin` is the client's declaration, where it signs the certificate.
+//! `update` is the server's call that places it, where it verifies one signature. `on_reply` is the
 //! client's judgement of the reply, with all blocks that it asks for. `sign` is one signature of the client's.
 //! `commit` is the server's call that takes the structure, where it verifies one signature. `whole` is the sum.
 //! Beside the microseconds of each stands, in parts of a hundred, what its signatures and verifications alone take:
@@ -19,14 +20,15 @@ use anyhow::{Result, anyhow};
 use client_tree::Held;
 use client_verify::{Client, ClientError, Phase, Step, are_laid};
 use consistency_server::{Answer, MemoryLog, Ordered};
-use layout::{Digest, User};
+use itable::{Laid, lay_file};
+use layout::{Digest, INumber, User, digest};
 use leaf_ledger::MemoryDevice;
 use lms_sign::{Leaf, PrivateKey, PublicKey, sign, verify};
 use plain_user::PlainUser;
 use std::alloc::Global;
 use std::rt::Clock;
 use std::time::{Duration, Instant};
-use update_cert::{Blocks, Change, TableChange};
+use update_cert::{Action, Blocks, Change, TableChange};
 use wire::Status;
 
 /// How many others there are, and how many of them are pending in turn.
@@ -49,6 +51,9 @@ const LEAVES: u32 = 255;
 /// How many changes a certificate has at most.
 const MOST_CHANGES: usize = 16;
 
+/// Where user 0's files are put.
+const PLACE: u16 = 3;
+
 /// A client whose devices are in memory.
 type MemoryClient = Client<MemoryDevice<Global>, MemoryDevice<Global>, Global>;
 
@@ -61,12 +66,20 @@ struct World {
     others: Vec<PlainUser>,
 }
 
-/// User 0's client, and the stored blocks.
+/// User 0's client, the stored blocks, and how many files it has put.
 #[derive(Drop)]
 struct Own {
     alloc: Global,
     client: MemoryClient,
     store: Held<Global>,
+    files: u32,
+}
+
+/// Changes, and the texts that they name.
+#[derive(Drop)]
+struct Work {
+    changes: Vec<Change<Global>>,
+    laid: Vec<Vec<u8>>,
 }
 
 /// All of them.
@@ -85,6 +98,7 @@ fn let_go<T: Drop>(value: T) {
 /// The times of the calls of an operation.
 #[derive(Clone, Copy)]
 struct Calls {
+    begin: Duration,
     update: Duration,
     on_reply: Duration,
     sign: Duration,
@@ -94,6 +108,7 @@ struct Calls {
 /// The times of the calls of several operations.
 #[derive(Drop)]
 struct Rounds {
+    begin: Vec<Duration>,
     update: Vec<Duration>,
     on_reply: Vec<Duration>,
     sign: Vec<Duration>,
@@ -103,6 +118,7 @@ struct Rounds {
 /// The seconds of the calls of an operation.
 #[derive(Clone, Copy)]
 struct Times {
+    begin: f64,
     update: f64,
     on_reply: f64,
     sign: f64,
@@ -112,7 +128,7 @@ struct Times {
 impl Times {
     /// Those of all calls.
     fn whole(self) -> f64 {
-        self.update + self.on_reply + self.sign + self.commit
+        self.begin + self.update + self.on_reply + self.sign + self.commit
     }
 }
 
@@ -124,10 +140,11 @@ struct Units {
 }
 
 impl Units {
-    /// What signing and verifying take of each call: the server verifies a certificate and a structure, the client so
-    /// many texts of others, and signs a structure.
+    /// What signing and verifying take of each call: the client signs a certificate and a structure, and verifies so
+    /// many texts of others; the server verifies a certificate and a structure.
     fn needed(self, verified: u32) -> Times {
         Times {
+            begin: self.sign,
             update: self.verify,
             on_reply: f64::from(verified) * self.verify,
             sign: self.sign,
@@ -169,6 +186,7 @@ impl Rounds {
     /// Before the first one.
     fn new(alloc: Global) -> Rounds {
         Rounds {
+            begin: Vec::new(alloc),
             update: Vec::new(alloc),
             on_reply: Vec::new(alloc),
             sign: Vec::new(alloc),
@@ -178,6 +196,7 @@ impl Rounds {
 
     /// One more.
     fn add(&mut self, calls: Calls) -> Result<()> {
+        self.begin.push(calls.begin)?;
         self.update.push(calls.update)?;
         self.on_reply.push(calls.on_reply)?;
         self.sign.push(calls.sign)?;
@@ -188,6 +207,7 @@ impl Rounds {
     /// The middle time of each call.
     fn middles(self) -> Result<Times> {
         Ok(Times {
+            begin: middle(self.begin)?,
             update: middle(self.update)?,
             on_reply: middle(self.on_reply)?,
             sign: middle(self.sign)?,
@@ -314,16 +334,37 @@ impl World {
 }
 
 impl Own {
-    /// Declares an operation of these changes, which name no text.
-    fn declare(&mut self, changes: &[Change<Global>]) -> Result<Vec<u8>> {
-        let laid = Vec::new(self.alloc);
-        if self.client.phase() != Phase::Idle || changes.len() > MOST_CHANGES {
+    /// The next file, at user 0's i-number of such files: the first one is made there, and each other one put.
+    fn next_file(&mut self) -> Result<Work> {
+        let Laid { inode, blocks } = lay_file(self.alloc, &self.files.to_be_bytes())?;
+        let named = digest(&inode);
+        let action = match self.files {
+            0 => Action::Make(named),
+            _ => Action::Put(named),
+        };
+        self.files = self.files.wrapping_add(1);
+        let Some(place) = INumber::new(PLACE) else {
+            return Err(anyhow!("no such i-number"));
+        };
+        let mut changes = Vec::new(self.alloc);
+        changes.push(Change::new(User::superuser().into(), place, action))?;
+        let mut laid = blocks;
+        laid.push(inode)?;
+        Ok(Work { changes, laid })
+    }
+
+    /// Declares an operation: the certificate, and the time of the call.
+    fn timed_begin(&mut self, clock: &impl Clock, work: &Work) -> Result<(Vec<u8>, Duration)> {
+        if self.client.phase() != Phase::Idle || work.changes.len() > MOST_CHANGES {
             return Err(anyhow!("no operation can begin"));
         }
-        if !are_laid(self.alloc, &laid, changes)? {
+        if !are_laid(self.alloc, &work.laid, &work.changes)? {
             return Err(anyhow!("a text isn't laid out"));
         }
-        Ok(self.client.begin(changes, &laid)?)
+        let start = Instant::now(clock)?;
+        let certificate = self.client.begin(&work.changes, &work.laid)?;
+        let time = start.elapsed(clock)?;
+        Ok((certificate, time))
     }
 
     /// Hands a reply to the client.
@@ -390,19 +431,26 @@ impl Own {
 
 impl Scene {
     /// An operation of user 0's, with the time of each call.
-    fn operate(&mut self, clock: &impl Clock, changes: &[Change<Global>]) -> Result<Calls> {
-        let certificate = self.own.declare(changes)?;
+    fn operate(&mut self, clock: &impl Clock, work: &Work) -> Result<Calls> {
+        let (certificate, begin) = self.own.timed_begin(clock, work)?;
         let (reply, update) = self.world.timed_place(clock, &certificate)?;
         let on_reply = self.own.timed_judge(clock, &reply)?;
         let (structure, sign) = self.own.timed_sign(clock)?;
         let commit = self.world.timed_commit(clock, &structure)?;
         self.own.end()?;
         Ok(Calls {
+            begin,
             update,
             on_reply,
             sign,
             commit,
         })
+    }
+
+    /// An operation that puts the next file.
+    fn put_file(&mut self, clock: &impl Clock) -> Result<Calls> {
+        let work = self.own.next_file()?;
+        self.operate(clock, &work)
     }
 
     /// User 0 lists the others from this one on, as many as an operation takes.
@@ -413,7 +461,8 @@ impl Scene {
                 changes.push(self.world.listing(number)?)?;
             }
         }
-        let _times = self.operate(clock, &changes)?;
+        let laid = Vec::new(self.world.alloc);
+        let _times = self.operate(clock, &Work { changes, laid })?;
         Ok(())
     }
 
@@ -428,9 +477,9 @@ impl Scene {
     /// An operation while so many others are pending, once the client has seen all structures.
     fn measure_beside(&mut self, clock: &impl Clock, pending: u32) -> Result<Calls> {
         self.world.empty_log()?;
-        let _seen = self.operate(clock, &[])?;
+        let _seen = self.put_file(clock)?;
         let replies = self.world.place_others(pending)?;
-        let calls = self.operate(clock, &[])?;
+        let calls = self.put_file(clock)?;
         self.world.commit_others(&replies)?;
         Ok(calls)
     }
@@ -440,7 +489,7 @@ impl Scene {
         match setting {
             Setting::AllNew => {
                 self.world.operate_each()?;
-                self.operate(clock, &[])
+                self.put_file(clock)
             }
             Setting::Beside(pending) => self.measure_beside(clock, pending),
         }
@@ -499,6 +548,7 @@ fn new_own(alloc: Global, key: PrivateKey<Global>) -> Result<Own> {
         alloc,
         client: new_client(alloc, key)?,
         store: Held::empty(alloc),
+        files: 0,
     })
 }
 
@@ -570,7 +620,7 @@ fn measured_units(clock: &impl Clock, alloc: Global) -> Result<Units> {
 /// Prints what stands above the rows.
 fn print_head(rt: &impl Print) -> Result<()> {
     println!(rt;
-        "us and %       update       on_reply           sign         commit          whole  a signature, a verification"
+        "us and %        begin         update       on_reply           sign         commit          whole  a signature, a verification"
     )?;
     Ok(())
 }
@@ -594,6 +644,7 @@ fn print_call(rt: &impl Print, seconds: f64, needed: f64) -> Result<()> {
 
 /// Prints each call of an operation, and the whole.
 fn print_calls(rt: &impl Print, times: Times, needed: Times) -> Result<()> {
+    print_call(rt, times.begin, needed.begin)?;
     print_call(rt, times.update, needed.update)?;
     print_call(rt, times.on_reply, needed.on_reply)?;
     print_call(rt, times.sign, needed.sign)?;

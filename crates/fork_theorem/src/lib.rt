@@ -1,4 +1,4 @@
-//! Scripts of clients and a server in one process: each line is a command, and prints one line.
+//! Scripts of clients and a server in one process: each line is a command, and prints one line. It has no theorem yet.
 #![tactic(auto)]
 
 mod command;

@@ -4,15 +4,27 @@
 use clap::Command;
 use fork_theorem::play;
 use std::env;
-use std::io::{self, BufReader};
+use std::io::{self, BufReader, ErrorKind};
 use std::process::ExitCode;
 
 /// The status where the program is given words.
 const WORDS: u8 = 5;
 
+/// The words that it was given.
+fn given_words(rt: &HostRuntime) -> io::Result<Vec<String>> {
+    Ok(env::args(rt)?.collect(rt.alloc())?)
+}
+
 /// Runs the script. The program takes no words but `--help`.
 fn run(rt: &HostRuntime) -> anyhow::Result<ExitCode> {
-    let words: Vec<String> = env::args(rt)?.collect(rt.alloc())?;
+    let words = match given_words(rt) {
+        Ok(words) => words,
+        Err(fault) if fault.kind() == ErrorKind::OutOfMemory => return Err(fault.into()),
+        Err(_) => {
+            let _ = eprintln!(rt; "error: a word isn't UTF-8");
+            return Ok(ExitCode::from(WORDS));
+        }
+    };
     let command = Command::new(rt.alloc(), "sundr_play").about(
         "Runs a script from standard input: a command a line, a printed line for each",
     );
