@@ -207,12 +207,12 @@ next_version t i v u l e =
           omega arith)
     ]
 
-follow_chained : (t : Table) (v : List Component) (is : List PendingItem) → ((i : PendingItem) → In i is → i.plan.user < 64) → each_has_next_vector t v is ≡ true → Plans.Chained Plan Entry shape (λ u. users_version u v) (map plan_in_item is)
-follow_chained t v [] users h = tt
-follow_chained t v (i ∷ is) users h =
+chained_of_next : (t : Table) (v : List Component) (is : List PendingItem) → ((i : PendingItem) → In i is → i.plan.user < 64) → each_has_next_vector t v is ≡ true → Plans.Chained Plan Entry shape (λ u. users_version u v) (map plan_in_item is)
+chained_of_next t v [] users h = tt
+chained_of_next t v (i ∷ is) users h =
     let parts = and_parts (same_vector i.plan.vector (next_vector t i v)) (each_has_next_vector t i.plan.vector is) h in
     let e = same_vector_is i.plan.vector (next_vector t i v) parts.0 in
-    ((λ u. next_version t i v u (users i (inl refl)) e), follow_chained t i.plan.vector is (λ j k. users j (inr k)) parts.1)
+    ((λ u. next_version t i v u (users i (inl refl)) e), chained_of_next t i.plan.vector is (λ j k. users j (inr k)) parts.1)
 
 chained_from : (f g : ℕ → ℕ) (ps : List Plan) → ((u : ℕ) → f u ≡ g u) → Plans.Chained Plan Entry shape f ps → Plans.Chained Plan Entry shape g ps
 chained_from f g [] e c = tt
@@ -407,7 +407,7 @@ module _ (t : Table) (x : Lists) (read : reply.Fits (reply_with x)) (holds : lis
         chained =
             subst (λ (ps : List Plan). Plans.Chained Plan Entry shape (Plans.version_of Plan Entry shape (top_plan x)) ps) (sym (above_plans x))
             (chained_from (λ u. users_version u (top_vector x)) (Plans.version_of Plan Entry shape (top_plan x)) (map plan_in_item (items_above x)) (λ u. sym (version_top (top_plan x) u))
-            (follow_chained t (top_vector x) (items_above x) above_user parts.vectors_follow));
+            (chained_of_next t (top_vector x) (items_above x) above_user parts.vectors_follow));
         top_only = λ e i.
             let told = all_in (λ e. lists_entry (entries_of (shown x)) e || lists_entry (entries_of (pending x)) e) (top_entries x) parts.top_known e (subst (λ (es : List Entry). In e es) (entries_top (top_plan x)) i) in
             elim (or_cases (lists_entry (entries_of (shown x)) e) (lists_entry (entries_of (pending x)) e) told) [

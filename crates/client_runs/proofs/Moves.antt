@@ -23,7 +23,7 @@ use Rattle.client_runs.specs.Released.{accepted_by, released as released_in, rel
 use Rattle.client_runs.proofs.Holds.{Holds, HoldsAfter, begin_fails, begins, closes, commits, event, later, opens, sign_fails_here, signed_in, signs_ok, stays}
 use Rattle.client_runs.proofs.Lowering.{low_client, low_left, low_owner, low_parts, with_ready}
 use Rattle.client_runs.proofs.Quiet.{gives, hears, looks, takes}
-use Rattle.client_runs.proofs.Replies.{AreSound, GoesSoundly, IsUnder, Kept, handed_on, judged_on, kept_sound, sound_later}
+use Rattle.client_runs.proofs.Replies.{AreSound, StaysSound, IsUnder, Kept, handed_on, judged_on, kept_sound, sound_later}
 
 -- the structures of a user's accepted views
 abbrev pub signed_of : User → List Event → List Structure
@@ -83,7 +83,7 @@ module _ (o : Owner) where
           stays o older texts signed view e s new h (takes s block (Ok answer) new b) g.quiet.pinned g.sound always
         where
           go : (checked : Option Checked) → IsSome checked → IfSome checked (IsUnder (event o (Takes block (Ok answer)) (Open new) ∷ older) (record { user = s.user; pinned = s.pinned; last = s.last; declared = s.text })) → IfSome checked (λ k. Handed s k block answer new)
-              → GoesSoundly (event o (Takes block (Ok answer)) (Open new) ∷ older) s new
+              → StaysSound (event o (Takes block (Ok answer)) (Open new) ∷ older) s new
           go None some u is = absurd (cc some)
           go (Some k) some u is =
               handed_on (event o (Takes block (Ok answer)) (Open new) ∷ older) s k block answer new (sound_later (event o (Takes block (Ok answer)) (Open new)) older s h.own.replies) u is

@@ -46,9 +46,9 @@ front_of (Err e) other = other
 same_users : (a b : Table) → users.Fits a.users → users.Fits b.users → table.spell a ≡ table.spell b → a.users ≡ b.users
 unfolding front_of
 same_users a b fits_a fits_b same =
-    let behind : users.spell a.users ++ (rows_of a.users).spell a.rows ≡ users.spell b.users ++ (rows_of b.users).spell b.rows = ap (drop 4) same in
+    let rest : users.spell a.users ++ (rows_of a.users).spell a.rows ≡ users.spell b.users ++ (rows_of b.users).spell b.rows = ap (drop 4) same in
     ap (λ (r : Answer (List Listing)). front_of r a.users)
-    (sym (lawful_users.again a.users ((rows_of a.users).spell a.rows) fits_a) ∙ ap users.read behind ∙ lawful_users.again b.users ((rows_of b.users).spell b.rows) fits_b)
+    (sym (lawful_users.again a.users ((rows_of a.users).spell a.rows) fits_a) ∙ ap users.read rest ∙ lawful_users.again b.users ((rows_of b.users).spell b.rows) fits_b)
 
 module _ (own_key : User → Key) where
   abbrev pub IsOwn : Listing → Type 0

@@ -132,32 +132,32 @@ lists_back r x e =
 -- ---- going on
 
 -- a call that leaves the rest of the client as it is, and what is sound
-pub record GoesSoundly (run : List Event) (s new : State) : Type 0 where
+pub record StaysSound (run : List Event) (s new : State) : Type 0 where
   pub quiet : IsQuiet s new
   pub sound : AreSound run new
 
-writes : (run : List Event) (s : State) (good : Good) (a : Asked) → IsGoodBy run (known s) good.lists good.table → GoesSoundly run s (record s { checked = Some (Writing good a); accepted = None })
+writes : (run : List Event) (s : State) (good : Good) (a : Asked) → IsGoodBy run (known s) good.lists good.table → StaysSound run s (record s { checked = Some (Writing good a); accepted = None })
 writes run s good a g = record {
   quiet = record { devices = refl; user = refl; seed = refl; id = refl; pinned = refl; number = refl; last = refl; text = refl; phase = refl };
   sound = record { checked = g; accepted = tt };
 }
 
-reads : (run : List Event) (s : State) (r : Reply) (a : Asked) → IsJudged run (known s) r → GoesSoundly run s (record s { checked = Some (Reading r a); accepted = None })
+reads : (run : List Event) (s : State) (r : Reply) (a : Asked) → IsJudged run (known s) r → StaysSound run s (record s { checked = Some (Reading r a); accepted = None })
 reads run s r a j = record {
   quiet = record { devices = refl; user = refl; seed = refl; id = refl; pinned = refl; number = refl; last = refl; text = refl; phase = refl };
   sound = record { checked = j; accepted = tt };
 }
 
-accepts : (run : List Event) (s : State) (y : Ready) → IsGoodBy run (known s) y.lists y.table → GoesSoundly run s (record s { checked = None; accepted = Some y })
+accepts : (run : List Event) (s : State) (y : Ready) → IsGoodBy run (known s) y.lists y.table → StaysSound run s (record s { checked = None; accepted = Some y })
 accepts run s y g = record {
   quiet = record { devices = refl; user = refl; seed = refl; id = refl; pinned = refl; number = refl; last = refl; text = refl; phase = refl };
   sound = record { checked = tt; accepted = g };
 }
 
-pub goes : {A : Type 0} (run : List Event) (s : State) (good : Good) (step : Step A) (new : State) → IsGoodBy run (known s) good.lists good.table → AsksOrAccepts s good step new → GoesSoundly run s new
-goes run s good (Need digest) new g h = subst (λ (n : State). GoesSoundly run s n) (sym h.2) (writes run s good h.0 g)
+pub goes : {A : Type 0} (run : List Event) (s : State) (good : Good) (step : Step A) (new : State) → IsGoodBy run (known s) good.lists good.table → AsksOrAccepts s good step new → StaysSound run s new
+goes run s good (Need digest) new g h = subst (λ (n : State). StaysSound run s n) (sym h.2) (writes run s good h.0 g)
 goes run s good (Store texts) new g h =
-    subst (λ (n : State). GoesSoundly run s n) (sym h.3)
+    subst (λ (n : State). StaysSound run s n) (sym h.3)
     (accepts run s (record { lists = good.lists; table = good.table; handle = h.0.handle; records = _; lost = h.2 }) g)
 goes run s good (Broken rule) new g h = absurd h
 
@@ -166,13 +166,13 @@ good_from run s r x good j back is by =
     subst (λ (y : Lists). IsGoodBy run (known s) y good.table) (sym is)
     (record { judged = subst (λ (q : Reply). IsJudged run (known s) q) (sym back) j; by_table = by })
 
-pub taken : {A : Type 0} (run : List Event) (s : State) (r : Reply) (x : Lists) (step : Step A) (new : State) → IsJudged run (known s) r → of_lists x ≡ r → Taken s r x step new → GoesSoundly run s new
-taken run s r x (Need digest) new j back (inl h) = subst (λ (n : State). GoesSoundly run s n) (sym h.2) (reads run s r h.0 j)
+pub taken : {A : Type 0} (run : List Event) (s : State) (r : Reply) (x : Lists) (step : Step A) (new : State) → IsJudged run (known s) r → of_lists x ≡ r → Taken s r x step new → StaysSound run s new
+taken run s r x (Need digest) new j back (inl h) = subst (λ (n : State). StaysSound run s n) (sym h.2) (reads run s r h.0 j)
 taken {A} run s r x (Need digest) new j back (inr h) = goes {A = A} run s h.0 (Need digest) new (good_from run s r x h.0 j back h.1.0 h.1.2) h.2
 taken run s r x (Store texts) new j back h = goes run s h.0 (Store texts) new (good_from run s r x h.0 j back h.1.0 h.1.2) h.2
 taken run s r x (Broken rule) new j back h = absurd h
 
-some_taken : {A : Type 0} (run : List Event) (s : State) (r : Reply) (lists : Option Lists) (step : Step A) (new : State) → lists_of r ≡ lists → IsJudged run (known s) r → IsSomeAnd lists (λ x. Taken s r x step new) → GoesSoundly run s new
+some_taken : {A : Type 0} (run : List Event) (s : State) (r : Reply) (lists : Option Lists) (step : Step A) (new : State) → lists_of r ≡ lists → IsJudged run (known s) r → IsSomeAnd lists (λ x. Taken s r x step new) → StaysSound run s new
 some_taken run s r None step new e j h = absurd h
 some_taken run s r (Some x) step new e j h = taken run s r x step new j (lists_back r x e) h
 
@@ -189,24 +189,24 @@ module _ (e : Event) (older : List Event) (s : State) (text : Bytes) (bytes : Is
   }
 
   read_on : {A : Type 0} (step : Step A) (new : State) (read : Result Reply ReadError) → whole reply text ≡ read → reply_breaks (known s) text ≡ None
-      → IsSomeAnd (result_ok read) (λ r. IsSomeAnd (lists_of r) (λ x. Taken s r x step new)) → GoesSoundly (e ∷ older) s new
+      → IsSomeAnd (result_ok read) (λ r. IsSomeAnd (lists_of r) (λ x. Taken s r x step new)) → StaysSound (e ∷ older) s new
   unfolding reply_breaks
   read_on step new (Err x) is none h = absurd h
   read_on step new (Ok r) is none h = some_taken (e ∷ older) s r (lists_of r) step new refl (judged_here r is (sym (ap (λ (o : Result Reply ReadError). if is_ok o then option_and_then (of_reply (known s)) (result_ok o) else Some rule.Form) is) ∙ none)) h
 
-  pub judged_on : {A : Type 0} (step : Step A) (new : State) → AreSound older s → Judged s text step new → GoesSoundly (e ∷ older) s new
-  judged_on (Broken rule) new sound h = subst (λ (n : State). GoesSoundly (e ∷ older) s n) (sym h.1) (record { quiet = still s; sound = sound_later e older s sound })
+  pub judged_on : {A : Type 0} (step : Step A) (new : State) → AreSound older s → Judged s text step new → StaysSound (e ∷ older) s new
+  judged_on (Broken rule) new sound h = subst (λ (n : State). StaysSound (e ∷ older) s n) (sym h.1) (record { quiet = still s; sound = sound_later e older s sound })
   judged_on {A} (Need digest) new sound h = read_on {A = A} (Need digest) new (whole reply text) refl h.0 h.1
   judged_on {A} (Store texts) new sound h = read_on {A = A} (Store texts) new (whole reply text) refl h.0 h.1
 
 -- ---- a block
 
 module _ (run : List Event) (s : State) where
-  on_from : {A : Type 0} (k : Checked) (text : Bytes) (step : Step A) (new : State) → IsUnder run (known s) k → GoesOn (holding s text) k step new → GoesSoundly run (holding s text) new
+  on_from : {A : Type 0} (k : Checked) (text : Bytes) (step : Step A) (new : State) → IsUnder run (known s) k → GoesOn (holding s text) k step new → StaysSound run (holding s text) new
   on_from (Reading r a) text step new u h = some_taken run (holding s text) r (lists_of r) step new refl u h
   on_from (Writing x a) text step new u h = goes run (holding s text) x step new u h
 
-  some_block : {A : Type 0} (k : Checked) (block : Option Bytes) (step : Step A) (new : State) → IsUnder run (known s) k → IsSomeAnd block (λ text. GoesOn (holding s text) k step new) → GoesSoundly run s new
+  some_block : {A : Type 0} (k : Checked) (block : Option Bytes) (step : Step A) (new : State) → IsUnder run (known s) k → IsSomeAnd block (λ text. GoesOn (holding s text) k step new) → StaysSound run s new
   some_block k None step new u h = absurd h
   some_block k (Some text) step new u h =
       let g = on_from k text step new u h in
@@ -215,7 +215,7 @@ module _ (run : List Event) (s : State) where
         sound = g.sound;
       }
 
-  pub handed_on : {A : Type 0} (k : Checked) (block : Option Bytes) (step : Step A) (new : State) → AreSound run s → IsUnder run (known s) k → Handed s k block step new → GoesSoundly run s new
-  handed_on k block (Broken rule) new sound u h = subst (λ (n : State). GoesSoundly run s n) (sym h.1) (record { quiet = still s; sound = sound })
+  pub handed_on : {A : Type 0} (k : Checked) (block : Option Bytes) (step : Step A) (new : State) → AreSound run s → IsUnder run (known s) k → Handed s k block step new → StaysSound run s new
+  handed_on k block (Broken rule) new sound u h = subst (λ (n : State). StaysSound run s n) (sym h.1) (record { quiet = still s; sound = sound })
   handed_on k block (Need digest) new sound u h = some_block k block (Need digest) new u h.1
   handed_on k block (Store texts) new sound u h = some_block k block (Store texts) new u h.1

@@ -4,6 +4,7 @@
 -- that a device may have done that fails there.
 use Rattle.std.specs.Prelude.{◌≡◌, ◌≢◌, ◌⊎◌, ◌↔◌, ℕ, ◌≤◌, List, [], length, Option, Some, IfOk, IfErr, IsErrOf, IfSome, IsSome, IsSomeAnd, OnOk, OnErr, Result, Ok, Err, true, IsOk}
 use Rattle.layout.specs.Format.{IsBytes}
+use Rattle.layout.specs.Ranges.{last_version}
 use Rattle.layout.specs.Types.{Bytes, Digest, INumber, Key, Principal, User}
 use Rattle.lms_sign.specs.Keys.{public_key_of}
 use Rattle.leaf_ledger.specs.Device.{HasRisen, History, MayLeave, started}
@@ -133,7 +134,7 @@ pub record HasBegun (s : State) (changes : List (Change Digest)) (laid : List By
       → AnyMoment leaf (cert_record (declared_text s leaf changes)) s.devices new.devices
   pub tried : OnErr answer (IsTried (λ leaf. cert_record (declared_text s leaf changes)) s.devices new.devices)
   pub no_leaf : IsErrOf answer error.NoLeaf ↔ IsFull s.devices.ledger.file.now.text
-  pub no_number : IsErrOf answer error.NoNumber ↔ ((s.number ≡ 4294967295) × (IsFull s.devices.ledger.file.now.text → ⊥))
+  pub no_number : IsErrOf answer error.NoNumber ↔ ((s.number ≡ last_version) × (IsFull s.devices.ledger.file.now.text → ⊥))
   pub rose : IsErrOf answer error.Device → OneHasRisen s.devices new.devices
   pub fails : IsErrOf answer error.Device → new ≡ on new.devices (failed (laying laid s))
   pub fits_device : IsErrOf answer error.Device → cert.Fits (next_cert s changes)

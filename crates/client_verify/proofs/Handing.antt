@@ -9,12 +9,12 @@ use Rattle.client_tree.specs.Held.{Block, held, keeping}
 use Rattle.client_verify.specs.declared.asked.Asked.{Asked}
 use Rattle.client_verify.specs.declared.step.Step.{Step}
 use Rattle.client_verify.specs.declared.step.Step.TheVariants as step
-use Rattle.client_verify.specs.declared.outcome.Reached.{Reached}
-use Rattle.client_verify.specs.declared.outcome.Reached.TheVariants as reached
-use Rattle.client_verify.specs.declared.outcome.Written.{Written}
+use Rattle.client_verify.specs.declared.reaching.Reached.{Reached}
+use Rattle.client_verify.specs.declared.reaching.Reached.TheVariants as reached
+use Rattle.client_verify.specs.declared.reaching.Written.{Written}
 use Rattle.client_verify.specs.Good.{Good}
 use Rattle.client_verify.specs.FirstBroken.{Known, ByTable, IsFirstBroken, IsRead, lists_break, lists_in, reply_breaks, reply_in, view_over}
-use Rattle.client_verify.specs.Outcomes.{IsReached, IsWritten}
+use Rattle.client_verify.specs.Reached.{IsReached, IsWritten}
 use Rattle.client_verify.specs.State.{State, Checked, Reading, asked_of, block_breaks, blocks_with, holding, known}
 use Rattle.client_verify.specs.Judged.{AsksOrAccepts, Handed, Judged, ReadsOn, Taken, unjudged, view_of}
 use Rattle.client_verify.proofs.Steps.{some_one, taken_goes, taken_need}
@@ -41,8 +41,8 @@ abbrev pub TakenOf : {A : Type 0} → State → Reply → Step A → State → T
 TakenOf s r st new = IsSomeAnd (lists_of r) (λ x. Taken s r x st new)
 
 -- the lists of a reply, which break no rule by this table, and what their own operation makes
-abbrev pub GoesIn : {A : Type 0} → List Block → List ℕ → Good → Written A → Lists → Type 0
-GoesIn blocks key g w x = IsRead (held blocks) key x g.table g.void × (lists_break g.table x ≡ None) × IsWritten (held blocks) (view_over key g.table x) g.void w
+abbrev pub BreaksNoneAndMakes : {A : Type 0} → List Block → List ℕ → Good → Written A → Lists → Type 0
+BreaksNoneAndMakes blocks key g w x = IsRead (held blocks) key x g.table g.void × (lists_break g.table x ≡ None) × IsWritten (held blocks) (view_over key g.table x) g.void w
 
 -- how far the reply comes by the blocks of the same state, and by the key that it knows
 pub reached_there : {A : Type 0} (inner old : State) (k : Known) (r : Reply) (f g : Reached A) → inner ≡ old → k ≡ known old → f ≡ g → IsSomeAnd (lists_of r) (λ x. IsReached (held inner.blocks) k.pinned x f)
@@ -80,12 +80,12 @@ taken_lacks A s new r a st is made reaches =
     (each_one (lists_of r) (λ x. IsReached {A = A} (held s.blocks) s.pinned x (reached.Lacks a)) (λ x. Taken {A = A} s r x (step.Need a.digest) new) (λ x lacks. taken_need A s new r x a made lacks) reaches)
 
 -- the lists break no rule by this table
-pub good_written : {A : Type 0} (blocks : List Block) (key : List ℕ) (r : Reply) (g : Good) (w : Written A) → lists_of r ≡ Some g.lists → IsSomeAnd (lists_of r) (GoesIn blocks key g w) → IsWritten (held blocks) (view_of key g) g.void w
-good_written {A} blocks key r g w lists reaches = (at_one (lists_of r) g.lists (GoesIn {A = A} blocks key g w) lists reaches).2
+pub good_written : {A : Type 0} (blocks : List Block) (key : List ℕ) (r : Reply) (g : Good) (w : Written A) → lists_of r ≡ Some g.lists → IsSomeAnd (lists_of r) (BreaksNoneAndMakes blocks key g w) → IsWritten (held blocks) (view_of key g) g.void w
+good_written {A} blocks key r g w lists reaches = (at_one (lists_of r) g.lists (BreaksNoneAndMakes {A = A} blocks key g w) lists reaches).2
 
-pub taken_good : {A : Type 0} (s new : State) (r : Reply) (g : Good) (w : Written A) (st : Step A) → lists_of r ≡ Some g.lists → IsSomeAnd (lists_of r) (GoesIn s.blocks s.pinned g w) → AsksOrAccepts s g st new → TakenOf s r st new
+pub taken_good : {A : Type 0} (s new : State) (r : Reply) (g : Good) (w : Written A) (st : Step A) → lists_of r ≡ Some g.lists → IsSomeAnd (lists_of r) (BreaksNoneAndMakes s.blocks s.pinned g w) → AsksOrAccepts s g st new → TakenOf s r st new
 taken_good {A} s new r g w st lists reaches goes =
-    let here = at_one (lists_of r) g.lists (GoesIn {A = A} s.blocks s.pinned g w) lists reaches in
+    let here = at_one (lists_of r) g.lists (BreaksNoneAndMakes {A = A} s.blocks s.pinned g w) lists reaches in
     some_one (lists_of r) g.lists (λ x. Taken s r x st new) lists (taken_goes s new r g.lists g st (refl, here.0, here.1) goes)
 
 -- ---- a reply is judged

@@ -3,8 +3,8 @@ pub mod ListsLaws
 pub mod Steps
 pub mod LaidLaws
 pub mod GenesisLaws
-pub mod OutcomeLaws
-pub mod Reaching
+pub mod ReachedLaws
+pub mod ReplyReached
 pub mod ByTableLaws
 pub mod Handing
 pub mod VerifiedLaws

@@ -22,8 +22,8 @@ use Rattle.client_verify.specs.Good.{Good}
 use Rattle.client_verify.specs.State.{State, AcceptedView, Checked, Reading, Writing, asked_of, known, block_breaks, holding}
 use Rattle.client_verify.specs.Judged.{AsksOrAccepts, GoesOn, Handed, IsGood, Judged, Taken, view_of}
 use Rattle.client_verify.specs.Looked.{Looked, Given}
-use Rattle.client_verify.specs.Outcomes.{IsAnswer}
-use Rattle.client_verify.specs.declared.outcome.Shown.{Shown}
+use Rattle.client_verify.specs.Reached.{IsAnswer}
+use Rattle.client_verify.specs.declared.reaching.Shown.{Shown}
 
 pub some_one : {A : Type 0} (o : Option A) (a : A) (P : A → Type 0) → o ≡ Some a → P a → IsSomeAnd o P
 some_one {A} o a P is holds = subst (λ (x : Option A). IsSomeAnd x P) (sym is) holds

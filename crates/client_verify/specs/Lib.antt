@@ -4,6 +4,6 @@ pub mod State
 pub mod Judged
 pub mod Looked
 pub mod Laid
-pub mod Outcomes
+pub mod Reached
 pub mod Verified
 pub mod JudgedLast

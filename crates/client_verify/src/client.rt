@@ -7,11 +7,12 @@ ghost use Rattle.std.specs.Option.{option_copied, option_map};
 ghost use Rattle.std.specs.Ordering.{nat_cmp};
 ghost use Rattle.std.specs.Vec.{vec_items};
 ghost use Rattle.layout.specs.Ascending.{Ascends};
+ghost use Rattle.layout.specs.Ranges.{last_version};
 ghost use Rattle.leaf_ledger.specs.Ledger.{IsFull, IsLeastFree, LeafNumber};
 ghost use Rattle.version_order.specs.Structure.{structure};
 ghost use Rattle.update_cert.specs.Cert.{cert};
 ghost use Rattle.pending_list.specs.Reply.{user_of};
-ghost use Rattle.client_verify.specs.Outcomes.{IsTold};
+ghost use Rattle.client_verify.specs.Reached.{IsTold};
 ghost use Rattle.client_verify.specs.Laid.{are_laid};
 
 use crate::asked::Asked;
@@ -21,7 +22,7 @@ use crate::known::Known;
 use crate::laid::copies;
 use crate::lists::{Admitted, with_own};
 use crate::look::Look;
-use crate::outcome::{
+use crate::reaching::{
     Made, Reached, Shown, Written, reach, reach_with, show, show_with, write_with,
 };
 use crate::step::Step;
@@ -360,7 +361,7 @@ impl<L: Device, J: Device, A: Allocator + Copy> Client<L, J, A> {
     ghost use Rattle.client_verify.specs.Judged.{AsksOrAccepts, GoesOn, Handed, IsReading, IsWriting, Judged, ReadsOn};
     ghost use Rattle.client_verify.specs.Judged.{unjudged};
     ghost use Rattle.client_verify.specs.Judged.{view_of};
-    ghost use Rattle.client_verify.specs.Outcomes.{IsAnswer, IsReached, IsWritten};
+    ghost use Rattle.client_verify.specs.Reached.{IsAnswer, IsReached, IsWritten};
     ghost use Rattle.client_verify.specs.Looked.{Looked, Given};
 
     /// The lists that broke no rule last, whose signatures were verified: of the accepted reply, of the one under
@@ -408,7 +409,7 @@ impl<L: Device, J: Device, A: Allocator + Copy> Client<L, J, A> {
         ensures number { IfOk result (λ number. number ≡ self.now.number + 1) }
         ensures no_leaf { IsErrOf result ClientError.NoLeaf ↔ IsFull self.now.devices.ledger.file.now.text }
         ensures no_number { IsErrOf result ClientError.NoNumber
-            ↔ ((self.now.number ≡ 4294967295) × (IsFull self.now.devices.ledger.file.now.text → ⊥)) }
+            ↔ ((self.now.number ≡ last_version) × (IsFull self.now.devices.ledger.file.now.text → ⊥)) }
         ensures only { IfErr result (λ e. (e ≡ ClientError.NoLeaf) ⊎ (e ≡ ClientError.NoNumber)) }
     {
         if !self.releases.has_free_leaf() {
@@ -456,10 +457,10 @@ impl<L: Device, J: Device, A: Allocator + Copy> Client<L, J, A> {
         ensures text { IfOk result (λ p. p.1 ≡ cert.spell (next_cert self.old changes.now)) }
         ensures fits { OnOk result (cert.Fits (next_cert self.old changes.now)) }
         ensures free { OnOk result (IsFull self.old.devices.ledger.file.now.text → ⊥) }
-        ensures below { OnOk result (self.old.number ≢ 4294967295) }
+        ensures below { OnOk result (self.old.number ≢ last_version) }
         ensures no_leaf { IsErrOf result ClientError.NoLeaf ↔ IsFull self.old.devices.ledger.file.now.text }
         ensures no_number { IsErrOf result ClientError.NoNumber
-            ↔ ((self.old.number ≡ 4294967295) × (IsFull self.old.devices.ledger.file.now.text → ⊥)) }
+            ↔ ((self.old.number ≡ last_version) × (IsFull self.old.devices.ledger.file.now.text → ⊥)) }
         ensures only { IfErr result (λ e. (e ≢ ClientError.Device) × (e ≢ ClientError.Foreign)
             × (e ≢ ClientError.Damaged)) }
         ensures err { OnErr result (self.new ≡ self.old) }
@@ -496,7 +497,7 @@ impl<L: Device, J: Device, A: Allocator + Copy> Client<L, J, A> {
             self.old.devices self.new.devices) }
         ensures no_leaf { IsErrOf result ClientError.NoLeaf ↔ IsFull self.old.devices.ledger.file.now.text }
         ensures no_number { IsErrOf result ClientError.NoNumber
-            ↔ ((self.old.number ≡ 4294967295) × (IsFull self.old.devices.ledger.file.now.text → ⊥)) }
+            ↔ ((self.old.number ≡ last_version) × (IsFull self.old.devices.ledger.file.now.text → ⊥)) }
         ensures rose { IsErrOf result ClientError.Device → OneHasRisen self.old.devices self.new.devices }
         ensures fails { IsErrOf result ClientError.Device
             → self.new ≡ on self.new.devices (failed (laying (map vec_items laid.now) self.old)) }

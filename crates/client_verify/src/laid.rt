@@ -14,7 +14,7 @@ use client_tree::{Held, root_digest};
 use itable::{Inode, Kind};
 use layout::{Digest, Memory, ReadError, Text};
 use std::alloc::Allocator;
-use update_cert::{Action, Blocks, Change, TableChange, Work, size_of_block};
+use update_cert::{Action, AnyAction, Blocks, Change, TableChange, size_of_block};
 
 /// Whether the block of this place is there, and has its size.
 fn has_block<A: Allocator>(blocks: &Held<A>, size: u32, place: u16, digest: Digest) -> bool
@@ -84,9 +84,9 @@ fn is_change_laid<A: Allocator + Copy>(
 ) -> Result<bool, Memory>
     ensures { IfOk result (λ is. is ≡ is_laid (held blocks.now) change.now.action) }
 {
-    match change.work() {
-        Work::At(action) => is_laid(alloc, blocks, action),
-        Work::OfTable(change) => match change {
+    match change.action() {
+        AnyAction::At(action) => is_laid(alloc, blocks, action),
+        AnyAction::OfTable(change) => match change {
             TableChange::AddUser(_, _)
             | TableChange::AddMember(_, _)
             | TableChange::DropMember(_, _) => Ok(true),

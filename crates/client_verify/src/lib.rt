@@ -11,7 +11,7 @@ mod known;
 mod laid;
 mod lists;
 mod look;
-mod outcome;
+mod reaching;
 mod step;
 mod structure;
 mod verdict;

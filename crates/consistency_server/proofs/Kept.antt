@@ -8,8 +8,8 @@ use Rattle.principals.specs.Table.{Table, genesis}
 use Rattle.version_order.specs.declared.vector.Component.{Component}
 use Rattle.version_order.specs.Structure.{Structure}
 use Rattle.pending_list.specs.declared.signed.Signed.{Signed}
-use Rattle.consistency_server.specs.declared.state.Kept.{Kept}
-use Rattle.consistency_server.specs.declared.state.Kept.TheVariants.{Places, Commits}
+use Rattle.consistency_server.specs.declared.state.NewEvent.{NewEvent}
+use Rattle.consistency_server.specs.declared.state.NewEvent.TheVariants.{Places, Commits}
 use Rattle.consistency_server.specs.declared.state.Verdict.{Verdict}
 use Rattle.consistency_server.specs.declared.state.Verdict.TheVariants as judged
 use Rattle.consistency_server.specs.Event.{Event, Placed, Committed, structures}
@@ -42,7 +42,7 @@ unfolding table_after vector_after pending_after
 committed_keeps pinned es s user =
     ap (λ ss. record { table = table_after pinned es; vector = vector_after pinned es; structures = ss; pending = filter (λ w. not (commits s w)) (pending_after pinned es) }) (structures_committed s es user)
 
-pub kept_changed : {A : Type 0} (pinned : List ℕ) (es : List Event) (change : Kept A) → Admits (state_after pinned es) change → changed (state_after pinned es) change ≡ state_after pinned (event_of change ∷ es)
+pub kept_changed : {A : Type 0} (pinned : List ℕ) (es : List Event) (change : NewEvent A) → Admits (state_after pinned es) change → changed (state_after pinned es) change ≡ state_after pinned (event_of change ∷ es)
 kept_changed pinned es (Places t v w) next = sym (placed_keeps pinned es t v w next)
 kept_changed pinned es (Commits s) user = sym (committed_keeps pinned es s user)
 

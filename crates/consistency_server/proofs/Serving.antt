@@ -69,7 +69,7 @@ pub serves : (state : State) (call : Call) → Serves (outcome_of state call)
 unfolding outcome_of
 serves state call = by_kind_serves state call.text call.kind
 
--- ---- a call that was settled
+-- ---- a call that was judged
 
 pub kept_genesis : (pinned : List ℕ) (history : List Call) (state : State) → history ≡ [] → state ≡ record { table = genesis pinned; vector = []; structures = []; pending = [] } → state ≡ kept pinned history
 unfolding events
@@ -85,15 +85,15 @@ on_ok (Err e) P Q more h = tt
 abbrev ordered : List ℕ → List Call → Ordered
 ordered pinned history = record { pinned = pinned; history = history }
 
-pub settled_history : (pinned : List ℕ) (old new : List Call) (call : Call) (server : Ordered) → ordered pinned (reverse old) ≡ server → new ≡ old ++ call ∷ [] → ordered pinned (reverse new) ≡ ordered server.pinned (call ∷ server.history)
-settled_history pinned old new call server is more =
+pub history_after_call : (pinned : List ℕ) (old new : List Call) (call : Call) (server : Ordered) → ordered pinned (reverse old) ≡ server → new ≡ old ++ call ∷ [] → ordered pinned (reverse new) ≡ ordered server.pinned (call ∷ server.history)
+history_after_call pinned old new call server is more =
     ap (ordered pinned) (ap reverse more ∙ reverse_more old call) ∙ ap (λ (s : Ordered). ordered s.pinned (call ∷ s.history)) is
 
-pub kept_settled : {A X E : Type 0} (r : Result X E) (pinned : List ℕ) (old new : List Call) (call : Call) (state state' : State) (j : Verdict A) → state ≡ kept pinned (reverse old) → JudgedAs state j (outcome_of state call)
+pub kept_after_verdict : {A X E : Type 0} (r : Result X E) (pinned : List ℕ) (old new : List Call) (call : Call) (state state' : State) (j : Verdict A) → state ≡ kept pinned (reverse old) → JudgedAs state j (outcome_of state call)
     → OnOk r (state' ≡ state_after state j) → OnOk r (new ≡ old ++ call ∷ []) → OnErr r (state' ≡ state) → OnErr r (new ≡ old) → state' ≡ kept pinned (reverse new)
 unfolding events
-kept_settled (Ok x) pinned old new call state state' j is found moved more none none' =
+kept_after_verdict (Ok x) pinned old new call state state' j is found moved more none none' =
     moved
     ∙ kept_after pinned (events pinned (reverse old)) state j (outcome_of (kept pinned (reverse old)) call) is (subst (λ (s : State). JudgedAs state j (outcome_of s call)) is found)
     ∙ ap (kept pinned) (sym (ap reverse more ∙ reverse_more old call))
-kept_settled (Err x) pinned old new call state state' j is found moved more same same' = same ∙ is ∙ ap (λ h. kept pinned (reverse h)) (sym same')
+kept_after_verdict (Err x) pinned old new call state state' j is found moved more same same' = same ∙ is ∙ ap (λ h. kept pinned (reverse h)) (sym same')

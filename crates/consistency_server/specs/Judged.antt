@@ -1,5 +1,5 @@
 -- Nobody has to believe this file: an aid of private contracts.
--- What judging a call found: an outcome, and a change of what is kept.
+-- What judging a call found: an outcome, and what is kept of a new event.
 use Rattle.std.specs.Prelude.{◌≡◌, ◌<◌, List, [], ◌∷◌, ◌++◌, Option, Some, None, not, filter}
 use Rattle.std.specs.Ordering.{nat_cmp}
 use Rattle.layout.specs.Ascending.{with_row}
@@ -8,21 +8,21 @@ use Rattle.update_cert.specs.Cert.{cert}
 use Rattle.pending_list.specs.Reply.{user_of}
 use Rattle.principals.specs.Table.{Table}
 use Rattle.wire.specs.declared.kinds.Status.TheVariants as status
-use Rattle.consistency_server.specs.declared.state.Kept.{Kept}
-use Rattle.consistency_server.specs.declared.state.Kept.TheVariants.{Places, Commits}
+use Rattle.consistency_server.specs.declared.state.NewEvent.{NewEvent}
+use Rattle.consistency_server.specs.declared.state.NewEvent.TheVariants.{Places, Commits}
 use Rattle.consistency_server.specs.declared.state.Verdict.{Verdict}
 use Rattle.consistency_server.specs.declared.state.Verdict.TheVariants as judged
 use Rattle.consistency_server.specs.Event.{Event, Placed, Committed}
 use Rattle.consistency_server.specs.State.{State, Placement, after_operation, next_vector, pending_of, next_placement, commits}
 use Rattle.consistency_server.specs.Answers.{Call, Answer, Outcome, Refused, Repeated, Happens, cert_of}
 
--- the table that a change brings, or else the one that is kept
+-- the table that a new event brings, or else the one that is kept
 abbrev pub table_or : Option Table → Table → Table
 table_or None kept = kept
 table_or (Some new) kept = new
 
--- what is kept after a change
-abbrev pub changed : {A : Type 0} → State → Kept A → State
+-- what is kept after a new event
+abbrev pub changed : {A : Type 0} → State → NewEvent A → State
 changed state (Places table vector placement) = record {
   table = table_or table state.table;
   vector = vector;
@@ -36,8 +36,8 @@ changed state (Commits s) = record {
   pending = filter (λ w. not (commits s w)) state.pending;
 }
 
--- the event that a change is of
-abbrev pub event_of : {A : Type 0} → Kept A → Event
+-- the event of which this is kept
+abbrev pub event_of : {A : Type 0} → NewEvent A → Event
 event_of (Places table vector placement) = Placed (cert_of placement.item)
 event_of (Commits s) = Committed s
 
@@ -49,8 +49,8 @@ pub record IsNext (state : State) (brought : Option Table) (new : List Component
   pub vector : new ≡ next_vector state.table state.vector w.item.cert
   pub placement : w ≡ next_placement state (cert_of w.item)
 
--- what is kept admits the change
-abbrev pub Admits : {A : Type 0} → State → Kept A → Type 0
+-- the event may come after what is kept
+abbrev pub Admits : {A : Type 0} → State → NewEvent A → Type 0
 Admits state (Places table vector placement) = IsNext state table vector placement
 Admits state (Commits s) = user_of s < 64
 
@@ -58,28 +58,28 @@ Admits state (Commits s) = user_of s < 64
 abbrev pub JudgedAs : {A : Type 0} → State → Verdict A → Outcome → Type 0
 JudgedAs state (judged.Refused s) o = o ≡ Refused s
 JudgedAs state (judged.Repeated text) o = o ≡ Repeated text
-JudgedAs state (judged.Happens change text) o = (o ≡ Happens (event_of change) text) × Admits state change
+JudgedAs state (judged.Happens new text) o = (o ≡ Happens (event_of new) text) × Admits state new
 
 -- what was found may happen
 abbrev pub MayHappen : {A : Type 0} → State → Verdict A → Type 0
 MayHappen state (judged.Refused s) = Unit {0}
 MayHappen state (judged.Repeated text) = Unit {0}
-MayHappen state (judged.Happens change text) = Admits state change
+MayHappen state (judged.Happens new text) = Admits state new
 
 -- what is kept after a call
 abbrev pub state_after : {A : Type 0} → State → Verdict A → State
 state_after state (judged.Refused s) = state
 state_after state (judged.Repeated text) = state
-state_after state (judged.Happens change text) = changed state change
+state_after state (judged.Happens new text) = changed state new
 
 -- the answer
 abbrev pub answer_by : {A : Type 0} → Verdict A → Answer
 answer_by (judged.Refused s) = record { status = s; payload = [] }
 answer_by (judged.Repeated text) = record { status = status.Ok; payload = text }
-answer_by (judged.Happens change text) = record { status = status.Ok; payload = text }
+answer_by (judged.Happens new text) = record { status = status.Ok; payload = text }
 
 -- what goes to the log
 abbrev pub logged_by : {A : Type 0} → Verdict A → Call → List Call
 logged_by (judged.Refused s) call = []
 logged_by (judged.Repeated text) call = []
-logged_by (judged.Happens change text) call = call ∷ []
+logged_by (judged.Happens new text) call = call ∷ []

@@ -64,7 +64,7 @@ impl<A: Allocator> Model for State<A> {
 
 /// An event, with all that is kept of it.
 #[derive(Drop)]
-pub(crate) enum Kept<A: Allocator> {
+pub(crate) enum NewEvent<A: Allocator> {
     /// An operation is placed: the table after it, if it may change the table; the vector after it; and the operation.
     Places(Option<Table<A>>, Vector<A>, Placement<A>),
     /// Its structure is committed.
@@ -78,8 +78,8 @@ pub(crate) enum Verdict<A: Allocator> {
     Refused(Status),
     /// The same payload as before.
     Repeated(Payload<A>),
-    /// A change, and the payload.
-    Happens(Kept<A>, Payload<A>),
+    /// This new event, and the payload.
+    Happens(NewEvent<A>, Payload<A>),
 }
 
 /// Keeps a new table, if there is one.
@@ -108,16 +108,16 @@ fn commit<A: Allocator>(
 }
 
 impl<A: Allocator> State<A> {
-    /// Lets a change happen: room is made for it, the call goes to the log, and then what is kept changes, which can't
+    /// Lets an event happen: room is made for it, the call goes to the log, and then what is kept changes, which can't
     /// fail.
     pub(crate) fn happen<G: Log<Call<A>>>(
         &mut self,
         log: &mut G,
         call: Call<A>,
-        change: Kept<A>,
+        event: NewEvent<A>,
     ) -> Result<(), Refusal>
-        requires { Admits self.old change }
-        ensures state { OnOk result (self.new ≡ changed self.old change) }
+        requires { Admits self.old event }
+        ensures state { OnOk result (self.new ≡ changed self.old event) }
         ensures log { OnOk result (G.pushed log.new ≡ G.pushed log.old ++ call ∷ []) }
         ensures state_err { OnErr result (self.new ≡ self.old) }
         ensures log_err { OnErr result (G.pushed log.new ≡ G.pushed log.old) }
@@ -126,13 +126,13 @@ impl<A: Allocator> State<A> {
         self.structures.reserve(1)?;
         self.pending.reserve(1)?;
         log.try_push(call)?;
-        match change {
-            Kept::Places(table, vector, placement) => {
+        match event {
+            NewEvent::Places(table, vector, placement) => {
                 keep(&mut self.table, table);
                 self.vector = vector;
                 place(&mut self.pending, placement);
             }
-            Kept::Commits(structure) => {
+            NewEvent::Commits(structure) => {
                 commit(&mut self.structures, &mut self.pending, structure);
             }
         }
@@ -275,7 +275,7 @@ impl<A: Allocator + Copy> State<A> {
         )?);
         let payload = reply.copy(alloc)?;
         let placement = Placement::new(item, entry, reply);
-        Ok(Verdict::Happens(Kept::Places(table, vector, placement), payload))
+        Ok(Verdict::Happens(NewEvent::Places(table, vector, placement), payload))
     }
 
     /// What a COMMIT leads to.
@@ -311,7 +311,7 @@ impl<A: Allocator + Copy> State<A> {
         if !have_plan(alloc, &self.pending, found.value.plan())? {
             return Ok(Verdict::Refused(Status::NotPending));
         }
-        Ok(Verdict::Happens(Kept::Commits(found), Payload::empty(alloc)))
+        Ok(Verdict::Happens(NewEvent::Commits(found), Payload::empty(alloc)))
     }
 
     /// Whether it is its user's last structure, where the text spells it.

@@ -37,7 +37,7 @@ pub(crate) fn digests_of<A: Allocator>(alloc: A, bytes: &[u8]) -> Result<Vec<Dig
 #[tactic(auto, using(crate::proofs::FileLaws::joined))]
 pub fn blocks_of<A: Allocator + Copy>(alloc: A, bytes: &[u8]) -> Result<Vec<Vec<u8, A>, A>, Memory>
     ensures blocks { IfOk result (λ blocks. map vec_items blocks.items ≡ blocks_of bytes.now) }
-    // Behind one another they are the text.
+    // One after another they are the text.
     ensures joined { concat (blocks_of bytes.now) ≡ bytes.now }
 {
     let mut blocks = Vec::new(alloc);

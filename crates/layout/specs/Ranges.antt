@@ -19,6 +19,10 @@ principal = uint_in w8 0 95
 abbrev pub version : Format ℕ
 version = uint_in w32 1 4294967295
 
+-- the last of them
+abbrev pub last_version : ℕ
+last_version = 4294967295
+
 -- the number of a file or directory among those of its principal
 abbrev pub i_number : Format ℕ
 i_number = uint_in w16 1 4095

@@ -4,7 +4,7 @@ ghost use Rattle.layout.specs.declared.error.ReadError.TheVariants as read_error
 ghost use Rattle.std.specs.Prelude.{◌≢◌, IfErr, ◌≡◌, ◌<◌, ◌≤◌, ◌⊎◌, OnErr, OnOk, ◌+◌, ◌++◌, MatchOption};
 ghost use Rattle.std.specs.Int.{w8, w16, w32};
 ghost use Rattle.layout.specs.Format.{IsBytes, Reads, be};
-ghost use Rattle.layout.specs.Ranges.{user, group, principal, version, i_number};
+ghost use Rattle.layout.specs.Ranges.{user, group, principal, version, last_version, i_number};
 
 use crate::error::{Memory, ReadError};
 use crate::reader::Reader;
@@ -190,7 +190,7 @@ impl Version {
 
     /// The one after it, if it isn't the last one.
     pub fn next(self) -> Option<Version>
-        ensures { MatchOption result (self ≡ 4294967295) (λ next. next ≡ self + 1) }
+        ensures { MatchOption result (self ≡ last_version) (λ next. next ≡ self + 1) }
     {
         let number = self.0.checked_add(1)?;
         Some(Version(number))

@@ -88,9 +88,9 @@ abbrev pub depth_of_top : List (Signed Structure) → ℕ
 depth_of_top ss = depth (top_vector ss)
 
 -- the plan counts more operations than this many
-abbrev pub is_deeper : ℕ → Plan → Bool
-is_deeper top p = nat_lt top (depth p.vector)
+abbrev pub is_deeper : Plan → ℕ → Bool
+is_deeper p count = nat_lt count (depth p.vector)
 
 -- the plan is above: it counts more than top
 abbrev pub is_above : List (Signed Structure) → Plan → Bool
-is_above ss p = is_deeper (depth_of_top ss) p
+is_above ss p = is_deeper p (depth_of_top ss)

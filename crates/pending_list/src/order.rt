@@ -74,10 +74,10 @@ pub fn depth_of_top<A: Allocator>(reply: &Reply<A>) -> u64
 }
 
 /// Whether a pending operation counts more operations than this many.
-pub fn is_deeper<A: Allocator>(item: &PendingItem<A>, top: u64) -> bool
-    ensures { result ≡ is_deeper top item.now.plan }
+pub fn is_deeper<A: Allocator>(item: &PendingItem<A>, count: u64) -> bool
+    ensures { result ≡ is_deeper item.now.plan count }
 {
-    top < depth(item.plan())
+    count < depth(item.plan())
 }
 
 /// Whether a pending operation counts more than the top.

@@ -6,7 +6,7 @@ use layout::Memory;
 use std::alloc::{AllocError, Global};
 use std::io::{Read, Write};
 use thiserror::Error;
-use wire::{FrameError, Frames, RequestKind, Status, reply_of, request_frame};
+use wire::{BODY_LIMIT, FrameError, Frames, RequestKind, Status, reply_of, request_frame};
 
 /// Why a request has no reply, or was never made.
 #[derive(Clone, Copy, Debug, PartialEq, Eq, Error)]
@@ -69,7 +69,7 @@ impl<S: Read + Write + Drop> Caller<S> {
 
     /// Sends a request, and waits for its reply.
     pub fn ask(&mut self, kind: RequestKind, payload: &[u8]) -> Result<Replied, CallError>
-        requires { length payload.now < 2097152 }
+        requires { length payload.now < BODY_LIMIT }
     {
         let frame = request_frame(self.alloc, kind, payload)?;
         if self.stream.write_all(&frame).is_err() {

@@ -84,11 +84,11 @@ signature_read sig sized =
 pub read_signed : {V : Type 0} (f : Format V) → Lawful f → (v : V) (sig : List ℕ) → f.Fits v → length sig ≡ 2508 → whole (signed f) (f.spell v ++ sig) ≡ Ok (record { value = v; signature = sig })
 read_signed {V} f law v sig fits sized =
     let paired : V × List ℕ → Answer (V × List ℕ) = λ x. signature.read x.1 >>= λ y. Ok ((x.0, y.0), y.1) in
-    let behind : List ℕ × List ℕ → Answer (V × List ℕ) = λ y. Ok ((v, y.0), y.1) in
+    let with_rest : List ℕ × List ℕ → Answer (V × List ℕ) = λ y. Ok ((v, y.0), y.1) in
     let made : (V × List ℕ) × List ℕ → Answer (Signed V) = λ x. Ok (record { value = x.0.0; signature = x.0.1 }, x.1) in
     let done : Signed V × List ℕ → Result (Signed V) ReadError = λ x. if ends x.1 then Ok x.0 else Err Trailing in
     ap (λ (r : Answer V). r >>= paired >>= made >>= done) (law.again v sig fits)
-    ∙ ap (λ (r : Answer (List ℕ)). r >>= behind >>= made >>= done) (signature_read sig sized)
+    ∙ ap (λ (r : Answer (List ℕ)). r >>= with_rest >>= made >>= done) (signature_read sig sized)
 
 module _ (u : ℕ) (sig : List ℕ) (long : length sig ≡ 2508) where
   pub cert_read : (c : Cert) → cert.Fits c → c.user ≡ u → cert_in u (cert.spell c ++ sig) ≡ Some (record { value = c; signature = sig })

@@ -29,9 +29,9 @@ raised_counts g [] v none = absurd cc
 raised_counts g (p ∷ ps) v some = counts g p ps v (p == g) refl some (λ w rest. raised_counts g ps w rest)
 
 -- the last one's vector follows from one before it
-follow_last : (t : Table) (v : List Component) (is : List PendingItem) (own : PendingItem) → each_has_next_vector t v (is ++ own ∷ []) ≡ true → (w : List Component) × (same_vector own.plan.vector (next_vector t own w) ≡ true)
-follow_last t v [] own all = (v, (and_parts (same_vector own.plan.vector (next_vector t own v)) true all).0)
-follow_last t v (i ∷ is) own all = follow_last t i.plan.vector is own (and_parts (same_vector i.plan.vector (next_vector t i v)) (each_has_next_vector t i.plan.vector (is ++ own ∷ [])) all).1
+last_has_next : (t : Table) (v : List Component) (is : List PendingItem) (own : PendingItem) → each_has_next_vector t v (is ++ own ∷ []) ≡ true → (w : List Component) × (same_vector own.plan.vector (next_vector t own w) ≡ true)
+last_has_next t v [] own all = (v, (and_parts (same_vector own.plan.vector (next_vector t own v)) true all).0)
+last_has_next t v (i ∷ is) own all = last_has_next t i.plan.vector is own (and_parts (same_vector i.plan.vector (next_vector t i v)) (each_has_next_vector t i.plan.vector (is ++ own ∷ [])) all).1
 
 above_last : (x : Lists) → own_above x ≡ true → items_above x ≡ filter (λ i. is_above x i.plan) x.others ++ x.own ∷ []
 above_last x above = filter-append (λ (i : PendingItem). is_above x i.plan) x.others (x.own ∷ []) ∙ rw above refl
@@ -43,6 +43,6 @@ own_counts t x g holds is =
     let rest = (and_parts _ _ holds).1 in
     let parts = and_parts (own_above x) (vectors_follow t x) rest in
     let follows : each_has_next_vector t (top_vector x) (filter (λ i. is_above x i.plan) x.others ++ x.own ∷ []) ≡ true = subst (λ (is : List PendingItem). each_has_next_vector t (top_vector x) is ≡ true) (above_last x parts.0) parts.1 in
-    let last = follow_last t (top_vector x) (filter (λ i. is_above x i.plan) x.others) x.own follows in
+    let last = last_has_next t (top_vector x) (filter (λ i. is_above x i.plan) x.others) x.own follows in
     let same = same_vector_is x.own.plan.vector (next_vector t x.own last.0) last.1 in
     subst (λ (v : List Component). 0 < version_of g v) (sym same) (raised_counts g (raised_groups t x.own) _ is)

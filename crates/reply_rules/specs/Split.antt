@@ -11,7 +11,7 @@ use Rattle.reply_rules.specs.Rules.{items_waiting, items_above}
 -- how many items come before the first that is of greater depth than this
 abbrev pub place_above : ℕ → List PendingItem → ℕ
 place_above d [] = zero
-place_above d (i ∷ is) = if is_deeper d i.plan then zero else suc (place_above d is)
+place_above d (i ∷ is) = if is_deeper i.plan d then zero else suc (place_above d is)
 
 -- these are the pending items of the lists, those of them that aren't above and those that are, and top
 pub record IsSplit (x : Lists) (pending waiting above : List PendingItem) (top : Option (Signed Structure)) : Type 0 where

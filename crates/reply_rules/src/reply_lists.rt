@@ -40,13 +40,13 @@ impl<'a, A: Allocator> Model for Lists<'a, A> {
 }
 
 /// How many operations come before the first that is of greater depth than this.
-fn place_above<A: Allocator>(pending: &[PendingItem<A>], top: u64) -> usize
-    ensures same { result ≡ place_above top pending.now }
+fn place_above<A: Allocator>(pending: &[PendingItem<A>], depth: u64) -> usize
+    ensures same { result ≡ place_above depth pending.now }
     ensures inside { result ≤ length pending.now }
 {
     let mut before = 0;
     for item in pending {
-        if is_deeper(item, top) {
+        if is_deeper(item, depth) {
             return before;
         }
         before += 1;

@@ -2,6 +2,7 @@
 
 ghost use Rattle.std.specs.Prelude.{◌≡◌, ◌++◌, IfOk, map, true, false};
 ghost use Rattle.std.specs.List.{list_all};
+ghost use Rattle.layout.specs.Ranges.{last_version};
 ghost use Rattle.version_order.specs.Vector.{version_of, raised, raised_all, vector as vector_format};
 ghost use Rattle.reply_rules.specs.Rules.{in_order, any_two, all_in_order, own_above, top_vector, same_vector};
 ghost use Rattle.reply_rules.specs.Rules.{vectors_follow, vector};
@@ -128,7 +129,7 @@ fn top_vector<A: Allocator + Copy>(alloc: A, lists: &Lists<'_, A>) -> Result<Vec
 /// Adds one to the version of a principal, and tells whether it could grow.
 fn raise<A: Allocator>(next: &mut Vector<A>, principal: Principal) -> Result<bool, Memory>
     ensures raised { IfOk result (λ grows. grows ≡ true → next.new ≡ raised principal next.old) }
-    ensures last { IfOk result (λ grows. grows ≡ false → version_of principal next.old ≡ 4294967295) }
+    ensures last { IfOk result (λ grows. grows ≡ false → version_of principal next.old ≡ last_version) }
     ensures fits { vector_format.Fits next.old }
 {
     let _fits = next.components();

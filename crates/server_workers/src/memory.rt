@@ -47,7 +47,8 @@ impl<'a> Connection for MemoryConnection<'a> {
         ensures bound { IfOk result (λ count. count ≤ length buffer.new) }
         ensures ok { IfOk result (λ count. told_of self.new.input.now self.new.given self.new.output.now.items
             ≡ goes_on (take count buffer.new) [] (told_of self.old.input.now self.old.given self.old.output.now.items)) }
-        ensures end { result ≡ Ok 0 → 0 < length buffer.new → nat_eq self.new.given (length self.new.input.now) ≡ true }
+        ensures end { result ≡ Ok 0 → 0 < length buffer.new
+            → nat_eq self.new.given (length self.new.input.now) ≡ true }
         ensures err { OnErr result (told_of self.new.input.now self.new.given self.new.output.now.items
             ≡ told_of self.old.input.now self.old.given self.old.output.now.items) }
         ensures cause { HasCause self.old.faults self.new.faults result }

@@ -4,11 +4,8 @@ ghost use Rattle.std.specs.Prelude.{◌<◌};
 
 use crate::host::{Aided, given};
 use layout::digest;
-use lms_sign::{Leaf, PrivateKey, sign};
+use lms_sign::{LEAF_COUNT, Leaf, PrivateKey, SIGNATURE_SIZE, sign};
 use std::alloc::Global;
-
-/// The size of a signature.
-const SIGNATURE_SIZE: usize = 2508;
 
 /// The handle that user 0's i-table has at the beginning under the key of these tests, by another program's LMS and
 /// SHA-256.
@@ -107,7 +104,7 @@ pub fn structure(rt: &impl Aided, plan: &[u8], handle: &[u8; 32]) -> Vec<u8> {
 
 /// A text, and after it its signature by a leaf.
 pub fn signed(rt: &impl Aided, key: &PrivateKey<Global>, leaf: u32, text: &[u8]) -> Vec<u8>
-    requires { leaf < 1024 }
+    requires { leaf < LEAF_COUNT }
 {
     let (signature, spent) = sign(key, Leaf::issue(&key.public(), leaf), text);
     spent.end();

@@ -12,8 +12,8 @@ use Rattle.update_cert.specs.declared.change.Action.{Action as Held}
 use Rattle.update_cert.specs.declared.change.Action.TheVariants as held
 use Rattle.update_cert.specs.declared.change.TableChange.{TableChange}
 use Rattle.update_cert.specs.declared.change.TableChange.TheVariants as table_change
-use Rattle.update_cert.specs.declared.change.Work.{Work}
-use Rattle.update_cert.specs.declared.change.Work.TheVariants as work
+use Rattle.update_cert.specs.declared.change.AnyAction.{AnyAction}
+use Rattle.update_cert.specs.declared.change.AnyAction.TheVariants as any_action
 
 -- What is done. Make and Put have what is to stand there: in a certificate the digest of its i-node, in an operation the
 -- content. Link has the new entry, and Unlink the name of one. The last three are done to the table of principals, at user
@@ -53,9 +53,9 @@ table_action_of (table_change.AddMember g u) = AddMember g u
 table_action_of (table_change.DropMember g u) = DropMember g u
 
 -- what a change in memory does
-abbrev pub work_of : {A : Type 0} → Work A → Action Digest
-work_of (work.At action) = action_of action
-work_of (work.OfTable change) = table_action_of change
+abbrev pub any_action_of : {A : Type 0} → AnyAction A → Action Digest
+any_action_of (any_action.At action) = action_of action
+any_action_of (any_action.OfTable change) = table_action_of change
 
 -- ---- the text
 

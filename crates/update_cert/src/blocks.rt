@@ -1,6 +1,6 @@
 //! Blocks that a client holds.
 
-ghost use Rattle.std.specs.Prelude.{◌≡◌, ℕ, List, IfOk, IfSome};
+ghost use Rattle.std.specs.Prelude.{◌≡◌, ℕ, List, None, IsOk, IfOk, IfSome};
 ghost use Rattle.std.specs.Option.{option_and_then, option_copied, option_map};
 ghost use Rattle.std.specs.Result.{result_ok};
 ghost use Rattle.std.specs.Vec.{vec_items};
@@ -59,6 +59,7 @@ pub fn value_at<A: Allocator + Copy, B: Blocks, T: Text<A>>(
     // Its own text is the one that is held.
     ensures text { IfOk result (λ found. IfSome found
         (λ x. T.format.Fits x × (hash (T.format.spell x) ≡ digest))) }
+    ensures no_memory { B.held blocks.now digest ≡ None → IsOk result }
 {
     match blocks.get(digest) {
         Some(text) => spelled(alloc, text),
@@ -72,12 +73,10 @@ pub(crate) fn inode_at<A: Allocator + Copy, B: Blocks>(
     blocks: &B,
     digest: Digest,
 ) -> Result<Option<Inode<A>>, Memory>
-    ensures { IfOk result (λ found. found ≡ inode_of (B.held blocks.now) digest) }
+    ensures found { IfOk result (λ found. found ≡ inode_of (B.held blocks.now) digest) }
+    ensures no_memory { B.held blocks.now digest ≡ None → IsOk result }
 {
-    match blocks.get(digest) {
-        Some(text) => spelled(alloc, text),
-        None => Ok(None),
-    }
+    value_at(alloc, blocks, digest)
 }
 
 /// The texts of these digests one after another, if all are held.

@@ -4,7 +4,7 @@ ghost use Rattle.layout.specs.declared.error.ReadError.TheVariants as read_error
 ghost use Rattle.std.specs.Prelude.{◌≡◌, ◌≢◌, ◌≤◌, IfErr, OnErr, OnOk};
 ghost use Rattle.layout.specs.Format.{BeginsWith, Reads, ReadsAs};
 ghost use Rattle.update_cert.specs.Change.{action as action_format, placed_fields, table_fields, fields, action_of};
-ghost use Rattle.update_cert.specs.Change.{table_action_of, work_of, of_table, change, kind};
+ghost use Rattle.update_cert.specs.Change.{table_action_of, any_action_of, of_table, change, kind};
 
 use directory::{Entry, Name};
 use layout::{
@@ -44,9 +44,9 @@ pub enum TableChange {
     DropMember(Group, User),
 }
 
-/// What a change does.
+/// What a change does: at an i-number, or to the table.
 #[derive(Drop)]
-pub enum Work<A: Allocator> {
+pub enum AnyAction<A: Allocator> {
     /// This, at its i-number of its principal.
     At(Action<A>),
     /// This, to the table of principals.
@@ -58,19 +58,19 @@ pub enum Work<A: Allocator> {
 pub struct Change<A: Allocator> {
     principal: Principal,
     i_number: INumber,
-    work: Work<A>,
+    action: AnyAction<A>,
 }
 
 impl<A: Allocator> Model for Change<A> {
     ghost use Rattle.layout.specs.Types.{Digest};
-    ghost use Rattle.update_cert.specs.Change.{Change, work_of, change};
+    ghost use Rattle.update_cert.specs.Change.{Change, any_action_of, change};
 
     ghost Value = { Change Digest };
 
-    ghost view = { λ c. record { principal = c.principal; i_number = c.i_number; action = work_of c.work } };
+    ghost view = { λ c. record { principal = c.principal; i_number = c.i_number; action = any_action_of c.action } };
 
     ghost invariant = { λ c. change.Fits
-        (record { principal = c.principal; i_number = c.i_number; action = work_of c.work }) };
+        (record { principal = c.principal; i_number = c.i_number; action = any_action_of c.action }) };
 }
 
 /// What is done, of this kind, in what is left of a text.
@@ -257,14 +257,14 @@ impl<A: Allocator + Copy> RowFormat<A> for Changes {
     }
 
     fn write_fields(&self, writer: &mut Writer<A>, row: &Change<A>) -> Result<(), Memory> {
-        match &row.work {
-            Work::At(action) => {
+        match &row.action {
+            AnyAction::At(action) => {
                 writer.u8(action.kind())?;
                 writer.principal(row.principal)?;
                 writer.i_number(row.i_number)?;
                 action.write_to(writer)
             }
-            Work::OfTable(change) => {
+            AnyAction::OfTable(change) => {
                 writer.u8(change.kind())?;
                 change.write_to(writer)
             }
@@ -282,7 +282,7 @@ impl<A: Allocator> Change<A> {
         Change {
             principal,
             i_number,
-            work: Work::At(action),
+            action: AnyAction::At(action),
         }
     }
 
@@ -294,7 +294,7 @@ impl<A: Allocator> Change<A> {
         Change {
             principal: Principal::from(User::superuser()),
             i_number: INumber::table(),
-            work: Work::OfTable(change),
+            action: AnyAction::OfTable(change),
         }
     }
 
@@ -314,9 +314,9 @@ impl<A: Allocator> Change<A> {
     }
 
     /// What is done there.
-    pub fn work(&self) -> &Work<A>
-        ensures { work_of result.now ≡ self.now.action }
+    pub fn action(&self) -> &AnyAction<A>
+        ensures { any_action_of result.now ≡ self.now.action }
     {
-        &self.work
+        &self.action
     }
 }

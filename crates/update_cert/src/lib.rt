@@ -17,7 +17,7 @@ mod tables;
 pub use applying::{Applied, Voids, apply};
 pub use blocks::{Blocks, some_reading_agrees, value_at};
 pub use cert::{CERT_SIZE, Cert, MOST_CHANGES, cert_text};
-pub use change::{Action, CHANGE_SIZE, Change, TableChange, Work};
+pub use change::{Action, AnyAction, CHANGE_SIZE, Change, TableChange};
 pub use error::ApplyError;
 pub use laws::{table_in_trees, voids_in_turn};
 pub use part::{LaidPart, Part, Slot, has_digest};

@@ -22,7 +22,7 @@ ghost use Rattle.update_cert.specs.Slots.{IsReadBack, changed_texts, has_digest,
 ghost use Rattle.update_cert.specs.Slots.{slot_after_change, slot_changes, slot_digest};
 
 use crate::blocks::Blocks;
-use crate::change::{Action, Change, Work};
+use crate::change::{Action, AnyAction, Change};
 use crate::error::ApplyError;
 use crate::laying::lay_directory;
 use crate::opened::{Open, find, take_out};
@@ -461,13 +461,13 @@ impl<A: Allocator + Copy> Part<A> {
         if change.principal().get() != self.principal().get() {
             return Ok(false);
         }
-        match change.work() {
-            Work::At(action) => {
+        match change.action() {
+            AnyAction::At(action) => {
                 let i_number = change.i_number();
                 let effect = self.change(alloc, blocks, user, is_member, i_number, action)?;
                 Ok(!effect)
             }
-            Work::OfTable(_) => Ok(false),
+            AnyAction::OfTable(_) => Ok(false),
         }
     }
 }

@@ -12,7 +12,7 @@ ghost use Rattle.update_cert.specs.TableVoids.{ToldEffect, is_void_on, table_voi
 
 use crate::applying::Voids;
 use crate::cert::Cert;
-use crate::change::{Change, TableChange, Work};
+use crate::change::{AnyAction, Change, TableChange};
 use layout::{Memory, Principal, User, Version};
 use principals::{Table, TableError};
 use std::alloc::Allocator;
@@ -68,10 +68,10 @@ fn apply_change<A: Allocator>(
         → OnOk result (table_format.Fits table.new) }
     ensures err { OnErr result (table.new ≡ table.old) }
 {
-    match change.work() {
-        Work::At(_) => Ok(false),
-        Work::OfTable(_) if user != User::superuser() => Ok(true),
-        Work::OfTable(change) => {
+    match change.action() {
+        AnyAction::At(_) => Ok(false),
+        AnyAction::OfTable(_) if user != User::superuser() => Ok(true),
+        AnyAction::OfTable(change) => {
             let effect = alter(table, number, change)?;
             Ok(!effect)
         }
@@ -107,9 +107,9 @@ fn apply_each<A: Allocator>(
 fn is_of_table<A: Allocator>(change: &Change<A>) -> bool
     ensures { result ≡ is_of_table change.now }
 {
-    match change.work() {
-        Work::At(_) => false,
-        Work::OfTable(_) => true,
+    match change.action() {
+        AnyAction::At(_) => false,
+        AnyAction::OfTable(_) => true,
     }
 }
 

@@ -17,11 +17,11 @@ returns-in_default-clause-missing g c =
       | in_default-via-in-Some+else-takes_inode w ↦ ap taken w.in-Some.is ∙ sym w.takes_inode.ensures ∙ w.if-takes_inode.false
       | in_default-via-in_default w ↦ ap taken w.in_default.is
     ] in
-    ((refl, refl), lacks_inode (g.B.Blocks.held c.args.blocks.now) p i c.args.digest (ap taken (sym c.in_ok-inode.ensures) ∙ none))
+    ((refl, refl), lacks_inode (g.B.Blocks.held c.args.blocks.now) p i c.args.digest (ap taken (sym c.in_ok-inode.ensures.found) ∙ none))
 
 pub returns-in-Some-clause-taken : goal.returns-in-Some-clause-taken
 returns-in-Some-clause-taken g c =
     let held = g.B.Blocks.held c.args.blocks.now in
-    let at : inode_at held c.args.digest ≡ Some c.in-Some.inode = sym c.in_ok-inode.ensures ∙ c.in-Some.is in
+    let at : inode_at held c.args.digest ≡ Some c.in-Some.inode = sym c.in_ok-inode.ensures.found ∙ c.in-Some.is in
     let taken : takes_inode c.args.principal c.args.i_number c.in-Some.inode ≡ true = search rules in
     inode_taken held c.args.principal c.args.i_number c.args.digest c.in-Some.inode at taken

@@ -1,7 +1,7 @@
 use Rattle.std.proofs.Common.{◌≡◌, Some, None, refl, sym, ap, ◌∙◌, rules}
 use Rattle.std.specs.Option.{option_copied}
 use Rattle.client_tree.specs.Held.{held, keeping}
-use Rattle.client_verify.specs.Outcomes.{IsAnswer}
+use Rattle.client_verify.specs.Reached.{IsAnswer}
 use Rattle.client_verify.specs.FirstBroken.{view_over}
 use Rattle.client_verify.specs.State.{AcceptedView, block_breaks}
 use Rattle.client_verify.proofs.Steps.{given_from, if_some, shown_there}

@@ -1,7 +1,7 @@
 use Rattle.std.proofs.Common.{◌≡◌, List, map, refl, subst}
 use Rattle.client_tree.specs.Held.{held}
-use Rattle.client_verify.specs.declared.outcome.Written.{Written}
-use Rattle.client_verify.specs.Outcomes.{IsWritten}
+use Rattle.client_verify.specs.declared.reaching.Written.{Written}
+use Rattle.client_verify.specs.Reached.{IsWritten}
 use Rattle.client_verify.specs.Judged.{record_over, view_of}
 use Rattle.client_verify.proofs.Steps.{goes_need, ready_is}
 use Rattle.client_verify.proofs.client.Client.go.Goals as goal

@@ -1,6 +1,6 @@
 use Rattle.std.proofs.Common.{◌≡◌, Some, ap, ◌∙◌, rules}
 use Rattle.client_tree.specs.Held.{held}
-use Rattle.client_verify.specs.Outcomes.{IsAnswer}
+use Rattle.client_verify.specs.Reached.{IsAnswer}
 use Rattle.client_verify.specs.FirstBroken.{view_over}
 use Rattle.client_verify.specs.State.{State, AcceptedView}
 use Rattle.client_verify.proofs.Steps.{if_some, shown_there}

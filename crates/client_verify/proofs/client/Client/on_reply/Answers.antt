@@ -1,5 +1,5 @@
 use Rattle.std.proofs.Common.{◌≡◌, Some, None, refl, rules}
-use Rattle.client_verify.specs.declared.outcome.Reached.TheVariants as reached
+use Rattle.client_verify.specs.declared.reaching.Reached.TheVariants as reached
 use Rattle.client_verify.specs.Good.{Good}
 use Rattle.client_verify.specs.FirstBroken.{reply_breaks, reply_in}
 use Rattle.client_verify.specs.State.{known}

@@ -2,7 +2,7 @@ use Rattle.std.proofs.Common.{◌≡◌, Some, refl, sym, ap, ◌∙◌, rules}
 use Rattle.pending_list.specs.Reply.{Reply}
 use Rattle.reply_rules.specs.Lists.{lists_of}
 use Rattle.client_tree.specs.Held.{keeping}
-use Rattle.client_verify.specs.declared.outcome.Reached.TheVariants as reached
+use Rattle.client_verify.specs.declared.reaching.Reached.TheVariants as reached
 use Rattle.client_verify.specs.Good.{Good}
 use Rattle.client_verify.specs.State.{Reading, checked_in, holding}
 use Rattle.client_verify.proofs.Steps.{goes_from, if_some}

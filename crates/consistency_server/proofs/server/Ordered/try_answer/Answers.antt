@@ -6,7 +6,7 @@ use Rattle.consistency_server.specs.History.{answer_of, logged, logged_of, is_ca
 use Rattle.consistency_server.specs.Judged.{answer_by, logged_by}
 use Rattle.consistency_server.proofs.Texts.{with_ok}
 use Rattle.consistency_server.proofs.Kept.{may_happen, answer_judged, logged_judged}
-use Rattle.consistency_server.proofs.Serving.{serves, on_ok, settled_history, kept_settled}
+use Rattle.consistency_server.proofs.Serving.{serves, on_ok, history_after_call, kept_after_verdict}
 use Rattle.consistency_server.proofs.server.Ordered.try_answer.Given as given
 use Rattle.consistency_server.proofs.server.Ordered.try_answer.Goals as goal
 
@@ -30,14 +30,14 @@ to_log g c =
 
 pub invariant_of-self : goal.invariant_of-self
 invariant_of-self g c =
-    kept_settled c.carry_out.result c.self.inside.pinned c.self.inside.history.items c.carry_out.new.history.items (call_of g c) c.self.inside.state c.carry_out.new.state c.in_ok-judged.judged c.self.invariant c.in_ok-judged.ensures c.carry_out.ensures.state c.carry_out.ensures.history c.carry_out.ensures.state_err c.carry_out.ensures.history_err
+    kept_after_verdict c.carry_out.result c.self.inside.pinned c.self.inside.history.items c.carry_out.new.history.items (call_of g c) c.self.inside.state c.carry_out.new.state c.in_ok-judged.judged c.self.invariant c.in_ok-judged.ensures c.carry_out.ensures.state c.carry_out.ensures.history c.carry_out.ensures.state_err c.carry_out.ensures.history_err
 
 pub returns-clause-answer : goal.returns-clause-answer
 returns-clause-answer g c = with_ok c.carry_out.result _ _ (λ a e. e ∙ answered g c) c.carry_out.ensures.answer
 
 pub returns-clause-history : goal.returns-clause-history
 returns-clause-history g c =
-    on_ok c.carry_out.result _ _ (settled_history c.self.inside.pinned c.self.inside.history.items c.carry_out.new.history.items (call_of g c) c.args.self.now c.self.view_is) c.carry_out.ensures.history
+    on_ok c.carry_out.result _ _ (history_after_call c.self.inside.pinned c.self.inside.history.items c.carry_out.new.history.items (call_of g c) c.args.self.now c.self.view_is) c.carry_out.ensures.history
 
 pub returns-clause-log : goal.returns-clause-log
 returns-clause-log g c = on_ok c.carry_out.result _ _ (λ e. e ∙ ap (λ calls. g.G.Log.pushed c.args.log.now ++ calls) (to_log g c)) c.carry_out.ensures.log

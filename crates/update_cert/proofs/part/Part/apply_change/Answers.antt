@@ -2,7 +2,7 @@ use Rattle.std.proofs.Common.{◌≡◌, ◌≢◌, ℕ, true, refl, sym, ap, su
 use Rattle.std.specs.Prelude.{◌==◌, if◌then◌else◌}
 use Rattle.layout.specs.Types.{Digest}
 use Rattle.update_cert.specs.declared.error.ApplyError.{ApplyError}
-use Rattle.update_cert.specs.Change.{Change, action_of, work_of}
+use Rattle.update_cert.specs.Change.{Change, action_of, any_action_of}
 use Rattle.update_cert.specs.World.{changes_table, is_table}
 use Rattle.update_cert.specs.Part.{slot_at}
 use Rattle.update_cert.specs.Slots.{slot_changes, slot_after_change}
@@ -34,7 +34,7 @@ returns-in-OfTable-clause-slots g c = λ reads agrees actor of is i.
     let part = c.args.self.now in
     let change = c.args.change.now in
     let own : change.principal ≡ part.table.principal = search rules in
-    let tables : changes_table change.action ≡ true = ap changes_table (sym c.work.ensures ∙ ap work_of c.in-OfTable.is) ∙ is_tables c.in-OfTable.field-0 in
+    let tables : changes_table change.action ≡ true = ap changes_table (sym c.action.ensures ∙ ap any_action_of c.in-OfTable.is) ∙ is_tables c.in-OfTable.field-0 in
     let place : is_table change.principal change.i_number ≡ true = at_table change c.principal.ensures.fits tables in
     slot_own reads actor part.table.principal i change (slot_at part i) (slot_at part i) own (slots_still reads actor change part i (of_table reads actor change (slot_at part i) place))
 
@@ -43,14 +43,14 @@ returns-in-OfTable-clause-part g c = λ reads agrees tree actor stood of is.
     let part = c.args.self.now in
     let change = c.args.change.now in
     let own : change.principal ≡ part.table.principal = search rules in
-    let tables : changes_table change.action ≡ true = ap changes_table (sym c.work.ensures ∙ ap work_of c.in-OfTable.is) ∙ is_tables c.in-OfTable.field-0 in
+    let tables : changes_table change.action ≡ true = ap changes_table (sym c.action.ensures ∙ ap any_action_of c.in-OfTable.is) ∙ is_tables c.in-OfTable.field-0 in
     let place : is_table change.principal change.i_number ≡ true = at_table change c.principal.ensures.fits tables in
     part_followed reads actor change part part tree own refl (λ i. slots_still reads actor change part i (of_table reads actor change (slot_at part i) place)) stood
 
 pub returns-in-OfTable-clause-void : goal.returns-in-OfTable-clause-void
 returns-in-OfTable-clause-void g c = λ reads agrees tree actor stood of is.
     let change = c.args.change.now in
-    let tables : changes_table change.action ≡ true = ap changes_table (sym c.work.ensures ∙ ap work_of c.in-OfTable.is) ∙ is_tables c.in-OfTable.field-0 in
+    let tables : changes_table change.action ≡ true = ap changes_table (sym c.action.ensures ∙ ap any_action_of c.in-OfTable.is) ∙ is_tables c.in-OfTable.field-0 in
     not_of_part actor c.args.self.now.table.principal change tree tables
 
 -- ---- one that is done in the part
@@ -62,7 +62,7 @@ returns-in_err-effect-in-At-clause-missing g c = λ actor of is.
     let blocks = g.B.Blocks.held c.args.blocks.now in
     let e = c.in_err-effect-in-At.field-0.0 in
     let own : change.principal ≡ part.table.principal = search rules in
-    let at = is_change change part c.i_number-i_number.result (action_of c.in-At.action) own c.i_number-i_number.ensures (sym (ap work_of c.in-At.is) ∙ c.work.ensures) in
+    let at = is_change change part c.i_number-i_number.result (action_of c.in-At.action) own c.i_number-i_number.ensures (sym (ap any_action_of c.in-At.is) ∙ c.action.ensures) in
     let lacks : Lacks blocks (LiesBy blocks actor part change) e = subst (λ (x : Change Digest). Lacks blocks (LiesBy blocks actor part x) e) at (c.in_err-effect-in-At.ensures.missing actor of is) in
     handed_on c.from_residual.result e (λ (x : ApplyError). (change.principal ≡ part.table.principal) × Lacks blocks (LiesBy blocks actor part change) x) c.from_residual.ensures.1 (own, lacks)
 
@@ -71,7 +71,7 @@ returns-in_ok-effect-in-At-clause-part g c = λ reads agrees tree actor stood of
     let part = c.args.self.now in
     let change = c.args.change.now in
     let own : change.principal ≡ part.table.principal = search rules in
-    let at = is_change change part c.i_number-i_number.result (action_of c.in-At.action) own c.i_number-i_number.ensures (sym (ap work_of c.in-At.is) ∙ c.work.ensures) in
+    let at = is_change change part c.i_number-i_number.result (action_of c.in-At.action) own c.i_number-i_number.ensures (sym (ap any_action_of c.in-At.is) ∙ c.action.ensures) in
     let slots = subst (λ (x : Change Digest). (k : ℕ) → slot_at c.change.new.self k ≡ (if x.i_number == k then slot_after_change reads actor x (slot_at part k) else slot_at part k)) at (c.in_ok-effect-in-At.ensures.slots reads agrees actor of is) in
     part_followed reads actor change part c.change.new.self tree own c.in_ok-effect-in-At.ensures.principal slots stood
 
@@ -80,7 +80,7 @@ returns-in_ok-effect-in-At-clause-slots g c = λ reads agrees actor of is i.
     let part = c.args.self.now in
     let change = c.args.change.now in
     let own : change.principal ≡ part.table.principal = search rules in
-    let at = is_change change part c.i_number-i_number.result (action_of c.in-At.action) own c.i_number-i_number.ensures (sym (ap work_of c.in-At.is) ∙ c.work.ensures) in
+    let at = is_change change part c.i_number-i_number.result (action_of c.in-At.action) own c.i_number-i_number.ensures (sym (ap any_action_of c.in-At.is) ∙ c.action.ensures) in
     let slots = subst (λ (x : Change Digest). (k : ℕ) → slot_at c.change.new.self k ≡ (if x.i_number == k then slot_after_change reads actor x (slot_at part k) else slot_at part k)) at (c.in_ok-effect-in-At.ensures.slots reads agrees actor of is) in
     slot_own reads actor part.table.principal i change (slot_at part i) (slot_at c.change.new.self i) own (slots i)
 
@@ -89,9 +89,9 @@ returns-in_ok-effect-in-At-clause-void g c = λ reads agrees tree actor stood of
     let part = c.args.self.now in
     let change = c.args.change.now in
     let own : change.principal ≡ part.table.principal = search rules in
-    let at = is_change change part c.i_number-i_number.result (action_of c.in-At.action) own c.i_number-i_number.ensures (sym (ap work_of c.in-At.is) ∙ c.work.ensures) in
+    let at = is_change change part c.i_number-i_number.result (action_of c.in-At.action) own c.i_number-i_number.ensures (sym (ap any_action_of c.in-At.is) ∙ c.action.ensures) in
     let told = subst (λ (x : Change Digest). c.in_ok-effect-in-At.effect ≡ slot_changes reads actor x (slot_at part x.i_number)) at (c.in_ok-effect-in-At.ensures.effect reads agrees actor of is) in
-    let other = ap changes_table (sym c.work.ensures ∙ ap work_of c.in-At.is) ∙ is_other c.in-At.action in
+    let other = ap changes_table (sym c.action.ensures ∙ ap any_action_of c.in-At.is) ∙ is_other c.in-At.action in
     void_followed reads actor change part tree c.in_ok-effect-in-At.effect own other stood told
 
 -- ---- nothing of it is missing
@@ -104,7 +104,7 @@ returns-then-get-clause-taken g c = λ actor of is own.
 pub returns-in-OfTable-clause-taken : goal.returns-in-OfTable-clause-taken
 returns-in-OfTable-clause-taken g c = λ actor of is own asked.
     let change = c.args.change.now in
-    let tables : changes_table change.action ≡ true = ap changes_table (sym c.work.ensures ∙ ap work_of c.in-OfTable.is) ∙ is_tables c.in-OfTable.field-0 in
+    let tables : changes_table change.action ≡ true = ap changes_table (sym c.action.ensures ∙ ap any_action_of c.in-OfTable.is) ∙ is_tables c.in-OfTable.field-0 in
     let place : is_table change.principal change.i_number ≡ true = at_table change c.principal.ensures.fits tables in
     absurd (table_asks actor change place asked)
 
@@ -112,5 +112,5 @@ pub returns-in_ok-effect-in-At-clause-taken : goal.returns-in_ok-effect-in-At-cl
 returns-in_ok-effect-in-At-clause-taken g c = λ actor of is own.
     let part = c.args.self.now in
     let change = c.args.change.now in
-    let at = is_change change part c.i_number-i_number.result (action_of c.in-At.action) own c.i_number-i_number.ensures (sym (ap work_of c.in-At.is) ∙ c.work.ensures) in
+    let at = is_change change part c.i_number-i_number.result (action_of c.in-At.action) own c.i_number-i_number.ensures (sym (ap any_action_of c.in-At.is) ∙ c.action.ensures) in
     subst (λ (x : Change Digest). HasBy (g.B.Blocks.held c.args.blocks.now) actor part x) at (c.in_ok-effect-in-At.ensures.taken actor of is)
