@@ -1,4 +1,5 @@
--- The line of an accepted view: the operations, of all users, that led to it, in order. And that views agree on their lines.
+-- The line of an accepted view: the operations, of all users, that led to it, in order. And that views agree on their
+-- lines.
 use Rattle.std.specs.Prelude.{◌≡◌, ◌+◌, ◌==◌, ◌&&◌, List, [], ◌∷◌, ◌++◌, filter, length, map, if◌then◌else◌}
 use Rattle.std.specs.List.{All, Contains}
 use Rattle.std.specs.Option.{option_map_or}
@@ -14,7 +15,8 @@ abbrev pub line_at : List View → User → Version → List Cert
 line_at [] u n = []
 line_at (x ∷ older) u n =
     if (user_of x == u) && (number_of x == n)
-    then option_map_or (λ t. line_at older t.user t.number) (top_plan x.lists) [] ++ map (λ i. i.cert) (items_above x.lists)
+    then option_map_or (λ t. line_at older t.user t.number) (top_plan x.lists) []
+        ++ map (λ i. i.cert) (items_above x.lists)
     else line_at older u n
 
 abbrev pub line : List View → View → List Cert
@@ -24,7 +26,8 @@ line run x = line_at run (user_of x) (number_of x)
 
 -- each user's numbers are 1, 2, 3 and so on: each is one more than there are operations of the user before it
 abbrev pub IsNumbered : List Cert → Type 0
-IsNumbered l = (before : List Cert) (c : Cert) (after : List Cert) → l ≡ before ++ c ∷ after → c.number ≡ length (filter (λ b. b.user == c.user) before) + 1
+IsNumbered l = (before : List Cert) (c : Cert) (after : List Cert) → l ≡ before ++ c ∷ after
+    → c.number ≡ length (filter (λ b. b.user == c.user) before) + 1
 
 abbrev pub EndsWith : Cert → List Cert → Type 0
 EndsWith c l = (before : List Cert) × (l ≡ before ++ c ∷ [])
@@ -55,7 +58,8 @@ EndWithOwn run = All (λ x. EndsWith x.lists.own.cert (line run x)) run
 -- the line of a user's view is a beginning of that of the user's next one
 abbrev pub Grow : List View → Type 0
 Grow run =
-    (x y : View) → Contains run x → Contains run y → user_of y ≡ user_of x → number_of y ≡ number_of x + 1 → IsBeginning (line run x) (line run y)
+    (x y : View) → Contains run x → Contains run y → user_of y ≡ user_of x → number_of y ≡ number_of x + 1
+        → IsBeginning (line run x) (line run y)
 
 -- the structure is one of the view's, or its own new one
 abbrev pub Has : View → Structure → Type 0
@@ -64,4 +68,5 @@ Has x z = Contains (structures x ++ x.signed ∷ []) z
 -- views that have one structure have the same line up to it
 abbrev pub Agree : List View → Type 0
 Agree run =
-    (x y : View) (z : Structure) → Contains run x → Contains run y → Has x z → Has y z → SameUpTo z (line run x) (line run y)
+    (x y : View) (z : Structure) → Contains run x → Contains run y → Has x z → Has y z
+        → SameUpTo z (line run x) (line run y)

@@ -14,8 +14,8 @@ use Rattle.reply_rules.specs.Lists.{Lists, items, pending, shown, structure_of}
 use Rattle.reply_rules.specs.Rules.{lists}
 use Rattle.reply_rules.specs.Broken.{broken}
 
--- An accepted view: the lists of the reply, the table of principals by which they were judged, and the structure that was
--- signed over them.
+-- An accepted view: the lists of the reply, the table of principals by which they were judged, and the structure that
+-- was signed over them.
 pub record View : Type 0 where
   pub lists : Lists
   pub table : Table
@@ -43,7 +43,8 @@ structures x = map (λ z. z.value) x.lists.structures
 pub record Accepted (older : List View) (x : View) : Type 0 where
   -- the reply was read from bytes
   pub read : reply.Fits (reply_of x)
-  -- it breaks no rule: not the one on lists, nor that the own structure is the one that was signed last, nor one by the table
+  -- it breaks no rule: not the one on lists, nor that the own structure is the one that was signed last, nor one by the
+  -- table
   pub lists : lists (reply_of x) ≡ true
   pub own_last : option_map (λ z. z.value) (structure_of (user_of x) x.lists) ≡ last_signed (user_of x) older
   pub rules : broken x.table x.lists ≡ None

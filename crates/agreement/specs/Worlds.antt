@@ -1,6 +1,5 @@
--- The world of a line: what its operations make of the beginning. And that what a client reads of an accepted view is the
--- world of the view's line.
--- How a view is read, and what changes do, stands in docs/RULES.md.
+-- The world of a line: what its operations make of the beginning. And that what a client reads of an accepted view is
+-- the world of the view's line. How a view is read, and what changes do, stands in docs/RULES.md.
 use Rattle.std.specs.Prelude.{◌≡◌, ◌⊎◌, ◌<◌, ◌&&◌, Bool, true, false, List, [], ◌∷◌, ◌++◌, Some, nat_le}
 use Rattle.std.specs.List.{All, Contains}
 use Rattle.std.specs.Option.{option_and_then, option_map}
@@ -48,7 +47,8 @@ world reads key l = world_from reads (genesis key) l
 
 -- the i-table with this handle has what the principal has in this tree, but for the table of principals
 abbrev pub Names : Reading → Principal → Handle → Tree → Type 0
-Names reads p handle w = (i : INumber) → is_table p i ≡ false → option_map reads.content (reads.inode p handle i) ≡ w p i
+Names reads p handle w = (i : INumber) → is_table p i ≡ false
+    → option_map reads.content (reads.inode p handle i) ≡ w p i
 
 -- and this one has at its place the file of this table's text
 abbrev pub NamesTable : Reading → Handle → Table → Type 0
@@ -62,7 +62,8 @@ pub record NameFirst (reads : Reading) (key : Key) : Type 0 where
 
 -- the view as its tree is read
 abbrev pub view_in : Key → View → tree_spec.View
-view_in key x = record { key = key; table = x.table; structures = x.lists.structures; others = x.lists.others; own = x.lists.own }
+view_in key x =
+    record { key = key; table = x.table; structures = x.lists.structures; others = x.lists.others; own = x.lists.own }
 
 -- The view was read, and its structure signed, as an honest client does.
 pub record IsHonest (reads : Reading) (key : Key) (x : View) : Type 0 where
@@ -76,15 +77,18 @@ pub record IsHonest (reads : Reading) (key : Key) (x : View) : Type 0 where
   pub own_table : user_of x ≡ 0 → NamesTable reads x.signed.handle x.table × table.Fits x.table
   -- there is a new record of each group that the own operation raises, with the plan's version, whose handle names the
   -- group's part; other records are those of the user's structure before
-  pub raised : (g : Group) → raises x.table g x.lists.own ≡ true → (r : GroupRecord) × (record_of g x.signed.groups ≡ Some r)
+  pub raised : (g : Group) → raises x.table g x.lists.own ≡ true
+      → (r : GroupRecord) × (record_of g x.signed.groups ≡ Some r)
       × (r.version ≡ version_of g x.lists.own.plan.vector) × Names reads g r.handle (tree reads users (view_in key x))
   pub kept : (g : Group) → raises x.table g x.lists.own ≡ false
-      → record_of g x.signed.groups ≡ option_and_then (λ z. record_of g z.value.groups) (structure_of (user_of x) x.lists)
+      → record_of g x.signed.groups ≡ option_and_then (λ z. record_of g z.value.groups)
+          (structure_of (user_of x) x.lists)
 
 -- what holds of each run without collisions, all of whose views are honest
 abbrev pub EachHonestRun : (Reading → Key → List View → Type 0) → Type 0
 EachHonestRun holds =
-    (reads : Reading) (key : Key) (run : List View) → NameFirst reads key → IsRun run → NoCollision run → All (IsHonest reads key) run → holds reads key run
+    (reads : Reading) (key : Key) (run : List View) → NameFirst reads key → IsRun run → NoCollision run
+        → All (IsHonest reads key) run → holds reads key run
 
 -- ---- views are worlds
 
@@ -97,19 +101,24 @@ AreWorlds reads key run =
 -- the numbers that it loses are those of the void changes of the own operation at its place
 abbrev pub LoseVoid : Reading → Key → List View → Type 0
 LoseVoid reads key run =
-    (x : View) → Contains run x → (honest : IsHonest reads key x) → (before : List Cert) → line run x ≡ before ++ x.lists.own.cert ∷ []
-    → lost reads honest.users (view_in key x) ≡ void_read reads (actor_in (world reads key before) x.lists.own.cert) x.lists.own.cert.changes (world reads key before)
+    (x : View) → Contains run x → (honest : IsHonest reads key x) → (before : List Cert)
+        → line run x ≡ before ++ x.lists.own.cert ∷ []
+    → lost reads honest.users (view_in key x)
+        ≡ void_read reads (actor_in (world reads key before) x.lists.own.cert) x.lists.own.cert.changes
+            (world reads key before)
 
 -- who is a member at an operation's table version, by the view's table, is one in the world before the operation
 abbrev pub JudgeAsWorld : Reading → Key → List View → Type 0
 JudgeAsWorld reads key run =
-    (x : View) (i : PendingItem) → Contains run x → Contains (items x.lists) i → (before after : List Cert) → line run x ≡ before ++ i.cert ∷ after → (g : Group)
+    (x : View) (i : PendingItem) → Contains run x → Contains (items x.lists) i → (before after : List Cert)
+        → line run x ≡ before ++ i.cert ∷ after → (g : Group)
     → acts_for x.table i g ≡ acts_in (world reads key before) i.cert g
 
 -- each operation's user is listed in the world before it
 abbrev pub AllListed : Reading → Key → List View → Type 0
 AllListed reads key run =
-    (x : View) → Contains run x → (before : List Cert) (c : Cert) (after : List Cert) → line run x ≡ before ++ c ∷ after → lists_user (table_in (world reads key before)) c.user ≡ true
+    (x : View) → Contains run x → (before : List Cert) (c : Cert) (after : List Cert) → line run x ≡ before ++ c ∷ after
+        → lists_user (table_in (world reads key before)) c.user ≡ true
 
 -- ---- any operation, in any tree
 

@@ -18,7 +18,8 @@ blocks_of tree digest = option_map (λ block. block.items) (get (slice_cmp nat_c
 
 -- each block has the digest under which it stands, and at most 32,779 bytes
 abbrev pub AreOwn : Blocks → Type 0
-AreOwn blocks = (digest : Digest) (block : Bytes) → blocks digest ≡ Some block → (hash block ≡ digest) × (length block ≤ 32779)
+AreOwn blocks = (digest : Digest) (block : Bytes) → blocks digest ≡ Some block
+    → (hash block ≡ digest) × (length block ≤ 32779)
 
 -- what is stored once these bytes were put: a block that stood under their digest stays, and else they stand there
 pub record IsPut (before : Blocks) (bytes : Bytes) (after : Blocks) : Type 0 where

@@ -30,12 +30,13 @@ pub record AnyMoment (leaf : LeafNumber) (r : Record) (old new : Devices) : Type
   pub records_read : (rs : List Record) → Tells rs old.journal.file.now.text
       → TellsWithOrWithout rs r new.journal.file.now.text
 
--- A text was signed by this leaf and stands in the journal, for good: the ledger's file has the mark of the leaf, and else
--- is as it was; the journal has this record more. Both are steps of the files' lives.
+-- A text was signed by this leaf and stands in the journal, for good: the ledger's file has the mark of the leaf, and
+-- else is as it was; the journal has this record more. Both are steps of the files' lives.
 pub record IsKept (leaf : LeafNumber) (r : Record) (old new : Devices) : Type 0 where
   pub least : IsLeastFree old.ledger.file.now.text leaf
   pub marked : new.ledger.file.now ≡ at_rest (with_mark leaf old.ledger.file.now.text)
-  pub appended : (rs : List Record) → Tells rs old.journal.file.now.text → Tells (rs ++ r ∷ []) new.journal.file.now.text
+  pub appended : (rs : List Record) → Tells rs old.journal.file.now.text
+      → Tells (rs ++ r ∷ []) new.journal.file.now.text
   pub rests : new.journal.file.now ≡ at_rest new.journal.file.now.text
   pub taken : Call (Some leaf) old.ledger.file new.ledger.file
   pub added : Step (Appended r) old.journal.file new.journal.file
@@ -45,15 +46,16 @@ abbrev pub IsTried : (LeafNumber → Record) → Devices → Devices → Type 0
 IsTried record_by old new =
     (Call None old.ledger.file new.ledger.file × Step Nothing old.journal.file new.journal.file)
     ⊎ ((leaf : LeafNumber) × IsLeastFree old.ledger.file.now.text leaf
-    × Call (Some leaf) old.ledger.file new.ledger.file × Step (Tried (record_by leaf)) old.journal.file new.journal.file)
+    × Call (Some leaf) old.ledger.file new.ledger.file
+        × Step (Tried (record_by leaf)) old.journal.file new.journal.file)
 
 -- the count of faults of one of the devices rose, or stands at its last value
 abbrev pub OneHasRisen : Devices → Devices → Type 0
 OneHasRisen old new = HasRisen old.ledger.faults new.ledger.faults ⊎ HasRisen old.journal.faults new.journal.faults
 
--- At every moment while a client is opened, whether it is or not: a step of the ledger's life that hands out no leaf, and
--- one of the journal's that adds no record; files that are there are synced at most; and where each crash before left what
--- tells these records, each crash since does.
+-- At every moment while a client is opened, whether it is or not: a step of the ledger's life that hands out no leaf,
+-- and one of the journal's that adds no record; files that are there are synced at most; and where each crash before
+-- left what tells these records, each crash since does.
 pub record IsOpening (old_ledger old_journal new_ledger new_journal : History) : Type 0 where
   pub leaves : Call None old_ledger new_ledger
   pub ledger_kept : KeepsLedger old_ledger new_ledger

@@ -19,7 +19,8 @@ use Rattle.client_releases.specs.declared.phase.Phase.TheVariants as phase
 
 -- what a text spells, if it spells something of this user
 abbrev pub own_in : {V : Type 0} → Format V → (V → User) → User → Bytes → Option V
-own_in f user_of user text = option_and_then (λ v. if user_of v == user then Some v else None) (result_ok (whole f text))
+own_in f user_of user text = option_and_then (λ v. if user_of v == user then Some v else None)
+    (result_ok (whole f text))
 
 -- the signed certificate of this user that a text is
 abbrev pub cert_in : User → Bytes → Option (Signed Cert)
@@ -47,7 +48,8 @@ after_structure text z = record { number = z.value.plan.number; last = Some z; p
 abbrev pub told_by : User → Recorded → Option Told
 told_by user Idle = Some (record { number = 0; last = None; phase = phase.Idle; text = [] })
 told_by user (Declared None text) = option_map (after_cert None text) (cert_in user text)
-told_by user (Declared (Some last) text) = option_and_then (λ z. option_map (after_cert (Some z) text) (cert_in user text)) (structure_in user last)
+told_by user (Declared (Some last) text) =
+    option_and_then (λ z. option_map (after_cert (Some z) text) (cert_in user text)) (structure_in user last)
 told_by user (Ended text) = option_map (after_structure text) (structure_in user text)
 
 -- What a client has released, with its devices: whose it is, what the own key is made of, the leaves, the signed texts,
@@ -103,8 +105,8 @@ pub record Stands (r : Released) : Type 0 where
   pub told : told_by r.user recorded ≡ Some (told_of told_phase r)
   pub is_phase : IsPhase told_phase r.phase
 
--- What is true of it at all times: the ledger is the own key's, no leaf is outstanding, and it stands unless a device has
--- failed.
+-- What is true of it at all times: the ledger is the own key's, no leaf is outstanding, and it stands unless a device
+-- has failed.
 pub record IsReleased (r : Released) : Type 0 where
   pub own_key : r.devices.ledger.key ≡ public_key_of r.seed r.id
   pub settled : r.devices.ledger.outstanding ≡ 0

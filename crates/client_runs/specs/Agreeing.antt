@@ -1,5 +1,5 @@
--- The accepted views of a run agree, where no signature is forged, no digest collides, and user 0's client added each user
--- with the user's own key.
+-- The accepted views of a run agree, where no signature is forged, no digest collides, and user 0's client added each
+-- user with the user's own key.
 use Rattle.std.specs.Prelude.{◌≡◌, List, [], ◌∷◌, IfSome, true, map}
 use Rattle.std.specs.List.{All, Contains}
 use Rattle.layout.specs.Types.{Bytes, Digest, User}
@@ -21,8 +21,8 @@ use Rattle.client_runs.specs.UsedOnce.{LeavesOnce}
 abbrev pub HasReleased : User → List Event → Bytes → Type 0
 HasReleased u run text = Contains (map unsigned (released u run)) text
 
--- what verifies under the user's key was released by the user's client, if no two texts that this client released in the
--- whole run carry one leaf number
+-- what verifies under the user's key was released by the user's client, if no two texts that this client released in
+-- the whole run carry one leaf number
 abbrev pub IsGenuine : Keys → List Event → List Event → Shown → Type 0
 IsGenuine keys whole older t =
     LeavesOnce t.user whole → valid (public_key keys t.user) t.text t.signature ≡ true → HasReleased t.user older t.text

@@ -29,12 +29,13 @@ pub record IsEventOf {A : Type 0} (step : WorldStep A) (answer : Answer A) (e : 
 -- couldn't be by its user's client as that was then; and each other one has its own.
 abbrev pub Keep : {A : Type 0} → List (WorldStep A) → List (Answer A) → List Event → Type 0
 Keep [] [] [] = Unit {0}
-Keep (step ∷ steps) (answer.NotTaken ∷ answers) events = CantBeTaken (client_of step.user events) step.act × Keep steps answers events
+Keep (step ∷ steps) (answer.NotTaken ∷ answers) events = CantBeTaken (client_of step.user events) step.act
+    × Keep steps answers events
 Keep (step ∷ steps) (answer ∷ answers) (e ∷ events) = IsEventOf step answer e × Keep steps answers events
 Keep steps answers events = ⊥
 
--- The premises under which accepted views agree. That user 0's key has the form of a key is none of them: of these keys it
--- is proved.
+-- The premises under which accepted views agree. That user 0's key has the form of a key is none of them: of these keys
+-- it is proved.
 pub record RunPremises (run : List Event) : Type 0 where
   pub no_forgery : NoForgery script_keys run
   pub no_collision : NoCollision script_keys run
@@ -49,8 +50,8 @@ pub record AreInAgreement (run : List Event) : Type 0 where
   pub growing : Grow (views run)
   pub agreed : Agree (views run)
 
--- The steps with their answers are a run of clients with these keys; so what its clients release is used once, and, under
--- the premises, its accepted views agree.
+-- The steps with their answers are a run of clients with these keys; so what its clients release is used once, and,
+-- under the premises, its accepted views agree.
 pub record AreCarriedOut {A : Type 0} (steps : List (WorldStep A)) (answers : List (Answer A)) : Type 0 where
   pub events : List Event
   pub is_run : IsRun script_keys events
@@ -63,7 +64,8 @@ pub record AreCarriedOut {A : Type 0} (steps : List (WorldStep A)) (answers : Li
 -- ---- one step
 
 -- a step that was taken
-pub record IsTaken {A : Type 0} (o : Owner) (before : Client) (act : Act A) (answer : Answer A) (after : Client) : Type 0 where
+pub record IsTaken {A : Type 0} (o : Owner) (before : Client) (act : Act A) (answer : Answer A)
+    (after : Client) : Type 0 where
   pub call : Call
   pub is_call : call_of act answer ≡ Some call
   pub told : IsTold act answer after

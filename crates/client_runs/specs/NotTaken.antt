@@ -13,11 +13,13 @@ use Rattle.client_runs.specs.Told.{texts_in}
 
 -- a crash may leave this text of the ledger's file, and that one of the journal's
 abbrev pub MayLeaveBoth : History → History → Bytes → Bytes → Type 0
-MayLeaveBoth ledger journal ledger_left journal_left = MayLeave ledger.now ledger_left × MayLeave journal.now journal_left
+MayLeaveBoth ledger journal ledger_left journal_left = MayLeave ledger.now ledger_left
+    × MayLeave journal.now journal_left
 
 -- no crash of this client leaves both
 abbrev pub NoneLeaves : Client → Bytes → Bytes → Type 0
-NoneLeaves client ledger_left journal_left = MayLeaveBoth (ledger_of client) (journal_of client) ledger_left journal_left → ⊥
+NoneLeaves client ledger_left journal_left = MayLeaveBoth (ledger_of client)
+    (journal_of client) ledger_left journal_left → ⊥
 
 -- an operation is under way, the changes are too many, or what they need wasn't laid out
 abbrev pub CantBegin : State → List (Change Digest) → List Bytes → Type 0

@@ -1,5 +1,5 @@
--- What happens in a run: the texts that clients release, the views that they accept, the texts that are shown to them with
--- signatures, and those of which digests are taken.
+-- What happens in a run: the texts that clients release, the views that they accept, the texts that are shown to them
+-- with signatures, and those of which digests are taken.
 use Rattle.std.specs.Prelude.{List, [], ◌∷◌, ◌++◌, Option, None, Result, Ok, Err, ◌==◌, if◌then◌else◌, map}
 use Rattle.std.specs.List.{flat_map}
 use Rattle.std.specs.Option.{option_map, option_map_or, option_to_list}
@@ -62,7 +62,8 @@ tried_by call before tried = tried
 -- the view over which a user's client tried to sign before its device failed, if it wasn't opened since
 abbrev pub tried_view : User → List Event → Option View
 tried_view u [] = None
-tried_view u (e ∷ older) = if e.user == u then tried_by e.call (client_of u older) (tried_view u older) else tried_view u older
+tried_view u (e ∷ older) = if e.user == u then tried_by e.call (client_of u older) (tried_view u older)
+    else tried_view u older
 
 -- a client that found a structure in its journal
 abbrev pub where_signed : Phase → Option View → List View
@@ -73,8 +74,8 @@ abbrev pub where_found : Client → Option View → List View
 where_found (Closed p) tried = []
 where_found (Open s) tried = where_signed s.phase tried
 
--- The view that a call accepts: `sign` the one in hand; and `open` the one over which a structure was tried, where it finds
--- that structure.
+-- The view that a call accepts: `sign` the one in hand; and `open` the one over which a structure was tried, where it
+-- finds that structure.
 abbrev pub accepted_by : Call → Client → Client → Option View → List View
 accepted_by (Signs (Ok text)) before after tried = option_to_list (in_hand before)
 accepted_by (Opens (Ok x)) before after tried = where_found after tried

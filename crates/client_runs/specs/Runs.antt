@@ -30,4 +30,5 @@ client_of u (e ∷ older) = if e.user == u then e.after else client_of u older
 -- each is a step of its user's client as that was then
 abbrev pub IsRun : Keys → List Event → Type 0
 IsRun keys [] = Unit {0}
-IsRun keys (e ∷ older) = IsStep (owner keys e.user) (client_of e.user older) e.call e.after × IsSound e.after × IsRun keys older
+IsRun keys (e ∷ older) = IsStep (owner keys e.user) (client_of e.user older) e.call e.after × IsSound e.after
+    × IsRun keys older

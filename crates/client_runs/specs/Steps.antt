@@ -1,7 +1,7 @@
 -- The steps of one user's client: what each call of it may answer and leave, by its contract, and what a crash leaves.
 --
--- A crash inside a call is a call whose device fails, and then a crash: whatever part of the call was done by then is one
--- that a device may have done that fails there.
+-- A crash inside a call is a call whose device fails, and then a crash: whatever part of the call was done by then is
+-- one that a device may have done that fails there.
 use Rattle.std.specs.Prelude.{◌≡◌, ◌≢◌, ◌⊎◌, ◌↔◌, ℕ, ◌≤◌, List, [], length, Option, Some, IfOk, IfErr, IsErrOf, IfSome, IsSome, IsSomeAnd, OnOk, OnErr, Result, Ok, Err, true, IsOk}
 use Rattle.layout.specs.Format.{IsBytes}
 use Rattle.layout.specs.Ranges.{last_version}
@@ -109,8 +109,10 @@ pub record IsOpened (o : Owner) (p : Parts) (new : State) : Type 0 where
 pub record IsRefused (o : Owner) (p : Parts) (e : ClientError) (new : Parts) : Type 0 where
   pub moments : IsOpening p.ledger.history p.journal.history new.ledger.history new.journal.history
   pub foreign : e ≡ error.Foreign → IsForeign (own_key o) p.ledger.history.now.text
-  pub damaged : e ≡ error.Damaged → IsDamaged p.journal.history.now.text ⊎ TellsOfOther o.user p.journal.history.now.text
-  pub device : e ≡ error.Device → HasRisen p.ledger.faults new.ledger.faults ⊎ HasRisen p.journal.faults new.journal.faults
+  pub damaged : e ≡ error.Damaged → IsDamaged p.journal.history.now.text
+      ⊎ TellsOfOther o.user p.journal.history.now.text
+  pub device : e ≡ error.Device → HasRisen p.ledger.faults new.ledger.faults
+      ⊎ HasRisen p.journal.faults new.journal.faults
   pub leaves : e ≢ error.NoLeaf
   pub numbers : e ≢ error.NoNumber
   pub ledger_later : p.ledger.faults ≤ new.ledger.faults
@@ -122,11 +124,13 @@ pub record IsHandedBack (s : State) (p : Parts) : Type 0 where
   pub ledger_faults : p.ledger.faults ≡ s.devices.ledger.faults
   pub journal_faults : p.journal.faults ≡ s.devices.journal.faults
 
-pub record HasBegun (s : State) (changes : List (Change Digest)) (laid : List Bytes) (answer : Result Bytes ClientError) (new : State) : Type 0 where
+pub record HasBegun (s : State) (changes : List (Change Digest)) (laid : List Bytes) (answer : Result Bytes ClientError)
+    (new : State) : Type 0 where
   pub idle : s.phase ≡ phase.Idle
   pub few : length changes ≤ 16
   pub were_laid : are_laid laid changes ≡ true
-  pub declared : OnOk answer ((leaf : LeafNumber) × IsKept leaf (cert_record (declared_text s leaf changes)) s.devices new.devices
+  pub declared : OnOk answer ((leaf : LeafNumber)
+      × IsKept leaf (cert_record (declared_text s leaf changes)) s.devices new.devices
       × (new ≡ on new.devices (declared s leaf changes laid)))
   pub text : IfOk answer (λ text. text ≡ new.text)
   pub fits : OnOk answer (cert.Fits (next_cert s changes))
@@ -134,7 +138,8 @@ pub record HasBegun (s : State) (changes : List (Change Digest)) (laid : List By
       → AnyMoment leaf (cert_record (declared_text s leaf changes)) s.devices new.devices
   pub tried : OnErr answer (IsTried (λ leaf. cert_record (declared_text s leaf changes)) s.devices new.devices)
   pub no_leaf : IsErrOf answer error.NoLeaf ↔ IsFull s.devices.ledger.file.now.text
-  pub no_number : IsErrOf answer error.NoNumber ↔ ((s.number ≡ last_version) × (IsFull s.devices.ledger.file.now.text → ⊥))
+  pub no_number : IsErrOf answer error.NoNumber
+      ↔ ((s.number ≡ last_version) × (IsFull s.devices.ledger.file.now.text → ⊥))
   pub rose : IsErrOf answer error.Device → OneHasRisen s.devices new.devices
   pub fails : IsErrOf answer error.Device → new ≡ on new.devices (failed (laying laid s))
   pub fits_device : IsErrOf answer error.Device → cert.Fits (next_cert s changes)
@@ -158,13 +163,15 @@ pub record HasTaken (s : State) (block : Option Bytes) (answer : Result Asks Cli
 
 pub record HasSigned (s : State) (answer : Result Bytes ClientError) (new : State) : Type 0 where
   pub ready : IsSome s.accepted
-  pub signed : OnOk answer (IfSome s.accepted (λ r. (leaf : LeafNumber) × IsKept leaf (structure_record (signed_text s leaf r)) s.devices new.devices
+  pub signed : OnOk answer (IfSome s.accepted (λ r. (leaf : LeafNumber)
+      × IsKept leaf (structure_record (signed_text s leaf r)) s.devices new.devices
       × (new ≡ on new.devices (signed_over s leaf r))))
   pub text : IfOk answer (λ text. text ≡ new.text)
   pub fits : OnOk answer (IfSome s.accepted (λ r. structure.Fits (next_structure s r)))
   pub any_moment : IfSome s.accepted (λ r. (leaf : LeafNumber) → IsLeastFree s.devices.ledger.file.now.text leaf
       → AnyMoment leaf (structure_record (signed_text s leaf r)) s.devices new.devices)
-  pub tried : IfSome s.accepted (λ r. OnErr answer (IsTried (λ leaf. structure_record (signed_text s leaf r)) s.devices new.devices))
+  pub tried : IfSome s.accepted (λ r.
+      OnErr answer (IsTried (λ leaf. structure_record (signed_text s leaf r)) s.devices new.devices))
   pub no_leaf : IsErrOf answer error.NoLeaf ↔ IsFull s.devices.ledger.file.now.text
   pub rose : IsErrOf answer error.Device → OneHasRisen s.devices new.devices
   pub fails : IsErrOf answer error.Device → new ≡ on new.devices (failed s)
@@ -176,7 +183,8 @@ pub record HasCommitted (s : State) (status : Status) (new : State) : Type 0 whe
   pub signed : s.phase ≡ phase.Signed
   pub state : new ≡ committed status s
 
-pub record HasLooked (s : State) (p : Principal) (i : INumber) (answer : Result Sees ClientError) (new : State) : Type 0 where
+pub record HasLooked (s : State) (p : Principal) (i : INumber) (answer : Result Sees ClientError)
+    (new : State) : Type 0 where
   pub sees : IsSome s.view
   pub looked : IfSome s.view (λ v. IfOk answer (λ look. Looked s v p i look new))
   pub only_memory : IfErr answer (λ e. e ≡ error.Memory)
@@ -186,7 +194,8 @@ pub record HasGiven (s : State) (block : Option Bytes) (answer : Result Sees Cli
   pub looks : IsSomeAnd s.view (λ v. IsSome v.looking)
   pub bytes : IfSome block IsBytes
   pub given : IfSome s.view (λ v. IfSome v.looking (λ l. IfOk answer (λ look. Given s v l block look new)))
-  pub told : IfSome s.view (λ v. IfSome v.looking (λ l. block_breaks (held s.blocks) l.asked block ≡ Some rule.Block → IsOk answer))
+  pub told : IfSome s.view (λ v. IfSome v.looking (λ l. block_breaks (held s.blocks) l.asked block ≡ Some rule.Block
+      → IsOk answer))
   pub only_memory : IfErr answer (λ e. e ≡ error.Memory)
   pub err : OnErr answer (new ≡ s)
 

@@ -27,10 +27,13 @@ abbrev pub texts_in : {A B : Type 0} → Vec (Vec B A) A → List (List B)
 texts_in texts = map vec_items texts.items
 
 abbrev pub bytes_anywhere : {B A : Type 0} → Vec B A → Vec B (Unit {0})
-bytes_anywhere v = record { ptr = v.ptr; len = v.len; cap = v.cap; alloc = tt; items = v.items; ok = v.ok; small = v.small }
+bytes_anywhere v =
+    record { ptr = v.ptr; len = v.len; cap = v.cap; alloc = tt; items = v.items; ok = v.ok; small = v.small }
 
 abbrev pub texts_anywhere : {B A : Type 0} → Vec (Vec B A) A → Vec (Vec B (Unit {0})) (Unit {0})
-texts_anywhere v = record { ptr = v.ptr; len = v.len; cap = v.cap; alloc = tt; items = map bytes_anywhere v.items; ok = (v.ok.0 ∙ sym (length-map v.items bytes_anywhere), v.ok.1); small = v.small }
+texts_anywhere v =
+    record { ptr = v.ptr; len = v.len; cap = v.cap; alloc = tt; items = map bytes_anywhere v.items;
+    ok = (v.ok.0 ∙ sym (length-map v.items bytes_anywhere), v.ok.1); small = v.small }
 
 abbrev pub asked : {A : Type 0} → Step A → Asks
 asked (step.Need digest) = step.Need digest
@@ -75,10 +78,11 @@ resent other text = []
 
 -- what is told of the accepted view is so
 abbrev pub IsAcceptedBy : {A : Type 0} → Accepted A → Option AcceptedView → Type 0
-IsAcceptedBy x view = IsSomeAnd view (λ v. (x.structures.items ≡ v.structures) × (x.table ≡ v.table) × (x.lost.items ≡ v.lost))
+IsAcceptedBy x view =
+    IsSomeAnd view (λ v. (x.structures.items ≡ v.structures) × (x.table ≡ v.table) × (x.lost.items ≡ v.lost))
 
--- The phase and the text of an opened client, the accepted view of one that signed, and what a crash left are those of the
--- client after the step.
+-- The phase and the text of an opened client, the accepted view of one that signed, and what a crash left are those of
+-- the client after the step.
 abbrev pub IsTold : {A : Type 0} → Act A → Answer A → Client → Type 0
 IsTold act (answer.Opened how text) (Open s) = (how ≡ s.phase) × (text.items ≡ resent s.phase s.text)
 IsTold act (answer.Signed (Ok x)) (Open s) = IsAcceptedBy x s.view

@@ -16,7 +16,8 @@ EachClient holds = (keys : Keys) (run : List Event) (u : User) → IsRun keys ru
 
 -- texts that carry one leaf number are one text
 abbrev pub LeavesOnce : User → List Event → Type 0
-LeavesOnce u run = (a b : Bytes) → Contains (released u run) a → Contains (released u run) b → leaf_in a ≡ leaf_in b → a ≡ b
+LeavesOnce u run = (a b : Bytes) → Contains (released u run) a → Contains (released u run) b → leaf_in a ≡ leaf_in b
+    → a ≡ b
 
 -- certificates of one number are one text
 abbrev pub CertificatesOnce : User → List Event → Type 0

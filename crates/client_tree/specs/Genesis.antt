@@ -32,7 +32,8 @@ root_inode = inode_over kind.Directory (directory.spell [])
 
 -- what user 0 has
 abbrev pub first_pairs : Key → List Pair
-first_pairs key = record { i_number = 1; digest = inode_digest (table_inode key) } ∷ record { i_number = 2; digest = inode_digest root_inode } ∷ []
+first_pairs key = record { i_number = 1; digest = inode_digest (table_inode key) }
+    ∷ record { i_number = 2; digest = inode_digest root_inode } ∷ []
 
 -- the i-table of a principal, where user 0 has this key
 abbrev pub first_table : Principal → Key → ITable

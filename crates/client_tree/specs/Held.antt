@@ -28,7 +28,8 @@ held blocks digest = option_map (λ b. b.text) (row_at by_bytes digest_of blocks
 
 -- the blocks with this text among them; one of its digest that is held already stays
 unfoldable pub keeping : List Block → Bytes → List Block
-keeping blocks text = if is_some (held blocks (hash text)) then blocks else with_row by_bytes digest_of blocks (record { digest = hash text; text = text })
+keeping blocks text = if is_some (held blocks (hash text)) then blocks
+    else with_row by_bytes digest_of blocks (record { digest = hash text; text = text })
 
 -- and with all these, in turn
 unfoldable pub keeping_all : List Block → List Bytes → List Block

@@ -1,5 +1,5 @@
--- The table of principals of a view: the one that user 0's handle names, and what user 0's pending operation makes of it.
--- How it is read stands in docs/RULES.md.
+-- The table of principals of a view: the one that user 0's handle names, and what user 0's pending operation makes of
+-- it. How it is read stands in docs/RULES.md.
 use Rattle.std.specs.Prelude.{◌≡◌, ◌⊎◌, ℕ, false, List, Some}
 use Rattle.std.specs.Option.{option_map}
 use Rattle.layout.specs.Types.{Digest, Handle}
@@ -15,23 +15,26 @@ use Rattle.update_cert.specs.declared.spot.Spot.{Spot}
 use Rattle.client_tree.specs.Tables.{IsOfTable, IsRead}
 use Rattle.client_tree.specs.View.{View, actor_of, tree, tree_before}
 
--- The digest is asked for to read the table: that of a block of user 0's i-table with this handle, or, once that is read,
--- that of the i-node which it has at i-number 1, or of a block of the table.
+-- The digest is asked for to read the table: that of a block of user 0's i-table with this handle, or, once that is
+-- read, that of the i-node which it has at i-number 1, or of a block of the table.
 abbrev pub IsOfNamed : Blocks → Handle → Digest → Spot → Type 0
 IsOfNamed blocks handle digest s =
     IsOfTable blocks 0 handle digest s
-    ⊎ ((before : ITable) × (inode : Digest) × IsRead blocks 0 handle before × (digest_at before 1 ≡ Some inode) × IsOfPrincipals blocks inode digest s)
+    ⊎ ((before : ITable) × (inode : Digest) × IsRead blocks 0 handle before × (digest_at before 1 ≡ Some inode)
+        × IsOfPrincipals blocks inode digest s)
 
--- The table that user 0's handle names: the file at its place is the text of this table, whatever stands for the digests
--- of which no block tells.
+-- The table that user 0's handle names: the file at its place is the text of this table, whatever stands for the
+-- digests of which no block tells.
 pub record IsNamed (blocks : Blocks) (handle : Handle) (users : Table) : Type 0 where
   pub fits : table.Fits users
-  pub file : ForEachReading blocks (λ reads. option_map reads.content (reads.inode 0 handle 1) ≡ Some (File (table.spell users)))
+  pub file : ForEachReading blocks (λ reads. option_map reads.content (reads.inode 0 handle 1)
+      ≡ Some (File (table.spell users)))
   -- nothing of it is missing
   pub taken : (digest : Digest) (s : Spot) → IsOfNamed blocks handle digest s → lacks blocks digest s ≡ false
 
--- The view's table is what the pending operations make of that one, and these are the numbers of the own changes of it that
--- have no effect.
+-- The view's table is what the pending operations make of that one, and these are the numbers of the own changes of it
+-- that have no effect.
 pub record IsPending (users : Table) (x : View) (numbers : List ℕ) : Type 0 where
   pub after : (reads : Reading) → tree reads users x 0 1 ≡ Some (Principals x.table)
-  pub void : (reads : Reading) → numbers ≡ void_of_table_read reads (actor_of x.table x.own) x.own.cert.changes (tree_before reads users x)
+  pub void : (reads : Reading)
+      → numbers ≡ void_of_table_read reads (actor_of x.table x.own) x.own.cert.changes (tree_before reads users x)

@@ -15,11 +15,13 @@ use Rattle.update_cert.specs.declared.spot.Spot.TheVariants as spot
 -- the pairs of listed chunks one after another, if all are held
 unfoldable pub pairs_over : Blocks → List ListedChunk → Option (List Pair)
 pairs_over blocks [] = Some []
-pairs_over blocks (c ∷ cs) = option_and_then (λ x. option_map (λ rest. x.pairs ++ rest) (pairs_over blocks cs)) (chunk_held blocks c.digest)
+pairs_over blocks (c ∷ cs) = option_and_then (λ x. option_map (λ rest. x.pairs ++ rest) (pairs_over blocks cs))
+    (chunk_held blocks c.digest)
 
 -- the i-table of a root, if its chunks are held
 abbrev pub table_over : Blocks → Root → Option ITable
-table_over blocks r = option_map (λ pairs. record { principal = r.principal; pairs = pairs }) (pairs_over blocks r.chunks)
+table_over blocks r = option_map (λ pairs. record { principal = r.principal; pairs = pairs })
+    (pairs_over blocks r.chunks)
 
 -- the i-table of a handle, if its root and its chunks are held
 abbrev pub table_at : Blocks → Handle → Option ITable
@@ -32,7 +34,8 @@ table_at blocks handle = option_and_then (table_over blocks) (root_at blocks han
 abbrev pub IsOfTable : Blocks → Principal → Handle → Digest → Spot → Type 0
 IsOfTable blocks p handle digest (spot.Root q) = (q ≡ p) × (digest ≡ handle)
 IsOfTable blocks p handle digest (spot.Chunk q n) =
-    (q ≡ p) × (lacks blocks handle (spot.Root p) ≡ false) × IsSomeAnd (root_at blocks handle) (λ r. option_map (λ c. c.digest) (chunk_at r n) ≡ Some digest)
+    (q ≡ p) × (lacks blocks handle (spot.Root p) ≡ false)
+        × IsSomeAnd (root_at blocks handle) (λ r. option_map (λ c. c.digest) (chunk_at r n) ≡ Some digest)
 IsOfTable blocks p handle digest other = ⊥
 
 -- The table is the one of this handle that the blocks spell, and nothing of it is missing: its root and each chunk that

@@ -1,5 +1,5 @@
--- What the own operation of a view makes: the handles and the texts of the parts that it may change, and the changes that
--- it loses.
+-- What the own operation of a view makes: the handles and the texts of the parts that it may change, and the changes
+-- that it loses.
 use Rattle.std.specs.Prelude.{◌≡◌, ℕ, ◌==◌, ◌&&◌, not, true, false, List, [], ◌∷◌, ◌++◌, Some, map, if◌then◌else◌}
 use Rattle.std.specs.List.{All, list_any}
 use Rattle.std.specs.Option.{option_map}
@@ -24,7 +24,8 @@ use Rattle.client_tree.specs.Opened.{IsOpened, IsReached}
 
 -- the digest that a directory has which changed stands for the directory
 abbrev pub ReadsChanged : Reading → Part → Type 0
-ReadsChanged reads part = (i : INumber) (digest : Digest) (entries : List Entry) → slot_at part i ≡ Some (Changed digest entries) → reads.content (directory_digest entries) ≡ Directory entries
+ReadsChanged reads part = (i : INumber) (digest : Digest) (entries : List Entry)
+    → slot_at part i ≡ Some (Changed digest entries) → reads.content (directory_digest entries) ≡ Directory entries
 
 -- the texts by which a table is stored and an earlier one isn't: none where both have one handle
 abbrev pub table_texts : ITable → ITable → List Bytes
@@ -59,29 +60,35 @@ pub record IsStored (blocks : Blocks) (x : View) (s : Stored) : Type 0 where
   pub table : ITable
   pub well_formed : IsTable table
   pub principal : table.principal ≡ s.principal
-  pub digests : (i : INumber) → is_table s.principal i ≡ false → digest_at table i ≡ option_map slot_digest (slot_at part i)
+  pub digests : (i : INumber) → is_table s.principal i ≡ false
+      → digest_at table i ≡ option_map slot_digest (slot_at part i)
   -- and at the place of the table of principals that of its file
   pub users : s.principal ≡ 0 → digest_at table 1 ≡ Some (principals_digest x.table)
   pub named : s.handle ≡ table_handle table
   -- and is that of the view's tree, where the digests of directories that changed stand for them,
   pub world : ForEachReading blocks (λ reads. (users : Table) → ReadsChanged reads part
-      → (i : INumber) → is_table s.principal i ≡ false → option_map reads.content (digest_at table i) ≡ tree reads users x s.principal i)
+      → (i : INumber) → is_table s.principal i ≡ false
+          → option_map reads.content (digest_at table i) ≡ tree reads users x s.principal i)
   -- as they do for who holds their texts
-  pub read_back : (i : INumber) (digest : Digest) (entries : List Entry) → slot_at part i ≡ Some (Changed digest entries) → IsReadBack entries
-  -- the new texts are those of the directories that changed, of the table of principals, where it changed, of the chunks
-  -- that changed, and of the root
-  pub stored : s.texts ≡ changed_texts before part.table part.opened ++ principals_texts before s.principal x.table ++ table_texts before table
+  pub read_back : (i : INumber) (digest : Digest) (entries : List Entry)
+      → slot_at part i ≡ Some (Changed digest entries) → IsReadBack entries
+  -- the new texts are those of the directories that changed, of the table of principals, where it changed, of the
+  -- chunks that changed, and of the root
+  pub stored : s.texts ≡ changed_texts before part.table part.opened ++ principals_texts before s.principal x.table
+      ++ table_texts before table
 
 -- What the own operation makes of the view's tree: each part that it may change, as it is stored.
 pub record IsOutcome (blocks : Blocks) (x : View) (parts : List Stored) : Type 0 where
   pub principals : map (λ s. s.principal) parts ≡ written x
   pub stored : All (IsStored blocks x) parts
 
--- These are the numbers of the own changes that have no effect, whatever stands for the digests of which no block tells,
--- where these are those of the changes of the table of principals among them.
+-- These are the numbers of the own changes that have no effect, whatever stands for the digests of which no block
+-- tells, where these are those of the changes of the table of principals among them.
 abbrev pub IsLost : Blocks → View → List ℕ → List ℕ → Type 0
-IsLost blocks x void numbers = (users : Table) → IsPending users x void → ForEachReading blocks (λ reads. numbers ≡ lost_of reads users x)
+IsLost blocks x void numbers = (users : Table) → IsPending users x void
+    → ForEachReading blocks (λ reads. numbers ≡ lost_of reads users x)
 
 -- a block by which a part is opened that the own operation may change
 abbrev pub IsWanted : Blocks → View → Digest → Spot → Type 0
-IsWanted blocks x digest s = (p : Principal) × (list_any (λ q. q == p) (written x) ≡ true) × IsReached blocks x p digest s
+IsWanted blocks x digest s = (p : Principal) × (list_any (λ q. q == p) (written x) ≡ true)
+    × IsReached blocks x p digest s

@@ -15,8 +15,8 @@ use Rattle.pending_list.specs.Reply.{PendingItem}
 use Rattle.pending_list.specs.Groups.{raises, raised_groups, table_version}
 use Rattle.client_tree.specs.Genesis.{first_handle}
 
--- The lists of a reply: the latest structures, the pending operations of others, in order, and the own one, which is the
--- last; user 0's key, which every client knows; and the table of principals.
+-- The lists of a reply: the latest structures, the pending operations of others, in order, and the own one, which is
+-- the last; user 0's key, which every client knows; and the table of principals.
 pub record View : Type 0 where
   pub key : Key
   pub table : Table
@@ -62,7 +62,8 @@ unfoldable pub comes_after : View → Principal → PendingItem → Bool
 comes_after x p i =
     if nat_lt p 64
     then i.cert.user == p
-    else raises x.table p i && nat_lt (option_map_or (λ r. r.version) (newest p x.structures) 0) (version_of p i.plan.vector)
+    else raises x.table p i
+        && nat_lt (option_map_or (λ r. r.version) (newest p x.structures) 0) (version_of p i.plan.vector)
 
 -- the operation is user 0's, and so comes after the table of principals that user 0's handle names
 abbrev pub is_superusers : PendingItem → Bool
@@ -86,7 +87,8 @@ after_items reads t (i ∷ is) tree = after_items reads t is (after_read reads (
 -- What the handles name: at each i-number what the i-table has there, and at the place of the table of principals this
 -- one, whose text is the file there.
 abbrev pub named : Reading → Table → View → Tree
-named reads users x p i = if is_table p i then Some (Principals users) else option_map reads.content (reads.inode p (handle_of x p) i)
+named reads users x p i = if is_table p i then Some (Principals users)
+    else option_map reads.content (reads.inode p (handle_of x p) i)
 
 -- before the own operation
 abbrev pub tree_before : Reading → Table → View → Tree

@@ -51,11 +51,13 @@ shown_of user zs = find (λ z. z.value.plan.user == user) zs
 
 -- the own structure is the one that was signed last
 unfoldable pub own_last : User → Option (Signed Structure) → Reply → Bool
-own_last user last r = same_bytes (option_map structure_sent (shown_of user r.structures)) (option_map structure_sent last)
+own_last user last r = same_bytes (option_map structure_sent (shown_of user r.structures))
+    (option_map structure_sent last)
 
 -- the last pending certificate is the declared one
 unfoldable pub own_pending : Bytes → Reply → Bool
-own_pending declared r = option_map_or (λ i. bytes_eq (cert_sent i) declared) (slice_get r.pending (length r.pending - 1)) false
+own_pending declared r = option_map_or (λ i. bytes_eq (cert_sent i) declared)
+    (slice_get r.pending (length r.pending - 1)) false
 
 -- a structure of user 0 verifies under the key that every client knows; one of another user isn't looked at here
 abbrev pub structure_verifies : Key → Signed Structure → Bool
@@ -104,7 +106,8 @@ certificates t x = list_all (λ i. verifies t i.cert.user (cert.spell i.cert) i.
 -- the first of them that the lists break
 abbrev pub lists_break : Table → Lists → Option Rule
 lists_break t x =
-    least ((rule.UnknownUser, unknown_user t x) ∷ (rule.Signature, signatures t x) ∷ (rule.Certificate, certificates t x) ∷ later_rules t x)
+    least ((rule.UnknownUser, unknown_user t x) ∷ (rule.Signature, signatures t x)
+        ∷ (rule.Certificate, certificates t x) ∷ later_rules t x)
 
 -- the lists of a reply as a view, by this table of principals
 abbrev pub view_over : Key → Table → Lists → View
@@ -120,15 +123,16 @@ pub record IsRead (blocks : Blocks) (key : Key) (x : Lists) (t : Table) (void : 
 -- what the lists break, once the table can be read from these blocks
 abbrev pub ByTable : Blocks → Key → Lists → Option Rule → Type 0
 ByTable blocks key x None = (t : Table) (void : List ℕ) → IsRead blocks key x t void → lists_break t x ≡ None
-ByTable blocks key x (Some rule) = (t : Table) × (void : List ℕ) × IsRead blocks key x t void × (lists_break t x ≡ Some rule)
+ByTable blocks key x (Some rule) = (t : Table) × (void : List ℕ) × IsRead blocks key x t void
+    × (lists_break t x ≡ Some rule)
 
 -- the lists of the reply that the bytes spell, if they spell one
 abbrev pub lists_in : Bytes → Option Lists
 lists_in text = option_and_then lists_of (reply_in text)
 
 -- The first broken rule of a reply and of the block that was handed in last is this one: of the bytes, which break this
--- rule or none of those on the reply itself; of the block, which breaks this one or none; and of the lists, if there are
--- any, by the blocks that are held then, once the table of principals can be read from them.
+-- rule or none of those on the reply itself; of the block, which breaks this one or none; and of the lists, if there
+-- are any, by the blocks that are held then, once the table of principals can be read from them.
 abbrev pub IsFirstBroken : Option Rule → Option Rule → Blocks → Key → Option Lists → Rule → Type 0
 IsFirstBroken (Some first) block blocks key x rule = first ≡ rule
 IsFirstBroken None (Some first) blocks key x rule = first ≡ rule

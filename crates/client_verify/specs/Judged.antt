@@ -28,41 +28,51 @@ view_of key x = view_over key x.table x.lists
 
 -- the record of a group's part, as it is stored, after an operation over this plan
 abbrev pub record_over : Plan → Stored → GroupRecord
-record_over plan s = record { group = s.principal; version = version_of s.principal plan.vector; table = table_version plan; handle = s.handle }
+record_over plan s =
+    record { group = s.principal; version = version_of s.principal plan.vector; table = table_version plan;
+    handle = s.handle }
 
 -- Lists that break no rule: a block is asked for that tells what the operation makes, and of which no text is held that
--- its spot takes; or, once none is wanted any more, the reply is accepted, and the new texts of the own part and of those
--- of the groups that are raised are handed out.
+-- its spot takes; or, once none is wanted any more, the reply is accepted, and the new texts of the own part and of
+-- those of the groups that are raised are handed out.
 abbrev pub AsksOrAccepts : {A : Type 0} → State → Good → Step A → State → Type 0
 AsksOrAccepts s x (Need digest) new =
     (a : Asked) × (a.digest ≡ digest) × (new ≡ record s { checked = Some (Writing x a); accepted = None })
     × IsWanted (held s.blocks) (view_of s.pinned x) digest a.spot × (lacks (held s.blocks) digest a.spot ≡ true)
 AsksOrAccepts s x (Store texts) new =
     (own : Stored) × (groups : List Stored) × (lost : List ℕ)
-    × (new ≡ record s { checked = None; accepted = Some (record { lists = x.lists; table = x.table; handle = own.handle; records = map (record_over x.lists.own.plan) groups; lost = lost }) })
-    × IsOutcome (held s.blocks) (view_of s.pinned x) (own ∷ groups) × IsLost (held s.blocks) (view_of s.pinned x) x.void lost
+    × (new ≡ record s { checked = None;
+        accepted = Some (record { lists = x.lists; table = x.table; handle = own.handle;
+        records = map (record_over x.lists.own.plan) groups; lost = lost }) })
+    × IsOutcome (held s.blocks) (view_of s.pinned x) (own ∷ groups)
+        × IsLost (held s.blocks) (view_of s.pinned x) x.void lost
     × (map vec_items texts.items ≡ own.texts ++ flat_map (λ g. g.texts) groups)
 AsksOrAccepts s x (Broken rule) new = ⊥
 
 -- the table of principals of these lists, read from the blocks that are held, by which they break no rule
 abbrev pub IsGood : State → Lists → Good → Type 0
-IsGood s x good = (good.lists ≡ x) × IsRead (held s.blocks) s.pinned x good.table good.void × (lists_break good.table x ≡ None)
+IsGood s x good = (good.lists ≡ x) × IsRead (held s.blocks) s.pinned x good.table good.void
+    × (lists_break good.table x ≡ None)
 
--- Where the reply breaks none of the rules on itself: while the table of principals can't be read, a block of it is asked
--- for, of which no text is held that its spot takes; once it is read and the lists break no rule by it, the reply goes on.
+-- Where the reply breaks none of the rules on itself: while the table of principals can't be read, a block of it is
+-- asked for, of which no text is held that its spot takes; once it is read and the lists break no rule by it, the reply
+-- goes on.
 abbrev pub Taken : {A : Type 0} → State → Reply → Lists → Step A → State → Type 0
 Taken {A} s r x (Need digest) new =
     ((a : Asked) × (a.digest ≡ digest) × (new ≡ record s { checked = Some (Reading r a); accepted = None })
-    × IsOfNamed (held s.blocks) (handle_in s.pinned x.structures 0) digest a.spot × (lacks (held s.blocks) digest a.spot ≡ true))
+    × IsOfNamed (held s.blocks) (handle_in s.pinned x.structures 0) digest a.spot
+        × (lacks (held s.blocks) digest a.spot ≡ true))
     ⊎ ((good : Good) × IsGood s x good × AsksOrAccepts {A = A} s good (Need digest) new)
 Taken s r x (Store texts) new = (good : Good) × IsGood s x good × AsksOrAccepts s good (Store texts) new
 Taken s r x (Broken rule) new = ⊥
 
 -- A reply: Broken with the first broken rule, and then the client is as before; else it goes on.
 abbrev pub Judged : {A : Type 0} → State → Bytes → Step A → State → Type 0
-Judged old text (Broken rule) new = IsFirstBroken (reply_breaks (known old) text) None (held old.blocks) old.pinned (lists_in text) rule × (new ≡ old)
+Judged old text (Broken rule) new =
+    IsFirstBroken (reply_breaks (known old) text) None (held old.blocks) old.pinned (lists_in text) rule × (new ≡ old)
 Judged old text step new =
-    (reply_breaks (known old) text ≡ None) × IsSomeAnd (reply_in text) (λ r. IsSomeAnd (lists_of r) (λ x. Taken old r x step new))
+    (reply_breaks (known old) text ≡ None)
+        × IsSomeAnd (reply_in text) (λ r. IsSomeAnd (lists_of r) (λ x. Taken old r x step new))
 
 -- the lists of a reply under check whose rules aren't judged yet, if they aren't
 abbrev pub unjudged : Checked → Option Lists
@@ -84,14 +94,17 @@ IsWriting (Writing x a) = Unit {0}
 
 -- a good block of the table was handed in
 abbrev pub ReadsOn : {A : Type 0} → State → Checked → Bytes → Step A → State → Type 0
-ReadsOn old k text (Broken rule) new = IsSomeAnd (unjudged k) (λ x. ByTable (held (keeping old.blocks text)) old.pinned x (Some rule)) × (new ≡ old)
+ReadsOn old k text (Broken rule) new = IsSomeAnd (unjudged k)
+    (λ x. ByTable (held (keeping old.blocks text)) old.pinned x (Some rule)) × (new ≡ old)
 ReadsOn old k text step new = GoesOn (holding old text) k step new
 
 -- The block that a reply under check asks for, or its absence: Broken where it isn't that block, or where the table of
--- principals can be read with it and the lists break a rule by that, and then the client is as before; else it is held, and
--- the reply goes on.
+-- principals can be read with it and the lists break a rule by that, and then the client is as before; else it is held,
+-- and the reply goes on.
 abbrev pub Handed : {A : Type 0} → State → Checked → Option Bytes → Step A → State → Type 0
 Handed old k block (Broken rule) new =
-    IsFirstBroken None (block_breaks (held old.blocks) (asked_of k) block) (held (blocks_with old block)) old.pinned (unjudged k) rule × (new ≡ old)
+    IsFirstBroken None (block_breaks (held old.blocks) (asked_of k) block)
+        (held (blocks_with old block)) old.pinned (unjudged k) rule × (new ≡ old)
 Handed old k block step new =
-    (block_breaks (held old.blocks) (asked_of k) block ≡ None) × IsSomeAnd block (λ text. GoesOn (holding old text) k step new)
+    (block_breaks (held old.blocks) (asked_of k) block ≡ None)
+        × IsSomeAnd block (λ text. GoesOn (holding old text) k step new)

@@ -13,11 +13,13 @@ use Rattle.client_tree.specs.Genesis.{inode_digest, root_inode}
 -- these blocks of a file of this size, the first of which is at this place, are there, and each has its size
 unfoldable pub are_blocks_laid : Blocks → ℕ → ℕ → List Digest → Bool
 are_blocks_laid blocks size k [] = true
-are_blocks_laid blocks size k (d ∷ ds) = option_map_or (λ text. length text == size_of_block size k) (blocks d) false && are_blocks_laid blocks size (k + 1) ds
+are_blocks_laid blocks size k (d ∷ ds) = option_map_or (λ text. length text == size_of_block size k) (blocks d) false
+    && are_blocks_laid blocks size (k + 1) ds
 
 -- the i-node of this digest is a file's, and stands with all its blocks
 abbrev pub is_file_laid : Blocks → Digest → Bool
-is_file_laid blocks digest = option_map_or (λ n. is_of_file n.kind && are_blocks_laid blocks n.size 0 n.blocks) (inode_at blocks digest) false
+is_file_laid blocks digest = option_map_or (λ n. is_of_file n.kind && are_blocks_laid blocks n.size 0 n.blocks)
+    (inode_at blocks digest) false
 
 -- what is made is a file that was laid out, or the empty directory; what is put is a file that was laid out
 abbrev pub is_laid : Blocks → Action Digest → Bool

@@ -22,14 +22,18 @@ abbrev pub IsShown : State → AcceptedView → Principal → INumber → Option
 IsShown s v p i content new =
     (new ≡ record s { view = Some (record v { looking = None }) })
     × (is_table p i ≡ false → HasLooked (held s.blocks) (view_over s.pinned v.table v.lists) p i)
-    × ((reads : Reading) (users : Table) → Agrees (held s.blocks) reads → content ≡ shown reads users (view_over s.pinned v.table v.lists) p i)
+    × ((reads : Reading) (users : Table) → Agrees (held s.blocks) reads
+        → content ≡ shown reads users (view_over s.pinned v.table v.lists) p i)
 
 -- A look: a block of what stands there is asked for, of which no text is held that its spot takes; or, once none is
 -- wanted any more, what stands there is told.
 abbrev pub Looked : {A : Type 0} → State → AcceptedView → Principal → INumber → Look A → State → Type 0
 Looked s v p i (look.Need digest) new =
-    (a : Asked) × (a.digest ≡ digest) × (new ≡ record s { view = Some (record v { looking = Some (record { principal = p; i_number = i; asked = a }) }) })
-    × IsLooked (held s.blocks) (view_over s.pinned v.table v.lists) p i digest a.spot × (lacks (held s.blocks) digest a.spot ≡ true)
+    (a : Asked) × (a.digest ≡ digest)
+        × (new ≡ record s { view = Some (record v { looking = Some (record { principal = p; i_number = i;
+        asked = a }) }) })
+    × IsLooked (held s.blocks) (view_over s.pinned v.table v.lists) p i digest a.spot
+        × (lacks (held s.blocks) digest a.spot ≡ true)
 Looked s v p i (look.File bytes) new = IsShown s v p i (Some (File bytes.items)) new
 Looked s v p i (look.Dir entries) new = IsShown s v p i (Some (Directory entries)) new
 Looked s v p i look.None new = IsShown s v p i None new
@@ -40,4 +44,5 @@ Looked s v p i (look.Broken rule) new = ⊥
 abbrev pub Given : {A : Type 0} → State → AcceptedView → Looking → Option Bytes → Look A → State → Type 0
 Given old v l block (look.Broken rule) new = (block_breaks (held old.blocks) l.asked block ≡ Some rule) × (new ≡ old)
 Given old v l block answer new =
-    (block_breaks (held old.blocks) l.asked block ≡ None) × IsSomeAnd block (λ text. Looked (holding old text) v l.principal l.i_number answer new)
+    (block_breaks (held old.blocks) l.asked block ≡ None)
+        × IsSomeAnd block (λ text. Looked (holding old text) v l.principal l.i_number answer new)

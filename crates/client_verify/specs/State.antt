@@ -52,8 +52,8 @@ abbrev pub checked_in : {A : Type 0} → Held A → Checked
 checked_in (stage.Reading r a) = Reading r a
 checked_in (stage.Writing x a) = Writing x a
 
--- a reply that breaks no rule by this table, the handle of the own part after the own operation, the records of the groups
--- that it raises, and the changes that it loses
+-- a reply that breaks no rule by this table, the handle of the own part after the own operation, the records of the
+-- groups that it raises, and the changes that it loses
 pub record Ready : Type 0 where
   pub lists : Lists
   pub table : Table
@@ -61,8 +61,8 @@ pub record Ready : Type 0 where
   pub records : List GroupRecord
   pub lost : List ℕ
 
--- an accepted view: the lists of the reply that it was signed over, the table of principals, its structures with the own
--- new one in its user's place, and the changes that the own operation lost
+-- an accepted view: the lists of the reply that it was signed over, the table of principals, its structures with the
+-- own new one in its user's place, and the changes that the own operation lost
 pub record AcceptedView : Type 0 where
   pub lists : Lists
   pub table : Table
@@ -79,9 +79,9 @@ pub record State : Type 0 where
   pub pinned : Key
   -- the leaves of the own key, and the signed texts that were released
   pub devices : Devices
-  -- what the records of the journal tell (client_releases/specs/Told.antt): the number of the operation that was declared last, 0 where none
-  -- was; the structure that was signed last; how far the operation is, but for its commit; and the signed text that was
-  -- released last, a certificate or a structure
+  -- what the records of the journal tell (client_releases/specs/Told.antt): the number of the operation that was
+  -- declared last, 0 where none was; the structure that was signed last; how far the operation is, but for its commit;
+  -- and the signed text that was released last, a certificate or a structure
   pub number : Version
   pub last : Option (Signed Structure)
   pub phase : Phase
@@ -118,7 +118,9 @@ opened pinned r = record {
 
 -- what the client has released, with its devices
 abbrev pub released : State → Released
-released s = record { user = s.user; seed = s.seed; id = s.id; devices = s.devices; number = s.number; last = s.last; phase = s.phase; text = s.text }
+released s =
+    record { user = s.user; seed = s.seed; id = s.id; devices = s.devices; number = s.number; last = s.last;
+    phase = s.phase; text = s.text }
 
 -- the state with these devices
 abbrev pub on : Devices → State → State
@@ -186,7 +188,8 @@ with_records old new = fold (with_row nat_cmp group_of) old new
 
 -- the structure over a plan, with this handle and these new records of groups, after the one that was signed last
 abbrev pub structure_over : Handle → List GroupRecord → Option (Signed Structure) → Plan → Structure
-structure_over handle records last plan = record { plan = plan; handle = handle; groups = with_records (groups last) records }
+structure_over handle records last plan =
+    record { plan = plan; handle = handle; groups = with_records (groups last) records }
 
 abbrev pub next_structure : State → Ready → Structure
 next_structure s r = structure_over r.handle r.records s.last r.lists.own.plan
@@ -204,7 +207,9 @@ with_own z zs = with_row nat_cmp user_of zs z
 
 -- the view of an accepted reply
 abbrev pub view_of : State → LeafNumber → Ready → AcceptedView
-view_of s leaf r = record { lists = r.lists; table = r.table; structures = with_own (signed_structure s leaf r) r.lists.structures; lost = r.lost; looking = None }
+view_of s leaf r =
+    record { lists = r.lists; table = r.table; structures = with_own (signed_structure s leaf r) r.lists.structures;
+    lost = r.lost; looking = None }
 
 -- the state after the structure over an accepted reply is signed by this leaf
 abbrev pub signed_over : State → LeafNumber → Ready → State

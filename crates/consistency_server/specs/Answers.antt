@@ -75,7 +75,8 @@ placing state c = placing_beside (find (same_cert c) state.pending) state c
 
 abbrev pub verified_update : State → Signed Cert → Option Key → Outcome
 verified_update state c None = Refused status.UnknownUser
-verified_update state c (Some key) = if valid key (cert.spell c.value) c.signature then placing state c else Refused status.BadSignature
+verified_update state c (Some key) = if valid key (cert.spell c.value) c.signature then placing state c
+    else Refused status.BadSignature
 
 abbrev pub read_update : State → Result (Signed Cert) ReadError → Outcome
 read_update state (Err e) = Refused status.Form
@@ -102,7 +103,8 @@ committing state s =
 
 abbrev pub verified_commit : State → Signed Structure → Option Key → Outcome
 verified_commit state s None = Refused status.UnknownUser
-verified_commit state s (Some key) = if valid key (structure.spell s.value) s.signature then committing state s else Refused status.BadSignature
+verified_commit state s (Some key) = if valid key (structure.spell s.value) s.signature then committing state s
+    else Refused status.BadSignature
 
 abbrev pub read_commit : State → Result (Signed Structure) ReadError → Outcome
 read_commit state (Err e) = Refused status.Form

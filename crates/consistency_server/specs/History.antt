@@ -26,7 +26,8 @@ commit_of text = call_of Commit text
 -- what the calls placed and committed, where this is the key that every client knows
 unfoldable pub events : Key → List Call → List Event
 events pinned [] = []
-events pinned (call ∷ earlier) = happened (outcome_of (state_after pinned (events pinned earlier)) call) ++ events pinned earlier
+events pinned (call ∷ earlier) = happened (outcome_of (state_after pinned (events pinned earlier)) call)
+    ++ events pinned earlier
 
 -- what the server keeps after a history
 abbrev pub kept : Key → List Call → State

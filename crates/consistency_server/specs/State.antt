@@ -32,8 +32,8 @@ pub record State : Type 0 where
 
 -- ---- the operation that is placed next
 
--- The groups that a certificate raises where the operation before it has this vector: who is a member is judged at user 0's
--- number there.
+-- The groups that a certificate raises where the operation before it has this vector: who is a member is judged at user
+-- 0's number there.
 abbrev pub next_groups : Table → List Component → Cert → List Group
 next_groups table vector c = groups_at table (version_of 0 vector) c
 

@@ -31,7 +31,8 @@ by_bytes = slice_cmp nat_cmp
 
 -- a file or directory: whose it is, and its number among theirs
 abbrev pub target : Format Target
-target = mapped (λ (principal, i_number). record { principal = principal; i_number = i_number }) (λ t. (t.principal, t.i_number)) (pair principal i_number)
+target = mapped (λ (principal, i_number). record { principal = principal; i_number = i_number })
+    (λ t. (t.principal, t.i_number)) (pair principal i_number)
 
 -- a name, and its target
 abbrev pub named : Format Entry
@@ -39,7 +40,8 @@ named = mapped (λ (name, target). record { name = name; target = target }) (λ 
 
 -- a name above the one before, and its target
 abbrev pub entry : RowAfter Entry
-entry before = mapped (λ (name, target). record { name = name; target = target }) (λ e. (e.name, e.target)) (pair (guarded name (above by_bytes name_of before) Order) target)
+entry before = mapped (λ (name, target). record { name = name; target = target }) (λ e. (e.name, e.target))
+    (pair (guarded name (above by_bytes name_of before) Order) target)
 
 abbrev pub directory : Format (List Entry)
 directory = headed (codes "SDI1") (listed (uint_in w16 0 MOST_ENTRIES) entry)

@@ -87,15 +87,18 @@ is_listed before c = list_any (λ b. (b.number == c.number) && bytes_eq b.digest
 -- listed there, and of the root
 unfoldable pub new_texts : List ListedChunk → ITable → List Bytes
 new_texts before t =
-    filter_map (λ c. text_of_chunk t c.number) (filter (λ c. not (is_listed before c)) (listings t)) ++ root.spell (root_of t) ∷ []
+    filter_map (λ c. text_of_chunk t c.number) (filter (λ c. not (is_listed before c)) (listings t))
+        ++ root.spell (root_of t) ∷ []
 
 -- a table of the same principal with the same digests has the same handle
 abbrev pub IsKnownByDigests : ITable → Type 0
-IsKnownByDigests t = (u : ITable) → IsTable u → u.principal ≡ t.principal → ((i : INumber) → digest_at u i ≡ digest_at t i) → handle_of u ≡ handle_of t
+IsKnownByDigests t = (u : ITable) → IsTable u → u.principal ≡ t.principal
+    → ((i : INumber) → digest_at u i ≡ digest_at t i) → handle_of u ≡ handle_of t
 
 -- no text of the one has the digest of a different text of the other: neither the roots, nor two chunks of one number
 pub record KeepApart (t u : ITable) : Type 0 where
-  pub roots : hash (root.spell (root_of u)) ≡ hash (root.spell (root_of t)) → root.spell (root_of u) ≡ root.spell (root_of t)
+  pub roots : hash (root.spell (root_of u)) ≡ hash (root.spell (root_of t))
+      → root.spell (root_of u) ≡ root.spell (root_of t)
   pub chunks : (n : ℕ) (x y : Bytes) → text_of_chunk u n ≡ Some x → text_of_chunk t n ≡ Some y → hash x ≡ hash y → x ≡ y
 
 -- no other table has this one's handle, unless texts collide

@@ -41,5 +41,6 @@ digests count = listed (uint_in w16 count count) (λ _. raw 32)
 abbrev pub inode : Format Inode
 inode =
     headed (codes "SIN1")
-    (mapped (λ (kind, (size, blocks)). record { kind = kind; size = size; blocks = blocks }) (λ i. (i.kind, (i.size, i.blocks)))
+    (mapped (λ (kind, (size, blocks)). record { kind = kind; size = size; blocks = blocks })
+        (λ i. (i.kind, (i.size, i.blocks)))
     (followed kind (λ k. followed (size k) (λ bytes. digests (block_count bytes)))))

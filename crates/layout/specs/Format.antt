@@ -58,7 +58,8 @@ pub record Takes {A : Type 0} (f : Format A) (bytes : Bytes) (x : A) (rest : Byt
 
 -- what is read is spelled so, what is written is the spelling, and what fits and is spelled so is read
 pub record Lawful {A : Type 0} (f : Format A) : Type 0 where
-  pub takes : (bytes : Bytes) (x : A) (rest : Bytes) → IsBytes bytes → f.read bytes ≡ Ok (x, rest) → Takes f bytes x rest
+  pub takes : (bytes : Bytes) (x : A) (rest : Bytes) → IsBytes bytes → f.read bytes ≡ Ok (x, rest)
+      → Takes f bytes x rest
   pub onto : (old : Bytes) (x : A) → f.onto old x ≡ old ++ f.spell x
   pub again : (x : A) (rest : Bytes) → f.Fits x → f.read (f.spell x ++ rest) ≡ Ok (x, rest)
 
@@ -73,7 +74,8 @@ abbrev pub uint : Width → Format ℕ
 uint w = record {
   spell = be w;
   onto = λ old n. old ++ be w n;
-  read = λ bytes. if nat_lt (length bytes) (byte_len w) then Err Short else Ok (from_be_bytes w (take (byte_len w) bytes), drop (byte_len w) bytes);
+  read = λ bytes. if nat_lt (length bytes) (byte_len w) then Err Short
+      else Ok (from_be_bytes w (take (byte_len w) bytes), drop (byte_len w) bytes);
   Fits = λ n. n < 256 ^ byte_len w;
 }
 
@@ -91,7 +93,8 @@ abbrev pub tagged : Bytes → Format (Unit {0})
 tagged tag = record {
   spell = λ _. tag;
   onto = λ old _. old ++ tag;
-  read = λ bytes. if nat_lt (length bytes) (length tag) then Err Short else if starts_with nat_eq bytes tag then Ok (tt, drop (length tag) bytes) else Err BadTag;
+  read = λ bytes. if nat_lt (length bytes) (length tag) then Err Short else if starts_with nat_eq bytes tag
+      then Ok (tt, drop (length tag) bytes) else Err BadTag;
   Fits = λ _. Unit {0};
 }
 
@@ -152,7 +155,8 @@ after_row row = record { row = row; next = λ _ x. Some x }
 
 unfoldable pub read_rows : {S A : Type 0} → Rows S A → ℕ → S → Bytes → Answer (List A)
 read_rows rows zero state bytes = Ok ([], bytes)
-read_rows rows (suc n) state bytes = (rows.row state).read bytes >>= λ x. read_rows rows n (rows.next state x.0) x.1 >>= λ xs. Ok (x.0 ∷ xs.0, xs.1)
+read_rows rows (suc n) state bytes = (rows.row state).read bytes >>= λ x. read_rows rows n (rows.next state x.0) x.1
+    >>= λ xs. Ok (x.0 ∷ xs.0, xs.1)
 
 unfoldable pub spell_rows : {S A : Type 0} → Rows S A → S → List A → Bytes
 spell_rows rows state [] = []

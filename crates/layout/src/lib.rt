@@ -12,6 +12,7 @@ mod ranges;
 mod reader;
 mod rows;
 mod text;
+mod values;
 mod writer;
 
 pub use digests::{Digest, are_bytes};
@@ -21,4 +22,5 @@ pub use ranges::{Group, INumber, Principal, User, Version};
 pub use reader::Reader;
 pub use rows::{RowFormat, RowState, read_rows, read_rows_into, write_rows};
 pub use text::{Text, read_nested, write_nested};
+pub use values::{beside, let_go, put_in};
 pub use writer::Writer;

@@ -12,7 +12,8 @@ step id leaf chain number value = hash_of id leaf chain (be w8 number ++ value)
 -- what so many steps make of a value, the first of them with this number
 unfoldable pub chained : Bytes → ℕ → ℕ → ℕ → ℕ → Digest → Digest
 chained id leaf chain first zero value = value
-chained id leaf chain first (suc count) value = step id leaf chain (first + count) (chained id leaf chain first count value)
+chained id leaf chain first (suc count) value = step id leaf chain (first + count)
+    (chained id leaf chain first count value)
 
 -- what is drawn from the seed for a chain: a step from the seed that no chain has
 unfoldable pub drawn : Bytes → Bytes → ℕ → ℕ → Digest

@@ -16,7 +16,8 @@ inner_node id number left right = hash_of id number 0x8383 (left ++ right)
 -- T: the node with this number, which lies this high above the leaves
 unfoldable pub node : Bytes → Bytes → ℕ → ℕ → Digest
 node seed id zero number = leaf_node id number (key_of seed id (number - 1024))
-node seed id (suc height) number = inner_node id number (node seed id height (2 * number)) (node seed id height (2 * number + 1))
+node seed id (suc height) number = inner_node id number (node seed id height (2 * number))
+    (node seed id height (2 * number + 1))
 
 -- the number of the node so high above another
 unfoldable pub ancestor : ℕ → ℕ → ℕ
@@ -29,9 +30,11 @@ sibling number = if number % 2 == 0 then number + 1 else number - 1
 
 -- the node above one of these numbers, from it and its sibling
 unfoldable pub parent : Bytes → ℕ → Digest → Digest → Digest
-parent id number other value = if number % 2 == 0 then inner_node id (number / 2) value other else inner_node id (number / 2) other value
+parent id number other value = if number % 2 == 0 then inner_node id (number / 2) value other
+    else inner_node id (number / 2) other value
 
 -- the node so high above one, from it and the siblings on the way
 unfoldable pub climbed : Bytes → ℕ → (ℕ → Digest) → Digest → ℕ → Digest
 climbed id number path value zero = value
-climbed id number path value (suc height) = parent id (ancestor number height) (path height) (climbed id number path value height)
+climbed id number path value (suc height) = parent id (ancestor number height) (path height)
+    (climbed id number path value height)

@@ -32,7 +32,8 @@ signed_structure = signed (nested size structure)
 -- a certificate in its size, its signature, and the plan in its size
 abbrev pub pending_item : Format PendingItem
 pending_item =
-    mapped (λ (cert, plan). record { cert = cert.value; signature = cert.signature; plan = plan }) (λ i. (record { value = i.cert; signature = i.signature }, i.plan))
+    mapped (λ (cert, plan). record { cert = cert.value; signature = cert.signature; plan = plan })
+        (λ i. (record { value = i.cert; signature = i.signature }, i.plan))
     (pair (signed (nested size cert)) (nested size plan))
 
 abbrev pub structure_rows : RowAfter (Signed Structure)
@@ -44,7 +45,8 @@ pending_rows before = pending_item
 abbrev pub reply : Format Reply
 reply =
     headed (codes "SRL1")
-    (mapped (λ (structures, pending). record { structures = structures; pending = pending }) (λ r. (r.structures, r.pending))
+    (mapped (λ (structures, pending). record { structures = structures; pending = pending })
+        (λ r. (r.structures, r.pending))
     (pair (listed (uint_in w8 0 64) structure_rows) (listed (uint_in w8 0 64) pending_rows)))
 
 -- ---- what a certificate names

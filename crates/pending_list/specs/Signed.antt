@@ -8,4 +8,5 @@ abbrev pub signature : Format Signature
 signature = raw 2508
 
 abbrev pub signed : {V : Type 0} → Format V → Format (Signed V)
-signed f = mapped (λ (value, signature). record { value = value; signature = signature }) (λ s. (s.value, s.signature)) (pair f signature)
+signed f = mapped (λ (value, signature). record { value = value; signature = signature }) (λ s. (s.value, s.signature))
+    (pair f signature)

@@ -69,14 +69,19 @@ user_of l = l.user
 
 -- the user stands among the others, in its place
 abbrev pub user_added : Version → User → Key → Table → Table
-user_added number user key table = record { users = with_row nat_cmp user_of table.users (record { user = user; since = number; key = key }); rows = table.rows }
+user_added number user key table =
+    record { users = with_row nat_cmp user_of table.users (record { user = user; since = number; key = key });
+    rows = table.rows }
 
 abbrev pub member_added : Version → Group → User → Table → Table
-member_added number group user table = record { users = table.users; rows = table.rows ++ record { group = group; user = user; begins = number; until = 0 } ∷ [] }
+member_added number group user table =
+    record { users = table.users;
+    rows = table.rows ++ record { group = group; user = user; begins = number; until = 0 } ∷ [] }
 
 -- an open row of the group and the user ends; others stay
 abbrev pub ended : Version → Group → User → Row → Row
-ended number group user r = if is_open group user r then record { group = r.group; user = r.user; begins = r.begins; until = number } else r
+ended number group user r = if is_open group user r
+    then record { group = r.group; user = r.user; begins = r.begins; until = number } else r
 
 abbrev pub member_dropped : Version → Group → User → Table → Table
 member_dropped number group user table = record { users = table.users; rows = map (ended number group user) table.rows }

@@ -21,7 +21,8 @@ abbrev pub key : Format Key
 key = guarded (raw 56) is_key Range
 
 abbrev pub listing_of : Format User → Format Version → Format Listing
-listing_of who since = mapped (λ (user, (since, key)). record { user = user; since = since; key = key }) (λ l. (l.user, (l.since, l.key))) (pair who (pair since key))
+listing_of who since = mapped (λ (user, (since, key)). record { user = user; since = since; key = key })
+    (λ l. (l.user, (l.since, l.key))) (pair who (pair since key))
 
 -- user 0 comes first
 abbrev pub who : Option Listing → Format User
@@ -64,13 +65,16 @@ ends_row table g u begins = guarded (uint_in w32 0 4294967295) (may_end table g 
 
 abbrev pub row : Table → Format Row
 row table =
-    mapped (λ (group, (user, (begins, until))). record { group = group; user = user; begins = begins; until = until }) (λ r. (r.group, (r.user, (r.begins, r.until))))
-    (followed group (λ g. followed (listed_user table) (λ u. followed (begins_row table) (λ begins. ends_row table g u begins))))
+    mapped (λ (group, (user, (begins, until))). record { group = group; user = user; begins = begins; until = until })
+        (λ r. (r.group, (r.user, (r.begins, r.until))))
+    (followed group (λ g. followed (listed_user table)
+        (λ u. followed (begins_row table) (λ begins. ends_row table g u begins))))
 
 -- a row as it is written, whatever stands before it
 abbrev pub plain_row : Format Row
 plain_row =
-    mapped (λ (group, (user, (begins, until))). record { group = group; user = user; begins = begins; until = until }) (λ r. (r.group, (r.user, (r.begins, r.until))))
+    mapped (λ (group, (user, (begins, until))). record { group = group; user = user; begins = begins; until = until })
+        (λ r. (r.group, (r.user, (r.begins, r.until))))
     (pair group (pair user (pair version (uint_in w32 0 4294967295))))
 
 abbrev pub with_next : Table → Row → Table

@@ -1,8 +1,8 @@
--- The steps of what one user's client releases: of the contract of each call what the laws need, so that there are more runs
--- here than can come about, and what a crash leaves.
+-- The steps of what one user's client releases: of the contract of each call what the laws need, so that there are more
+-- runs here than can come about, and what a crash leaves.
 --
--- A crash inside a call is a call whose device fails, and then a crash: whatever part of the call was done by then is one
--- that a device may have done that fails there.
+-- A crash inside a call is a call whose device fails, and then a crash: whatever part of the call was done by then is
+-- one that a device may have done that fails there.
 use Rattle.std.specs.Prelude.{◌≡◌, [], Some, IfOk, OnOk, OnErr, Result, Ok, Err}
 use Rattle.layout.specs.Types.{Bytes, User}
 use Rattle.leaf_ledger.specs.Device.{History, MayLeave, started}
@@ -69,12 +69,14 @@ pub record IsHandedBack (s : Released) (p : Parts) : Type 0 where
 
 -- what is released once a certificate is declared by this leaf
 abbrev pub with_cert : Devices → Released → LeafNumber → Cert → Released
-with_cert devices s leaf c = record s { devices = devices; number = c.number; phase = phase.Declared; text = sent s leaf (cert.spell c) }
+with_cert devices s leaf c =
+    record s { devices = devices; number = c.number; phase = phase.Declared; text = sent s leaf (cert.spell c) }
 
 -- and once a structure is signed by it
 abbrev pub with_structure : Devices → Released → LeafNumber → Structure → Released
 with_structure devices s leaf z =
-    record s { devices = devices; last = Some (signed_by s.seed s.id leaf z); phase = phase.Signed; text = sent s leaf (structure.spell z) }
+    record s { devices = devices; last = Some (signed_by s.seed s.id leaf z); phase = phase.Signed;
+        text = sent s leaf (structure.spell z) }
 
 -- what stays released when a device fails
 abbrev pub failed : Devices → Released → Released
@@ -84,7 +86,8 @@ pub record HasDeclared (s : Released) (c : Cert) (answer : Result Bytes ClientEr
   pub idle : s.phase ≡ phase.Idle
   pub fits : cert.Fits c
   pub user : c.user ≡ s.user
-  pub declared : OnOk answer ((leaf : LeafNumber) × IsKept leaf (cert_record (sent s leaf (cert.spell c))) s.devices new.devices
+  pub declared : OnOk answer ((leaf : LeafNumber)
+      × IsKept leaf (cert_record (sent s leaf (cert.spell c))) s.devices new.devices
       × (new ≡ with_cert new.devices s leaf c))
   pub text : IfOk answer (λ text. text ≡ new.text)
   pub tried : OnErr answer (IsTried (λ leaf. cert_record (sent s leaf (cert.spell c))) s.devices new.devices)
@@ -95,7 +98,8 @@ pub record HasSigned (s : Released) (z : Structure) (answer : Result Bytes Clien
   pub fits : structure.Fits z
   pub user : z.plan.user ≡ s.user
   pub number : z.plan.number ≡ s.number
-  pub signed : OnOk answer ((leaf : LeafNumber) × IsKept leaf (structure_record (sent s leaf (structure.spell z))) s.devices new.devices
+  pub signed : OnOk answer ((leaf : LeafNumber)
+      × IsKept leaf (structure_record (sent s leaf (structure.spell z))) s.devices new.devices
       × (new ≡ with_structure new.devices s leaf z))
   pub text : IfOk answer (λ text. text ≡ new.text)
   pub tried : OnErr answer (IsTried (λ leaf. structure_record (sent s leaf (structure.spell z))) s.devices new.devices)

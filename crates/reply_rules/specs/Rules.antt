@@ -1,10 +1,9 @@
--- The rules that speak of the lists of a reply and of the table of principals alone. Each part of a rule is a test of its
--- own.
+-- The rules that speak of the lists of a reply and of the table of principals alone. Each part of a rule is a test of
+-- its own.
 --
 -- An item is a structure or a pending operation, and has a plan. Top is the structure of greatest depth, of equal ones
 -- the least user's; without structures its vector and entries are empty and its depth is 0. Above is what has a greater
--- depth than top.
--- The rules stand in docs/RULES.md.
+-- depth than top. The rules stand in docs/RULES.md.
 use Rattle.std.specs.Prelude.{ℕ, zero, suc, ◌+◌, List, [], ◌∷◌, ◌++◌, Option, Some, None, Bool, true, false, ◌&&◌, ◌||◌, not, map, filter, if◌then◌else◌, ◌==◌, nat_lt, nat_le}
 use Rattle.std.specs.List.{list_all, list_any}
 use Rattle.std.specs.Option.{option_map_or}
@@ -145,7 +144,8 @@ numbers x = structures_numbered x && (pending_numbered x && (pending_next x && t
 -- the depths differ, and no component falls from the lesser to the greater
 abbrev pub in_order : Plan → Plan → Bool
 in_order p q =
-    (nat_lt (depth p) (depth q) && is_below p.vector q.vector) || (nat_lt (depth q) (depth p) && is_below q.vector p.vector)
+    (nat_lt (depth p) (depth q) && is_below p.vector q.vector)
+        || (nat_lt (depth q) (depth p) && is_below q.vector p.vector)
 
 -- the test holds of any two
 abbrev pub any_two : (Plan → Plan → Bool) → List Plan → Bool

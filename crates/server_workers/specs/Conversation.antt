@@ -108,7 +108,8 @@ told_of input given written = Some (record { read = take given input; written = 
 abbrev pub goes_on : Bytes → Bytes → Option Told → Option Told
 goes_on read written told = option_map (λ t. record { read = t.read ++ read; written = t.written ++ written }) told
 
--- All frames that were read were replied to, where it ended by itself: at the end of the stream, or at a length at fault.
+-- All frames that were read were replied to, where it ended by itself: at the end of the stream, or at a length at
+-- fault.
 abbrev pub EndsWith : Ended → Bytes → Bytes → Type 0
 EndsWith End left unwritten = (unwritten ≡ []) × (¬ BeginsFrame left) × (¬ BeginsAtFault left)
 EndsWith Length left unwritten = (unwritten ≡ []) × BeginsAtFault left
@@ -118,7 +119,8 @@ EndsWith Memory left unwritten = Unit {0}
 -- So many bytes more were read and written, and so many calls more answered, as the exchanges say: what was read is the
 -- frames of their requests and a rest, and what was written is the frames of their replies, in order, but for an end.
 -- Of a connection that doesn't tell its bytes this says only that no call less was answered.
-pub record Conversed (pinned : Key) (before now : Option Told) (answered answered_now : ℕ) (ended : Ended) : Type 0 where
+pub record Conversed (pinned : Key) (before now : Option Told) (answered answered_now : ℕ)
+    (ended : Ended) : Type 0 where
   pub exchanges : List Exchange
   pub left : Bytes
   pub written : Bytes

@@ -23,4 +23,5 @@ Wrote true before now taken = AppendsBeginning before now (records taken)
 -- What was taken begins the logged calls, and is all of them where it says flushed.
 abbrev pub IsFlushed : Bool → Option Bytes → Option Bytes → List Call → Type 0
 IsFlushed flushed before now logged =
-    (taken left : List Call) × (logged ≡ taken ++ left) × Wrote (not flushed) before now taken × (flushed ≡ true → left ≡ [])
+    (taken left : List Call) × (logged ≡ taken ++ left) × Wrote (not flushed) before now taken
+        × (flushed ≡ true → left ≡ [])

@@ -1,5 +1,5 @@
--- What is asked for: the i-node that a change meets at its i-number, and the blocks of the directory that it is of, where
--- the change has to know them.
+-- What is asked for: the i-node that a change meets at its i-number, and the blocks of the directory that it is of,
+-- where the change has to know them.
 use Rattle.std.specs.Prelude.{◌≡◌, ◌⊎◌, ℕ, Bool, true, false, ◌&&◌, not, List, Some, IsSome, IsSomeAnd, slice_get, take}
 use Rattle.itable.specs.declared.inode.Kind.{Kind}
 use Rattle.itable.specs.declared.inode.Kind.TheVariants as kind
@@ -26,7 +26,8 @@ IsInode p i inode digest s = (digest ≡ inode) × (s ≡ spot.Inode p i)
 
 -- the digest is that of this block of an i-node of this kind that is held, and the blocks before it are held
 abbrev pub IsBlockOf : Blocks → Kind → Digest → ℕ → Digest → Type 0
-IsBlockOf blocks kind inode k digest = IsSomeAnd (inode_at blocks inode) (λ n. (n.kind ≡ kind) × (slice_get n.blocks k ≡ Some digest) × IsSome (joined blocks (take k n.blocks)))
+IsBlockOf blocks kind inode k digest = IsSomeAnd (inode_at blocks inode)
+    (λ n. (n.kind ≡ kind) × (slice_get n.blocks k ≡ Some digest) × IsSome (joined blocks (take k n.blocks)))
 
 -- and its spot is that block's
 abbrev pub IsBlock : Blocks → Kind → Digest → Digest → Spot → Type 0
@@ -34,7 +35,8 @@ IsBlock blocks kind inode digest s = (k : ℕ) × (s ≡ spot_of kind inode k) �
 
 -- no block of this i-node is missing
 abbrev pub HasBlocks : Blocks → Kind → Digest → Type 0
-HasBlocks blocks kind inode = (digest : Digest) (s : Spot) → IsBlock blocks kind inode digest s → lacks blocks digest s ≡ false
+HasBlocks blocks kind inode = (digest : Digest) (s : Spot) → IsBlock blocks kind inode digest s
+    → lacks blocks digest s ≡ false
 
 -- ---- of the table of principals
 
@@ -48,12 +50,14 @@ IsOfPrincipals blocks inode digest s = IsInode 0 1 inode digest s ⊎ IsTableBlo
 
 -- nothing of the table is missing
 abbrev pub HasPrincipals : Blocks → Digest → Type 0
-HasPrincipals blocks inode = (digest : Digest) (s : Spot) → IsOfPrincipals blocks inode digest s → lacks blocks digest s ≡ false
+HasPrincipals blocks inode = (digest : Digest) (s : Spot) → IsOfPrincipals blocks inode digest s
+    → lacks blocks digest s ≡ false
 
 -- ---- of a change
 
--- Whether the change fits depends on what kind of thing stands at its i-number, and so on the i-node there: of a make it
--- depends on whether anything does, and at the places of the table of principals and of the root it is told by the place.
+-- Whether the change fits depends on what kind of thing stands at its i-number, and so on the i-node there: of a make
+-- it depends on whether anything does, and at the places of the table of principals and of the root it is told by the
+-- place.
 abbrev pub needs_inode : {C : Type 0} → Principal → INumber → Action C → Bool
 needs_inode p i (Make new) = false
 needs_inode p i (Put new) = true
@@ -77,24 +81,29 @@ needs_entries (DropMember g u) = false
 
 -- the change asks for what stands at its i-number
 abbrev pub asks : {C : Type 0} → Actor → Change C → Bool
-asks actor c = permitted actor c && (not (is_table c.principal c.i_number) && needs_inode c.principal c.i_number c.action)
+asks actor c = permitted actor c
+    && (not (is_table c.principal c.i_number) && needs_inode c.principal c.i_number c.action)
 
 -- the digest is that of this i-node, which lies where the change is made, or of a block of the directory that it is of
 abbrev pub IsWantedBy : Blocks → Change Digest → Digest → Digest → Spot → Type 0
-IsWantedBy blocks c inode digest s = IsInode c.principal c.i_number inode digest s ⊎ ((needs_entries c.action ≡ true) × IsBlock blocks kind.Directory inode digest s)
+IsWantedBy blocks c inode digest s = IsInode c.principal c.i_number inode digest s
+    ⊎ ((needs_entries c.action ≡ true) × IsBlock blocks kind.Directory inode digest s)
 
 -- At its turn a change of the part's principal lies at this i-node, whatever stands for the digests of which no block
 -- tells.
 abbrev pub IsMetAt : Blocks → Actor → List (Change Digest) → Part → ℕ → Change Digest → Digest → Type 0
 IsMetAt blocks actor changes part k c inode =
     (slice_get changes k ≡ Some c) × (c.principal ≡ part.table.principal)
-    × ForEachReading blocks (λ reads. slot_after reads actor part.table.principal c.i_number (take k changes) (slot_at part c.i_number) ≡ Some (Laid inode))
+    × ForEachReading blocks (λ reads. slot_after reads actor part.table.principal c.i_number (take k changes)
+        (slot_at part c.i_number) ≡ Some (Laid inode))
 
 -- The digest is asked for by one of these changes, at its turn.
 abbrev pub IsAskedFor : Blocks → Actor → List (Change Digest) → Part → Digest → Spot → Type 0
 IsAskedFor blocks actor changes part digest s =
-    (k : ℕ) × (c : Change Digest) × (inode : Digest) × IsMetAt blocks actor changes part k c inode × (asks actor c ≡ true) × IsWantedBy blocks c inode digest s
+    (k : ℕ) × (c : Change Digest) × (inode : Digest) × IsMetAt blocks actor changes part k c inode
+        × (asks actor c ≡ true) × IsWantedBy blocks c inode digest s
 
 -- nothing that they ask for is missing
 abbrev pub HasAskedFor : Blocks → Actor → List (Change Digest) → Part → Type 0
-HasAskedFor blocks actor changes part = (digest : Digest) (s : Spot) → IsAskedFor blocks actor changes part digest s → lacks blocks digest s ≡ false
+HasAskedFor blocks actor changes part = (digest : Digest) (s : Spot) → IsAskedFor blocks actor changes part digest s
+    → lacks blocks digest s ≡ false

@@ -64,7 +64,8 @@ abbrev pub IsOf : Blocks → Inode → Content → Type 0
 IsOf blocks n (File bytes) =
     (n.kind ≡ kind.File) × (length bytes ≡ n.size) × ((found : Bytes) → file_over blocks n ≡ Some found → found ≡ bytes)
 IsOf blocks n (Directory entries) =
-    (n.kind ≡ kind.Directory) × ((entries ≡ []) ↔ (n.size ≡ 6)) × ((found : List Entry) → directory_over blocks n ≡ Some found → found ≡ entries)
+    (n.kind ≡ kind.Directory) × ((entries ≡ []) ↔ (n.size ≡ 6))
+        × ((found : List Entry) → directory_over blocks n ≡ Some found → found ≡ entries)
 IsOf blocks n (Principals t) = ⊥
 
 -- ---- i-tables
@@ -85,8 +86,8 @@ told_by blocks i (Some c) = option_map (λ x. digest_in x.pairs i) (chunk_held b
 abbrev pub told_under : Blocks → Principal → INumber → Root → Option (Option Digest)
 told_under blocks p i r = if r.principal == p then told_by blocks i (chunk_at r (chunk_number i)) else None
 
--- What the held blocks tell at an i-number of a principal's i-table with this handle: nothing, or which digest is there,
--- if any is. They tell it where they have the root, and the chunk of the i-number if the root lists it.
+-- What the held blocks tell at an i-number of a principal's i-table with this handle: nothing, or which digest is
+-- there, if any is. They tell it where they have the root, and the chunk of the i-number if the root lists it.
 abbrev pub inode_told : Blocks → Principal → Handle → INumber → Option (Option Digest)
 inode_told blocks p handle i = option_and_then (told_under blocks p i) (root_at blocks handle)
 
@@ -94,8 +95,10 @@ inode_told blocks p handle i = option_and_then (told_under blocks p i) (root_at 
 
 pub record Agrees (blocks : Blocks) (reads : Reading) : Type 0 where
   pub contents : (digest : Digest) (n : Inode) → inode_at blocks digest ≡ Some n → IsOf blocks n (reads.content digest)
-  pub inodes : (p : Principal) (handle : Handle) (i : INumber) (told : Option Digest) → inode_told blocks p handle i ≡ Some told → reads.inode p handle i ≡ told
+  pub inodes : (p : Principal) (handle : Handle) (i : INumber) (told : Option Digest)
+      → inode_told blocks p handle i ≡ Some told → reads.inode p handle i ≡ told
 
--- this holds of each reading that tells what the held blocks tell, whatever stands for the digests of which no block tells
+-- this holds of each reading that tells what the held blocks tell, whatever stands for the digests of which no block
+-- tells
 abbrev pub ForEachReading : Blocks → (Reading → Type 0) → Type 0
 ForEachReading blocks P = (reads : Reading) → Agrees blocks reads → P reads

@@ -15,9 +15,9 @@ use Rattle.update_cert.specs.declared.change.TableChange.TheVariants as table_ch
 use Rattle.update_cert.specs.declared.change.AnyAction.{AnyAction}
 use Rattle.update_cert.specs.declared.change.AnyAction.TheVariants as any_action
 
--- What is done. Make and Put have what is to stand there: in a certificate the digest of its i-node, in an operation the
--- content. Link has the new entry, and Unlink the name of one. The last three are done to the table of principals, at user
--- 0's i-number 1.
+-- What is done. Make and Put have what is to stand there: in a certificate the digest of its i-node, in an operation
+-- the content. Link has the new entry, and Unlink the name of one. The last three are done to the table of principals,
+-- at user 0's i-number 1.
 pub data Action (C : Type 0) : Type 0 where
   Make : C → Action C
   Put : C → Action C
@@ -102,7 +102,8 @@ abbrev pub as_drop_member : Action Digest → Option (Group × User)
 as_drop_member (DropMember g u) = Some (g, u)
 as_drop_member other = None
 
--- what stands after the place of a change: the digest of an i-node for 1 and 2, nothing for 3, an entry for 4, a name for 5
+-- what stands after the place of a change: the digest of an i-node for 1 and 2, nothing for 3, an entry for 4, a name
+-- for 5
 abbrev pub action : ℕ → Format (Action Digest)
 action zero = variant (λ _. Remove) as_remove nothing
 action (suc zero) = variant (λ inode. Make inode) as_make (raw 32)
@@ -114,15 +115,16 @@ action (suc (suc (suc (suc (suc n))))) = variant (λ old. Unlink old) as_unlink 
 -- the fields after the kinds 1 to 5: whose i-number, which, and what is done there
 abbrev pub placed_fields : ℕ → Format (Change Digest)
 placed_fields k =
-    mapped (λ (principal, (i_number, action)). record { principal = principal; i_number = i_number; action = action }) (λ c. (c.principal, (c.i_number, c.action)))
+    mapped (λ (principal, (i_number, action)). record { principal = principal; i_number = i_number; action = action })
+        (λ c. (c.principal, (c.i_number, c.action)))
     (pair principal (pair i_number (action k)))
 
 -- where the change is one of the table, what its action has
 abbrev pub in_table : {X : Type 0} → (Action Digest → Option X) → Change Digest → Option X
 in_table from c = if (c.principal == 0) && (c.i_number == 1) then from c.action else None
 
--- The fields after the kinds 6 to 8, of changes of the table, counted from 0: a user and its key, or a group and a user.
--- Their place isn't written.
+-- The fields after the kinds 6 to 8, of changes of the table, counted from 0: a user and its key, or a group and a
+-- user. Their place isn't written.
 abbrev pub table_fields : ℕ → Format (Change Digest)
 table_fields zero = variant (λ p. of_table (AddUser p.0 p.1)) (in_table as_add_user) (pair user key)
 table_fields (suc zero) = variant (λ p. of_table (AddMember p.0 p.1)) (in_table as_add_member) (pair group user)

@@ -72,4 +72,5 @@ HasTable tree = (t : Table) × (tree 0 1 ≡ Some (Principals t))
 -- The tree's part of this principal is this one, but for the table of principals: that is no part's.
 pub record IsPartOf (reads : Reading) (part : Part) (tree : Tree) : Type 0 where
   pub has_table : HasTable tree
-  pub stands : (i : INumber) → is_table part.table.principal i ≡ false → tree part.table.principal i ≡ stands_at reads part i
+  pub stands : (i : INumber) → is_table part.table.principal i ≡ false
+      → tree part.table.principal i ≡ stands_at reads part i

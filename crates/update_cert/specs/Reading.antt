@@ -4,8 +4,8 @@ use Rattle.layout.specs.Types.{Digest, Handle, INumber, Principal}
 use Rattle.update_cert.specs.Change.{Action, Make, Put, Remove, Link, Unlink, AddUser, AddMember, DropMember, Change}
 use Rattle.update_cert.specs.World.{Actor, Content, Tree, after, void, void_of, void_of_table}
 
--- what the i-node of a digest is of, and the digest of the i-node at an i-number of a principal's i-table with a handle, if
--- it has one
+-- what the i-node of a digest is of, and the digest of the i-node at an i-number of a principal's i-table with a
+-- handle, if it has one
 pub record Reading : Type 0 where
   pub content : Digest → Content
   pub inode : Principal → Handle → INumber → Option Digest

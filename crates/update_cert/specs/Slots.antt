@@ -49,7 +49,8 @@ slot_after_change reads actor c s = if slot_changes reads actor c s then slot_be
 unfoldable pub slot_after : Reading → Actor → Principal → INumber → List (Change Digest) → Option Slot → Option Slot
 slot_after reads actor p i [] s = s
 slot_after reads actor p i (c ∷ cs) s =
-    if (c.principal == p) && (c.i_number == i) then slot_after reads actor p i cs (slot_after_change reads actor c s) else slot_after reads actor p i cs s
+    if (c.principal == p) && (c.i_number == i) then slot_after reads actor p i cs (slot_after_change reads actor c s)
+        else slot_after reads actor p i cs s
 
 -- ---- what an i-table has of it
 
@@ -73,7 +74,8 @@ directory_texts entries = blocks_of (directory.spell entries) ++ inode.spell (di
 -- whoever holds the texts of this directory reads it from them: its digest stands for it
 abbrev pub IsReadBack : List Entry → Type 0
 IsReadBack entries =
-    (blocks : Blocks) → ForEachReading blocks (λ reads. All (IsHeld blocks) (directory_texts entries) → reads.content (directory_digest entries) ≡ Directory entries)
+    (blocks : Blocks) → ForEachReading blocks (λ reads. All (IsHeld blocks) (directory_texts entries)
+        → reads.content (directory_digest entries) ≡ Directory entries)
 
 -- the i-table has this digest at an i-number
 abbrev pub has_digest : ITable → INumber → Digest → Bool
@@ -82,7 +84,8 @@ has_digest t i digest = option_map_or (λ stored. bytes_eq stored digest) (diges
 -- the directory has the digest that its i-number had before the operation, or the one under which it was laid in it:
 -- nothing of it is new
 abbrev pub is_stored : ITable → ITable → Open → Bool
-is_stored before t o = has_digest before o.i_number (directory_digest o.entries) || has_digest t o.i_number (directory_digest o.entries)
+is_stored before t o = has_digest before o.i_number (directory_digest o.entries)
+    || has_digest t o.i_number (directory_digest o.entries)
 
 -- the texts of those that are new, ascending by i-number
 unfoldable pub changed_texts : ITable → ITable → List Open → List Bytes

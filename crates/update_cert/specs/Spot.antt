@@ -39,11 +39,13 @@ size_of_block size k = min BLOCK_SIZE (size - BLOCK_SIZE * k)
 
 -- a block of a file has its size
 abbrev pub takes_file_block : ℕ → Bytes → Inode → Bool
-takes_file_block k text n = is_of_file n.kind && (nat_lt k (block_count n.size) && (length text == size_of_block n.size k))
+takes_file_block k text n = is_of_file n.kind
+    && (nat_lt k (block_count n.size) && (length text == size_of_block n.size k))
 
 -- the last block of a text in a format is, after the others, what makes the text
 abbrev pub completes : {T : Type 0} → Format T → Blocks → Inode → ℕ → Bytes → Bool
-completes f blocks n k text = option_map_or (λ before. is_some (of_size f n.size (before ++ text))) (joined blocks (take k n.blocks)) false
+completes f blocks n k text = option_map_or (λ before. is_some (of_size f n.size (before ++ text)))
+    (joined blocks (take k n.blocks)) false
 
 -- a block of such a text has its size, and the last one completes it
 abbrev pub is_block_of : {T : Type 0} → Format T → Blocks → ℕ → Bytes → Inode → Bool

@@ -28,7 +28,8 @@ is_root p i = (p == 0) && (i == 2)
 -- the tree of the beginning: user 0 is listed with this key and has the table and an empty root directory; nobody has
 -- anything else
 abbrev pub genesis : Key → Tree
-genesis key p i = if is_table p i then Some (Principals (first_table key)) else if is_root p i then Some (Directory []) else None
+genesis key p i = if is_table p i then Some (Principals (first_table key)) else if is_root p i then Some (Directory [])
+    else None
 
 -- whose operation it is, its number, and the groups of which this user is a member in the world before it
 pub record Actor : Type 0 where
@@ -64,7 +65,8 @@ is_removable (Some (Principals table)) = false
 abbrev pub has_room : Bytes → Option Content → Bool
 has_room name None = false
 has_room name (Some (File bytes)) = false
-has_room name (Some (Directory entries)) = not (is_some (target_of entries name)) && nat_lt (length entries) MOST_ENTRIES
+has_room name (Some (Directory entries)) = not (is_some (target_of entries name))
+    && nat_lt (length entries) MOST_ENTRIES
 has_room name (Some (Principals table)) = false
 
 -- a directory that has this name
@@ -86,7 +88,8 @@ abbrev pub lacks_member : Group → User → Option Content → Bool
 lacks_member g u None = false
 lacks_member g u (Some (File bytes)) = false
 lacks_member g u (Some (Directory entries)) = false
-lacks_member g u (Some (Principals table)) = lists_user table u && (not (is_member_now table g u) && nat_lt (length table.rows) 65535)
+lacks_member g u (Some (Principals table)) = lists_user table u
+    && (not (is_member_now table g u) && nat_lt (length table.rows) 65535)
 
 -- a table by which the user is a member of the group now
 abbrev pub has_member : Group → User → Option Content → Bool
@@ -146,7 +149,8 @@ content_after actor c content = if has_effect actor c content then becomes actor
 
 -- the tree after a change: all else is as before
 abbrev pub after_change : Actor → Change Content → Tree → Tree
-after_change actor c tree p i = if (p == c.principal) && (i == c.i_number) then content_after actor c (tree p i) else tree p i
+after_change actor c tree p i = if (p == c.principal) && (i == c.i_number) then content_after actor c (tree p i)
+    else tree p i
 
 -- the tree after the changes, in turn
 unfoldable pub after : Actor → List (Change Content) → Tree → Tree
