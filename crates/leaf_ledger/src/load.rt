@@ -7,6 +7,7 @@ ghost use Rattle.leaf_ledger.specs.Ledger.{UsedAsBefore, IsForeign, KeepsLedger}
 use crate::device::{Device, DeviceError, write_through};
 use crate::error::LedgerError;
 use crate::ledger::MARKS_AT;
+use lms_sign::{KEY_SIZE, Key};
 
 /// How long the file is: the key, and a byte a leaf.
 const FILE_SIZE: usize = 1080;
@@ -35,7 +36,7 @@ fn synced_size<D: Device>(device: &mut D) -> Result<usize, DeviceError>
 }
 
 /// The marks in the file of a key, which is made where there is none.
-pub(crate) fn load<D: Device>(device: &mut D, key: &[u8; 56]) -> Result<[u8; 1024], LedgerError>
+pub(crate) fn load<D: Device>(device: &mut D, key: &Key) -> Result<[u8; 1024], LedgerError>
     ensures at_rest { IfOk result (λ marks. (D.history device.new).now ≡ at_rest (key.now ++ marks)) }
     ensures used { OnOk result (UsedAsBefore (D.history device.old).now.text (D.history device.new).now.text) }
     // All that it does to a file that is there is to sync it.
@@ -56,7 +57,7 @@ pub(crate) fn load<D: Device>(device: &mut D, key: &[u8; 56]) -> Result<[u8; 102
     if size != FILE_SIZE {
         return Err(LedgerError::Foreign);
     }
-    let mut found = [0; 56];
+    let mut found = [0; KEY_SIZE];
     device.read(0, &mut found)?;
     if found != *key {
         return Err(LedgerError::Foreign);

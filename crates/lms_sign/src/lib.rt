@@ -25,7 +25,7 @@ pub use form::SIGNATURE_SIZE;
 pub use laws::{signed_is_valid, sizes};
 pub use leaf::Leaf;
 pub use private_key::{PrivateKey, SEED_SIZE};
-pub use public_key::{ID_SIZE, KEY_SIZE, PublicKey};
+pub use public_key::{ID_SIZE, KEY_SIZE, Key, PublicKey};
 pub use signing::sign;
 pub use spent_leaf::{SpentLeaf, burn};
 pub use tree::LEAF_COUNT;

@@ -10,6 +10,9 @@ use std::marker::Model;
 /// The size of a public key, in bytes.
 pub const KEY_SIZE: usize = 56;
 
+/// The bytes of a public key.
+pub type Key = [u8; KEY_SIZE];
+
 /// The size of a key's identifier, in bytes.
 pub const ID_SIZE: usize = 16;
 
@@ -25,7 +28,7 @@ const ROOT_AT: usize = 24;
 /// A public key: LMS type, LM-OTS type, identifier and root.
 #[derive(Clone, Copy, Debug, PartialEq, Eq)]
 pub struct PublicKey {
-    bytes: [u8; 56],
+    bytes: Key,
 }
 
 impl Model for PublicKey {
@@ -44,7 +47,7 @@ impl Model for PublicKey {
 impl PublicKey {
     /// The public key that these bytes are, unless it is of other types.
     #[tactic(auto, unfolding(crate::specs::Keys::is_key, layout::specs::Format::be))]
-    pub fn from_bytes(bytes: [u8; 56]) -> Option<PublicKey>
+    pub fn from_bytes(bytes: Key) -> Option<PublicKey>
         ensures which { is_some result ≡ is_key bytes }
         ensures key { IfSome result (λ key. key ≡ bytes) }
     {
@@ -68,7 +71,7 @@ impl PublicKey {
     }
 
     /// Its 56 bytes.
-    pub fn as_bytes(&self) -> &[u8; 56]
+    pub fn as_bytes(&self) -> &Key
         ensures same { result.now ≡ self.now }
         ensures size { length result.now ≡ KEY_SIZE }
         ensures key { is_key self.now ≡ true }
