@@ -13,6 +13,7 @@ use Rattle.std.proofs.lemmas.Map.Lookups.{exact_bytes}
 use Rattle.layout.specs.Hash.{hash}
 use Rattle.layout.specs.Types.{Bytes, Digest}
 use Rattle.block_store.specs.Blocks.{Blocks, blocks_of, AreOwn, IsPut}
+use Rattle.block_store.specs.declared.store.TheConstants.{BLOCK_LIMIT}
 
 -- ---- the order of digests
 
@@ -40,13 +41,13 @@ own_or : (before : Option Bytes) (bytes block : Bytes) → Some block ≡ Some (
 own_or (Some found) bytes block is = inl (sym is)
 own_or None bytes block is = inr cc
 
-pub own_after : (before : Blocks) (bytes : Bytes) (after : Blocks) → AreOwn before → length bytes ≤ 32779 → IsPut before bytes after → AreOwn after
+pub own_after : (before : Blocks) (bytes : Bytes) (after : Blocks) → AreOwn before → length bytes ≤ BLOCK_LIMIT → IsPut before bytes after → AreOwn after
 own_after before bytes after own small put digest block found =
     elim (same_or_apart (hash bytes) digest) [
       | inl same ↦
           elim (own_or (before (hash bytes)) bytes block (sym found ∙ ap after (sym same) ∙ put.there)) [
             | inl old ↦ let o = own (hash bytes) block old in (o.0 ∙ same, o.1)
-            | inr new ↦ (ap hash (sym new) ∙ same, subst (λ (l : Bytes). length l ≤ 32779) new small)
+            | inr new ↦ (ap hash (sym new) ∙ same, subst (λ (l : Bytes). length l ≤ BLOCK_LIMIT) new small)
           ]
       | inr apart ↦ own digest block (sym (put.others digest apart.0) ∙ found)
     ]
@@ -77,7 +78,7 @@ unchanged_own {A} old new same own digest block found =
 
 -- blocks stay their own, whether the insertion found memory or not
 pub own_inserted : {A X E : Type 0} (r : Result X E) (old new : BTreeMap Digest (Vec ℕ A)) (digest : Digest) (block : Vec ℕ A) (bytes : Bytes)
-    → digest ≡ hash bytes → block.items ≡ bytes → is_some (get (slice_cmp nat_cmp) old digest) ≡ false → length bytes ≤ 32779
+    → digest ≡ hash bytes → block.items ≡ bytes → is_some (get (slice_cmp nat_cmp) old digest) ≡ false → length bytes ≤ BLOCK_LIMIT
     → AreOwn (blocks_of old) → OnOk r (Updates (slice_cmp nat_cmp) old new digest (Some block)) → OnErr r (IsUnchanged old new) → AreOwn (blocks_of new)
 own_inserted (Ok x) old new digest block bytes is items free small own updates same = own_after (blocks_of old) bytes (blocks_of new) own small (tree_put old new digest block bytes is items free updates)
 own_inserted (Err e) old new digest block bytes is items free small own updates same = unchanged_own old new same own

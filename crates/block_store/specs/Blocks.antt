@@ -5,6 +5,7 @@ use Rattle.std.specs.Cmp.Lexicographic.{slice_cmp}
 use Rattle.std.specs.Option.{option_map}
 use Rattle.std.specs.Ordering.{nat_cmp}
 use Rattle.std.specs.declared.vec.Vec.{Vec}
+use Rattle.block_store.specs.declared.store.TheConstants.{BLOCK_LIMIT}
 use Rattle.layout.specs.Hash.{hash}
 use Rattle.layout.specs.Types.{Bytes, Digest}
 
@@ -16,10 +17,10 @@ Blocks = Digest → Option Bytes
 abbrev pub blocks_of : {A : Type 0} → BTreeMap Digest (Vec ℕ A) → Blocks
 blocks_of tree digest = option_map (λ block. block.items) (get (slice_cmp nat_cmp) tree digest)
 
--- each block has the digest under which it stands, and at most 32,779 bytes
+-- each block has the digest under which it stands, and at most BLOCK_LIMIT bytes
 abbrev pub AreOwn : Blocks → Type 0
 AreOwn blocks = (digest : Digest) (block : Bytes) → blocks digest ≡ Some block
-    → (hash block ≡ digest) × (length block ≤ 32779)
+    → (hash block ≡ digest) × (length block ≤ BLOCK_LIMIT)
 
 -- what is stored once these bytes were put: a block that stood under their digest stays, and else they stand there
 pub record IsPut (before : Blocks) (bytes : Bytes) (after : Blocks) : Type 0 where
