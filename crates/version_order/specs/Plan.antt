@@ -29,7 +29,7 @@ user_of e = e.user
 abbrev pub entry : RowAfter Entry
 entry before =
     mapped (λ (user, (number, plan)). record { user = user; number = number; plan = plan })
-        (λ e. (e.user, (e.number, e.plan)))
+    (λ e. (e.user, (e.number, e.plan)))
     (pair (guarded user (above nat_cmp user_of before) Order) (pair version (raw 32)))
 
 abbrev pub entries : Format (List Entry)
@@ -38,9 +38,14 @@ entries = listed (uint_in w8 0 255) entry
 abbrev pub plan : Format Plan
 plan =
     headed (codes "SVP1")
-    (mapped (λ (user, (number, (certificate, (vector, entries)))). record { user = user; number = number;
-        certificate = certificate; vector = vector; entries = entries })
-        (λ p. (p.user, (p.number, (p.certificate, (p.vector, p.entries)))))
+    (mapped (λ (user, (number, (certificate, (vector, entries)))). record {
+      user = user;
+      number = number;
+      certificate = certificate;
+      vector = vector;
+      entries = entries;
+    })
+    (λ p. (p.user, (p.number, (p.certificate, (p.vector, p.entries)))))
     (pair user (pair version (pair (raw 32) (pair vector entries)))))
 
 -- the digest of a plan is that of its text

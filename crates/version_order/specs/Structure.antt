@@ -25,10 +25,14 @@ group_of r = r.group
 
 abbrev pub group_record : RowAfter GroupRecord
 group_record before =
-    mapped (λ (group, (version, (table, handle))). record { group = group; version = version; table = table;
-        handle = handle }) (λ r. (r.group, (r.version, (r.table, r.handle))))
+    mapped (λ (group, (version, (table, handle))). record {
+      group = group;
+      version = version;
+      table = table;
+      handle = handle;
+    }) (λ r. (r.group, (r.version, (r.table, r.handle))))
     (pair (guarded group (above nat_cmp group_of before) Order)
-        (pair version (pair (uint_in w32 0 4294967295) (raw 32))))
+    (pair version (pair (uint_in w32 0 4294967295) (raw 32))))
 
 abbrev pub group_records : Format (List GroupRecord)
 group_records = listed (uint_in w8 0 255) group_record
@@ -37,7 +41,7 @@ abbrev pub structure : Format Structure
 structure =
     headed (codes "SVS1")
     (mapped (λ (plan, (handle, groups)). record { plan = plan; handle = handle; groups = groups })
-        (λ s. (s.plan, (s.handle, s.groups)))
+    (λ s. (s.plan, (s.handle, s.groups)))
     (pair (nested size plan) (pair (raw 32) group_records)))
 
 -- the digest of a structure is that of its text, without signature
