@@ -28,7 +28,7 @@ abbrev pub pair_row : ℕ → RowAfter Pair
 pair_row number before =
     mapped (λ (i_number, digest). record { i_number = i_number; digest = digest }) (λ p. (p.i_number, p.digest))
     (pair (guarded (guarded i_number (λ i. chunk_number i == number) Range) (above nat_cmp i_number_of before) Order)
-        (raw 32))
+    (raw 32))
 
 -- a chunk has at least one pair
 abbrev pub chunk : Format Chunk

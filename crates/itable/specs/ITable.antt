@@ -88,7 +88,7 @@ is_listed before c = list_any (λ b. (b.number == c.number) && bytes_eq b.digest
 unfoldable pub new_texts : List ListedChunk → ITable → List Bytes
 new_texts before t =
     filter_map (λ c. text_of_chunk t c.number) (filter (λ c. not (is_listed before c)) (listings t))
-        ++ root.spell (root_of t) ∷ []
+    ++ root.spell (root_of t) ∷ []
 
 -- a table of the same principal with the same digests has the same handle
 abbrev pub IsKnownByDigests : ITable → Type 0

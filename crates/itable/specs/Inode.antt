@@ -42,5 +42,5 @@ abbrev pub inode : Format Inode
 inode =
     headed (codes "SIN1")
     (mapped (λ (kind, (size, blocks)). record { kind = kind; size = size; blocks = blocks })
-        (λ i. (i.kind, (i.size, i.blocks)))
+    (λ i. (i.kind, (i.size, i.blocks)))
     (followed kind (λ k. followed (size k) (λ bytes. digests (block_count bytes)))))

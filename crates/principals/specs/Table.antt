@@ -70,13 +70,17 @@ user_of l = l.user
 -- the user stands among the others, in its place
 abbrev pub user_added : Version → User → Key → Table → Table
 user_added number user key table =
-    record { users = with_row nat_cmp user_of table.users (record { user = user; since = number; key = key });
-    rows = table.rows }
+    record {
+      users = with_row nat_cmp user_of table.users (record { user = user; since = number; key = key });
+      rows = table.rows;
+    }
 
 abbrev pub member_added : Version → Group → User → Table → Table
 member_added number group user table =
-    record { users = table.users;
-    rows = table.rows ++ record { group = group; user = user; begins = number; until = 0 } ∷ [] }
+    record {
+      users = table.users;
+      rows = table.rows ++ record { group = group; user = user; begins = number; until = 0 } ∷ [];
+    }
 
 -- an open row of the group and the user ends; others stay
 abbrev pub ended : Version → Group → User → Row → Row

@@ -66,15 +66,15 @@ ends_row table g u begins = guarded (uint_in w32 0 4294967295) (may_end table g 
 abbrev pub row : Table → Format Row
 row table =
     mapped (λ (group, (user, (begins, until))). record { group = group; user = user; begins = begins; until = until })
-        (λ r. (r.group, (r.user, (r.begins, r.until))))
+    (λ r. (r.group, (r.user, (r.begins, r.until))))
     (followed group (λ g. followed (listed_user table)
-        (λ u. followed (begins_row table) (λ begins. ends_row table g u begins))))
+    (λ u. followed (begins_row table) (λ begins. ends_row table g u begins))))
 
 -- a row as it is written, whatever stands before it
 abbrev pub plain_row : Format Row
 plain_row =
     mapped (λ (group, (user, (begins, until))). record { group = group; user = user; begins = begins; until = until })
-        (λ r. (r.group, (r.user, (r.begins, r.until))))
+    (λ r. (r.group, (r.user, (r.begins, r.until))))
     (pair group (pair user (pair version (uint_in w32 0 4294967295))))
 
 abbrev pub with_next : Table → Row → Table
