@@ -95,13 +95,13 @@ abbrev pub IsMetAt : Blocks → Actor → List (Change Digest) → Part → ℕ 
 IsMetAt blocks actor changes part k c inode =
     (slice_get changes k ≡ Some c) × (c.principal ≡ part.table.principal)
     × ForEachReading blocks (λ reads. slot_after reads actor part.table.principal c.i_number (take k changes)
-        (slot_at part c.i_number) ≡ Some (Laid inode))
+    (slot_at part c.i_number) ≡ Some (Laid inode))
 
 -- The digest is asked for by one of these changes, at its turn.
 abbrev pub IsAskedFor : Blocks → Actor → List (Change Digest) → Part → Digest → Spot → Type 0
 IsAskedFor blocks actor changes part digest s =
     (k : ℕ) × (c : Change Digest) × (inode : Digest) × IsMetAt blocks actor changes part k c inode
-        × (asks actor c ≡ true) × IsWantedBy blocks c inode digest s
+    × (asks actor c ≡ true) × IsWantedBy blocks c inode digest s
 
 -- nothing that they ask for is missing
 abbrev pub HasAskedFor : Blocks → Actor → List (Change Digest) → Part → Type 0

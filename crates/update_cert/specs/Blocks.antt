@@ -65,7 +65,7 @@ IsOf blocks n (File bytes) =
     (n.kind ≡ kind.File) × (length bytes ≡ n.size) × ((found : Bytes) → file_over blocks n ≡ Some found → found ≡ bytes)
 IsOf blocks n (Directory entries) =
     (n.kind ≡ kind.Directory) × ((entries ≡ []) ↔ (n.size ≡ 6))
-        × ((found : List Entry) → directory_over blocks n ≡ Some found → found ≡ entries)
+    × ((found : List Entry) → directory_over blocks n ≡ Some found → found ≡ entries)
 IsOf blocks n (Principals t) = ⊥
 
 -- ---- i-tables

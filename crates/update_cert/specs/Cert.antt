@@ -28,8 +28,12 @@ changes = listed (uint_in w8 0 MOST_CHANGES) change_rows
 abbrev pub cert : Format Cert
 cert =
     headed (codes "SUC1")
-    (mapped (λ (user, (number, (last, changes))). record { user = user; number = number; last = last;
-        changes = changes }) (λ c. (c.user, (c.number, (c.last, c.changes))))
+    (mapped (λ (user, (number, (last, changes))). record {
+      user = user;
+      number = number;
+      last = last;
+      changes = changes;
+    }) (λ c. (c.user, (c.number, (c.last, c.changes))))
     (pair user (pair version (pair (raw 32) changes))))
 
 -- the digest of a certificate is that of its text, without signature

@@ -116,7 +116,7 @@ action (suc (suc (suc (suc (suc n))))) = variant (λ old. Unlink old) as_unlink 
 abbrev pub placed_fields : ℕ → Format (Change Digest)
 placed_fields k =
     mapped (λ (principal, (i_number, action)). record { principal = principal; i_number = i_number; action = action })
-        (λ c. (c.principal, (c.i_number, c.action)))
+    (λ c. (c.principal, (c.i_number, c.action)))
     (pair principal (pair i_number (action k)))
 
 -- where the change is one of the table, what its action has

@@ -7,7 +7,7 @@ use Rattle.std.proofs.lemmas.Bool.{eqb-true}
 use Rattle.layout.specs.Format.{uint_in, raw, pair, nothing, Lawful}
 use Rattle.layout.specs.Laws.{laws, in_range, lawful_sized, lawful_variant, variant_is, wide8, wide16}
 use Rattle.layout.specs.Sizes.{AtMost, at_most_guarded, at_most_mapped, at_most_more, at_most_nothing, at_most_pair, at_most_raw, at_most_sized, at_most_uint_in, at_most_variant}
-use Rattle.layout.specs.Ranges.{principal, i_number, user, group}
+use Rattle.layout.specs.Ranges.{user, group}
 use Rattle.layout.specs.Types.{Bytes, Digest, Group, Key, User}
 use Rattle.layout.specs.declared.error.ReadError.TheVariants.{Range}
 use Rattle.lms_sign.specs.Keys.{is_key}

@@ -50,7 +50,7 @@ unfoldable pub slot_after : Reading → Actor → Principal → INumber → List
 slot_after reads actor p i [] s = s
 slot_after reads actor p i (c ∷ cs) s =
     if (c.principal == p) && (c.i_number == i) then slot_after reads actor p i cs (slot_after_change reads actor c s)
-        else slot_after reads actor p i cs s
+    else slot_after reads actor p i cs s
 
 -- ---- what an i-table has of it
 
@@ -75,7 +75,7 @@ directory_texts entries = blocks_of (directory.spell entries) ++ inode.spell (di
 abbrev pub IsReadBack : List Entry → Type 0
 IsReadBack entries =
     (blocks : Blocks) → ForEachReading blocks (λ reads. All (IsHeld blocks) (directory_texts entries)
-        → reads.content (directory_digest entries) ≡ Directory entries)
+    → reads.content (directory_digest entries) ≡ Directory entries)
 
 -- the i-table has this digest at an i-number
 abbrev pub has_digest : ITable → INumber → Digest → Bool

@@ -1,6 +1,9 @@
 use Rattle.std.proofs.Common.{◌≡◌, ◌+◌, ℕ, List, [], ◌∷◌, length, take, refl, sym, ap, ◌∙◌, subst, arith}
 use Rattle.std.proofs.lemmas.List.{length-take, take_all}
+use Rattle.std.specs.Int.{w8}
 use Rattle.std.specs.Vec.{vec_items}
+use Rattle.layout.specs.Laws.{in_range}
+use Rattle.update_cert.specs.declared.cert.TheConstants.{MOST_CHANGES}
 use Rattle.update_cert.specs.Change.{Change}
 use Rattle.layout.specs.Types.{Digest}
 use Rattle.update_cert.specs.World.{after, void_from}
@@ -102,3 +105,20 @@ returns-clause-taken g c = λ actor of one.
     let cs = c.args.cert.now.changes in
     let past = rw c.changes-change-items.ensures at c.loop-place-test.false in
     all_met (g.B.Blocks.held c.args.blocks.now) actor cs c.args.part c.loop-place.place past (c.loop-place.invariant.taken actor of one)
+
+pub returns-clause-principal : goal.returns-clause-principal
+returns-clause-principal g c = c.loop-place.invariant.principal
+
+-- ---- there are at most 16 changes
+
+pub overflow_cast-place : goal.overflow_cast-place
+overflow_cast-place g c =
+    let few = in_range w8 0 MOST_CHANGES (length c.args.cert.now.changes) c.user-user.ensures.fits.1.1.1.0 in
+    let inside = rw c.changes-change-items.ensures at c.loop-place-test.true in
+    omega (arith, few.1, inside)
+
+pub overflow_add-place : goal.overflow_add-place
+overflow_add-place g c =
+    let few = in_range w8 0 MOST_CHANGES (length c.args.cert.now.changes) c.user-user.ensures.fits.1.1.1.0 in
+    let inside = rw c.changes-change-items.ensures at c.loop-place-test.true in
+    omega (arith, few.1, inside)

@@ -1,5 +1,6 @@
 use Rattle.std.proofs.Common.{◌≡◌, true, false, ℕ, List, [], ◌∷◌, Some, subst, sym, ap, ◌∙◌, map, rules}
 use Rattle.std.specs.Vec.{vec_items}
+use Rattle.std.specs.Option.{option_map}
 use Rattle.std.specs.Prelude.{◌++◌, ◌==◌, ◌||◌, if◌then◌else◌}
 use Rattle.layout.specs.Hash.{hash}
 use Rattle.std.proofs.lemmas.List.{append-nil, take_all}
@@ -9,8 +10,8 @@ use Rattle.itable.specs.File.{blocks_of}
 use Rattle.itable.specs.Inode.{inode}
 use Rattle.itable.specs.ITable.{digest_at}
 use Rattle.directory.specs.Directory.{Entry, directory}
-use Rattle.update_cert.specs.Part.{Part, IsPart}
-use Rattle.update_cert.specs.Slots.{IsReadBack, directory_digest, directory_inode, has_digest, is_stored}
+use Rattle.update_cert.specs.Part.{Open, Part, IsPart, slot_at}
+use Rattle.update_cert.specs.Slots.{IsReadBack, changed_texts, directory_digest, directory_inode, has_digest, is_stored, slot_digest}
 use Rattle.update_cert.proofs.LaidLaws.{read_at, read_next, laid_first, laid_next, stored_now, texts_first, texts_next, texts_laid}
 use Rattle.update_cert.proofs.part.Part.lay.Goals.{then-not-stored+in_ok-append+in_ok-push, else-not-stored}
 use Rattle.update_cert.proofs.part.Part.lay.Goals as goal
@@ -67,3 +68,36 @@ returns-clause-read_back g c = λ i laid entries at.
     let past = rw opened at (rw c.deref-open-items.ensures.value at c.loop-open-test.false) in
     let all = take_all c.loop-open.open-index c.args.self.opened past in
     read_at c.args.self i laid entries (subst (All (λ o. IsReadBack o.entries)) all c.loop-open.invariant.read_back) at
+
+-- ---- after the last one
+
+pub returns-clause-digests : goal.returns-clause-digests
+returns-clause-digests g c =
+    let opened = ap (λ (p : Part). p.opened) c.self.view_is in
+    let past = rw opened at (rw c.deref-open-items.ensures.value at c.loop-open-test.false) in
+    let all = take_all c.loop-open.open-index c.args.self.opened past in
+    λ i. c.loop-open.invariant.digests i ∙ ap (λ (os : List Open). option_map slot_digest (slot_at (record { table = c.args.self.table; opened = os }) i)) all
+
+pub returns-clause-texts : goal.returns-clause-texts
+returns-clause-texts g c =
+    let opened = ap (λ (p : Part). p.opened) c.self.view_is in
+    let past = rw opened at (rw c.deref-open-items.ensures.value at c.loop-open-test.false) in
+    let all = take_all c.loop-open.open-index c.args.self.opened past in
+    c.loop-open.invariant.texts ∙ ap (changed_texts c.args.before.now c.args.self.table) all
+
+-- ---- the part was one
+
+pub returns-clause-is_part : goal.returns-clause-is_part
+returns-clause-is_part g c = subst IsPart c.self.view_is c.self.invariant
+
+pub returns-in_err-inode-clause-is_part : goal.returns-in_err-inode-clause-is_part
+returns-in_err-inode-clause-is_part g c = subst IsPart c.self.view_is c.self.invariant
+
+pub returns-in_err-set-clause-is_part : goal.returns-in_err-set-clause-is_part
+returns-in_err-set-clause-is_part g c = subst IsPart c.self.view_is c.self.invariant
+
+pub returns-in_err-append-clause-is_part : goal.returns-in_err-append-clause-is_part
+returns-in_err-append-clause-is_part g c = subst IsPart c.self.view_is c.self.invariant
+
+pub returns-in_err-push-clause-is_part : goal.returns-in_err-push-clause-is_part
+returns-in_err-push-clause-is_part g c = subst IsPart c.self.view_is c.self.invariant

@@ -2,13 +2,15 @@ use Rattle.std.proofs.Common.{◌≡◌, true, List, Some, None, sym, ap, ◌∙
 use Rattle.std.specs.Prelude.{slice_index_or, if◌then◌else◌}
 use Rattle.std.specs.Option.{option_map}
 use Rattle.directory.specs.Directory.{Entry, unlinked}
+use Rattle.update_cert.specs.declared.error.ApplyError.TheVariants.{Memory}
+use Rattle.update_cert.specs.Asked.{Lacks}
 use Rattle.update_cert.specs.Change.{Unlink}
 use Rattle.update_cert.specs.World.{Directory, has_name}
-use Rattle.update_cert.specs.Acts.{change_at, listed}
+use Rattle.update_cert.specs.Acts.{LiesAt, change_at, listed}
 use Rattle.update_cert.specs.Part.{Part, opened_at, stands_at}
 use Rattle.update_cert.proofs.PartLaws.{closed}
 use Rattle.update_cert.proofs.ActLaws.{is_part_edited, slot_edited, opened_there, edit_acts, open_acts, void_acts, stands_closed, makes_unlinked, no_name}
-use Rattle.update_cert.proofs.AskedLaws.{has_opened}
+use Rattle.update_cert.proofs.AskedLaws.{handed_on, has_opened}
 use Rattle.update_cert.proofs.part.Part.unlink.Goals as goal
 
 pub invariant_of-self : goal.invariant_of-self
@@ -88,3 +90,15 @@ returns-then-not-unlink-clause-taken g c = c.in_ok-directory.ensures.taken
 
 pub returns-clause-taken : goal.returns-clause-taken
 returns-clause-taken g c = c.in_ok-directory.ensures.taken
+
+-- ---- or what is missing is told
+
+pub returns-in_err-directory-clause-missing : goal.returns-in_err-directory-clause-missing
+returns-in_err-directory-clause-missing g c =
+    let blocks = g.B.Blocks.held c.args.blocks.now in
+    handed_on c.from_residual.result c.in_err-directory.field-0.0 (Lacks blocks (LiesAt blocks c.args.self.now c.args.i_number true)) c.from_residual.ensures.1 c.in_err-directory.ensures.missing
+
+pub returns-in_err-open-clause-missing : goal.returns-in_err-open-clause-missing
+returns-in_err-open-clause-missing g c =
+    let blocks = g.B.Blocks.held c.args.blocks.now in
+    handed_on c.from_residual-in_err-open.result Memory (Lacks blocks (LiesAt blocks c.args.self.now c.args.i_number true)) c.from_residual-in_err-open.ensures.1 tt
