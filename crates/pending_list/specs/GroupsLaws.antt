@@ -1,7 +1,7 @@
 -- Nobody has to believe this file: laws, which are proved.
 -- The groups below a number, one by one.
 use Rattle.std.proofs.Common.{◌≡◌, add-one, refl}
-use Rattle.std.specs.Prelude.{ℕ, ◌+◌, ◌-◌, [], ◌∷◌, ◌++◌}
+use Rattle.std.specs.Prelude.{ℕ, ◌+◌, [], ◌∷◌, ◌++◌}
 use Rattle.pending_list.specs.Groups.{groups_below}
 
 pub none_below : groups_below 0 ≡ []

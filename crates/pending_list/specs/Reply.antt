@@ -12,7 +12,7 @@ use Rattle.version_order.specs.Plan.{Plan, plan}
 use Rattle.version_order.specs.Structure.{Structure, structure, digest_of_structure}
 use Rattle.update_cert.specs.Cert.{Cert, cert}
 use Rattle.pending_list.specs.declared.signed.Signed.{Signed}
-use Rattle.pending_list.specs.Signed.{signature, signed}
+use Rattle.pending_list.specs.Signed.{signed}
 
 -- an operation that is pending, without where it lies in memory
 pub record PendingItem : Type 0 where
@@ -33,7 +33,7 @@ signed_structure = signed (nested size structure)
 abbrev pub pending_item : Format PendingItem
 pending_item =
     mapped (λ (cert, plan). record { cert = cert.value; signature = cert.signature; plan = plan })
-        (λ i. (record { value = i.cert; signature = i.signature }, i.plan))
+    (λ i. (record { value = i.cert; signature = i.signature }, i.plan))
     (pair (signed (nested size cert)) (nested size plan))
 
 abbrev pub structure_rows : RowAfter (Signed Structure)
@@ -46,7 +46,7 @@ abbrev pub reply : Format Reply
 reply =
     headed (codes "SRL1")
     (mapped (λ (structures, pending). record { structures = structures; pending = pending })
-        (λ r. (r.structures, r.pending))
+    (λ r. (r.structures, r.pending))
     (pair (listed (uint_in w8 0 64) structure_rows) (listed (uint_in w8 0 64) pending_rows)))
 
 -- ---- what a certificate names

@@ -8,7 +8,6 @@ use Rattle.layout.specs.Format.{pair, nested, Lawful}
 use Rattle.layout.specs.Laws.{laws, lawful_mapped, wide8, wide16, listed_fits, rows_fit}
 use Rattle.layout.specs.Sizes.{AtMost, at_most_listed, at_most_headed, at_most_mapped, at_most_pair, at_most_nested, nested_fits}
 use Rattle.layout.specs.Ranges.{size}
-use Rattle.version_order.specs.Vector.{depth}
 use Rattle.version_order.specs.Plan.{plan}
 use Rattle.version_order.specs.PlanLaws.{lawful_plan, at_most_plan}
 use Rattle.version_order.specs.Structure.{Structure, structure}
