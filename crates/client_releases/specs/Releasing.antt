@@ -47,7 +47,7 @@ IsTried record_by old new =
     (Call None old.ledger.file new.ledger.file × Step Nothing old.journal.file new.journal.file)
     ⊎ ((leaf : LeafNumber) × IsLeastFree old.ledger.file.now.text leaf
     × Call (Some leaf) old.ledger.file new.ledger.file
-        × Step (Tried (record_by leaf)) old.journal.file new.journal.file)
+    × Step (Tried (record_by leaf)) old.journal.file new.journal.file)
 
 -- the count of faults of one of the devices rose, or stands at its last value
 abbrev pub OneHasRisen : Devices → Devices → Type 0
