@@ -16,7 +16,7 @@ line_at [] u n = []
 line_at (x ∷ older) u n =
     if (user_of x == u) && (number_of x == n)
     then option_map_or (λ t. line_at older t.user t.number) (top_plan x.lists) []
-        ++ map (λ i. i.cert) (items_above x.lists)
+    ++ map (λ i. i.cert) (items_above x.lists)
     else line_at older u n
 
 abbrev pub line : List View → View → List Cert
@@ -59,7 +59,7 @@ EndWithOwn run = All (λ x. EndsWith x.lists.own.cert (line run x)) run
 abbrev pub Grow : List View → Type 0
 Grow run =
     (x y : View) → Contains run x → Contains run y → user_of y ≡ user_of x → number_of y ≡ number_of x + 1
-        → IsBeginning (line run x) (line run y)
+    → IsBeginning (line run x) (line run y)
 
 -- the structure is one of the view's, or its own new one
 abbrev pub Has : View → Structure → Type 0
@@ -69,4 +69,4 @@ Has x z = Contains (structures x ++ x.signed ∷ []) z
 abbrev pub Agree : List View → Type 0
 Agree run =
     (x y : View) (z : Structure) → Contains run x → Contains run y → Has x z → Has y z
-        → SameUpTo z (line run x) (line run y)
+    → SameUpTo z (line run x) (line run y)

@@ -82,13 +82,13 @@ pub record IsHonest (reads : Reading) (key : Key) (x : View) : Type 0 where
       × (r.version ≡ version_of g x.lists.own.plan.vector) × Names reads g r.handle (tree reads users (view_in key x))
   pub kept : (g : Group) → raises x.table g x.lists.own ≡ false
       → record_of g x.signed.groups ≡ option_and_then (λ z. record_of g z.value.groups)
-          (structure_of (user_of x) x.lists)
+      (structure_of (user_of x) x.lists)
 
 -- what holds of each run without collisions, all of whose views are honest
 abbrev pub EachHonestRun : (Reading → Key → List View → Type 0) → Type 0
 EachHonestRun holds =
     (reads : Reading) (key : Key) (run : List View) → NameFirst reads key → IsRun run → NoCollision run
-        → All (IsHonest reads key) run → holds reads key run
+    → All (IsHonest reads key) run → holds reads key run
 
 -- ---- views are worlds
 
@@ -102,23 +102,23 @@ AreWorlds reads key run =
 abbrev pub LoseVoid : Reading → Key → List View → Type 0
 LoseVoid reads key run =
     (x : View) → Contains run x → (honest : IsHonest reads key x) → (before : List Cert)
-        → line run x ≡ before ++ x.lists.own.cert ∷ []
+    → line run x ≡ before ++ x.lists.own.cert ∷ []
     → lost reads honest.users (view_in key x)
-        ≡ void_read reads (actor_in (world reads key before) x.lists.own.cert) x.lists.own.cert.changes
-            (world reads key before)
+    ≡ void_read reads (actor_in (world reads key before) x.lists.own.cert) x.lists.own.cert.changes
+    (world reads key before)
 
 -- who is a member at an operation's table version, by the view's table, is one in the world before the operation
 abbrev pub JudgeAsWorld : Reading → Key → List View → Type 0
 JudgeAsWorld reads key run =
     (x : View) (i : PendingItem) → Contains run x → Contains (items x.lists) i → (before after : List Cert)
-        → line run x ≡ before ++ i.cert ∷ after → (g : Group)
+    → line run x ≡ before ++ i.cert ∷ after → (g : Group)
     → acts_for x.table i g ≡ acts_in (world reads key before) i.cert g
 
 -- each operation's user is listed in the world before it
 abbrev pub AllListed : Reading → Key → List View → Type 0
 AllListed reads key run =
     (x : View) → Contains run x → (before : List Cert) (c : Cert) (after : List Cert) → line run x ≡ before ++ c ∷ after
-        → lists_user (table_in (world reads key before)) c.user ≡ true
+    → lists_user (table_in (world reads key before)) c.user ≡ true
 
 -- ---- any operation, in any tree
 

@@ -75,8 +75,12 @@ with_cert devices s leaf c =
 -- and once a structure is signed by it
 abbrev pub with_structure : Devices → Released → LeafNumber → Structure → Released
 with_structure devices s leaf z =
-    record s { devices = devices; last = Some (signed_by s.seed s.id leaf z); phase = phase.Signed;
-        text = sent s leaf (structure.spell z) }
+    record s {
+      devices = devices;
+      last = Some (signed_by s.seed s.id leaf z);
+      phase = phase.Signed;
+      text = sent s leaf (structure.spell z);
+    }
 
 -- what stays released when a device fails
 abbrev pub failed : Devices → Released → Released

@@ -29,4 +29,4 @@ abbrev pub StructuresOnce : Owner → List Event → Type 0
 StructuresOnce o run =
     AreInTurn run → (a b : Bytes) (y z : Signed Structure) → Contains (released run) a → Contains (released run) b
     → structure_in o.user a ≡ Some y → structure_in o.user b ≡ Some z → y.value.plan.number ≡ z.value.plan.number
-        → a ≡ b
+    → a ≡ b

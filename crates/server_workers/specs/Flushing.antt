@@ -24,4 +24,4 @@ Wrote true before now taken = AppendsBeginning before now (records taken)
 abbrev pub IsFlushed : Bool → Option Bytes → Option Bytes → List Call → Type 0
 IsFlushed flushed before now logged =
     (taken left : List Call) × (logged ≡ taken ++ left) × Wrote (not flushed) before now taken
-        × (flushed ≡ true → left ≡ [])
+    × (flushed ≡ true → left ≡ [])

@@ -89,7 +89,7 @@ frames_of (body ∷ bodies) = frame.spell body ++ frames_of bodies
 abbrev pub IsStreamInFrames : Type 0
 IsStreamInFrames =
     (steps : List FramesStep) (rest : Bytes) → Runs [] steps rest
-        → stream_of steps ≡ frames_of (bodies_of steps) ++ rest
+    → stream_of steps ≡ frames_of (bodies_of steps) ++ rest
 
 -- however a stream was cut, once no whole frame waits the same frames were handed out, and the same bytes wait
 abbrev pub IsCutAnyhow : Type 0
