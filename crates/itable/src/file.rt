@@ -34,7 +34,6 @@ pub(crate) fn digests_of<A: Allocator>(alloc: A, bytes: &[u8]) -> Result<Vec<Dig
 }
 
 /// The blocks of a text, in order: 4,096 bytes each, and what is left over.
-#[tactic(auto, using(crate::proofs::FileLaws::joined))]
 pub fn blocks_of<A: Allocator + Copy>(alloc: A, bytes: &[u8]) -> Result<Vec<Vec<u8, A>, A>, Memory>
     ensures blocks { IfOk result (λ blocks. map vec_items blocks.items ≡ blocks_of bytes.now) }
     // One after another they are the text.

@@ -4,6 +4,7 @@ use Rattle.std.specs.Slice.Iter.{chunks_rest}
 use Rattle.std.specs.Vec.{vec_items}
 use Rattle.itable.specs.File.{blocks_of}
 use Rattle.itable.proofs.Blocks.{no_block, next_block, one_on}
+use Rattle.itable.proofs.FileLaws.{joined}
 use Rattle.itable.proofs.file.blocks_of.Goals as goal
 
 pub loop-block-preserved : goal.loop-block-preserved
@@ -28,3 +29,14 @@ returns-clause-blocks g c =
     let all = blocks_of c.args.bytes.now in
     let done = map vec_items c.loop-block.blocks.items in
     sym (append-nil done) ∙ subst (λ (bs : List (List ℕ)). done ++ bs ≡ all) none c.loop-block.invariant.so_far
+
+-- ---- one after another they are the text
+
+pub returns-clause-joined : goal.returns-clause-joined
+returns-clause-joined g c = joined c.args.bytes.now
+
+pub returns-in_err-from_slice-clause-joined : goal.returns-in_err-from_slice-clause-joined
+returns-in_err-from_slice-clause-joined g c = joined c.args.bytes.now
+
+pub returns-in_err-push-clause-joined : goal.returns-in_err-push-clause-joined
+returns-in_err-push-clause-joined g c = joined c.args.bytes.now
