@@ -145,7 +145,7 @@ numbers x = structures_numbered x && (pending_numbered x && (pending_next x && t
 abbrev pub in_order : Plan → Plan → Bool
 in_order p q =
     (nat_lt (depth p) (depth q) && is_below p.vector q.vector)
-        || (nat_lt (depth q) (depth p) && is_below q.vector p.vector)
+    || (nat_lt (depth q) (depth p) && is_below q.vector p.vector)
 
 -- the test holds of any two
 abbrev pub any_two : (Plan → Plan → Bool) → List Plan → Bool

@@ -228,10 +228,7 @@ fn hold_by<A: Allocator + Copy>(
 }
 
 /// Whether the rule on entries holds.
-pub(crate) fn entries_hold<A: Allocator + Copy>(
-    alloc: A,
-    lists: &Lists<'_, A>,
-) -> Result<bool, Memory>
+pub fn entries_hold<A: Allocator + Copy>(alloc: A, lists: &Lists<'_, A>) -> Result<bool, Memory>
     ensures { IfOk result (λ holds. holds ≡ entries lists.now) }
 {
     let entered = entries_of_structures(alloc, lists.structures())?;

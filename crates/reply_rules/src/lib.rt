@@ -1,9 +1,9 @@
-//! The rules of a client that speak of the lists of a reply and the table alone: which of them is the first that
-//! doesn't hold.
+//! The rules of a client that speak of the lists of a reply and the table of principals alone: whether each of them
+//! holds. The rule on unknown users, which needs no more than the table, and the first rule that doesn't hold stand in
+//! the crate first_rule.
 #![tactic(auto)]
 
 mod entries;
-mod judge;
 mod link;
 mod lists;
 mod numbers;
@@ -13,7 +13,11 @@ mod rest;
 mod rule;
 mod vector;
 
-pub use judge::broken;
+pub use entries::entries_hold;
+pub use link::link_holds;
 pub use lists::lists_hold;
-pub use reply_lists::above_top;
+pub use numbers::numbers_hold;
+pub use records::group_records_hold;
+pub use reply_lists::{Lists, above_top};
 pub use rule::Rule;
+pub use vector::vector_holds;

@@ -42,10 +42,7 @@ fn links<A: Allocator + Copy>(
 
 /// Whether the rule on links holds.
 #[tactic(auto, unfolding(crate::specs::Rules::link))]
-pub(crate) fn link_holds<A: Allocator + Copy>(
-    alloc: A,
-    lists: &Lists<'_, A>,
-) -> Result<bool, Memory>
+pub fn link_holds<A: Allocator + Copy>(alloc: A, lists: &Lists<'_, A>) -> Result<bool, Memory>
     ensures { IfOk result (λ holds. holds ≡ link lists.now) }
 {
     let items = lists.pending();

@@ -125,7 +125,7 @@ fn top_counts<A: Allocator>(lists: &Lists<'_, A>) -> bool
 
 /// Whether the rule on numbers holds.
 #[tactic(auto, unfolding(crate::specs::Rules::numbers))]
-pub(crate) fn numbers_hold<A: Allocator>(lists: &Lists<'_, A>) -> bool
+pub fn numbers_hold<A: Allocator>(lists: &Lists<'_, A>) -> bool
     ensures { result ≡ numbers lists.now }
 {
     structures_numbered(lists.structures())

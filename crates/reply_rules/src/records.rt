@@ -260,7 +260,7 @@ fn groups_complete<A: Allocator + Copy>(
 
 /// Whether the rule on group records holds.
 #[tactic(auto, unfolding(crate::specs::Rules::group_records))]
-pub(crate) fn group_records_hold<A: Allocator + Copy>(
+pub fn group_records_hold<A: Allocator + Copy>(
     alloc: A,
     table: &Table<A>,
     lists: &Lists<'_, A>,

@@ -16,7 +16,7 @@ use version_order::{Structure, depth};
 /// The lists of a reply that meets the rule on lists: the structures, and the pending operations, of which the last is
 /// the own one. Those that aren't above come before those that are.
 #[derive(Drop)]
-pub(crate) struct Lists<'a, A: Allocator> {
+pub struct Lists<'a, A: Allocator> {
     structures: &'a [Signed<Structure<A>>],
     pending: &'a [PendingItem<A>],
     others: &'a [PendingItem<A>],
@@ -68,7 +68,7 @@ pub fn above_top<A: Allocator>(reply: &Reply<A>) -> &[PendingItem<A>]
 
 impl<'a, A: Allocator> Lists<'a, A> {
     /// The lists of a reply that meets the rule on lists. None where nothing is pending.
-    pub(crate) fn of(reply: &'a Reply<A>) -> Option<Lists<'a, A>>
+    pub fn of(reply: &'a Reply<A>) -> Option<Lists<'a, A>>
         requires { lists reply.now ≡ true }
         ensures { result ≡ lists_of reply.now }
     {
@@ -89,14 +89,14 @@ impl<'a, A: Allocator> Lists<'a, A> {
     }
 
     /// The structures.
-    pub(crate) fn structures(&self) -> &'a [Signed<Structure<A>>]
+    pub fn structures(&self) -> &'a [Signed<Structure<A>>]
         ensures { result.now ≡ self.now.structures }
     {
         self.structures
     }
 
     /// The pending operations, in order.
-    pub(crate) fn pending(&self) -> &'a [PendingItem<A>]
+    pub fn pending(&self) -> &'a [PendingItem<A>]
         ensures { result.now ≡ items self.now }
     {
         self.pending

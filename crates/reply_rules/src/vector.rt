@@ -184,7 +184,7 @@ fn vectors_follow<A: Allocator + Copy>(
 
 /// Whether the rule on vectors holds.
 #[tactic(auto, unfolding(crate::specs::Rules::vector))]
-pub(crate) fn vector_holds<A: Allocator + Copy>(
+pub fn vector_holds<A: Allocator + Copy>(
     alloc: A,
     table: &Table<A>,
     lists: &Lists<'_, A>,

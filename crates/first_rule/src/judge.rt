@@ -6,16 +6,12 @@ ghost use Rattle.reply_rules.specs.Lists.{lists_of};
 ghost use Rattle.reply_rules.specs.Rules.{is_known, lists, unknown_user};
 ghost use Rattle.reply_rules.specs.Broken.{broken};
 
-use crate::entries::entries_hold;
-use crate::link::link_holds;
-use crate::numbers::numbers_hold;
-use crate::records::group_records_hold;
-use crate::reply_lists::Lists;
-use crate::rule::Rule;
-use crate::vector::vector_holds;
 use layout::{Memory, Principal, User};
 use pending_list::{PendingItem, Reply, Signed};
 use principals::Table;
+use reply_rules::{
+    Lists, Rule, entries_hold, group_records_hold, link_holds, numbers_hold, vector_holds,
+};
 use std::alloc::Allocator;
 use version_order::{Plan, Structure};
 
@@ -52,7 +48,7 @@ fn pending_known<A: Allocator>(table: &Table<A>, pending: &[PendingItem<A>]) -> 
 }
 
 /// Whether the rule on unknown users holds.
-#[tactic(auto, unfolding(crate::specs::Rules::unknown_user))]
+#[tactic(auto, unfolding(reply_rules::specs::Rules::unknown_user))]
 fn users_known<A: Allocator>(table: &Table<A>, lists: &Lists<'_, A>) -> bool
     ensures { result ≡ unknown_user table.now lists.now }
 {

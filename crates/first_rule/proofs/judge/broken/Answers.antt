@@ -2,7 +2,7 @@ use Rattle.std.proofs.Common.{◌≡◌, Some, sym, subst, ◌∙◌, Option}
 use Rattle.std.specs.Prelude.{IfSome, IfOk, Result, Ok, Err}
 use Rattle.reply_rules.specs.Lists.{Lists, lists_of}
 use Rattle.reply_rules.specs.Broken.{broken}
-use Rattle.reply_rules.proofs.judge.broken.Goals as goal
+use Rattle.first_rule.proofs.judge.broken.Goals as goal
 
 each_ok : {X E : Type 0} (r : Result X E) (P Q : X → Type 0) → ((x : X) → P x → Q x) → IfOk r P → IfOk r Q
 each_ok (Ok x) P Q h told = h x told

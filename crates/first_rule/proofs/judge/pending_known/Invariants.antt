@@ -1,7 +1,7 @@
 use Rattle.std.proofs.Common.{◌≡◌, drop, map}
 use Rattle.std.specs.List.{list_all}
 use Rattle.reply_rules.specs.Rules.{is_known}
-use Rattle.reply_rules.proofs.judge.pending_known.Given as goal
+use Rattle.first_rule.proofs.judge.pending_known.Given as goal
 
 abbrev pub invariant-loop-item : goal.invariant-loop-item
 invariant-loop-item g l =
