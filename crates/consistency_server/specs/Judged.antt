@@ -1,11 +1,11 @@
 -- Nobody has to believe this file: an aid of private contracts.
 -- What judging a call found: an outcome, and what is kept of a new event.
-use Rattle.std.specs.Prelude.{◌≡◌, ◌<◌, List, [], ◌∷◌, ◌++◌, Option, Some, None, not, filter}
+use Rattle.std.specs.Prelude.{◌≡◌, ◌<◌, List, [], ◌∷◌, ◌++◌, Option, Some, None, map, not, filter}
 use Rattle.std.specs.Ordering.{nat_cmp}
 use Rattle.layout.specs.Ascending.{with_row}
 use Rattle.version_order.specs.declared.vector.Component.{Component}
 use Rattle.update_cert.specs.Cert.{cert}
-use Rattle.pending_list.specs.Reply.{user_of}
+use Rattle.pending_list.specs.Reply.{PendingItem, Reply, user_of}
 use Rattle.principals.specs.Table.{Table}
 use Rattle.wire.specs.declared.kinds.Status.TheVariants as status
 use Rattle.consistency_server.specs.declared.state.NewEvent.{NewEvent}
@@ -34,6 +34,13 @@ changed state (Commits s) = record {
   vector = state.vector;
   structures = with_row nat_cmp user_of state.structures s;
   pending = filter (λ w. not (commits s w)) state.pending;
+}
+
+-- the reply to an operation that is placed next: both lists, with it last
+abbrev pub reply_beside : State → PendingItem → Reply
+reply_beside state item = record {
+  structures = state.structures;
+  pending = map (λ w. w.item) state.pending ++ item ∷ [];
 }
 
 -- the event of which this is kept

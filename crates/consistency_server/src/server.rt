@@ -1,12 +1,14 @@
 //! The server's one order of calls.
 
 ghost use Rattle.std.specs.Prelude.{◌≡◌, ◌≢◌, [], ◌∷◌, ◌++◌, true, false, OnOk, OnErr, IfOk, IsTrue, Err, reverse};
-ghost use Rattle.consistency_server.specs.Judged.{MayHappen, answer_by, state_after, logged_by};
+ghost use Rattle.std.specs.Prelude.{◌<◌, vec_capacity, vec_len};
+ghost use Rattle.consistency_server.specs.Judged.{Admits, MayHappen, answer_by, changed, state_after, logged_by};
 
 use crate::call::{Answer, Call, CallKind};
 use crate::log::Log;
 use crate::refusal::Refusal;
-use crate::state::{State, Verdict};
+use crate::state::{NewEvent, State, Verdict};
+use layout::{Memory, let_go};
 use lms_sign::PublicKey;
 use std::alloc::Allocator;
 use std::marker::Model;
@@ -28,6 +30,87 @@ impl<A: Allocator> Model for Ordered<A> {
     ghost view = { λ o. record { pinned = o.pinned; history = reverse o.history.items } };
 
     ghost invariant = { λ o. o.state ≡ kept o.pinned (reverse o.history.items) };
+}
+
+/// The call as it is kept, for which there is room then.
+fn room_for<A: Allocator + Copy>(
+    history: &mut Vec<Call<A>, A>,
+    kind: CallKind,
+    text: &[u8],
+) -> Result<Call<A>, Memory>
+    ensures call { IfOk result (λ call. call ≡ record { kind = kind; text = text.now }) }
+    ensures room { OnOk result (vec_len history.new < vec_capacity history.new) }
+    ensures same { history.new.items ≡ history.old.items }
+{
+    let call = copy_of(*history.allocator(), kind, text)?;
+    history.reserve(1)?;
+    Ok(call)
+}
+
+/// The call with a copy of its text.
+fn copy_of<A: Allocator + Copy>(alloc: A, kind: CallKind, text: &[u8]) -> Result<Call<A>, Memory>
+    ensures call { IfOk result (λ call. call ≡ record { kind = kind; text = text.now }) }
+{
+    Ok(Call::new(kind, Vec::from_slice(alloc, text)?))
+}
+
+/// Lets an event happen, whose call goes to the log.
+fn happens<A: Allocator + Copy, G: Log<Call<A>>>(
+    state: &mut State<A>,
+    log: &mut G,
+    alloc: A,
+    kind: CallKind,
+    text: &[u8],
+    event: NewEvent<A>,
+) -> Result<(), Refusal>
+    requires { Admits state.old event }
+    ensures state { OnOk result (state.new ≡ changed state.old event) }
+    ensures log { OnOk result (G.pushed log.new ≡ G.pushed log.old ++ record { kind = kind; text = text.now } ∷ []) }
+    ensures state_err { OnErr result (state.new ≡ state.old) }
+    ensures log_err { OnErr result (G.pushed log.new ≡ G.pushed log.old) }
+    ensures busy { result ≡ Err Refusal.Busy → IsTrue (G.may_be_full log.old) }
+{
+    match copy_of(alloc, kind, text) {
+        Ok(call) => state.happen(log, call, event),
+        Err(error) => {
+            let_go(event);
+            Err(Refusal::from(error))
+        }
+    }
+}
+
+/// What is done for what was judged: the call goes to the log if it happens, and what is kept changes.
+fn act<A: Allocator + Copy, G: Log<Call<A>>>(
+    state: &mut State<A>,
+    log: &mut G,
+    alloc: A,
+    kind: CallKind,
+    text: &[u8],
+    judged: Verdict<A>,
+) -> Result<Answer<A>, Refusal>
+    requires { MayHappen state.old judged }
+    ensures answer { IfOk result (λ answer. answer ≡ answer_by judged) }
+    ensures state { OnOk result (state.new ≡ state_after state.old judged) }
+    ensures log { OnOk result (G.pushed log.new
+        ≡ G.pushed log.old ++ logged_by judged (record { kind = kind; text = text.now })) }
+    ensures state_err { OnErr result (state.new ≡ state.old) }
+    ensures log_err { OnErr result (G.pushed log.new ≡ G.pushed log.old) }
+    ensures busy { result ≡ Err Refusal.Busy → IsTrue (G.may_be_full log.old) }
+    ensures busy_logged { result ≡ Err Refusal.Busy → logged_by judged (record { kind = kind; text = text.now }) ≢ [] }
+{
+    match judged {
+        Verdict::Refused(status) => Ok(Answer::bare(alloc, status)),
+        Verdict::Repeated(payload) => Ok(Answer::with_payload(payload)),
+        Verdict::Happens(event, payload) => {
+            match happens(state, log, alloc, kind, text, event) {
+                Ok(()) => Ok(Answer::with_payload(payload)),
+                Err(refusal) => {
+                    let_go(payload);
+                    Err(refusal)
+                }
+            }
+        }
+    }
 }
 
 /// What is done for a call once it is judged: room is made for it, it goes to the log if it happens, and then what is
@@ -54,18 +137,23 @@ fn carry_out<A: Allocator + Copy, G: Log<Call<A>>>(
     ensures busy_logged { result ≡ Err Refusal.Busy → logged_by judged (record { kind = kind; text = text.now }) ≢ [] }
 {
     let alloc = *history.allocator();
-    let call = Call::new(kind, Vec::from_slice(alloc, text)?);
-    history.reserve(1)?;
-    let answer = match judged {
-        Verdict::Refused(status) => Answer::bare(alloc, status),
-        Verdict::Repeated(payload) => Answer::with_payload(payload),
-        Verdict::Happens(change, payload) => {
-            state.happen(log, Call::new(kind, Vec::from_slice(alloc, text)?), change)?;
-            Answer::with_payload(payload)
+    let call = match room_for(history, kind, text) {
+        Ok(call) => call,
+        Err(error) => {
+            let_go(judged);
+            return Err(Refusal::from(error));
         }
     };
-    history.push(call).unwrap();
-    Ok(answer)
+    match act(state, log, alloc, kind, text, judged) {
+        Ok(answer) => {
+            history.push(call).unwrap();
+            Ok(answer)
+        }
+        Err(refusal) => {
+            let_go(call);
+            Err(refusal)
+        }
+    }
 }
 
 impl<A: Allocator + Copy> Ordered<A> {

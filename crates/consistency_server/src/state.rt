@@ -6,18 +6,19 @@ ghost use Rattle.std.specs.Option.{option_copied, option_map_or};
 ghost use Rattle.std.specs.Ordering.{nat_cmp};
 ghost use Rattle.layout.specs.Ascending.{Ascends, with_row};
 ghost use Rattle.layout.specs.Format.{whole};
+ghost use Rattle.version_order.specs.Plan.{entry_of};
 ghost use Rattle.version_order.specs.Structure.{structure};
 ghost use Rattle.update_cert.specs.Cert.{cert, digest_of};
 ghost use Rattle.pending_list.specs.Signed.{signed};
 ghost use Rattle.pending_list.specs.Reply.{user_of, reply};
 ghost use Rattle.principals.specs.Table.{genesis};
 ghost use Rattle.consistency_server.specs.Event.{Placed};
-ghost use Rattle.consistency_server.specs.State.{pending_of, next_plan, next_reply, commits};
+ghost use Rattle.consistency_server.specs.State.{after_operation, pending_of, next_plan, next_reply, commits};
 ghost use Rattle.consistency_server.specs.Answers.{Happens, outcome_of, read_update, read_commit, placing};
 ghost use Rattle.consistency_server.specs.Answers.{placing_beside, committing, same_structure, structure_of, is_next};
 ghost use Rattle.consistency_server.specs.Answers.{at_limit};
 ghost use Rattle.consistency_server.specs.History.{call_of};
-ghost use Rattle.consistency_server.specs.Judged.{JudgedAs, Admits, changed, table_or};
+ghost use Rattle.consistency_server.specs.Judged.{JudgedAs, Admits, changed, reply_beside, table_or};
 
 use crate::call::{Call, CallKind};
 use crate::log::Log;
@@ -26,14 +27,14 @@ use crate::placement::{Placement, entries_of, have_plan, pending_of, place, take
 use crate::refusal::Refusal;
 use crate::signed_text::{is_signed, read_signed, spells, unsigned};
 use crate::structures::{put, structure_of};
-use layout::{Digest, Memory, Principal, User, digest};
+use layout::{Digest, Memory, Principal, User, digest, let_go, put_in};
 use lms_sign::PublicKey;
 use pending_list::{PendingItem, Reply, Signed, digest_of_last, groups_at};
 use principals::Table;
 use std::alloc::Allocator;
 use std::marker::Model;
 use update_cert::{Cert, table_after};
-use version_order::{Entries, Plan, PlanError, Structure, Vector, next_plan};
+use version_order::{Entries, Entry, Plan, PlanError, Structure, Vector, next_plan};
 use wire::Status;
 
 /// What the server keeps of its events.
@@ -69,6 +70,17 @@ pub(crate) enum NewEvent<A: Allocator> {
     Places(Option<Table<A>>, Vector<A>, Placement<A>),
     /// Its structure is committed.
     Commits(Signed<Structure<A>>),
+}
+
+/// What an operation brings that is placed next: the table after it, if it may change the table; its vector; what later
+/// plans have of it; and the text of its reply, twice: to be kept, and to be handed out.
+#[derive(Drop)]
+struct Brought<A: Allocator> {
+    table: Option<Table<A>>,
+    vector: Vector<A>,
+    entry: Entry,
+    reply: Payload<A>,
+    payload: Payload<A>,
 }
 
 /// What a call leads to.
@@ -107,6 +119,27 @@ fn commit<A: Allocator>(
     put(structures, structure).unwrap();
 }
 
+/// Makes room for an event, and puts its call into the log.
+fn log_with_room<A: Allocator, G: Log<Call<A>>>(
+    structures: &mut Vec<Signed<Structure<A>>, A>,
+    pending: &mut Vec<Placement<A>, A>,
+    log: &mut G,
+    call: Call<A>,
+) -> Result<(), Refusal>
+    ensures structures { structures.new.items ≡ structures.old.items }
+    ensures pending { pending.new.items ≡ pending.old.items }
+    ensures room { OnOk result (vec_len structures.new < vec_capacity structures.new) }
+    ensures room_pending { OnOk result (vec_len pending.new < vec_capacity pending.new) }
+    ensures log { OnOk result (G.pushed log.new ≡ G.pushed log.old ++ call ∷ []) }
+    ensures log_err { OnErr result (G.pushed log.new ≡ G.pushed log.old) }
+    ensures busy { result ≡ Err Refusal.Busy → IsTrue (G.may_be_full log.old) }
+{
+    structures.reserve(1)?;
+    pending.reserve(1)?;
+    log.try_push(call)?;
+    Ok(())
+}
+
 impl<A: Allocator> State<A> {
     /// Lets an event happen: room is made for it, the call goes to the log, and then what is kept changes, which can't
     /// fail.
@@ -123,20 +156,22 @@ impl<A: Allocator> State<A> {
         ensures log_err { OnErr result (G.pushed log.new ≡ G.pushed log.old) }
         ensures busy { result ≡ Err Refusal.Busy → IsTrue (G.may_be_full log.old) }
     {
-        self.structures.reserve(1)?;
-        self.pending.reserve(1)?;
-        log.try_push(call)?;
+        let logged = log_with_room(&mut self.structures, &mut self.pending, log, call);
+        if logged.is_err() {
+            let_go(event);
+            return logged;
+        }
         match event {
             NewEvent::Places(table, vector, placement) => {
                 keep(&mut self.table, table);
-                self.vector = vector;
+                put_in(&mut self.vector, vector);
                 place(&mut self.pending, placement);
             }
             NewEvent::Commits(structure) => {
                 commit(&mut self.structures, &mut self.pending, structure);
             }
         }
-        Ok(())
+        logged
     }
 }
 
@@ -263,19 +298,58 @@ impl<A: Allocator + Copy> State<A> {
             (Happens (Placed found) (reply.spell (next_reply self.now found)))) }
     {
         let _user = found.value.user();
-        let table = table_after(alloc, &self.table, &found.value)?;
-        let vector = plan.vector().copy(alloc)?;
-        let entry = plan.entry(alloc)?;
         let item = PendingItem::new(found, plan);
-        let reply = Payload::from_vec(Reply::text_of(
-            alloc,
-            &self.structures,
-            &self.pending,
-            &item,
-        )?);
+        match self.brought(alloc, &item) {
+            Ok(brought) => {
+                let Brought {
+                    table,
+                    vector,
+                    entry,
+                    reply,
+                    payload,
+                } = brought;
+                let placement = Placement::new(item, entry, reply);
+                Ok(Verdict::Happens(NewEvent::Places(table, vector, placement), payload))
+            }
+            Err(error) => {
+                let_go(item);
+                Err(error)
+            }
+        }
+    }
+
+    /// What an operation brings that is placed next.
+    fn brought(&self, alloc: A, item: &PendingItem<A>) -> Result<Brought<A>, Memory>
+        requires { pending_of item.now.cert.user self.now.pending ≡ None }
+        ensures table { IfOk result
+            (λ b. table_or b.table self.now.table ≡ after_operation item.now.cert self.now.table) }
+        ensures vector { IfOk result (λ b. b.vector ≡ item.now.plan.vector) }
+        ensures entry { IfOk result (λ b. b.entry ≡ entry_of item.now.plan) }
+        ensures reply { IfOk result (λ b. b.reply ≡ reply.spell (reply_beside self.now item.now)) }
+        ensures payload { IfOk result (λ b. b.payload ≡ reply.spell (reply_beside self.now item.now)) }
+    {
+        let reply = self.reply_to(alloc, item)?;
         let payload = reply.copy(alloc)?;
-        let placement = Placement::new(item, entry, reply);
-        Ok(Verdict::Happens(NewEvent::Places(table, vector, placement), payload))
+        let entry = item.plan().entry(alloc)?;
+        let vector = item.plan().vector().copy(alloc)?;
+        let table = table_after(alloc, &self.table, item.cert())?;
+        Ok(Brought {
+            table,
+            vector,
+            entry,
+            reply,
+            payload,
+        })
+    }
+
+    /// The text of the reply to an operation that is placed next.
+    fn reply_to(&self, alloc: A, item: &PendingItem<A>) -> Result<Payload<A>, Memory>
+        requires { pending_of item.now.cert.user self.now.pending ≡ None }
+        ensures { IfOk result (λ text. text ≡ reply.spell (reply_beside self.now item.now)) }
+    {
+        let _user = item.cert().user();
+        let text = Reply::text_of(alloc, &self.structures, &self.pending, item)?;
+        Ok(Payload::from_vec(text))
     }
 
     /// What a COMMIT leads to.
@@ -305,13 +379,35 @@ impl<A: Allocator + Copy> State<A> {
         requires { text.now ≡ (signed structure).spell found }
         ensures { IfOk result (λ judged. JudgedAs self.now judged (committing self.now found)) }
     {
-        if self.is_last(alloc, &found, text)? {
-            return Ok(Verdict::Repeated(Payload::empty(alloc)));
+        match self.is_last(alloc, &found, text) {
+            Ok(false) => self.judge_other(alloc, found),
+            Ok(true) => {
+                let_go(found);
+                Ok(Verdict::Repeated(Payload::empty(alloc)))
+            }
+            Err(error) => {
+                let_go(found);
+                Err(error)
+            }
         }
-        if !have_plan(alloc, &self.pending, found.value.plan())? {
-            return Ok(Verdict::Refused(Status::NotPending));
+    }
+
+    /// What a structure leads to that isn't its user's last one.
+    fn judge_other(&self, alloc: A, found: Signed<Structure<A>>) -> Result<Verdict<A>, Memory>
+        requires { option_map_or (same_structure found) (structure_of found.value.plan.user self.now) false ≡ false }
+        ensures { IfOk result (λ judged. JudgedAs self.now judged (committing self.now found)) }
+    {
+        match have_plan(alloc, &self.pending, found.value.plan()) {
+            Ok(true) => Ok(Verdict::Happens(NewEvent::Commits(found), Payload::empty(alloc))),
+            Ok(false) => {
+                let_go(found);
+                Ok(Verdict::Refused(Status::NotPending))
+            }
+            Err(error) => {
+                let_go(found);
+                Err(error)
+            }
         }
-        Ok(Verdict::Happens(NewEvent::Commits(found), Payload::empty(alloc)))
     }
 
     /// Whether it is its user's last structure, where the text spells it.
