@@ -1,6 +1,7 @@
 -- Connections: the frames of requests are read, and the frames of their replies are written.
 use Rattle.std.specs.Prelude.{◌≡◌, ◌≢◌, ◌⊎◌, ◌≤◌, ◌<◌, ◌+◌, ℕ, List, [], ◌∷◌, ◌++◌, length, take, map, Option, Some, None, option_map}
 use Rattle.std.specs.List.{All}
+use Rattle.block_store.specs.declared.store.TheConstants.{BLOCK_LIMIT}
 use Rattle.layout.specs.Hash.{hash}
 use Rattle.layout.specs.Types.{Bytes, Key}
 use Rattle.wire.specs.declared.kinds.Status.{Status}
@@ -34,8 +35,8 @@ RepliesToCall pinned call reply =
 -- to a block to be stored: its digest, where it isn't too large
 abbrev pub RepliesToPut : Bytes → Answer → Type 0
 RepliesToPut block reply =
-    ((length block ≤ 32779) × (reply ≡ ok (hash block)))
-    ⊎ ((32779 < length block) × (reply ≡ bare status.TooLarge))
+    ((length block ≤ BLOCK_LIMIT) × (reply ≡ ok (hash block)))
+    ⊎ ((BLOCK_LIMIT < length block) × (reply ≡ bare status.TooLarge))
     ⊎ (reply ≡ bare status.Memory)
 
 -- to a digest: a block of this digest, or that there is none

@@ -70,9 +70,75 @@ fn flags(alloc: Global, count: usize) -> Result<Vec<AtomicBool>, Memory>
     Ok(all)
 }
 
+/// Starts a worker for each connection, of at most as many as there are flags. The number is that of the connections
+/// for which no thread could be started.
+fn start<
+    's,
+    'a: 's,
+    E,
+    G: Gate + Sync,
+    C: Connection + Send + 's,
+    I: Iterator<Item = C> + Drop,
+    B: ServerName + Send + Sync + 's,
+    L: Ledger + Send + Sync + 's,
+    R: Threads + Wait + Sync,
+>(
+    rt: &'s R,
+    scope: &'s Scope<'s, E>,
+    shared: &'s Shared<'a, B, L, R>,
+    gate: &'s G,
+    connections: I,
+    unread: &'s [AtomicBool],
+    all: &mut Tally<L>,
+    running: &mut Vec<JoinHandle<WorkerTally<L>>>,
+) -> usize
+    requires can { I.can_next connections × IsFinite (I.remaining connections) }
+    requires parts { (length unread.now + 1 ≡ L.parts) × (all.old.share.parts ≡ L.parts) }
+    requires room { (vec_len running.old ≡ 0) × (length unread.now ≤ vec_capacity running.old) }
+    ensures { all.new.share.parts + vec_len running.new ≡ L.parts }
+{
+    let mut connections = connections;
+    let mut unserved = 0;
+    for k in 0..unread.len() {
+        let is_unread = &unread[k];
+        let Some(connection) = connections.next() else {
+            break;
+        };
+        let part = all.split();
+        match scope.spawn(move || work_unless_unread(
+            rt, is_unread, connection, shared, gate, part,
+        )) {
+            Ok(handle) => running.push_reserved(handle),
+            Err(refused) => {
+                is_unread.store(true, Ordering::SeqCst);
+                unserved += 1;
+                let one = (refused.value)().tally();
+                shared.locked.lock(rt).collect(all, one);
+            }
+        }
+    }
+    unserved
+}
+
+/// Waits for the workers, and puts their tallies together.
+fn gather<B: ServerName + Send + Sync, L: Ledger + Send + Sync, R: Threads + Wait + Sync>(
+    rt: &R,
+    shared: &Shared<'_, B, L, R>,
+    all: &mut Tally<L>,
+    running: Vec<JoinHandle<WorkerTally<L>>>,
+)
+    requires { all.old.share.parts + vec_len running ≡ L.parts }
+    ensures { all.new.share.parts ≡ L.parts }
+{
+    for handle in running {
+        let one = handle.join(rt).tally();
+        shared.locked.lock(rt).collect(all, one);
+    }
+}
+
 /// Starts a worker for each connection, of at most as many as there are flags, and waits for them all. The number is
 /// that of the connections for which no thread could be started.
-fn gather<
+fn run_all<
     's,
     'a: 's,
     E,
@@ -97,32 +163,19 @@ fn gather<
     requires room { (vec_len running ≡ 0) × (length unread.now ≤ vec_capacity running) }
     ensures { result.0.share.parts ≡ L.parts }
 {
-    let mut connections = connections;
     let mut all = stock;
     let mut running = running;
-    let mut unserved = 0;
-    for k in 0..unread.len() {
-        let is_unread = &unread[k];
-        let Some(connection) = connections.next() else {
-            break;
-        };
-        let part = all.split();
-        match scope.spawn(move || work_unless_unread(
-            rt, is_unread, connection, shared, gate, part,
-        )) {
-            Ok(handle) => running.push_reserved(handle),
-            Err(refused) => {
-                is_unread.store(true, Ordering::SeqCst);
-                unserved += 1;
-                let one = (refused.value)().tally();
-                shared.locked.lock(rt).collect(&mut all, one);
-            }
-        }
-    }
-    for handle in running {
-        let one = handle.join(rt).tally();
-        shared.locked.lock(rt).collect(&mut all, one);
-    }
+    let unserved = start(
+        rt,
+        scope,
+        shared,
+        gate,
+        connections,
+        unread,
+        &mut all,
+        &mut running,
+    );
+    gather(rt, shared, &mut all, running);
     (all, unserved)
 }
 
@@ -155,7 +208,7 @@ fn serve_all<
             requires { I.can_next connections × IsFinite (I.remaining connections) × (length unread.now + 1 ≡ L.parts)
                 × (stock.share.parts ≡ L.parts) × (vec_len running ≡ 0) × (length unread.now ≤ vec_capacity running) }
             ensures { result.0.share.parts ≡ L.parts }
-        { gather(rt, scope, shared, gate, connections, unread, stock, running) },
+        { run_all(rt, scope, shared, gate, connections, unread, stock, running) },
     )
 }
 

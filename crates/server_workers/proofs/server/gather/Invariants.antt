@@ -1,18 +1,6 @@
-use Rattle.std.proofs.Common.{◌≡◌, ◌+◌, ◌≤◌, length}
-use Rattle.std.specs.Prelude.{vec_len, vec_capacity}
+use Rattle.std.proofs.Common.{◌≡◌, ◌+◌}
 use Rattle.std.specs.Vec.Iter.{into_iter_len}
-use Rattle.std.specs.Iterator.{IsFinite}
 use Rattle.server_workers.proofs.server.gather.Given as goal
-
-abbrev pub invariant-loop-k : goal.invariant-loop-k
-invariant-loop-k g l =
-    g.I.Iterator.can_next l.connections
-    × IsFinite (g.I.Iterator.remaining l.connections)
-    × (l.all.share.parts + vec_len l.running ≡ g.L.Ledger.parts)
-    × (vec_len l.running ≤ l.k)
-    × (l.unserved ≤ l.k)
-    × (length l.unread + 1 ≡ g.L.Ledger.parts)
-    × (length l.unread ≤ vec_capacity l.running)
 
 abbrev pub invariant-loop-handle : goal.invariant-loop-handle
 invariant-loop-handle g l = l.all.share.parts + into_iter_len l.handle-iterator ≡ g.L.Ledger.parts

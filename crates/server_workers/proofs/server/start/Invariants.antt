@@ -1,0 +1,14 @@
+use Rattle.std.proofs.Common.{◌≡◌, ◌+◌, ◌≤◌, length}
+use Rattle.std.specs.Prelude.{vec_len, vec_capacity}
+use Rattle.std.specs.Iterator.{IsFinite}
+use Rattle.server_workers.proofs.server.start.Given as goal
+
+abbrev pub invariant-loop-k : goal.invariant-loop-k
+invariant-loop-k g l =
+    g.I.Iterator.can_next l.connections
+    × IsFinite (g.I.Iterator.remaining l.connections)
+    × (l.all.share.parts + vec_len l.running ≡ g.L.Ledger.parts)
+    × (vec_len l.running ≤ l.k)
+    × (l.unserved ≤ l.k)
+    × (length l.unread + 1 ≡ g.L.Ledger.parts)
+    × (length l.unread ≤ vec_capacity l.running)
