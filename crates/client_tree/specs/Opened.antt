@@ -52,9 +52,9 @@ pub record IsAskedByItem (blocks : Blocks) (x : View) (p : Principal) (digest : 
 abbrev pub HasAskedByItems : Blocks → Table → List PendingItem → Part → Type 0
 HasAskedByItems blocks t items before =
     (earlier : List PendingItem) (item : PendingItem) (later : List PendingItem) (part : Part) (digest : Digest)
-        (s : Spot)
+    (s : Spot)
     → items ≡ earlier ++ item ∷ later → IsPartAfter blocks t earlier before part
-        → IsAskedFor blocks (actor_of t item) item.cert.changes part digest s → lacks blocks digest s ≡ false
+    → IsAskedFor blocks (actor_of t item) item.cert.changes part digest s → lacks blocks digest s ≡ false
 
 -- a block of the principal's i-table, or one that tells what the operations make of its part
 abbrev pub IsReached : Blocks → View → Principal → Digest → Spot → Type 0
@@ -88,8 +88,8 @@ IsThere blocks part i digest s = (inode : Digest) × (slot_at part i ≡ Some (L
 abbrev pub IsLooked : Blocks → View → Principal → INumber → Digest → Spot → Type 0
 IsLooked blocks x p i digest s =
     (is_table p i ≡ false)
-        × (IsReached blocks x p digest s
-        ⊎ ((before : ITable) × (part : Part) × IsOpened blocks x p before part × IsThere blocks part i digest s))
+    × (IsReached blocks x p digest s
+    ⊎ ((before : ITable) × (part : Part) × IsOpened blocks x p before part × IsThere blocks part i digest s))
 
 -- nothing of what stands there is missing
 pub record HasLooked (blocks : Blocks) (x : View) (p : Principal) (i : INumber) : Type 0 where

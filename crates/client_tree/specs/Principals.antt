@@ -21,7 +21,7 @@ abbrev pub IsOfNamed : Blocks → Handle → Digest → Spot → Type 0
 IsOfNamed blocks handle digest s =
     IsOfTable blocks 0 handle digest s
     ⊎ ((before : ITable) × (inode : Digest) × IsRead blocks 0 handle before × (digest_at before 1 ≡ Some inode)
-        × IsOfPrincipals blocks inode digest s)
+    × IsOfPrincipals blocks inode digest s)
 
 -- The table that user 0's handle names: the file at its place is the text of this table, whatever stands for the
 -- digests of which no block tells.

@@ -35,7 +35,7 @@ abbrev pub IsOfTable : Blocks → Principal → Handle → Digest → Spot → T
 IsOfTable blocks p handle digest (spot.Root q) = (q ≡ p) × (digest ≡ handle)
 IsOfTable blocks p handle digest (spot.Chunk q n) =
     (q ≡ p) × (lacks blocks handle (spot.Root p) ≡ false)
-        × IsSomeAnd (root_at blocks handle) (λ r. option_map (λ c. c.digest) (chunk_at r n) ≡ Some digest)
+    × IsSomeAnd (root_at blocks handle) (λ r. option_map (λ c. c.digest) (chunk_at r n) ≡ Some digest)
 IsOfTable blocks p handle digest other = ⊥
 
 -- The table is the one of this handle that the blocks spell, and nothing of it is missing: its root and each chunk that

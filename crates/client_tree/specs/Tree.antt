@@ -68,7 +68,7 @@ pub record IsStored (blocks : Blocks) (x : View) (s : Stored) : Type 0 where
   -- and is that of the view's tree, where the digests of directories that changed stand for them,
   pub world : ForEachReading blocks (λ reads. (users : Table) → ReadsChanged reads part
       → (i : INumber) → is_table s.principal i ≡ false
-          → option_map reads.content (digest_at table i) ≡ tree reads users x s.principal i)
+      → option_map reads.content (digest_at table i) ≡ tree reads users x s.principal i)
   -- as they do for who holds their texts
   pub read_back : (i : INumber) (digest : Digest) (entries : List Entry)
       → slot_at part i ≡ Some (Changed digest entries) → IsReadBack entries

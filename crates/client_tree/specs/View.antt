@@ -63,7 +63,7 @@ comes_after x p i =
     if nat_lt p 64
     then i.cert.user == p
     else raises x.table p i
-        && nat_lt (option_map_or (λ r. r.version) (newest p x.structures) 0) (version_of p i.plan.vector)
+    && nat_lt (option_map_or (λ r. r.version) (newest p x.structures) 0) (version_of p i.plan.vector)
 
 -- the operation is user 0's, and so comes after the table of principals that user 0's handle names
 abbrev pub is_superusers : PendingItem → Bool

@@ -3,6 +3,8 @@
 ghost use Rattle.std.specs.Prelude.{◌≡◌, ◌∷◌, [], IfOk, length, map};
 ghost use Rattle.std.specs.Vec.{vec_items};
 ghost use Rattle.itable.specs.declared.inode.Kind.TheVariants as kind;
+ghost use Rattle.itable.specs.Inode.{inode};
+ghost use Rattle.directory.specs.Directory.{directory};
 ghost use Rattle.client_tree.specs.Genesis.{table_text, inode_digest, table_inode, root_inode, first_pairs};
 ghost use Rattle.client_tree.specs.Genesis.{first_table, first_table_texts, first_handle, common_texts, first_blocks};
 ghost use Rattle.client_tree.specs.Held.{keeping_all};
@@ -11,11 +13,12 @@ use crate::held::Held;
 use directory::Directory;
 use itable::{ITable, Inode};
 use layout::{Digest, INumber, Memory, Principal, Text, User, Writer, digest};
+use lms_sign::Key;
 use std::alloc::Allocator;
 
 /// The text of the table of principals, under the key of user 0.
 #[tactic(auto, unfolding(crate::specs::Genesis::table_text, layout::specs::Format::be))]
-fn table_text<A: Allocator + Copy>(alloc: A, key: &[u8; 56]) -> Result<Vec<u8, A>, Memory>
+fn table_text<A: Allocator + Copy>(alloc: A, key: &Key) -> Result<Vec<u8, A>, Memory>
     ensures text { IfOk result (λ text. text.items ≡ table_text key.now) }
     ensures size { IfOk result (λ text. length text.items ≡ 68) }
 {
@@ -26,20 +29,26 @@ fn table_text<A: Allocator + Copy>(alloc: A, key: &[u8; 56]) -> Result<Vec<u8, A
     Ok(writer.finish())
 }
 
-/// The digest of an i-node's text.
-fn inode_digest<A: Allocator + Copy>(alloc: A, inode: &Inode<A>) -> Result<Digest, Memory>
-    ensures { IfOk result (λ digest. digest ≡ inode_digest inode.now) }
-{
-    let text = inode.text(alloc)?;
-    Ok(digest(&text))
-}
-
 /// The i-node of the table.
-fn table_inode<A: Allocator + Copy>(alloc: A, key: &[u8; 56]) -> Result<Inode<A>, Memory>
+fn table_inode<A: Allocator + Copy>(alloc: A, key: &Key) -> Result<Inode<A>, Memory>
     ensures { IfOk result (λ inode. inode ≡ table_inode key.now) }
 {
     let text = table_text(alloc, key)?;
     Inode::of_file(alloc, &text)
+}
+
+/// The text of the table's i-node.
+fn table_inode_text<A: Allocator + Copy>(alloc: A, key: &Key) -> Result<Vec<u8, A>, Memory>
+    ensures { IfOk result (λ text. text.items ≡ inode.spell (table_inode key.now)) }
+{
+    table_inode(alloc, key)?.text(alloc)
+}
+
+/// The text of the empty directory.
+fn root_text<A: Allocator + Copy>(alloc: A) -> Result<Vec<u8, A>, Memory>
+    ensures { IfOk result (λ text. text.items ≡ directory.spell []) }
+{
+    Directory::empty(alloc).text(alloc)
 }
 
 /// The i-node of the root directory.
@@ -47,26 +56,34 @@ fn table_inode<A: Allocator + Copy>(alloc: A, key: &[u8; 56]) -> Result<Inode<A>
 fn root_inode<A: Allocator + Copy>(alloc: A) -> Result<Inode<A>, Memory>
     ensures { IfOk result (λ inode. inode ≡ root_inode) }
 {
-    let text = Directory::empty(alloc).text(alloc)?;
+    let text = root_text(alloc)?;
     Inode::of_directory(alloc, &text)
+}
+
+/// The text of the root directory's i-node.
+fn root_inode_text<A: Allocator + Copy>(alloc: A) -> Result<Vec<u8, A>, Memory>
+    ensures { IfOk result (λ text. text.items ≡ inode.spell root_inode) }
+{
+    root_inode(alloc)?.text(alloc)
 }
 
 /// The digest of the i-node of the empty directory.
 pub fn root_digest<A: Allocator + Copy>(alloc: A) -> Result<Digest, Memory>
     ensures { IfOk result (λ digest. digest ≡ inode_digest root_inode) }
 {
-    inode_digest(alloc, &root_inode(alloc)?)
+    let text = root_inode_text(alloc)?;
+    Ok(digest(&text))
 }
 
 /// What user 0 has: the table and the root directory.
-fn superusers_table<A: Allocator + Copy>(alloc: A, key: &[u8; 56]) -> Result<ITable<A>, Memory>
+fn superusers_table<A: Allocator + Copy>(alloc: A, key: &Key) -> Result<ITable<A>, Memory>
     ensures { IfOk result (λ table. table ≡ record { principal = 0; pairs = first_pairs key.now }) }
 {
-    let table_inode = inode_digest(alloc, &table_inode(alloc, key)?)?;
-    let root_inode = root_digest(alloc)?;
+    let table_digest = digest(&table_inode_text(alloc, key)?);
+    let root_digest = root_digest(alloc)?;
     let mut table = ITable::empty(alloc, Principal::from(User::superuser()));
-    table.set(INumber::table(), table_inode)?;
-    table.set(INumber::root(), root_inode)?;
+    table.set(INumber::table(), table_digest)?;
+    table.set(INumber::root(), root_digest)?;
     Ok(table)
 }
 
@@ -74,7 +91,7 @@ fn superusers_table<A: Allocator + Copy>(alloc: A, key: &[u8; 56]) -> Result<ITa
 fn first_table<A: Allocator + Copy>(
     alloc: A,
     principal: Principal,
-    key: &[u8; 56],
+    key: &Key,
 ) -> Result<ITable<A>, Memory>
     ensures { IfOk result (λ table. table ≡ first_table principal key.now) }
 {
@@ -89,7 +106,7 @@ fn first_table<A: Allocator + Copy>(
 pub(crate) fn first_handle<A: Allocator + Copy>(
     alloc: A,
     principal: Principal,
-    key: &[u8; 56],
+    key: &Key,
 ) -> Result<Digest, Memory>
     ensures { IfOk result (λ handle. handle ≡ first_handle principal key.now) }
 {
@@ -100,7 +117,7 @@ pub(crate) fn first_handle<A: Allocator + Copy>(
 /// The texts by which a principal's i-table is stored at the beginning.
 fn first_table_texts<A: Allocator + Copy>(
     alloc: A,
-    key: &[u8; 56],
+    key: &Key,
     principal: Principal,
 ) -> Result<Vec<Vec<u8, A>, A>, Memory>
     ensures { IfOk result (λ texts. map vec_items texts.items ≡ first_table_texts key.now principal) }
@@ -110,19 +127,19 @@ fn first_table_texts<A: Allocator + Copy>(
 }
 
 /// The table of principals of the beginning with its i-node, and the empty directory with its.
-fn common_blocks<A: Allocator + Copy>(alloc: A, key: &[u8; 56]) -> Result<Held<A>, Memory>
+fn common_blocks<A: Allocator + Copy>(alloc: A, key: &Key) -> Result<Held<A>, Memory>
     ensures { IfOk result (λ blocks. blocks ≡ keeping_all [] (common_texts key.now)) }
 {
     let mut blocks = Held::empty(alloc);
     blocks.keep(table_text(alloc, key)?)?;
-    blocks.keep(table_inode(alloc, key)?.text(alloc)?)?;
-    blocks.keep(Directory::empty(alloc).text(alloc)?)?;
-    blocks.keep(root_inode(alloc)?.text(alloc)?)?;
+    blocks.keep(table_inode_text(alloc, key)?)?;
+    blocks.keep(root_text(alloc)?)?;
+    blocks.keep(root_inode_text(alloc)?)?;
     Ok(blocks)
 }
 
 /// The blocks of the beginning that each client holds, where user 0 has this key. The error is Memory.
-pub fn first_blocks<A: Allocator + Copy>(alloc: A, key: &[u8; 56]) -> Result<Held<A>, Memory>
+pub fn first_blocks<A: Allocator + Copy>(alloc: A, key: &Key) -> Result<Held<A>, Memory>
     ensures { IfOk result (λ blocks. blocks ≡ first_blocks key.now) }
 {
     let mut blocks = common_blocks(alloc, key)?;

@@ -3,6 +3,7 @@
 ghost use Rattle.std.specs.Prelude.{◌≡◌, ◌≤◌, IfOk, length};
 ghost use Rattle.std.specs.List.{list_any};
 ghost use Rattle.client_tree.specs.Lost.{counts, is_kept, lost_from};
+ghost use Rattle.update_cert.specs.declared.cert.TheConstants.{MOST_CHANGES};
 
 use layout::{Memory, Principal};
 use std::alloc::Allocator;
@@ -67,7 +68,7 @@ pub(crate) fn lost_among<A: Allocator + Copy>(
     parts: &[PartVoids<A>],
     table: &[u8],
 ) -> Result<Vec<u8, A>, Memory>
-    requires few { length changes.now ≤ 16 }
+    requires few { length changes.now ≤ MOST_CHANGES }
     ensures { IfOk result (λ lost. lost.items ≡ lost_from 1 parts.now table.now changes.now) }
 {
     let mut lost = Vec::new(alloc);

@@ -11,6 +11,7 @@ ghost use Rattle.client_tree.specs.Principals.{IsNamed, IsOfNamed, IsPending};
 use crate::tables::read_table;
 use crate::view::handle_in;
 use layout::{Digest, INumber, Memory, Principal, User};
+use lms_sign::Key;
 use pending_list::{PendingItem, Signed};
 use principals::Table;
 use std::alloc::Allocator;
@@ -67,7 +68,7 @@ pub struct PendingTable<A: Allocator> {
 pub fn table_of<A: Allocator + Copy, B: Blocks>(
     alloc: A,
     blocks: &B,
-    key: &[u8; 56],
+    key: &Key,
     structures: &[Signed<Structure<A>>],
     others: &[PendingItem<A>],
     own: &PendingItem<A>,

@@ -7,6 +7,7 @@ ghost use Rattle.client_tree.specs.View.{structure_of};
 
 use crate::genesis::first_handle;
 use layout::{Digest, Group, Memory, Principal};
+use lms_sign::Key;
 use pending_list::{PendingItem, Signed, raises, table_version};
 use principals::Table;
 use std::alloc::Allocator;
@@ -17,7 +18,7 @@ use version_order::{GroupRecord, Structure};
 /// table of principals by which members are judged.
 #[derive(Drop)]
 pub struct View<'a, A: Allocator> {
-    key: &'a [u8; 56],
+    key: &'a Key,
     table: &'a Table<A>,
     structures: &'a [Signed<Structure<A>>],
     others: &'a [PendingItem<A>],
@@ -95,7 +96,7 @@ impl<'a, A: Allocator> View<'a, A> {
 
     /// The view of these lists.
     pub fn new(
-        key: &'a [u8; 56],
+        key: &'a Key,
         table: &'a Table<A>,
         structures: &'a [Signed<Structure<A>>],
         others: &'a [PendingItem<A>],
@@ -186,7 +187,7 @@ fn user_handle<A: Allocator>(
 /// The handle on which a principal's part stands, by these structures. The error is Memory.
 pub(crate) fn handle_in<A: Allocator + Copy>(
     alloc: A,
-    key: &[u8; 56],
+    key: &Key,
     structures: &[Signed<Structure<A>>],
     principal: Principal,
 ) -> Result<Digest, Memory>

@@ -1,4 +1,4 @@
-use Rattle.std.proofs.Common.{[], ap, ◌∙◌}
+use Rattle.std.proofs.Common.{[]}
 use Rattle.itable.specs.Inode.{inode}
 use Rattle.directory.specs.Directory.{directory}
 use Rattle.client_tree.specs.Held.{keeping_all}
@@ -11,6 +11,6 @@ unfolding common_texts keeping_all
 returns g c =
     let key = c.args.key.now in
     let one = kept_after _ _ [] _ (table_text key) c.in_ok-keep.ensures.kept c.empty-blocks.ensures c.in_ok-table_text.ensures.text in
-    let two = kept_after _ _ _ _ (inode.spell (table_inode key)) c.in_ok-keep-2.ensures.kept one (c.in_ok-text.ensures ∙ ap inode.spell c.in_ok-table_inode.ensures) in
-    let three = kept_after _ _ _ _ (directory.spell []) c.in_ok-keep-3.ensures.kept two (c.in_ok-text-2.ensures ∙ ap directory.spell c.empty.ensures) in
-    kept_after _ _ _ _ (inode.spell root_inode) c.in_ok-keep-4.ensures.kept three (c.in_ok-text-3.ensures ∙ ap inode.spell c.in_ok-root_inode.ensures)
+    let two = kept_after _ _ _ _ (inode.spell (table_inode key)) c.in_ok-keep-2.ensures.kept one c.in_ok-table_inode_text.ensures in
+    let three = kept_after _ _ _ _ (directory.spell []) c.in_ok-keep-3.ensures.kept two c.in_ok-root_text.ensures in
+    kept_after _ _ _ _ (inode.spell root_inode) c.in_ok-keep-4.ensures.kept three c.in_ok-root_inode_text.ensures
