@@ -10,8 +10,8 @@ use Rattle.client_verify.specs.declared.look.Look.TheVariants as look
 use Rattle.client_verify.specs.declared.step.Step.{Step}
 use Rattle.client_verify.specs.declared.step.Step.TheVariants as step
 use Rattle.client_verify.specs.declared.view.Looking.{Looking}
-use Rattle.client_verify.specs.FirstBroken.{reply_in}
-use Rattle.client_verify.specs.Good.{Good}
+use Rattle.reply_check.specs.FirstBroken.{reply_in}
+use Rattle.reply_check.specs.Good.{Good}
 use Rattle.client_verify.specs.State.{AcceptedView, Checked, Reading, State, Writing, holding}
 use Rattle.client_verify.specs.Judged.{AsksOrAccepts, GoesOn, Handed, Judged, Taken}
 use Rattle.client_verify.specs.Looked.{Given, Looked}

@@ -12,7 +12,8 @@ use Rattle.client_verify.specs.declared.step.Step.{Step}
 use Rattle.client_verify.specs.declared.view.Looking.{Looking}
 use Rattle.client_verify.specs.Judged.{Handed, Judged}
 use Rattle.client_verify.specs.Looked.{Given}
-use Rattle.client_verify.specs.State.{AcceptedView, Checked, State, asked_of, block_breaks}
+use Rattle.client_verify.specs.State.{AcceptedView, Checked, State, asked_of}
+use Rattle.reply_check.specs.AskedBlock.{block_breaks}
 use Rattle.client_runs.specs.Steps.{HasGiven, HasHeard, HasTaken}
 use Rattle.client_runs.specs.Told.{asked, on_ok, seen}
 use Rattle.client_runs.proofs.Anywhere.{given, handed, judged}

@@ -12,7 +12,7 @@ use Rattle.client_releases.specs.declared.phase.Phase.{Phase}
 use Rattle.client_releases.specs.declared.phase.Phase.TheVariants as phase
 use Rattle.client_releases.specs.Releasing.{IsKept, structure_record}
 use Rattle.client_releases.specs.Told.{IsPhase, Released}
-use Rattle.client_verify.specs.FirstBroken.{Known}
+use Rattle.reply_check.specs.FirstBroken.{Known}
 use Rattle.agreement.specs.Runs.{View, user_of}
 use Rattle.release_runs.specs.Steps as low
 use Rattle.release_runs.proofs.Holds.{IsAt, where_in_turn}

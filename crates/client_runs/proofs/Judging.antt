@@ -17,7 +17,7 @@ use Rattle.reply_rules.specs.declared.rule.Rule.TheVariants as rule
 use Rattle.reply_rules.specs.Lists.{Lists, items}
 use Rattle.reply_rules.specs.Rules.{lists, unknown_user}
 use Rattle.reply_rules.specs.Broken.{broken, later_rules, least}
-use Rattle.client_verify.specs.FirstBroken.{Known, cert_verifies, certificates, lists_break, of_reply, own_last, own_pending, same_bytes, shown_of, signatures, structure_sent, structure_verifies, super_signature, verifies}
+use Rattle.reply_check.specs.FirstBroken.{Known, cert_verifies, certificates, lists_break, of_reply, own_last, own_pending, same_bytes, shown_of, signatures, structure_sent, structure_verifies, super_signature, verifies}
 use Rattle.agreement.proofs.Members.{In}
 use Rattle.agreement.proofs.Tests.{all_in, first_holds}
 

@@ -30,10 +30,10 @@ use Rattle.client_releases.specs.declared.phase.Phase.TheVariants as phase
 use Rattle.client_verify.specs.declared.look.Look.TheVariants as look
 use Rattle.client_verify.specs.declared.step.Step.TheVariants.{Need, Store, Broken}
 use Rattle.client_verify.specs.declared.view.Looking.{Looking}
-use Rattle.client_verify.specs.FirstBroken.{IsRead, reply_in, view_over}
-use Rattle.client_verify.specs.Good.{Good}
+use Rattle.reply_check.specs.FirstBroken.{IsRead, reply_in, view_over}
+use Rattle.reply_check.specs.Good.{Good, view_of}
 use Rattle.client_verify.specs.State.{AcceptedView, Checked, Reading, Ready, State, Writing, committed, holding, on, signed_over, signed_text}
-use Rattle.client_verify.specs.Judged.{AsksOrAccepts, GoesOn, Handed, IsGood, Judged, Taken, view_of}
+use Rattle.client_verify.specs.Judged.{AsksOrAccepts, GoesOn, Handed, IsGood, Judged, Taken}
 use Rattle.client_verify.specs.Looked.{Given, Looked}
 use Rattle.agreement.specs.Runs.{View}
 use Rattle.agreement.proofs.Members.{In, in-append, in-left, in-right}

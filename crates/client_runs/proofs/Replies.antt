@@ -17,9 +17,9 @@ use Rattle.reply_rules.specs.declared.rule.Rule.TheVariants as rule
 use Rattle.client_releases.specs.Told.{Released}
 use Rattle.client_verify.specs.declared.step.Step.{Step}
 use Rattle.client_verify.specs.declared.step.Step.TheVariants.{Need, Store, Broken}
-use Rattle.client_verify.specs.FirstBroken.{Known, lists_break, of_reply, reply_breaks}
-use Rattle.client_verify.specs.Good.{Good}
-use Rattle.client_verify.specs.declared.asked.Asked.{Asked}
+use Rattle.reply_check.specs.FirstBroken.{Known, lists_break, of_reply, reply_breaks}
+use Rattle.reply_check.specs.Good.{Good}
+use Rattle.reply_check.specs.declared.asked.Asked.{Asked}
 use Rattle.agreement.proofs.Members.{In, in-left, in-right, last_or_nil}
 use Rattle.client_verify.specs.State.{Checked, Reading, Ready, State, Writing, holding, known, released}
 use Rattle.client_verify.specs.Judged.{AsksOrAccepts, GoesOn, Handed, Judged, Taken}

@@ -27,7 +27,7 @@ use Rattle.reply_rules.specs.Rules.{is_planned, lists, pending_ascends, pending_
 use Rattle.client_tree.specs.Genesis.{first_handle, first_texts, table_text}
 use Rattle.client_tree.specs.View.{actor_of, after_items, comes_after, handle_in, named, structure_of, tree_before}
 use Rattle.client_releases.specs.Told.{cert_in}
-use Rattle.client_verify.specs.FirstBroken.{view_over}
+use Rattle.reply_check.specs.FirstBroken.{view_over}
 use Rattle.client_verify.proofs.GenesisLaws.{length-table_text}
 use Rattle.agreement.specs.Runs.{View}
 use Rattle.agreement.proofs.Formed.{cert_fits, same_spelled}

@@ -16,7 +16,7 @@ use Rattle.client_releases.specs.declared.error.ClientError.TheVariants as error
 use Rattle.client_releases.specs.declared.phase.Phase.{Phase}
 use Rattle.client_releases.specs.declared.phase.Phase.TheVariants as phase
 use Rattle.client_verify.specs.declared.step.Step.TheVariants as step
-use Rattle.client_verify.specs.FirstBroken.{reply_in}
+use Rattle.reply_check.specs.FirstBroken.{reply_in}
 use Rattle.agreement.specs.Runs.{View}
 use Rattle.release_runs.specs.Released.{found_text, unsigned}
 use Rattle.client_verify.specs.State.{Ready, State, next_structure}

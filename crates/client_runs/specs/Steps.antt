@@ -24,7 +24,8 @@ use Rattle.client_releases.specs.Told.{IsReleased, IsToldBy, TellsOfOther}
 use Rattle.client_verify.specs.declared.look.Look.{Look}
 use Rattle.client_verify.specs.declared.step.Step.{Step}
 use Rattle.client_verify.specs.Laid.{are_laid}
-use Rattle.client_verify.specs.State.{AreReplies, State, asked_of, block_breaks, committed, declared, declared_text, failed, laying, next_cert, next_structure, on, opened, released, signed_over, signed_text}
+use Rattle.client_verify.specs.State.{AreReplies, State, asked_of, committed, declared, declared_text, failed, laying, next_cert, next_structure, on, opened, released, signed_over, signed_text}
+use Rattle.reply_check.specs.AskedBlock.{block_breaks}
 use Rattle.client_verify.specs.Judged.{Handed, Judged}
 use Rattle.client_verify.specs.Looked.{Given, Looked}
 

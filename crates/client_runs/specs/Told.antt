@@ -32,8 +32,15 @@ bytes_anywhere v =
 
 abbrev pub texts_anywhere : {B A : Type 0} → Vec (Vec B A) A → Vec (Vec B (Unit {0})) (Unit {0})
 texts_anywhere v =
-    record { ptr = v.ptr; len = v.len; cap = v.cap; alloc = tt; items = map bytes_anywhere v.items;
-    ok = (v.ok.0 ∙ sym (length-map v.items bytes_anywhere), v.ok.1); small = v.small }
+    record {
+      ptr = v.ptr;
+      len = v.len;
+      cap = v.cap;
+      alloc = tt;
+      items = map bytes_anywhere v.items;
+      ok = (v.ok.0 ∙ sym (length-map v.items bytes_anywhere), v.ok.1);
+      small = v.small;
+    }
 
 abbrev pub asked : {A : Type 0} → Step A → Asks
 asked (step.Need digest) = step.Need digest

@@ -28,10 +28,10 @@ use Rattle.reply_rules.specs.Lists.{Lists, lists_of}
 use Rattle.reply_rules.specs.ListsLaws.{lists_are}
 use Rattle.reply_rules.specs.Rules.{is_planned, lists, pending_ascends, pending_once, structures_ascend}
 use Rattle.reply_rules.specs.Broken.{least}
-use Rattle.client_verify.specs.FirstBroken.{Known, cert_sent, of_reply, own_last, own_pending, reply_breaks, reply_in, super_signature}
+use Rattle.reply_check.specs.FirstBroken.{Known, cert_sent, of_reply, own_last, own_pending, reply_breaks, reply_in, super_signature}
 use Rattle.client_verify.specs.State.{IsOfDeclared}
-use Rattle.client_verify.proofs.Judging.{something_pending}
-use Rattle.client_verify.proofs.ListsLaws.{ends, last_one}
+use Rattle.reply_check.proofs.Judging.{something_pending}
+use Rattle.reply_check.proofs.ListsLaws.{ends, last_one}
 
 -- ---- what the rules say
 

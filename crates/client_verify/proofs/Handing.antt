@@ -6,17 +6,18 @@ use Rattle.reply_rules.specs.Lists.{Lists, lists_of}
 use Rattle.reply_rules.specs.declared.rule.Rule.{Rule}
 use Rattle.pending_list.specs.Reply.{Reply}
 use Rattle.client_tree.specs.Held.{Block, held, keeping}
-use Rattle.client_verify.specs.declared.asked.Asked.{Asked}
+use Rattle.reply_check.specs.declared.asked.Asked.{Asked}
 use Rattle.client_verify.specs.declared.step.Step.{Step}
 use Rattle.client_verify.specs.declared.step.Step.TheVariants as step
-use Rattle.client_verify.specs.declared.reaching.Reached.{Reached}
-use Rattle.client_verify.specs.declared.reaching.Reached.TheVariants as reached
-use Rattle.client_verify.specs.declared.reaching.Written.{Written}
-use Rattle.client_verify.specs.Good.{Good}
-use Rattle.client_verify.specs.FirstBroken.{Known, ByTable, IsFirstBroken, IsRead, lists_break, lists_in, reply_breaks, reply_in, view_over}
-use Rattle.client_verify.specs.Reached.{IsReached, IsWritten}
-use Rattle.client_verify.specs.State.{State, Checked, Reading, asked_of, block_breaks, blocks_with, holding, known}
-use Rattle.client_verify.specs.Judged.{AsksOrAccepts, Handed, Judged, ReadsOn, Taken, unjudged, view_of}
+use Rattle.reply_check.specs.declared.reaching.Reached.{Reached}
+use Rattle.reply_check.specs.declared.reaching.Reached.TheVariants as reached
+use Rattle.reply_check.specs.declared.reaching.Written.{Written}
+use Rattle.reply_check.specs.Good.{Good, view_of}
+use Rattle.reply_check.specs.FirstBroken.{Known, ByTable, IsFirstBroken, IsRead, lists_break, lists_in, reply_breaks, reply_in, view_over}
+use Rattle.reply_check.specs.Reached.{IsReached, IsWritten}
+use Rattle.client_verify.specs.State.{State, Checked, Reading, asked_of, blocks_with, holding, known}
+use Rattle.reply_check.specs.AskedBlock.{block_breaks}
+use Rattle.client_verify.specs.Judged.{AsksOrAccepts, Handed, Judged, ReadsOn, Taken, unjudged}
 use Rattle.client_verify.proofs.Steps.{some_one, taken_goes, taken_need}
 
 -- ---- what holds of an option's value

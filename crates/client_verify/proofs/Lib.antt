@@ -1,12 +1,6 @@
-pub mod Judging
-pub mod ListsLaws
 pub mod Steps
 pub mod LaidLaws
 pub mod GenesisLaws
-pub mod ReachedLaws
-pub mod ReplyReached
-pub mod ByTableLaws
 pub mod Handing
-pub mod VerifiedLaws
 pub mod Declared
 pub mod Releasing

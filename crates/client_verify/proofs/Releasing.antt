@@ -26,9 +26,10 @@ use Rattle.client_releases.specs.declared.phase.Phase.{Phase}
 use Rattle.client_releases.specs.declared.phase.Phase.TheVariants as phase
 use Rattle.client_releases.proofs.Seen.{declared_with, failed_with, signed_with, with_signature}
 use Rattle.client_releases.proofs.Untouched.{none_tried, untouched}
-use Rattle.client_verify.specs.State.{AcceptedView, AreReplies, Checked, IsOfDeclared, Ready, State, declared, declared_text, failed, laying, next_cert, next_structure, on, released, signed_over, signed_structure, signed_text, view_of, with_own}
-use Rattle.client_verify.specs.Verified.{AreOwn, IsSealed, IsSigned}
-use Rattle.client_verify.proofs.VerifiedLaws.{seals}
+use Rattle.client_verify.specs.State.{AcceptedView, AreReplies, Checked, IsOfDeclared, Ready, State, declared, declared_text, failed, laying, next_cert, next_structure, on, released, signed_over, signed_structure, signed_text, view_of}
+use Rattle.reply_check.specs.Good.{with_own}
+use Rattle.reply_check.specs.Verified.{AreOwn, IsSealed, IsSigned}
+use Rattle.reply_check.proofs.VerifiedLaws.{seals}
 
 -- a client over what it released
 abbrev pub over : Released → List ℕ → List Block → Option Checked → Option Ready → Option AcceptedView → State

@@ -16,14 +16,15 @@ use Rattle.client_tree.specs.View.{handle_in}
 use Rattle.client_tree.specs.Principals.{IsOfNamed}
 use Rattle.update_cert.specs.Spot.{lacks}
 use Rattle.pending_list.specs.Reply.{Reply}
-use Rattle.client_verify.specs.declared.asked.Asked.{Asked}
-use Rattle.client_verify.specs.FirstBroken.{reply_breaks, reply_in, view_over}
-use Rattle.client_verify.specs.Good.{Good}
-use Rattle.client_verify.specs.State.{State, AcceptedView, Checked, Reading, Writing, asked_of, known, block_breaks, holding}
-use Rattle.client_verify.specs.Judged.{AsksOrAccepts, GoesOn, Handed, IsGood, Judged, Taken, view_of}
+use Rattle.reply_check.specs.declared.asked.Asked.{Asked}
+use Rattle.reply_check.specs.FirstBroken.{reply_breaks, reply_in, view_over}
+use Rattle.reply_check.specs.Good.{Good, view_of}
+use Rattle.client_verify.specs.State.{State, AcceptedView, Checked, Reading, Writing, asked_of, known, holding}
+use Rattle.reply_check.specs.AskedBlock.{block_breaks}
+use Rattle.client_verify.specs.Judged.{AsksOrAccepts, GoesOn, Handed, IsGood, Judged, Taken}
 use Rattle.client_verify.specs.Looked.{Looked, Given}
-use Rattle.client_verify.specs.Reached.{IsAnswer}
-use Rattle.client_verify.specs.declared.reaching.Shown.{Shown}
+use Rattle.reply_check.specs.Reached.{IsAnswer}
+use Rattle.reply_check.specs.declared.reaching.Shown.{Shown}
 
 pub some_one : {A : Type 0} (o : Option A) (a : A) (P : A → Type 0) → o ≡ Some a → P a → IsSomeAnd o P
 some_one {A} o a P is holds = subst (λ (x : Option A). IsSomeAnd x P) (sym is) holds

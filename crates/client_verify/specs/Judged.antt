@@ -1,36 +1,22 @@
 -- What a client makes of a reply, and of the blocks that it asks for.
-use Rattle.std.specs.Prelude.{◌≡◌, ◌⊎◌, ℕ, List, [], ◌∷◌, ◌++◌, Option, Some, None, IsSomeAnd, true, map}
+use Rattle.std.specs.Prelude.{◌≡◌, ◌⊎◌, ℕ, List, ◌∷◌, ◌++◌, Option, Some, None, IsSomeAnd, true, map}
 use Rattle.std.specs.List.{flat_map}
 use Rattle.std.specs.Vec.{vec_items}
-use Rattle.principals.specs.Table.{Table}
-use Rattle.version_order.specs.declared.structure.GroupRecord.{GroupRecord}
-use Rattle.version_order.specs.Plan.{Plan}
-use Rattle.version_order.specs.Vector.{version_of}
 use Rattle.update_cert.specs.Spot.{lacks}
-use Rattle.pending_list.specs.Groups.{table_version}
 use Rattle.pending_list.specs.Reply.{Reply}
 use Rattle.reply_rules.specs.Lists.{Lists, lists_of}
 use Rattle.client_tree.specs.Held.{held, keeping}
-use Rattle.layout.specs.Types.{Bytes, Key}
-use Rattle.client_tree.specs.View.{View, handle_in}
+use Rattle.layout.specs.Types.{Bytes}
+use Rattle.client_tree.specs.View.{handle_in}
 use Rattle.client_tree.specs.Principals.{IsOfNamed}
 use Rattle.client_tree.specs.Tree.{IsLost, IsOutcome, IsWanted, Stored}
-use Rattle.client_verify.specs.declared.asked.Asked.{Asked}
+use Rattle.reply_check.specs.declared.asked.Asked.{Asked}
 use Rattle.client_verify.specs.declared.step.Step.{Step}
 use Rattle.client_verify.specs.declared.step.Step.TheVariants.{Need, Store, Broken}
-use Rattle.client_verify.specs.FirstBroken.{ByTable, IsFirstBroken, IsRead, lists_break, lists_in, reply_breaks, reply_in, view_over}
-use Rattle.client_verify.specs.Good.{Good}
-use Rattle.client_verify.specs.State.{State, Checked, Reading, Writing, asked_of, block_breaks, blocks_with, holding, known}
-
--- the view of good lists
-abbrev pub view_of : Key → Good → View
-view_of key x = view_over key x.table x.lists
-
--- the record of a group's part, as it is stored, after an operation over this plan
-abbrev pub record_over : Plan → Stored → GroupRecord
-record_over plan s =
-    record { group = s.principal; version = version_of s.principal plan.vector; table = table_version plan;
-    handle = s.handle }
+use Rattle.reply_check.specs.FirstBroken.{ByTable, IsFirstBroken, IsRead, lists_break, lists_in, reply_breaks, reply_in}
+use Rattle.reply_check.specs.Good.{Good, record_over, view_of}
+use Rattle.client_verify.specs.State.{State, Checked, Reading, Writing, asked_of, blocks_with, holding, known}
+use Rattle.reply_check.specs.AskedBlock.{block_breaks}
 
 -- Lists that break no rule: a block is asked for that tells what the operation makes, and of which no text is held that
 -- its spot takes; or, once none is wanted any more, the reply is accepted, and the new texts of the own part and of
@@ -41,11 +27,18 @@ AsksOrAccepts s x (Need digest) new =
     × IsWanted (held s.blocks) (view_of s.pinned x) digest a.spot × (lacks (held s.blocks) digest a.spot ≡ true)
 AsksOrAccepts s x (Store texts) new =
     (own : Stored) × (groups : List Stored) × (lost : List ℕ)
-    × (new ≡ record s { checked = None;
-        accepted = Some (record { lists = x.lists; table = x.table; handle = own.handle;
-        records = map (record_over x.lists.own.plan) groups; lost = lost }) })
+    × (new ≡ record s {
+      checked = None;
+      accepted = Some (record {
+        lists = x.lists;
+        table = x.table;
+        handle = own.handle;
+        records = map (record_over x.lists.own.plan) groups;
+        lost = lost;
+      });
+    })
     × IsOutcome (held s.blocks) (view_of s.pinned x) (own ∷ groups)
-        × IsLost (held s.blocks) (view_of s.pinned x) x.void lost
+    × IsLost (held s.blocks) (view_of s.pinned x) x.void lost
     × (map vec_items texts.items ≡ own.texts ++ flat_map (λ g. g.texts) groups)
 AsksOrAccepts s x (Broken rule) new = ⊥
 
@@ -61,7 +54,7 @@ abbrev pub Taken : {A : Type 0} → State → Reply → Lists → Step A → Sta
 Taken {A} s r x (Need digest) new =
     ((a : Asked) × (a.digest ≡ digest) × (new ≡ record s { checked = Some (Reading r a); accepted = None })
     × IsOfNamed (held s.blocks) (handle_in s.pinned x.structures 0) digest a.spot
-        × (lacks (held s.blocks) digest a.spot ≡ true))
+    × (lacks (held s.blocks) digest a.spot ≡ true))
     ⊎ ((good : Good) × IsGood s x good × AsksOrAccepts {A = A} s good (Need digest) new)
 Taken s r x (Store texts) new = (good : Good) × IsGood s x good × AsksOrAccepts s good (Store texts) new
 Taken s r x (Broken rule) new = ⊥
@@ -72,7 +65,7 @@ Judged old text (Broken rule) new =
     IsFirstBroken (reply_breaks (known old) text) None (held old.blocks) old.pinned (lists_in text) rule × (new ≡ old)
 Judged old text step new =
     (reply_breaks (known old) text ≡ None)
-        × IsSomeAnd (reply_in text) (λ r. IsSomeAnd (lists_of r) (λ x. Taken old r x step new))
+    × IsSomeAnd (reply_in text) (λ r. IsSomeAnd (lists_of r) (λ x. Taken old r x step new))
 
 -- the lists of a reply under check whose rules aren't judged yet, if they aren't
 abbrev pub unjudged : Checked → Option Lists
@@ -104,7 +97,7 @@ ReadsOn old k text step new = GoesOn (holding old text) k step new
 abbrev pub Handed : {A : Type 0} → State → Checked → Option Bytes → Step A → State → Type 0
 Handed old k block (Broken rule) new =
     IsFirstBroken None (block_breaks (held old.blocks) (asked_of k) block)
-        (held (blocks_with old block)) old.pinned (unjudged k) rule × (new ≡ old)
+    (held (blocks_with old block)) old.pinned (unjudged k) rule × (new ≡ old)
 Handed old k block step new =
     (block_breaks (held old.blocks) (asked_of k) block ≡ None)
-        × IsSomeAnd block (λ text. GoesOn (holding old text) k step new)
+    × IsSomeAnd block (λ text. GoesOn (holding old text) k step new)

@@ -4,7 +4,7 @@ use Rattle.std.specs.Prelude.{Option, Some, None}
 use Rattle.std.specs.Option.{option_map, option_map_or}
 use Rattle.principals.specs.Table.{Table}
 use Rattle.reply_rules.specs.Lists.{Lists}
-use Rattle.client_verify.specs.Good.{Good}
+use Rattle.reply_check.specs.Good.{Good}
 use Rattle.client_verify.specs.State.{State, AcceptedView, Checked, Reading, Writing}
 
 -- the lists of a reply under check that break no rule

@@ -1,9 +1,6 @@
-pub mod FirstBroken
-pub mod Good
 pub mod State
 pub mod Judged
 pub mod Looked
 pub mod Laid
-pub mod Reached
-pub mod Verified
+pub mod Told
 pub mod JudgedLast

@@ -1,9 +1,8 @@
 -- A client as a machine: its state, and what each call makes of it.
-use Rattle.std.specs.Prelude.{◌≡◌, ℕ, ◌+◌, Bool, false, List, [], ◌∷◌, fold, Option, Some, None, IfSome, IsSomeAnd, if◌then◌else◌}
+use Rattle.std.specs.Prelude.{◌≡◌, ℕ, ◌+◌, List, [], fold, Option, Some, None, IfSome, IsSomeAnd}
 use Rattle.std.specs.Option.{option_map_or}
 use Rattle.std.specs.Ordering.{nat_cmp}
 use Rattle.layout.specs.Ascending.{with_row}
-use Rattle.layout.specs.Hash.{hash}
 use Rattle.layout.specs.Types.{Bytes, Digest, Handle, Key, User, Version}
 use Rattle.leaf_ledger.specs.Ledger.{LeafNumber}
 use Rattle.version_order.specs.declared.structure.GroupRecord.{GroupRecord}
@@ -11,29 +10,23 @@ use Rattle.version_order.specs.Plan.{Plan}
 use Rattle.version_order.specs.Structure.{Structure, group_of, structure}
 use Rattle.update_cert.specs.Change.{Change}
 use Rattle.update_cert.specs.Cert.{Cert, cert}
-use Rattle.update_cert.specs.Blocks.{Blocks}
-use Rattle.update_cert.specs.Spot.{takes}
 use Rattle.client_tree.specs.Held.{Block, keeping, keeping_all}
 use Rattle.client_tree.specs.Genesis.{first_blocks}
 use Rattle.principals.specs.Table.{Table}
 use Rattle.pending_list.specs.declared.signed.Signed.{Signed}
 use Rattle.pending_list.specs.Signed.{signed}
-use Rattle.pending_list.specs.Reply.{Reply, digest_of_last, user_of}
+use Rattle.pending_list.specs.Reply.{Reply, digest_of_last}
 use Rattle.reply_rules.specs.Lists.{Lists, lists_of}
-use Rattle.reply_rules.specs.Broken.{least}
-use Rattle.reply_rules.specs.declared.rule.Rule.{Rule}
-use Rattle.reply_rules.specs.declared.rule.Rule.TheVariants as rule
-use Rattle.std.specs.Str.{bytes_eq}
 use Rattle.wire.specs.declared.kinds.Status.{Status}
 use Rattle.wire.specs.declared.kinds.Status.TheVariants as status
 use Rattle.client_releases.specs.declared.phase.Phase.{Phase}
 use Rattle.client_releases.specs.declared.phase.Phase.TheVariants as phase
-use Rattle.client_verify.specs.declared.asked.Asked.{Asked}
+use Rattle.reply_check.specs.declared.asked.Asked.{Asked}
 use Rattle.client_verify.specs.declared.view.Looking.{Looking}
 use Rattle.client_verify.specs.declared.view.Stage.{Stage as Held}
 use Rattle.client_verify.specs.declared.view.Stage.TheVariants as stage
-use Rattle.client_verify.specs.FirstBroken.{Known}
-use Rattle.client_verify.specs.Good.{Good}
+use Rattle.reply_check.specs.FirstBroken.{Known}
+use Rattle.reply_check.specs.Good.{Good, with_own}
 use Rattle.client_releases.specs.Releasing.{Devices}
 use Rattle.client_releases.specs.Told.{Released, sent, signed_by}
 
@@ -119,8 +112,16 @@ opened pinned r = record {
 -- what the client has released, with its devices
 abbrev pub released : State → Released
 released s =
-    record { user = s.user; seed = s.seed; id = s.id; devices = s.devices; number = s.number; last = s.last;
-    phase = s.phase; text = s.text }
+    record {
+      user = s.user;
+      seed = s.seed;
+      id = s.id;
+      devices = s.devices;
+      number = s.number;
+      last = s.last;
+      phase = s.phase;
+      text = s.text;
+    }
 
 -- the state with these devices
 abbrev pub on : Devices → State → State
@@ -156,18 +157,6 @@ declared s leaf changes laid = record (laying laid s) {
 
 -- ---- judging
 
--- a block was handed in, and has the digest that was asked for
-abbrev pub block : Asked → Option Bytes → Bool
-block a handed = option_map_or (λ b. bytes_eq (hash b) a.digest) handed false
-
--- it is what its place asks for
-abbrev pub content : Blocks → Asked → Option Bytes → Bool
-content blocks a handed = option_map_or (takes blocks a.spot) handed false
-
--- the first of these rules that what was handed in for a block breaks
-abbrev pub block_breaks : Blocks → Asked → Option Bytes → Option Rule
-block_breaks blocks a handed = least ((rule.Block, block a handed) ∷ (rule.Content, content blocks a handed) ∷ [])
-
 -- the state with one block more
 abbrev pub holding : State → Bytes → State
 holding s block = record s { blocks = keeping s.blocks block }
@@ -201,15 +190,16 @@ signed_structure s leaf r = signed_by s.seed s.id leaf (next_structure s r)
 abbrev pub signed_text : State → LeafNumber → Ready → Bytes
 signed_text s leaf r = (signed structure).spell (signed_structure s leaf r)
 
--- the structures, which ascend by user, with this one in its user's place
-abbrev pub with_own : Signed Structure → List (Signed Structure) → List (Signed Structure)
-with_own z zs = with_row nat_cmp user_of zs z
-
 -- the view of an accepted reply
 abbrev pub view_of : State → LeafNumber → Ready → AcceptedView
 view_of s leaf r =
-    record { lists = r.lists; table = r.table; structures = with_own (signed_structure s leaf r) r.lists.structures;
-    lost = r.lost; looking = None }
+    record {
+      lists = r.lists;
+      table = r.table;
+      structures = with_own (signed_structure s leaf r) r.lists.structures;
+      lost = r.lost;
+      looking = None;
+    }
 
 -- the state after the structure over an accepted reply is signed by this leaf
 abbrev pub signed_over : State → LeafNumber → Ready → State

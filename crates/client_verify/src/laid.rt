@@ -4,9 +4,9 @@ ghost use Rattle.std.specs.Prelude.{◌≡◌, ◌==◌, IfOk, length, map, fals
 ghost use Rattle.std.specs.Option.{option_map_or};
 ghost use Rattle.std.specs.List.{list_all};
 ghost use Rattle.std.specs.Vec.{vec_items};
-ghost use Rattle.client_tree.specs.Held.{held};
 ghost use Rattle.update_cert.specs.Change.{action_of};
 ghost use Rattle.update_cert.specs.Spot.{size_of_block};
+ghost use Rattle.client_tree.specs.Held.{held};
 ghost use Rattle.client_tree.specs.Genesis.{inode_digest, root_inode};
 ghost use Rattle.client_verify.specs.Laid.{are_blocks_laid, are_laid, is_file_laid, is_laid};
 

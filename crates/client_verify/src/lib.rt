@@ -2,19 +2,16 @@
 //! stands in the accepted view.
 #![tactic(auto)]
 
-mod asked;
-mod by_table;
-mod checking;
 mod client;
-mod good;
-mod known;
+mod declaring;
+mod judging;
+mod keeping;
 mod laid;
-mod lists;
 mod look;
-mod reaching;
+mod looking;
+mod signing;
 mod step;
 mod structure;
-mod verdict;
 mod view;
 
 pub use client::Client;

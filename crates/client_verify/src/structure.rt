@@ -6,7 +6,7 @@ ghost use Rattle.version_order.specs.Structure.{structure};
 ghost use Rattle.client_verify.specs.State.{structure_over};
 
 use client_releases::Unsigned;
-use layout::{Digest, Memory, Text};
+use layout::{Digest, Memory, Text, beside};
 use pending_list::Signed;
 use std::alloc::Allocator;
 use version_order::{GroupRecord, GroupRecords, Plan, Structure};
@@ -41,6 +41,22 @@ pub(crate) struct Draft<A: Allocator> {
     pub(crate) text: Unsigned<A>,
 }
 
+/// The structure once more, and its text.
+fn shown_with_text<A: Allocator + Copy>(
+    alloc: A,
+    next: &Structure<A>,
+) -> Result<(Structure<A>, Unsigned<A>), Memory>
+    ensures shown { IfOk result (λ both. both.0 ≡ next.now) }
+    ensures text { IfOk result (λ both. both.1 ≡ structure.spell next.now) }
+    ensures fits { IfOk result (λ _. structure.Fits next.now) }
+{
+    // Its own contract says that it fits its text.
+    let _plan = next.plan();
+    let text = Unsigned::new(alloc, next.text(alloc)?)?;
+    let shown = next.copy(alloc)?;
+    Ok((shown, text))
+}
+
 /// The structure over a plan, with these new records of groups. All growths are here.
 pub(crate) fn draft_over<A: Allocator + Copy>(
     alloc: A,
@@ -56,10 +72,8 @@ pub(crate) fn draft_over<A: Allocator + Copy>(
     ensures fits { IfOk result (λ d. structure.Fits d.structure) }
 {
     let structure = structure_over(alloc, handle, records, last, plan)?;
-    // Its own contract says that it fits its text.
-    let _plan = structure.plan();
-    let shown = structure.copy(alloc)?;
-    let text = Unsigned::new(alloc, structure.text(alloc)?)?;
+    let copied = shown_with_text(alloc, &structure);
+    let (structure, (shown, text)) = beside(structure, copied)?;
     Ok(Draft {
         structure,
         shown,

@@ -1,10 +1,8 @@
 //! What a client keeps of replies: one under check, one that was accepted, and the view that was signed.
 
-use crate::asked::Asked;
-use crate::good::Good;
-use crate::lists::Admitted;
 use layout::{Digest, INumber, Principal};
 use pending_list::Signed;
+use reply_check::{Admitted, Asked, Good};
 use std::alloc::Allocator;
 use std::marker::Model;
 use version_order::{GroupRecord, Structure};

@@ -47,7 +47,7 @@ invariant_of-self g c =
     let is = c.self-2.view_is ∙ c.in-Ok.ensures.laying in
     let same : c.self.inside.releases ≡ r = ap released c.self.view_is ∙ sym (ap released is) in
     let key = c.as_bytes-size.ensures.same ∙ c.key.ensures ∙ ap (λ (o : Released). public_key_of o.seed o.id) same in
-    (record { of_checked = tt; of_accepted = tt }, λ own. own_after c.declare.result r new c.as_bytes-size.result.now c.in-Ok.prepared.0 c.in-Ok.prepared.1 key c.as_bytes-size.ensures.size c.declare.ensures.declared c.declare.ensures.err (c.self-2.invariant.1 own))
+    rw (c.put_in.ensures, c.put_in-2.ensures) (record { of_checked = tt; of_accepted = tt }, λ own. own_after c.declare.result r new c.as_bytes-size.result.now c.in-Ok.prepared.0 c.in-Ok.prepared.1 key c.as_bytes-size.ensures.size c.declare.ensures.declared c.declare.ensures.err (c.self-2.invariant.1 own))
 
 pub returns-clause-declared : goal.returns-clause-declared
 returns-clause-declared g c =
@@ -56,8 +56,8 @@ returns-clause-declared g c =
     let new = c.declare.new.self in
     let laid = map vec_items c.args.laid.now in
     let is = c.self-2.view_is ∙ c.in-Ok.ensures.laying in
-    on_ok_weaker c.declare.result
-    (λ d. begun r new s c.self-2.inside.pinned c.self-2.inside.blocks c.self-2.inside.checked c.self-2.inside.accepted c.self-2.inside.view laid is c.args.changes.now c.in-Ok.prepared.1 c.in-Ok.prepared.0 d.0 c.in-Ok.ensures.text c.in-Ok.ensures.number d.1 d.2) c.declare.ensures.declared
+    rw (c.put_in.ensures, c.put_in-2.ensures) (on_ok_weaker c.declare.result
+    (λ d. begun r new s c.self-2.inside.pinned c.self-2.inside.blocks c.self-2.inside.checked c.self-2.inside.accepted c.self-2.inside.view laid is c.args.changes.now c.in-Ok.prepared.1 c.in-Ok.prepared.0 d.0 c.in-Ok.ensures.text c.in-Ok.ensures.number d.1 d.2) c.declare.ensures.declared)
 
 pub returns-clause-any_moment : goal.returns-clause-any_moment
 returns-clause-any_moment g c =
@@ -101,7 +101,7 @@ returns-clause-fails g c fault =
     let new = c.declare.new.self in
     let laid = map vec_items c.args.laid.now in
     let is = c.self-2.view_is ∙ c.in-Ok.ensures.laying in
-    begun_failed r new s c.self-2.inside.pinned c.self-2.inside.blocks c.self-2.inside.checked c.self-2.inside.accepted c.self-2.inside.view laid is (err_at c.declare.result error.Device c.declare.ensures.err fault)
+    rw (c.put_in.ensures, c.put_in-2.ensures) (begun_failed r new s c.self-2.inside.pinned c.self-2.inside.blocks c.self-2.inside.checked c.self-2.inside.accepted c.self-2.inside.view laid is (err_at c.declare.result error.Device c.declare.ensures.err fault))
 
 pub returns-clause-fits : goal.returns-clause-fits
 returns-clause-fits g c = ok_either c.declare.result c.in-Ok.ensures.fits

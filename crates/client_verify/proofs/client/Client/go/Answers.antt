@@ -1,8 +1,8 @@
 use Rattle.std.proofs.Common.{◌≡◌, List, map, refl, subst}
 use Rattle.client_tree.specs.Held.{held}
-use Rattle.client_verify.specs.declared.reaching.Written.{Written}
-use Rattle.client_verify.specs.Reached.{IsWritten}
-use Rattle.client_verify.specs.Judged.{record_over, view_of}
+use Rattle.reply_check.specs.declared.reaching.Written.{Written}
+use Rattle.reply_check.specs.Reached.{IsWritten}
+use Rattle.reply_check.specs.Good.{record_over, view_of}
 use Rattle.client_verify.proofs.Steps.{goes_need, ready_is}
 use Rattle.client_verify.proofs.client.Client.go.Goals as goal
 
@@ -22,4 +22,4 @@ returns-in-Parts g c =
     let own = w.0 in
     let groups = w.1 in
     let is = w.2 in
-    (own, groups, made.lost.items, ready_is _ old x x made.handle own.handle made.records.items (map (record_over x.lists.own.plan) groups) made.lost.items c.self.view_is refl is.0 is.1, w.3, w.4, is.2)
+    rw (c.put_in.ensures, c.put_in-in-Parts.ensures) (own, groups, made.lost.items, ready_is _ old x x made.handle own.handle made.records.items (map (record_over x.lists.own.plan) groups) made.lost.items c.self.view_is refl is.0 is.1, w.3, w.4, is.2)

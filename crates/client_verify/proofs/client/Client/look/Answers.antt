@@ -1,7 +1,7 @@
 use Rattle.std.proofs.Common.{◌≡◌, Some, ap, ◌∙◌, rules}
 use Rattle.client_tree.specs.Held.{held}
-use Rattle.client_verify.specs.Reached.{IsAnswer}
-use Rattle.client_verify.specs.FirstBroken.{view_over}
+use Rattle.reply_check.specs.Reached.{IsAnswer}
+use Rattle.reply_check.specs.FirstBroken.{view_over}
 use Rattle.client_verify.specs.State.{State, AcceptedView}
 use Rattle.client_verify.proofs.Steps.{if_some, shown_there}
 use Rattle.client_verify.proofs.client.Client.look.Goals as goal

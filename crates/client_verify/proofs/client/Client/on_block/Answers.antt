@@ -3,7 +3,8 @@ use Rattle.std.specs.Option.{option_copied}
 use Rattle.std.proofs.lemmas.Result.{IfOk-from_err, IfOk-weaker}
 use Rattle.reply_rules.specs.declared.rule.Rule.TheVariants as rule
 use Rattle.client_tree.specs.Held.{held}
-use Rattle.client_verify.specs.State.{State, asked_of, block_breaks}
+use Rattle.client_verify.specs.State.{State, asked_of}
+use Rattle.reply_check.specs.AskedBlock.{block_breaks}
 use Rattle.client_verify.specs.Judged.{IsReading, IsWriting}
 use Rattle.client_verify.proofs.Steps.{handed_goes, if_some, some_one}
 use Rattle.client_verify.proofs.Handing.{breaks_after, breaks_before, handed_reads, if_at}
@@ -67,3 +68,25 @@ returns-else-reads-clause-handed g c =
     let none = breaks_after _ old c.asked-asked.result (asked_of k) block None c.self.view_is c.asked-asked.ensures inner_none in
     let is : block ≡ Some text = search rules in
     if_some old.checked k _ there (IfOk-weaker c.write_on.result _ _ (λ st goes. handed_goes old k block text st c.write_on.new.self none is goes) (if_at old.checked k _ there c.write_on.ensures.goes))
+
+pub returns-then-reads-clause-told : goal.returns-then-reads-clause-told
+returns-then-reads-clause-told g c =
+    let old = c.args.self.now in
+    let k = c.in-Some.checked in
+    let block = option_copied c.args.block in
+    let inner : c.self.inside.checked ≡ Some k = search rules in
+    let there : old.checked ≡ Some k = ap (λ (s : State). s.checked) (sym c.self.view_is) ∙ inner in
+    let inner_none : block_breaks (held c.self.inside.blocks) c.asked-asked.result block ≡ None = search rules in
+    let none = breaks_after _ old c.asked-asked.result (asked_of k) block None c.self.view_is c.asked-asked.ensures inner_none in
+    if_some old.checked k _ there (λ is. absurd (cc (none, is)))
+
+pub returns-else-reads-clause-told : goal.returns-else-reads-clause-told
+returns-else-reads-clause-told g c =
+    let old = c.args.self.now in
+    let k = c.in-Some.checked in
+    let block = option_copied c.args.block in
+    let inner : c.self.inside.checked ≡ Some k = search rules in
+    let there : old.checked ≡ Some k = ap (λ (s : State). s.checked) (sym c.self.view_is) ∙ inner in
+    let inner_none : block_breaks (held c.self.inside.blocks) c.asked-asked.result block ≡ None = search rules in
+    let none = breaks_after _ old c.asked-asked.result (asked_of k) block None c.self.view_is c.asked-asked.ensures inner_none in
+    if_some old.checked k _ there (λ is. absurd (cc (none, is)))

@@ -1,7 +1,7 @@
 use Rattle.std.proofs.Common.{◌≡◌, Some, None, refl, rules}
-use Rattle.client_verify.specs.declared.reaching.Reached.TheVariants as reached
-use Rattle.client_verify.specs.Good.{Good}
-use Rattle.client_verify.specs.FirstBroken.{reply_breaks, reply_in}
+use Rattle.reply_check.specs.declared.reaching.Reached.TheVariants as reached
+use Rattle.reply_check.specs.Good.{Good}
+use Rattle.reply_check.specs.FirstBroken.{reply_breaks, reply_in}
 use Rattle.client_verify.specs.State.{known}
 use Rattle.client_verify.proofs.Handing.{at_one, good_written, judged_breaks, judged_of, reached_there, taken_good, taken_lacks}
 use Rattle.client_verify.proofs.client.Client.on_reply.Goals as goal

@@ -3,7 +3,7 @@ use Rattle.lms_sign.specs.Keys.{public_key_of}
 use Rattle.leaf_ledger.proofs.Lives.{no_call}
 use Rattle.client_releases.proofs.Opening.{ledger_refused}
 use Rattle.client_verify.proofs.GenesisLaws.{has_genesis, has_table}
-use Rattle.client_verify.proofs.VerifiedLaws.{owns_nothing}
+use Rattle.reply_check.proofs.VerifiedLaws.{owns_nothing}
 use Rattle.client_verify.proofs.client.Client.open.Goals as goal
 
 pub returns-in_default-clause-moments_err : goal.returns-in_default-clause-moments_err

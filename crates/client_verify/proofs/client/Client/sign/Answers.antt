@@ -10,7 +10,7 @@ use Rattle.client_releases.specs.Told.{Released, sent}
 use Rattle.client_verify.specs.State.{IsOfDeclared, Ready, State, next_structure, released, signed_text}
 use Rattle.client_verify.proofs.Handing.{if_at}
 use Rattle.client_verify.proofs.Steps.{if_some}
-use Rattle.client_verify.proofs.Releasing.{always, no_full, not_full_error, nothing_replied, own_signed, refused_moments, refused_tried, seen, shown_is, signed_of, stands_ready, view_is}
+use Rattle.client_verify.proofs.Releasing.{always, no_full, not_full_error, nothing_replied, own_failed, own_signed, refused_moments, refused_tried, seen, shown_is, signed_of, stands_ready, view_is}
 use Rattle.client_verify.proofs.client.Client.sign.Goals as goal
 
 pub returns-then-not-has_free_leaf-clause-tried : goal.returns-then-not-has_free_leaf-clause-tried
@@ -32,10 +32,17 @@ returns-in-Err-clause-no_leaf g c = (λ is. absurd (cc is), λ full. absurd (no_
 
 pub invariant_of-self : goal.invariant_of-self
 invariant_of-self g c =
-    let d = c.in-Ok-sign.ensures.signed in (
+    let d = c.in-Ok-sign.ensures.signed in
+    rw c.put_in.ensures (
       nothing_replied c.sign.new.self c.take.new.self c.take.ensures.after,
       λ _. own_signed c.self.inside.releases c.as_bytes-size.result.now (c.as_bytes-size.ensures.same ∙ c.key.ensures) c.as_bytes-size.ensures.size d.0 d.1.least.below c.sign.new.self c.in-Ok.drawn.0.structure c.in-Ok.drawn.0.text d.2,
     )
+
+pub invariant_of-self-in-Err-sign : goal.invariant_of-self-in-Err-sign
+invariant_of-self-in-Err-sign g c = rw c.put_in.ensures (
+  nothing_replied c.sign.new.self c.take.new.self c.take.ensures.after,
+  λ own. own_failed c.self.inside.releases c.sign.new.self c.in-Err-sign.ensures.err (c.self.invariant.1 own),
+)
 
 pub returns-in-Ok-sign-clause-signed : goal.returns-in-Ok-sign-clause-signed
 returns-in-Ok-sign-clause-signed g c =
@@ -51,7 +58,7 @@ returns-in-Ok-sign-clause-signed g c =
     let of_shown = shown_is r new s c.self.inside.pinned c.self.inside.blocks c.self.inside.checked c.self.inside.accepted c.self.inside.view c.self.view_is y d.0 c.in-Ok.drawn.0.structure c.in-Ok.drawn.0.shown c.in-Ok-sign.signature (sent r d.0 c.in-Ok.drawn.0.text) next c.in-Ok.ensures.shown c.in-Ok-sign.ensures.signature d.2 in
     let shown = view_is r new s c.self.inside.pinned c.self.inside.blocks c.self.inside.checked c.self.inside.accepted c.self.inside.view c.self.view_is y d.0 c.ready.inside.good.lists c.ready.inside.good.table _ c.with_own.result.items c.in-Ok.drawn.1.items c.ready.inside.lost.items
     (ap (λ (q : Ready). q.lists) c.ready.view_is) (ap (λ (q : Ready). q.table) c.ready.view_is) (ap (λ (q : Ready). q.lost) c.ready.view_is) of_shown c.with_own.ensures copied in
-    if_some s.accepted y _ there (signed_of r new s c.self.inside.pinned c.self.inside.blocks c.self.inside.checked c.self.inside.accepted c.self.inside.view c.self.view_is y d.0 c.in-Ok.drawn.0.structure c.in-Ok.drawn.0.text c.take.new.self _ c.take.ensures.after next c.in-Ok.ensures.text d.1 d.2 shown)
+    rw (c.put_in.ensures, c.put_in-in-Ok-sign.ensures) (if_some s.accepted y _ there (signed_of r new s c.self.inside.pinned c.self.inside.blocks c.self.inside.checked c.self.inside.accepted c.self.inside.view c.self.view_is y d.0 c.in-Ok.drawn.0.structure c.in-Ok.drawn.0.text c.take.new.self _ c.take.ensures.after next c.in-Ok.ensures.text d.1 d.2 shown))
 
 pub returns-in-Ok-sign-clause-any_moment : goal.returns-in-Ok-sign-clause-any_moment
 returns-in-Ok-sign-clause-any_moment g c =

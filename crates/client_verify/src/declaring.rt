@@ -1,0 +1,136 @@
+//! The client declares an operation: its certificate is signed, and stands in the journal before it is handed out.
+
+ghost use Rattle.std.specs.Prelude.{◌+◌, ◌↔◌, ◌≡◌, ◌≢◌, ◌≤◌, ◌⊎◌, IfErr, IfOk, IsErrOf, OnErr, OnOk, length, map, true};
+ghost use Rattle.std.specs.Vec.{vec_items};
+ghost use Rattle.layout.specs.Ranges.{last_version};
+ghost use Rattle.leaf_ledger.specs.Ledger.{IsFull, IsLeastFree, LeafNumber};
+ghost use Rattle.update_cert.specs.Cert.{cert};
+ghost use Rattle.client_releases.specs.Releasing.{AnyMoment, IsKept, IsTried, OneHasRisen, cert_record};
+ghost use Rattle.client_verify.specs.Laid.{are_laid};
+ghost use Rattle.client_verify.specs.State.{declared, declared_text, failed, laying, next_cert, on};
+
+use crate::client::Client;
+use crate::laid::copies;
+use client_releases::{ClientError, Phase, Unsigned};
+use layout::{Memory, Version, put_in};
+use leaf_ledger::Device;
+use pending_list::digest_of_last;
+use std::alloc::Allocator;
+use update_cert::{Change, MOST_CHANGES, cert_text};
+
+impl<L: Device, J: Device, A: Allocator + Copy> Client<L, J, A> {
+    /// The number of the next operation, where a leaf is free.
+    fn next_number(&self) -> Result<Version, ClientError>
+        requires { self.now.phase ≡ Phase.Idle }
+        ensures number { IfOk result (λ number. number ≡ self.now.number + 1) }
+        ensures no_leaf { IsErrOf result ClientError.NoLeaf ↔ IsFull self.now.devices.ledger.file.now.text }
+        ensures no_number { IsErrOf result ClientError.NoNumber
+            ↔ ((self.now.number ≡ last_version) × (IsFull self.now.devices.ledger.file.now.text → ⊥)) }
+        ensures only { IfErr result (λ e. (e ≡ ClientError.NoLeaf) ⊎ (e ≡ ClientError.NoNumber)) }
+    {
+        if !self.releases.has_free_leaf() {
+            return Err(ClientError::NoLeaf);
+        }
+        match self.releases.number().checked_add(1).and_then(Version::new) {
+            Some(number) => Ok(number),
+            None => Err(ClientError::NoNumber),
+        }
+    }
+
+    /// The certificate of these changes, not signed yet. What was laid out for it is held.
+    fn certificate(
+        &mut self,
+        number: Version,
+        changes: &[Change<A>],
+        laid: &[Vec<u8, A>],
+    ) -> Result<Unsigned<A>, Memory>
+        requires number { number ≡ self.old.number + 1 }
+        requires few { length changes.now ≤ MOST_CHANGES }
+        ensures laying { OnOk result (self.new ≡ laying (map vec_items laid.now) self.old) }
+        ensures text { IfOk result (λ unsigned. unsigned ≡ cert.spell (next_cert self.old changes.now)) }
+        ensures fits { OnOk result (cert.Fits (next_cert self.old changes.now)) }
+        ensures err { OnErr result (self.new ≡ self.old) }
+    {
+        let last = digest_of_last(self.alloc, self.releases.last())?;
+        let text = cert_text(self.alloc, self.releases.user(), number, last, changes)?;
+        let unsigned = Unsigned::new(self.alloc, text)?;
+        let laid = copies(self.alloc, laid)?;
+        self.blocks.keep_all(laid)?;
+        Ok(unsigned)
+    }
+
+    /// The next certificate, of these changes, with its number: all that it takes of memory is there, and what was laid
+    /// out for it is held.
+    fn prepare(
+        &mut self,
+        changes: &[Change<A>],
+        laid: &[Vec<u8, A>],
+    ) -> Result<(Version, Unsigned<A>), ClientError>
+        requires idle { self.old.phase ≡ Phase.Idle }
+        requires few { length changes.now ≤ MOST_CHANGES }
+        ensures laying { OnOk result (self.new ≡ laying (map vec_items laid.now) self.old) }
+        ensures number { IfOk result (λ p. p.0 ≡ self.old.number + 1) }
+        ensures text { IfOk result (λ p. p.1 ≡ cert.spell (next_cert self.old changes.now)) }
+        ensures fits { OnOk result (cert.Fits (next_cert self.old changes.now)) }
+        ensures free { OnOk result (IsFull self.old.devices.ledger.file.now.text → ⊥) }
+        ensures below { OnOk result (self.old.number ≢ last_version) }
+        ensures no_leaf { IsErrOf result ClientError.NoLeaf ↔ IsFull self.old.devices.ledger.file.now.text }
+        ensures no_number { IsErrOf result ClientError.NoNumber
+            ↔ ((self.old.number ≡ last_version) × (IsFull self.old.devices.ledger.file.now.text → ⊥)) }
+        ensures only { IfErr result (λ e. (e ≢ ClientError.Device) × (e ≢ ClientError.Foreign)
+            × (e ≢ ClientError.Damaged)) }
+        ensures err { OnErr result (self.new ≡ self.old) }
+    {
+        let number = match self.next_number() {
+            Ok(number) => number,
+            Err(error) => return Err(error),
+        };
+        match self.certificate(number, changes, laid) {
+            Ok(unsigned) => Ok((number, unsigned)),
+            Err(_) => Err(ClientError::Memory),
+        }
+    }
+
+    /// Declares the next operation, and gives its signed certificate, which stands in the journal by then. What was
+    /// laid out for it is held. All growths come before the leaf is taken. After Device the client has to be opened
+    /// again.
+    pub fn begin(
+        &mut self,
+        changes: &[Change<A>],
+        laid: &[Vec<u8, A>],
+    ) -> Result<Vec<u8, A>, ClientError>
+        requires idle { self.old.phase ≡ Phase.Idle }
+        requires few { length changes.now ≤ MOST_CHANGES }
+        requires laid { are_laid (map vec_items laid.now) changes.now ≡ true }
+        ensures declared { OnOk result ((leaf : LeafNumber)
+            × IsKept leaf (cert_record (declared_text self.old leaf changes.now)) self.old.devices self.new.devices
+            × (self.new ≡ on self.new.devices (declared self.old leaf changes.now (map vec_items laid.now)))) }
+        ensures text { IfOk result (λ text. text.items ≡ self.new.text) }
+        // What a crash leaves at any moment of the call, whatever it answers.
+        ensures any_moment { (leaf : LeafNumber) → IsLeastFree self.old.devices.ledger.file.now.text leaf
+            → AnyMoment leaf (cert_record (declared_text self.old leaf changes.now)) self.old.devices self.new.devices }
+        ensures tried { OnErr result (IsTried (λ leaf. cert_record (declared_text self.old leaf changes.now))
+            self.old.devices self.new.devices) }
+        ensures no_leaf { IsErrOf result ClientError.NoLeaf ↔ IsFull self.old.devices.ledger.file.now.text }
+        ensures no_number { IsErrOf result ClientError.NoNumber
+            ↔ ((self.old.number ≡ last_version) × (IsFull self.old.devices.ledger.file.now.text → ⊥)) }
+        ensures rose { IsErrOf result ClientError.Device → OneHasRisen self.old.devices self.new.devices }
+        ensures fails { IsErrOf result ClientError.Device
+            → self.new ≡ on self.new.devices (failed (laying (map vec_items laid.now) self.old)) }
+        // What is signed can be read again.
+        ensures fits { OnOk result (cert.Fits (next_cert self.old changes.now)) }
+        ensures fits_device { IsErrOf result ClientError.Device → cert.Fits (next_cert self.old changes.now) }
+        ensures only { IfErr result (λ e. (e ≢ ClientError.Foreign) × (e ≢ ClientError.Damaged)) }
+        ensures err { IfErr result (λ e. e ≢ ClientError.Device → self.new ≡ self.old) }
+    {
+        self.releases.stands();
+        let _size = self.releases.key().as_bytes();
+        let (number, unsigned) = match self.prepare(changes, laid) {
+            Ok(prepared) => prepared,
+            Err(error) => return Err(error),
+        };
+        put_in(&mut self.checked, None);
+        put_in(&mut self.accepted, None);
+        self.releases.declare(number, unsigned)
+    }
+}
