@@ -13,11 +13,12 @@ ghost use Rattle.reply_check.specs.Good.{with_own};
 ghost use Rattle.reply_check.specs.Verified.{AreSupers};
 
 use client_tree::View;
+use first_rule::broken;
 use layout::{Memory, User};
 use lms_sign::PublicKey;
 use pending_list::{PendingItem, Reply, Signed};
 use principals::Table;
-use reply_rules::{Rule, broken};
+use reply_rules::Rule;
 use std::alloc::Allocator;
 use std::marker::Model;
 use version_order::Structure;
