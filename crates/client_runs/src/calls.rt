@@ -15,7 +15,7 @@ use client_verify::{Client, ClientError, Look, Phase, Step, are_laid};
 use layout::{INumber, Memory, Principal, are_bytes};
 use pending_list::Signed;
 use std::alloc::Allocator;
-use update_cert::Change;
+use update_cert::{Change, MOST_CHANGES};
 use version_order::Structure;
 use wire::Status;
 
@@ -41,7 +41,7 @@ pub(crate) fn begin<A: Allocator + Copy>(
         ((client.new ≡ client.old) × CantBegin client.old changes.now (map vec_items laid.now))
         (λ answer. HasBegun client.old changes.now (map vec_items laid.now) (on_ok vec_items answer) client.new)) }
 {
-    if !is_idle(client) || changes.len() > 16 || !are_laid(alloc, laid, changes)? {
+    if !is_idle(client) || changes.len() > MOST_CHANGES || !are_laid(alloc, laid, changes)? {
         return Ok(None);
     }
     Ok(Some(client.begin(changes, laid)))

@@ -9,7 +9,7 @@ ghost use Rattle.client_runs.specs.Steps.{first};
 use crate::laws::{each_is_used_once, runs_agree};
 use crate::slot::{Orders, Slot, key_of, step};
 use crate::world::{Answer, World, WorldStep};
-use layout::{Memory, User};
+use layout::{Memory, User, put_in};
 use lms_sign::PublicKey;
 use std::alloc::Allocator;
 use std::cell::Cell;
@@ -77,7 +77,7 @@ impl<A: Allocator + Copy> Clients<A> {
         let place = user.get() as usize;
         let slot = mem::replace(&mut self.slots[place], Slot::Unmade);
         let (slot, answer) = step(self.alloc, user, self.pinned, &self.orders, slot, &todo.act)?;
-        self.slots[place] = slot;
+        put_in(&mut self.slots[place], slot);
         Ok(answer)
     }
 }

@@ -14,7 +14,7 @@ use crate::armed::{ArmedDevice, Order};
 use crate::calls::{MemoryClient, stands};
 use crate::world::{Act, Answer};
 use client_verify::{Client, Parts, Phase};
-use layout::{Memory, User};
+use layout::{Memory, User, beside, let_go};
 use lms_sign::{PrivateKey, PublicKey};
 use std::alloc::Allocator;
 
@@ -98,8 +98,9 @@ fn open<A: Allocator + Copy>(
     match Client::open(alloc, user, key, pinned, ledger, journal) {
         Ok(client) => {
             stands(&client);
-            let text = resent(alloc, &client)?;
             let phase = client.phase();
+            let text = resent(alloc, &client);
+            let (client, text) = beside(client, text)?;
             Ok((Slot::Open(client), Answer::Opened(phase, text)))
         }
         Err((error, parts)) => Ok((Slot::Closed(parts), Answer::Refused(error))),
@@ -120,6 +121,46 @@ fn may_leave<A: Allocator + Copy>(
     ledger.may_leave(ledger_left) && journal.may_leave(journal_left)
 }
 
+/// A device after a crash that left these bytes: what a crash may leave it leaves, unless memory runs out.
+fn left_over<A: Allocator + Copy>(
+    alloc: A,
+    device: ArmedDevice<A>,
+    left: &[u8],
+) -> Result<ArmedDevice<A>, Memory>
+    ensures { IfOk result (λ after. after.history ≡ started left.now) }
+{
+    let left = Vec::from_slice(alloc, left);
+    let (device, left) = beside(device, left)?;
+    match device.crash(left) {
+        Ok(after) => Ok(after),
+        Err(refused) => {
+            let_go(refused);
+            Err(Memory)
+        }
+    }
+}
+
+/// Both devices after a crash that left these bytes.
+fn both_left_over<A: Allocator + Copy>(
+    alloc: A,
+    ledger: ArmedDevice<A>,
+    journal: ArmedDevice<A>,
+    ledger_left: &[u8],
+    journal_left: &[u8],
+) -> Result<(ArmedDevice<A>, ArmedDevice<A>), Memory>
+    ensures ledger { IfOk result (λ both. both.0.history ≡ started ledger_left.now) }
+    ensures journal { IfOk result (λ both. both.1.history ≡ started journal_left.now) }
+{
+    let journal = left_over(alloc, journal, journal_left);
+    match left_over(alloc, ledger, ledger_left) {
+        Ok(ledger) => beside(ledger, journal),
+        Err(error) => {
+            let_go(journal);
+            Err(error)
+        }
+    }
+}
+
 /// What is on the devices after a crash that left these bytes, as it may.
 fn crash<A: Allocator + Copy>(
     alloc: A,
@@ -132,22 +173,18 @@ fn crash<A: Allocator + Copy>(
     ensures journal { IfOk result (λ p. p.journal.history ≡ started journal_left.now) }
     ensures key { IfOk result (λ p. p.key ≡ parts.key) }
 {
-    let ledger_left = Vec::from_slice(alloc, ledger_left)?;
-    let journal_left = Vec::from_slice(alloc, journal_left)?;
     let Parts {
         key,
         ledger,
         journal,
     } = parts;
-    match (ledger.crash(ledger_left), journal.crash(journal_left)) {
-        (Ok(ledger), Ok(journal)) => Ok(Parts {
-            key,
-            ledger,
-            journal,
-        }),
-        // What a crash may leave it leaves, unless memory runs out.
-        _ => Err(Memory),
-    }
+    let devices = both_left_over(alloc, ledger, journal, ledger_left, journal_left);
+    let (key, (ledger, journal)) = beside(key, devices)?;
+    Ok(Parts {
+        key,
+        ledger,
+        journal,
+    })
 }
 
 /// A step of a closed client.
@@ -197,8 +234,9 @@ fn open_step<A: Allocator + Copy>(
         }
         _ => {
             let mut client = client;
-            let answer = call(alloc, &mut client, act)?;
+            let answer = call(alloc, &mut client, act);
             stands(&client);
+            let (client, answer) = beside(client, answer)?;
             Ok((Slot::Open(client), answer))
         }
     }

@@ -4,15 +4,15 @@ use Rattle.client_runs.specs.Carried.{script_keys}
 use Rattle.client_runs.proofs.Taking as taking
 use Rattle.client_runs.proofs.slot.open.Goals as goal
 
-pub returns-in_ok-text-in-Ok-clause-step : goal.returns-in_ok-text-in-Ok-clause-step
-returns-in_ok-text-in-Ok-clause-step g c =
+pub returns-in_ok-client-in-Ok-clause-step : goal.returns-in_ok-client-in-Ok-clause-step
+returns-in_ok-client-in-Ok-clause-step g c =
     let o : Owner = owner script_keys c.args.user in
     let p : Parts = record { ledger = c.args.parts.ledger; journal = c.args.parts.journal } in
     let key = c.args.parts.key in
     let e = c.in-Ok.ensures in
-    taking.opens o p c.in-Ok.client c.phase-phase.result c.in_ok-text-in-Ok.text
+    rw c.in_ok-client-in-Ok.ensures.same (taking.opens o p c.in-Ok.client c.phase-phase.result c.in_ok-client-in-Ok.text
     (taking.is_opened o p c.in-Ok.client c.args.pinned key.seed key.id c.requires.pinned c.requires.own.0 c.requires.own.1 e.state e.whose e.told e.moments e.used e.own e.later)
-    c.stands.ensures c.phase-phase.ensures c.in_ok-text-in-Ok.ensures
+    c.stands.ensures c.phase-phase.ensures (rw c.in_ok-client-in-Ok.ensures.ok at c.resent-text.ensures))
 
 pub returns-in-Err-clause-step : goal.returns-in-Err-clause-step
 returns-in-Err-clause-step g c =

@@ -24,14 +24,14 @@ returns-in_ok-parts-in-Crash-clause-step g c =
     (c.may_leave.ensures.yes c.if-not-may_leave.false) q
     (e.ledger ∙ ap started (c.deref-in-Crash-2.ensures.value ∙ sym left)) (e.journal ∙ ap started (c.deref-in-Crash-3.ensures.value ∙ sym kept))
 
-pub returns-in_ok-answer-in_default : goal.returns-in_ok-answer-in_default
-returns-in_ok-answer-in_default g c =
+pub returns-in_ok-client-in_default : goal.returns-in_ok-client-in_default
+returns-in_ok-client-in_default g c =
     let old = c.args.client in
-    let new = c.call.new.client in
+    let new = c.call-answer.new.client in
     let t = c.args.act.now in
-    let a = c.in_ok-answer-in_default.answer in
-    let tells : Tells old t a new = c.in_ok-answer-in_default.ensures in
-    record {
+    let a = c.in_ok-client-in_default.answer in
+    let tells : Tells old t a new = rw c.in_ok-client-in_default.ensures.ok at c.call-answer.ensures in
+    rw c.in_ok-client-in_default.ensures.same (record {
       step = λ o. tells o c.stands.ensures;
       own = λ o seed id. let same = taking.same_key o old new t a (tells o c.stands.ensures) in (same.0 ∙ seed, same.1 ∙ id);
-    }
+    })

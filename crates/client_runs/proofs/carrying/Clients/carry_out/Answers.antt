@@ -11,9 +11,9 @@ step-requires-clause-own g c =
 pub returns-clause-step : goal.returns-clause-step
 returns-clause-step g c =
     let user = c.args.todo.now.user in
-    carried c.args.self.now.slots.items c.get-place.result user c.get-place.ensures.same c.get-place.ensures.range c.requires.size
+    rw c.put_in.ensures (carried c.args.self.now.slots.items c.get-place.result user c.get-place.ensures.same c.get-place.ensures.range c.requires.size
     c.index_mut.result.now c.replace-slot.result c.index_mut.ensures.value c.replace-slot.ensures.value c.replace-slot.new.dest c.in_ok-slot.slot
-    (owner script_keys user) c.args.todo.now.act c.in_ok-slot.answer c.in_ok-slot.ensures.step
+    (owner script_keys user) c.args.todo.now.act c.in_ok-slot.answer c.in_ok-slot.ensures.step)
 
 pub returns-clause-ready : goal.returns-clause-ready
 returns-clause-ready g c =
@@ -27,8 +27,8 @@ returns-clause-ready g c =
     let same = c.get-place.ensures.same in
     let small = c.get-place.ensures.range in
     let size = c.requires.size in
-    record {
+    rw c.put_in.ensures (record {
       pinned = c.requires.pinned;
       size = same_length slots place user same small size found taken c.index_mut.ensures.value c.replace-slot.ensures.value given new;
       own = all_own slots place user same small size found taken c.index_mut.ensures.value c.replace-slot.ensures.value given new c.requires.own c.in_ok-slot.ensures.own;
-    }
+    })
