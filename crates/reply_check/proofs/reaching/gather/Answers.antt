@@ -1,6 +1,6 @@
 use Rattle.std.proofs.Common.{◌++◌, ◌∷◌, [], length, map, ap, subst, ◌∙◌, rules, arith}
 use Rattle.std.proofs.lemmas.List.{map-append}
-use Rattle.std.proofs.lemmas.List.Elements.{All-tail}
+use Rattle.std.proofs.lemmas.List.Elements.{All-head, All-tail}
 use Rattle.std.specs.List.{All, flat_map}
 use Rattle.std.specs.Vec.{vec_items}
 use Rattle.std.specs.Vec.Iter.{into_iter_items}
@@ -30,3 +30,12 @@ loop-group-preserved g c =
       texts = texts_next (λ (s : Stored). s.texts) (map vec_items c.loop-group.texts.items) (map vec_items c.append.new.self.items) (c.args.own.texts ++ flat_map (λ (s : Stored). s.texts) c.args.groups.items) group left later
           (ap (map vec_items) c.in_ok-append.ensures.items ∙ map-append vec_items c.loop-group.texts.items _ ∙ ap (λ (s : Stored). map vec_items c.loop-group.texts.items ++ s.texts) c.group.view_is) steps.0 was.texts;
     }
+
+pub record_over-requires-clause-low : goal.record_over-requires-clause-low
+record_over-requires-clause-low g c = (All-head (IsRaisedIn c.args.plan.now) c.in-Some.group (into_iter_items c.next.new.self) (subst (All (IsRaisedIn c.args.plan.now)) c.in-Some.ensures.steps.0 c.loop-group.invariant.raised)).0
+
+pub record_over-requires-clause-high : goal.record_over-requires-clause-high
+record_over-requires-clause-high g c = (All-head (IsRaisedIn c.args.plan.now) c.in-Some.group (into_iter_items c.next.new.self) (subst (All (IsRaisedIn c.args.plan.now)) c.in-Some.ensures.steps.0 c.loop-group.invariant.raised)).1
+
+pub record_over-requires-clause-raised : goal.record_over-requires-clause-raised
+record_over-requires-clause-raised g c = (All-head (IsRaisedIn c.args.plan.now) c.in-Some.group (into_iter_items c.next.new.self) (subst (All (IsRaisedIn c.args.plan.now)) c.in-Some.ensures.steps.0 c.loop-group.invariant.raised)).2
