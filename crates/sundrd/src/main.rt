@@ -3,7 +3,8 @@
 
 use block_store::Store;
 use clap::error::ErrorKind;
-use clap::{Arg, ArgAction, Command, value_parser};
+use clap::{Arg, ArgAction, ArgMatches, Command, value_parser};
+use layout::{Memory, let_go};
 use lms_sign::{KEY_SIZE, PublicKey};
 use server_workers::{Accepted, OpenGate, serve};
 use std::alloc::{AllocError, Global};
@@ -82,7 +83,85 @@ fn read_key(rt: &impl Files, name: &str) -> anyhow::Result<PublicKey> {
     Ok(PublicKey::from_bytes(bytes).ok_or(Fault::Key)?)
 }
 
-/// Serves the connections that the words ask for.
+/// Tells what the words lack, or the help that they ask for.
+fn refuse<R: Runtime>(rt: &R, fault: &clap::Error) -> anyhow::Result<ExitCode> {
+    if fault.kind() == ErrorKind::OutOfMemory {
+        return refuse_words(rt, MEMORY);
+    }
+    let printed = fault.print(rt);
+    if fault.exit_code() != 0 {
+        return Ok(ExitCode::from(WORDS));
+    }
+    printed?;
+    Ok(ExitCode::SUCCESS)
+}
+
+/// What a server begins with: its listener, how many connections it serves, user 0's key, and the file of its log.
+#[derive(Drop)]
+struct Begun {
+    listener: TcpListener,
+    most: u32,
+    pinned: PublicKey,
+    log: File,
+}
+
+/// Reads user 0's key, listens where the words say, and empties the file of the log.
+fn begin<
+    R: Runtime + AllocGlobal + Files<File = File> + Net<Listener = TcpListener, Stream = TcpStream>,
+>(rt: &R, matches: &ArgMatches) -> anyhow::Result<Begun> {
+    let most = matches.get_one::<u32>("connections").unwrap_or(0);
+    let pinned = read_key(rt, matches.get_str("super").unwrap_or(""))?;
+    // The log is emptied only once the port is ours.
+    let address = matches.get_str("listen").unwrap_or("");
+    let listener = TcpListener::bind(rt, address).map_err(Fault::Address)?;
+    let log = File::create(rt, matches.get_str("log").unwrap_or("")).map_err(Fault::LogFile)?;
+    println!(rt; "listening {}", listener.local_addr()?)?;
+    Ok(Begun {
+        listener,
+        most,
+        pinned,
+        log,
+    })
+}
+
+/// Serves the connections that come, up to a fault of the listener, which is put there: whether the log was written to
+/// its end.
+fn serve_all<R: AllocGlobal + Clock + Threads + Wait + Sync>(
+    rt: &R,
+    begun: Begun,
+    fault: &mut Option<io::Error>,
+) -> Result<bool, Memory> {
+    let Begun {
+        listener,
+        most,
+        pinned,
+        log,
+    } = begun;
+    let alloc = rt.alloc();
+    let store = Store::new(alloc);
+    let connections = Accepted::new(rt, &listener, most, fault);
+    let served = serve(rt, alloc, &OpenGate, connections, most, &store, pinned, log)?;
+    let flushed = served.flushed;
+    let_go(served);
+    Ok(flushed)
+}
+
+/// Serves the connections that come.
+fn serve_begun<R: AllocGlobal + Clock + Threads + Wait + Sync>(
+    rt: &R,
+    begun: Begun,
+) -> anyhow::Result<ExitCode> {
+    let mut fault = None;
+    if !serve_all(rt, begun, &mut fault)? {
+        return Err(Fault::Log.into());
+    }
+    match fault {
+        Some(fault) => Err(Fault::Connection(fault).into()),
+        None => Ok(ExitCode::SUCCESS),
+    }
+}
+
+/// Serves the connections that the words ask for that it was given.
 fn run<
     R: Runtime
         + AllocGlobal
@@ -93,44 +172,25 @@ fn run<
         + Wait
         + Sync,
 >(rt: &R) -> anyhow::Result<ExitCode> {
-    let alloc = rt.alloc();
     let words = match given_words(rt) {
         Ok(words) => words,
         Err(fault) if fault.kind() == io::ErrorKind::OutOfMemory => return refuse_words(rt, MEMORY),
         Err(_) => return refuse_words(rt, "error: a word isn't UTF-8"),
     };
-    let Ok(command) = command(alloc) else {
+    let Ok(command) = command(rt.alloc()) else {
         return refuse_words(rt, MEMORY);
     };
-    let matches = match command.try_get_matches_from(words.as_slice()) {
-        Ok(matches) => matches,
-        Err(fault) if fault.kind() == ErrorKind::OutOfMemory => return refuse_words(rt, MEMORY),
-        Err(fault) => {
-            let printed = fault.print(rt);
-            if fault.exit_code() != 0 {
-                return Ok(ExitCode::from(WORDS));
-            }
-            printed?;
-            return Ok(ExitCode::SUCCESS);
+    match command.try_get_matches_from(words.as_slice()) {
+        Ok(matches) => {
+            let begun = begin(rt, &matches);
+            let_go(matches);
+            serve_begun(rt, begun?)
         }
-    };
-    let most = matches.get_one::<u32>("connections").unwrap_or(0);
-    let pinned = read_key(rt, matches.get_str("super").unwrap_or(""))?;
-    // The log is emptied only once the port is ours.
-    let address = matches.get_str("listen").unwrap_or("");
-    let listener = TcpListener::bind(rt, address).map_err(Fault::Address)?;
-    let log = File::create(rt, matches.get_str("log").unwrap_or("")).map_err(Fault::LogFile)?;
-    println!(rt; "listening {}", listener.local_addr()?)?;
-    let store = Store::new(alloc);
-    let mut fault = None;
-    let connections = Accepted::new(rt, &listener, most, &mut fault);
-    let served = serve(rt, alloc, &OpenGate, connections, most, &store, pinned, log)?;
-    if !served.flushed {
-        return Err(Fault::Log.into());
-    }
-    match fault {
-        Some(fault) => Err(Fault::Connection(fault).into()),
-        None => Ok(ExitCode::SUCCESS),
+        Err(fault) => {
+            let status = refuse(rt, &fault);
+            let_go(fault);
+            status
+        }
     }
 }
 
