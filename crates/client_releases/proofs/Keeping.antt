@@ -1,5 +1,5 @@
 -- What both devices went through where a text was signed and put into the journal, or that was tried.
-use Rattle.std.proofs.Common.{◌≡◌, ℕ, List, [], ◌∷◌, ◌++◌, Some, None, inl, inr, refl, subst}
+use Rattle.std.proofs.Common.{◌≡◌, ℕ, ◌+◌, ◌<◌, List, [], ◌∷◌, ◌++◌, length, Some, None, inl, inr, refl, subst, ap, arith, length-append}
 use Rattle.leaf_ledger.specs.Device.{History, Throughout, at_rest}
 use Rattle.leaf_ledger.specs.Ledger.{IsFileOf, IsLeastFree, LeafNumber, LedgerState, UsedWith, UsedWithOrWithout, with_mark}
 use Rattle.leaf_ledger.specs.Life.{Call}
@@ -15,6 +15,10 @@ use Rattle.client_releases.proofs.Untouched.{records_still, of_least}
 -- a record
 abbrev pub entry : Kind → List ℕ → Record
 entry kind text = record { kind = kind; text = text }
+
+-- a text with its signature is short
+pub short_with : (text unsigned signature : List ℕ) → text ≡ unsigned ++ signature → length signature ≡ 2508 → length unsigned + 2508 < 4294967296 → length text < 4294967296
+short_with text unsigned signature all size short = omega (arith, ap length all, length-append unsigned signature, size, short)
 
 -- the device of the ledger failed
 pub not_taken : (leaf : LeafNumber) (r : Record) (old new : LedgerState) (j : JournalFile) → j.file.now ≡ at_rest j.file.now.text → Throughout (IsFileOf old.key) old.file new.file

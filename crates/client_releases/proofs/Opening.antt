@@ -15,6 +15,7 @@ use Rattle.client_journal.specs.declared.error.JournalError.{JournalError}
 use Rattle.client_journal.specs.declared.error.JournalError.TheVariants as journal
 use Rattle.version_order.specs.Structure.{Structure}
 use Rattle.pending_list.specs.declared.signed.Signed.{Signed}
+use Rattle.client_releases.specs.declared.error.ClientError.{ClientError}
 use Rattle.client_releases.specs.declared.error.ClientError.TheVariants as client
 use Rattle.client_releases.specs.declared.phase.Phase.{Phase}
 use Rattle.client_releases.specs.Errors.{of_journal, of_ledger}
@@ -137,3 +138,20 @@ pub risen_since : (a b c d : ℕ) → a ≤ b → d ≡ c → HasRisen b c → H
 risen_since a b c d less is risen below =
     let small : c < last_count = subst (λ (x : ℕ). x < last_count) is below in
     let up : b < c = risen small in omega (arith, up, less, is)
+
+-- what opening both devices fails by
+pub opening_only : (x : ClientError) → (x ≡ client.Device) ⊎ ((x ≡ client.Foreign) ⊎ (x ≡ client.Damaged)) → (x ≢ client.NoLeaf) × (x ≢ client.NoNumber)
+opening_only x (inl is) = (λ no. cc (is, no), λ no. cc (is, no))
+opening_only x (inr (inl is)) = (λ no. cc (is, no), λ no. cc (is, no))
+opening_only x (inr (inr is)) = (λ no. cc (is, no), λ no. cc (is, no))
+
+-- and reading the journal
+pub reading_only : (x : ClientError) → (x ≡ client.Memory) ⊎ ((x ≡ client.Device) ⊎ (x ≡ client.Damaged)) → (x ≢ client.NoLeaf) × (x ≢ client.NoNumber)
+reading_only x (inl is) = (λ no. cc (is, no), λ no. cc (is, no))
+reading_only x (inr (inl is)) = (λ no. cc (is, no), λ no. cc (is, no))
+reading_only x (inr (inr is)) = (λ no. cc (is, no), λ no. cc (is, no))
+
+pub reading_own : (x : ClientError) → (x ≡ client.Memory) ⊎ ((x ≡ client.Device) ⊎ (x ≡ client.Damaged)) → x ≡ client.Foreign → ⊥
+reading_own x (inl is) same = cc (is, same)
+reading_own x (inr (inl is)) same = cc (is, same)
+reading_own x (inr (inr is)) same = cc (is, same)

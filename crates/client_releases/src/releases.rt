@@ -19,7 +19,7 @@ use crate::releasing::keep;
 use crate::signing::{Sealed, Unsigned};
 use crate::told::{Told, told_by};
 use client_journal::{Journal, Kind};
-use layout::{User, Version};
+use layout::{User, Version, let_go, put_in};
 use leaf_ledger::{Device, Ledger};
 use lms_sign::{PrivateKey, PublicKey};
 use pending_list::{Signature, Signed};
@@ -380,15 +380,17 @@ impl<L: Device, J: Device, A: Allocator> Releases<L, J, A> {
                     sent,
                     signature,
                 } = sealed;
-                self.last = Some(Signed {
+                let signed = Signed {
                     value: structure,
                     signature,
-                });
+                };
+                put_in(&mut self.last, Some(signed));
                 self.phase = Phase::Signed;
-                self.text = kept;
+                put_in(&mut self.text, kept);
                 Ok((sent, signature))
             }
             Err(error) => {
+                let_go(structure);
                 self.phase = Phase::Failed;
                 Err(error)
             }

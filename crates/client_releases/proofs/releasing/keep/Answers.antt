@@ -1,15 +1,25 @@
-use Rattle.std.proofs.Common.{◌≡◌, ℕ, List, ◌++◌, Result, Ok, Err, OnErr, sym, ◌∙◌, ap, inl, inr}
+use Rattle.std.proofs.Common.{◌≡◌, ℕ, List, ◌++◌, Result, Ok, Err, OnErr, sym, ◌∙◌, ap, subst, inl, inr, arith}
 use Rattle.std.proofs.lemmas.Result.{err_from_is_err_and}
 use Rattle.lms_sign.specs.Signature.{signature_of}
-use Rattle.leaf_ledger.specs.Ledger.{LedgerState}
+use Rattle.leaf_ledger.specs.Device.{History}
+use Rattle.leaf_ledger.specs.Ledger.{IsFileOf, LedgerState}
+use Rattle.pending_list.specs.Signed.{signature}
 use Rattle.client_journal.specs.declared.error.JournalError.TheVariants as journal
 use Rattle.client_releases.specs.Errors.{of_ledger, of_journal}
-use Rattle.client_releases.proofs.Keeping.{device_only, entry, kept_now, not_taken, not_tried, taken, tried_one}
+use Rattle.client_releases.proofs.Keeping.{device_only, entry, kept_now, not_taken, not_tried, short_with, taken, tried_one}
 use Rattle.client_releases.proofs.releasing.keep.Goals as goal
 
 on_err : {T E P : Type 0} (r : Result T E) → P → OnErr r P
 on_err (Ok x) p = tt
 on_err (Err e) p = p
+
+-- ---- what is called may be called
+
+pub append-requires-clause-short : goal.append-requires-clause-short
+append-requires-clause-short g c = short_with c.deref.result.now c.args.unsigned c.from_bytes.result (c.deref.ensures.value ∙ c.sealed-sealed.ensures.kept) c.sealed-sealed.ensures.fits.0 c.requires.short
+
+pub append-requires-clause-turn : goal.append-requires-clause-turn
+append-requires-clause-turn g c = c.requires.turn
 
 -- ---- no leaf was taken
 
@@ -27,6 +37,12 @@ returns-in_err-leaf-clause-device g c =
     let t = c.in_err-leaf.ensures in
     let is = device_only c.in_err-leaf.field-0.0 (λ none. c.requires.free (t.no_leaf (ap Err none)).0) (λ foreign. t.ours (ap Err foreign)) in
     rw p.1 (p.2 ∙ ap of_ledger is, inl (t.device (ap Err is)).1)
+
+pub returns-in_err-leaf-clause-own_file : goal.returns-in_err-leaf-clause-own_file
+returns-in_err-leaf-clause-own_file g c = c.take.ensures.reads_own
+
+pub returns-in_err-leaf-clause-none_outstanding : goal.returns-in_err-leaf-clause-none_outstanding
+returns-in_err-leaf-clause-none_outstanding g c = c.in_err-leaf.ensures.outstanding_err ∙ c.requires.settled
 
 -- ---- a leaf was taken
 
@@ -58,6 +74,15 @@ returns-in_err-append-clause-device g c =
     let is : c.in_err-append.field-0.0 ≡ journal.Device = cc in
     rw p.1 (p.2 ∙ ap of_journal is, inr (a.device ours))
 
+pub returns-in_err-append-clause-own_file : goal.returns-in_err-append-clause-own_file
+returns-in_err-append-clause-own_file g c = subst (λ (h : History). IsFileOf c.args.ledger.now.key h.now.text) (sym (ap (λ (l : LedgerState). l.file) c.settle.ensures.settled)) c.take.ensures.reads_own
+
+pub returns-in_err-append-clause-same_key : goal.returns-in_err-append-clause-same_key
+returns-in_err-append-clause-same_key g c = ap (λ (l : LedgerState). l.key) c.settle.ensures.settled ∙ c.take.ensures.same_key
+
+pub returns-in_err-append-clause-none_outstanding : goal.returns-in_err-append-clause-none_outstanding
+returns-in_err-append-clause-none_outstanding g c = omega (arith, ap (λ (l : LedgerState). l.outstanding) c.settle.ensures.settled, c.in_ok-leaf.ensures.outstanding, c.requires.settled)
+
 -- ---- the record was appended
 
 pub returns-clause-kept : goal.returns-clause-kept
@@ -83,3 +108,21 @@ returns-clause-any_moment g c =
     let a = c.in_ok-append.ensures in
     taken (λ leaf. entry c.args.kind (c.args.unsigned ++ signature_of c.args.key.now.seed c.args.key.now.id leaf c.args.unsigned))
     c.args.ledger.now c.settle.new.self c.args.journal.now c.append.new.self c.take.new.self.file same n t.leaf (entry c.args.kind c.deref.result.now) (ap (λ (x : List ℕ). entry c.args.kind x) whole) t.own_file t.any_moment t.used a.any_moment a.reads
+
+pub returns-clause-own_file : goal.returns-clause-own_file
+returns-clause-own_file g c = subst (λ (h : History). IsFileOf c.args.ledger.now.key h.now.text) (sym (ap (λ (l : LedgerState). l.file) c.settle.ensures.settled)) c.take.ensures.reads_own
+
+pub returns-clause-same_key : goal.returns-clause-same_key
+returns-clause-same_key g c = ap (λ (l : LedgerState). l.key) c.settle.ensures.settled ∙ c.take.ensures.same_key
+
+pub returns-clause-none_outstanding : goal.returns-clause-none_outstanding
+returns-clause-none_outstanding g c = omega (arith, ap (λ (l : LedgerState). l.outstanding) c.settle.ensures.settled, c.in_ok-leaf.ensures.outstanding, c.requires.settled)
+
+pub returns-clause-usable : goal.returns-clause-usable
+returns-clause-usable g c = (ap (λ (l : LedgerState). l.usable) c.settle.ensures.settled ∙ c.in_ok-leaf.ensures.usable, c.in_ok-append.ensures.usable)
+
+pub returns-clause-sent : goal.returns-clause-sent
+returns-clause-sent g c = c.sealed-sealed.ensures.sent ∙ sym c.sealed-sealed.ensures.kept
+
+pub returns-clause-fits : goal.returns-clause-fits
+returns-clause-fits g c = subst signature.Fits (sym c.sealed-sealed.ensures.signature) c.sealed-sealed.ensures.fits

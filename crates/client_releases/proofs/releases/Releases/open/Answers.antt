@@ -1,7 +1,7 @@
-use Rattle.std.proofs.Common.{◌≡◌, ℕ, List, Some, Err, refl, sym, ◌∙◌, ap, subst, inr}
+use Rattle.std.proofs.Common.{◌≡◌, ℕ, List, Some, Err, refl, sym, ◌∙◌, ap, subst, inl, inr, arith}
 use Rattle.lms_sign.specs.Keys.{public_key_of}
 use Rattle.leaf_ledger.specs.Ledger.{IsFileOf, IsForeign}
-use Rattle.client_releases.proofs.Opening.{opened, opening_of, other_before, risen_since}
+use Rattle.client_releases.proofs.Opening.{opened, opening_of, opening_only, other_before, reading_only, reading_own, risen_since}
 use Rattle.client_releases.proofs.releases.Releases.open.Goals as goal
 
 pub returns-in-Err-clause-foreign : goal.returns-in-Err-clause-foreign
@@ -34,3 +34,33 @@ returns-in-Err-remembered-clause-damaged g c is =
 pub returns-in-Err-remembered-clause-device : goal.returns-in-Err-remembered-clause-device
 returns-in-Err-remembered-clause-device g c is =
     inr (risen_since (g.J.Device.fault_count c.args.journal) c.in-Ok.devices.1.faults c.remembered.new.journal.faults (g.J.Device.fault_count c.close-journal.result) c.in-Ok.ensures.later.1 c.close-journal.ensures.faults (c.in-Err-remembered.ensures.device (ap Err is)))
+
+pub returns-in-Err-clause-only : goal.returns-in-Err-clause-only
+returns-in-Err-clause-only g c = opening_only c.in-Err.error c.in-Err.ensures.only
+
+pub returns-in-Err-remembered-clause-only : goal.returns-in-Err-remembered-clause-only
+returns-in-Err-remembered-clause-only g c = reading_only c.in-Err-remembered.error c.in-Err-remembered.ensures.only
+
+pub returns-in-Ok-remembered-clause-later : goal.returns-in-Ok-remembered-clause-later
+returns-in-Ok-remembered-clause-later g c = (c.in-Ok.ensures.later.0, omega (arith, c.in-Ok.ensures.later.1, c.remembered.ensures.later))
+
+pub returns-in-Err-remembered-clause-later_err : goal.returns-in-Err-remembered-clause-later_err
+returns-in-Err-remembered-clause-later_err g c = (
+  omega (arith, c.in-Ok.ensures.later.0, c.close-ledger.ensures.faults),
+  omega (arith, c.in-Ok.ensures.later.1, c.remembered.ensures.later, c.close-journal.ensures.faults),
+)
+
+pub returns-in-Err-remembered-clause-foreign : goal.returns-in-Err-remembered-clause-foreign
+returns-in-Err-remembered-clause-foreign g c is = absurd (reading_own c.in-Err-remembered.error c.in-Err-remembered.ensures.only is)
+
+pub returns-in-Err-clause-device : goal.returns-in-Err-clause-device
+returns-in-Err-clause-device g c = c.in-Err.ensures.device
+
+pub returns-in-Err-clause-damaged : goal.returns-in-Err-clause-damaged
+returns-in-Err-clause-damaged g c is = inl (c.in-Err.ensures.damaged is)
+
+pub returns-in-Ok-remembered-clause-own : goal.returns-in-Ok-remembered-clause-own
+returns-in-Ok-remembered-clause-own g c foreign = c.in-Ok.ensures.own (subst (λ (k : List ℕ). IsForeign k (g.L.Device.history c.args.ledger).now.text) (sym c.public.ensures) foreign)
+
+pub returns-in-Ok-remembered-clause-used : goal.returns-in-Ok-remembered-clause-used
+returns-in-Ok-remembered-clause-used g c = c.in-Ok.ensures.used

@@ -37,7 +37,7 @@ keep-requires-clause-short g c = omega (arith, at_most_structure.holds c.args.st
 pub returns-in-Ok-clause-signed : goal.returns-in-Ok-clause-signed
 returns-in-Ok-clause-signed g c =
     let k = c.in-Ok.ensures.kept in
-    signed_of _ c.args.self.now c.self.view_is c.args.unsigned _ _ _ k.0 k.1 k.2 c.args.structure c.requires.text k.3
+    rw c.put_in.ensures (rw c.put_in-in-Ok.ensures (signed_of _ c.args.self.now c.self.view_is c.args.unsigned _ _ _ k.0 k.1 k.2 c.args.structure c.requires.text k.3))
 
 pub returns-in-Ok-clause-any_moment : goal.returns-in-Ok-clause-any_moment
 returns-in-Ok-clause-any_moment g c = moments_of _ c.args.self.now c.self.view_is c.args.unsigned (record { ledger = c.keep.new.ledger; journal = c.keep.new.journal }) kind.Structure c.keep.ensures.any_moment
@@ -62,8 +62,8 @@ invariant_of-self g c =
     let k = c.in-Ok.ensures.kept in
     let own = c.requires.own in
     let u = c.in-Ok.ensures.usable in
-    after_sign _ c.self.invariant _ u.0 u.1 c.keep.ensures.same_key c.keep.ensures.own_file c.keep.ensures.none_outstanding k.0 _ _ k.3 now (record { value = c.args.structure; signature = c.in-Ok.sealed.signature })
-    (structure_there _ c.args.structure _ c.args.unsigned _ c.plan-plan.ensures.fits c.in-Ok.ensures.fits c.requires.text k.2 (own.0 ∙ sym (ap (λ (r : Released). r.user) c.self.view_is))) (ap (λ (r : Released). r.number) c.self.view_is ∙ sym own.1)
+    rw c.put_in.ensures (rw c.put_in-in-Ok.ensures (after_sign _ c.self.invariant _ u.0 u.1 c.keep.ensures.same_key c.keep.ensures.own_file c.keep.ensures.none_outstanding k.0 _ _ k.3 now (record { value = c.args.structure; signature = c.in-Ok.sealed.signature })
+    (structure_there _ c.args.structure _ c.args.unsigned _ c.plan-plan.ensures.fits c.in-Ok.ensures.fits c.requires.text k.2 (own.0 ∙ sym (ap (λ (r : Released). r.user) c.self.view_is))) (ap (λ (r : Released). r.number) c.self.view_is ∙ sym own.1)))
 
-pub invariant_of-self-in-Err-1 : goal.invariant_of-self-in-Err-1
-invariant_of-self-in-Err-1 g c = after_fault _ c.self.invariant _ c.keep.ensures.same_key c.keep.ensures.none_outstanding
+pub invariant_of-self-in-Err : goal.invariant_of-self-in-Err
+invariant_of-self-in-Err g c = after_fault _ c.self.invariant _ c.keep.ensures.same_key c.keep.ensures.none_outstanding
