@@ -24,10 +24,10 @@ use itable::{Laid, lay_file};
 use layout::{Digest, INumber, User, digest};
 use leaf_ledger::MemoryDevice;
 use lms_sign::{Leaf, PrivateKey, PublicKey, sign, verify};
-use plain_user::PlainUser;
 use std::alloc::Global;
 use std::rt::Clock;
 use std::time::{Duration, Instant};
+use tests_plain_user::PlainUser;
 use update_cert::{Action, Blocks, Change, TableChange};
 use wire::Status;
 

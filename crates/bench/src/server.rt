@@ -3,7 +3,6 @@
 use anyhow::{Result, anyhow};
 use block_store::Store;
 use lms_sign::{Leaf, PrivateKey, PublicKey, sign, verify};
-use plain_user::{Caller, PlainUser, listing};
 use server_workers::{Accepted, OpenGate, serve};
 use std::alloc::Global;
 use std::net::{Net, SocketAddr, TcpListener, TcpStream};
@@ -12,6 +11,7 @@ use std::sync::Wait;
 use std::thread;
 use std::thread::Threads;
 use std::time::Instant;
+use tests_plain_user::{Caller, PlainUser, listing};
 use wire::Status;
 
 /// How many connections operate side by side.

@@ -1,0 +1,157 @@
+//! A client, and what it answers to replies that are made by hand.
+
+use client_verify::{Client, ClientError, Parts, Phase, Rule, Step, are_laid};
+use layout::User;
+use leaf_ledger::MemoryDevice;
+use lms_sign::{PrivateKey, PublicKey};
+use std::alloc::Global;
+use tests_aids::texts::key_of;
+use tests_aids::{Aided, check, found, given};
+use update_cert::Change;
+use wire::Status;
+
+/// A client whose devices are in memory.
+pub type MemoryClient = Client<MemoryDevice<Global>, MemoryDevice<Global>, Global>;
+
+/// What it is opened over, and hands back: its key and its devices.
+pub type Kept = Parts<MemoryDevice<Global>, MemoryDevice<Global>, Global>;
+
+/// A device in memory with this text.
+pub fn device_of(rt: &impl Aided, text: &[u8]) -> MemoryDevice<Global> {
+    let text = given(rt, Vec::from_slice(rt.alloc(), text), "memory");
+    given(rt, MemoryDevice::new(rt.alloc(), text), "memory")
+}
+
+/// This key, and devices on which nothing stands.
+pub fn nothing_yet(rt: &impl Aided, key: PrivateKey<Global>) -> Kept {
+    Parts {
+        key,
+        ledger: device_of(rt, b""),
+        journal: device_of(rt, b""),
+    }
+}
+
+/// The client of a user over what was kept. It takes this key for user 0's.
+pub fn open_over(rt: &impl Aided, user: User, pinned: PublicKey, kept: Kept) -> MemoryClient {
+    let Parts {
+        key,
+        ledger,
+        journal,
+    } = kept;
+    match Client::open(rt.alloc(), user, key, pinned, ledger, journal) {
+        Ok(client) => client,
+        Err((error, _)) => rt.fail(error),
+    }
+}
+
+/// The client of a user by this key, over devices on which nothing stands. It takes the other key for user 0's.
+pub fn client_with(
+    rt: &impl Aided,
+    user: u8,
+    own: PrivateKey<Global>,
+    pinned: PublicKey,
+) -> MemoryClient {
+    let user = found(rt, User::new(user), "a user");
+    open_over(rt, user, pinned, nothing_yet(rt, own))
+}
+
+/// The client of a user by its key, which takes the first key for user 0's.
+pub fn client_of(rt: &impl Aided, user: u8, key: u8) -> MemoryClient {
+    let own = key_of(rt, key);
+    let pinned = if key == 0 {
+        own.public()
+    } else {
+        first_key(rt)
+    };
+    client_with(rt, user, own, pinned)
+}
+
+/// The key that every client knows, user 0's.
+pub fn first_key(rt: &impl Aided) -> PublicKey {
+    key_of(rt, 0).public()
+}
+
+/// The client of user 0, which knows its own key.
+pub fn superuser(rt: &impl Aided) -> MemoryClient {
+    client_of(rt, 0, 0)
+}
+
+/// What the client answers to the declaration of its next operation, of these changes, for which these texts were laid
+/// out.
+pub fn begun(
+    rt: &impl Aided,
+    client: &mut MemoryClient,
+    changes: &[Change<Global>],
+    laid: &[Vec<u8>],
+) -> Result<Vec<u8>, ClientError> {
+    if client.phase() != Phase::Idle || changes.len() > 16 {
+        rt.fail("it can't begin");
+    }
+    if !given(rt, are_laid(rt.alloc(), laid, changes), "memory") {
+        rt.fail("not all is laid out");
+    }
+    client.begin(changes, laid)
+}
+
+/// Declares the client's next operation, of these changes, for which these texts were laid out.
+pub fn declare_changes(
+    rt: &impl Aided,
+    client: &mut MemoryClient,
+    changes: Vec<Change<Global>>,
+    laid: Vec<Vec<u8>>,
+) -> Vec<u8> {
+    given(rt, begun(rt, client, &changes, &laid), "a certificate")
+}
+
+/// What the client answers to the declaration of its next operation, without changes.
+pub fn begun_without_changes(
+    rt: &impl Aided,
+    client: &mut MemoryClient,
+) -> Result<Vec<u8>, ClientError> {
+    begun(rt, client, &[], &[])
+}
+
+/// Declares the client's next operation, without changes.
+pub fn declare(rt: &impl Aided, client: &mut MemoryClient) -> Vec<u8> {
+    given(rt, begun_without_changes(rt, client), "a certificate")
+}
+
+/// Hands a reply to the client.
+pub fn step_on(rt: &impl Aided, client: &mut MemoryClient, reply: &[u8]) -> Step<Global> {
+    if client.phase() != Phase::Declared {
+        rt.fail("nothing is declared");
+    }
+    given(rt, client.on_reply(reply), "memory")
+}
+
+/// The reply breaks this rule first, or none.
+pub fn breaks(rt: &impl Aided, client: &mut MemoryClient, reply: &[u8], rule: Option<Rule>) {
+    let found = match step_on(rt, client, reply) {
+        Step::Broken(found) => Some(found),
+        Step::Store(blocks) => {
+            check(rt, blocks.is_empty(), "no block to be stored");
+            None
+        }
+        Step::Need(_) => rt.fail("a block is asked for"),
+    };
+    if found != rule {
+        let size = reply.len();
+        rt.fail(format_args!("{found:?} and not {rule:?}, {size} bytes"));
+    }
+}
+
+/// Signs the structure over the accepted reply.
+pub fn sign(rt: &impl Aided, client: &mut MemoryClient) -> Vec<u8> {
+    if !client.ready() {
+        rt.fail("no reply is accepted");
+    }
+    given(rt, client.sign(), "a structure")
+}
+
+/// Hands the server's answer to the signed structure to the client.
+pub fn end(rt: &impl Aided, client: &mut MemoryClient, status: Status) {
+    if client.phase() != Phase::Signed {
+        rt.fail("nothing is signed");
+    }
+    client.on_committed(status);
+}

@@ -1,0 +1,157 @@
+//! User 0's i-table, handed to user 1's client, where no table of principals stands at i-number 1: the block at which
+//! that is seen breaks the rule on contents.
+
+use crate::here::Here;
+use crate::long_table::reply_over;
+use crate::several_users::keep_each;
+use client_tree::Held;
+use client_verify::{Rule, Step};
+use layout::{Digest, digest, let_go};
+use lms_sign::PrivateKey;
+use std::alloc::Global;
+use tests_aids::blocks::{EMPTY_INODE, HELLO, HELLO_INODE, NO_BYTES_INODE};
+use tests_aids::texts::{joined, key_of};
+use tests_aids::{Host, check};
+use tests_client_aids::clients::{MemoryClient, client_with, declare, step_on};
+use update_cert::Blocks;
+
+/// How many blocks are handed in at most for one reply.
+const BOUND: usize = 10;
+
+/// A block that is asked for.
+enum Place {
+    Root,
+    Chunk,
+    Inode,
+    Block,
+}
+
+/// The number by which the root lists its only chunk, if it has one, the only i-number of that chunk, which is chunk 0,
+/// the text of its i-node, and the block that breaks the rule.
+struct Case {
+    listed: Option<u8>,
+    i_number: u8,
+    inode: &'static [u8],
+    at: Place,
+}
+
+/// A root without chunks; one without chunk 0; a chunk 0 without i-number 1; a directory, a file without bytes, no
+/// i-node there; a file that is no table.
+static CASES: [Case; 7] = [
+    Case {
+        listed: None,
+        i_number: 1,
+        inode: HELLO_INODE,
+        at: Place::Root,
+    },
+    Case {
+        listed: Some(1),
+        i_number: 1,
+        inode: HELLO_INODE,
+        at: Place::Root,
+    },
+    Case {
+        listed: Some(0),
+        i_number: 2,
+        inode: HELLO_INODE,
+        at: Place::Chunk,
+    },
+    Case {
+        listed: Some(0),
+        i_number: 1,
+        inode: EMPTY_INODE,
+        at: Place::Inode,
+    },
+    Case {
+        listed: Some(0),
+        i_number: 1,
+        inode: NO_BYTES_INODE,
+        at: Place::Inode,
+    },
+    Case {
+        listed: Some(0),
+        i_number: 1,
+        inode: HELLO,
+        at: Place::Inode,
+    },
+    Case {
+        listed: Some(0),
+        i_number: 1,
+        inode: HELLO_INODE,
+        at: Place::Block,
+    },
+];
+
+/// Chunk 0 with this i-number.
+fn chunk_of(rt: &impl Host, i_number: u8, inode: &[u8]) -> Vec<u8> {
+    let inode = digest(inode);
+    joined(rt, &[b"STC1\0\x01\0", &[i_number], inode.as_bytes()])
+}
+
+/// User 0's root, which lists the chunk by this number, or none.
+fn root_of(rt: &impl Host, listed: Option<u8>, chunk: &[u8]) -> Vec<u8> {
+    let chunk = digest(chunk);
+    match listed {
+        Some(number) => joined(rt, &[b"STR1\0\x01", &[number], chunk.as_bytes()]),
+        None => joined(rt, &[b"STR1\0\0"]),
+    }
+}
+
+/// The rule that the reply breaks first, and the block at which it does.
+fn broken_at(
+    rt: &impl Host,
+    client: &mut MemoryClient,
+    store: &Held<Global>,
+    reply: &[u8],
+) -> (Rule, Digest) {
+    let Step::Need(first) = step_on(rt, client, reply) else {
+        panic!(rt; "no block is asked for");
+    };
+    let mut asked = first;
+    for _ in 0..BOUND {
+        assert!(rt; client.wants());
+        match client.on_block(store.get(asked)).expect(rt, "memory") {
+            Step::Need(next) => asked = next,
+            Step::Store(_) => panic!(rt; "the reply is accepted"),
+            Step::Broken(rule) => return (rule, asked),
+        }
+    }
+    panic!(rt; "too many blocks")
+}
+
+/// The reply over the i-table of the case breaks the rule at its block.
+fn breaks_case(
+    rt: &impl Host,
+    client: &mut MemoryClient,
+    key: &PrivateKey<Global>,
+    update: &[u8],
+    case: &Case,
+) {
+    let chunk = chunk_of(rt, case.i_number, case.inode);
+    let root = root_of(rt, case.listed, &chunk);
+    let mut store = Held::empty(rt.alloc());
+    keep_each(rt, &mut store, &[&root, &chunk, case.inode, HELLO]);
+    let text = reply_over(rt, key, &root, update);
+    let (rule, asked) = broken_at(rt, client, &store, &text);
+    check(rt, rule == Rule::Content, "the rule on contents");
+    let wanted = match case.at {
+        Place::Root => digest(&root),
+        Place::Chunk => digest(&chunk),
+        Place::Inode => digest(case.inode),
+        Place::Block => digest(HELLO),
+    };
+    check(rt, asked == wanted, "the block that breaks it");
+    let_go(store);
+}
+
+#[test]
+fn no_table_in_its_place(rt: HostRuntime) {
+    let rt = (rt, Here);
+    let (key, own) = (key_of(&rt, 0), key_of(&rt, 1));
+    let mut client = client_with(&rt, 1, own, key.public());
+    let update = declare(&rt, &mut client);
+    for case in &CASES {
+        breaks_case(&rt, &mut client, &key, &update, case);
+    }
+    let_go(client);
+}

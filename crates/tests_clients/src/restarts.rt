@@ -1,0 +1,310 @@
+//! User 0's client, closed and opened again in each phase over devices in memory: it goes on with what its journal
+//! tells. How many bytes the journal has is counted by hand from the formats.
+
+use crate::here::Here;
+use client_verify::{Client, ClientError, Parts, Phase, Rule};
+use layout::{User, let_go};
+use leaf_ledger::MemoryDevice;
+use lms_sign::{PrivateKey, PublicKey};
+use std::alloc::Global;
+use tests_aids::texts::{changed, first_reply, joined, key_of, listed, reply_to, shown};
+use tests_aids::{Host, check};
+use tests_client_aids::clients::{
+    Kept, MemoryClient, begun_without_changes, breaks, declare, device_of, end, open_over, sign,
+    superuser,
+};
+use tests_client_aids::crashes::{has_declared, has_signed};
+use wire::Status;
+
+/// The client of user 0 over what was kept.
+pub(crate) fn reopened(rt: &impl Host, kept: Kept) -> MemoryClient {
+    let pinned = kept.key.public();
+    open_over(rt, User::superuser(), pinned, kept)
+}
+
+/// What the client hands back when it is closed.
+pub(crate) fn closed(client: MemoryClient) -> Kept {
+    client.close()
+}
+
+/// The key of a client, which is closed.
+pub(crate) fn key_in(client: MemoryClient) -> PrivateKey<Global> {
+    let Parts {
+        key,
+        ledger: _ledger,
+        journal: _journal,
+    } = closed(client);
+    key
+}
+
+/// The journal has so many bytes.
+fn has_journal(rt: &impl Host, kept: &Kept, size: usize) {
+    let found = kept.journal.text().len();
+    assert!(rt; found == size, "{found} bytes and not {size}");
+}
+
+/// The client of user 0, closed and opened again. Its journal had so many bytes.
+fn restarted(rt: &impl Host, client: MemoryClient, size: usize) -> MemoryClient {
+    let kept = closed(client);
+    has_journal(rt, &kept, size);
+    reopened(rt, kept)
+}
+
+/// The client has declared so many operations.
+pub(crate) fn has_number(rt: &impl Host, client: &MemoryClient, number: u32) {
+    check(rt, client.number() == number, "the number");
+}
+
+/// The client declares its operation of this number, and tells of it once its journal of so many bytes is opened again.
+fn declares(
+    rt: &impl Host,
+    client: MemoryClient,
+    number: u32,
+    size: usize,
+) -> (MemoryClient, Vec<u8>) {
+    let mut client = client;
+    let update = declare(rt, &mut client);
+    let client = restarted(rt, client, size);
+    has_declared(rt, &client, number, &update);
+    (client, update)
+}
+
+/// The client accepts the reply to its first certificate, and signs: its structure.
+pub(crate) fn signs_first(rt: &impl Host, client: &mut MemoryClient, update: &[u8]) -> Vec<u8> {
+    breaks(rt, client, &first_reply(rt, update), None);
+    sign(rt, client)
+}
+
+/// The client that signed this first structure tells of it once it is opened again, and ends: no view is left, and no
+/// record tells of the commit.
+fn ends_after_restart(rt: &impl Host, client: MemoryClient, commit: &[u8]) -> MemoryClient {
+    // After the certificate a header, 87 bytes of structure, its signature, and a gate.
+    let mut client = restarted(rt, client, 5158);
+    has_signed(rt, &client, 1, commit);
+    check(rt, !client.has_view(), "no view since it was opened");
+    end(rt, &mut client, Status::Ok);
+    client
+}
+
+#[test]
+fn restarts_in_each_phase(rt: HostRuntime) {
+    let rt = (rt, Here);
+    let client = restarted(&rt, superuser(&rt), 1);
+    has_number(&rt, &client, 0);
+    // A gate, a header of 5 bytes, 42 bytes of certificate, its signature of 2,508, and a gate.
+    let (mut client, update) = declares(&rt, client, 1, 2557);
+    let commit = signs_first(&rt, &mut client, &update);
+    let client = ends_after_restart(&rt, client, &commit);
+    let client = ends_after_restart(&rt, client, &commit);
+    // After the structure a header, 42 bytes of certificate, its signature, and a gate.
+    let (client, _second) = declares(&rt, client, 2, 7714);
+    let_go(client);
+}
+
+/// The client refuses a reply in which its operation isn't pending.
+fn misses_its_own(rt: &impl Host, client: &mut MemoryClient) {
+    breaks(rt, client, b"SRL1\0\0", Some(Rule::OwnPending));
+}
+
+/// A reply in which the own operation isn't pending is refused after a restart as before, and the true one accepted.
+#[test]
+fn judges_after_a_restart(rt: HostRuntime) {
+    let rt = (rt, Here);
+    let mut client = superuser(&rt);
+    let update = declare(&rt, &mut client);
+    misses_its_own(&rt, &mut client);
+    let mut client = restarted(&rt, client, 2557);
+    misses_its_own(&rt, &mut client);
+    let _commit = signs_first(&rt, &mut client, &update);
+    let_go(client);
+}
+
+/// The first operation from its declaration to its commit: its structure.
+fn completes_first(rt: &impl Host, client: &mut MemoryClient) -> Vec<u8> {
+    let update = declare(rt, client);
+    let commit = signs_first(rt, client, &update);
+    end(rt, client, Status::Ok);
+    commit
+}
+
+/// The reply to the second certificate that shows this structure breaks the rule, or none.
+fn breaks_second(
+    rt: &impl Host,
+    client: &mut MemoryClient,
+    update: &[u8],
+    last: &[u8],
+    rule: Option<Rule>,
+) {
+    let structures = listed(rt, &shown(rt, last));
+    breaks(rt, client, &reply_to(rt, &structures, 2, update), rule);
+}
+
+/// The client refuses replies to its second certificate without its last structure, and accepts one with it.
+fn knows_its_last(rt: &impl Host, client: &mut MemoryClient, update: &[u8], last: &[u8]) {
+    let without = reply_to(rt, b"\0", 2, update);
+    breaks(rt, client, &without, Some(Rule::OwnLast));
+    let other = changed(rt, last);
+    breaks_second(rt, client, update, &other, Some(Rule::OwnLast));
+    breaks_second(rt, client, update, last, None);
+}
+
+/// A server that shows no structure of the client's, or another than its last one, is found out after a restart, too.
+#[test]
+fn knows_its_last_structure_after_a_restart(rt: HostRuntime) {
+    let rt = (rt, Here);
+    let mut client = superuser(&rt);
+    let last = completes_first(&rt, &mut client);
+    let (mut client, update) = declares(&rt, client, 2, 7714);
+    knows_its_last(&rt, &mut client, &update, &last);
+    let _commit = sign(&rt, &mut client);
+    let_go(client);
+}
+
+/// How many bytes a ledger has before the mark of its last leaf: 56 of its key, and a mark of each other leaf.
+const BEFORE_LAST: usize = 56 + 1023;
+
+/// The text with 1s after it, up to this size.
+fn filled(rt: &impl Host, text: &[u8], size: usize) -> Vec<u8> {
+    let mut text = joined(rt, &[text]);
+    text.resize(size, 1).expect(rt, "memory");
+    text
+}
+
+/// A ledger of this key with this mark of its last leaf, in which each other leaf is used.
+fn ledger_with(rt: &impl Host, key: &PublicKey, mark: u8) -> MemoryDevice<Global> {
+    let front = filled(rt, key.as_bytes(), BEFORE_LAST);
+    device_of(rt, &joined(rt, &[&front, &[mark]]))
+}
+
+/// The client of user 0 over such a ledger.
+fn with_mark(rt: &impl Host, mark: u8) -> MemoryClient {
+    let key = key_of(rt, 0);
+    let ledger = ledger_with(rt, &key.public(), mark);
+    let journal = device_of(rt, b"");
+    reopened(
+        rt,
+        Parts {
+            key,
+            ledger,
+            journal,
+        },
+    )
+}
+
+/// What the client answers where it signs over the accepted reply.
+pub(crate) fn signed(rt: &impl Host, client: &mut MemoryClient) -> Result<Vec<u8>, ClientError> {
+    assert!(rt; client.ready());
+    client.sign()
+}
+
+/// No leaf was left for what the client was asked for.
+fn has_no_leaf(rt: &impl Host, answer: &Result<Vec<u8>, ClientError>) {
+    let refused = matches!(answer, Err(ClientError::NoLeaf));
+    check(rt, refused, "no leaf is left");
+}
+
+/// The client has accepted a reply, and no leaf is left for the structure: it stays declared.
+fn has_no_leaf_to_sign(rt: &impl Host, client: &mut MemoryClient, update: &[u8]) {
+    breaks(rt, client, &first_reply(rt, update), None);
+    has_no_leaf(rt, &signed(rt, client));
+    has_declared(rt, client, 1, update);
+}
+
+#[test]
+fn one_leaf_declares_and_none_signs(rt: HostRuntime) {
+    let rt = (rt, Here);
+    let mut client = with_mark(&rt, 0);
+    let update = declare(&rt, &mut client);
+    has_no_leaf_to_sign(&rt, &mut client, &update);
+    let mut client = restarted(&rt, client, 2557);
+    has_declared(&rt, &client, 1, &update);
+    has_no_leaf_to_sign(&rt, &mut client, &update);
+    let_go(client);
+}
+
+#[test]
+fn no_leaf_declares(rt: HostRuntime) {
+    let rt = (rt, Here);
+    let mut client = with_mark(&rt, 1);
+    has_no_leaf(&rt, &begun_without_changes(&rt, &mut client));
+    check(&rt, client.phase() == Phase::Idle, "nothing is declared");
+    let client = restarted(&rt, client, 1);
+    has_number(&rt, &client, 0);
+    let_go(client);
+}
+
+/// Why no client of this user is opened over these, which are handed back.
+fn refused(rt: &impl Host, user: User, kept: Kept) -> (ClientError, Kept) {
+    let pinned = kept.key.public();
+    let Parts {
+        key,
+        ledger,
+        journal,
+    } = kept;
+    match Client::open(rt.alloc(), user, key, pinned, ledger, journal) {
+        Ok(_) => panic!(rt; "it is opened"),
+        Err(refused) => refused,
+    }
+}
+
+/// What user 0's client left that declared its first operation.
+fn after_a_certificate(rt: &impl Host) -> Kept {
+    let mut client = superuser(rt);
+    let _update = declare(rt, &mut client);
+    closed(client)
+}
+
+/// Over what was kept user 0's client, which declared its first operation, is opened.
+fn is_opened(rt: &impl Host, kept: Kept) {
+    let client = reopened(rt, kept);
+    has_number(rt, &client, 1);
+    let_go(client);
+}
+
+#[test]
+fn no_user_opens_anothers_journal(rt: HostRuntime) {
+    let rt = (rt, Here);
+    let user = User::new(1).expect(&rt, "a user");
+    let (error, kept) = refused(&rt, user, after_a_certificate(&rt));
+    check(&rt, matches!(error, ClientError::Damaged), "damaged");
+    has_journal(&rt, &kept, 2557);
+    is_opened(&rt, kept);
+}
+
+/// The same devices with the key of another user.
+fn with_key(rt: &impl Host, kept: Kept, key: u8) -> Kept {
+    let Parts {
+        key: _other,
+        ledger,
+        journal,
+    } = kept;
+    Parts {
+        key: key_of(rt, key),
+        ledger,
+        journal,
+    }
+}
+
+/// No client with another key is opened over these, and they are handed back.
+fn is_foreign(rt: &impl Host, kept: Kept) -> Kept {
+    let kept = with_key(rt, kept, 1);
+    let (error, kept) = refused(rt, User::superuser(), kept);
+    check(rt, matches!(error, ClientError::Foreign), "foreign");
+    with_key(rt, kept, 0)
+}
+
+/// No client is opened where the first call of the journal fails, and the devices are handed back.
+fn fails_to_open(rt: &impl Host, kept: Kept) -> Kept {
+    let mut kept = kept;
+    kept.journal.fail_after(0);
+    let (error, kept) = refused(rt, User::superuser(), kept);
+    check(rt, matches!(error, ClientError::Device), "a device failed");
+    kept
+}
+
+#[test]
+fn no_key_opens_anothers_ledger(rt: HostRuntime) {
+    let rt = (rt, Here);
+    let kept = is_foreign(&rt, after_a_certificate(&rt));
+    is_opened(&rt, fails_to_open(&rt, kept));
+}

@@ -1,0 +1,229 @@
+//! Files in blocks, and i-tables: what is laid out and written, and that it is read again.
+
+use crate::here::Here;
+use client_tree::{Held, read_table};
+use itable::{
+    ChunkNumber, FILE_SIZE, ITable, Inode, Kind, LayError, lay_file, read_chunk, read_root,
+};
+use layout::{Digest, Text};
+use std::alloc::Global;
+use tests_aids::numbers::{i_number, principal};
+use tests_aids::{Aided, Host, check, check_text};
+
+/// A file of so many bytes.
+fn file_of(rt: &impl Host, size: usize) -> Vec<u8> {
+    let mut file = Vec::new(rt.alloc());
+    file.resize(size, 7).expect(rt, "memory");
+    file
+}
+
+/// A file's size, how many blocks it has, how many bytes the last one has, and the size of the i-node.
+static LAID: [(u32, usize, usize, usize); 4] = [
+    (1, 1, 1, 43),
+    (4096, 1, 4096, 43),
+    (4097, 2, 1, 75),
+    (FILE_SIZE, 1024, 4096, 32779),
+];
+
+/// The file of a size is laid out so.
+fn is_laid(rt: &impl Host, laid: (u32, usize, usize, usize)) {
+    let (size, blocks, last, inode) = laid;
+    let laid = lay_file(rt.alloc(), &file_of(rt, size as usize)).expect(rt, "a file");
+    check(rt, laid.blocks.len() == blocks, "how many blocks there are");
+    let block = laid.blocks.last().expect(rt, "a block");
+    check_text(rt, block, &file_of(rt, last));
+    check(rt, laid.inode.len() == inode, "the size of the i-node");
+    let found: Inode<Global> = Inode::read(rt.alloc(), &laid.inode).expect(rt, "an i-node");
+    check(rt, found.kind() == Kind::File, "a file");
+    check(rt, found.size() == size, "its size");
+}
+
+#[test]
+fn files_are_laid_out_in_blocks(rt: HostRuntime) {
+    let rt = (rt, Here);
+    for laid in &LAID {
+        is_laid(&rt, *laid);
+    }
+    let empty = lay_file(rt.alloc(), &[]).expect(&rt, "a file");
+    check_text(&rt, &empty.inode, b"SIN1\x01\0\0\0\0\0\0");
+    check(&rt, empty.blocks.is_empty(), "no block");
+    let larger = lay_file(rt.alloc(), &file_of(&rt, FILE_SIZE as usize + 1));
+    check(&rt, matches!(larger, Err(LayError::TooLarge)), "too large");
+}
+
+/// The i-node of the empty directory, whose digest any other SHA-256 gives.
+const EMPTY_DIRECTORY: [u8; 43] = *b"SIN1\x02\0\0\0\x06\0\x01\
+    \xde\xc9\x8a\xc0\xd7\x29\xf4\x0c\xfa\x6c\x87\xf5\xa0\x9a\x5e\x68\
+    \xb1\x8d\x60\x27\xfb\x84\xaa\x51\xef\x95\x32\xb3\x90\xd0\xc2\x55";
+
+#[test]
+fn i_node_of_the_empty_directory(rt: HostRuntime) {
+    let rt = (rt, Here);
+    let inode = Inode::of_directory(rt.alloc(), b"SDI1\0\0").expect(&rt, "memory");
+    check(&rt, inode.kind() == Kind::Directory, "a directory");
+    check(&rt, inode.size() == 6, "its size");
+    check(&rt, inode.blocks().len() == 1, "one block");
+    let text = inode.text(rt.alloc()).expect(&rt, "memory");
+    check_text(&rt, &text, &EMPTY_DIRECTORY);
+}
+
+/// The digest of this byte everywhere is set at an i-number.
+fn set(rt: &impl Host, table: &mut ITable<Global>, number: u16, byte: u8) {
+    let digest = Digest::from_bytes([byte; 32]);
+    table.set(i_number(rt, number), digest).expect(rt, "memory");
+}
+
+/// The digest of an i-number, of this byte everywhere, is removed, if it has one.
+fn removes(rt: &impl Host, table: &mut ITable<Global>, number: u16, byte: Option<u8>) {
+    let found = table.remove(i_number(rt, number));
+    let digest = byte.map(|byte| Digest::from_bytes([byte; 32]));
+    check(rt, found == digest, "what was removed");
+}
+
+/// The digest of an i-number is of this byte everywhere, and no other i-number has any.
+fn has_alone(rt: &impl Host, table: &ITable<Global>, number: u16, byte: u8) {
+    let found = table.get(i_number(rt, number));
+    check(
+        rt,
+        found == Some(Digest::from_bytes([byte; 32])),
+        "a digest",
+    );
+    check(rt, table.pairs().len() == 1, "one pair");
+}
+
+/// The handle.
+fn handle_of(rt: &impl Host, table: &mut ITable<Global>) -> Digest {
+    table.handle(rt.alloc()).expect(rt, "memory")
+}
+
+/// User 0's table with digests of 7s at these i-numbers, set from the last one to the first.
+fn table_of(rt: &impl Host, numbers: &[u16]) -> ITable<Global> {
+    let mut table = ITable::empty(rt.alloc(), principal(rt, 0));
+    for number in numbers.iter().rev() {
+        set(rt, &mut table, *number, 7);
+    }
+    table
+}
+
+/// The text of a chunk that is there.
+fn chunk_of(rt: &impl Host, table: &ITable<Global>, number: u8) -> Vec<u8> {
+    let number = ChunkNumber::new(number).expect(rt, "a chunk");
+    let text = table.chunk_text(rt.alloc(), number).expect(rt, "memory");
+    text.expect(rt, "a chunk with pairs")
+}
+
+/// The text of the root.
+fn root_of(rt: &impl Host, table: &mut ITable<Global>) -> Vec<u8> {
+    table.root_text(rt.alloc()).expect(rt, "memory")
+}
+
+/// Whether the table has a chunk.
+fn has_chunk(rt: &impl Host, table: &ITable<Global>, number: u8) -> bool {
+    let number = ChunkNumber::new(number).expect(rt, "a chunk");
+    let text = table.chunk_text(rt.alloc(), number).expect(rt, "memory");
+    text.is_some()
+}
+
+#[test]
+fn empty_table(rt: HostRuntime) {
+    let rt = (rt, Here);
+    let mut table = ITable::empty(rt.alloc(), principal(&rt, 5));
+    check(&rt, table.principal() == principal(&rt, 5), "principal 5");
+    check(&rt, !has_chunk(&rt, &table, 0), "no chunk");
+    check_text(&rt, &root_of(&rt, &mut table), b"STR1\x05\0");
+}
+
+#[test]
+fn pairs_are_set_and_removed(rt: HostRuntime) {
+    let rt = (rt, Here);
+    let mut table = table_of(&rt, &[]);
+    let empty = handle_of(&rt, &mut table);
+    set(&rt, &mut table, 1, 8);
+    set(&rt, &mut table, 1, 7);
+    has_alone(&rt, &table, 1, 7);
+    check(&rt, handle_of(&rt, &mut table) != empty, "another handle");
+    removes(&rt, &mut table, 1, Some(7));
+    removes(&rt, &mut table, 1, None);
+    check(&rt, handle_of(&rt, &mut table) == empty, "the handle");
+}
+
+/// The chunk has so many pairs, and is read again.
+fn has_pairs(rt: &impl Host, table: &ITable<Global>, number: u8, pairs: usize, size: usize) {
+    let text = chunk_of(rt, table, number);
+    check(rt, text.len() == size, "the size of a chunk");
+    let chunk = read_chunk(rt.alloc(), &text).expect(rt, "a chunk");
+    check(rt, chunk.number().get() == number, "its number");
+    check(rt, chunk.pairs().len() == pairs, "its pairs");
+}
+
+/// The root has so many chunks, and is read again.
+fn has_chunks(rt: &impl Host, table: &mut ITable<Global>, chunks: usize, size: usize) {
+    let text = root_of(rt, table);
+    check(rt, text.len() == size, "the size of a root");
+    let root = read_root(rt.alloc(), &text).expect(rt, "a root");
+    check(rt, root.principal().get() == 0, "user 0's");
+    check(rt, root.chunks().len() == chunks, "its chunks");
+}
+
+#[test]
+fn two_pairs(rt: HostRuntime) {
+    let rt = (rt, Here);
+    let mut table = table_of(&rt, &[2]);
+    set(&rt, &mut table, 1, 8);
+    has_pairs(&rt, &table, 0, 2, 74);
+    let chunk = chunk_of(&rt, &table, 0);
+    check(
+        &rt,
+        chunk.starts_with(b"STC1\0\x02\0\x01\x08\x08"),
+        "the chunk",
+    );
+    has_chunks(&rt, &mut table, 1, 39);
+    let root = root_of(&rt, &mut table);
+    check(&rt, root.starts_with(b"STR1\0\x01\0"), "the root");
+}
+
+/// The i-numbers of two full chunks, and one of each other chunk.
+fn numbers_of_each_chunk(rt: &impl Host) -> Vec<u16> {
+    let mut numbers = Vec::new(rt.alloc());
+    for number in 1..128 {
+        numbers.push(number).expect(rt, "memory");
+    }
+    for chunk in 2..64 {
+        numbers.push(chunk * 64 + 63).expect(rt, "memory");
+    }
+    numbers
+}
+
+#[test]
+fn full_chunks_and_a_full_root(rt: HostRuntime) {
+    let rt = (rt, Here);
+    let mut table = table_of(&rt, &numbers_of_each_chunk(&rt));
+    has_pairs(&rt, &table, 0, 63, 2148);
+    has_pairs(&rt, &table, 1, 64, 2182);
+    has_pairs(&rt, &table, 63, 1, 40);
+    has_chunks(&rt, &mut table, 64, 2118);
+}
+
+/// Keeps a text.
+fn keep(rt: &impl Host, held: &mut Held<Global>, text: Vec<u8>) -> Digest {
+    held.keep(text).expect(rt, "memory")
+}
+
+/// The i-table that the held blocks spell under the handle has the pairs of this one.
+fn is_read_again(rt: &impl Host, held: &Held<Global>, handle: Digest, table: &ITable<Global>) {
+    let again = read_table(rt.alloc(), held, principal(rt, 0), handle).expect(rt, "a table");
+    check(rt, again.pairs() == table.pairs(), "the same pairs");
+}
+
+/// User 0's table with i-numbers in the chunks 0 and 3.
+#[test]
+fn table_is_read_again(rt: HostRuntime) {
+    let rt = (rt, Here);
+    let mut table = table_of(&rt, &[1, 2, 200]);
+    let mut held = Held::empty(rt.alloc());
+    let _first = keep(&rt, &mut held, chunk_of(&rt, &table, 0));
+    let _other = keep(&rt, &mut held, chunk_of(&rt, &table, 3));
+    let handle = keep(&rt, &mut held, root_of(&rt, &mut table));
+    is_read_again(&rt, &held, handle, &table);
+    check(&rt, handle_of(&rt, &mut table) == handle, "the handle");
+}

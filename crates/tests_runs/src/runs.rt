@@ -1,0 +1,178 @@
+//! Three users, whose clients stand alone, and the same steps in a run. What they answer is told by hand where it
+//! matters: the files that are read, and the broken rule.
+
+use crate::here::Here;
+use crate::steps::{
+    OF_ONE, OF_TWO, Plan, Record, begins, finishes, is_carried_out, joins, judges, new_record,
+    operates, places, sees,
+};
+use client_verify::Rule;
+use layout::let_go;
+use lms_sign::PublicKey;
+use tests_aids::Host;
+use tests_aids::texts::{list, only_pending, reply, shown};
+use tests_client_aids::clients::MemoryClient;
+use tests_client_aids::servers::{Server, answers_commit, answers_update_so, server_of};
+use tests_client_aids::three::{Three, three_clients};
+use wire::Status;
+
+/// The vector of user 1's second operation after user 0's first.
+const SECOND_OF_ONE: &[u8] = b"\x02\0\0\0\0\x01\x01\0\0\0\x02";
+
+/// Three users, of whom user 0 has listed the others, and their server.
+#[derive(Drop)]
+struct Scene {
+    pinned: PublicKey,
+    record: Record,
+    zero: MemoryClient,
+    one: MemoryClient,
+    two: MemoryClient,
+    server: Server,
+    /// User 0's certificate and structure.
+    update: Vec<u8>,
+    by_zero: Vec<u8>,
+}
+
+/// User 0 lists users 1 and 2.
+fn new_scene(rt: &impl Host) -> Scene {
+    let Three {
+        mut zero,
+        one,
+        two,
+        pinned,
+        of_one,
+        of_two,
+    } = three_clients(rt);
+    let mut record = new_record(rt, pinned);
+    for client in [&zero, &one, &two] {
+        joins(rt, &mut record, client);
+    }
+    let mut server = server_of(rt, pinned);
+    let update = begins(rt, &mut record, &mut zero, Plan::ListBoth(of_one, of_two));
+    let reply = answers_update_so(rt, &mut server, &update, Status::Ok);
+    let by_zero = finishes(rt, &mut record, &mut server, &mut zero, &reply);
+    Scene {
+        pinned,
+        record,
+        zero,
+        one,
+        two,
+        server,
+        update,
+        by_zero,
+    }
+}
+
+impl Scene {
+    /// User 0 operates without a change, and sees both users' files.
+    fn reads_both(&mut self, rt: &impl Host) {
+        let Scene {
+            record,
+            zero,
+            server,
+            ..
+        } = self;
+        let _structure = operates(rt, record, server, zero, Plan::Nothing);
+        sees(rt, record, zero, 1, OF_ONE);
+        sees(rt, record, zero, 2, OF_TWO);
+    }
+
+    /// Users 1 and 2 declare that they make their files, and the server places both: the replies.
+    fn both_write(&mut self, rt: &impl Host) -> (Vec<u8>, Vec<u8>) {
+        let Scene {
+            record,
+            one,
+            two,
+            server,
+            ..
+        } = self;
+        let to_one = places(rt, record, server, one, Plan::Write(1));
+        let to_two = places(rt, record, server, two, Plan::Write(2));
+        (to_one, to_two)
+    }
+
+    /// User 1 accepts the reply, signs and commits.
+    fn one_finishes(&mut self, rt: &impl Host, reply: &[u8]) {
+        let Scene {
+            record,
+            one,
+            server,
+            ..
+        } = self;
+        let _structure = finishes(rt, record, server, one, reply);
+    }
+
+    /// So does user 2.
+    fn two_finishes(&mut self, rt: &impl Host, reply: &[u8]) {
+        let Scene {
+            record,
+            two,
+            server,
+            ..
+        } = self;
+        let _structure = finishes(rt, record, server, two, reply);
+    }
+
+    /// Another server, which shows user 0's operation, too.
+    fn another_server(&self, rt: &impl Host) -> Server {
+        let mut other = server_of(rt, self.pinned);
+        let _same = answers_update_so(rt, &mut other, &self.update, Status::Ok);
+        answers_commit(rt, &mut other, &self.by_zero, Status::Ok);
+        other
+    }
+
+    /// User 1 operates at its server, and user 2 at this other one: their structures.
+    fn both_operate_apart(&mut self, rt: &impl Host, other: &mut Server) -> (Vec<u8>, Vec<u8>) {
+        let Scene {
+            record,
+            one,
+            two,
+            server,
+            ..
+        } = self;
+        let by_one = operates(rt, record, server, one, Plan::Nothing);
+        let by_two = operates(rt, record, other, two, Plan::Nothing);
+        (by_one, by_two)
+    }
+
+    /// User 1 declares its second operation, and is shown these structures: the rule that is broken.
+    fn one_is_shown(&mut self, rt: &impl Host, structures: &[&[u8]]) -> Option<Rule> {
+        let Scene { record, one, .. } = self;
+        let update = begins(rt, record, one, Plan::Nothing);
+        let own = only_pending(rt, 2, &update, SECOND_OF_ONE);
+        let text = reply(rt, &list(rt, structures), &own);
+        judges(rt, record, one, &text)
+    }
+}
+
+/// Users 1 and 2 have writes pending, which user 0 reads: both while both are pending, once user 2 has committed, and
+/// once user 1 has, too.
+#[test]
+fn two_write_while_one_reads(rt: HostRuntime) {
+    let rt = &(rt, Here);
+    let mut scene = new_scene(rt);
+    let (to_one, to_two) = scene.both_write(rt);
+    scene.reads_both(rt);
+    scene.two_finishes(rt, &to_two);
+    scene.reads_both(rt);
+    scene.one_finishes(rt, &to_one);
+    scene.reads_both(rt);
+    is_carried_out(rt, &scene.record);
+    let_go(scene);
+}
+
+/// The last answer is that the rule on numbers is broken: user 1 is shown what it and user 2 signed apart.
+#[test]
+fn forks_that_are_joined_in_a_run(rt: HostRuntime) {
+    let rt = &(rt, Here);
+    let mut scene = new_scene(rt);
+    let mut other = scene.another_server(rt);
+    let (by_one, by_two) = scene.both_operate_apart(rt, &mut other);
+    let zero = shown(rt, &scene.by_zero);
+    let (by_one, by_two) = (shown(rt, &by_one), shown(rt, &by_two));
+    let broken = scene.one_is_shown(rt, &[&zero, &by_one, &by_two]);
+    assert!(rt; broken == Some(Rule::Numbers), "{broken:?}");
+    is_carried_out(rt, &scene.record);
+    let_go(other);
+    let_go(scene);
+}

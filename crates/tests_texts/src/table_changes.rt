@@ -1,0 +1,130 @@
+//! Changes of the table: their bytes, what they make of a table, and which have no effect.
+
+use crate::faults::CERT;
+use crate::here::Here;
+use layout::{Digest, Group, Text, User, Version};
+use lms_sign::PublicKey;
+use principals::Table;
+use std::alloc::Global;
+use tests_aids::texts::joined;
+use tests_aids::{Aided, Host, check_text};
+use update_cert::{AnyAction, Cert, Change, TableChange, apply_table, table_after};
+
+/// Forms of keys, without meaning: user 0's, and user 1's.
+const PINNED: &[u8; 56] =
+    b"\x00\x00\x00\x06\x00\x00\x00\x03................................................";
+
+const KEY: &[u8; 56] =
+    b"\x00\x00\x00\x06\x00\x00\x00\x03################################################";
+
+fn key(rt: &impl Host, bytes: &[u8; 56]) -> PublicKey {
+    PublicKey::from_bytes(*bytes).expect(rt, "a key")
+}
+
+fn user(rt: &impl Host, number: u8) -> User {
+    User::new(number).expect(rt, "a user")
+}
+
+fn group(rt: &impl Host, number: u8) -> Group {
+    Group::new(number).expect(rt, "a group")
+}
+
+/// The certificate of a user with these changes of the table.
+fn cert_of(rt: &impl Host, user: User, number: u32, changes: &[TableChange]) -> Cert<Global> {
+    let mut all = Vec::new(rt.alloc());
+    for change in changes {
+        all.push(Change::of_table(*change)).expect(rt, "memory");
+    }
+    assert!(rt; all.len() <= 16);
+    let number = Version::new(number).expect(rt, "a number");
+    Cert::new(user, number, Digest::from_bytes([0; 32]), all)
+}
+
+/// User 1 is listed and a member of group 64; it is listed already, and user 2 is no member.
+fn first(rt: &impl Host) -> Cert<Global> {
+    let (one, two, group) = (user(rt, 1), user(rt, 2), group(rt, 64));
+    let changes = [
+        TableChange::AddUser(one, key(rt, KEY)),
+        TableChange::AddMember(group, one),
+        TableChange::AddUser(one, key(rt, PINNED)),
+        TableChange::DropMember(group, two),
+    ];
+    cert_of(rt, User::superuser(), 1, &changes)
+}
+
+#[test]
+fn text_of_the_tables_changes(rt: HostRuntime) {
+    let rt = (rt, Here);
+    let by_hand = joined(
+        &rt,
+        &[
+            CERT,
+            b"\x04\x06\x01",
+            KEY,
+            b"\x07\x40\x01\x06\x01",
+            PINNED,
+            b"\x08\x40\x02",
+        ],
+    );
+    let text = first(&rt).text(rt.alloc()).expect(&rt, "memory");
+    check_text(&rt, &text, &by_hand);
+    let again: Cert<Global> = Cert::read(rt.alloc(), &by_hand).expect(&rt, "a certificate");
+    for change in again.changes() {
+        assert!(rt; change.principal().get() == 0 && change.i_number().get() == 1);
+        assert!(rt; matches!(change.action(), AnyAction::OfTable(_)));
+    }
+}
+
+/// The table after an operation, whose changes of these numbers have no effect.
+fn applied(rt: &impl Host, table: &mut Table<Global>, cert: &Cert<Global>, void: &[u8]) {
+    let voids = apply_table(rt.alloc(), table, cert).expect(rt, "memory");
+    check_text(rt, voids.numbers(), void);
+}
+
+/// The bytes of the table, with this row of a member.
+fn check_table(rt: &impl Host, table: &Table<Global>, row: &[u8; 10]) {
+    let text = table.text(rt.alloc()).expect(rt, "memory");
+    let wanted: [&[u8]; 6] = [
+        b"SPT1\x02\0\0\0\0\0",
+        PINNED,
+        b"\x01\0\0\0\x01",
+        KEY,
+        b"\0\x01",
+        row,
+    ];
+    check_text(rt, &text, &joined(rt, &wanted));
+    assert!(rt; text.len() == 139);
+}
+
+/// The table after user 0's second operation, told without changing the one before.
+fn after_second_drop(rt: &impl Host, table: &Table<Global>, second: &Cert<Global>) {
+    let after = table_after(rt.alloc(), table, second).expect(rt, "memory");
+    check_table(
+        rt,
+        &after.expect(rt, "a table"),
+        b"\x40\x01\0\0\0\x01\0\0\0\x02",
+    );
+}
+
+/// Another user's changes leave the table as it was.
+fn others_drop_nobody(rt: &impl Host, table: &mut Table<Global>, others: &Cert<Global>) {
+    applied(rt, table, others, &[1, 2]);
+    check_table(rt, table, b"\x40\x01\0\0\0\x01\0\0\0\0");
+    let after = table_after(rt.alloc(), table, others).expect(rt, "memory");
+    assert!(rt; after.is_none());
+}
+
+#[test]
+fn table_of_three_operations(rt: HostRuntime) {
+    let rt = (rt, Here);
+    let (one, group) = (user(&rt, 1), group(&rt, 64));
+    let mut table = Table::genesis(rt.alloc(), key(&rt, PINNED));
+    applied(&rt, &mut table, &first(&rt), &[3, 4]);
+    check_table(&rt, &table, b"\x40\x01\0\0\0\x01\0\0\0\0");
+    let dropped = [TableChange::DropMember(group, one); 2];
+    others_drop_nobody(&rt, &mut table, &cert_of(&rt, one, 1, &dropped));
+    let second = cert_of(&rt, User::superuser(), 2, &dropped);
+    after_second_drop(&rt, &table, &second);
+    applied(&rt, &mut table, &second, &[2]);
+    assert!(rt; table.is_member(group, one, 1) && !table.is_member(group, one, 2));
+}
