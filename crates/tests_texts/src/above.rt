@@ -2,7 +2,7 @@
 //! its top.
 
 use crate::here::Here;
-use layout::Text;
+use layout::{Text, let_go};
 use pending_list::{Reply, Signed, depth_of_top, digest_of_last, is_above, top};
 use std::alloc::Global;
 use tests_aids::texts::{certificate, joined, listed, pending, plan, reply, shown, structure};
@@ -87,27 +87,36 @@ fn stands(rt: &impl Host, reply: &Reply<Global>, case: &Case) {
     check(rt, is_above(reply, item) == case.is_above, "above");
 }
 
+/// The reply of the case.
+fn reply_of(rt: &impl Host, case: &Case) -> Reply<Global> {
+    let text = reply(rt, &structures_of(rt, case), &pending_of(rt, case));
+    Reply::read(rt.alloc(), &text).expect(rt, "a reply")
+}
+
 #[test]
 fn operations_above_top(rt: HostRuntime) {
     let rt = (rt, Here);
     for case in &CASES {
-        let text = reply(&rt, &structures_of(&rt, case), &pending_of(&rt, case));
-        let read = Reply::read(rt.alloc(), &text).expect(&rt, "a reply");
+        let read = reply_of(&rt, case);
         stands(&rt, &read, case);
+        let_go(read);
     }
+}
+
+/// The reply has no top, and is spelled so.
+fn is_empty(rt: &impl Host, reply: &Reply<Global>) {
+    check(rt, top(reply).is_none(), "no top");
+    check(rt, depth_of_top(reply) == 0, "the depth of no top");
+    let text = reply.text(rt.alloc()).expect(rt, "memory");
+    check_text(rt, &text, b"SRL1\0\0");
 }
 
 #[test]
 fn no_structure_is_no_top(rt: HostRuntime) {
     let rt = (rt, Here);
     let empty = Reply::new(Vec::new(rt.alloc()), Vec::new(rt.alloc()));
-    check(&rt, top(&empty).is_none(), "no top");
-    check(&rt, depth_of_top(&empty) == 0, "the depth of no top");
-    check_text(
-        &rt,
-        &empty.text(rt.alloc()).expect(&rt, "memory"),
-        b"SRL1\0\0",
-    );
+    is_empty(&rt, &empty);
+    let_go(empty);
     let last: Option<&Signed<Structure<Global>>> = None;
     let digest = digest_of_last(rt.alloc(), last).expect(&rt, "memory");
     check_text(&rt, digest.as_bytes(), &[0; 32]);

@@ -1,7 +1,7 @@
 //! The plans of next operations, also of those that raise groups, and the group records of structures.
 
 use crate::here::Here;
-use layout::{Digest, Group, Text, User, Version};
+use layout::{Digest, Group, Text, User, Version, let_go};
 use std::alloc::Global;
 use tests_aids::texts::{joined, plan};
 use tests_aids::{Aided, Host, check, check_text};
@@ -135,6 +135,14 @@ fn is_record(rt: &impl Host, found: &GroupRecord, group: u8, version: u32, handl
     check_text(rt, found.handle.as_bytes(), &[handle; 32]);
 }
 
+/// There are two records, of these groups, versions and handles.
+fn are_records(rt: &impl Host, records: &[GroupRecord], wanted: [(u8, u32, u8); 2]) {
+    check(rt, records.len() == 2, "two records");
+    for (found, (group, version, handle)) in records.iter().zip(wanted) {
+        is_record(rt, found, group, version, handle);
+    }
+}
+
 /// A structure with records of groups 64 and 65, of 189 bytes.
 fn structure_of_two(rt: &impl Host) -> Vec<u8> {
     let plan = plan(rt, 1, 1, &[7; 32], RAISED, b"\0");
@@ -156,11 +164,9 @@ fn records_of_two_groups(rt: HostRuntime) {
     let text = structure_of_two(&rt);
     check(&rt, text.len() == 189, "the size of the structure");
     let structure = Structure::read(rt.alloc(), &text).expect(&rt, "a structure");
-    let [first, second] = structure.groups().as_slice() else {
-        panic!(&rt; "not two records");
-    };
-    is_record(&rt, first, 64, 1, 8);
-    is_record(&rt, second, 65, 3, 9);
+    let records = structure.groups().as_slice();
+    are_records(&rt, records, [(64, 1, 8), (65, 3, 9)]);
+    let_go(structure);
 }
 
 /// The state of a group at a version, of a handle of 32 times this byte, by the table of version 3.
@@ -182,9 +188,5 @@ fn records_are_set(rt: HostRuntime) {
         let state = state_of(&rt, group, version, handle);
         records.set(state).expect(&rt, "memory");
     }
-    let [first, second] = records.as_slice() else {
-        panic!(&rt; "not two records");
-    };
-    is_record(&rt, first, 64, 2, 6);
-    is_record(&rt, second, 70, 9, 7);
+    are_records(&rt, records.as_slice(), [(64, 2, 6), (70, 9, 7)]);
 }

@@ -5,7 +5,7 @@ ghost use Rattle.std.specs.Prelude.{◌<◌};
 use crate::here::Here;
 use std::alloc::Global;
 use tests_aids::texts::joined;
-use tests_aids::{Aided, Host};
+use tests_aids::{Aided, Host, check};
 use wire::{FrameError, Frames};
 
 /// Hands in the next bytes of a stream.
@@ -66,19 +66,29 @@ fn no_frame_before_its_last_byte(rt: HostRuntime) {
     comes_by_bytes(&rt, &frame, UPDATE);
 }
 
+/// A frame comes with all but a byte of this length, which doesn't come yet.
+fn comes_before(rt: &impl Host, frames: &mut Frames<Global>, [a, b, c]: [u8; 3]) {
+    check(rt, is_not_yet(frames), "before any byte");
+    feed(rt, frames, &[0, 0, 0, 2, 5, 6]);
+    feed(rt, frames, &[a, b, c]);
+    check(rt, is_body(frames, &[5, 6]), "the frame before it");
+    check(rt, is_not_yet(frames), "before its last byte");
+}
+
+/// The next length is at fault, whatever follows.
+fn is_at_fault_from_now_on(rt: &impl Host, frames: &mut Frames<Global>) {
+    check(rt, is_at_fault(frames), "at fault");
+    feed(rt, frames, &[0, 0, 0, 1, 5]);
+    check(rt, is_at_fault(frames), "still at fault");
+    check(rt, is_at_fault(frames), "at fault ever after");
+}
+
 /// After a frame, of which a piece comes with all but a byte of this length, the length is at fault whatever follows.
 fn stays_at_fault(rt: &impl Host, [a, b, c, d]: [u8; 4]) {
     let mut frames = Frames::new(rt.alloc());
-    assert!(rt; is_not_yet(&mut frames), "before any byte");
-    feed(rt, &mut frames, &[0, 0, 0, 2, 5, 6]);
-    feed(rt, &mut frames, &[a, b, c]);
-    assert!(rt; is_body(&mut frames, &[5, 6]), "the frame before it");
-    assert!(rt; is_not_yet(&mut frames), "before its last byte");
+    comes_before(rt, &mut frames, [a, b, c]);
     feed(rt, &mut frames, &[d]);
-    assert!(rt; is_at_fault(&mut frames), "at fault");
-    feed(rt, &mut frames, &[0, 0, 0, 1, 5]);
-    assert!(rt; is_at_fault(&mut frames), "still at fault");
-    assert!(rt; is_at_fault(&mut frames), "at fault ever after");
+    is_at_fault_from_now_on(rt, &mut frames);
 }
 
 /// Lengths 0, 2,097,153 and 4,294,967,295.

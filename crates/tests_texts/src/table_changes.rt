@@ -2,12 +2,12 @@
 
 use crate::faults::CERT;
 use crate::here::Here;
-use layout::{Digest, Group, Text, User, Version};
+use layout::{Digest, Group, Text, User, Version, let_go};
 use lms_sign::PublicKey;
 use principals::Table;
 use std::alloc::Global;
 use tests_aids::texts::joined;
-use tests_aids::{Aided, Host, check_text};
+use tests_aids::{Aided, Host, check, check_text};
 use update_cert::{AnyAction, Cert, Change, TableChange, apply_table, table_after};
 
 /// Forms of keys, without meaning: user 0's, and user 1's.
@@ -52,27 +52,40 @@ fn first(rt: &impl Host) -> Cert<Global> {
     cert_of(rt, User::superuser(), 1, &changes)
 }
 
+/// The text of user 0's first certificate.
+fn first_text(rt: &impl Host) -> Vec<u8> {
+    let first = first(rt);
+    let text = first.text(rt.alloc()).expect(rt, "memory");
+    let_go(first);
+    text
+}
+
+/// Each change is one of the table.
+fn are_of_table(rt: &impl Host, changes: &[Change<Global>]) {
+    for change in changes {
+        let is_there = change.principal().get() == 0 && change.i_number().get() == 1;
+        check(rt, is_there, "at 0:1");
+        let is_of_table = matches!(change.action(), AnyAction::OfTable(_));
+        check(rt, is_of_table, "a change of the table");
+    }
+}
+
 #[test]
 fn text_of_the_tables_changes(rt: HostRuntime) {
     let rt = (rt, Here);
-    let by_hand = joined(
-        &rt,
-        &[
-            CERT,
-            b"\x04\x06\x01",
-            KEY,
-            b"\x07\x40\x01\x06\x01",
-            PINNED,
-            b"\x08\x40\x02",
-        ],
-    );
-    let text = first(&rt).text(rt.alloc()).expect(&rt, "memory");
-    check_text(&rt, &text, &by_hand);
+    let pieces: [&[u8]; 6] = [
+        CERT,
+        b"\x04\x06\x01",
+        KEY,
+        b"\x07\x40\x01\x06\x01",
+        PINNED,
+        b"\x08\x40\x02",
+    ];
+    let by_hand = joined(&rt, &pieces);
+    check_text(&rt, &first_text(&rt), &by_hand);
     let again: Cert<Global> = Cert::read(rt.alloc(), &by_hand).expect(&rt, "a certificate");
-    for change in again.changes() {
-        assert!(rt; change.principal().get() == 0 && change.i_number().get() == 1);
-        assert!(rt; matches!(change.action(), AnyAction::OfTable(_)));
-    }
+    are_of_table(&rt, again.changes());
+    let_go(again);
 }
 
 /// The table after an operation, whose changes of these numbers have no effect.
