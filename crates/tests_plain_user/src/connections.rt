@@ -4,6 +4,7 @@ use crate::caller::Caller;
 use crate::pipe::{ClientEnd, Pipe, ServerEnd};
 use crate::user::PlainUser;
 use block_store::Store;
+use layout::let_go;
 use lms_sign::PublicKey;
 use server_workers::{Gate, Served, serve};
 use std::alloc::Global;
@@ -54,23 +55,35 @@ pub(crate) fn caller<'a, R: Host>(rt: &'a R, pipe: &'a Pipe) -> Caller<ClientEnd
 /// with the most of them user 0 makes 2, this user 2 an operation, and the other user 600.
 const IN_ROOM: u32 = 210;
 
+/// The user makes its operation of this number, which is committed. No call of it may be answered Busy while the log has
+/// room.
+fn operate_once<R: Host>(
+    rt: &R,
+    caller: &mut Caller<ClientEnd<'_, R>>,
+    user: &mut PlainUser,
+    changes: &[u8],
+    number: u32,
+) {
+    let answer = user.operate(caller, changes);
+    let (placed, committed) = answer.expect(rt, "an operation");
+    assert!(rt; placed == Status::Ok, "operation {number}: {placed:?}");
+    assert!(rt;
+        committed == Status::Ok,
+        "operation {number}: {committed:?}"
+    );
+    let in_time = number > IN_ROOM || user.busy() == 0;
+    assert!(rt; in_time, "operation {number}: Busy");
+}
+
 /// A user makes so many operations of the same changes over a pipe, which ends then.
 pub(crate) fn operate<R: Host>(rt: &R, pipe: &Pipe, user: PlainUser, changes: &[u8], count: u32) {
     let mut user = user;
     let mut caller = caller(rt, pipe);
     for number in 1..=count {
-        let statuses = user
-            .operate(&mut caller, changes)
-            .expect(rt, "an operation");
-        assert!(rt;
-            statuses == (Status::Ok, Status::Ok),
-            "operation {number}: {statuses:?}"
-        );
-        assert!(rt;
-            number > IN_ROOM || user.busy() == 0,
-            "operation {number}: Busy"
-        );
+        operate_once(rt, &mut caller, &mut user, changes, number);
     }
+    let_go(caller);
+    let_go(user);
     pipe.close(rt);
 }
 

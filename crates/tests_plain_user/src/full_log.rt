@@ -4,11 +4,11 @@ ghost use Rattle.std.specs.Prelude.{◌≡◌, ◌<◌, [], true};
 ghost use Rattle.crossbeam_queue.specs.Passes.{IsPassOf, ruled_capacity};
 ghost use Rattle.server_workers.specs.Hands.{hand, hand_of};
 
-use crate::caller::Replied;
 use crate::connections::{Host, users};
 use crate::operations::records;
 use crate::user::{PlainUser, listing};
 use block_store::Store;
+use layout::let_go;
 use lms_sign::PublicKey;
 use server_workers::{
     CallPass, CallQueue, Ended, Flusher, MemoryConnection, OpenGate, ServerName, Shared, Tally,
@@ -32,26 +32,38 @@ struct ByHand<'a, B: ServerName, L: Ledger, R: Host> {
 }
 
 impl<'a, B: ServerName, L: Ledger, R: Host> ByHand<'a, B, L, R> {
-    /// What a request is replied over a connection of its own.
-    fn ask(&mut self, kind: RequestKind, text: &[u8]) -> Replied {
+    /// What is written over a connection of its own that brings this.
+    fn written(&mut self, input: &[u8]) -> Vec<u8> {
         let (rt, alloc) = (self.rt, self.rt.alloc());
-        assert!(rt; text.len() < 2_097_152, "a text of a frame");
-        let input = request_frame(alloc, kind, text).expect(rt, "memory");
         let mut output = Vec::new(alloc);
-        let mut connection = MemoryConnection::new(&input, 4096, &mut output);
+        let mut connection = MemoryConnection::new(input, 4096, &mut output);
         let ByHand { shared, tally, .. } = self;
         let ended = converse(rt, &mut connection, shared, &OpenGate, tally);
         assert!(rt; ended == Ended::End, "{ended:?}");
-        replied(rt, &output)
+        output
+    }
+
+    /// The payload with which a request is replied over such a connection, and this status.
+    fn ask(&mut self, kind: RequestKind, text: &[u8], status: Status) -> Vec<u8> {
+        let rt = self.rt;
+        let input = framed(rt, kind, text);
+        let output = self.written(&input);
+        payload_of(rt, &output, status)
     }
 }
 
-/// The reply in this frame.
-fn replied<R: Host>(rt: &R, frame: &[u8]) -> Replied {
+/// The frame of a request.
+fn framed<R: Host>(rt: &R, kind: RequestKind, text: &[u8]) -> Vec<u8> {
+    assert!(rt; text.len() < 2_097_152, "a text of a frame");
+    request_frame(rt.alloc(), kind, text).expect(rt, "memory")
+}
+
+/// The payload of the reply in this frame, which has this status.
+fn payload_of<R: Host>(rt: &R, frame: &[u8], status: Status) -> Vec<u8> {
     let body = body_of(frame).expect(rt, "one frame");
-    let (status, payload) = reply_of(body).expect(rt, "a reply");
-    let payload = Vec::from_slice(rt.alloc(), payload).expect(rt, "memory");
-    Replied { status, payload }
+    let (found, payload) = reply_of(body).expect(rt, "a reply");
+    assert!(rt; found == status, "{found:?} and not {status:?}");
+    Vec::from_slice(rt.alloc(), payload).expect(rt, "memory")
 }
 
 /// Makes an operation, none of whose calls is answered Busy.
@@ -62,11 +74,9 @@ fn operate<B: ServerName, L: Ledger, R: Host>(
 ) {
     let rt = server.rt;
     let certificate = user.certificate(changes).expect(rt, "a certificate");
-    let placed = server.ask(RequestKind::Update, &certificate);
-    assert!(rt; placed.status == Status::Ok, "{:?}", placed.status);
-    let structure = user.structure(&placed.payload).expect(rt, "a structure");
-    let committed = server.ask(RequestKind::Commit, &structure);
-    assert!(rt; committed.status == Status::Ok, "{:?}", committed.status);
+    let lists = server.ask(RequestKind::Update, &certificate, Status::Ok);
+    let structure = user.structure(&lists).expect(rt, "a structure");
+    let _payload = server.ask(RequestKind::Commit, &structure, Status::Ok);
 }
 
 /// Fills the log by user 0's operations, the first of which has these changes.
@@ -82,8 +92,26 @@ fn fill<B: ServerName, L: Ledger, R: Host>(
     }
 }
 
-/// Fills the log, whereupon a call of the other user is answered Busy, and empties it: how many calls were carried
-/// out, and what was written.
+/// Fills the log, whereupon a call of the other user is answered Busy, twice, and empties it, whereupon it isn't.
+fn is_busy_while_full<W: Write + Drop, B: ServerName, L: Ledger, R: Host>(
+    server: &mut ByHand<'_, B, L, R>,
+    flusher: &mut Flusher<'_, B, R, W>,
+    (superuser, other): (PlainUser, PlainUser),
+    changes: &[u8],
+) {
+    let rt = server.rt;
+    let mut other = other;
+    fill(server, superuser, changes);
+    let certificate = other.certificate(b"\0").expect(rt, "a certificate");
+    for _time in 0..2u8 {
+        let _payload = server.ask(RequestKind::Update, &certificate, Status::Busy);
+    }
+    flusher.flush();
+    let _payload = server.ask(RequestKind::Update, &certificate, Status::Ok);
+    flusher.flush();
+}
+
+/// The same with a server over this queue: how many calls were carried out, and what was written.
 fn fill_and_empty<W: Write + Drop, B: ServerName, L: Ledger, R: Host>(
     rt: &R,
     queue: &CallQueue,
@@ -100,8 +128,6 @@ fn fill_and_empty<W: Write + Drop, B: ServerName, L: Ledger, R: Host>(
     requires name { blank.name ≡ L.name }
     requires parts { (blank.parts ≡ L.parts) × (blank.parts ≡ 1) }
 {
-    let (superuser, other) = users;
-    let mut other = other;
     let alloc = rt.alloc();
     let store = Store::new(alloc);
     let (shared, tally, popping) = Shared::<'_, B, L, R>::new(
@@ -109,20 +135,13 @@ fn fill_and_empty<W: Write + Drop, B: ServerName, L: Ledger, R: Host>(
     );
     let mut flusher = Flusher::<'_, B, R, W>::new(rt, queue, popping, writer);
     let mut server = ByHand { rt, shared, tally };
-    fill(&mut server, superuser, changes);
-    let certificate = other.certificate(b"\0").expect(rt, "a certificate");
-    for _time in 0..2u8 {
-        let full = server.ask(RequestKind::Update, &certificate);
-        assert!(rt; full.status == Status::Busy, "{:?}", full.status);
-    }
-    flusher.flush();
-    let placed = server.ask(RequestKind::Update, &certificate);
-    assert!(rt; placed.status == Status::Ok, "{:?}", placed.status);
-    flusher.flush();
-    (server.tally.answered(), flusher.into_writer())
+    is_busy_while_full(&mut server, &mut flusher, users, changes);
+    let carried_out = server.tally.answered();
+    let_go(server);
+    (carried_out, flusher.into_writer())
 }
 
-/// The same over a queue of its own.
+/// And over a queue of its own.
 fn fill_a_log<W: Write + Drop, R: Host>(rt: &R, writer: W) -> (u64, W) {
     let alloc = rt.alloc();
     let superuser = PlainUser::new(alloc, 0).expect(rt, "memory");

@@ -98,11 +98,9 @@ fn operate<R: Host>(
     texts: &mut Vec<Vec<u8>>,
 ) {
     let certificate = user.certificate(changes).expect(rt, "a certificate");
-    let placed = ask(rt, caller, RequestKind::Update, &certificate);
-    assert!(rt; placed.status == Status::Ok, "{:?}", placed.status);
-    let structure = user.structure(&placed.payload).expect(rt, "a structure");
-    let committed = ask(rt, caller, RequestKind::Commit, &structure);
-    assert!(rt; committed.status == Status::Ok, "{:?}", committed.status);
+    let lists = ask(rt, caller, RequestKind::Update, &certificate, Status::Ok);
+    let structure = user.structure(&lists).expect(rt, "a structure");
+    let _payload = ask(rt, caller, RequestKind::Commit, &structure, Status::Ok);
     texts.push(certificate).expect(rt, "memory");
     texts.push(structure).expect(rt, "memory");
 }

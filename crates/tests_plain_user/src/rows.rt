@@ -4,6 +4,7 @@ use crate::caller::{Caller, Replied};
 use crate::connections::{Host, caller, pipes, serve_pipes};
 use crate::pipe::{ClientEnd, Pipe};
 use crate::user::PlainUser;
+use layout::let_go;
 use lms_sign::PublicKey;
 use server_workers::{Gate, OpenGate};
 use std::alloc::Global;
@@ -13,46 +14,68 @@ use std::thread;
 use std::time::Duration;
 use wire::{RequestKind, Status};
 
-/// What the caller is replied.
+/// The payload with which the caller is replied, and this status.
 pub(crate) fn ask<R: Host>(
     rt: &R,
     caller: &mut Caller<ClientEnd<'_, R>>,
     kind: RequestKind,
     text: &[u8],
-) -> Replied {
+    status: Status,
+) -> Vec<u8> {
     assert!(rt; text.len() < 2_097_152, "a text of a frame");
-    caller.ask(kind, text).expect(rt, "a reply")
+    let replied = caller.ask(kind, text).expect(rt, "a reply");
+    let Replied {
+        status: found,
+        payload,
+    } = replied;
+    assert!(rt; found == status, "{found:?} and not {status:?}");
+    payload
 }
 
-/// The same reply to one UPDATE three times while it is pending, and Ok to one COMMIT twice.
+/// The same reply to one UPDATE three times while it is pending.
+fn place_again<R: Host>(
+    rt: &R,
+    caller: &mut Caller<ClientEnd<'_, R>>,
+    certificate: &[u8],
+) -> Vec<u8> {
+    let first = ask(rt, caller, RequestKind::Update, certificate, Status::Ok);
+    assert!(rt; first.len() == 2608, "placed");
+    for _again in 0..2u8 {
+        let again = ask(rt, caller, RequestKind::Update, certificate, Status::Ok);
+        assert!(rt; again == first, "again");
+    }
+    first
+}
+
+/// Ok to one COMMIT twice.
+fn commit_again<R: Host>(rt: &R, caller: &mut Caller<ClientEnd<'_, R>>, structure: &[u8]) {
+    for _time in 0..2u8 {
+        let payload = ask(rt, caller, RequestKind::Commit, structure, Status::Ok);
+        assert!(rt; payload.is_empty(), "committed");
+    }
+}
+
+/// Makes an operation, each of whose calls comes again.
 fn operate_again<R: Host>(rt: &R, pipe: &Pipe, user: PlainUser) {
     let mut user = user;
     let mut caller = caller(rt, pipe);
     let certificate = user.certificate(b"\0").expect(rt, "a certificate");
-    let first = ask(rt, &mut caller, RequestKind::Update, &certificate);
-    assert!(rt;
-        first.status == Status::Ok && first.payload.len() == 2608,
-        "placed"
-    );
-    for _again in 0..2u8 {
-        let again = ask(rt, &mut caller, RequestKind::Update, &certificate);
-        assert!(rt;
-            again.status == Status::Ok && again.payload == first.payload,
-            "again"
-        );
-    }
-    let structure = user.structure(&first.payload).expect(rt, "a structure");
-    for _time in 0..2u8 {
-        let committed = ask(rt, &mut caller, RequestKind::Commit, &structure);
-        assert!(rt;
-            committed.status == Status::Ok && committed.payload.is_empty(),
-            "committed"
-        );
-    }
+    let lists = place_again(rt, &mut caller, &certificate);
+    let structure = user.structure(&lists).expect(rt, "a structure");
+    commit_again(rt, &mut caller, &structure);
+    let_go(caller);
+    let_go(user);
     pipe.close(rt);
 }
 
 /// The log has the event of each but once: 01, 2,550 and so many bytes, 02, 2,595 and so many.
+fn has_each_once<R: Host>(rt: &R, log: &[u8]) {
+    assert_eq!(rt; log.len(), 5155);
+    assert!(rt; log.starts_with(b"\x01\0\0\x09\xf6SUC1"), "the certificate");
+    let rest = &log[2555..];
+    assert!(rt; rest.starts_with(b"\x02\0\0\x0a\x23SVS1"), "the structure");
+}
+
 #[test]
 fn calls_that_come_again(rt: HostRuntime) {
     let user = PlainUser::new(rt.alloc(), 0).expect(&rt, "memory");
@@ -66,13 +89,8 @@ fn calls_that_come_again(rt: HostRuntime) {
     );
     assert_eq!(rt; served.answered, 5);
     assert!(rt; served.flushed, "flushed");
-    let log = served.writer.as_slice();
-    assert_eq!(rt; log.len(), 5155);
-    assert!(rt; log.starts_with(b"\x01\0\0\x09\xf6SUC1"), "the certificate");
-    assert!(rt;
-        log[2555..].starts_with(b"\x02\0\0\x0a\x23SVS1"),
-        "the structure"
-    );
+    has_each_once(&rt, &served.writer);
+    let_go(served);
 }
 
 /// How many turns of one millisecond the first call is held up at most.
@@ -104,8 +122,8 @@ impl<'a, R: Host + Clock> Gate for Holding<'a, R> {
 /// One call over a pipe, whose answer is told.
 fn call_once<R: Host>(rt: &R, pipe: &Pipe, answered: &AtomicBool) {
     let mut caller = caller(rt, pipe);
-    let replied = ask(rt, &mut caller, RequestKind::Update, b"no certificate");
-    assert!(rt; replied.status == Status::Form, "{:?}", replied.status);
+    let text = b"no certificate";
+    let _payload = ask(rt, &mut caller, RequestKind::Update, text, Status::Form);
     answered.store(true, Ordering::SeqCst);
     pipe.close(rt);
 }
