@@ -1,13 +1,17 @@
-//! A client, and what it answers to replies that are made by hand.
+//! A client, and what it answers. All tests call it by these few functions: the proof of each function that calls it
+//! itself loads what it promises.
 
-use client_verify::{Client, ClientError, Parts, Phase, Rule, Step, are_laid};
+use client_verify::{Client, ClientError, Look, Parts, Phase, Rule, Step, are_laid};
 use layout::User;
 use leaf_ledger::MemoryDevice;
 use lms_sign::{PrivateKey, PublicKey};
+use pending_list::Signed;
 use std::alloc::Global;
-use tests_aids::texts::key_of;
+use tests_aids::numbers::{i_number, principal};
+use tests_aids::texts::{changed, key_of, listed, reply_to, shown};
 use tests_aids::{Aided, check, found, given};
-use update_cert::Change;
+use update_cert::{Change, MOST_CHANGES};
+use version_order::Structure;
 use wire::Status;
 
 /// A client whose devices are in memory.
@@ -31,14 +35,25 @@ pub fn nothing_yet(rt: &impl Aided, key: PrivateKey<Global>) -> Kept {
     }
 }
 
-/// The client of a user over what was kept. It takes this key for user 0's.
-pub fn open_over(rt: &impl Aided, user: User, pinned: PublicKey, kept: Kept) -> MemoryClient {
+/// What comes of opening the client of a user over what was kept, which is handed back where it fails. It takes this
+/// key for user 0's.
+pub fn opened(
+    rt: &impl Aided,
+    user: User,
+    pinned: PublicKey,
+    kept: Kept,
+) -> Result<MemoryClient, (ClientError, Kept)> {
     let Parts {
         key,
         ledger,
         journal,
     } = kept;
-    match Client::open(rt.alloc(), user, key, pinned, ledger, journal) {
+    Client::open(rt.alloc(), user, key, pinned, ledger, journal)
+}
+
+/// The client of a user over what was kept.
+pub fn open_over(rt: &impl Aided, user: User, pinned: PublicKey, kept: Kept) -> MemoryClient {
+    match opened(rt, user, pinned, kept) {
         Ok(client) => client,
         Err((error, _)) => rt.fail(error),
     }
@@ -84,7 +99,7 @@ pub fn begun(
     changes: &[Change<Global>],
     laid: &[Vec<u8>],
 ) -> Result<Vec<u8>, ClientError> {
-    if client.phase() != Phase::Idle || changes.len() > 16 {
+    if client.phase() != Phase::Idle || changes.len() > MOST_CHANGES {
         rt.fail("it can't begin");
     }
     if !given(rt, are_laid(rt.alloc(), laid, changes), "memory") {
@@ -124,6 +139,14 @@ pub fn step_on(rt: &impl Aided, client: &mut MemoryClient, reply: &[u8]) -> Step
     given(rt, client.on_reply(reply), "memory")
 }
 
+/// Hands a block to the client, or none, where its reply asks for one.
+pub fn hand(rt: &impl Aided, client: &mut MemoryClient, block: Option<&[u8]>) -> Step<Global> {
+    if !client.wants() {
+        rt.fail("no block is asked for");
+    }
+    given(rt, client.on_block(block), "memory")
+}
+
 /// The reply breaks this rule first, or none.
 pub fn breaks(rt: &impl Aided, client: &mut MemoryClient, reply: &[u8], rule: Option<Rule>) {
     let found = match step_on(rt, client, reply) {
@@ -140,12 +163,39 @@ pub fn breaks(rt: &impl Aided, client: &mut MemoryClient, reply: &[u8], rule: Op
     }
 }
 
-/// Signs the structure over the accepted reply.
-pub fn sign(rt: &impl Aided, client: &mut MemoryClient) -> Vec<u8> {
+/// The reply to the second certificate that shows this structure breaks the rule, or none.
+fn breaks_after(
+    rt: &impl Aided,
+    client: &mut MemoryClient,
+    update: &[u8],
+    last: &[u8],
+    rule: Option<Rule>,
+) {
+    let structures = listed(rt, &shown(rt, last));
+    breaks(rt, client, &reply_to(rt, &structures, 2, update), rule);
+}
+
+/// User 0's client refuses replies to its second certificate that show no structure, or another than its last one, and
+/// accepts one with it.
+pub fn knows_its_last(rt: &impl Aided, client: &mut MemoryClient, update: &[u8], last: &[u8]) {
+    let without = reply_to(rt, b"\0", 2, update);
+    breaks(rt, client, &without, Some(Rule::OwnLast));
+    let other = changed(rt, last);
+    breaks_after(rt, client, update, &other, Some(Rule::OwnLast));
+    breaks_after(rt, client, update, last, None);
+}
+
+/// What the client answers where it signs the structure over the accepted reply.
+pub fn signed(rt: &impl Aided, client: &mut MemoryClient) -> Result<Vec<u8>, ClientError> {
     if !client.ready() {
         rt.fail("no reply is accepted");
     }
-    given(rt, client.sign(), "a structure")
+    client.sign()
+}
+
+/// Signs the structure over the accepted reply.
+pub fn sign(rt: &impl Aided, client: &mut MemoryClient) -> Vec<u8> {
+    given(rt, signed(rt, client), "a structure")
 }
 
 /// Hands the server's answer to the signed structure to the client.
@@ -154,4 +204,48 @@ pub fn end(rt: &impl Aided, client: &mut MemoryClient, status: Status) {
         rt.fail("nothing is signed");
     }
     client.on_committed(status);
+}
+
+/// It is in this phase.
+pub fn is_in(rt: &impl Aided, client: &MemoryClient, phase: Phase) {
+    let found = client.phase();
+    if found != phase {
+        rt.fail(format_args!("{found:?} and not {phase:?}"));
+    }
+}
+
+/// It has declared so many operations.
+pub fn has_number(rt: &impl Aided, client: &MemoryClient, number: u32) {
+    check(rt, client.number() == number, "the number");
+}
+
+/// The one structure in its view.
+pub fn only_structure<'a>(
+    rt: &impl Aided,
+    client: &'a MemoryClient,
+) -> &'a Signed<Structure<Global>> {
+    if !client.has_view() {
+        rt.fail("no view");
+    }
+    match client.structures() {
+        [own] => own,
+        _ => rt.fail("not one structure"),
+    }
+}
+
+/// Begins a look at an i-number of a principal.
+pub fn look_at(rt: &impl Aided, client: &mut MemoryClient, owner: u8, number: u16) -> Look<Global> {
+    if !client.has_view() {
+        rt.fail("no view");
+    }
+    let look = client.look(principal(rt, owner), i_number(rt, number));
+    given(rt, look, "memory")
+}
+
+/// Gives a block to the client, or none, where its look asks for one.
+pub fn give(rt: &impl Aided, client: &mut MemoryClient, block: Option<&[u8]>) -> Look<Global> {
+    if !client.looking() {
+        rt.fail("no look asks for a block");
+    }
+    given(rt, client.give(block), "memory")
 }

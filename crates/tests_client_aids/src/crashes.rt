@@ -1,6 +1,6 @@
 //! A client whose devices fail, or crash, and one that is opened again.
 
-use crate::clients::{Kept, MemoryClient};
+use crate::clients::{Kept, MemoryClient, has_number, is_in};
 use client_verify::{ClientError, Parts, Phase};
 use leaf_ledger::MemoryDevice;
 use std::alloc::Global;
@@ -33,13 +33,18 @@ fn crashed(rt: &impl Aided, device: MemoryDevice<Global>, left: Left) -> MemoryD
     }
 }
 
+/// What the client hands back when it is closed.
+pub fn closed(client: MemoryClient) -> Kept {
+    client.close()
+}
+
 /// What is kept of a client after a crash that left this.
 pub fn after_crash(rt: &impl Aided, client: MemoryClient, left: Left) -> Kept {
     let Parts {
         key,
         ledger,
         journal,
-    } = client.close();
+    } = closed(client);
     Parts {
         key,
         ledger: crashed(rt, ledger, left),
@@ -51,23 +56,33 @@ pub fn after_crash(rt: &impl Aided, client: MemoryClient, left: Left) -> Kept {
 pub fn has_failed(rt: &impl Aided, client: &MemoryClient, answer: &Result<Vec<u8>, ClientError>) {
     let failed = matches!(answer, Err(ClientError::Device));
     check(rt, failed, "a device failed");
-    check(rt, client.phase() == Phase::Failed, "to be opened again");
+    is_in(rt, client, Phase::Failed);
+}
+
+/// The certificate that it has declared.
+pub fn declared(rt: &impl Aided, client: &MemoryClient) -> Vec<u8> {
+    if client.phase() != Phase::Declared {
+        rt.fail("nothing is declared");
+    }
+    joined(rt, &[client.declared()])
+}
+
+/// The structure that it has signed.
+pub fn structure(rt: &impl Aided, client: &MemoryClient) -> Vec<u8> {
+    if client.phase() != Phase::Signed {
+        rt.fail("nothing is signed");
+    }
+    joined(rt, &[client.signed()])
 }
 
 /// Its last operation has this number, and its certificate is this one.
 pub fn has_declared(rt: &impl Aided, client: &MemoryClient, number: u32, update: &[u8]) {
-    check(rt, client.number() == number, "the number");
-    if client.phase() != Phase::Declared {
-        rt.fail("nothing is declared");
-    }
-    check_text(rt, client.declared(), update);
+    has_number(rt, client, number);
+    check_text(rt, &declared(rt, client), update);
 }
 
 /// Its last operation has this number, and its structure is this one.
 pub fn has_signed(rt: &impl Aided, client: &MemoryClient, number: u32, commit: &[u8]) {
-    check(rt, client.number() == number, "the number");
-    if client.phase() != Phase::Signed {
-        rt.fail("nothing is signed");
-    }
-    check_text(rt, client.signed(), commit);
+    has_number(rt, client, number);
+    check_text(rt, &structure(rt, client), commit);
 }

@@ -55,8 +55,8 @@ pub(crate) fn caller<'a, R: Host>(rt: &'a R, pipe: &'a Pipe) -> Caller<ClientEnd
 /// with the most of them user 0 makes 2, this user 2 an operation, and the other user 600.
 const IN_ROOM: u32 = 210;
 
-/// The user makes its operation of this number, which is committed. No call of it may be answered Busy while the log has
-/// room.
+/// The user makes its operation of this number, which is committed. While the log has room no call of it may be
+/// answered Busy.
 fn operate_once<R: Host>(
     rt: &R,
     caller: &mut Caller<ClientEnd<'_, R>>,
