@@ -2,11 +2,11 @@
 //! those in one part and break the rule of that part.
 
 use crate::here::Here;
+use first_rule::broken;
 use layout::{Text, digest};
 use lms_sign::PublicKey;
 use pending_list::Reply;
 use principals::Table;
-use first_rule::broken;
 use reply_rules::{Rule, lists_hold};
 use std::alloc::Global;
 use tests_aids::texts::{certificate, joined, pending, plan, reply, shown, structure};
