@@ -2,13 +2,14 @@
 
 ghost use Rattle.std.specs.Prelude.{◌≡◌, ◌<◌, ◌≤◌, ◌++◌, [], ◌∷◌, None, OnErr, OnOk, IfOk, map, vec_len, length};
 ghost use Rattle.std.specs.List.{All};
-ghost use Rattle.layout.specs.Format.{BeginsWith, Reads, after_row, rows_onto};
+ghost use Rattle.std.specs.Int.{w8};
+ghost use Rattle.layout.specs.Format.{BeginsWith, Reads, ReadsAs, after_row, listed, rows_onto, uint_in};
 ghost use Rattle.pending_list.specs.Reply.{reply, structure_rows, pending_rows, signed_structure, pending_item};
 
 use crate::signed::{Signature, Signed};
 use layout::{
-    Memory, ReadError, Reader, RowFormat, Text, Writer, read_nested, read_rows, write_nested,
-    write_rows,
+    Memory, ReadError, Reader, RowFormat, Text, Writer, let_go, read_nested, read_rows,
+    write_nested, write_rows,
 };
 use lms_sign::SIGNATURE_SIZE;
 use std::alloc::Allocator;
@@ -164,6 +165,19 @@ impl<A: Allocator + Copy> RowFormat<A> for PendingRows {
     }
 }
 
+/// A list's rows, after their count.
+fn read_list<A: Allocator + Copy, F: RowFormat<A>>(
+    alloc: A,
+    reader: &mut Reader<'_>,
+    format: &F,
+) -> Result<Vec<F::Item, A>, ReadError>
+    ensures { ReadsAs (λ v. v.items) result reader.new
+        ((listed (uint_in w8 0 64) (F.format format.now)).read reader.old) }
+{
+    let count = reader.u8_in(0, 64)?;
+    read_rows(alloc, reader, format, usize::from(count))
+}
+
 /// The answer to an update.
 #[derive(Drop)]
 pub struct Reply<A: Allocator> {
@@ -189,10 +203,14 @@ impl<A: Allocator + Copy> Text<A> for Reply<A> {
 
     fn read_fields(alloc: A, reader: &mut Reader<'_>) -> Result<Reply<A>, ReadError> {
         reader.tag(b"SRL1")?;
-        let count = reader.u8_in(0, 64)?;
-        let structures = read_rows(alloc, reader, &StructureRows, usize::from(count))?;
-        let pending_count = reader.u8_in(0, 64)?;
-        let pending = read_rows(alloc, reader, &PendingRows, usize::from(pending_count))?;
+        let structures = read_list(alloc, reader, &StructureRows)?;
+        let pending = match read_list(alloc, reader, &PendingRows) {
+            Ok(pending) => pending,
+            Err(error) => {
+                let_go(structures);
+                return Err(error);
+            }
+        };
         Ok(Reply {
             structures,
             pending,
