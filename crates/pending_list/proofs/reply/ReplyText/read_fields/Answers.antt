@@ -19,3 +19,6 @@ returns-in-Err-clause-reads g c = λ some.
 
 pub returns-in_err-structures-clause-reads : goal.returns-in_err-structures-clause-reads
 returns-in_err-structures-clause-reads g c = grind (arith, common_steps)
+
+pub returns-in_err-tag-clause-reads : goal.returns-in_err-tag-clause-reads
+returns-in_err-tag-clause-reads g c = grind (arith, common_steps)
