@@ -22,3 +22,15 @@ returns-in_err-structures-clause-reads g c = grind (arith, common_steps)
 
 pub returns-in_err-tag-clause-reads : goal.returns-in_err-tag-clause-reads
 returns-in_err-tag-clause-reads g c = grind (arith, common_steps)
+
+pub returns-clause-bytes : goal.returns-clause-bytes
+returns-clause-bytes g c = c.tag.ensures.bytes
+
+pub returns-in-Err-clause-bytes : goal.returns-in-Err-clause-bytes
+returns-in-Err-clause-bytes g c = c.tag.ensures.bytes
+
+pub returns-in_err-structures-clause-bytes : goal.returns-in_err-structures-clause-bytes
+returns-in_err-structures-clause-bytes g c = c.tag.ensures.bytes
+
+pub returns-in_err-tag-clause-bytes : goal.returns-in_err-tag-clause-bytes
+returns-in_err-tag-clause-bytes g c = c.tag.ensures.bytes
