@@ -64,3 +64,9 @@ returns-in-Ok-remembered-clause-own g c foreign = c.in-Ok.ensures.own (subst (λ
 
 pub returns-in-Ok-remembered-clause-used : goal.returns-in-Ok-remembered-clause-used
 returns-in-Ok-remembered-clause-used g c = c.in-Ok.ensures.used
+
+pub returns-in-Err-clause-moments_err : goal.returns-in-Err-clause-moments_err
+returns-in-Err-clause-moments_err g c = c.in-Err.ensures.moments_err
+
+pub returns-in-Err-clause-later_err : goal.returns-in-Err-clause-later_err
+returns-in-Err-clause-later_err g c = c.in-Err.ensures.later_err
