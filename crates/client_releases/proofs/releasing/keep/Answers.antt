@@ -21,6 +21,9 @@ append-requires-clause-short g c = short_with c.deref.result.now c.args.unsigned
 pub append-requires-clause-turn : goal.append-requires-clause-turn
 append-requires-clause-turn g c = c.requires.turn
 
+pub append-requires-clause-usable : goal.append-requires-clause-usable
+append-requires-clause-usable g c = c.requires.journal_usable
+
 -- ---- no leaf was taken
 
 pub returns-in_err-leaf-clause-any_moment : goal.returns-in_err-leaf-clause-any_moment
@@ -43,6 +46,9 @@ returns-in_err-leaf-clause-own_file g c = c.take.ensures.reads_own
 
 pub returns-in_err-leaf-clause-none_outstanding : goal.returns-in_err-leaf-clause-none_outstanding
 returns-in_err-leaf-clause-none_outstanding g c = c.in_err-leaf.ensures.outstanding_err ∙ c.requires.settled
+
+pub returns-in_err-leaf-clause-same_key : goal.returns-in_err-leaf-clause-same_key
+returns-in_err-leaf-clause-same_key g c = c.take.ensures.same_key
 
 -- ---- a leaf was taken
 
