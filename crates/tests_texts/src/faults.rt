@@ -61,7 +61,6 @@ const STRUCTURE: &[u8] = b"SVS1\0\x30\
     SVP1\0\0\0\0\x01abcdefghijklmnopqrstuvwxyz012345\x01\0\0\0\0\x01\0\
     ABCDEFGHIJKLMNOPQRSTUVWXYZ543210";
 
-/// Certificates.
 static CERTIFICATES: &[u8] = b"\
     none|$cert|\0\n\
     short|SUC\n\
@@ -93,11 +92,9 @@ static CERTIFICATES: &[u8] = b"\
     none|$cert|\x05\x01\0\0\x03|$digest|\x02\x3f\x01\x04|$digest\
         |\x03\x5f\x0f\xff\x04\0\0\x02\x01f\x40\0\x03\x05\x40\0\x01\x04name";
 
-/// A signed one.
 static SIGNED_CERTIFICATES: &[u8] = b"\
     none|$cert|\0|$signature";
 
-/// Vectors.
 static VECTORS: &[u8] = b"\
     none|\0\n\
     none|\x02\0\0\0\0\x01\x5f\xff\xff\xff\xff\n\
@@ -107,7 +104,6 @@ static VECTORS: &[u8] = b"\
     order|\x02\x01\0\0\0\x01\x01\n\
     range|\x02\x01\0\0\0\x01\x60";
 
-/// Plans.
 static PLANS: &[u8] = b"\
     none|$first plan\n\
     short|SVP\n\
@@ -132,7 +128,6 @@ static STRUCTURES: &[u8] = b"\
     short|SVS1\0\x2f|$first plan|$digest|\0\n\
     trailing|SVS1\0\x31|$first plan|\0|$digest|\0";
 
-/// A signed one.
 static SIGNED_STRUCTURES: &[u8] = b"\
     none|$structure|\0|$signature";
 
@@ -153,7 +148,6 @@ static RECORDS: &[u8] = b"\
     range|$structure|\x02\x40\0\0\0\x01|$record|\x41\0\0\0\0\n\
     range|$structure|\x02\x40\0\0\0\x01|$record|\x3f";
 
-/// Replies.
 static REPLIES: &[u8] = b"\
     none|SRL1\0\0\n\
     short|SRL\n\
@@ -172,7 +166,6 @@ static REPLIES: &[u8] = b"\
     short|SRL1\0\x01\0\x2a|$cert|\0|$signature|\0\x31|$first plan\n\
     trailing|SRL1\0\x01\0\x2a|$cert|\0|$signature|\0\x31|$first plan|\0";
 
-/// I-nodes.
 static INODES: &[u8] = b"\
     none|SIN1\x01\0\0\0\x01\0\x01|$digest\n\
     none|SIN1\x02\0\x04\x0c\x06\0\x41|$2080 zeros\n\
@@ -195,7 +188,6 @@ static INODES: &[u8] = b"\
     trailing|SIN1\x01\0\0\0\x01\0\x01|$digest|\0\n\
     trailing|SIN1\x01\0\0\0\0\0\0\0";
 
-/// Chunks of i-tables.
 static CHUNKS: &[u8] = b"\
     none|STC1\x01\x01\0\x40|$digest\n\
     tag|STR1\x40\n\
@@ -218,7 +210,6 @@ static CHUNKS: &[u8] = b"\
     short|STC1\x01\x02\0\x41|$digest|\0\x42\n\
     range|STC1\x01\x02\0\x41|$digest|\0\x3f";
 
-/// Roots of i-tables.
 static ROOTS: &[u8] = b"\
     none|STR1\x5f\x01\x3f|$digest\n\
     none|STR1\x5f\0\n\
@@ -234,7 +225,6 @@ static ROOTS: &[u8] = b"\
     order|STR1\x05\x02\0|$digest|\0\n\
     order|STR1\x05\x02\x01|$digest|\0";
 
-/// Directories.
 static DIRECTORIES: &[u8] = b"\
     none|SDI1\0\0\n\
     none|SDI1\0\x02\x01a\0\0\x04\x01b\x5f\x0f\xff\n\
@@ -354,7 +344,6 @@ static MEMBERS: &[u8] = b"\
     # the same user of another group\n\
     none|$two users|\x00\x02\x40\x01\x00\x00\x00\x03\x00\x00\x00\x00\x41\x01\x00\x00\x00\x03\x00\x00\x00\x00";
 
-/// Frames.
 static FRAMES: &[u8] = b"\
     none|\0\0\0\x01\x06\n\
     none|\0\0\0\x02\x05\0\n\
