@@ -2,7 +2,8 @@
 //! that, when the client doesn't verify again what it verified.
 
 use crate::here::Here;
-use crate::two_users::{Scene, Users, accepts, both_are_listed, breaks, is_accepted};
+use crate::several_users::breaks;
+use crate::two_users::{Scene, Users, accepts, both_are_listed, is_accepted};
 use client_tree::Held;
 use client_verify::Rule;
 use layout::let_go;
@@ -72,31 +73,31 @@ fn flipped(rt: &impl Host, text: &[u8], place: usize) -> Vec<u8> {
 /// This change of the reply breaks its rule.
 fn refuses_change(
     rt: &impl Host,
-    store: &mut Held<Global>,
+    store: &Held<Global>,
     client: &mut MemoryClient,
     honest: &[u8],
     (place, rule): &Change,
 ) {
     let changed = flipped(rt, honest, *place);
-    breaks(rt, store, client, &changed, *rule);
+    breaks(rt, client, store, &changed, Some(*rule));
 }
 
 /// The first bytes of the reply, so many, break Form.
 fn refuses_front(
     rt: &impl Host,
-    store: &mut Held<Global>,
+    store: &Held<Global>,
     client: &mut MemoryClient,
     honest: &[u8],
     size: usize,
 ) {
     let front = honest.get(..size).expect(rt, "a front of the reply");
-    breaks(rt, store, client, front, Rule::Form);
+    breaks(rt, client, store, front, Some(Rule::Form));
 }
 
 /// Each change of the reply breaks its rule, and each cut breaks Form.
 fn refuses_changes(
     rt: &impl Host,
-    store: &mut Held<Global>,
+    store: &Held<Global>,
     client: &mut MemoryClient,
     honest: &[u8],
     changes: &[Change],

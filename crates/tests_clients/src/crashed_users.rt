@@ -2,18 +2,19 @@
 //! one before: a reply is accepted or refused by the rules, and one structure of that number is ever handed out.
 
 use crate::here::Here;
-use crate::two_users::{
-    BOTH, NONE, ONE, Scene, Users, accepts, both_are_listed, breaks, is_accepted,
-};
+use crate::several_users::breaks;
+use crate::two_users::{BOTH, NONE, ONE, Scene, Users, accepts, both_are_listed, is_accepted};
 use client_tree::Held;
-use client_verify::{Phase, Rule};
+use client_verify::Rule;
 use layout::{User, let_go};
 use lms_sign::PublicKey;
 use std::alloc::Global;
 use tests_aids::texts::{joined, list, listed, named, only_pending, plan, reply};
 use tests_aids::{Host, check, check_text};
-use tests_client_aids::clients::{Kept, MemoryClient, open_over};
-use tests_client_aids::crashes::{Left, after_crash, has_declared, has_failed, has_signed};
+use tests_client_aids::clients::{Kept, MemoryClient, open_over, signed};
+use tests_client_aids::crashes::{
+    Left, after_crash, has_declared, has_failed, has_signed, structure,
+};
 use tests_client_aids::servers::{Server, answers_commit, answers_update_so};
 use wire::Status;
 
@@ -121,7 +122,7 @@ fn accepts_alone(rt: &impl Host, fork: &mut Fork, client: &mut MemoryClient) {
 /// It refuses what is mixed.
 fn refuses_mixed(rt: &impl Host, fork: &mut Fork, client: &mut MemoryClient) {
     let Fork { store, replies, .. } = fork;
-    breaks(rt, store, client, &replies.mixed, Rule::Numbers);
+    breaks(rt, client, store, &replies.mixed, Some(Rule::Numbers));
 }
 
 /// It accepts the other server's reply, and signs: its structure.
@@ -184,9 +185,8 @@ const BEFORE_GATE: u64 = 11;
 
 /// A device fails while the client signs over the accepted reply.
 fn sign_fails(rt: &impl Host, client: &mut MemoryClient) {
-    assert!(rt; client.ready());
-    let signed = client.sign();
-    has_failed(rt, client, &signed);
+    let answer = signed(rt, client);
+    has_failed(rt, client, &answer);
 }
 
 /// User 1's client, whose journal fails after so many calls.
@@ -218,12 +218,6 @@ fn another_reply_after_a_crash_in_sign(rt: HostRuntime) {
     let client = fails_to_sign(&rt, &mut fork, kept, BEFORE_RECORD, Left::Synced);
     signs_beside(&rt, &mut fork, client);
     let_go(fork);
-}
-
-/// The client has signed, and this is its structure.
-fn structure(rt: &impl Host, client: &MemoryClient) -> Vec<u8> {
-    assert!(rt; client.phase() == Phase::Signed);
-    joined(rt, &[client.signed()])
 }
 
 /// The structure over the first server's reply stands in the journal, and is the one of its number.

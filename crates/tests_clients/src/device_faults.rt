@@ -3,16 +3,17 @@
 //! one whose mark the crash left.
 
 use crate::here::Here;
-use crate::restarts::{closed, has_number, key_in, reopened, signed, signs_first};
-use client_verify::Phase;
+use crate::restarts::{key_in, reopened, signs_first};
 use lms_sign::PrivateKey;
 use std::alloc::Global;
 use tests_aids::texts::{FIRST_HANDLE, certificate, first_reply, joined, key_of, plan_of};
 use tests_aids::{Host, check};
 use tests_client_aids::clients::{
-    Kept, MemoryClient, begun_without_changes, breaks, declare, nothing_yet,
+    Kept, MemoryClient, begun_without_changes, breaks, declare, has_number, nothing_yet, signed,
 };
-use tests_client_aids::crashes::{Left, after_crash, has_declared, has_failed, has_signed};
+use tests_client_aids::crashes::{
+    Left, after_crash, closed, declared, has_declared, has_failed, has_signed, structure,
+};
 
 /// Whose call fails.
 #[derive(Clone, Copy)]
@@ -153,12 +154,6 @@ fn declares_first(rt: &impl Host, client: &mut MemoryClient) -> Vec<u8> {
     declare(rt, client)
 }
 
-/// The client has declared, and this is its certificate.
-fn declared(rt: &impl Host, client: &MemoryClient) -> Vec<u8> {
-    assert!(rt; client.phase() == Phase::Declared);
-    joined(rt, &[client.declared()])
-}
-
 /// The certificate that is handed out at last, and its leaf.
 fn begins_at_last(rt: &impl Host, client: &mut MemoryClient, then: Then) -> (Vec<u8>, u8) {
     match then {
@@ -195,27 +190,6 @@ fn begins_after(
     tells_of_declared(rt, client, &update)
 }
 
-/// The same after both crashes.
-fn begins_after_both(rt: &impl Host, key: PrivateKey<Global>, fault: &Fault) -> PrivateKey<Global> {
-    let key = begins_after(rt, key, fault, Left::Synced, fault.synced);
-    begins_after(rt, key, fault, Left::Written, fault.written)
-}
-
-/// It fails at each of these calls.
-fn begins_after_each(rt: &impl Host, faults: &[Fault]) {
-    let mut key = key_of(rt, 0);
-    for fault in faults {
-        key = begins_after_both(rt, key, fault);
-    }
-}
-
-#[test]
-fn each_call_of_begin_fails(rt: HostRuntime) {
-    let rt = (rt, Here);
-    begins_after_each(&rt, &OF_LEDGER);
-    begins_after_each(&rt, &OF_JOURNAL);
-}
-
 /// Signs the first operation's structure where a device fails, and crashes: the client, and its certificate.
 fn fails_to_sign(
     rt: &impl Host,
@@ -235,12 +209,6 @@ fn fails_to_sign(
 fn signs_declared(rt: &impl Host, client: &mut MemoryClient, update: &[u8]) -> Vec<u8> {
     has_declared(rt, client, 1, update);
     signs_first(rt, client, update)
-}
-
-/// The client has signed, and this is its structure.
-fn structure(rt: &impl Host, client: &MemoryClient) -> Vec<u8> {
-    assert!(rt; client.phase() == Phase::Signed);
-    joined(rt, &[client.signed()])
 }
 
 /// The structure that is handed out at last, and its leaf: the certificate has the first one.
@@ -285,23 +253,46 @@ fn signs_after(
     tells_of_signed(rt, client, &commit)
 }
 
-/// The same after both crashes.
-fn signs_after_both(rt: &impl Host, key: PrivateKey<Global>, fault: &Fault) -> PrivateKey<Global> {
-    let key = signs_after(rt, key, fault, Left::Synced, fault.synced);
-    signs_after(rt, key, fault, Left::Written, fault.written)
+/// What fails.
+#[derive(Clone, Copy)]
+enum Call {
+    Begin,
+    Sign,
 }
 
-/// It fails at each of these calls.
-fn signs_after_each(rt: &impl Host, faults: &[Fault]) {
+/// The call fails, and a crash leaves this; the client goes on.
+fn goes_on_after(
+    rt: &impl Host,
+    call: Call,
+    key: PrivateKey<Global>,
+    fault: &Fault,
+    (left, then): (Left, Then),
+) -> PrivateKey<Global> {
+    match call {
+        Call::Begin => begins_after(rt, key, fault, left, then),
+        Call::Sign => signs_after(rt, key, fault, left, then),
+    }
+}
+
+/// It fails at each of these calls of a device, before each of both crashes.
+fn goes_on_after_each(rt: &impl Host, call: Call, faults: &[Fault]) {
     let mut key = key_of(rt, 0);
     for fault in faults {
-        key = signs_after_both(rt, key, fault);
+        key = goes_on_after(rt, call, key, fault, (Left::Synced, fault.synced));
+        key = goes_on_after(rt, call, key, fault, (Left::Written, fault.written));
     }
+}
+
+#[test]
+fn each_call_of_begin_fails(rt: HostRuntime) {
+    let rt = (rt, Here);
+    goes_on_after_each(&rt, Call::Begin, &OF_LEDGER);
+    goes_on_after_each(&rt, Call::Begin, &OF_JOURNAL);
 }
 
 #[test]
 fn each_call_of_sign_fails(rt: HostRuntime) {
     let rt = (rt, Here);
-    signs_after_each(&rt, &OF_LEDGER);
-    signs_after_each(&rt, &OF_JOURNAL);
+    goes_on_after_each(&rt, Call::Sign, &OF_LEDGER);
+    goes_on_after_each(&rt, Call::Sign, &OF_JOURNAL);
 }

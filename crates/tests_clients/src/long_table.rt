@@ -2,7 +2,7 @@
 //! the place of what was asked for, and named by the i-node itself.
 
 use crate::here::Here;
-use crate::several_users::{broken_by, keep_each};
+use crate::several_users::{breaks, keep_each};
 use client_tree::Held;
 use client_verify::{Rule, Step};
 use layout::{digest, let_go};
@@ -11,7 +11,7 @@ use std::alloc::Global;
 use tests_aids::tables::{FORM, Texts, listing, structure_over, texts_over};
 use tests_aids::texts::{joined, key_of, listed, named, pending, plan, reply, shown};
 use tests_aids::{Host, check};
-use tests_client_aids::clients::{MemoryClient, client_with, declare, step_on};
+use tests_client_aids::clients::{MemoryClient, client_with, declare, hand, step_on};
 use update_cert::Blocks;
 
 /// The size of the table: 64 users, and 19 rows.
@@ -53,7 +53,6 @@ struct Scene {
     update: Vec<u8>,
 }
 
-/// The scene.
 fn new_scene(rt: &impl Host) -> Scene {
     let (key, own) = (key_of(rt, 0), key_of(rt, 1));
     let blocks = blocks_of(rt, &key.public(), &own.public());
@@ -106,13 +105,9 @@ pub(crate) fn reply_over(
 
 /// What is handed in breaks the rule on blocks.
 fn refuses(rt: &impl Host, client: &mut MemoryClient, block: Option<&[u8]>) {
-    assert!(rt; client.wants());
-    let step = client.on_block(block).expect(rt, "memory");
-    check(
-        rt,
-        matches!(step, Step::Broken(Rule::Block)),
-        "another block than that asked for",
-    );
+    let step = hand(rt, client, block);
+    let is_broken = matches!(step, Step::Broken(Rule::Block));
+    check(rt, is_broken, "another block than that asked for");
 }
 
 /// This text, handed in, breaks it.
@@ -141,8 +136,7 @@ fn takes_block(
     };
     check(rt, asked == digest(block), "the block that is asked for");
     refuses_each(rt, client, block, other);
-    assert!(rt; client.wants());
-    client.on_block(Some(block)).expect(rt, "memory")
+    hand(rt, client, Some(block))
 }
 
 #[test]
@@ -170,8 +164,7 @@ fn faults_in_the_place_of_blocks(rt: HostRuntime) {
 fn breaks_over(rt: &impl Host, scene: &mut Scene, blocks: [Vec<u8>; 2], rule: Option<Rule>) {
     let (store, root) = store_of(rt, &blocks);
     let text = reply_over(rt, &scene.key, &root, &scene.update);
-    let found = broken_by(rt, &mut scene.client, &store, &text);
-    assert!(rt; found == rule, "{found:?} and not {rule:?}");
+    breaks(rt, &mut scene.client, &store, &text, rule);
     let_go(store);
 }
 

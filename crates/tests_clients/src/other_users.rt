@@ -10,7 +10,7 @@ use tests_aids::texts::{
     structure,
 };
 use tests_aids::{Host, check, check_text};
-use tests_client_aids::clients::{MemoryClient, breaks, client_of, declare, step_on};
+use tests_client_aids::clients::{MemoryClient, breaks, client_of, declare, hand, step_on};
 
 /// The structure of user 0's first operation, with an invented handle.
 fn structure_of_super(rt: &impl Host) -> Vec<u8> {
@@ -85,8 +85,7 @@ fn table_of_another_handle(rt: HostRuntime) {
         panic!(&rt; "no block is asked for");
     };
     check_text(&rt, asked.as_bytes(), &[5; 32]);
-    assert!(&rt; client.wants());
-    let step = client.on_block(None).expect(&rt, "memory");
+    let step = hand(&rt, &mut client, None);
     check(&rt, matches!(step, Step::Broken(Rule::Block)), "no root");
     let_go(client);
 }

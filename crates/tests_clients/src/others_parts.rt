@@ -3,8 +3,8 @@
 
 use crate::here::Here;
 use crate::several_users::{
-    Operation, SECOND_OF_GROUP, Scene, THIRD, broken_by, first_handle, keep_each, list_of,
-    new_scene, own_row, structure_row,
+    Operation, SECOND_OF_GROUP, Scene, THIRD, breaks, first_handle, keep_each, list_of, new_scene,
+    own_row, structure_row,
 };
 use client_tree::Held;
 use client_verify::{Look, Rule};
@@ -14,7 +14,7 @@ use tests_aids::blocks::{HELLO, HELLO_INODE};
 use tests_aids::numbers::{i_number, principal};
 use tests_aids::texts::{joined, listed, reply};
 use tests_aids::{Host, check, check_text};
-use tests_client_aids::clients::{MemoryClient, declare, declare_changes, sign};
+use tests_client_aids::clients::{MemoryClient, declare, declare_changes, give, look_at, sign};
 use update_cert::{Action, Blocks, Change};
 
 /// How many blocks are handed in at most for one look.
@@ -133,8 +133,7 @@ fn part_of_a_raised_group(rt: HostRuntime) {
     for part in &PARTS {
         let handle = store_part(&rt, &mut scene.store, part);
         let text = reply_after(&rt, &scene, &handle, &update);
-        let found = broken_by(&rt, &mut client, &scene.store, &text);
-        assert!(&rt; found == part.broken, "{found:?} and not {:?}", part.broken);
+        breaks(&rt, &mut client, &scene.store, &text, part.broken);
     }
     let_go(client);
     let_go(scene);
@@ -164,15 +163,12 @@ fn look_through(
     store: &Held<Global>,
     owner: u8,
 ) -> Look<Global> {
-    assert!(rt; client.has_view());
-    let look = client.look(principal(rt, owner), i_number(rt, 5));
-    let mut look = look.expect(rt, "memory");
+    let mut look = look_at(rt, client, owner, 5);
     for _ in 0..BOUND {
         let Look::Need(digest) = look else {
             return look;
         };
-        assert!(rt; client.looking());
-        let next = client.give(store.get(digest)).expect(rt, "memory");
+        let next = give(rt, client, store.get(digest));
         let_go(look);
         look = next;
     }
@@ -219,8 +215,7 @@ fn parts_that_are_looked_at(rt: HostRuntime) {
     let update = declare(&rt, &mut client);
     let handles = handles_of(&rt, &mut scene);
     let text = reply_beside(&rt, &scene, &handles, &update);
-    let found = broken_by(&rt, &mut client, &scene.store, &text);
-    assert!(&rt; found == None, "{found:?}");
+    breaks(&rt, &mut client, &scene.store, &text, None);
     let _structure = sign(&rt, &mut client);
     sees_each(&rt, &mut client, &scene.store);
     let_go(client);

@@ -12,7 +12,7 @@ use std::alloc::Global;
 use tests_aids::blocks::{EMPTY_INODE, HELLO, HELLO_INODE, NO_BYTES_INODE};
 use tests_aids::texts::{joined, key_of};
 use tests_aids::{Host, check};
-use tests_client_aids::clients::{MemoryClient, client_with, declare, step_on};
+use tests_client_aids::clients::{MemoryClient, client_with, declare, hand, step_on};
 use update_cert::Blocks;
 
 /// How many blocks are handed in at most for one reply.
@@ -109,8 +109,7 @@ fn broken_at(
     };
     let mut asked = first;
     for _ in 0..BOUND {
-        assert!(rt; client.wants());
-        match client.on_block(store.get(asked)).expect(rt, "memory") {
+        match hand(rt, client, store.get(asked)) {
             Step::Need(next) => asked = next,
             Step::Store(_) => panic!(rt; "the reply is accepted"),
             Step::Broken(rule) => return (rule, asked),

@@ -2,29 +2,24 @@
 //! tells. How many bytes the journal has is counted by hand from the formats.
 
 use crate::here::Here;
-use client_verify::{Client, ClientError, Parts, Phase, Rule};
+use client_verify::{ClientError, Parts, Phase, Rule};
 use layout::{User, let_go};
 use leaf_ledger::MemoryDevice;
 use lms_sign::{PrivateKey, PublicKey};
 use std::alloc::Global;
-use tests_aids::texts::{changed, first_reply, joined, key_of, listed, reply_to, shown};
+use tests_aids::texts::{first_reply, joined, key_of};
 use tests_aids::{Host, check};
 use tests_client_aids::clients::{
-    Kept, MemoryClient, begun_without_changes, breaks, declare, device_of, end, open_over, sign,
-    superuser,
+    Kept, MemoryClient, begun_without_changes, breaks, declare, device_of, end, has_number, is_in,
+    knows_its_last, open_over, opened, sign, signed, superuser,
 };
-use tests_client_aids::crashes::{has_declared, has_signed};
+use tests_client_aids::crashes::{closed, has_declared, has_signed};
 use wire::Status;
 
 /// The client of user 0 over what was kept.
 pub(crate) fn reopened(rt: &impl Host, kept: Kept) -> MemoryClient {
     let pinned = kept.key.public();
     open_over(rt, User::superuser(), pinned, kept)
-}
-
-/// What the client hands back when it is closed.
-pub(crate) fn closed(client: MemoryClient) -> Kept {
-    client.close()
 }
 
 /// The key of a client, which is closed.
@@ -48,11 +43,6 @@ fn restarted(rt: &impl Host, client: MemoryClient, size: usize) -> MemoryClient 
     let kept = closed(client);
     has_journal(rt, &kept, size);
     reopened(rt, kept)
-}
-
-/// The client has declared so many operations.
-pub(crate) fn has_number(rt: &impl Host, client: &MemoryClient, number: u32) {
-    check(rt, client.number() == number, "the number");
 }
 
 /// The client declares its operation of this number, and tells of it once its journal of so many bytes is opened again.
@@ -127,27 +117,6 @@ fn completes_first(rt: &impl Host, client: &mut MemoryClient) -> Vec<u8> {
     commit
 }
 
-/// The reply to the second certificate that shows this structure breaks the rule, or none.
-fn breaks_second(
-    rt: &impl Host,
-    client: &mut MemoryClient,
-    update: &[u8],
-    last: &[u8],
-    rule: Option<Rule>,
-) {
-    let structures = listed(rt, &shown(rt, last));
-    breaks(rt, client, &reply_to(rt, &structures, 2, update), rule);
-}
-
-/// The client refuses replies to its second certificate without its last structure, and accepts one with it.
-fn knows_its_last(rt: &impl Host, client: &mut MemoryClient, update: &[u8], last: &[u8]) {
-    let without = reply_to(rt, b"\0", 2, update);
-    breaks(rt, client, &without, Some(Rule::OwnLast));
-    let other = changed(rt, last);
-    breaks_second(rt, client, update, &other, Some(Rule::OwnLast));
-    breaks_second(rt, client, update, last, None);
-}
-
 /// A server that shows no structure of the client's, or another than its last one, is found out after a restart, too.
 #[test]
 fn knows_its_last_structure_after_a_restart(rt: HostRuntime) {
@@ -191,12 +160,6 @@ fn with_mark(rt: &impl Host, mark: u8) -> MemoryClient {
     )
 }
 
-/// What the client answers where it signs over the accepted reply.
-pub(crate) fn signed(rt: &impl Host, client: &mut MemoryClient) -> Result<Vec<u8>, ClientError> {
-    assert!(rt; client.ready());
-    client.sign()
-}
-
 /// No leaf was left for what the client was asked for.
 fn has_no_leaf(rt: &impl Host, answer: &Result<Vec<u8>, ClientError>) {
     let refused = matches!(answer, Err(ClientError::NoLeaf));
@@ -227,7 +190,7 @@ fn no_leaf_declares(rt: HostRuntime) {
     let rt = (rt, Here);
     let mut client = with_mark(&rt, 1);
     has_no_leaf(&rt, &begun_without_changes(&rt, &mut client));
-    check(&rt, client.phase() == Phase::Idle, "nothing is declared");
+    is_in(&rt, &client, Phase::Idle);
     let client = restarted(&rt, client, 1);
     has_number(&rt, &client, 0);
     let_go(client);
@@ -236,12 +199,7 @@ fn no_leaf_declares(rt: HostRuntime) {
 /// Why no client of this user is opened over these, which are handed back.
 fn refused(rt: &impl Host, user: User, kept: Kept) -> (ClientError, Kept) {
     let pinned = kept.key.public();
-    let Parts {
-        key,
-        ledger,
-        journal,
-    } = kept;
-    match Client::open(rt.alloc(), user, key, pinned, ledger, journal) {
+    match opened(rt, user, pinned, kept) {
         Ok(_) => panic!(rt; "it is opened"),
         Err(refused) => refused,
     }

@@ -14,7 +14,7 @@ use tests_aids::texts::{
     certificate_of, joined, key_of, named, pending, plan, reply, shown, signed, structure_of,
     vector_of,
 };
-use tests_client_aids::clients::{MemoryClient, client_with, declare, step_on};
+use tests_client_aids::clients::{MemoryClient, client_with, declare, hand, step_on};
 use update_cert::Blocks;
 
 /// How many blocks are handed in at most for one reply.
@@ -451,25 +451,34 @@ fn pending_of(rt: &impl Host, scene: &Scene, case: &Case, update: &[u8]) -> Vec<
     joined(rt, &[&[2], &pending(rt, &other, &plan), &own])
 }
 
-/// Hands a reply in, and each block that it asks for: the rule that is broken.
-pub(crate) fn broken_by(
+/// Hands a reply in, and each block that it asks for: the texts to be stored, or the rule that is broken.
+pub(crate) fn judged(
     rt: &impl Host,
     client: &mut MemoryClient,
     store: &Held<Global>,
     reply: &[u8],
-) -> Option<Rule> {
+) -> Result<Vec<Vec<u8>>, Rule> {
     let mut step = step_on(rt, client, reply);
     for _ in 0..BOUND {
         match step {
-            Step::Need(digest) => {
-                assert!(rt; client.wants());
-                step = client.on_block(store.get(digest)).expect(rt, "memory");
-            }
-            Step::Store(_) => return None,
-            Step::Broken(rule) => return Some(rule),
+            Step::Need(digest) => step = hand(rt, client, store.get(digest)),
+            Step::Store(texts) => return Ok(texts),
+            Step::Broken(rule) => return Err(rule),
         }
     }
     panic!(rt; "too many blocks")
+}
+
+/// The reply breaks this rule first, or none.
+pub(crate) fn breaks(
+    rt: &impl Host,
+    client: &mut MemoryClient,
+    store: &Held<Global>,
+    reply: &[u8],
+    rule: Option<Rule>,
+) {
+    let found = judged(rt, client, store, reply).err();
+    assert!(rt; found == rule, "{found:?} and not {rule:?}");
 }
 
 /// The reply of the case breaks its rule first.
@@ -482,7 +491,7 @@ fn breaks_case(
 ) {
     let structures = structures_of(rt, scene, case);
     let text = reply(rt, &structures, &pending_of(rt, scene, case, update));
-    let found = broken_by(rt, client, &scene.store, &text);
+    let found = judged(rt, client, &scene.store, &text).err();
     assert!(rt; found == case.broken, "{found:?}: {}", case.name);
 }
 

@@ -2,23 +2,21 @@
 //! an older structure and of a plan that it swapped.
 
 use crate::here::Here;
+use crate::several_users::{breaks, judged};
 use client_tree::Held;
-use client_verify::{Rule, Step};
-use layout::{Digest, digest, let_go};
+use client_verify::Rule;
+use layout::{digest, let_go};
 use lms_sign::PublicKey;
 use std::alloc::Global;
 use std::ops::Range;
 use tests_aids::texts::{joined, list, listed, named, only_pending, pending, plan, reply, shown};
 use tests_aids::{Host, check_text};
 use tests_client_aids::changes::{Planned, listing_both};
-use tests_client_aids::clients::{MemoryClient, declare, declare_changes, end, sign, step_on};
+use tests_client_aids::clients::{MemoryClient, declare, declare_changes, end, sign};
 use tests_client_aids::servers::{Server, answers_commit, answers_update_so, server_of};
 use tests_client_aids::three::{Three, three_clients};
 use update_cert::Blocks;
 use wire::Status;
-
-/// How many blocks are handed in at most for one reply.
-const BOUND: usize = 10;
 
 /// The vectors of the first operations of user 0, of user 1 and user 2 after it, and of user 2 after user 1, each after
 /// its count.
@@ -43,57 +41,17 @@ pub(crate) struct Users {
     pub(crate) store: Held<Global>,
 }
 
-/// Stores these texts.
-fn keep(rt: &impl Host, store: &mut Held<Global>, texts: Vec<Vec<u8>>) {
-    store.keep_all(texts).expect(rt, "memory");
-}
-
-/// Hands in the block that the reply asks for.
-fn handed(
-    rt: &impl Host,
-    store: &Held<Global>,
-    client: &mut MemoryClient,
-    digest: Digest,
-) -> Step<Global> {
-    assert!(rt; client.wants());
-    client.on_block(store.get(digest)).expect(rt, "memory")
-}
-
-/// Hands a reply in, and each block that it asks for: the rule that is broken, or none, where it is accepted and the
-/// new texts are stored.
-fn judged(
-    rt: &impl Host,
-    store: &mut Held<Global>,
-    client: &mut MemoryClient,
-    reply: &[u8],
-) -> Option<Rule> {
-    let mut step = step_on(rt, client, reply);
-    for _block in 0..BOUND {
-        match step {
-            Step::Need(digest) => step = handed(rt, store, client, digest),
-            Step::Store(texts) => {
-                keep(rt, store, texts);
-                return None;
-            }
-            Step::Broken(rule) => return Some(rule),
-        }
-    }
-    panic!(rt; "too many blocks")
-}
-
-/// The rule that was broken is this one.
-fn is_rule(rt: &impl Host, found: Option<Rule>, rule: Option<Rule>) {
-    assert!(rt; found == rule, "{found:?} and not {rule:?}");
-}
-
-/// The client accepts the reply.
+/// The client accepts the reply, and the new texts are stored.
 pub(crate) fn is_accepted(
     rt: &impl Host,
     store: &mut Held<Global>,
     client: &mut MemoryClient,
     reply: &[u8],
 ) {
-    is_rule(rt, judged(rt, store, client, reply), None);
+    match judged(rt, client, store, reply) {
+        Ok(texts) => store.keep_all(texts).expect(rt, "memory"),
+        Err(rule) => panic!(rt; "{rule:?}"),
+    }
 }
 
 /// The client accepts the reply, and signs.
@@ -105,17 +63,6 @@ pub(crate) fn accepts(
 ) -> Vec<u8> {
     is_accepted(rt, store, client, reply);
     sign(rt, client)
-}
-
-/// The reply breaks this rule first.
-pub(crate) fn breaks(
-    rt: &impl Host,
-    store: &mut Held<Global>,
-    client: &mut MemoryClient,
-    reply: &[u8],
-    rule: Rule,
-) {
-    is_rule(rt, judged(rt, store, client, reply), Some(rule));
 }
 
 /// The server commits the structure that the client signed.
@@ -259,13 +206,13 @@ impl Scene {
     /// User 1 refuses this reply by a rule.
     fn first_refuses(&mut self, rt: &impl Host, reply: &[u8], rule: Rule) {
         let Users { first, store, .. } = &mut self.users;
-        breaks(rt, store, first, reply, rule);
+        breaks(rt, first, store, reply, Some(rule));
     }
 
     /// User 2 refuses this reply by a rule.
     fn second_refuses(&mut self, rt: &impl Host, reply: &[u8], rule: Rule) {
         let Users { second, store, .. } = &mut self.users;
-        breaks(rt, store, second, reply, rule);
+        breaks(rt, second, store, reply, Some(rule));
     }
 }
 

@@ -13,7 +13,7 @@ use tests_aids::tables::{FORM, listing};
 use tests_aids::texts::joined;
 use tests_aids::{Host, check, check_text};
 use tests_client_aids::changes::{Planned, lay, nothing, plan_change};
-use tests_client_aids::clients::first_key;
+use tests_client_aids::clients::{first_key, only_structure};
 use update_cert::{Action, Change, TableChange};
 
 /// What user 0 does.
@@ -128,10 +128,7 @@ fn planned_of(rt: &impl Host, tasks: &[Task]) -> Planned {
 
 /// The text of the client's own structure has this size, and ends so.
 fn has_records(rt: &impl Host, world: &World, size: usize, records: &[u8]) {
-    assert!(rt; world.client.has_view());
-    let [own] = world.client.structures() else {
-        panic!(rt; "not one structure");
-    };
+    let own = only_structure(rt, &world.client);
     let text = own.value.text(rt.alloc()).expect(rt, "memory");
     check(rt, text.len() == size, "the size of the structure");
     check(rt, text.ends_with(records), "the records of groups");

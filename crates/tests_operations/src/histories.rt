@@ -15,7 +15,7 @@ use std::alloc::Global;
 use tests_aids::blocks::{OF_F, OF_F_INODE};
 use tests_aids::texts::FIRST_HANDLE;
 use tests_aids::{Host, check, check_text};
-use tests_client_aids::clients::breaks;
+use tests_client_aids::clients::{breaks, only_structure};
 
 /// What stands at an i-number of user 0's.
 #[derive(Clone, Copy)]
@@ -33,7 +33,6 @@ struct LookedAt {
     asked: &'static [&'static [u8]],
 }
 
-/// An operation.
 struct Operation {
     tasks: &'static [(u16, Task)],
     /// The blocks that it asks for.
@@ -246,10 +245,7 @@ fn are_texts(rt: &impl Host, found: &[Vec<u8>], wanted: &[&[u8]]) {
 
 /// The client's own structure has this handle.
 fn has_handle(rt: &impl Host, world: &World, handle: &[u8]) {
-    assert!(rt; world.client.has_view());
-    let [own] = world.client.structures() else {
-        panic!(rt; "not one structure");
-    };
+    let own = only_structure(rt, &world.client);
     check_text(rt, own.value.handle().as_bytes(), handle);
 }
 

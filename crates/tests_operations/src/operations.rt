@@ -8,7 +8,10 @@ use tests_aids::texts::{
     FIRST_HANDLE, certificate, joined, key_of, listed, named, plan_of, reply_to, shown,
 };
 use tests_aids::{Host, check, check_text};
-use tests_client_aids::clients::{MemoryClient, breaks, declare, end, first_key, sign, superuser};
+use tests_client_aids::clients::{
+    MemoryClient, breaks, declare, end, first_key, has_number, is_in, only_structure, sign,
+    superuser,
+};
 use tests_client_aids::servers::{Server, answers_commit, answers_update, server_of};
 use wire::{RequestKind, Status, reply_frame, request_frame};
 
@@ -62,7 +65,7 @@ fn completes(
     let commit = signs(rt, client, &plan_of(rt, operation.number, &update));
     answers_commit(rt, server, &commit, Status::Ok);
     end(rt, client, Status::Ok);
-    check(rt, client.phase() == Phase::Idle, "it is over");
+    is_in(rt, client, Phase::Idle);
     Texts {
         update,
         reply,
@@ -96,11 +99,9 @@ fn completes_second(
 /// The client shows this structure alone, and user 0's key.
 fn shows(rt: &impl Host, client: &MemoryClient, structure: &[u8]) {
     check(rt, !client.wants(), "no block is asked for");
-    assert!(rt; client.has_view());
-    let [own] = client.structures() else {
-        panic!(rt; "not one structure");
-    };
+    let own = only_structure(rt, client);
     check_text(rt, &own.text(rt.alloc()).expect(rt, "memory"), structure);
+    assert!(rt; client.has_view());
     let key = client.table().key_of(client.user()).expect(rt, "a key");
     check_text(rt, key.as_bytes(), key_of(rt, 0).public().as_bytes());
 }
@@ -117,7 +118,7 @@ fn two_operations_byte_for_byte(rt: HostRuntime) {
     shows(&rt, &client, &first.commit);
     are_framed(&rt, &first);
     let second = completes_second(&rt, &mut client, &mut server, &first.commit);
-    check(&rt, client.number() == 2, "two operations");
+    has_number(&rt, &client, 2);
     check(&rt, server.events() == 4, "four events");
     shows(&rt, &client, &second);
     let_go(client);

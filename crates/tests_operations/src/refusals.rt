@@ -8,7 +8,9 @@ use tests_aids::texts::{
     certificate, changed, first_reply, joined, key_of, listed, named, pending, plan, plan_of,
     reply, reply_to, shown, signed, structure,
 };
-use tests_client_aids::clients::{MemoryClient, breaks, client_of, declare, end, sign, superuser};
+use tests_client_aids::clients::{
+    MemoryClient, breaks, client_of, declare, end, knows_its_last, sign, superuser,
+};
 use wire::Status;
 
 /// The vectors of user 0's version 1 or 2, and of its version 1 with version 1 of the first group.
@@ -180,28 +182,6 @@ fn takes_first(rt: &impl Host, client: &mut MemoryClient) {
     accepts(rt, client, &update);
 }
 
-/// The reply to the second certificate that shows this structure breaks the rule, or none.
-fn breaks_after(
-    rt: &impl Host,
-    client: &mut MemoryClient,
-    update: &[u8],
-    last: &[u8],
-    rule: Option<Rule>,
-) {
-    let structures = listed(rt, &shown(rt, last));
-    breaks(rt, client, &reply_to(rt, &structures, 2, update), rule);
-}
-
-/// The second reply shows no structure, another than the client's last one, and that one.
-fn takes_second(rt: &impl Host, client: &mut MemoryClient, last: &[u8]) {
-    let update = declare(rt, client);
-    let without = reply_to(rt, NONE, 2, &update);
-    breaks(rt, client, &without, Some(Rule::OwnLast));
-    let other = changed(rt, last);
-    breaks_after(rt, client, &update, &other, Some(Rule::OwnLast));
-    breaks_after(rt, client, &update, last, None);
-}
-
 #[test]
 fn own_client(rt: HostRuntime) {
     let rt = (rt, Here);
@@ -209,6 +189,7 @@ fn own_client(rt: HostRuntime) {
     takes_first(&rt, &mut client);
     let last = sign(&rt, &mut client);
     end(&rt, &mut client, Status::Ok);
-    takes_second(&rt, &mut client, &last);
+    let update = declare(&rt, &mut client);
+    knows_its_last(&rt, &mut client, &update, &last);
     let_go(client);
 }

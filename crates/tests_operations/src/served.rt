@@ -13,10 +13,11 @@ use std::sync::Wait;
 use std::thread;
 use std::thread::Threads;
 use std::time::Clock;
-use tests_aids::numbers::{i_number, principal};
 use tests_aids::{Host, check, check_text};
 use tests_client_aids::changes::{Planned, listing_both, making, nothing};
-use tests_client_aids::clients::{MemoryClient, declare_changes, end, first_key, sign, step_on};
+use tests_client_aids::clients::{
+    MemoryClient, declare_changes, end, first_key, give, hand, look_at, sign, step_on,
+};
 use tests_client_aids::three::{Three, three_clients};
 use tests_plain_user::{Caller, Replied};
 use wire::{RequestKind, Status};
@@ -61,8 +62,7 @@ fn begin(
         match step {
             Step::Need(digest) => {
                 let block = get(rt, caller, digest);
-                assert!(rt; client.wants());
-                step = client.on_block(Some(&block)).expect(rt, "memory");
+                step = hand(rt, client, Some(&block));
             }
             Step::Store(texts) => {
                 put(rt, caller, &texts);
@@ -105,15 +105,12 @@ fn sees(
     user: u8,
     bytes: &[u8],
 ) {
-    assert!(rt; client.has_view());
-    let looked = client.look(principal(rt, user), i_number(rt, 3));
-    let mut look = looked.expect(rt, "memory");
+    let mut look = look_at(rt, client, user, 3);
     for _block in 0..BOUND {
         match look {
             Look::Need(digest) => {
                 let block = get(rt, caller, digest);
-                assert!(rt; client.looking());
-                let next = client.give(Some(&block)).expect(rt, "memory");
+                let next = give(rt, client, Some(&block));
                 let_go(look);
                 look = next;
             }

@@ -279,7 +279,6 @@ fn each_call_of_a_long_history(rt: HostRuntime) {
     let_go(run);
 }
 
-/// Fills a log.
 fn fill(rt: &impl Host, log: &mut MemoryLog<Global>) {
     for _ in log.calls().len()..1024 {
         let call = Call::new(CallKind::Update, Vec::new(rt.alloc()));

@@ -6,12 +6,11 @@ use client_tree::Held;
 use client_verify::{Look, Rule, Step};
 use layout::{Digest, digest, let_go};
 use std::alloc::Global;
-use tests_aids::numbers::{i_number, principal};
 use tests_aids::texts::{changed, joined};
 use tests_aids::{Host, check, check_text};
 use tests_client_aids::changes::Planned;
 use tests_client_aids::clients::{
-    MemoryClient, declare_changes, end, first_key, sign, step_on, superuser,
+    self, MemoryClient, declare_changes, end, first_key, sign, step_on, superuser,
 };
 use tests_client_aids::servers::{Server, answers_commit, answers_update_so, server_of};
 use update_cert::Blocks;
@@ -73,15 +72,13 @@ fn bad(rt: &impl Host, block: &[u8], fault: Fault) -> Option<Vec<u8>> {
 
 /// Whether what is handed in for the block that the reply asks for breaks the rule on blocks.
 fn breaks_reply(rt: &impl Host, client: &mut MemoryClient, block: Option<&[u8]>) -> bool {
-    assert!(rt; client.wants());
-    let step = client.on_block(block).expect(rt, "memory");
+    let step = clients::hand(rt, client, block);
     matches!(step, Step::Broken(Rule::Block))
 }
 
 /// The same where a look asks for it.
 fn breaks_look(rt: &impl Host, client: &mut MemoryClient, block: Option<&[u8]>) -> bool {
-    assert!(rt; client.looking());
-    let look = client.give(block).expect(rt, "memory");
+    let look = clients::give(rt, client, block);
     let is_broken = matches!(look, Look::Broken(Rule::Block));
     let_go(look);
     is_broken
@@ -98,6 +95,14 @@ fn hand_faults(rt: &impl Host, world: &mut World, digest: Digest, is_look: bool)
             breaks_reply(rt, &mut world.client, block.as_deref())
         };
         check(rt, is_broken, "a block of a hostile store");
+    }
+}
+
+/// A reply or a look asks for a block: a hostile store hands in each fault first.
+fn is_asked(rt: &impl Host, world: &mut World, digest: Digest, is_look: bool) {
+    world.asked.push(digest).expect(rt, "memory");
+    if world.is_hostile {
+        hand_faults(rt, world, digest, is_look);
     }
 }
 
@@ -120,13 +125,9 @@ pub(crate) fn begin(rt: &impl Host, world: &mut World, planned: Planned) -> Step
 
 /// Hands in the block that the reply asks for.
 fn hand(rt: &impl Host, world: &mut World, digest: Digest) -> Step<Global> {
-    world.asked.push(digest).expect(rt, "memory");
-    if world.is_hostile {
-        hand_faults(rt, world, digest, false);
-    }
-    assert!(rt; world.client.wants());
+    is_asked(rt, world, digest, false);
     let block = world.store.get(digest);
-    world.client.on_block(block).expect(rt, "memory")
+    clients::hand(rt, &mut world.client, block)
 }
 
 /// Hands in each block that the reply asks for, up to the texts that are handed out.
@@ -164,29 +165,16 @@ pub(crate) fn has_lost(rt: &impl Host, world: &World, lost: &[u8]) {
     check_text(rt, world.client.lost(), lost);
 }
 
-/// Begins a look at an i-number of a principal.
-fn look_of(rt: &impl Host, world: &mut World, owner: u8, number: u16) -> Look<Global> {
-    assert!(rt; world.client.has_view());
-    let look = world
-        .client
-        .look(principal(rt, owner), i_number(rt, number));
-    look.expect(rt, "memory")
-}
-
 /// Begins a look at an i-number of user 0's.
 pub(crate) fn look_at(rt: &impl Host, world: &mut World, number: u16) -> Look<Global> {
-    look_of(rt, world, 0, number)
+    clients::look_at(rt, &mut world.client, 0, number)
 }
 
 /// Gives the block that the look asks for.
 fn give(rt: &impl Host, world: &mut World, digest: Digest) -> Look<Global> {
-    world.asked.push(digest).expect(rt, "memory");
-    if world.is_hostile {
-        hand_faults(rt, world, digest, true);
-    }
-    assert!(rt; world.client.looking());
+    is_asked(rt, world, digest, true);
     let block = world.store.get(digest);
-    world.client.give(block).expect(rt, "memory")
+    clients::give(rt, &mut world.client, block)
 }
 
 /// What stands at an i-number of a principal.
@@ -196,7 +184,7 @@ pub(crate) fn look_through_of(
     owner: u8,
     number: u16,
 ) -> Look<Global> {
-    let mut look = look_of(rt, world, owner, number);
+    let mut look = clients::look_at(rt, &mut world.client, owner, number);
     for _ in 0..BOUND {
         match look {
             Look::Need(digest) => {

@@ -54,7 +54,6 @@ pub(crate) fn opened(rt: &impl Host, client: &MemoryClient) -> Told {
     Told::Opened(client.phase(), joined(rt, &[sent_again(client)]))
 }
 
-/// Copies of texts.
 fn copies(rt: &impl Host, texts: &[Vec<u8>]) -> Vec<Vec<u8>> {
     let mut copies = Vec::new(rt.alloc());
     for text in texts {

@@ -10,9 +10,9 @@ use crate::steps::{
 use client_runs::Act;
 use client_verify::Phase;
 use layout::{User, let_go};
+use tests_aids::Host;
 use tests_aids::texts::{first_reply, joined, key_of, listed, reply_to, shown};
-use tests_aids::{Host, check};
-use tests_client_aids::clients::{MemoryClient, begun_without_changes, nothing_yet};
+use tests_client_aids::clients::{MemoryClient, begun_without_changes, is_in, nothing_yet, signed};
 use tests_client_aids::crashes::{Left, has_failed};
 
 /// `begin` and `sign` each make two calls of the ledger's device and six of the journal's. After each of these faults a
@@ -106,9 +106,8 @@ fn signs_in_vain(
 ) -> MemoryClient {
     let mut client = restarts_to_fail(rt, record, client, fails);
     accepts(rt, record, &mut client, reply);
-    assert!(rt; client.ready());
-    let signed = client.sign();
-    has_failed(rt, &client, &signed);
+    let answer = signed(rt, &mut client);
+    has_failed(rt, &client, &answer);
     record.add_failing(rt, client.user(), Act::Sign, Told::Fails, fails);
     restarts(rt, record, client, left)
 }
@@ -118,10 +117,10 @@ fn begins_after_each(rt: &impl Host, record: &mut Record, client: MemoryClient) 
     let mut client = client;
     for fault in &UNDONE {
         client = begins_in_vain(rt, record, client, *fault);
-        check(rt, client.phase() == Phase::Idle, "no certificate");
+        is_in(rt, &client, Phase::Idle);
     }
     let client = begins_in_vain(rt, record, client, (LAST_SYNC, Left::Written));
-    check(rt, client.phase() == Phase::Declared, "a certificate");
+    is_in(rt, &client, Phase::Declared);
     client
 }
 
@@ -135,10 +134,10 @@ fn signs_after_each(
     let mut client = client;
     for fault in &UNDONE {
         client = signs_in_vain(rt, record, client, reply, *fault);
-        check(rt, client.phase() == Phase::Declared, "no structure");
+        is_in(rt, &client, Phase::Declared);
     }
     let client = signs_in_vain(rt, record, client, reply, (LAST_SYNC, Left::Written));
-    check(rt, client.phase() == Phase::Signed, "a structure");
+    is_in(rt, &client, Phase::Signed);
     client
 }
 

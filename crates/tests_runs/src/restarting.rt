@@ -6,9 +6,9 @@ use crate::steps::{
 };
 use client_verify::Phase;
 use layout::{User, let_go};
+use tests_aids::Host;
 use tests_aids::texts::{first_reply, key_of};
-use tests_aids::{Host, check};
-use tests_client_aids::clients::{MemoryClient, nothing_yet};
+use tests_client_aids::clients::{MemoryClient, is_in, nothing_yet};
 use tests_client_aids::crashes::Left;
 
 /// The client crashes, nothing unsynced is left, and it is opened again, in this phase.
@@ -19,7 +19,7 @@ fn restarts_in(
     phase: Phase,
 ) -> MemoryClient {
     let client = restarts(rt, record, client, Left::Synced);
-    check(rt, client.phase() == phase, "the phase");
+    is_in(rt, &client, phase);
     client
 }
 

@@ -91,26 +91,17 @@ impl Scene {
         (to_one, to_two)
     }
 
-    /// User 1 accepts the reply, signs and commits.
-    fn one_finishes(&mut self, rt: &impl Host, reply: &[u8]) {
+    /// User 1 or 2 accepts the reply, signs and commits.
+    fn finishes(&mut self, rt: &impl Host, user: u8, reply: &[u8]) {
         let Scene {
             record,
             one,
-            server,
-            ..
-        } = self;
-        let _structure = finishes(rt, record, server, one, reply);
-    }
-
-    /// So does user 2.
-    fn two_finishes(&mut self, rt: &impl Host, reply: &[u8]) {
-        let Scene {
-            record,
             two,
             server,
             ..
         } = self;
-        let _structure = finishes(rt, record, server, two, reply);
+        let client = if user == 1 { one } else { two };
+        let _structure = finishes(rt, record, server, client, reply);
     }
 
     /// Another server, which shows user 0's operation, too.
@@ -153,9 +144,9 @@ fn two_write_while_one_reads(rt: HostRuntime) {
     let mut scene = new_scene(rt);
     let (to_one, to_two) = scene.both_write(rt);
     scene.reads_both(rt);
-    scene.two_finishes(rt, &to_two);
+    scene.finishes(rt, 2, &to_two);
     scene.reads_both(rt);
-    scene.one_finishes(rt, &to_one);
+    scene.finishes(rt, 1, &to_one);
     scene.reads_both(rt);
     is_carried_out(rt, &scene.record);
     let_go(scene);

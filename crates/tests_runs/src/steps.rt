@@ -12,7 +12,9 @@ use tests_aids::numbers::{i_number, principal};
 use tests_aids::texts::joined;
 use tests_aids::{Host, check};
 use tests_client_aids::changes::{Planned, listing_both, making, nothing};
-use tests_client_aids::clients::{Kept, MemoryClient, begun, end, open_over, sign, step_on};
+use tests_client_aids::clients::{
+    Kept, MemoryClient, begun, end, give, hand, look_at, open_over, sign, step_on,
+};
 use tests_client_aids::crashes::{Left, after_crash, bytes_left};
 use tests_client_aids::servers::{Server, answers_commit, answers_update_so};
 use update_cert::Blocks;
@@ -238,8 +240,7 @@ fn takes(
     digest: Digest,
 ) -> Step<Global> {
     let block = stored(rt, record, digest);
-    assert!(rt; client.wants());
-    let step = client.on_block(Some(&block)).expect(rt, "memory");
+    let step = hand(rt, client, Some(&block));
     let told = step_told(rt, &step);
     record.add(rt, client.user(), Act::Block(Some(block)), told);
     step
@@ -349,11 +350,10 @@ fn looks(
     client: &mut MemoryClient,
     owner: u8,
 ) -> Look<Global> {
-    let (owner, place) = (principal(rt, owner), i_number(rt, PLACE));
-    assert!(rt; client.has_view());
-    let look = client.look(owner, place).expect(rt, "memory");
+    let look = look_at(rt, client, owner, PLACE);
     let told = look_told(rt, &look);
-    record.add(rt, client.user(), Act::Look(owner, place), told);
+    let act = Act::Look(principal(rt, owner), i_number(rt, PLACE));
+    record.add(rt, client.user(), act, told);
     look
 }
 
@@ -365,8 +365,7 @@ fn gives(
     digest: Digest,
 ) -> Look<Global> {
     let block = stored(rt, record, digest);
-    assert!(rt; client.looking());
-    let look = client.give(Some(&block)).expect(rt, "memory");
+    let look = give(rt, client, Some(&block));
     let told = look_told(rt, &look);
     record.add(rt, client.user(), Act::Give(Some(block)), told);
     look
