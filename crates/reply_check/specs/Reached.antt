@@ -1,4 +1,4 @@
--- Nobody has to believe this file: an aid of private contracts.
+-- Nobody has to believe this file: an aid of contracts that are no promise.
 -- What the own operation makes, or what stands at an i-number, comes to by the blocks that are held.
 use Rattle.std.specs.Prelude.{◌≡◌, ◌≤◌, ◌<◌, ℕ, List, ◌∷◌, ◌++◌, Some, None, true, false, map}
 use Rattle.std.specs.List.{flat_map}

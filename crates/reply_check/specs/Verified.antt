@@ -1,4 +1,4 @@
--- Nobody has to believe this file: an aid of private contracts and invariants.
+-- Nobody has to believe this file: an aid of invariants, and of contracts that are no promise.
 -- What is signed, and so needn't be verified again.
 use Rattle.std.specs.Prelude.{◌≡◌, ◌==◌, ◌++◌, Option, true, find, length, IfSome}
 use Rattle.std.specs.List.{list_all}

@@ -105,7 +105,7 @@ struct Begun {
     log: File,
 }
 
-/// Reads user 0's key, listens where the words say, and empties the file of the log.
+/// Reads user 0's key, listens where the words say, empties the file of the log, and prints where it listens.
 fn begin<
     R: Runtime + AllocGlobal + Files<File = File> + Net<Listener = TcpListener, Stream = TcpStream>,
 >(rt: &R, matches: &ArgMatches) -> anyhow::Result<Begun> {
@@ -161,7 +161,7 @@ fn serve_begun<R: AllocGlobal + Clock + Threads + Wait + Sync>(
     }
 }
 
-/// Serves the connections that the words ask for that it was given.
+/// Reads the words, and serves as they say.
 fn run<
     R: Runtime
         + AllocGlobal

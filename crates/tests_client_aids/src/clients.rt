@@ -1,4 +1,4 @@
-//! A client, and what it answers. All tests call it by these few functions: the proof of each function that calls it
+//! A client, and what it answers. Most tests call it by these few functions: the proof of each function that calls it
 //! itself loads what it promises.
 
 use client_verify::{Client, ClientError, Look, Parts, Phase, Rule, Step, are_laid};
