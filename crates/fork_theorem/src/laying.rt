@@ -28,16 +28,13 @@ pub(crate) fn store<A: Allocator + Copy>(
     Ok(())
 }
 
-/// Lays a file out, and gives the digest of its i-node. A word of a script is no larger than a file.
+/// Lays a file out, and gives the digest of its i-node.
 fn lay<A: Allocator + Copy>(
     alloc: A,
     laid: &mut Vec<Vec<u8, A>, A>,
     file: &[u8],
-) -> Result<Digest, Memory> {
-    let Laid { inode, blocks } = match lay_file(alloc, file) {
-        Ok(file) => file,
-        Err(LayError::TooLarge) | Err(LayError::Memory) => return Err(Memory),
-    };
+) -> Result<Digest, LayError> {
+    let Laid { inode, blocks } = lay_file(alloc, file)?;
     let digest = digest(&inode);
     laid.push(inode)?;
     for block in blocks {
@@ -61,7 +58,7 @@ fn action_of<A: Allocator + Copy>(
     alloc: A,
     laid: &mut Vec<Vec<u8, A>, A>,
     action: TaskAction<A>,
-) -> Result<Action<A>, Memory> {
+) -> Result<Action<A>, LayError> {
     match action {
         TaskAction::Make(bytes) => Ok(Action::Make(lay(alloc, laid, &bytes)?)),
         TaskAction::MakeDirectory => Ok(Action::Make(empty_directory(alloc)?)),
@@ -93,7 +90,7 @@ fn change_of<A: Allocator + Copy>(
     players: &mut Players<A>,
     laid: &mut Vec<Vec<u8, A>, A>,
     task: Task<A>,
-) -> Result<Change<A>, Memory> {
+) -> Result<Change<A>, LayError> {
     match task {
         Task::At(place, action) => {
             let action = action_of(alloc, laid, action)?;
@@ -103,12 +100,12 @@ fn change_of<A: Allocator + Copy>(
     }
 }
 
-/// The changes that a script's tasks are, in order, with what has to be laid out for them.
+/// The changes that a script's tasks are, in order, with what has to be laid out for them. A file can be too large.
 pub(crate) fn work_of<A: Allocator + Copy>(
     alloc: A,
     players: &mut Players<A>,
     tasks: Vec<Task<A>, A>,
-) -> Result<Work<A>, Memory> {
+) -> Result<Work<A>, LayError> {
     let mut changes = Vec::new(alloc);
     let mut laid = Vec::new(alloc);
     for task in tasks {

@@ -7,10 +7,10 @@ use crate::outcome::Outcome;
 use crate::server::{Server, exchange};
 use client_tree::Held;
 use client_verify::{Client, ClientError, Look, Phase, Step, are_laid};
-use layout::{INumber, Memory, Principal, User};
+use layout::{INumber, Memory, Principal, User, put_in};
 use leaf_ledger::Device;
 use std::alloc::Allocator;
-use update_cert::Blocks;
+use update_cert::{Blocks, MOST_CHANGES};
 use wire::{RequestKind, Status};
 
 /// What a client's error comes to.
@@ -36,7 +36,7 @@ fn declare<L: Device, J: Device, A: Allocator + Copy>(
 {
     let user = client.user();
     let Work { changes, laid } = work;
-    if changes.len() > 16 || !are_laid(alloc, &laid, &changes)? {
+    if changes.len() > MOST_CHANGES || !are_laid(alloc, &laid, &changes)? {
         return Ok(Outcome::Error);
     }
     store(alloc, blocks, &laid)?;
@@ -77,7 +77,8 @@ fn judged<L: Device, J: Device, A: Allocator + Copy>(
         if !client.wants() {
             break;
         }
-        step = client.on_block(blocks.get(digest))?;
+        let next = client.on_block(blocks.get(digest))?;
+        put_in(&mut step, next);
     }
     Ok(step)
 }
@@ -177,7 +178,8 @@ fn looked<L: Device, J: Device, A: Allocator + Copy>(
         if !client.looking() {
             break;
         }
-        look = client.give(blocks.get(digest))?;
+        let next = client.give(blocks.get(digest))?;
+        put_in(&mut look, next);
     }
     Ok(look)
 }

@@ -74,49 +74,60 @@ fn write_entries<A: Allocator, W: Write>(
     Ok(())
 }
 
+/// The user, and these words.
+fn write_words<W: Write>(user: &User, words: &str, writer: &mut W) -> io::Result<()> {
+    write!(writer, "{} {words}", user.get())
+}
+
+/// The user, these words and a number.
+fn write_number<W: Write>(user: &User, words: &str, number: u32, writer: &mut W) -> io::Result<()> {
+    write!(writer, "{} {words} {number}", user.get())
+}
+
+/// The file of these bytes, and the empty one as `-`.
+fn write_file<W: Write>(user: &User, bytes: &[u8], writer: &mut W) -> io::Result<()> {
+    write_words(user, "file ", writer)?;
+    writer.write_all(if bytes.is_empty() { b"-" } else { bytes })
+}
+
 impl<A: Allocator> Outcome<A> {
     /// Writes its text, without the end of the line. The empty file is written `-`.
     fn write_text<W: Write>(&self, writer: &mut W) -> io::Result<()> {
         match self {
-            Outcome::Error => write!(writer, "error"),
-            Outcome::Busy(user) => write!(writer, "{} busy", user.get()),
-            Outcome::Begun(user, number) => write!(writer, "{} begin {number}", user.get()),
+            Outcome::Error => writer.write_all(b"error"),
+            Outcome::Busy(user) => write_words(user, "busy", writer),
+            Outcome::Begun(user, number) => write_number(user, "begin", *number, writer),
             Outcome::Accepted(user, number, lost) => {
-                write!(writer, "{} accepted {number}", user.get())?;
+                write_number(user, "accepted", *number, writer)?;
                 write_lost(lost, writer)
             }
-            Outcome::Broken(user, rule) => write!(
+            Outcome::Broken(user, rule) => write_number(
+                user,
+                "broken",
+                u32::from(rule.number()),
                 writer,
-                "{} broken {}",
-                user.get(),
-                rule.number()
             ),
-            Outcome::Declined(user, status) => {
-                write!(writer, "{} status {}", user.get(), status.number())
-            }
-            Outcome::Committed(user) => write!(writer, "{} committed", user.get()),
-            Outcome::NoLeaf(user) => write!(writer, "{} no leaf", user.get()),
-            Outcome::NoNumber(user) => write!(writer, "{} no number", user.get()),
-            Outcome::Device(user) => write!(writer, "{} device", user.get()),
-            Outcome::Foreign(user) => write!(writer, "{} foreign", user.get()),
-            Outcome::Damaged(user) => write!(writer, "{} damaged", user.get()),
-            Outcome::Idle(user) => write!(writer, "{} idle", user.get()),
-            Outcome::Declared(user) => write!(writer, "{} declared", user.get()),
-            Outcome::Signed(user) => write!(writer, "{} signed", user.get()),
-            Outcome::File(user, bytes) if bytes.is_empty() => write!(
+            Outcome::Declined(user, status) => write_number(
+                user,
+                "status",
+                u32::from(status.number()),
                 writer,
-                "{} file -",
-                user.get()
             ),
-            Outcome::File(user, bytes) => {
-                write!(writer, "{} file ", user.get())?;
-                writer.write_all(bytes)
-            }
+            Outcome::Committed(user) => write_words(user, "committed", writer),
+            Outcome::NoLeaf(user) => write_words(user, "no leaf", writer),
+            Outcome::NoNumber(user) => write_words(user, "no number", writer),
+            Outcome::Device(user) => write_words(user, "device", writer),
+            Outcome::Foreign(user) => write_words(user, "foreign", writer),
+            Outcome::Damaged(user) => write_words(user, "damaged", writer),
+            Outcome::Idle(user) => write_words(user, "idle", writer),
+            Outcome::Declared(user) => write_words(user, "declared", writer),
+            Outcome::Signed(user) => write_words(user, "signed", writer),
+            Outcome::File(user, bytes) => write_file(user, bytes, writer),
             Outcome::Directory(user, directory) => {
-                write!(writer, "{} dir", user.get())?;
+                write_words(user, "dir", writer)?;
                 write_entries(directory, writer)
             }
-            Outcome::Nothing(user) => write!(writer, "{} none", user.get()),
+            Outcome::Nothing(user) => write_words(user, "none", writer),
         }
     }
 

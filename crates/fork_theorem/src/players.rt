@@ -1,9 +1,9 @@
 //! The clients of a script.
 
-ghost use Rattle.std.specs.Prelude.{◌≡◌, ◌<◌, IfOk, vec_len};
+ghost use Rattle.std.specs.Prelude.{◌≡◌, ◌<◌, IfOk, IfSome, length, vec_len};
 
 use client_verify::{Client, Parts, Phase};
-use layout::{Memory, User};
+use layout::{Memory, User, let_go};
 use leaf_ledger::MemoryDevice;
 use lms_sign::{PrivateKey, PublicKey};
 use std::alloc::Allocator;
@@ -60,7 +60,10 @@ fn open<A: Allocator + Copy>(
             client,
             key: public,
         }),
-        Err(_) => Err(Memory),
+        Err((_, parts)) => {
+            let_go(parts);
+            Err(Memory)
+        }
     }
 }
 
@@ -79,6 +82,18 @@ fn first_open<A: Allocator + Copy>(
         journal,
     };
     open(alloc, user, pinned, parts)
+}
+
+/// Where the client of a user stands in the list, if it was named.
+fn named_at<A: Allocator + Copy>(list: &[Player<A>], user: User) -> Option<usize>
+    ensures { IfSome result (λ place. place < length list.now) }
+{
+    for place in 0..list.len() {
+        if list[place].client.user() == user {
+            return Some(place);
+        }
+    }
+    None
 }
 
 impl<A: Allocator + Copy> Players<A> {
@@ -105,10 +120,8 @@ impl<A: Allocator + Copy> Players<A> {
     pub(crate) fn place_of(&mut self, user: User) -> Result<usize, Memory>
         ensures { IfOk result (λ place. place < vec_len self.new.list) }
     {
-        for (place, player) in self.list.iter().enumerate() {
-            if player.client.user() == user {
-                return Ok(place);
-            }
+        if let Some(place) = named_at(&self.list, user) {
+            return Ok(place);
         }
         let key = first_key(self.alloc, user)?;
         let player = first_open(self.alloc, user, key, self.pinned)?;

@@ -4,7 +4,7 @@ use crate::command::command_of;
 use crate::outcome::Outcome;
 use crate::words::Unread;
 use crate::world::World;
-use layout::Memory;
+use layout::{Memory, let_go};
 use std::alloc::{AllocError, Allocator};
 use std::io::{self, BufRead, Write};
 use thiserror::Error;
@@ -59,14 +59,13 @@ fn outcome_of<A: Allocator + Copy>(
     }
 }
 
-/// Runs the script that the reader gives, and writes a line for each command. Lines that are empty or begin with `#`
-/// are skipped.
-pub fn play<A: Allocator + Copy, R: BufRead, W: Write>(
+/// Runs the script that the reader gives in this world, and writes a line for each command.
+fn play_in<A: Allocator + Copy, R: BufRead, W: Write>(
     alloc: A,
+    world: &mut World<A>,
     reader: &mut R,
     writer: &mut W,
 ) -> Result<(), PlayError> {
-    let mut world = World::new(alloc)?;
     let mut line = Vec::new(alloc);
     for _ in 0..u64::MAX {
         line.clear();
@@ -76,9 +75,32 @@ pub fn play<A: Allocator + Copy, R: BufRead, W: Write>(
         if size == 0 {
             break;
         }
-        if let Some(outcome) = outcome_of(alloc, &mut world, without_end(&line))? {
-            outcome.write_line(writer).map_err(|_| PlayError::Write)?;
+        if let Some(outcome) = outcome_of(alloc, world, without_end(&line))? {
+            write_line(outcome, writer)?;
         }
     }
     Ok(())
+}
+
+/// Writes the line of an outcome.
+fn write_line<A: Allocator, W: Write>(
+    outcome: Outcome<A>,
+    writer: &mut W,
+) -> Result<(), PlayError> {
+    let written = outcome.write_line(writer);
+    let_go(outcome);
+    written.map_err(|_| PlayError::Write)
+}
+
+/// Runs the script that the reader gives, and writes a line for each command. Lines that are empty or begin with `#`
+/// are skipped.
+pub fn play<A: Allocator + Copy, R: BufRead, W: Write>(
+    alloc: A,
+    reader: &mut R,
+    writer: &mut W,
+) -> Result<(), PlayError> {
+    let mut world = World::new(alloc)?;
+    let played = play_in(alloc, &mut world, reader, writer);
+    let_go(world);
+    played
 }

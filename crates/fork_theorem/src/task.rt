@@ -4,9 +4,10 @@ ghost use Rattle.std.specs.Prelude.{◌≡◌, ◌≤◌, IfOk, length};
 
 use crate::words::{Unread, bytes_of, group_of, i_number_of, principal_of, user_of};
 use directory::{Entry, Name, Target, name_text};
-use layout::{Group, User};
+use layout::{Group, User, let_go};
 use std::alloc::Allocator;
 use std::str::Split;
+use update_cert::MOST_CHANGES;
 
 /// What is done at an i-number.
 #[derive(Drop)]
@@ -128,28 +129,38 @@ fn task_at<A: Allocator>(
     Ok(Task::At(place, action))
 }
 
-/// What a change of a script says.
-fn task_of<A: Allocator>(alloc: A, text: &str) -> Result<Task<A>, Unread> {
-    let mut words = text.split(' ');
-    let task = match next(&mut words)? {
-        "adduser" => Task::OfTable(TableTask::AddUser(user(&mut words)?)),
-        "addmember" => {
-            let group = group(&mut words)?;
-            Task::OfTable(TableTask::AddMember(group, user(&mut words)?))
-        }
-        "dropmember" => {
-            let group = group(&mut words)?;
-            Task::OfTable(TableTask::DropMember(group, user(&mut words)?))
-        }
-        verb => task_at(alloc, verb, &mut words)?,
+/// What is done to the table of principals by this verb, if it is one of those.
+fn table_task(verb: &str, words: &mut Split<'_, char>) -> Result<Option<TableTask>, Unread> {
+    let task = match verb {
+        "adduser" => TableTask::AddUser(user(words)?),
+        "addmember" => TableTask::AddMember(group(words)?, user(words)?),
+        "dropmember" => TableTask::DropMember(group(words)?, user(words)?),
+        _ => return Ok(None),
     };
-    match words.next() {
-        Some(_) => Err(Unread::NoCommand),
-        None => Ok(task),
+    Ok(Some(task))
+}
+
+/// What a change of a script says, up to its last word.
+fn task_in<A: Allocator>(alloc: A, words: &mut Split<'_, char>) -> Result<Task<A>, Unread> {
+    let verb = next(words)?;
+    match table_task(verb, words)? {
+        Some(task) => Ok(Task::OfTable(task)),
+        None => task_at(alloc, verb, words),
     }
 }
 
-/// What a list of changes says, which are parted by `; `: at most 16.
+/// What a change of a script says.
+fn task_of<A: Allocator>(alloc: A, text: &str) -> Result<Task<A>, Unread> {
+    let mut words = text.split(' ');
+    let task = task_in(alloc, &mut words)?;
+    if words.next().is_some() {
+        let_go(task);
+        return Err(Unread::NoCommand);
+    }
+    Ok(task)
+}
+
+/// What a list of changes says, which are parted by `; `: at most as many as an operation has.
 pub(crate) fn tasks_of<A: Allocator + Copy>(
     alloc: A,
     text: &str,
@@ -162,7 +173,7 @@ pub(crate) fn tasks_of<A: Allocator + Copy>(
             part.strip_prefix(' ')
         };
         match words {
-            Some(words) if place < 16 => tasks.push(task_of(alloc, words)?)?,
+            Some(words) if place < MOST_CHANGES => tasks.push(task_of(alloc, words)?)?,
             _ => return Err(Unread::NoCommand),
         }
     }

@@ -9,6 +9,7 @@ use crate::server::Server;
 use crate::task::Task;
 use client_tree::Held;
 use client_verify::Phase;
+use itable::LayError;
 use layout::{Memory, User};
 use std::alloc::Allocator;
 
@@ -41,7 +42,11 @@ impl<A: Allocator + Copy> World<A> {
         if self.players.list[place].client.phase() != Phase::Idle {
             return Ok(Outcome::Busy(user));
         }
-        let work = work_of(self.alloc, &mut self.players, tasks)?;
+        let work = match work_of(self.alloc, &mut self.players, tasks) {
+            Ok(work) => work,
+            Err(LayError::TooLarge) => return Ok(Outcome::Error),
+            Err(LayError::Memory) => return Err(Memory),
+        };
         let place = self.players.place_of(user)?;
         let client = &mut self.players.list[place].client;
         begin(self.alloc, &mut self.blocks, client, work)
