@@ -1,11 +1,11 @@
 //! Times of an i-table in which each i-number has a digest.
 
-use crate::server::Host;
-use crate::time::{Time, compress, share};
+use crate::host::Host;
+use crate::time::{Time, Times, compress, least, rows};
 use anyhow::Result;
 use itable::ITable;
-use layout::{Digest, INumber, Principal, User};
-use std::alloc::Allocator;
+use layout::{Digest, INumber, Principal, User, let_go};
+use std::alloc::Global;
 use std::rt::Clock;
 use std::time::Instant;
 
@@ -19,42 +19,26 @@ const ROOT: u32 = 34;
 
 const WHOLE: u32 = 63 * CHUNK + 34 + ROOT;
 
-/// What a round measures.
-#[derive(Clone, Copy)]
-struct Round {
-    fill: Time,
-    handle: Time,
-    again: Time,
-}
-
-impl Round {
-    fn least(self, other: Round) -> Round {
-        Round {
-            fill: self.fill.least(other.fill),
-            handle: self.handle.least(other.handle),
-            again: self.again.least(other.again),
-        }
-    }
-}
-
 /// Sets each i-number, the greatest first, so that each set shifts all that are there.
-fn fill<A: Allocator>(clock: &impl Clock, table: &mut ITable<A>, unit: f64) -> Result<Time> {
-    let start = Instant::now(clock)?;
+fn fill(table: &mut ITable<Global>) -> Result<()> {
     for number in 1..4096 {
         if let Some(i_number) = INumber::new(4096 - number) {
             table.set(i_number, Digest::from_bytes([(number % 256) as u8; 32]))?;
         }
     }
-    Ok(Time::new(start.elapsed(clock)?, 0, unit))
+    Ok(())
 }
 
-/// The handle where no chunk's digest is known, and after one i-number was set.
-fn handles<A: Allocator + Copy>(
+/// The times of filling an empty table, of the handle where no chunk's digest is known, and of that after one set.
+fn times_of(
     clock: &impl Clock,
-    alloc: A,
-    table: &mut ITable<A>,
+    alloc: Global,
+    table: &mut ITable<Global>,
     unit: f64,
-) -> Result<(Time, Time)> {
+) -> Result<Times> {
+    let start = Instant::now(clock)?;
+    fill(table)?;
+    let filled = Time::new(start.elapsed(clock)?, 0, unit);
     let start = Instant::now(clock)?;
     let first = table.handle(alloc)?;
     let whole = Time::new(start.elapsed(clock)?, WHOLE, unit);
@@ -64,29 +48,22 @@ fn handles<A: Allocator + Copy>(
     let start = Instant::now(clock)?;
     table.handle(alloc)?;
     let again = Time::new(start.elapsed(clock)?, CHUNK + ROOT, unit);
-    Ok((whole, again))
+    Ok([filled, whole, again])
 }
 
-fn measure(rt: &impl Host) -> Result<Round> {
+fn measure(rt: &impl Host) -> Result<Times> {
     let (unit, _digest) = compress(rt)?;
-    let alloc = rt.alloc();
-    let mut table = ITable::empty(alloc, Principal::from(User::superuser()));
-    let fill = fill(rt, &mut table, unit)?;
-    let (handle, again) = handles(rt, alloc, &mut table, unit)?;
-    Ok(Round {
-        fill,
-        handle,
-        again,
-    })
+    let mut table = ITable::empty(rt.alloc(), Principal::from(User::superuser()));
+    let times = times_of(rt, rt.alloc(), &mut table, unit);
+    let_go(table);
+    times
 }
 
 /// Measures, and prints the least times of all rounds.
 pub(crate) fn report(rt: &impl Host) -> Result<()> {
-    let mut least = measure(rt)?;
+    let mut times = measure(rt)?;
     for _round in 1..ROUNDS {
-        least = least.least(measure(rt)?);
+        times = least(times, measure(rt)?);
     }
-    share(rt, "4095 sets", least.fill)?;
-    share(rt, "handle", least.handle)?;
-    share(rt, "handle after one set", least.again)
+    rows(rt, &["4095 sets", "handle", "handle after one set"], times)
 }

@@ -1,102 +1,88 @@
 //! Times of keys and signatures.
 
-use crate::counts;
-use crate::time::{Time, compress, row};
-use anyhow::Result;
+use crate::host::Host;
+use crate::time::{Time, Times, compress, least, middle, rows};
+use anyhow::{Result, anyhow};
+use layout::let_go;
 use lms_sign::{Leaf, PrivateKey, sign, verify};
-use std::alloc::Allocator;
+use std::alloc::Global;
 use std::rt::Clock;
 use std::time::{Duration, Instant};
 
 /// The least time of so many rounds counts.
 const ROUNDS: u32 = 10;
 
-/// How many texts are signed and verified in a round.
-const SIGNATURES: u32 = 256;
+/// How many leaves are used to time a signature.
+const LEAVES: u32 = 255;
 
-/// The identifier of the key.
-const ID: [u8; 16] = [7; 16];
+/// The compressions of a key: for each of 1,024 leaves the starts of 67 chains, 15 steps each, a text of 2,166 bytes
+/// and one of 54; for each of the other 1,023 nodes a text of 86 bytes.
+const KEY: u32 = 1024 * (67 * 16 + 34 + 1) + 1023 * 2;
 
-/// What a round measures.
+/// How many of the 67 times 15 steps of a leaf's chains a signature makes, in the mean.
+const STEPS: u32 = 499;
+
+/// Those of a signature of a short text: the leaf's secret, the text, the starts of the chains, and the steps.
+const SIGN: u32 = 1 + 3 + 67 + STEPS;
+
+/// Those of a verification: the text, the other steps, the leaf's key, its node, and the ten nodes above.
+const VERIFY: u32 = 3 + (67 * 15 - STEPS) + 34 + 1 + 10 * 2;
+
+/// The times of a signature, and of a verification, of a short text.
 #[derive(Clone, Copy)]
-struct Round {
-    unit: f64,
-    key: Time,
-    sign: Time,
-    verify: Time,
-    valid: u32,
+pub(crate) struct Signing {
+    pub(crate) sign: Duration,
+    pub(crate) verify: Duration,
 }
 
-impl Round {
-    fn least(self, other: Round) -> Round {
-        Round {
-            unit: if other.unit < self.unit {
-                other.unit
-            } else {
-                self.unit
-            },
-            key: self.key.least(other.key),
-            sign: self.sign.least(other.sign),
-            verify: self.verify.least(other.verify),
-            valid: self.valid.min(other.valid),
-        }
-    }
-}
-
-/// Signs a text with one leaf after another, and verifies each signature.
-fn signatures<A: Allocator>(
-    clock: &impl Clock,
-    private: &PrivateKey<A>,
-    unit: f64,
-) -> Result<(Time, Time, u32)> {
-    let key = private.public();
-    let text = [5; 100];
-    let mut signing = Time::new(Duration::ZERO, 0, unit);
-    let mut verifying = signing;
-    let mut valid: u32 = 0;
-    for number in 0..SIGNATURES {
+/// The middle times of many signatures by this key, and of as many verifications.
+fn signing_by(clock: &impl Clock, alloc: Global, key: &PrivateKey<Global>) -> Result<Signing> {
+    let public = key.public();
+    let text = [5; 87];
+    let (mut signed, mut verified) = (Vec::new(alloc), Vec::new(alloc));
+    for leaf in 0..LEAVES {
         let start = Instant::now(clock)?;
-        let (signature, spent) = sign(private, Leaf::issue(&key, number), &text);
+        let (signature, spent) = sign(key, Leaf::issue(&public, leaf), &text);
         spent.end();
-        let signed = start.elapsed(clock)?;
+        signed.push(start.elapsed(clock)?)?;
         let start = Instant::now(clock)?;
-        if verify(&key, &text, &signature) {
-            valid = valid.saturating_add(1);
+        if !verify(&public, &text, &signature) {
+            return Err(anyhow!("a signature isn't valid"));
         }
-        let verified = start.elapsed(clock)?;
-        let counts = counts::of_signature(&ID, &signature, &text);
-        signing = signing.and(Time::new(signed, counts.sign, unit));
-        verifying = verifying.and(Time::new(verified, counts.verify, unit));
+        verified.push(start.elapsed(clock)?)?;
     }
-    Ok((signing, verifying, valid))
-}
-
-fn measure<R: Clock + Alloc>(rt: &R) -> Result<Round> {
-    let (unit, seed) = compress(rt)?;
-    let start = Instant::now(rt)?;
-    let private = PrivateKey::from_seed(rt.alloc(), seed, ID)?;
-    let key = Time::new(start.elapsed(rt)?, counts::KEY, unit);
-    let (sign, verify, valid) = signatures(rt, &private, unit)?;
-    Ok(Round {
-        unit,
-        key,
-        sign,
-        verify,
-        valid,
+    Ok(Signing {
+        sign: middle(signed)?,
+        verify: middle(verified)?,
     })
 }
 
-/// Measures, and prints of each work the least of all rounds, each in compressions of its own round.
-pub(crate) fn report<R: Clock + Alloc + Print>(rt: &R) -> Result<()> {
-    let mut least = measure(rt)?;
+/// The middle times of many signatures and verifications.
+pub(crate) fn measure_signing(clock: &impl Clock, alloc: Global) -> Result<Signing> {
+    let key = PrivateKey::from_seed(alloc, [9; 32], [9; 16])?;
+    let times = signing_by(clock, alloc, &key);
+    let_go(key);
+    times
+}
+
+fn measure(rt: &impl Host) -> Result<Times> {
+    let (unit, seed) = compress(rt)?;
+    let start = Instant::now(rt)?;
+    let_go(PrivateKey::from_seed(rt.alloc(), seed, [7; 16])?);
+    let key = Time::new(start.elapsed(rt)?, KEY, unit);
+    let Signing { sign, verify } = measure_signing(rt, rt.alloc())?;
+    Ok([
+        key,
+        Time::new(sign, SIGN, unit),
+        Time::new(verify, VERIFY, unit),
+    ])
+}
+
+/// Measures, and prints of each work the least of all rounds.
+pub(crate) fn report(rt: &impl Host) -> Result<()> {
+    let mut times = measure(rt)?;
     for _round in 1..ROUNDS {
-        least = least.least(measure(rt)?);
+        times = least(times, measure(rt)?);
     }
-    let nanoseconds = least.unit * 1e9;
-    println!(rt; "one compression of sha2: {nanoseconds:.1} ns")?;
-    row(rt, "key", least.key, 1)?;
-    row(rt, "sign", least.sign, SIGNATURES)?;
-    row(rt, "verify", least.verify, SIGNATURES)?;
-    println!(rt; "valid: {} of {SIGNATURES}", least.valid)?;
-    Ok(())
+    rows(rt, &["key", "sign", "verify"], times)
 }

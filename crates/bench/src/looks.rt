@@ -1,25 +1,22 @@
 //! Times of looks at files, whose blocks are handed in one after another.
 
-use crate::server::Host;
-use crate::time::{Time, compress, share};
+use crate::host::Host;
+use crate::time::{Time, Times, compress, least, rows};
 use anyhow::{Result, anyhow};
 use client_tree::{Held, Seen, View, read_table};
 use itable::{ITable, Laid, lay_file};
-use layout::{Digest, INumber, Principal, User, Version, digest};
+use layout::{Digest, INumber, Principal, User, Version, digest, let_go};
 use lms_sign::PublicKey;
 use pending_list::{PendingItem, Signature, Signed};
 use principals::Table;
 use std::alloc::Global;
 use std::rt::Clock;
-use std::time::Instant;
+use std::time::{Duration, Instant};
 use update_cert::{ApplyError, Blocks, Cert};
 use version_order::{Entries, GroupRecords, Plan, Structure, Vector};
 
 /// The least of so many rounds counts, each in compressions of its own round.
 const ROUNDS: u32 = 3;
-
-/// How many blocks the files have.
-static FILES: [u32; 3] = [1, 64, 1024];
 
 /// The compressions of the digest of a block of 4,096 bytes.
 const BLOCK: u32 = 65;
@@ -27,11 +24,6 @@ const BLOCK: u32 = 65;
 /// Whose file it is.
 fn owner() -> Principal {
     User::superuser().into()
-}
-
-/// Where the file stands.
-fn place() -> INumber {
-    INumber::root()
 }
 
 /// A file of so many blocks, no two of which are the same.
@@ -44,48 +36,35 @@ fn file_of(alloc: Global, blocks: u32) -> Result<Vec<u8>> {
     Ok(file)
 }
 
-/// A store that has a file of so many blocks at its place, and the handle of the i-table.
-fn store_of(alloc: Global, blocks: u32) -> Result<(Held<Global>, Digest)> {
-    let mut store = Held::empty(alloc);
-    let file = file_of(alloc, blocks)?;
-    let Laid { inode, blocks } = lay_file(alloc, &file)?;
+/// Stores an i-table that has this file at its root: the i-table's handle.
+fn store_file(alloc: Global, store: &mut Held<Global>, file: &[u8]) -> Result<Digest> {
+    let Laid { inode, blocks } = lay_file(alloc, file)?;
+    let named = digest(&inode);
+    store.keep_all(blocks)?;
+    store.keep(inode)?;
     let mut table = ITable::empty(alloc, owner());
     // User 0's i-table has something at the place of the table of principals, which isn't read here.
-    table.set(INumber::table(), digest(&inode))?;
-    table.set(place(), digest(&inode))?;
+    table.set(INumber::table(), named)?;
+    table.set(INumber::root(), named)?;
     store.keep_all(table.new_texts(alloc, &[])?)?;
-    store.keep(inode)?;
-    store.keep_all(blocks)?;
-    Ok((store, table.handle(alloc)?))
+    Ok(table.handle(alloc)?)
 }
 
-/// The digest that is missing.
-fn wanted(error: ApplyError) -> Result<Digest> {
-    match error {
-        ApplyError::Missing(digest, _) => Ok(digest),
-        ApplyError::Memory => Err(anyhow!("out of memory")),
-    }
-}
-
-/// Holds the stored block of a digest, too.
+/// Holds the stored block, too, that is missing.
 fn hand(
     alloc: Global,
     store: &Held<Global>,
     held: &mut Held<Global>,
-    digest: Digest,
+    error: ApplyError,
 ) -> Result<()> {
-    if let Some(block) = store.get(digest) {
-        held.keep(Vec::from_slice(alloc, block)?)?;
-    }
+    let ApplyError::Missing(digest, _) = error else {
+        return Err(anyhow!("out of memory"));
+    };
+    let Some(block) = store.get(digest) else {
+        return Err(anyhow!("a block isn't stored"));
+    };
+    held.keep(Vec::from_slice(alloc, block)?)?;
     Ok(())
-}
-
-/// A key of user 0's, under which nothing is signed.
-fn key() -> Result<PublicKey> {
-    let mut bytes = [0; 56];
-    bytes[3] = 6;
-    bytes[7] = 3;
-    PublicKey::from_bytes(bytes).ok_or(anyhow!("no key"))
 }
 
 /// A plan of user 0's, of no certificate.
@@ -107,7 +86,7 @@ fn unsigned<T>(value: T) -> Signed<T> {
     }
 }
 
-/// What a reply shows: a structure, the own operation, which has no changes, and the table of principals.
+/// What a reply shows: a structure, the own operation, which has no changes, and the table of principals by this key.
 #[derive(Drop)]
 struct Shown {
     structures: Vec<Signed<Structure<Global>>>,
@@ -116,89 +95,116 @@ struct Shown {
     key: PublicKey,
 }
 
-/// What shows user 0's structure with this handle.
+/// User 0's own operation.
+fn own_of(alloc: Global) -> PendingItem<Global> {
+    let last = Digest::from_bytes([0; 32]);
+    let cert = Cert::new(User::superuser(), Version::first(), last, Vec::new(alloc));
+    PendingItem::new(unsigned(cert), plan_of(alloc))
+}
+
+/// What shows user 0's structure with this handle. Nothing is signed under the key.
 fn shown_of(alloc: Global, handle: Digest) -> Result<Shown> {
+    let mut bytes = [0; 56];
+    (bytes[3], bytes[7]) = (6, 3);
+    let key = PublicKey::from_bytes(bytes).ok_or(anyhow!("no key"))?;
     let structure = Structure::new(plan_of(alloc), handle, GroupRecords::new(alloc));
     let mut structures = Vec::new(alloc);
     structures.push(unsigned(structure))?;
-    let cert = Cert::new(
-        User::superuser(),
-        Version::first(),
-        Digest::from_bytes([0; 32]),
-        Vec::new(alloc),
-    );
-    let own = PendingItem::new(unsigned(cert), plan_of(alloc));
-    let key = key()?;
-    let table = Table::genesis(alloc, key);
     Ok(Shown {
         structures,
-        own,
-        table,
+        own: own_of(alloc),
+        table: Table::genesis(alloc, key),
         key,
     })
 }
 
-/// The view of it.
-fn view(shown: &Shown) -> View<'_, Global> {
-    View::new(
-        shown.key.as_bytes(),
-        &shown.table,
-        &shown.structures,
-        &[],
-        &shown.own,
-    )
-}
-
-/// The blocks of the i-table of this handle, which are held before the look.
-fn table_blocks(alloc: Global, store: &Held<Global>, handle: Digest) -> Result<Held<Global>> {
-    let mut held = Held::empty(alloc);
+/// Holds the blocks of the i-table of this handle.
+fn hold_table(
+    alloc: Global,
+    store: &Held<Global>,
+    held: &mut Held<Global>,
+    handle: Digest,
+) -> Result<()> {
     for _ in 0..u32::MAX {
-        match read_table(alloc, &held, owner(), handle) {
+        match read_table(alloc, held, owner(), handle) {
             Ok(_) => break,
-            Err(error) => hand(alloc, store, &mut held, wanted(error)?)?,
+            Err(error) => hand(alloc, store, held, error)?,
         }
     }
-    Ok(held)
+    Ok(())
 }
 
 /// Looks until no block of the file is missing: its size.
 fn look(
     alloc: Global,
-    shown: &Shown,
-    held: &mut Held<Global>,
     store: &Held<Global>,
+    held: &mut Held<Global>,
+    shown: &Shown,
 ) -> Result<usize> {
+    let key = shown.key.as_bytes();
+    let view = View::new(key, &shown.table, &shown.structures, &[], &shown.own);
     for _ in 0..u32::MAX {
-        match view(shown).look(alloc, held, owner(), place()) {
+        match view.look(alloc, held, owner(), INumber::root()) {
             Ok(Seen::File(bytes)) => return Ok(bytes.len()),
             Ok(_) => break,
-            Err(error) => hand(alloc, store, held, wanted(error)?)?,
+            Err(error) => hand(alloc, store, held, error)?,
         }
     }
-    Ok(0)
+    Err(anyhow!("no file"))
 }
 
-fn measure(rt: &impl Host, blocks: u32) -> Result<(Time, usize)> {
-    let alloc = rt.alloc();
-    let (unit, _digest) = compress(rt)?;
-    let (store, handle) = store_of(alloc, blocks)?;
+/// The time of a look where only the blocks of the i-table are held, with what is looked at it in.
+fn timed_look(
+    clock: &impl Clock,
+    alloc: Global,
+    store: &Held<Global>,
+    handle: Digest,
+) -> Result<(Duration, usize)> {
+    let mut held = Held::empty(alloc);
+    hold_table(alloc, store, &mut held, handle)?;
     let shown = shown_of(alloc, handle)?;
-    let mut held = table_blocks(alloc, &store, handle)?;
-    let start = Instant::now(rt)?;
-    let size = look(alloc, &shown, &mut held, &store)?;
-    let needed = blocks.saturating_mul(BLOCK);
-    Ok((Time::new(start.elapsed(rt)?, needed, unit), size))
+    let start = Instant::now(clock)?;
+    let size = look(alloc, store, &mut held, &shown);
+    let_go(shown);
+    Ok((start.elapsed(clock)?, size?))
+}
+
+/// The time of a look at a file of so many blocks.
+fn measure(rt: &impl Host, unit: f64, blocks: u32) -> Result<Time> {
+    let alloc = rt.alloc();
+    let file = file_of(alloc, blocks)?;
+    let mut store = Held::empty(alloc);
+    let handle = store_file(alloc, &mut store, &file)?;
+    let (time, size) = timed_look(rt, alloc, &store, handle)?;
+    if size != file.len() {
+        return Err(anyhow!("another file"));
+    }
+    Ok(Time::new(time, blocks.saturating_mul(BLOCK), unit))
+}
+
+/// The times of looks at files of 1, 64 and 1,024 blocks.
+fn measure_all(rt: &impl Host) -> Result<Times> {
+    let (unit, _digest) = compress(rt)?;
+    Ok([
+        measure(rt, unit, 1)?,
+        measure(rt, unit, 64)?,
+        measure(rt, unit, 1024)?,
+    ])
 }
 
 /// Measures, and prints of each file the least of all rounds.
 pub(crate) fn report(rt: &impl Host) -> Result<()> {
-    for blocks in &FILES {
-        let (mut least, size) = measure(rt, *blocks)?;
-        for _round in 1..ROUNDS {
-            least = least.least(measure(rt, *blocks)?.0);
-        }
-        println!(rt; "a file of {blocks} blocks, {size} bytes")?;
-        share(rt, "look", least)?;
+    let mut times = measure_all(rt)?;
+    for _round in 1..ROUNDS {
+        times = least(times, measure_all(rt)?);
     }
-    Ok(())
+    rows(
+        rt,
+        &[
+            "look at 1 block",
+            "look at 64 blocks",
+            "look at 1024 blocks",
+        ],
+        times,
+    )
 }

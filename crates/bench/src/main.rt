@@ -1,22 +1,20 @@
 //! How long things take, for people: `bench lms` keys, signatures and verifications, `bench itable` an i-table of
-//! 4,095 digests, `bench directory` a directory of 1,024 entries, `bench table` the largest table of principals,
-//! `bench look` looks at files, `bench operations` the calls of an operation among 64 users, with how much of each is
-//! signing and verifying, `bench server` operations over TCP. `bench visit=ADDR` makes an operation at a server that
-//! runs. With no word it does nothing.
+//! 4,095 digests, `bench look` looks at files, `bench operations` the calls of an operation among 64 users, with how
+//! much of each is signing and verifying, `bench server` operations over TCP. `bench visit=ADDR` makes an operation at
+//! a server that runs. With no word it does nothing.
 #![tactic(auto)]
 
-mod counts;
-mod directories;
+mod host;
 mod i_tables;
 mod lms;
 mod looks;
 mod operations;
 mod server;
-mod tables;
 mod time;
+mod world;
 
 use anyhow::Result;
-use server::Host;
+use host::Host;
 use std::env;
 use std::net::{Net, TcpListener, TcpStream};
 use std::rt::Runtime;
@@ -31,8 +29,6 @@ fn report<R: Host>(rt: &R, word: &str) -> Result<()> {
     match word {
         "lms" => lms::report(rt),
         "itable" => i_tables::report(rt),
-        "directory" => directories::report(rt),
-        "table" => tables::report(rt),
         "look" => looks::report(rt),
         "operations" => operations::report(rt),
         "server" => server::report(rt),

@@ -1,17 +1,19 @@
 //! Operations over TCP, and what they are compared with: the time of the signatures that they need.
 
+use crate::host::Host;
+use crate::lms::{Signing, measure_signing};
+use crate::world::new_others;
 use anyhow::{Result, anyhow};
 use block_store::Store;
-use lms_sign::{Leaf, PrivateKey, PublicKey, sign, verify};
+use layout::{beside, let_go};
+use lms_sign::PublicKey;
 use server_workers::{Accepted, OpenGate, serve};
 use std::alloc::Global;
-use std::net::{Net, SocketAddr, TcpListener, TcpStream};
-use std::rt::Clock;
-use std::sync::Wait;
+use std::io::{Read, Write};
+use std::net::{SocketAddr, TcpListener, TcpStream};
 use std::thread;
-use std::thread::Threads;
 use std::time::Instant;
-use tests_plain_user::{Caller, PlainUser, listing};
+use tests_plain_user::{CallError, Caller, PlainUser, listing};
 use wire::Status;
 
 /// How many connections operate side by side.
@@ -20,24 +22,40 @@ static CONNECTIONS: [u8; 3] = [1, 2, 4];
 /// How many operations each of them makes.
 const OPERATIONS: u32 = 256;
 
-/// What a server and its clients take of the system.
-pub(crate) trait Host: AllocGlobal
-    + Clock
-    + Print
-    + Net<Listener = TcpListener, Stream = TcpStream>
-    + Threads
-    + Wait
-    + Sync {}
+/// A user's first operation over a stream: the statuses of its calls.
+fn operate_once<S: Read + Write + Drop>(
+    alloc: Global,
+    stream: S,
+    user: &mut PlainUser,
+) -> std::result::Result<(Status, Status), CallError> {
+    let mut caller = Caller::new(alloc, stream);
+    user.operate(&mut caller, b"\0")
+}
 
-impl<
-    R: AllocGlobal
-        + Clock
-        + Print
-        + Net<Listener = TcpListener, Stream = TcpStream>
-        + Threads
-        + Wait
-        + Sync,
-> Host for R {}
+/// Operates over a stream: how many operations were committed.
+fn operate_over<S: Read + Write + Drop>(
+    alloc: Global,
+    stream: S,
+    user: &mut PlainUser,
+    changes: &[u8],
+    count: u32,
+) -> u32 {
+    let mut caller = Caller::new(alloc, stream);
+    let mut committed = 0u32;
+    for _number in 0..count {
+        if user.operate(&mut caller, changes) == Ok((Status::Ok, Status::Ok)) {
+            committed = committed.saturating_add(1);
+        }
+    }
+    committed
+}
+
+/// A connection that sends at once what is written to it.
+fn connect<R: Host>(rt: &R, address: SocketAddr) -> Result<TcpStream> {
+    let stream = TcpStream::connect(rt, address)?;
+    stream.set_nodelay(true)?;
+    Ok(stream)
+}
 
 /// Operates over a connection of its own: how many operations were committed.
 fn operate<R: Host>(
@@ -48,20 +66,25 @@ fn operate<R: Host>(
     count: u32,
 ) -> u32 {
     let mut user = user;
-    let Ok(stream) = TcpStream::connect(rt, address) else {
-        return 0;
-    };
-    if stream.set_nodelay(true).is_err() {
-        return 0;
+    match connect(rt, address) {
+        Ok(stream) => operate_over(rt.alloc(), stream, &mut user, changes, count),
+        Err(_) => 0,
     }
-    let mut caller = Caller::new(rt.alloc(), stream);
-    let mut committed = 0u32;
-    for _number in 0..count {
-        if user.operate(&mut caller, changes) == Ok((Status::Ok, Status::Ok)) {
-            committed = committed.saturating_add(1);
-        }
+}
+
+/// User 0 lists the others.
+fn list_others<R: Host>(
+    rt: &R,
+    address: SocketAddr,
+    superuser: PlainUser,
+    others: &[PlainUser],
+) -> Result<Instant> {
+    let changes = listing(rt.alloc(), others);
+    let (superuser, changes) = beside(superuser, changes)?;
+    match operate(rt, address, superuser, &changes, 1) {
+        1 => Ok(Instant::now(rt)?),
+        _ => Err(anyhow!("user 0 can't list the others")),
     }
-    committed
 }
 
 /// User 0 lists the others, and these operate side by side: how many operations they committed, in how many seconds.
@@ -71,11 +94,8 @@ fn visit<R: Host>(
     superuser: PlainUser,
     others: Vec<PlainUser>,
 ) -> Result<(u32, f64)> {
-    let changes = listing(rt.alloc(), &others)?;
-    if operate(rt, address, superuser, &changes, 1) != 1 {
-        return Err(anyhow!("user 0 can't list the others"));
-    }
-    let start = Instant::now(rt)?;
+    let start = list_others(rt, address, superuser, &others);
+    let (others, start) = beside(others, start)?;
     let committed = thread::map_vec(
         rt,
         others,
@@ -91,35 +111,14 @@ fn visit<R: Host>(
 /// User 0's first operation at a server that runs already, at this address, for which the key of the seed of zeros is
 /// user 0's.
 pub(crate) fn visit_at<R: Host>(rt: &R, address: &str) -> Result<()> {
-    let mut superuser = PlainUser::new(rt.alloc(), 0)?;
     let stream = TcpStream::connect(rt, address)?;
-    let mut caller = Caller::new(rt.alloc(), stream);
-    let (placed, committed) = superuser.operate(&mut caller, b"\0")?;
+    let superuser = PlainUser::new(rt.alloc(), 0);
+    let (stream, mut superuser) = beside(stream, superuser)?;
+    let statuses = operate_once(rt.alloc(), stream, &mut superuser);
+    let_go(superuser);
+    let (placed, committed) = statuses?;
     println!(rt; "placed {placed:?}, committed {committed:?}")?;
     Ok(())
-}
-
-/// Serves user 0 and so many others.
-fn measure<R: Host>(rt: &R, connections: u8) -> Result<(u32, f64)> {
-    let alloc = rt.alloc();
-    let superuser = PlainUser::new(alloc, 0)?;
-    let pinned = superuser.public();
-    let mut others = Vec::new(alloc);
-    for number in 1..=connections {
-        others.push(PlainUser::new(alloc, number)?)?;
-    }
-    let listener = TcpListener::bind(rt, "127.0.0.1:0")?;
-    let address = listener.local_addr()?;
-    let most = u32::from(connections) + 1;
-    let (served, visited) = thread::join(
-        rt,
-        || serve_all(rt, &listener, most, pinned),
-        move || visit(rt, address, superuser, others),
-    );
-    if !served {
-        return Err(anyhow!("the server has no memory"));
-    }
-    visited
 }
 
 /// Serves so many connections, with a log in memory.
@@ -131,34 +130,34 @@ fn serve_all<R: Host>(rt: &R, listener: &TcpListener, most: u32, pinned: PublicK
     serve(rt, alloc, &OpenGate, connections, most, &store, pinned, log).is_ok()
 }
 
-/// The seconds in which one text of a structure's size is signed, and verified, by one thread.
-fn signature_seconds<R: Host>(rt: &R) -> Result<f64> {
-    let key = PrivateKey::from_seed(rt.alloc(), [9; 32], [9; 16])?;
-    let public = key.public();
-    let text = [5; 87];
-    let mut valid = 0u32;
-    let start = Instant::now(rt)?;
-    for leaf in 0..OPERATIONS {
-        let (signature, spent) = sign(&key, Leaf::issue(&public, leaf), &text);
-        spent.end();
-        if verify(&public, &text, &signature) {
-            valid = valid.saturating_add(1);
-        }
+/// Serves user 0 and so many others.
+fn measure<R: Host>(rt: &R, connections: u8) -> Result<(u32, f64)> {
+    let listener = TcpListener::bind(rt, "127.0.0.1:0")?;
+    let address = listener.local_addr()?;
+    let most = u32::from(connections) + 1;
+    let superuser = PlainUser::new(rt.alloc(), 0)?;
+    let pinned = superuser.public();
+    let others = new_others(rt.alloc(), connections);
+    let (superuser, others) = beside(superuser, others)?;
+    let (served, visited) = thread::join(
+        rt,
+        || serve_all(rt, &listener, most, pinned),
+        move || visit(rt, address, superuser, others),
+    );
+    if !served {
+        return Err(anyhow!("the server has no memory"));
     }
-    if valid < OPERATIONS {
-        return Err(anyhow!("a signature isn't valid"));
-    }
-    Ok(start.elapsed(rt)?.as_secs_f64() / f64::from(OPERATIONS))
+    visited
 }
 
 /// Prints for each number of connections how many operations a second were committed, and how many one thread could
 /// sign and verify: an operation needs two signatures, each of them made and verified once.
 pub(crate) fn report<R: Host>(rt: &R) -> Result<()> {
-    let possible = 0.5 / signature_seconds(rt)?;
+    let Signing { sign, verify } = measure_signing(rt, rt.alloc())?;
+    let possible = 0.5 / sign.saturating_add(verify).as_secs_f64();
     println!(rt; "signatures alone, one thread: {possible:.0} operations a second")?;
     for connections in &CONNECTIONS {
-        let connections = *connections;
-        let (committed, seconds) = measure(rt, connections)?;
+        let (committed, seconds) = measure(rt, *connections)?;
         let rate = f64::from(committed) / seconds;
         let ratio = rate / possible;
         println!(rt;

@@ -1,6 +1,6 @@
-//! Times, and what they are compared with: the compressions of SHA-256 that a piece of work needs.
+//! Times, and what they are compared with.
 
-use anyhow::Result;
+use anyhow::{Result, anyhow};
 use sha2::{Digest as _, Sha256};
 use std::rt::Clock;
 use std::time::{Duration, Instant};
@@ -8,13 +8,13 @@ use std::time::{Duration, Instant};
 /// How many blocks are compressed to time one.
 const BLOCKS: u32 = 1 << 18;
 
-/// The seconds of a piece of work, the compressions that it needs, and the seconds of one compression in the same
-/// round.
+/// The seconds of a piece of work, the compressions of SHA-256 that it needs, and the seconds of one compression in the
+/// same round.
 #[derive(Clone, Copy)]
 pub(crate) struct Time {
-    pub(crate) seconds: f64,
-    pub(crate) compressions: u32,
-    pub(crate) unit: f64,
+    seconds: f64,
+    compressions: u32,
+    unit: f64,
 }
 
 impl Time {
@@ -26,28 +26,26 @@ impl Time {
         }
     }
 
-    /// This time and another of the same round, one after the other.
-    pub(crate) fn and(self, other: Time) -> Time {
-        Time {
-            seconds: self.seconds + other.seconds,
-            compressions: self.compressions.saturating_add(other.compressions),
-            unit: self.unit,
-        }
-    }
-
-    /// How many compressions could have been made in this time.
-    pub(crate) fn in_units(self) -> f64 {
-        self.seconds / self.unit
-    }
-
     /// The shorter one, each in the unit of its round.
-    pub(crate) fn least(self, other: Time) -> Time {
-        if other.in_units() < self.in_units() {
+    fn least(self, other: Time) -> Time {
+        if other.seconds / other.unit < self.seconds / self.unit {
             other
         } else {
             self
         }
     }
+}
+
+/// The times of three pieces of work.
+pub(crate) type Times = [Time; 3];
+
+/// The shorter one of each piece of work.
+pub(crate) fn least(one: Times, other: Times) -> Times {
+    [
+        one[0].least(other[0]),
+        one[1].least(other[1]),
+        one[2].least(other[2]),
+    ]
 }
 
 /// Compresses the blocks of one long text: the seconds of one compression, and the text's digest.
@@ -63,22 +61,44 @@ pub(crate) fn compress(clock: &impl Clock) -> Result<(f64, [u8; 32])> {
     Ok((seconds / f64::from(BLOCKS), digest))
 }
 
-/// Prints how long one piece of work takes, and that beside the compressions that it needs.
-pub(crate) fn row(rt: &impl Print, name: &str, time: Time, count: u32) -> Result<()> {
-    let each = time.seconds / f64::from(count) * 1e6;
-    let needed = time.compressions / count.max(1);
-    let ratio = time.in_units() / f64::from(time.compressions);
-    println!(rt; "{name:7} {each:12.1} us, {needed:7} compressions, ratio {ratio:.3}")?;
+/// The middle one of so many times.
+pub(crate) fn middle(times: Vec<Duration>) -> Result<Duration> {
+    let mut times = times;
+    times.sort_unstable();
+    match times.get(times.len() / 2) {
+        Some(time) => Ok(*time),
+        None => Err(anyhow!("nothing was timed")),
+    }
+}
+
+/// Prints how long a piece of work takes, and how much of that what it needs takes.
+pub(crate) fn row(
+    rt: &impl Print,
+    name: &str,
+    seconds: f64,
+    needed: f64,
+    what: &str,
+) -> Result<()> {
+    let (whole, share) = (seconds * 1e6, needed / seconds * 100.0);
+    println!(rt; "{name:22} {whole:10.1} us, {share:5.1} % of it {what}")?;
     Ok(())
 }
 
-/// Prints how long a piece of work takes, and how much of that the compressions that it needs take.
-pub(crate) fn share(rt: &impl Print, name: &str, time: Time) -> Result<()> {
-    let whole = time.seconds * 1e6;
-    let needed = time.compressions;
-    let hashing = f64::from(needed) / time.in_units() * 100.0;
-    println!(rt;
-        "{name:20} {whole:10.1} us, {needed:5} compressions, {hashing:5.1} % of it hashing"
-    )?;
+/// Prints how long three pieces of work take, and how much of that the compressions take that they need.
+pub(crate) fn rows(rt: &impl Print, names: &[&str; 3], times: Times) -> Result<()> {
+    for place in 0..3 {
+        let Time {
+            seconds,
+            compressions,
+            unit,
+        } = times[place];
+        row(
+            rt,
+            names[place],
+            seconds,
+            f64::from(compressions) * unit,
+            "hashing",
+        )?;
+    }
     Ok(())
 }

@@ -15,27 +15,41 @@ fn given_words(rt: &HostRuntime) -> io::Result<Vec<String>> {
     Ok(env::args(rt)?.collect(rt.alloc())?)
 }
 
-/// Runs the script. The program takes no words but `--help`.
-fn run(rt: &HostRuntime) -> anyhow::Result<ExitCode> {
-    let words = match given_words(rt) {
-        Ok(words) => words,
-        Err(fault) if fault.kind() == ErrorKind::OutOfMemory => return Err(fault.into()),
-        Err(_) => {
-            let _ = eprintln!(rt; "error: a word isn't UTF-8");
-            return Ok(ExitCode::from(WORDS));
-        }
-    };
-    let command = Command::new(rt.alloc(), "sundr_play").about(
-        "Runs a script from standard input: a command a line, a printed line for each",
-    );
-    if let Err(fault) = command.try_get_matches_from(words.as_slice()) {
-        fault.print(rt)?;
-        let status = if fault.exit_code() == 0 { 0 } else { WORDS };
-        return Ok(ExitCode::from(status));
-    }
+/// Tells what is wrong with the words, or the help that they ask for.
+fn refuse(rt: &HostRuntime, fault: &clap::Error) -> anyhow::Result<ExitCode> {
+    fault.print(rt)?;
+    let status = if fault.exit_code() == 0 { 0 } else { WORDS };
+    Ok(ExitCode::from(status))
+}
+
+/// Runs the script.
+fn play_script(rt: &HostRuntime) -> anyhow::Result<ExitCode> {
     let mut reader = BufReader::new(rt.alloc(), rt.reader())?;
     play(rt.alloc(), &mut reader, &mut io::writer(rt))?;
     Ok(ExitCode::SUCCESS)
+}
+
+/// Runs the script, unless it is given words: the program takes none but `--help`.
+fn run_words(rt: &HostRuntime, words: &[String]) -> anyhow::Result<ExitCode> {
+    let command = Command::new(rt.alloc(), "sundr_play").about(
+        "Runs a script from standard input: a command a line, a printed line for each",
+    );
+    match command.try_get_matches_from(words) {
+        Ok(_) => play_script(rt),
+        Err(fault) => refuse(rt, &fault),
+    }
+}
+
+/// Runs the script, unless it is given words.
+fn run(rt: &HostRuntime) -> anyhow::Result<ExitCode> {
+    match given_words(rt) {
+        Ok(words) => run_words(rt, &words),
+        Err(fault) if fault.kind() == ErrorKind::OutOfMemory => Err(fault.into()),
+        Err(_) => {
+            let _ = eprintln!(rt; "error: a word isn't UTF-8");
+            Ok(ExitCode::from(WORDS))
+        }
+    }
 }
 
 fn main(rt: HostRuntime) -> ExitCode {
