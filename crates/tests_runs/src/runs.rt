@@ -100,8 +100,11 @@ impl Scene {
             server,
             ..
         } = self;
-        let client = if user == 1 { one } else { two };
-        let _structure = finishes(rt, record, server, client, reply);
+        let _structure = if user == 1 {
+            finishes(rt, record, server, one, reply)
+        } else {
+            finishes(rt, record, server, two, reply)
+        };
     }
 
     /// Another server, which shows user 0's operation, too.
