@@ -12,7 +12,8 @@ use principals::Table;
 use std::alloc::Global;
 use std::rt::Clock;
 use std::time::{Duration, Instant};
-use update_cert::{ApplyError, Blocks, Cert};
+use tree_parts::{ApplyError, Blocks};
+use update_cert::Cert;
 use version_order::{Entries, GroupRecords, Plan, Structure, Vector};
 
 /// The least of so many rounds counts, each in compressions of its own round.

@@ -29,7 +29,8 @@ use lms_sign::PrivateKey;
 use std::alloc::Global;
 use std::rt::Clock;
 use std::time::{Duration, Instant};
-use update_cert::{Action, Blocks, Change, MOST_CHANGES};
+use tree_parts::Blocks;
+use update_cert::{Action, Change, MOST_CHANGES};
 use wire::Status;
 
 /// How many others are pending in turn.

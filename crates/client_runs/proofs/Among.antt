@@ -16,7 +16,7 @@ use Rattle.itable.specs.Root.{Root, root, chunk_at}
 use Rattle.itable.specs.declared.root.ListedChunk.{ListedChunk}
 use Rattle.update_cert.specs.World.{Content, File, Directory, Principals}
 use Rattle.update_cert.specs.Reading.{Reading}
-use Rattle.update_cert.specs.Blocks.{Agrees, Blocks, IsHeld, IsOf, chunk_held, if_of_size, inode_at, inode_told, joined, root_at, told_by, told_under}
+use Rattle.tree_parts.specs.Blocks.{Agrees, Blocks, IsHeld, IsOf, chunk_held, if_of_size, inode_at, inode_told, joined, root_at, told_by, told_under}
 use Rattle.client_tree.specs.Held.{Block, held, keeping, keeping_all}
 use Rattle.client_tree.proofs.HeldLaws.{with_new, with_none, with_old}
 use Rattle.agreement.proofs.Members.{In, in_contains}

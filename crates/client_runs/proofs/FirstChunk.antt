@@ -26,7 +26,7 @@ use Rattle.itable.specs.Root.{Root, chunk_at, root}
 use Rattle.itable.proofs.ChunkLaws.{chunk_reads, in_chunk}
 use Rattle.itable.proofs.RootLaws.{lists, root_reads}
 use Rattle.itable.proofs.TableLaws.{same_pairs}
-use Rattle.update_cert.specs.Blocks.{chunk_held, inode_told, root_at, told_by, told_under}
+use Rattle.tree_parts.specs.Blocks.{chunk_held, inode_told, root_at, told_by, told_under}
 use Rattle.agreement.proofs.Members.{In}
 use Rattle.client_runs.proofs.Among.{all_held, found, of_are_among, of_texts}
 

@@ -21,7 +21,7 @@ use Rattle.principals.specs.TableText.{key, rows_of, table, users}
 use Rattle.principals.specs.TableTextLaws.{lawful_users}
 use Rattle.update_cert.specs.Change.{Action, Make, Put, Remove, Link, Unlink, AddUser, AddMember, DropMember, Change, change}
 use Rattle.update_cert.specs.Tables.{alters, table_after, table_after_change, table_becomes, table_effect}
-use Rattle.update_cert.proofs.ActLaws.{at_table}
+use Rattle.update_cert.proofs.EffectLaws.{at_table}
 use Rattle.client_tree.specs.Genesis.{table_text}
 use Rattle.client_runs.proofs.Listings.{first_users, fits_added, positive, with_first}
 

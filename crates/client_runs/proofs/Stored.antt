@@ -30,9 +30,9 @@ use Rattle.itable.proofs.RootLaws.{lists}
 use Rattle.principals.specs.TableText.{table}
 use Rattle.update_cert.specs.World.{Content, File}
 use Rattle.update_cert.specs.Reading.{Reading}
-use Rattle.update_cert.specs.Blocks.{Agrees, Blocks, file_over, if_of_size, inode_told, joined}
-use Rattle.update_cert.specs.Slots.{changed_texts, has_digest}
-use Rattle.update_cert.proofs.Contents.{file_is, inode_held}
+use Rattle.tree_parts.specs.Blocks.{Agrees, Blocks, file_over, if_of_size, inode_told, joined}
+use Rattle.tree_parts.specs.Slots.{changed_texts, has_digest}
+use Rattle.tree_parts.proofs.Contents.{file_is, inode_held}
 use Rattle.client_tree.specs.Genesis.{common_texts, first_handle, inode_digest, root_inode, first_table, first_table_texts, first_texts, principals, table_inode, table_text}
 use Rattle.client_tree.specs.Tree.{IsStored, Stored, principals_digest, principals_texts}
 use Rattle.client_tree.specs.View.{View, handle_of as handle_in_view}

@@ -18,7 +18,7 @@ use Rattle.update_cert.specs.CertLaws.{lawful_cert}
 use Rattle.update_cert.specs.World.{File, Principals, Tree}
 use Rattle.update_cert.specs.Reading.{Reading, after_read}
 use Rattle.update_cert.specs.Tables.{table_after}
-use Rattle.update_cert.proofs.SomeReading.{some_reading}
+use Rattle.tree_parts.proofs.SomeReading.{some_reading}
 use Rattle.update_cert.proofs.TableStands.{changes_fit, stands}
 use Rattle.pending_list.specs.declared.signed.Signed.{Signed}
 use Rattle.pending_list.specs.Reply.{PendingItem, Reply}

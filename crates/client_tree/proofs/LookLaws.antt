@@ -5,16 +5,16 @@ use Rattle.std.specs.Option.{option_map}
 use Rattle.layout.specs.Types.{Digest, INumber, Principal}
 use Rattle.itable.specs.Inode.{Inode}
 use Rattle.itable.specs.declared.inode.Kind.{Kind}
-use Rattle.update_cert.specs.Blocks.{Blocks, inode_at, joined, Agrees}
-use Rattle.update_cert.specs.Asked.{HasBlocks, IsBlock}
-use Rattle.update_cert.specs.Spot.{lacks}
-use Rattle.update_cert.specs.declared.spot.Spot.{Spot}
-use Rattle.update_cert.specs.declared.spot.Spot.TheVariants as spot
+use Rattle.tree_parts.specs.Blocks.{Blocks, inode_at, joined, Agrees}
+use Rattle.tree_parts.specs.Asked.{HasBlocks, IsBlock}
+use Rattle.tree_parts.specs.Spot.{lacks}
+use Rattle.tree_parts.specs.declared.spot.Spot.{Spot}
+use Rattle.tree_parts.specs.declared.spot.Spot.TheVariants as spot
 use Rattle.itable.specs.ITable.{ITable}
 use Rattle.principals.specs.Table.{Table}
 use Rattle.update_cert.specs.World.{is_table}
 use Rattle.update_cert.specs.Reading.{Reading}
-use Rattle.update_cert.specs.Part.{Laid, Part, Slot, content_of, slot_at}
+use Rattle.tree_parts.specs.Part.{Laid, Part, Slot, content_of, slot_at}
 use Rattle.client_tree.specs.View.{View, shown, tree}
 use Rattle.client_tree.specs.Opened.{HasLooked, IsOfInode, IsOpened}
 

@@ -15,15 +15,15 @@ use Rattle.itable.specs.declared.root.ListedChunk.{ListedChunk}
 use Rattle.itable.specs.Chunk.{Chunk, chunk}
 use Rattle.itable.specs.Root.{Root, root, chunk_at, number_of}
 use Rattle.itable.specs.ITable.{ITable, digest_at, digest_in}
-use Rattle.update_cert.specs.Blocks.{Agrees, Blocks, chunk_held, inode_told, root_at}
-use Rattle.update_cert.specs.Spot.{lacks, takes, takes_chunk, takes_root}
-use Rattle.update_cert.specs.declared.spot.Spot.{Spot}
-use Rattle.update_cert.specs.declared.spot.Spot.TheVariants as spot
-use Rattle.update_cert.specs.declared.error.ApplyError.{ApplyError}
-use Rattle.update_cert.specs.declared.error.ApplyError.TheVariants as error
+use Rattle.tree_parts.specs.Blocks.{Agrees, Blocks, chunk_held, inode_told, root_at}
+use Rattle.tree_parts.specs.Spot.{lacks, takes, takes_chunk, takes_root}
+use Rattle.tree_parts.specs.declared.spot.Spot.{Spot}
+use Rattle.tree_parts.specs.declared.spot.Spot.TheVariants as spot
+use Rattle.tree_parts.specs.declared.error.ApplyError.{ApplyError}
+use Rattle.tree_parts.specs.declared.error.ApplyError.TheVariants as error
 use Rattle.update_cert.specs.World.{Content, File}
 use Rattle.update_cert.specs.Reading.{Reading}
-use Rattle.update_cert.specs.Asked.{HasPrincipals, IsOfPrincipals, Lacks}
+use Rattle.tree_parts.specs.Asked.{HasPrincipals, IsOfPrincipals, Lacks}
 use Rattle.principals.specs.Table.{Table}
 use Rattle.principals.specs.TableText.{table}
 use Rattle.client_tree.specs.Tables.{IsOfTable, IsRead, table_at}

@@ -10,16 +10,16 @@ use Rattle.principals.specs.Table.{Table}
 use Rattle.update_cert.specs.Change.{Change}
 use Rattle.update_cert.specs.World.{Actor, Content, Tree, after, after_change}
 use Rattle.update_cert.specs.Reading.{Reading, after_read, read_changes}
-use Rattle.update_cert.specs.Blocks.{Blocks, Agrees, inode_told}
-use Rattle.update_cert.specs.Part.{HasTable, IsPartOf, Part, Slot, content_of, part_of, slot_at, slot_of, stands_at}
-use Rattle.update_cert.specs.Slots.{slot_after}
-use Rattle.update_cert.specs.Asked.{HasAskedFor, Lacks, IsAskedFor}
-use Rattle.update_cert.specs.Spot.{lacks}
-use Rattle.update_cert.specs.declared.error.ApplyError.{ApplyError}
-use Rattle.update_cert.specs.declared.error.ApplyError.TheVariants as error
-use Rattle.update_cert.specs.declared.spot.Spot.{Spot}
-use Rattle.update_cert.proofs.ActLaws.{has_table_after}
-use Rattle.update_cert.proofs.SomeReading.{some_reading}
+use Rattle.tree_parts.specs.Blocks.{Blocks, Agrees, inode_told}
+use Rattle.tree_parts.specs.Part.{HasTable, IsPartOf, Part, Slot, content_of, part_of, slot_at, slot_of, stands_at}
+use Rattle.tree_parts.specs.Slots.{slot_after}
+use Rattle.tree_parts.specs.Asked.{HasAskedFor, Lacks, IsAskedFor}
+use Rattle.tree_parts.specs.Spot.{lacks}
+use Rattle.tree_parts.specs.declared.error.ApplyError.{ApplyError}
+use Rattle.tree_parts.specs.declared.error.ApplyError.TheVariants as error
+use Rattle.tree_parts.specs.declared.spot.Spot.{Spot}
+use Rattle.tree_parts.proofs.ActLaws.{has_table_after}
+use Rattle.tree_parts.proofs.SomeReading.{some_reading}
 use Rattle.std.proofs.Math.Seq.{take-suc}
 use Rattle.pending_list.specs.Reply.{PendingItem}
 use Rattle.client_tree.specs.Tables.{IsOfTable, IsRead}

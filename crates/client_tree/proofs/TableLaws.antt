@@ -21,13 +21,13 @@ use Rattle.itable.specs.declared.root.ListedChunk.{ListedChunk}
 use Rattle.itable.specs.Chunk.{Chunk, chunk, chunk_number}
 use Rattle.itable.specs.Root.{Root, root, chunk_row, number_of, chunk_at}
 use Rattle.itable.specs.ITable.{ITable, digest_at, digest_in, listings, handle_of}
-use Rattle.update_cert.specs.Blocks.{Blocks, chunk_held, inode_told, root_at, told_by}
-use Rattle.update_cert.specs.Spot.{takes, takes_chunk, takes_root, lacks}
-use Rattle.update_cert.specs.declared.error.ApplyError.{ApplyError}
-use Rattle.update_cert.specs.declared.error.ApplyError.TheVariants as error
-use Rattle.update_cert.specs.declared.spot.Spot.{Spot}
-use Rattle.update_cert.specs.declared.spot.Spot.TheVariants as spot
-use Rattle.update_cert.specs.Asked.{Lacks}
+use Rattle.tree_parts.specs.Blocks.{Blocks, chunk_held, inode_told, root_at, told_by}
+use Rattle.tree_parts.specs.Spot.{takes, takes_chunk, takes_root, lacks}
+use Rattle.tree_parts.specs.declared.error.ApplyError.{ApplyError}
+use Rattle.tree_parts.specs.declared.error.ApplyError.TheVariants as error
+use Rattle.tree_parts.specs.declared.spot.Spot.{Spot}
+use Rattle.tree_parts.specs.declared.spot.Spot.TheVariants as spot
+use Rattle.tree_parts.specs.Asked.{Lacks}
 use Rattle.client_tree.specs.Tables.{pairs_over, table_at, IsOfTable}
 
 -- ---- what a spot takes

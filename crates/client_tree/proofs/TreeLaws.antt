@@ -7,8 +7,8 @@ use Rattle.directory.specs.Directory.{Entry}
 use Rattle.principals.specs.Table.{Table}
 use Rattle.update_cert.specs.World.{Content, Directory, is_table}
 use Rattle.update_cert.specs.Reading.{Reading}
-use Rattle.update_cert.specs.Part.{Changed, IsPartOf, Laid, Part, Slot, content_of, slot_at, stands_at}
-use Rattle.update_cert.specs.Slots.{directory_digest, slot_digest}
+use Rattle.tree_parts.specs.Part.{Changed, IsPartOf, Laid, Part, Slot, content_of, slot_at, stands_at}
+use Rattle.tree_parts.specs.Slots.{directory_digest, slot_digest}
 use Rattle.client_tree.specs.View.{View, tree}
 use Rattle.client_tree.specs.Tree.{ReadsChanged}
 

@@ -8,7 +8,7 @@ use Rattle.std.specs.declared.cmp.Ordering.{Ordering}
 use Rattle.layout.specs.Hash.{hash}
 use Rattle.layout.specs.Types.{Bytes, Digest}
 use Rattle.layout.specs.Ascending.{Ascends, row_at, with_row}
-use Rattle.update_cert.specs.Blocks.{Blocks}
+use Rattle.tree_parts.specs.Blocks.{Blocks}
 
 -- a text, and its digest
 pub record Block : Type 0 where

@@ -7,12 +7,12 @@ use Rattle.itable.specs.declared.inode.Kind.{Kind}
 use Rattle.principals.specs.Table.{Table}
 use Rattle.update_cert.specs.World.{is_table}
 use Rattle.update_cert.specs.Reading.{Reading}
-use Rattle.update_cert.specs.Blocks.{Blocks, ForEachReading, inode_told}
-use Rattle.update_cert.specs.Part.{Part, Slot, Laid, IsPartOf, part_of, slot_at}
-use Rattle.update_cert.specs.Slots.{slot_after}
-use Rattle.update_cert.specs.Spot.{lacks}
-use Rattle.update_cert.specs.Asked.{IsInode, IsBlock, IsAskedFor}
-use Rattle.update_cert.specs.declared.spot.Spot.{Spot}
+use Rattle.tree_parts.specs.Blocks.{Blocks, ForEachReading, inode_told}
+use Rattle.tree_parts.specs.Part.{Part, Slot, Laid, IsPartOf, part_of, slot_at}
+use Rattle.tree_parts.specs.Slots.{slot_after}
+use Rattle.tree_parts.specs.Spot.{lacks}
+use Rattle.tree_parts.specs.Asked.{IsInode, IsBlock, IsAskedFor}
+use Rattle.tree_parts.specs.declared.spot.Spot.{Spot}
 use Rattle.pending_list.specs.Reply.{PendingItem}
 use Rattle.client_tree.specs.Tables.{IsOfTable, IsRead}
 use Rattle.client_tree.specs.View.{View, actor_of, comes_after, handle_of, tree}

@@ -8,10 +8,10 @@ use Rattle.principals.specs.Table.{Table}
 use Rattle.principals.specs.TableText.{table}
 use Rattle.update_cert.specs.World.{File, Principals}
 use Rattle.update_cert.specs.Reading.{Reading, void_of_table_read}
-use Rattle.update_cert.specs.Blocks.{Blocks, ForEachReading}
-use Rattle.update_cert.specs.Asked.{IsOfPrincipals}
-use Rattle.update_cert.specs.Spot.{lacks}
-use Rattle.update_cert.specs.declared.spot.Spot.{Spot}
+use Rattle.tree_parts.specs.Blocks.{Blocks, ForEachReading}
+use Rattle.tree_parts.specs.Asked.{IsOfPrincipals}
+use Rattle.tree_parts.specs.Spot.{lacks}
+use Rattle.tree_parts.specs.declared.spot.Spot.{Spot}
 use Rattle.client_tree.specs.Tables.{IsOfTable, IsRead}
 use Rattle.client_tree.specs.View.{View, actor_of, tree, tree_before}
 

@@ -7,10 +7,10 @@ use Rattle.itable.specs.ITable.{ITable, IsTable, handle_of}
 use Rattle.itable.specs.declared.chunk.Pair.{Pair}
 use Rattle.itable.specs.declared.root.ListedChunk.{ListedChunk}
 use Rattle.layout.specs.Types.{Digest, Handle, Principal}
-use Rattle.update_cert.specs.Blocks.{Blocks, root_at, chunk_held}
-use Rattle.update_cert.specs.Spot.{lacks}
-use Rattle.update_cert.specs.declared.spot.Spot.{Spot}
-use Rattle.update_cert.specs.declared.spot.Spot.TheVariants as spot
+use Rattle.tree_parts.specs.Blocks.{Blocks, root_at, chunk_held}
+use Rattle.tree_parts.specs.Spot.{lacks}
+use Rattle.tree_parts.specs.declared.spot.Spot.{Spot}
+use Rattle.tree_parts.specs.declared.spot.Spot.TheVariants as spot
 
 -- the pairs of listed chunks one after another, if all are held
 unfoldable pub pairs_over : Blocks → List ListedChunk → Option (List Pair)

@@ -14,10 +14,10 @@ use Rattle.principals.specs.Table.{Table}
 use Rattle.principals.specs.TableText.{table as table_format}
 use Rattle.update_cert.specs.World.{Directory, is_table}
 use Rattle.update_cert.specs.Reading.{Reading}
-use Rattle.update_cert.specs.Blocks.{Blocks, ForEachReading}
-use Rattle.update_cert.specs.Part.{Part, Changed, IsPart, slot_at}
-use Rattle.update_cert.specs.Slots.{slot_digest, directory_digest, changed_texts, has_digest, IsReadBack}
-use Rattle.update_cert.specs.declared.spot.Spot.{Spot}
+use Rattle.tree_parts.specs.Blocks.{Blocks, ForEachReading}
+use Rattle.tree_parts.specs.Part.{Part, Changed, IsPart, slot_at}
+use Rattle.tree_parts.specs.Slots.{slot_digest, directory_digest, changed_texts, has_digest, IsReadBack}
+use Rattle.tree_parts.specs.declared.spot.Spot.{Spot}
 use Rattle.client_tree.specs.View.{View, lost as lost_of, tree, written}
 use Rattle.client_tree.specs.Principals.{IsPending}
 use Rattle.client_tree.specs.Opened.{IsOpened, IsReached}

@@ -2,10 +2,10 @@
 
 ghost use Rattle.std.specs.Prelude.{◌≡◌, ℕ, List, Some, IfOk, IfErr, OnOk, false};
 ghost use Rattle.layout.specs.Types.{Digest as DigestBytes};
-ghost use Rattle.update_cert.specs.Blocks.{ForEachReading};
-ghost use Rattle.update_cert.specs.Asked.{Lacks};
-ghost use Rattle.update_cert.specs.Spot.{lacks};
-ghost use Rattle.update_cert.specs.declared.spot.Spot.{Spot};
+ghost use Rattle.tree_parts.specs.Blocks.{ForEachReading};
+ghost use Rattle.tree_parts.specs.Asked.{Lacks};
+ghost use Rattle.tree_parts.specs.Spot.{lacks};
+ghost use Rattle.tree_parts.specs.declared.spot.Spot.{Spot};
 ghost use Rattle.client_tree.specs.Opened.{IsOfInode};
 ghost use Rattle.client_tree.specs.Seen.{content_seen};
 
@@ -13,7 +13,7 @@ use directory::Directory;
 use itable::Kind;
 use layout::{Digest, INumber, Principal};
 use std::alloc::Allocator;
-use update_cert::{ApplyError, Blocks, read_directory, read_file, read_inode};
+use tree_parts::{ApplyError, Blocks, read_directory, read_file, read_inode};
 
 /// What stands at an i-number.
 #[derive(Drop)]

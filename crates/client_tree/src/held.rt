@@ -10,7 +10,7 @@ ghost use Rattle.client_tree.specs.Held.{AreHeld, by_bytes, digest_of, keeping, 
 use layout::{Digest, Memory, digest};
 use std::alloc::Allocator;
 use std::marker::Model;
-use update_cert::Blocks;
+use tree_parts::Blocks;
 
 /// A text, and its digest.
 #[derive(Drop)]

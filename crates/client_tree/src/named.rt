@@ -4,7 +4,7 @@ ghost use Rattle.std.specs.Prelude.{◌≡◌, Some, IfOk, IfErr, filter};
 ghost use Rattle.principals.specs.Table.{Table as Principals};
 ghost use Rattle.update_cert.specs.World.{Principals as Listed, Tree};
 ghost use Rattle.update_cert.specs.Reading.{Reading};
-ghost use Rattle.update_cert.specs.Asked.{Lacks};
+ghost use Rattle.tree_parts.specs.Asked.{Lacks};
 ghost use Rattle.client_tree.specs.View.{after_items, handle_in, is_superusers};
 ghost use Rattle.client_tree.specs.Principals.{IsNamed, IsOfNamed, IsPending};
 
@@ -15,7 +15,8 @@ use lms_sign::Key;
 use pending_list::{PendingItem, Signed};
 use principals::Table;
 use std::alloc::Allocator;
-use update_cert::{ApplyError, Blocks, Voids, apply_table, read_principals};
+use tree_parts::{ApplyError, Blocks, read_principals};
+use update_cert::{Voids, apply_table};
 use version_order::Structure;
 
 /// The table of principals that user 0's handle names. The errors are Missing of a block, and Memory.

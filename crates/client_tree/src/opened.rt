@@ -5,9 +5,9 @@ ghost use Rattle.itable.specs.ITable.{ITable as ITableModel, digest_at};
 ghost use Rattle.principals.specs.Table.{Table as Principals};
 ghost use Rattle.update_cert.specs.World.{Tree};
 ghost use Rattle.update_cert.specs.Reading.{after_read, void_of_read};
-ghost use Rattle.update_cert.specs.Blocks.{ForEachReading, inode_told};
-ghost use Rattle.update_cert.specs.Part.{Part as PartModel, IsPartOf, part_of};
-ghost use Rattle.update_cert.specs.Asked.{HasAskedFor, IsAskedFor, Lacks};
+ghost use Rattle.tree_parts.specs.Blocks.{ForEachReading, inode_told};
+ghost use Rattle.tree_parts.specs.Part.{Part as PartModel, IsPartOf, part_of};
+ghost use Rattle.tree_parts.specs.Asked.{HasAskedFor, IsAskedFor, Lacks};
 ghost use Rattle.pending_list.specs.Reply.{PendingItem as Item};
 ghost use Rattle.client_tree.specs.Tables.{IsRead};
 ghost use Rattle.client_tree.specs.View.{actor_of, after_items, comes_after, handle_of, tree_before};
@@ -20,7 +20,8 @@ use layout::Principal;
 use pending_list::PendingItem;
 use principals::Table;
 use std::alloc::Allocator;
-use update_cert::{Applied, ApplyError, Blocks, Part, Voids, apply};
+use tree_parts::{Applied, ApplyError, Blocks, Part, apply};
+use update_cert::Voids;
 
 /// What an operation makes of a principal's part, where it is permitted by this table.
 fn apply_item<A: Allocator + Copy, B: Blocks>(

@@ -4,18 +4,18 @@ ghost use Rattle.std.specs.Prelude.{◌≡◌, ◌⊎◌, ℕ, Some, IfOk, IfErr
 ghost use Rattle.layout.specs.Hash.{hash};
 ghost use Rattle.itable.specs.Chunk.{chunk as chunk_format};
 ghost use Rattle.itable.specs.Root.{root as root_format};
-ghost use Rattle.update_cert.specs.Spot.{lacks};
-ghost use Rattle.update_cert.specs.declared.error.ApplyError.TheVariants as error;
-ghost use Rattle.update_cert.specs.declared.spot.Spot.TheVariants as spots;
+ghost use Rattle.tree_parts.specs.Spot.{lacks};
+ghost use Rattle.tree_parts.specs.declared.error.ApplyError.TheVariants as error;
+ghost use Rattle.tree_parts.specs.declared.spot.Spot.TheVariants as spots;
 ghost use Rattle.itable.specs.ITable.{digest_at};
-ghost use Rattle.update_cert.specs.Blocks.{chunk_held, inode_told, root_at};
-ghost use Rattle.update_cert.specs.Asked.{Lacks};
+ghost use Rattle.tree_parts.specs.Blocks.{chunk_held, inode_told, root_at};
+ghost use Rattle.tree_parts.specs.Asked.{Lacks};
 ghost use Rattle.client_tree.specs.Tables.{IsOfTable, IsRead};
 
 use itable::{Chunk, ITable, ListedChunk, Root};
 use layout::{Digest, Principal};
 use std::alloc::Allocator;
-use update_cert::{ApplyError, Blocks, Spot, takes_chunk, takes_root, value_at};
+use tree_parts::{ApplyError, Blocks, Spot, takes_chunk, takes_root, value_at};
 
 /// The root of this handle.
 fn root_of<A: Allocator + Copy, B: Blocks>(

@@ -9,8 +9,8 @@ ghost use Rattle.principals.specs.Table.{Table as Principals};
 ghost use Rattle.principals.specs.TableText.{table as table_format};
 ghost use Rattle.update_cert.specs.World.{is_table};
 ghost use Rattle.update_cert.specs.Reading.{Reading, void_of_read};
-ghost use Rattle.update_cert.specs.Blocks.{Agrees, Blocks as Held, ForEachReading};
-ghost use Rattle.update_cert.specs.Asked.{Lacks};
+ghost use Rattle.tree_parts.specs.Blocks.{Agrees, Blocks as Held, ForEachReading};
+ghost use Rattle.tree_parts.specs.Asked.{Lacks};
 ghost use Rattle.client_tree.specs.View.{View as ViewModel, actor_of, shown, tree_before, written};
 ghost use Rattle.client_tree.specs.Opened.{HasLooked, IsLooked, IsOpened, IsReached};
 ghost use Rattle.client_tree.specs.Tree.{IsLost, IsOutcome, IsStored, IsWanted, principals_digest, principals_texts};
@@ -27,7 +27,8 @@ use pending_list::raised_groups;
 use principals::Table;
 use std::alloc::Allocator;
 use std::marker::Model;
-use update_cert::{ApplyError, Blocks, LaidPart, Slot, Voids, has_digest, is_table};
+use tree_parts::{ApplyError, Blocks, LaidPart, Slot, has_digest, is_table};
+use update_cert::Voids;
 
 /// A principal's part, as it is stored.
 #[derive(Drop)]

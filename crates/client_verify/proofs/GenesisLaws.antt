@@ -23,8 +23,8 @@ use Rattle.directory.specs.Directory.{directory}
 use Rattle.directory.specs.DirectoryLaws.{lawful_directory}
 use Rattle.update_cert.specs.World.{Content, File, Directory, Principals, genesis, is_table, is_root}
 use Rattle.update_cert.specs.Reading.{Reading}
-use Rattle.update_cert.specs.Blocks.{Agrees, Blocks, directory_over, file_over, if_of_size, joined, of_size}
-use Rattle.update_cert.proofs.Contents.{directory_is, file_is, inode_held}
+use Rattle.tree_parts.specs.Blocks.{Agrees, Blocks, directory_over, file_over, if_of_size, joined, of_size}
+use Rattle.tree_parts.proofs.Contents.{directory_is, file_is, inode_held}
 use Rattle.client_tree.specs.Held.{Block, held, keeping, keeping_all}
 use Rattle.client_tree.proofs.HeldLaws.{with_new, with_none, with_old}
 use Rattle.client_tree.specs.Genesis.{inode_digest, common_texts, first_blocks, first_pairs, first_table, first_texts, root_inode, table_inode, table_text}

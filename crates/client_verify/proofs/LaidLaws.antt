@@ -3,8 +3,8 @@ use Rattle.std.proofs.Common.{◌≡◌, ℕ, suc, ◌+◌, ◌<◌, ◌≤◌, 
 use Rattle.std.specs.Prelude.{◌==◌, slice_index_or}
 use Rattle.std.specs.Option.{option_map_or}
 use Rattle.std.proofs.lemmas.List.{drop_all}
-use Rattle.update_cert.specs.Blocks.{Blocks}
-use Rattle.update_cert.specs.Spot.{size_of_block}
+use Rattle.tree_parts.specs.Blocks.{Blocks}
+use Rattle.tree_parts.specs.Spot.{size_of_block}
 use Rattle.client_verify.specs.Laid.{are_blocks_laid}
 
 abbrev has : Blocks → ℕ → ℕ → List ℕ → Bool

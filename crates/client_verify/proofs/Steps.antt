@@ -14,7 +14,7 @@ use Rattle.version_order.specs.declared.structure.GroupRecord.{GroupRecord}
 use Rattle.client_tree.specs.Tree.{IsWanted}
 use Rattle.client_tree.specs.View.{handle_in}
 use Rattle.client_tree.specs.Principals.{IsOfNamed}
-use Rattle.update_cert.specs.Spot.{lacks}
+use Rattle.tree_parts.specs.Spot.{lacks}
 use Rattle.pending_list.specs.Reply.{Reply}
 use Rattle.reply_check.specs.declared.asked.Asked.{Asked}
 use Rattle.reply_check.specs.FirstBroken.{reply_breaks, reply_in, view_over}

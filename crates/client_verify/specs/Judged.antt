@@ -2,7 +2,7 @@
 use Rattle.std.specs.Prelude.{◌≡◌, ◌⊎◌, ℕ, List, ◌∷◌, ◌++◌, Option, Some, None, IsSomeAnd, true, map}
 use Rattle.std.specs.List.{flat_map}
 use Rattle.std.specs.Vec.{vec_items}
-use Rattle.update_cert.specs.Spot.{lacks}
+use Rattle.tree_parts.specs.Spot.{lacks}
 use Rattle.pending_list.specs.Reply.{Reply}
 use Rattle.reply_rules.specs.Lists.{Lists, lists_of}
 use Rattle.client_tree.specs.Held.{held, keeping}

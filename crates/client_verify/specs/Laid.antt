@@ -5,8 +5,8 @@ use Rattle.std.specs.Option.{option_map_or}
 use Rattle.std.specs.Str.{bytes_eq}
 use Rattle.layout.specs.Types.{Bytes, Digest}
 use Rattle.update_cert.specs.Change.{Action, Make, Put, Remove, Link, Unlink, AddUser, AddMember, DropMember, Change}
-use Rattle.update_cert.specs.Blocks.{Blocks, inode_at}
-use Rattle.update_cert.specs.Spot.{is_of_file, size_of_block}
+use Rattle.tree_parts.specs.Blocks.{Blocks, inode_at}
+use Rattle.tree_parts.specs.Spot.{is_of_file, size_of_block}
 use Rattle.client_tree.specs.Held.{held, keeping_all}
 use Rattle.client_tree.specs.Genesis.{inode_digest, root_inode}
 

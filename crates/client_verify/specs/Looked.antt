@@ -3,8 +3,8 @@ use Rattle.std.specs.Prelude.{◌≡◌, Option, Some, None, IsSomeAnd, true, fa
 use Rattle.layout.specs.Types.{Bytes, INumber, Principal}
 use Rattle.update_cert.specs.World.{Content, File, Directory, is_table}
 use Rattle.update_cert.specs.Reading.{Reading}
-use Rattle.update_cert.specs.Blocks.{Agrees}
-use Rattle.update_cert.specs.Spot.{lacks}
+use Rattle.tree_parts.specs.Blocks.{Agrees}
+use Rattle.tree_parts.specs.Spot.{lacks}
 use Rattle.client_tree.specs.Held.{held}
 use Rattle.client_tree.specs.Opened.{HasLooked, IsLooked}
 use Rattle.client_tree.specs.View.{shown}

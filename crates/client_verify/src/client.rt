@@ -74,7 +74,7 @@ impl<L: Device, J: Device, A: Allocator + Copy> Client<L, J, A> {
     ghost use Rattle.update_cert.specs.World.{genesis as first_tree, File, is_table};
     ghost use Rattle.update_cert.specs.Reading.{Reading};
     ghost use Rattle.itable.specs.ITable.{digest_at};
-    ghost use Rattle.update_cert.specs.Blocks.{Agrees};
+    ghost use Rattle.tree_parts.specs.Blocks.{Agrees};
     ghost use Rattle.client_tree.specs.Held.{held};
     ghost use Rattle.client_tree.specs.Genesis.{first_table, first_texts, table_text};
     ghost use Rattle.lms_sign.specs.Keys.{public_key_of};

@@ -5,7 +5,7 @@ ghost use Rattle.std.specs.Option.{option_map_or};
 ghost use Rattle.std.specs.List.{list_all};
 ghost use Rattle.std.specs.Vec.{vec_items};
 ghost use Rattle.update_cert.specs.Change.{action_of};
-ghost use Rattle.update_cert.specs.Spot.{size_of_block};
+ghost use Rattle.tree_parts.specs.Spot.{size_of_block};
 ghost use Rattle.client_tree.specs.Held.{held};
 ghost use Rattle.client_tree.specs.Genesis.{inode_digest, root_inode};
 ghost use Rattle.client_verify.specs.Laid.{are_blocks_laid, are_laid, is_file_laid, is_laid};
@@ -14,7 +14,8 @@ use client_tree::{Held, root_digest};
 use itable::{Inode, Kind};
 use layout::{Digest, Memory, ReadError, Text};
 use std::alloc::Allocator;
-use update_cert::{Action, AnyAction, Blocks, Change, TableChange, size_of_block};
+use tree_parts::{Blocks, size_of_block};
+use update_cert::{Action, AnyAction, Change, TableChange};
 
 /// Whether the block of this place is there, and has its size.
 fn has_block<A: Allocator>(blocks: &Held<A>, size: u32, place: u16, digest: Digest) -> bool

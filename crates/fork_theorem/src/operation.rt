@@ -10,7 +10,8 @@ use client_verify::{Client, ClientError, Look, Phase, Step, are_laid};
 use layout::{INumber, Memory, Principal, User, put_in};
 use leaf_ledger::Device;
 use std::alloc::Allocator;
-use update_cert::{Blocks, MOST_CHANGES};
+use tree_parts::Blocks;
+use update_cert::MOST_CHANGES;
 use wire::{RequestKind, Status};
 
 /// What a client's error comes to.

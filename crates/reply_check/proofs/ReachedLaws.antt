@@ -19,7 +19,7 @@ use Rattle.reply_rules.specs.declared.rule.Rule.TheVariants as rule
 use Rattle.reply_rules.proofs.OwnRaised.{own_counts}
 use Rattle.client_tree.specs.View.{View, written}
 use Rattle.client_tree.specs.Tree.{IsOutcome, Stored}
-use Rattle.update_cert.specs.Blocks.{Blocks}
+use Rattle.tree_parts.specs.Blocks.{Blocks}
 use Rattle.reply_check.specs.FirstBroken.{certificates, lists_break, signatures, view_over}
 use Rattle.reply_check.specs.Reached.{CountsRaised, IsRaisedIn}
 

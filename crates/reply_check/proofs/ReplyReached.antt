@@ -5,12 +5,12 @@ use Rattle.std.specs.List.{remove}
 use Rattle.layout.specs.Types.{Digest, Handle, Key}
 use Rattle.principals.specs.Table.{Table}
 use Rattle.version_order.specs.Structure.{Structure}
-use Rattle.update_cert.specs.Asked.{Lacks}
-use Rattle.update_cert.specs.Blocks.{Blocks}
-use Rattle.update_cert.specs.Spot.{lacks}
-use Rattle.update_cert.specs.declared.error.ApplyError.{ApplyError}
-use Rattle.update_cert.specs.declared.error.ApplyError.TheVariants as error
-use Rattle.update_cert.specs.declared.spot.Spot.{Spot}
+use Rattle.tree_parts.specs.Asked.{Lacks}
+use Rattle.tree_parts.specs.Blocks.{Blocks}
+use Rattle.tree_parts.specs.Spot.{lacks}
+use Rattle.tree_parts.specs.declared.error.ApplyError.{ApplyError}
+use Rattle.tree_parts.specs.declared.error.ApplyError.TheVariants as error
+use Rattle.tree_parts.specs.declared.spot.Spot.{Spot}
 use Rattle.pending_list.specs.declared.signed.Signed.{Signed}
 use Rattle.pending_list.specs.Reply.{PendingItem}
 use Rattle.reply_rules.specs.Lists.{Lists}

@@ -4,8 +4,8 @@ use Rattle.std.specs.Option.{option_map_or}
 use Rattle.std.specs.Str.{bytes_eq}
 use Rattle.layout.specs.Hash.{hash}
 use Rattle.layout.specs.Types.{Bytes}
-use Rattle.update_cert.specs.Blocks.{Blocks}
-use Rattle.update_cert.specs.Spot.{takes}
+use Rattle.tree_parts.specs.Blocks.{Blocks}
+use Rattle.tree_parts.specs.Spot.{takes}
 use Rattle.reply_rules.specs.Broken.{least}
 use Rattle.reply_rules.specs.declared.rule.Rule.{Rule}
 use Rattle.reply_rules.specs.declared.rule.Rule.TheVariants as rule

@@ -14,7 +14,7 @@ use Rattle.pending_list.specs.declared.signed.Signed.{Signed}
 use Rattle.pending_list.specs.Signed.{signed}
 use Rattle.pending_list.specs.Reply.{PendingItem, Reply, reply}
 use Rattle.principals.specs.Table.{Table, key_of}
-use Rattle.update_cert.specs.Blocks.{Blocks}
+use Rattle.tree_parts.specs.Blocks.{Blocks}
 use Rattle.client_tree.specs.View.{View, handle_in}
 use Rattle.client_tree.specs.Principals.{IsNamed, IsPending}
 use Rattle.reply_rules.specs.Lists.{Lists, items, lists_of}

@@ -10,8 +10,8 @@ use Rattle.pending_list.specs.Groups.{raises}
 use Rattle.principals.specs.Table.{Table}
 use Rattle.update_cert.specs.World.{is_table}
 use Rattle.update_cert.specs.Reading.{Reading}
-use Rattle.update_cert.specs.Blocks.{Blocks, Agrees}
-use Rattle.update_cert.specs.Spot.{lacks}
+use Rattle.tree_parts.specs.Blocks.{Blocks, Agrees}
+use Rattle.tree_parts.specs.Spot.{lacks}
 use Rattle.reply_rules.specs.Lists.{Lists}
 use Rattle.client_tree.specs.View.{View, handle_in, shown}
 use Rattle.client_tree.specs.Principals.{IsOfNamed}

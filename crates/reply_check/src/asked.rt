@@ -1,7 +1,7 @@
 //! A block that was asked for.
 
 use layout::Digest;
-use update_cert::Spot;
+use tree_parts::Spot;
 
 /// A block that was asked for: its digest, and the place at which it is asked for.
 #[derive(Clone, Copy, Debug)]

@@ -9,7 +9,7 @@ use crate::asked::Asked;
 use layout::{Memory, digest};
 use reply_rules::Rule;
 use std::alloc::Allocator;
-use update_cert::Blocks;
+use tree_parts::Blocks;
 
 /// The text of the block that was asked for, or the rule that what was handed in breaks.
 pub fn check<'a, A: Allocator + Copy, B: Blocks>(

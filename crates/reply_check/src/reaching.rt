@@ -3,7 +3,7 @@
 ghost use Rattle.std.specs.Prelude.{◌≡◌, ◌≤◌, ◌<◌, None, IfOk, IsSomeAnd};
 ghost use Rattle.std.specs.List.{All};
 ghost use Rattle.reply_rules.specs.Lists.{lists_of};
-ghost use Rattle.update_cert.specs.declared.error.ApplyError.TheVariants as apply_error;
+ghost use Rattle.tree_parts.specs.declared.error.ApplyError.TheVariants as apply_error;
 ghost use Rattle.layout.specs.Hash.{hash};
 ghost use Rattle.client_tree.specs.Held.{held, keeping};
 ghost use Rattle.version_order.specs.Vector.{version_of};
@@ -23,7 +23,8 @@ use pending_list::table_version;
 use principals::Table;
 use reply_rules::Rule;
 use std::alloc::Allocator;
-use update_cert::{ApplyError, Blocks, Voids};
+use tree_parts::{ApplyError, Blocks};
+use update_cert::Voids;
 use version_order::{GroupRecord, Plan};
 
 /// What the own operation makes of the parts that it may change, or the block that is wanted to tell it.

@@ -12,7 +12,7 @@ use tests_aids::tables::{FORM, Texts, listing, structure_over, texts_over};
 use tests_aids::texts::{joined, key_of, listed, named, pending, plan, reply, shown};
 use tests_aids::{Host, check};
 use tests_client_aids::clients::{MemoryClient, client_with, declare, hand, step_on};
-use update_cert::Blocks;
+use tree_parts::Blocks;
 
 /// The size of the table: 64 users, and 19 rows.
 const SIZE: u32 = 4101;

@@ -15,7 +15,8 @@ use tests_aids::numbers::{i_number, principal};
 use tests_aids::texts::{joined, listed, reply};
 use tests_aids::{Host, check, check_text};
 use tests_client_aids::clients::{MemoryClient, declare, declare_changes, give, look_at, sign};
-use update_cert::{Action, Blocks, Change};
+use tree_parts::Blocks;
+use update_cert::{Action, Change};
 
 /// How many blocks are handed in at most for one look.
 const BOUND: usize = 100;

@@ -13,7 +13,7 @@ use tests_aids::blocks::{EMPTY_INODE, HELLO, HELLO_INODE, NO_BYTES_INODE};
 use tests_aids::texts::{joined, key_of};
 use tests_aids::{Host, check};
 use tests_client_aids::clients::{MemoryClient, client_with, declare, hand, step_on};
-use update_cert::Blocks;
+use tree_parts::Blocks;
 
 /// How many blocks are handed in at most for one reply.
 const BOUND: usize = 10;

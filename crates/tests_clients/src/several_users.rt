@@ -15,7 +15,7 @@ use tests_aids::texts::{
     vector_of,
 };
 use tests_client_aids::clients::{MemoryClient, client_with, declare, hand, step_on};
-use update_cert::Blocks;
+use tree_parts::Blocks;
 
 /// How many blocks are handed in at most for one reply.
 const BOUND: usize = 100;

@@ -15,7 +15,7 @@ use tests_client_aids::changes::{Planned, listing_both};
 use tests_client_aids::clients::{MemoryClient, declare, declare_changes, end, sign};
 use tests_client_aids::servers::{Server, answers_commit, answers_update_so, server_of};
 use tests_client_aids::three::{Three, three_clients};
-use update_cert::Blocks;
+use tree_parts::Blocks;
 use wire::Status;
 
 /// The vectors of the first operations of user 0, of user 1 and user 2 after it, and of user 2 after user 1, each after

@@ -13,7 +13,7 @@ use tests_client_aids::clients::{
     self, MemoryClient, declare_changes, end, first_key, sign, step_on, superuser,
 };
 use tests_client_aids::servers::{Server, answers_commit, answers_update_so, server_of};
-use update_cert::Blocks;
+use tree_parts::Blocks;
 use wire::Status;
 
 /// How many blocks are handed in at most for one operation or one look.

@@ -5,7 +5,7 @@ use layout::{Digest, digest};
 use std::alloc::Global;
 use tests_aids::texts::joined;
 use tests_aids::{Host, check};
-use update_cert::{ApplyError, Spot};
+use tree_parts::{ApplyError, Spot};
 
 /// These blocks.
 pub(crate) fn held(rt: &impl Host, texts: &[&[u8]]) -> Held<Global> {

@@ -7,7 +7,7 @@ use layout::digest;
 use std::alloc::Global;
 use tests_aids::texts::joined;
 use tests_aids::{Host, check};
-use update_cert::Spot;
+use tree_parts::Spot;
 
 /// The text of a directory of 16 names with 255 bytes each: two blocks, the second one with 54 bytes.
 fn long_directory(rt: &impl Host) -> Vec<u8> {

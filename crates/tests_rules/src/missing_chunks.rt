@@ -10,7 +10,7 @@ use tests_aids::blocks::{HELLO, HELLO_INODE, LONG_INODE};
 use tests_aids::numbers::principal;
 use tests_aids::texts::joined;
 use tests_aids::{Aided, Host, check};
-use update_cert::Spot;
+use tree_parts::Spot;
 
 /// The texts of an i-table of user 0's.
 #[derive(Drop)]

@@ -12,7 +12,7 @@ use tests_aids::blocks::{HELLO, LONG_INODE, REST, WHOLE};
 use tests_aids::numbers::{i_number, principal};
 use tests_aids::texts::{certificate, joined, key_of, listed, plan_of, reply_to, shown, structure};
 use tests_aids::{Host, check};
-use update_cert::Spot;
+use tree_parts::Spot;
 
 /// User 0's key; nothing here is under it.
 static KEY: [u8; 56] = [7; 56];

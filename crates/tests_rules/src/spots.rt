@@ -6,7 +6,7 @@ use itable::ChunkNumber;
 use layout::digest;
 use tests_aids::numbers::{i_number, principal};
 use tests_aids::{Aided, Host};
-use update_cert::Spot;
+use tree_parts::Spot;
 
 /// The root of user 0's i-table, that of an i-table without chunk 0, those without chunks of user 0 and user 1.
 const ROOT: &[u8] = b"STR1\0\x01\0abcdefghijklmnopqrstuvwxyz012345";

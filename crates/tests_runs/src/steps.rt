@@ -17,7 +17,7 @@ use tests_client_aids::clients::{
 };
 use tests_client_aids::crashes::{Left, after_crash, bytes_left};
 use tests_client_aids::servers::{Server, answers_commit, answers_update_so};
-use update_cert::Blocks;
+use tree_parts::Blocks;
 use wire::Status;
 
 /// How many blocks are handed in at most for one reply or one look.

@@ -1,14 +1,5 @@
-pub mod Joins
-pub mod PartLaws
-pub mod ReadingLaws
-pub mod OpenedLaws
-pub mod ActLaws
-pub mod AskedLaws
-pub mod TreeLaws
-pub mod LaidLaws
-pub mod SomeReading
-pub mod Contents
-pub mod TakenLaws
+pub mod Numbers
+pub mod EffectLaws
 pub mod TableLaws
 pub mod TableStands
 pub mod VoidLaws

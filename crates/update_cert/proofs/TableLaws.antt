@@ -10,7 +10,7 @@ use Rattle.update_cert.specs.Change.{Action, Make, Put, Remove, Link, Unlink, Ad
 use Rattle.update_cert.specs.World.{changes_table, is_of_table}
 use Rattle.update_cert.specs.Tables.{alters, table_becomes, table_effect, table_after_change, table_after}
 use Rattle.update_cert.specs.TableVoids.{is_void_on, table_voids}
-use Rattle.update_cert.proofs.TreeLaws.{if_void, void_step, more, no_more}
+use Rattle.update_cert.proofs.Numbers.{if_void, void_step, more, no_more}
 
 -- ---- one change more
 

@@ -14,7 +14,7 @@ use Rattle.update_cert.specs.World.{Actor, Content, Principals, Tree, permitted,
 use Rattle.update_cert.specs.Reading.{Reading, read_action, read_change, read_changes, after_read, void_of_table_read}
 use Rattle.update_cert.specs.Tables.{alters, table_becomes, table_effect, table_after_change, table_after}
 use Rattle.update_cert.specs.TableVoids.{is_void_on, table_voids}
-use Rattle.update_cert.proofs.ActLaws.{effect_read, kind_read, at_table, other_void, table_place}
+use Rattle.update_cert.proofs.EffectLaws.{effect_read, kind_read, at_table, other_void, table_place}
 use Rattle.update_cert.proofs.TableLaws.{other_alters}
 
 all_rows : (b : Option (Change Digest)) (cs : List (Change Digest)) → FitRows (after_row change_rows) b cs → All change.Fits cs

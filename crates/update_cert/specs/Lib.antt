@@ -4,11 +4,5 @@ pub mod Cert
 pub mod CertLaws
 pub mod World
 pub mod Reading
-pub mod Blocks
-pub mod Spot
-pub mod Part
-pub mod Slots
-pub mod Asked
-pub mod Acts
 pub mod Tables
 pub mod TableVoids

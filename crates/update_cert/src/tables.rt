@@ -10,9 +10,9 @@ ghost use Rattle.update_cert.specs.Reading.{Reading, after_read, void_of_table_r
 ghost use Rattle.update_cert.specs.Tables.{alters, table_becomes, table_after_change, table_after, may_change};
 ghost use Rattle.update_cert.specs.TableVoids.{ToldEffect, is_void_on, table_voids};
 
-use crate::applying::Voids;
 use crate::cert::Cert;
 use crate::change::{AnyAction, Change, TableChange};
+use crate::voids::Voids;
 use layout::{Memory, Principal, User, Version};
 use principals::{Table, TableError};
 use std::alloc::Allocator;

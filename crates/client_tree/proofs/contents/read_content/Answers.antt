@@ -2,9 +2,9 @@ use Rattle.std.proofs.Common.{◌≡◌, Some, ap, subst, sym, rules}
 use Rattle.update_cert.specs.World.{Content}
 use Rattle.itable.specs.declared.inode.Kind.{Kind}
 use Rattle.itable.specs.declared.inode.Kind.TheVariants as kinds
-use Rattle.update_cert.specs.Asked.{HasBlocks}
+use Rattle.tree_parts.specs.Asked.{HasBlocks}
 use Rattle.client_tree.proofs.LookLaws.{all_taken}
-use Rattle.update_cert.proofs.Contents.{file_is, directory_is}
+use Rattle.tree_parts.proofs.Contents.{file_is, directory_is}
 use Rattle.client_tree.proofs.contents.read_content.Goals as goal
 
 pub returns-in-File-clause-seen : goal.returns-in-File-clause-seen

@@ -1,6 +1,6 @@
 use Rattle.std.proofs.Common.{◌≡◌, ℕ, Some, None, sym, ap, subst, ◌∙◌}
 use Rattle.itable.specs.ITable.{digest_at}
-use Rattle.update_cert.specs.Blocks.{inode_told}
+use Rattle.tree_parts.specs.Blocks.{inode_told}
 use Rattle.client_tree.specs.Tables.{IsRead}
 use Rattle.client_tree.proofs.NamedLaws.{has_table, named_read}
 use Rattle.client_tree.proofs.named.read_named.Goals as goal

@@ -3,7 +3,7 @@ use Rattle.layout.specs.Types.{Handle}
 use Rattle.update_cert.specs.Cert.{Cert}
 use Rattle.update_cert.specs.World.{Principals}
 use Rattle.update_cert.specs.Reading.{Reading, after_read, void_of_table_read}
-use Rattle.update_cert.specs.Asked.{Lacks}
+use Rattle.tree_parts.specs.Asked.{Lacks}
 use Rattle.pending_list.specs.Reply.{PendingItem}
 use Rattle.client_tree.specs.View.{View, actor_of, after_items, handle_in, named, tree_before}
 use Rattle.client_tree.specs.Principals.{IsNamed, IsOfNamed}

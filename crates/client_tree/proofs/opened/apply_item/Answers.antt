@@ -2,9 +2,9 @@ use Rattle.std.proofs.Common.{◌≡◌, ap, sym, subst, ◌∙◌}
 use Rattle.std.specs.Prelude.{IfOk, OnOk}
 use Rattle.update_cert.specs.Cert.{Cert}
 use Rattle.update_cert.specs.Reading.{after_read, void_of_read}
-use Rattle.update_cert.specs.Part.{IsPartOf, slot_at}
-use Rattle.update_cert.specs.Slots.{slot_after}
-use Rattle.update_cert.specs.Asked.{HasAskedFor}
+use Rattle.tree_parts.specs.Part.{IsPartOf, slot_at}
+use Rattle.tree_parts.specs.Slots.{slot_after}
+use Rattle.tree_parts.specs.Asked.{HasAskedFor}
 use Rattle.client_tree.specs.View.{actor_of, acts_for}
 use Rattle.client_tree.proofs.OpenedLaws.{part_after}
 use Rattle.client_tree.proofs.opened.apply_item.Goals as goal

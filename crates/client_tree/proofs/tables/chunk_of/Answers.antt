@@ -1,8 +1,8 @@
 use Rattle.std.proofs.Common.{◌≡◌, Option, Some, true, false, refl, sym, ap, ◌∙◌, inr, rules}
 use Rattle.std.specs.Option.{option_map_or}
 use Rattle.itable.specs.Chunk.{Chunk}
-use Rattle.update_cert.specs.Blocks.{chunk_held}
-use Rattle.update_cert.specs.Spot.{takes_chunk}
+use Rattle.tree_parts.specs.Blocks.{chunk_held}
+use Rattle.tree_parts.specs.Spot.{takes_chunk}
 use Rattle.client_tree.proofs.TableLaws.{chunk_missing, chunk_of_it, chunk_taken}
 use Rattle.client_tree.proofs.tables.chunk_of.Goals.{in_default-via-in-Some+else-takes_chunk, in_default-via-in_default}
 use Rattle.client_tree.proofs.tables.chunk_of.Goals as goal

@@ -7,7 +7,7 @@ use Rattle.itable.specs.Root.{chunk_at, number_of}
 use Rattle.std.specs.Ordering.{nat_cmp}
 use Rattle.layout.specs.Ascending.{row_at}
 use Rattle.std.specs.Prelude.{◌==◌, if◌then◌else◌}
-use Rattle.update_cert.specs.Blocks.{told_by}
+use Rattle.tree_parts.specs.Blocks.{told_by}
 use Rattle.std.specs.List.{All}
 use Rattle.itable.specs.declared.root.ListedChunk.{ListedChunk}
 use Rattle.itable.specs.ITable.{ITable, digest_at, digest_in, listings}

@@ -3,7 +3,7 @@ use Rattle.std.specs.Ordering.{nat_cmp}
 use Rattle.layout.specs.Ascending.{row_at}
 use Rattle.itable.specs.Chunk.{chunk_number}
 use Rattle.itable.specs.Root.{number_of}
-use Rattle.update_cert.specs.Blocks.{told_by}
+use Rattle.tree_parts.specs.Blocks.{told_by}
 use Rattle.std.specs.List.{All}
 use Rattle.itable.specs.ITable.{digest_at, listings}
 use Rattle.client_tree.specs.Tables.{pairs_over}

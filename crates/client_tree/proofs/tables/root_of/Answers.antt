@@ -1,8 +1,8 @@
 use Rattle.std.proofs.Common.{◌≡◌, Option, Some, true, false, refl, sym, ap, ◌∙◌, rules}
 use Rattle.std.specs.Option.{option_map_or}
 use Rattle.itable.specs.Root.{Root}
-use Rattle.update_cert.specs.Blocks.{root_at}
-use Rattle.update_cert.specs.Spot.{takes_root}
+use Rattle.tree_parts.specs.Blocks.{root_at}
+use Rattle.tree_parts.specs.Spot.{takes_root}
 use Rattle.client_tree.proofs.TableLaws.{root_missing, root_of_it, root_taken}
 use Rattle.client_tree.proofs.tables.root_of.Goals.{in_default-via-in-Some+else-takes_root, in_default-via-in_default}
 use Rattle.client_tree.proofs.tables.root_of.Goals as goal

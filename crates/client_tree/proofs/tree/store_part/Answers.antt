@@ -3,8 +3,8 @@ use Rattle.itable.specs.ITable.{digest_at}
 use Rattle.principals.specs.Table.{Table}
 use Rattle.std.specs.Option.{option_map}
 use Rattle.update_cert.specs.World.{is_table as is_table_at}
-use Rattle.update_cert.specs.Part.{slot_at}
-use Rattle.update_cert.specs.Slots.{changed_texts, slot_digest}
+use Rattle.tree_parts.specs.Part.{slot_at}
+use Rattle.tree_parts.specs.Slots.{changed_texts, slot_digest}
 use Rattle.client_tree.specs.Tree.{principals_digest, principals_texts, table_texts}
 use Rattle.client_tree.proofs.TreeLaws.{world_is}
 use Rattle.client_tree.proofs.tree.store_part.Goals as goal

@@ -10,7 +10,7 @@ use Rattle.itable.specs.Inode.{inode}
 use Rattle.itable.specs.ITable.{ITable, digest_at}
 use Rattle.principals.specs.Table.{Table}
 use Rattle.principals.specs.TableText.{table as table_format}
-use Rattle.update_cert.specs.Slots.{has_digest}
+use Rattle.tree_parts.specs.Slots.{has_digest}
 use Rattle.client_tree.specs.Tree.{principals_digest, principals_texts}
 use Rattle.client_tree.proofs.tree.with_principals.Goals.{then-not-has_digest+in_ok-append+in_ok-push, else-not-has_digest}
 use Rattle.client_tree.proofs.tree.with_principals.Goals as goal

@@ -6,7 +6,7 @@ use Rattle.principals.specs.TableText.{NoneAfter}
 use Rattle.update_cert.specs.Change.{Change}
 use Rattle.update_cert.specs.Tables.{table_after_change, table_after}
 use Rattle.update_cert.specs.TableVoids.{is_void_on, table_voids}
-use Rattle.update_cert.proofs.TreeLaws.{take_next, pushed, not_pushed}
+use Rattle.update_cert.proofs.Numbers.{take_next, pushed, not_pushed}
 use Rattle.update_cert.proofs.TableLaws.{table_next, table_voids_next, front_stays, none_after}
 use Rattle.update_cert.proofs.tables.apply_each.Goals.{then-branch+in_ok-push, else-branch}
 use Rattle.update_cert.proofs.tables.apply_each.Goals as goal

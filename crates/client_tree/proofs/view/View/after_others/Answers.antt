@@ -1,10 +1,10 @@
 use Rattle.std.proofs.Common.{◌≡◌, ◌<◌, ◌+◌, ◌++◌, List, [], ◌∷◌, length, take, drop, true, false, sym, subst, ◌∙◌}
 use Rattle.std.proofs.lemmas.List.{take_all}
 use Rattle.std.specs.Prelude.{filter, slice_index_or}
-use Rattle.update_cert.specs.Part.{IsPartOf, Part}
+use Rattle.tree_parts.specs.Part.{IsPartOf, Part}
 use Rattle.principals.specs.Table.{Table}
 use Rattle.update_cert.specs.Reading.{after_read}
-use Rattle.update_cert.specs.Asked.{HasAskedFor, IsAskedFor, Lacks}
+use Rattle.tree_parts.specs.Asked.{HasAskedFor, IsAskedFor, Lacks}
 use Rattle.pending_list.specs.Reply.{PendingItem}
 use Rattle.client_tree.specs.View.{actor_of, after_items, comes_after}
 use Rattle.client_tree.specs.Opened.{HasAskedByItems, IsPartAfter, IsReached}

@@ -2,8 +2,8 @@ use Rattle.std.proofs.Common.{take}
 use Rattle.std.specs.Prelude.{filter}
 use Rattle.update_cert.specs.World.{Tree}
 use Rattle.update_cert.specs.Reading.{Reading}
-use Rattle.update_cert.specs.Blocks.{Agrees}
-use Rattle.update_cert.specs.Part.{IsPartOf}
+use Rattle.tree_parts.specs.Blocks.{Agrees}
+use Rattle.tree_parts.specs.Part.{IsPartOf}
 use Rattle.client_tree.specs.View.{after_items, comes_after}
 use Rattle.client_tree.specs.Opened.{HasAskedByItems, IsPartAfter}
 use Rattle.client_tree.proofs.view.View.after_others.Given as goal

@@ -2,8 +2,8 @@ use Rattle.std.proofs.Common.{◌≡◌, ℕ, Some, sym, ap, subst, ◌∙◌, r
 use Rattle.std.specs.Prelude.{filter}
 use Rattle.layout.specs.Types.{Digest}
 use Rattle.itable.specs.ITable.{digest_at}
-use Rattle.update_cert.specs.Blocks.{inode_told}
-use Rattle.update_cert.specs.Part.{IsPartOf, Part, part_of}
+use Rattle.tree_parts.specs.Blocks.{inode_told}
+use Rattle.tree_parts.specs.Part.{IsPartOf, Part, part_of}
 use Rattle.client_tree.specs.View.{comes_after, handle_of, named}
 use Rattle.client_tree.specs.Opened.{HasAskedByItems}
 use Rattle.client_tree.proofs.OpenedLaws.{before_own, named_part}

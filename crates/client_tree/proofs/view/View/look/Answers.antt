@@ -2,7 +2,7 @@ use Rattle.std.proofs.Common.{◌≡◌, Option, Some, None, false, sym, ap, sub
 use Rattle.std.specs.Prelude.{IfOk}
 use Rattle.std.specs.Option.{option_map}
 use Rattle.update_cert.specs.World.{Content, is_table}
-use Rattle.update_cert.specs.Part.{Laid, Changed, slot_at, slot_in}
+use Rattle.tree_parts.specs.Part.{Laid, Changed, slot_at, slot_in}
 use Rattle.client_tree.specs.Seen.{content_seen}
 use Rattle.client_tree.proofs.LookLaws.{look_stands, looked}
 use Rattle.client_tree.proofs.view.View.look.Goals as goal

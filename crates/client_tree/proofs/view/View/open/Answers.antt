@@ -2,8 +2,8 @@ use Rattle.std.proofs.Common.{◌++◌, ℕ, [], ◌∷◌, refl, sym, ap, subst
 use Rattle.std.specs.Prelude.{filter}
 use Rattle.principals.specs.Table.{Table}
 use Rattle.update_cert.specs.Reading.{after_read, void_of_read}
-use Rattle.update_cert.specs.Part.{IsPartOf, part_of}
-use Rattle.update_cert.specs.Asked.{HasAskedFor, IsAskedFor, Lacks}
+use Rattle.tree_parts.specs.Part.{IsPartOf, part_of}
+use Rattle.tree_parts.specs.Asked.{HasAskedFor, IsAskedFor, Lacks}
 use Rattle.pending_list.specs.Reply.{PendingItem}
 use Rattle.client_tree.specs.View.{actor_of, comes_after, tree_before}
 use Rattle.client_tree.specs.Opened.{IsPartAfter, IsReached}

@@ -10,7 +10,7 @@ use Rattle.principals.specs.Table.{Table}
 use Rattle.update_cert.specs.World.{Tree}
 use Rattle.update_cert.specs.Reading.{Reading, void_of_read}
 use Rattle.update_cert.specs.Cert.{Cert, cert}
-use Rattle.update_cert.specs.Asked.{Lacks}
+use Rattle.tree_parts.specs.Asked.{Lacks}
 use Rattle.pending_list.specs.Reply.{PendingItem}
 use Rattle.client_tree.specs.Lost.{PartVoids, lost_from}
 use Rattle.client_tree.specs.View.{actor_of, tree_before, written}

@@ -2,7 +2,7 @@ use Rattle.std.proofs.Common.{◌≡◌, map, take}
 use Rattle.std.specs.List.{All}
 use Rattle.principals.specs.Table.{Table}
 use Rattle.update_cert.specs.Reading.{Reading, void_of_read}
-use Rattle.update_cert.specs.Blocks.{Agrees}
+use Rattle.tree_parts.specs.Blocks.{Agrees}
 use Rattle.client_tree.specs.Lost.{PartVoids}
 use Rattle.client_tree.specs.Tree.{IsStored, Stored}
 use Rattle.client_tree.specs.View.{actor_of, tree_before, written}

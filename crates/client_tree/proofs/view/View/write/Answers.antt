@@ -1,7 +1,7 @@
 -- What is missing is told as it was; want of memory says nothing.
 use Rattle.std.proofs.Common.{◌≡◌, ℕ, List, sym}
-use Rattle.update_cert.specs.Asked.{Lacks}
-use Rattle.update_cert.specs.declared.error.ApplyError.TheVariants.{Memory}
+use Rattle.tree_parts.specs.Asked.{Lacks}
+use Rattle.tree_parts.specs.declared.error.ApplyError.TheVariants.{Memory}
 use Rattle.client_tree.specs.Lost.{PartVoids}
 use Rattle.client_tree.specs.Opened.{IsReached}
 use Rattle.client_tree.proofs.OpenedLaws.{handed_on}

@@ -1,0 +1,11 @@
+pub mod Joins
+pub mod PartLaws
+pub mod ReadingLaws
+pub mod OpenedLaws
+pub mod ActLaws
+pub mod AskedLaws
+pub mod TreeLaws
+pub mod LaidLaws
+pub mod SomeReading
+pub mod Contents
+pub mod TakenLaws

@@ -1,0 +1,81 @@
+-- Nobody has to believe this file: an aid of private contracts.
+-- What one change makes of a principal's part, and what it asks for.
+use Rattle.std.specs.Prelude.{◌≡◌, ◌⊎◌, ℕ, ◌==◌, Bool, true, false, length, ◌&&◌, not, List, Option, Some, None, if◌then◌else◌}
+use Rattle.std.specs.Option.{option_map_or}
+use Rattle.itable.specs.Inode.{Inode}
+use Rattle.directory.specs.Directory.{Entry}
+use Rattle.update_cert.specs.Change.{Action, Change}
+use Rattle.layout.specs.Types.{Digest, INumber, Principal, User}
+use Rattle.update_cert.specs.World.{Content, File, Directory, Principals, Actor, Tree, fits, has_effect, is_of}
+use Rattle.update_cert.specs.Reading.{Reading}
+use Rattle.tree_parts.specs.Blocks.{Blocks}
+use Rattle.tree_parts.specs.Spot.{lacks, size_of_block}
+use Rattle.tree_parts.specs.Part.{Part, Laid, slot_at, stands_at}
+use Rattle.itable.specs.declared.inode.Kind.TheVariants as kind
+use Rattle.tree_parts.specs.Asked.{IsInode, IsBlock, asks, needs_inode, needs_entries}
+use Rattle.tree_parts.specs.Slots.{slot_becomes}
+use Rattle.tree_parts.specs.declared.error.ApplyError.{ApplyError}
+use Rattle.tree_parts.specs.declared.error.ApplyError.TheVariants as error
+use Rattle.tree_parts.specs.declared.spot.Spot.{Spot}
+use Rattle.tree_parts.specs.declared.spot.Spot.TheVariants as spot
+
+-- an action at an i-number of the part's principal
+abbrev pub change_at : Part → INumber → Action Digest → Change Digest
+change_at part i action = record { principal = part.table.principal; i_number = i; action = action }
+
+-- The answer tells whether the change fits what stands at its i-number. Where it does, the slot there is what the action
+-- makes of it; all else is as before.
+pub record Acts (reads : Reading) (user : User) (c : Change Digest) (old new : Part) (fitted : Bool) : Type 0 where
+  pub is_fit : fitted ≡ fits user c (stands_at reads old c.i_number)
+  pub slots : (i : INumber) → slot_at new i ≡ (if fitted && (c.i_number == i) then slot_becomes reads c.action (slot_at old i) else slot_at old i)
+
+-- the change is done in this principal's part, and has no effect on the tree
+abbrev pub is_void_of : {C : Type 0} → Actor → Principal → Change C → Tree → Bool
+is_void_of actor p c tree = is_of p c && not (has_effect actor c (tree c.principal c.i_number))
+
+-- the entries, if a directory stands there
+abbrev pub listed : Option Content → Option (List Entry)
+listed None = None
+listed (Some (File bytes)) = None
+listed (Some (Directory entries)) = Some entries
+listed (Some (Principals table)) = None
+
+-- the digest is that of the i-node that the part has at this i-number, or, where entries are wanted, of a block of the
+-- directory that it is of
+abbrev pub LiesAt : Blocks → Part → INumber → Bool → Digest → Spot → Type 0
+LiesAt blocks part i entries digest s =
+    (inode : Digest) × (slot_at part i ≡ Some (Laid inode))
+    × (IsInode part.table.principal i inode digest s ⊎ ((entries ≡ true) × IsBlock blocks kind.Directory inode digest s))
+
+-- nothing of that is missing
+abbrev pub HasAt : Blocks → Part → INumber → Bool → Type 0
+HasAt blocks part i entries = (digest : Digest) (s : Spot) → LiesAt blocks part i entries digest s → lacks blocks digest s ≡ false
+
+-- the action asks for it there
+abbrev pub LiesFor : Blocks → Part → Change Digest → Digest → Spot → Type 0
+LiesFor blocks part c digest s = (needs_inode c.principal c.i_number c.action ≡ true) × LiesAt blocks part c.i_number (needs_entries c.action) digest s
+
+-- and the change at its turn
+abbrev pub LiesBy : Blocks → Actor → Part → Change Digest → Digest → Spot → Type 0
+LiesBy blocks actor part c digest s = (asks actor c ≡ true) × LiesAt blocks part c.i_number (needs_entries c.action) digest s
+
+-- nothing that the action asks for there is missing
+abbrev pub HasFor : Blocks → Part → Change Digest → Type 0
+HasFor blocks part c = needs_inode c.principal c.i_number c.action ≡ true → HasAt blocks part c.i_number (needs_entries c.action)
+
+-- nor what the change asks for at its turn
+abbrev pub HasBy : Blocks → Actor → Part → Change Digest → Type 0
+HasBy blocks actor part c = asks actor c ≡ true → HasAt blocks part c.i_number (needs_entries c.action)
+
+-- a text of the size of the i-node's block at this place is held under this digest
+abbrev pub IsSized : Blocks → Inode → ℕ → Digest → Type 0
+IsSized blocks n k digest = option_map_or (λ bytes. length bytes == size_of_block n.size k) (blocks digest) false ≡ true
+
+-- where the file is the table of principals, the place of its block is one of the table
+abbrev pub table_spot : Spot → Spot
+table_spot (spot.File inode k) = spot.Table inode k
+table_spot other = other
+
+abbrev pub as_table : ApplyError → ApplyError
+as_table (error.Missing digest s) = error.Missing digest (table_spot s)
+as_table error.Memory = error.Memory

@@ -1,0 +1,19 @@
+//! A principal's part of the tree: what is read of it from the blocks that are held, which blocks are asked for, what the
+//! changes of a certificate make of it, and how it is stored.
+#![tactic(auto)]
+
+mod applying;
+mod blocks;
+mod error;
+mod laying;
+mod opened;
+mod part;
+mod reading;
+mod spot;
+
+pub use applying::{Applied, apply};
+pub use blocks::{Blocks, some_reading_agrees, value_at};
+pub use error::ApplyError;
+pub use part::{LaidPart, Part, Slot, has_digest};
+pub use reading::{read_directory, read_file, read_inode, read_principals};
+pub use spot::{Spot, is_table, size_of_block, takes_chunk, takes_root};
