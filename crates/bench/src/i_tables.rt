@@ -19,12 +19,21 @@ const ROOT: u32 = 34;
 
 const WHOLE: u32 = 63 * CHUNK + 34 + ROOT;
 
+/// Sets the digest at an i-number, if there is such a one and its chunk is loaded.
+fn set(table: &mut ITable<Global>, number: u16, digest: Digest) -> Result<()> {
+    if let Some(i_number) = INumber::new(number) {
+        if table.loaded(i_number) {
+            table.set(i_number, digest)?;
+        }
+    }
+    Ok(())
+}
+
 /// Sets each i-number, the greatest first, so that each set shifts all that are there.
 fn fill(table: &mut ITable<Global>) -> Result<()> {
     for number in 1..4096 {
-        if let Some(i_number) = INumber::new(4096 - number) {
-            table.set(i_number, Digest::from_bytes([(number % 256) as u8; 32]))?;
-        }
+        let digest = Digest::from_bytes([(number % 256) as u8; 32]);
+        set(table, 4096 - number, digest)?;
     }
     Ok(())
 }
@@ -42,9 +51,7 @@ fn times_of(
     let start = Instant::now(clock)?;
     let first = table.handle(alloc)?;
     let whole = Time::new(start.elapsed(clock)?, WHOLE, unit);
-    if let Some(i_number) = INumber::new(2000) {
-        table.set(i_number, first)?;
-    }
+    set(table, 2000, first)?;
     let start = Instant::now(clock)?;
     table.handle(alloc)?;
     let again = Time::new(start.elapsed(clock)?, CHUNK + ROOT, unit);

@@ -21,7 +21,7 @@ use Rattle.itable.specs.declared.chunk.Pair.{Pair}
 use Rattle.itable.specs.declared.root.ListedChunk.{ListedChunk}
 use Rattle.itable.specs.Chunk.{Chunk, chunk, chunk_number, i_number_of}
 use Rattle.itable.specs.File.{NoneCollide}
-use Rattle.itable.specs.ITable.{ITable, IsPair, IsTable, chunk_of, digest_at, digest_in, handle_of, is_in, root_of, text_of_chunk}
+use Rattle.itable.specs.ITable.{ITable, IsListed, IsPair, IsTable, IsWhole, chunk_of, listing, loaded, digest_at, digest_in, handle_of, is_in, root_of, text_of_chunk}
 use Rattle.itable.specs.Root.{Root, chunk_at, root}
 use Rattle.itable.proofs.ChunkLaws.{chunk_reads, in_chunk}
 use Rattle.itable.proofs.RootLaws.{lists, root_reads}
@@ -65,21 +65,29 @@ none_elsewhere : (ps : List Pair) → All IsFirst ps → (i : ℕ) → chunk_num
 none_elsewhere ps all i other =
     no_row nat_cmp i_number_of ps i (All-weaker IsFirst (HasOther nat_cmp i_number_of i) (λ p is. other_number p.i_number i (λ same. other (ap chunk_number (sym same) ∙ is.1))) ps all)
 
-first_table : (ps : List Pair) → All IsFirst ps → Ascends nat_cmp i_number_of None ps → IsTable (record { principal = 0; pairs = ps })
+first_table : (ps : List Pair) → All IsFirst ps → Ascends nat_cmp i_number_of None ps → IsTable (record { principal = 0; pairs = ps; unloaded = [] })
+unfolding Ascends
 first_table ps all up = record {
   of_principal = in_range_fits w8 0 95 0 (omega arith) (omega arith) (omega arith);
   of_pairs = All-weaker IsFirst IsPair (λ p is. is.0) ps all;
   ascending = up;
+  in_loaded = All-weaker IsFirst (λ p. loaded (record { principal = 0; pairs = ps; unloaded = [] }) p.i_number ≡ true) (λ p is. refl) ps all;
+  of_unloaded = All-nil IsListed;
+  unloaded_ascend = tt;
 }
 
 -- pairs of chunk 0 that tell the same in it are the same
 same_first : (ps qs : List Pair) → All IsFirst ps → All IsFirst qs → Ascends nat_cmp i_number_of None ps → Ascends nat_cmp i_number_of None qs
     → ((i : ℕ) → chunk_number i ≡ 0 → digest_in ps i ≡ digest_in qs i) → ps ≡ qs
 same_first ps qs all_p all_q up_p up_q same =
-    same_pairs (record { principal = 0; pairs = ps }) (record { principal = 0; pairs = qs }) (first_table ps all_p up_p) (first_table qs all_q up_q) (λ i. elim (cases_eq (chunk_number i) 0) [
+    same_pairs (record { principal = 0; pairs = ps; unloaded = [] }) (record { principal = 0; pairs = qs; unloaded = [] }) (first_table ps all_p up_p) (first_table qs all_q up_q) (λ i. elim (cases_eq (chunk_number i) 0) [
       | inl zero ↦ same i zero
       | inr other ↦ ap (option_map (λ (p : Pair). p.digest)) (none_elsewhere ps all_p i other ∙ sym (none_elsewhere qs all_q i other))
     ])
+
+-- a chunk of a whole table is listed by its text
+pub listed_whole : (t : ITable) (n : ℕ) → IsWhole t → listing t n ≡ option_map (λ (y : Bytes). record { number = n; digest = hash y }) (text_of_chunk t n)
+listed_whole t n whole = rw whole refl
 
 -- the text of a chunk
 text_is : (t : ITable) (n : ℕ) (text : Bytes) → text_of_chunk t n ≡ Some text → text ≡ chunk.spell (chunk_of n t)
@@ -124,12 +132,12 @@ module _ (texts : List Bytes) where
 
   -- ---- the handle of a table
 
-  module _ (apart : NoneCollide texts texts) (t : ITable) (is : IsTable t) (zero : t.principal ≡ 0) (root_in : In (root.spell (root_of t)) texts) (text : Bytes) (has : text_of_chunk t 0 ≡ Some text) where
+  module _ (apart : NoneCollide texts texts) (t : ITable) (is : IsTable t) (all : IsWhole t) (zero : t.principal ≡ 0) (root_in : In (root.spell (root_of t)) texts) (text : Bytes) (has : text_of_chunk t 0 ≡ Some text) where
     top_at : root_at (of_texts texts) (handle_of t) ≡ Some (root_of t)
     top_at = ap (option_and_then (λ text. result_ok (whole root text))) (all_held texts apart (root.spell (root_of t)) root_in) ∙ ap result_ok (root_reads t is)
 
     listed_at : chunk_at (root_of t) 0 ≡ Some (record { number = 0; digest = hash text })
-    listed_at = lists t 0 (omega arith) ∙ ap (option_map (λ (y : Bytes). record { number = 0; digest = hash y })) has
+    listed_at = lists t 0 is (omega arith) ∙ listed_whole t 0 all ∙ ap (option_map (λ (y : Bytes). record { number = 0; digest = hash y })) has
 
     -- where the chunk's text is among the texts
     pub new_chunk : In text texts → HasChunk (handle_of t)

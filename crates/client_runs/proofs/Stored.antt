@@ -20,7 +20,7 @@ use Rattle.itable.specs.declared.chunk.Pair.{Pair}
 use Rattle.itable.specs.declared.root.ListedChunk.{ListedChunk}
 use Rattle.itable.specs.File.{NoneCollide, blocks_of, inode_of}
 use Rattle.itable.specs.Inode.{Inode, inode}
-use Rattle.itable.specs.ITable.{ITable, IsPair, IsTable, digest_at, digest_in, is_listed, listing, listings, new_texts, root_of, text_of_chunk, handle_of as table_handle}
+use Rattle.itable.specs.ITable.{ITable, IsListed, IsPair, IsTable, IsWhole, loaded, digest_at, digest_in, is_listed, listing, listings, new_texts, root_of, text_of_chunk, handle_of as table_handle}
 use Rattle.itable.specs.Root.{number_of, root}
 use Rattle.itable.specs.Chunk.{chunk}
 use Rattle.itable.proofs.Blocks.{next_block, no_block}
@@ -39,7 +39,7 @@ use Rattle.client_tree.specs.View.{View, handle_of as handle_in_view}
 use Rattle.agreement.proofs.Members.{In, flat_map-in, in-kept, in-left, in-right}
 use Rattle.agreement.proofs.Tests.{any_in}
 use Rattle.client_runs.proofs.Among.{AreAmong, all_held, are_within, of_texts, told_within}
-use Rattle.client_runs.proofs.FirstChunk.{HasChunk, chunk_is, new_chunk, new_told, old_chunk, old_told, told_at}
+use Rattle.client_runs.proofs.FirstChunk.{HasChunk, chunk_is, listed_whole, new_chunk, new_told, old_chunk, old_told, told_at}
 
 some_is : {A : Type 0} {x y : A} → Some x ≡ Some y → x ≡ y
 some_is e = cc
@@ -75,11 +75,11 @@ row_in (z ∷ zs) n x e = go (is_eq (nat_cmp (number_of z) n)) e (row_in zs n x)
 -- ---- tables
 
 -- the text of a chunk that a root lists
-listed_text : (t : ITable) (c : ListedChunk) → In c (listings t) → c.number ≡ 0 → (text : Bytes) × (text_of_chunk t 0 ≡ Some text) × (hash text ≡ c.digest)
+listed_text : (t : ITable) (c : ListedChunk) → IsWhole t → In c (listings t) → c.number ≡ 0 → (text : Bytes) × (text_of_chunk t 0 ≡ Some text) × (hash text ≡ c.digest)
 unfolding listings
-listed_text t c i zero =
+listed_text t c whole i zero =
     let (n, is) = in-filter_map (listing t) (range_with_len 0 64) c i in
-    go n (text_of_chunk t n) refl is
+    go n (text_of_chunk t n) refl (sym (listed_whole t n whole) ∙ is)
   where
     go : (n : ℕ) (o : Option Bytes) → text_of_chunk t n ≡ o → option_map (λ (text : Bytes). record { number = n; digest = hash text }) o ≡ Some c → (text : Bytes) × (text_of_chunk t 0 ≡ Some text) × (hash text ≡ c.digest)
     go n None has e = absurd (cc e)
@@ -102,11 +102,11 @@ root_new : (before : List ListedChunk) (t : ITable) → In (root.spell (root_of 
 unfolding new_texts
 root_new before t = in-right (root.spell (root_of t)) (filter_map (λ c. text_of_chunk t c.number) (filter (λ c. not (is_listed before c)) (listings t))) (root.spell (root_of t) ∷ []) (inl refl)
 
-chunk_new : (before : List ListedChunk) (t : ITable) (text : Bytes) → text_of_chunk t 0 ≡ Some text → is_listed before (record { number = 0; digest = hash text }) ≡ false → In text (new_texts before t)
+chunk_new : (before : List ListedChunk) (t : ITable) (text : Bytes) → IsTable t → IsWhole t → text_of_chunk t 0 ≡ Some text → is_listed before (record { number = 0; digest = hash text }) ≡ false → In text (new_texts before t)
 unfolding new_texts
-chunk_new before t text has new =
+chunk_new before t text is whole has new =
     let c : ListedChunk = record { number = 0; digest = hash text } in
-    let there : In c (listings t) = row_in (listings t) 0 c (lists t 0 (omega arith) ∙ ap (option_map (λ (y : Bytes). record { number = 0; digest = hash y })) has) in
+    let there : In c (listings t) = row_in (listings t) 0 c (lists t 0 is (omega arith) ∙ listed_whole t 0 whole ∙ ap (option_map (λ (y : Bytes). record { number = 0; digest = hash y })) has) in
     let kept : In c (filter (λ c. not (is_listed before c)) (listings t)) = in-kept (λ (c : ListedChunk). not (is_listed before c)) c (listings t) there (ap not new) in
     in-left text (filter_map (λ c. text_of_chunk t c.number) (filter (λ c. not (is_listed before c)) (listings t))) (root.spell (root_of t) ∷ [])
     (filter_map-in (λ (c : ListedChunk). text_of_chunk t c.number) (filter (λ c. not (is_listed before c)) (listings t)) c text kept has)
@@ -193,10 +193,10 @@ module _ (texts : List Bytes) where
 
           fresh : is_listed (listings st.before) (record { number = 0; digest = hash text }) ≡ false → Result (table_handle st.table)
           fresh unlisted =
-              let i = new_in text (chunk_new (listings st.before) st.table text has unlisted) in
+              let i = new_in text (chunk_new (listings st.before) st.table text st.well_formed st.whole has unlisted) in
               let told : inode_told (of_texts texts) 0 (table_handle st.table) 1 ≡ Some (Some (principals_digest x.table)) =
-              new_told texts apart st.table st.well_formed zero root_in text has i 1 refl ∙ ap (λ (o : Option Digest). Some o) (st.users own) in
-              (new_chunk texts apart st.table st.well_formed zero root_in text has i, go (has_digest st.before 1 (principals_digest x.table)) refl told)
+              new_told texts apart st.table st.well_formed st.whole zero root_in text has i 1 refl ∙ ap (λ (o : Option Digest). Some o) (st.users own) in
+              (new_chunk texts apart st.table st.well_formed st.whole zero root_in text has i, go (has_digest st.before 1 (principals_digest x.table)) refl told)
             where
               go : (b : Bool) → has_digest st.before 1 (principals_digest x.table) ≡ b → inode_told (of_texts texts) 0 (table_handle st.table) 1 ≡ Some (Some (principals_digest x.table))
                   → NamesSame (table_handle st.table) (handle_in_view x 0) ⊎ Names (table_handle st.table) (table.spell x.table)
@@ -215,12 +215,12 @@ module _ (texts : List Bytes) where
           known there =
               let (c, i, test) = any_in (λ (b : ListedChunk). (b.number == 0) && bytes_eq b.digest (hash text)) (listings st.before) there in
               let parts = and_parts (c.number == 0) (bytes_eq c.digest (hash text)) test in
-              let (before, had, hashed) = listed_text st.before c i (eqb-true c.number 0 parts.0) in
+              let (before, had, hashed) = listed_text st.before c st.opened.read.whole i (eqb-true c.number 0 parts.0) in
               let spelled = chunk_is texts (handle_in_view x 0) old st.before st.opened.read.is_table told_before before had in
               let same : hash (chunk.spell old.first) ≡ hash text = ap hash (sym spelled) ∙ hashed ∙ (bytes_eq-Decides c.digest (hash text)).0 parts.1 in (
-                old_chunk texts apart st.table st.well_formed zero root_in text has (handle_in_view x 0) old same,
+                old_chunk texts apart st.table st.well_formed st.whole zero root_in text has (handle_in_view x 0) old same,
                 inl (same_told (table_handle st.table) (handle_in_view x 0) (digest_in old.first.pairs 1)
-                    (old_told texts apart st.table st.well_formed zero root_in text has (handle_in_view x 0) old same 1 refl) (told_at texts (handle_in_view x 0) old 1 refl)),
+                    (old_told texts apart st.table st.well_formed st.whole zero root_in text has (handle_in_view x 0) old same 1 refl) (told_at texts (handle_in_view x 0) old 1 refl)),
               )
 
           either : (b : Bool) → is_listed (listings st.before) (record { number = 0; digest = hash text }) ≡ b → Result (table_handle st.table)
@@ -256,6 +256,9 @@ module _ (texts : List Bytes) where
             All-cons IsPair table_pair (root_pair ∷ []) (in_range_fits w16 1 4095 1 (omega arith) (omega arith) (omega arith), hash_fits (inode.spell (table_inode key)))
             (All-cons IsPair root_pair [] (in_range_fits w16 1 4095 2 (omega arith) (omega arith) (omega arith), hash_fits (inode.spell root_inode)) (All-nil IsPair));
         ascending = (refl, (refl, tt));
+        in_loaded = All-cons (λ p. loaded (first_table 0 key) p.i_number ≡ true) table_pair (root_pair ∷ []) refl (All-cons (λ p. loaded (first_table 0 key) p.i_number ≡ true) root_pair [] refl (All-nil (λ p. loaded (first_table 0 key) p.i_number ≡ true)));
+        of_unloaded = All-nil IsListed;
+        unloaded_ascend = tt;
       }
 
       first_in : (t : Bytes) → In t (first_table_texts key 0) → In t texts
@@ -272,10 +275,10 @@ module _ (texts : List Bytes) where
       root_first = first_in (root.spell (root_of (first_table 0 key))) (root_new [] (first_table 0 key))
 
       chunk_first : In some_first.0 texts
-      chunk_first = first_in some_first.0 (chunk_new [] (first_table 0 key) some_first.0 some_first.1 refl)
+      chunk_first = first_in some_first.0 (chunk_new [] (first_table 0 key) some_first.0 is_first refl some_first.1 refl)
 
       pub first_chunk : HasChunk texts (first_handle 0 key)
-      first_chunk = new_chunk texts apart (first_table 0 key) is_first refl root_first some_first.0 some_first.1 chunk_first
+      first_chunk = new_chunk texts apart (first_table 0 key) is_first refl refl root_first some_first.0 some_first.1 chunk_first
 
       one_block : blocks_of (table_text key) ≡ table_text key ∷ []
       one_block =
@@ -287,7 +290,7 @@ module _ (texts : List Bytes) where
 
       pub first_named : Names (first_handle 0 key) (table_text key)
       first_named =
-          file_named (first_handle 0 key) (table_text key) (omega (arith, size)) (new_told texts apart (first_table 0 key) is_first refl root_first some_first.0 some_first.1 chunk_first 1 refl)
+          file_named (first_handle 0 key) (table_text key) (omega (arith, size)) (new_told texts apart (first_table 0 key) is_first refl refl root_first some_first.0 some_first.1 chunk_first 1 refl)
           (λ t i. at_block t (subst (λ (ts : List Bytes). In t ts) one_block i)) text_in.1
         where
           at_block : (t : Bytes) → In t (table_text key ∷ []) → In t texts

@@ -1,8 +1,8 @@
 -- The chunks that a root lists, one after the other.
-use Rattle.std.proofs.Common.{◌≡◌, ℕ, zero, suc, ◌+◌, ◌<◌, Bool, true, false, List, [], ◌∷◌, ◌++◌, length, take, get_or, Option, Some, None, refl, sym, ap, subst, ◌∙◌, ◌⊎◌, inl, inr, arith, add-one, append_assoc}
+use Rattle.std.proofs.Common.{◌≡◌, ℕ, zero, suc, ◌+◌, ◌<◌, ◌≤◌, Bool, true, false, List, [], ◌∷◌, ◌++◌, length, take, drop, get_or, Option, Some, None, refl, sym, ap, subst, ◌∙◌, ◌⊎◌, inl, inr, arith, add-one, append_assoc}
 use Rattle.std.specs.Prelude.{◌==◌, IsSomeAnd, not, slice_index_or, if◌then◌else◌}
 use Rattle.std.proofs.Math.Seq.{take-suc}
-use Rattle.std.proofs.lemmas.List.{append-nil}
+use Rattle.std.proofs.lemmas.List.{append-nil, drop_more}
 use Rattle.std.specs.List.{All}
 use Rattle.std.specs.Option.{option_and_then, option_map, option_map_or}
 use Rattle.std.specs.Result.{result_ok}
@@ -13,7 +13,7 @@ use Rattle.std.proofs.lemmas.Cmp.{nat_cmp_total}
 use Rattle.std.proofs.lemmas.List.Elements.{All-append, All-cons, All-head, All-nil, All-tail, All-weaker}
 use Rattle.layout.specs.Format.{Format, whole, uint_in, raw}
 use Rattle.layout.specs.Hash.{hash}
-use Rattle.layout.specs.Ascending.{Ascends, row_at}
+use Rattle.layout.specs.Ascending.{Ascends, row_at, without_row}
 use Rattle.layout.specs.AscendingLaws.{Ordered, ascends_from_fits, HasOther, row_in_first, row_in_last}
 use Rattle.std.specs.Int.{w8}
 use Rattle.itable.specs.declared.chunk.Pair.{Pair}
@@ -21,6 +21,7 @@ use Rattle.itable.specs.declared.root.ListedChunk.{ListedChunk}
 use Rattle.itable.specs.Chunk.{Chunk, chunk, chunk_number}
 use Rattle.itable.specs.Root.{Root, root, chunk_row, number_of, chunk_at}
 use Rattle.itable.specs.ITable.{ITable, digest_at, digest_in, listings, handle_of}
+use Rattle.itable.proofs.LoadLaws.{IsOf, of_chunk}
 use Rattle.tree_parts.specs.Blocks.{Blocks, chunk_held, inode_told, root_at, told_by}
 use Rattle.tree_parts.specs.Spot.{takes, takes_chunk, takes_root, lacks}
 use Rattle.tree_parts.specs.declared.error.ApplyError.{ApplyError}
@@ -94,8 +95,24 @@ take_next cs k c inside at = rw add-one (take-suc cs k c inside ∙ ap (λ (x : 
 pub pairs_next : (blocks : Blocks) (cs : List ListedChunk) (k : ℕ) (c : ListedChunk) (x : Chunk) (old : List Pair) → k < length cs → c ≡ slice_index_or cs k c → chunk_held blocks c.digest ≡ Some x → pairs_over blocks (take k cs) ≡ Some old → pairs_over blocks (take (k + 1) cs) ≡ Some (old ++ x.pairs)
 pairs_next blocks cs k c x old inside at held is = ap (pairs_over blocks) (take_next cs k c inside at) ∙ pairs_last blocks (take k cs) c x old held is
 
-pub spelled : (blocks : Blocks) (handle : List ℕ) (r : Root) (t : ITable) → root_at blocks handle ≡ Some r → t.principal ≡ r.principal → pairs_over blocks r.chunks ≡ Some t.pairs → table_at blocks handle ≡ Some t
-spelled blocks handle r t held of pairs = rw (held, pairs) (ap (λ (p : ℕ). Some (record { principal = p; pairs = t.pairs })) (sym of))
+pub spelled : (blocks : Blocks) (handle : List ℕ) (r : Root) (t : ITable) → root_at blocks handle ≡ Some r → t.principal ≡ r.principal → t.unloaded ≡ [] → pairs_over blocks r.chunks ≡ Some t.pairs → table_at blocks handle ≡ Some t
+spelled blocks handle r t held of whole pairs =
+    rw (held, pairs) (ap (λ (p : ℕ). Some (record { principal = p; pairs = t.pairs; unloaded = [] })) (sym of) ∙ ap (λ (cs : List ListedChunk). Some (record { principal = t.principal; pairs = t.pairs; unloaded = cs })) (sym whole))
+
+-- ---- what is left to load
+
+-- the chunk that comes next
+left_first : (cs : List ListedChunk) (k : ℕ) (c : ListedChunk) → k < length cs → c ≡ slice_index_or cs k c → drop k cs ≡ c ∷ drop (k + 1) cs
+left_first cs k c inside at = drop_more cs k c inside ∙ ap (λ (x : ListedChunk). x ∷ drop (k + 1) cs) (sym at)
+
+same_number : (n : ℕ) → is_eq (nat_cmp n n) ≡ true
+same_number n = grind (arith, nat_tests)
+
+pub left_at : (cs : List ListedChunk) (k n : ℕ) (c : ListedChunk) → k < length cs → c ≡ slice_index_or cs k c → n ≡ c.number → row_at nat_cmp number_of (drop k cs) n ≡ Some (record { number = n; digest = c.digest })
+left_at cs k n c inside at is = rw (left_first cs k c inside at, is) (rw (same_number c.number) refl)
+
+pub left_next : (cs : List ListedChunk) (k n : ℕ) (c : ListedChunk) → k < length cs → c ≡ slice_index_or cs k c → n ≡ c.number → without_row nat_cmp number_of (drop k cs) n ≡ drop (k + 1) cs
+left_next cs k n c inside at is = rw (left_first cs k c inside at, is) (rw (same_number c.number) refl)
 
 -- ---- each chunk is taken
 
@@ -161,6 +178,28 @@ below_in b (x ∷ xs) up (suc k) d lt =
 -- those before a chunk have lesser numbers
 pub below : (r : Root) → root.Fits r → (k : ℕ) (d : ListedChunk) → k < length r.chunks → All (λ c. c.number < (get_or r.chunks k d).number) (take k r.chunks)
 below r fits k d lt = below_in None r.chunks (ascend r fits) k d lt
+
+-- the pairs so far are in chunks below the next one
+abbrev pub AreBelow : List ListedChunk → ℕ → List Pair → Type 0
+AreBelow cs k pairs = (d : ListedChunk) → k < length cs → All (λ p. chunk_number p.i_number < (get_or cs k d).number) pairs
+
+all_last : (P : ListedChunk → Type 0) (xs : List ListedChunk) (c : ListedChunk) → All P (xs ++ c ∷ []) → P c
+all_last P [] c all = All-head P c [] all
+all_last P (x ∷ xs) c all = all_last P xs c (All-tail P x (xs ++ c ∷ []) all)
+
+next_above : (r : Root) → root.Fits r → (k : ℕ) (c d : ListedChunk) → k < length r.chunks → c ≡ slice_index_or r.chunks k c → k + 1 < length r.chunks → c.number < (get_or r.chunks (k + 1) d).number
+next_above r fits k c d inside at more =
+    let all = subst (All (λ x. x.number < (get_or r.chunks (k + 1) d).number)) (take_next r.chunks k c inside at) (below r fits (k + 1) d more) in
+    all_last (λ x. x.number < (get_or r.chunks (k + 1) d).number) (take k r.chunks) c all
+
+pub below_next : (r : Root) → root.Fits r → (k : ℕ) (c : ListedChunk) (x : Chunk) (old : List Pair) → k < length r.chunks → c ≡ slice_index_or r.chunks k c → chunk.Fits x → x.number ≡ c.number → AreBelow r.chunks k old → AreBelow r.chunks (k + 1) (old ++ x.pairs)
+below_next r fits k c x old inside at chunk_fits number before = λ d more.
+    let next : ℕ = (get_or r.chunks (k + 1) d).number in
+    let above : c.number < next = next_above r fits k c d inside at more in
+    let here : All (λ p. chunk_number p.i_number < c.number) old = subst (λ (y : ListedChunk). All (λ p. chunk_number p.i_number < y.number) old) (sym at) (before c inside) in
+    All-append (λ p. chunk_number p.i_number < next) old x.pairs
+    (All-weaker (λ p. chunk_number p.i_number < c.number) (λ p. chunk_number p.i_number < next) (λ p lt. omega (arith, lt, above)) old here)
+    (All-weaker (IsOf x.number) (λ p. chunk_number p.i_number < next) (λ p is. let same = is.1 in omega (arith, same, number, above)) x.pairs (of_chunk x chunk_fits).0)
 
 itself : (a : ℕ) → is_eq (nat_cmp a a) ≡ true
 itself a = grind (arith, nat_tests)

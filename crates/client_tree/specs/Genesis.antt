@@ -37,7 +37,7 @@ first_pairs key = record { i_number = 1; digest = inode_digest (table_inode key)
 
 -- the i-table of a principal, where user 0 has this key
 abbrev pub first_table : Principal → Key → ITable
-first_table p key = record { principal = p; pairs = if p == 0 then first_pairs key else [] }
+first_table p key = record { principal = p; pairs = if p == 0 then first_pairs key else []; unloaded = [] }
 
 -- its handle
 abbrev pub first_handle : Principal → Key → Handle

@@ -3,7 +3,7 @@
 use Rattle.std.specs.Prelude.{◌≡◌, false, List, [], ◌∷◌, ◌++◌, Option, Some, IsSomeAnd}
 use Rattle.std.specs.Option.{option_and_then, option_map}
 use Rattle.itable.specs.Root.{Root, chunk_at}
-use Rattle.itable.specs.ITable.{ITable, IsTable, handle_of}
+use Rattle.itable.specs.ITable.{ITable, IsTable, IsWhole, handle_of}
 use Rattle.itable.specs.declared.chunk.Pair.{Pair}
 use Rattle.itable.specs.declared.root.ListedChunk.{ListedChunk}
 use Rattle.layout.specs.Types.{Digest, Handle, Principal}
@@ -20,7 +20,7 @@ pairs_over blocks (c ∷ cs) = option_and_then (λ x. option_map (λ rest. x.pai
 
 -- the i-table of a root, if its chunks are held
 abbrev pub table_over : Blocks → Root → Option ITable
-table_over blocks r = option_map (λ pairs. record { principal = r.principal; pairs = pairs })
+table_over blocks r = option_map (λ pairs. record { principal = r.principal; pairs = pairs; unloaded = [] })
     (pairs_over blocks r.chunks)
 
 -- the i-table of a handle, if its root and its chunks are held
@@ -43,6 +43,7 @@ IsOfTable blocks p handle digest other = ⊥
 pub record IsRead (blocks : Blocks) (p : Principal) (handle : Handle) (t : ITable) : Type 0 where
   pub spelled : table_at blocks handle ≡ Some t
   pub is_table : IsTable t
+  pub whole : IsWhole t
   pub principal : t.principal ≡ p
   pub named : handle_of t ≡ handle
   pub taken : (digest : Digest) (s : Spot) → IsOfTable blocks p handle digest s → lacks blocks digest s ≡ false

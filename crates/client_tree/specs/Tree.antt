@@ -8,7 +8,7 @@ use Rattle.layout.specs.Hash.{hash}
 use Rattle.layout.specs.Types.{Bytes, Digest, Handle, INumber, Principal}
 use Rattle.itable.specs.File.{blocks_of, inode_of}
 use Rattle.itable.specs.Inode.{inode}
-use Rattle.itable.specs.ITable.{ITable, IsTable, digest_at, handle_of as table_handle, listings, new_texts}
+use Rattle.itable.specs.ITable.{ITable, IsTable, IsWhole, digest_at, handle_of as table_handle, listings, new_texts}
 use Rattle.directory.specs.Directory.{Entry}
 use Rattle.principals.specs.Table.{Table}
 use Rattle.principals.specs.TableText.{table as table_format}
@@ -59,6 +59,7 @@ pub record IsStored (blocks : Blocks) (x : View) (s : Stored) : Type 0 where
   -- the i-table then has the digests of what stands there
   pub table : ITable
   pub well_formed : IsTable table
+  pub whole : IsWhole table
   pub principal : table.principal ≡ s.principal
   pub digests : (i : INumber) → is_table s.principal i ≡ false
       → digest_at table i ≡ option_map slot_digest (slot_at part i)

@@ -77,7 +77,7 @@ pub fn root_digest<A: Allocator + Copy>(alloc: A) -> Result<Digest, Memory>
 
 /// What user 0 has: the table and the root directory.
 fn superusers_table<A: Allocator + Copy>(alloc: A, key: &Key) -> Result<ITable<A>, Memory>
-    ensures { IfOk result (λ table. table ≡ record { principal = 0; pairs = first_pairs key.now }) }
+    ensures { IfOk result (λ table. table ≡ record { principal = 0; pairs = first_pairs key.now; unloaded = [] }) }
 {
     let table_digest = digest(&table_inode_text(alloc, key)?);
     let root_digest = root_digest(alloc)?;

@@ -1,7 +1,7 @@
 //! A principal's part of the tree of a view, opened.
 
 ghost use Rattle.std.specs.Prelude.{◌≡◌, ◌++◌, ◌∷◌, [], ℕ, List, Some, IfOk, IfErr, OnOk, filter};
-ghost use Rattle.itable.specs.ITable.{ITable as ITableModel, digest_at};
+ghost use Rattle.itable.specs.ITable.{ITable as ITableModel, IsWhole, digest_at};
 ghost use Rattle.principals.specs.Table.{Table as Principals};
 ghost use Rattle.update_cert.specs.World.{Tree};
 ghost use Rattle.update_cert.specs.Reading.{after_read, void_of_read};
@@ -113,6 +113,7 @@ impl<'a, A: Allocator + Copy> View<'a, A> {
     ) -> Result<Earlier<A>, ApplyError>
         ensures read { IfOk result (λ earlier. IsRead (B.held blocks.now) principal (handle_of self.now principal)
             earlier.before) }
+        ensures whole { IfOk result (λ earlier. IsWhole earlier.before) }
         ensures told { IfOk result (λ earlier. (i : ℕ)
             → inode_told (B.held blocks.now) principal (handle_of self.now principal) i
             ≡ Some (digest_at earlier.before i)) }
@@ -142,6 +143,7 @@ impl<'a, A: Allocator + Copy> View<'a, A> {
     ) -> Result<Opened<A>, ApplyError>
         ensures opened { IfOk result (λ opened. IsOpened (B.held blocks.now) self.now principal opened.before
             opened.part) }
+        ensures whole { IfOk result (λ opened. IsWhole opened.before) }
         ensures voids { ForEachReading (B.held blocks.now) (λ reads.
             (users : Principals) → IfOk result (λ opened. opened.voids
             ≡ void_of_read reads (actor_of self.now.table self.now.own) principal self.now.own.cert.changes

@@ -7,7 +7,7 @@ ghost use Rattle.itable.specs.Root.{root as root_format};
 ghost use Rattle.tree_parts.specs.Spot.{lacks};
 ghost use Rattle.tree_parts.specs.declared.error.ApplyError.TheVariants as error;
 ghost use Rattle.tree_parts.specs.declared.spot.Spot.TheVariants as spots;
-ghost use Rattle.itable.specs.ITable.{digest_at};
+ghost use Rattle.itable.specs.ITable.{IsWhole, digest_at};
 ghost use Rattle.tree_parts.specs.Blocks.{chunk_held, inode_told, root_at};
 ghost use Rattle.tree_parts.specs.Asked.{Lacks};
 ghost use Rattle.client_tree.specs.Tables.{IsOfTable, IsRead};
@@ -46,6 +46,7 @@ fn chunk_of<A: Allocator + Copy, B: Blocks>(
 ) -> Result<Chunk<A>, ApplyError>
     ensures found { IfOk result (λ chunk. chunk_held (B.held blocks.now) listed.digest ≡ Some chunk) }
     ensures number { IfOk result (λ chunk. chunk.number ≡ listed.number) }
+    ensures fits { IfOk result chunk_format.Fits }
     ensures hashed { IfOk result (λ chunk. hash (chunk_format.spell chunk) ≡ listed.digest) }
     ensures taken { OnOk result (lacks (B.held blocks.now) listed.digest (spots.Chunk principal listed.number)
         ≡ false) }
@@ -69,6 +70,7 @@ pub fn read_table<A: Allocator + Copy, B: Blocks>(
     handle: Digest,
 ) -> Result<ITable<A>, ApplyError>
     ensures read { IfOk result (IsRead (B.held blocks.now) principal handle) }
+    ensures whole { IfOk result IsWhole }
     // The blocks tell each digest of it.
     ensures told { IfOk result (λ t. (i : ℕ)
         → inode_told (B.held blocks.now) principal handle i ≡ Some (digest_at t i)) }
@@ -76,8 +78,9 @@ pub fn read_table<A: Allocator + Copy, B: Blocks>(
     ensures missing { IfErr result (Lacks (B.held blocks.now) (IsOfTable (B.held blocks.now) principal handle)) }
 {
     let root = root_of(alloc, blocks, principal, handle)?;
-    let mut table = ITable::empty(alloc, principal);
-    for listed in root.chunks() {
+    let chunks = Vec::from_slice(alloc, root.chunks())?;
+    let mut table = ITable::of_root(alloc, root);
+    for listed in &chunks {
         let chunk = chunk_of(alloc, blocks, principal, *listed)?;
         table.load(&chunk, listed.digest)?;
     }

@@ -4,7 +4,7 @@ ghost use Rattle.std.specs.Prelude.{◌≡◌, ◌==◌, ◌++◌, ℕ, Some, fa
 ghost use Rattle.std.specs.Vec.{vec_items};
 ghost use Rattle.itable.specs.File.{blocks_of, inode_of};
 ghost use Rattle.itable.specs.Inode.{inode};
-ghost use Rattle.itable.specs.ITable.{IsTable, digest_at, handle_of as table_handle};
+ghost use Rattle.itable.specs.ITable.{IsTable, IsWhole, digest_at, handle_of as table_handle};
 ghost use Rattle.principals.specs.Table.{Table as Principals};
 ghost use Rattle.principals.specs.TableText.{table as table_format};
 ghost use Rattle.update_cert.specs.World.{is_table};
@@ -142,11 +142,14 @@ fn with_principals<A: Allocator + Copy>(
     laid: LaidPart<A>,
     users: &Table<A>,
 ) -> Result<LaidPart<A>, Memory>
+    requires before { IsWhole before.now }
+    requires laid { IsWhole laid.table }
     ensures digests { IfOk result (λ new. (i : ℕ)
         → digest_at new.table i ≡ (if 1 == i then Some (principals_digest users.now) else digest_at laid.table i)) }
     ensures texts { IfOk result (λ new. map vec_items new.texts.items
         ≡ map vec_items laid.texts.items ++ principals_texts before.now 0 users.now) }
     ensures principal { IfOk result (λ new. new.table.principal ≡ laid.table.principal) }
+    ensures whole { IfOk result (λ new. IsWhole new.table) }
 {
     let LaidPart {
         mut table,
@@ -170,12 +173,15 @@ fn with_table<A: Allocator + Copy>(
     laid: LaidPart<A>,
     users: &Table<A>,
 ) -> Result<LaidPart<A>, Memory>
+    requires before { IsWhole before.now }
+    requires laid { IsWhole laid.table }
     ensures digests { IfOk result (λ new. (i : ℕ) → is_table principal i ≡ false
         → digest_at new.table i ≡ digest_at laid.table i) }
     ensures users { IfOk result (λ new. principal ≡ 0 → digest_at new.table 1 ≡ Some (principals_digest users.now)) }
     ensures texts { IfOk result (λ new. map vec_items new.texts.items
         ≡ map vec_items laid.texts.items ++ principals_texts before.now principal users.now) }
     ensures principal { IfOk result (λ new. new.table.principal ≡ laid.table.principal) }
+    ensures whole { IfOk result (λ new. IsWhole new.table) }
 {
     if principal.get() == 0 {
         with_principals(alloc, before, laid, users)
@@ -191,6 +197,7 @@ fn store_part<A: Allocator + Copy>(
     opened: Opened<A>,
     users: &Table<A>,
 ) -> Result<Written<A>, Memory>
+    requires { IsWhole opened.before }
     ensures stored { (blocks : Held) (x : ViewModel) → x.table ≡ users.now
         → IsOpened blocks x principal opened.before opened.part
         → IfOk result (λ w. IsStored blocks x w.stored) }

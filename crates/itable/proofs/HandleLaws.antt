@@ -1,5 +1,5 @@
 -- A table is known by its handle.
-use Rattle.std.proofs.Common.{◌≡◌, ℕ, ◌<◌, ◌≤◌, false, List, [], ◌∷◌, Option, Some, None, Result, Ok, refl, sym, ap, ◌∙◌, inl, inr, arith}
+use Rattle.std.proofs.Common.{◌≡◌, ℕ, ◌<◌, ◌≤◌, true, false, List, [], ◌∷◌, Option, Some, None, Result, Ok, refl, sym, ap, ◌∙◌, inl, inr, arith}
 use Rattle.std.specs.Prelude.{IfSome}
 use Rattle.std.specs.List.{All}
 use Rattle.std.specs.Int.{w16}
@@ -17,30 +17,24 @@ use Rattle.itable.specs.declared.chunk.Pair.{Pair}
 use Rattle.itable.specs.declared.root.ListedChunk.{ListedChunk}
 use Rattle.itable.specs.Chunk.{Chunk, chunk, chunk_number, i_number_of}
 use Rattle.itable.specs.Root.{Root, root, number_of}
-use Rattle.itable.specs.ITable.{ITable, IsPair, IsTable, digest_at, chunk_of, text_of_chunk, listing, root_of, handle_of, KeepApart}
+use Rattle.itable.specs.ITable.{ITable, IsPair, IsTable, IsWhole, loaded, digest_at, chunk_of, text_of_chunk, listing, root_of, handle_of, KeepApart}
 use Rattle.itable.proofs.ChunkLaws.{chunk_reads, no_text, in_chunk}
-use Rattle.itable.proofs.RootLaws.{root_reads, lists}
-use Rattle.itable.proofs.TableLaws.{same_pairs}
+use Rattle.itable.proofs.ListedLaws.{some_is, loaded_at, whole_loaded}
+use Rattle.itable.proofs.RootLaws.{root_reads, lists, listed_as, loaded_listed}
+use Rattle.itable.proofs.TableLaws.{same_table}
 
 read_is : {A : Type 0} {x y : A} (r : Result A ReadError) → r ≡ Ok x → r ≡ Ok y → x ≡ y
 read_is r first second = cc
-
-some_is : {A : Type 0} {x y : A} → Some x ≡ Some y → x ≡ y
-some_is e = cc
 
 -- ---- the roots
 
 same_root : (t u : ITable) → IsTable t → IsTable u → root.spell (root_of u) ≡ root.spell (root_of t) → root_of u ≡ root_of t
 same_root t u is one same = read_is (whole root (root.spell (root_of u))) (root_reads u one) (ap (whole root) same ∙ root_reads t is)
 
-same_listing : (t u : ITable) → root_of u ≡ root_of t → (n : ℕ) → n < 64 → listing u n ≡ listing t n
-same_listing t u same n small = sym (lists u n small) ∙ ap (λ (r : Root). row_at nat_cmp number_of r.chunks n) same ∙ lists t n small
+same_listing : (t u : ITable) → IsTable t → IsTable u → root_of u ≡ root_of t → (n : ℕ) → n < 64 → listing u n ≡ listing t n
+same_listing t u is one same n small = sym (lists u n one small) ∙ ap (λ (r : Root). row_at nat_cmp number_of r.chunks n) same ∙ lists t n is small
 
 -- ---- the chunks
-
--- a chunk's listing, by its text
-abbrev listed_as : ℕ → Option (List ℕ) → Option ListedChunk
-listed_as n text = option_map (λ (x : List ℕ). record { number = n; digest = hash x }) text
 
 same_text : (n : ℕ) (x y : Option (List ℕ)) → ((a b : List ℕ) → x ≡ Some a → y ≡ Some b → hash a ≡ hash b → a ≡ b) → listed_as n x ≡ listed_as n y → x ≡ y
 same_text n None None apart same = refl
@@ -71,17 +65,19 @@ none_beyond (p ∷ ps) i all far =
     let other : is_eq (nat_cmp p.i_number i) ≡ false = grind (arith, nat_tests, apart) in
     rw other (none_beyond ps i (All-tail IsPair p ps all) far)
 
-same_digest : (t u : ITable) → IsTable t → IsTable u → ((n : ℕ) → n < 64 → text_of_chunk u n ≡ text_of_chunk t n) → (i : ℕ) → digest_at u i ≡ digest_at t i
-same_digest t u is one same i =
+-- tables of one handle have the same digest where both are loaded
+pub same_digest : (t u : ITable) → IsTable t → IsTable u → KeepApart t u → handle_of u ≡ handle_of t → (i : ℕ) → loaded t i ≡ true → loaded u i ≡ true → digest_at u i ≡ digest_at t i
+same_digest t u is one apart same i here there =
+    let n = chunk_number i in
     elim (cases_lt i 4096) [
-      | inl near ↦ let small : chunk_number i < 64 = omega arith in same_in t u is one i small (text_of_chunk t (chunk_number i)) (same (chunk_number i) small) refl
+      | inl near ↦
+          let small : chunk_number i < 64 = omega arith in
+          let listed = sym (loaded_listed u n (loaded_at u i there)) ∙ same_listing t u is one (same_root t u is one (apart.roots same)) n small ∙ loaded_listed t n (loaded_at t i here) in
+          same_in t u is one i small (text_of_chunk t n) (same_text n (text_of_chunk u n) (text_of_chunk t n) (apart.chunks n) listed) refl
       | inr far ↦ ap (option_map (λ p. p.digest)) (none_beyond u.pairs i one.of_pairs far ∙ sym (none_beyond t.pairs i is.of_pairs far))
     ]
 
-pub known_by_handle : (t u : ITable) → IsTable t → IsTable u → KeepApart t u → handle_of u ≡ handle_of t → u ≡ t
-known_by_handle t u is one apart same =
-    let roots = same_root t u is one (apart.roots same) in
-    let texts : (n : ℕ) → n < 64 → text_of_chunk u n ≡ text_of_chunk t n = λ n small. same_text n (text_of_chunk u n) (text_of_chunk t n) (apart.chunks n) (same_listing t u roots n small) in
-    let pairs = same_pairs u t one is (same_digest t u is one texts) in
-    ap (λ (p : ℕ). record { principal = p; pairs = u.pairs }) (ap (λ (r : Root). r.principal) roots)
-    ∙ ap (λ (ps : List Pair). record { principal = t.principal; pairs = ps }) pairs
+pub known_by_handle : (t u : ITable) → IsTable t → IsTable u → IsWhole t → IsWhole u → KeepApart t u → handle_of u ≡ handle_of t → u ≡ t
+known_by_handle t u is one all every apart same =
+    same_table u t one is (ap (λ (r : Root). r.principal) (same_root t u is one (apart.roots same))) (every ∙ sym all)
+    (λ i. same_digest t u is one apart same i (whole_loaded t i all) (whole_loaded u i every))

@@ -10,7 +10,7 @@ use Rattle.layout.specs.Ranges.{principal as principals}
 use Rattle.layout.specs.Ascending.{with_row, without_row}
 use Rattle.itable.specs.declared.chunk.Pair.{Pair}
 use Rattle.itable.specs.Chunk.{chunk_number, i_number_of}
-use Rattle.itable.specs.ITable.{ITable, IsPair, IsTable, is_in, text_of_chunk}
+use Rattle.itable.specs.ITable.{ITable, IsPair, IsTable, loaded, is_in, text_of_chunk}
 use Rattle.itable.specs.Known.{IsKept}
 use Rattle.itable.proofs.Runs.{same_key}
 use Rattle.itable.proofs.TableLaws.{is_empty_table, is_table_with, is_table_without}
@@ -40,16 +40,17 @@ other_without : (n i : ℕ) (ps : List Pair) → chunk_number i ≢ n → filter
 other_without n i [] apart = refl
 other_without n i (p ∷ ps) apart = without_step n i p ps apart (other_without n i ps apart) (is_eq (nat_cmp p.i_number i)) refl
 
-text_by_pairs : (n p : ℕ) (ps qs : List Pair) → filter (is_in n) ps ≡ filter (is_in n) qs → text_of_chunk (record { principal = p; pairs = ps }) n ≡ text_of_chunk (record { principal = p; pairs = qs }) n
+-- a chunk's text is told by its pairs
+pub text_by_pairs : (u t : ITable) (n : ℕ) → filter (is_in n) u.pairs ≡ filter (is_in n) t.pairs → text_of_chunk u n ≡ text_of_chunk t n
 unfolding text_of_chunk
-text_by_pairs n p ps qs same = rw same refl
+text_by_pairs u t n same = rw same refl
 
 -- a pair in one chunk leaves the texts of the others
 pub text_with : (t : ITable) (x : Pair) (n : ℕ) → chunk_number x.i_number ≢ n → text_of_chunk (record t { pairs = with_row nat_cmp i_number_of t.pairs x }) n ≡ text_of_chunk t n
-text_with t x n apart = text_by_pairs n t.principal (with_row nat_cmp i_number_of t.pairs x) t.pairs (other_with n x t.pairs (ne_eqb (chunk_number x.i_number) n apart))
+text_with t x n apart = text_by_pairs (record t { pairs = with_row nat_cmp i_number_of t.pairs x }) t n (other_with n x t.pairs (ne_eqb (chunk_number x.i_number) n apart))
 
 pub text_without : (t : ITable) (i n : ℕ) → chunk_number i ≢ n → text_of_chunk (record t { pairs = without_row nat_cmp i_number_of t.pairs i }) n ≡ text_of_chunk t n
-text_without t i n apart = text_by_pairs n t.principal (without_row nat_cmp i_number_of t.pairs i) t.pairs (other_without n i t.pairs apart)
+text_without t i n apart = text_by_pairs (record t { pairs = without_row nat_cmp i_number_of t.pairs i }) t n (other_without n i t.pairs apart)
 
 -- ---- what is known
 
@@ -87,8 +88,8 @@ learned (k ∷ ks) (suc i) (suc n) new d h = elim (learned ks i n new d h) [ inl
 pub keeps_nothing : (t : ITable) → IsTable t → IsKept t (replicate 64 None)
 keeps_nothing t is = record { is_table = is; size = refl; known_is = λ n d h. absurd (none_known 64 n d h) }
 
-pub keeps_empty : (p : ℕ) → principals.Fits p → IsKept (record { principal = p; pairs = [] }) (replicate 64 None)
-keeps_empty p fits = keeps_nothing (record { principal = p; pairs = [] }) (is_empty_table p fits)
+pub keeps_empty : (p : ℕ) → principals.Fits p → IsKept (record { principal = p; pairs = []; unloaded = [] }) (replicate 64 None)
+keeps_empty p fits = keeps_nothing (record { principal = p; pairs = []; unloaded = [] }) (is_empty_table p fits)
 
 -- one chunk is forgotten, and the texts of the others stay
 pub keeps_others : (t u : ITable) (known : Known) (i : ℕ) → IsKept t known → IsTable u → ((n : ℕ) → i ≢ n → text_of_chunk u n ≡ text_of_chunk t n) → IsKept u (set known i None)
@@ -98,12 +99,12 @@ keeps_others t u known i kept is same = record {
   known_is = λ n d h. let rest = forgotten known i n d h in ap (option_map hash) (same n rest.0) ∙ kept.known_is n d rest.1;
 }
 
-pub keeps_set : {X E : Type 0} (r : Result X E) (t : ITable) (known : Known) (x : Pair) (pairs : List Pair) → IsPair x → IsKept t known
+pub keeps_set : {X E : Type 0} (r : Result X E) (t : ITable) (known : Known) (x : Pair) (pairs : List Pair) → IsPair x → loaded t x.i_number ≡ true → IsKept t known
     → OnOk r (pairs ≡ with_row nat_cmp i_number_of t.pairs x) → OnErr r (pairs ≡ t.pairs) → IsKept (record t { pairs = pairs }) (set known (chunk_number x.i_number) None)
-keeps_set (Ok y) t known x pairs pair kept ok err =
+keeps_set (Ok y) t known x pairs pair here kept ok err =
     subst (λ (ps : List Pair). IsKept (record t { pairs = ps }) (set known (chunk_number x.i_number) None)) (sym ok)
-    (keeps_others t (record t { pairs = with_row nat_cmp i_number_of t.pairs x }) known (chunk_number x.i_number) kept (is_table_with t x pair kept.is_table) (λ n apart. text_with t x n apart))
-keeps_set (Err e) t known x pairs pair kept ok err =
+    (keeps_others t (record t { pairs = with_row nat_cmp i_number_of t.pairs x }) known (chunk_number x.i_number) kept (is_table_with t x pair here kept.is_table) (λ n apart. text_with t x n apart))
+keeps_set (Err e) t known x pairs pair here kept ok err =
     subst (λ (ps : List Pair). IsKept (record t { pairs = ps }) (set known (chunk_number x.i_number) None)) (sym err)
     (keeps_others t t known (chunk_number x.i_number) kept kept.is_table (λ n apart. refl))
 

@@ -3,6 +3,7 @@ pub mod Blocks
 pub mod FileLaws
 pub mod Runs
 pub mod ChunkLaws
+pub mod ListedLaws
 pub mod RootLaws
 pub mod TableLaws
 pub mod KnownLaws

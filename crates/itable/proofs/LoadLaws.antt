@@ -1,33 +1,29 @@
--- A table takes in a chunk that stands after its own.
-use Rattle.std.proofs.Common.{◌≡◌, ◌≢◌, ℕ, zero, suc, ◌+◌, ◌<◌, ◌≤◌, Bool, true, false, List, [], ◌∷◌, ◌++◌, length, set, Option, Some, None, refl, sym, ap, subst, ◌∙◌, inl, inr, arith}
-use Rattle.std.specs.Prelude.{◌==◌, filter, filter_map, if◌then◌else◌}
-use Rattle.std.specs.Int.{w8, w16}
-use Rattle.std.specs.List.{All, range_with_len, cons_option}
-use Rattle.std.specs.Option.{option_map}
+-- A table takes in a chunk that wasn't loaded.
+use Rattle.std.proofs.Common.{◌≡◌, ◌≢◌, ℕ, zero, suc, ◌+◌, ◌<◌, ◌≤◌, Bool, true, false, cond, List, [], ◌∷◌, ◌++◌, length, take, drop, set, Option, Some, None, refl, sym, ap, subst, ◌∙◌, inl, inr, arith}
+use Rattle.std.specs.Prelude.{◌==◌, ◌||◌, not, filter, filter_map, if◌then◌else◌}
+use Rattle.std.specs.Int.{w8}
+use Rattle.std.specs.List.{All, AllWithin, range_with_len, cons_option}
+use Rattle.std.specs.Option.{is_some, option_or}
 use Rattle.std.specs.Ordering.{nat_cmp, is_eq}
-use Rattle.std.proofs.lemmas.Bool.{cases_eq, eqb-true, eq-eqb, ne_eqb}
-use Rattle.std.proofs.lemmas.Bool.Decides.{nat_tests}
+use Rattle.std.proofs.Math.Bool.{or-false}
+use Rattle.std.proofs.lemmas.Bool.{cases_eq, cases_lt, eqb-true, eq-eqb, ne_eqb}
 use Rattle.std.proofs.lemmas.Cmp.{nat_cmp_total}
-use Rattle.std.proofs.lemmas.List.{append-nil}
-use Rattle.std.proofs.lemmas.List.Elements.{All-append, All-cons, All-head, All-nil, All-tail, All-weaker, filter-append}
+use Rattle.std.proofs.lemmas.List.{append-nil, take-append-drop, length-take-le, length-drop, get_or-take, get_or-drop, take_all, drop_all}
+use Rattle.std.proofs.lemmas.List.Elements.{All-append, All-cons, All-drop, All-from_get_or, All-get_or, All-head, All-nil, All-tail, All-take, All-weaker, filter-append}
 use Rattle.layout.specs.Hash.{hash}
 use Rattle.layout.specs.Laws.{in_range}
-use Rattle.layout.specs.Ascending.{above, Ascends, row_at}
-use Rattle.layout.specs.AscendingLaws.{Ordered, ascends_from_fits, HasOther, row_in_first, row_in_last}
+use Rattle.layout.specs.Ascending.{above, Ascends, without_row}
+use Rattle.layout.specs.AscendingLaws.{Ordered, all_without_row, ascends_from_fits, ascends_without_row, row_at-without_row}
 use Rattle.itable.specs.declared.chunk.Pair.{Pair}
 use Rattle.itable.specs.declared.root.ListedChunk.{ListedChunk}
 use Rattle.itable.specs.Chunk.{Chunk, chunk, chunk_number, i_number_of, pair_row}
-use Rattle.itable.specs.Root.{number_of}
-use Rattle.itable.specs.ITable.{ITable, IsPair, IsTable, digest_at, digest_in, is_in, listing, listings, text_of_chunk}
+use Rattle.itable.specs.Root.{root, number_of}
+use Rattle.itable.specs.ITable.{ITable, IsPair, IsListed, IsTable, unloaded_at, loaded, digest_at, digest_in, is_in, listing, listings, text_of_chunk, handle_of}
 use Rattle.itable.specs.Known.{IsKept}
-use Rattle.itable.proofs.ChunkLaws.{no_text, found_first}
-use Rattle.itable.proofs.KnownLaws.{Known, keeps_others, keeps_more}
-use Rattle.itable.proofs.RootLaws.{lists}
-use Rattle.itable.proofs.Runs.{less_from_lt}
-
-pub listings_empty : (p : ℕ) → listings (record { principal = p; pairs = [] }) ≡ []
-unfolding listings text_of_chunk
-listings_empty p = refl
+use Rattle.itable.proofs.ChunkLaws.{in_chunk}
+use Rattle.itable.proofs.KnownLaws.{Known, keeps_others, keeps_more, text_by_pairs}
+use Rattle.itable.proofs.RootLaws.{listed_as, loaded_listed, unloaded_listed}
+use Rattle.itable.proofs.Runs.{less_from_lt, other_key, itself}
 
 -- the last of two settings stays
 set_twice : {X : Type 0} (xs : List X) (i : ℕ) (x y : X) → set (set xs i x) i y ≡ set xs i y
@@ -35,230 +31,276 @@ set_twice [] i x y = refl
 set_twice (z ∷ zs) zero x y = refl
 set_twice {X} (z ∷ zs) (suc i) x y = ap (λ (ws : List X). z ∷ ws) (set_twice zs i x y)
 
--- ---- a table's pairs stand in chunks that its root lists
-
-abbrev IsFound : List Pair → Pair → Type 0
-IsFound ps p = row_at nat_cmp i_number_of ps p.i_number ≡ None → ⊥
-
-found_following : (x : Pair) (ps : List Pair) (p : Pair) → IsFound ps p → (t : Bool) → is_eq (nat_cmp x.i_number p.i_number) ≡ t → IsFound (x ∷ ps) p
-found_following x ps p found true is none = let some : row_at nat_cmp i_number_of (x ∷ ps) p.i_number ≡ Some x = rw is refl in absurd cc
-found_following x ps p found false is none = let same : row_at nat_cmp i_number_of (x ∷ ps) p.i_number ≡ row_at nat_cmp i_number_of ps p.i_number = rw is refl in found (sym same ∙ none)
-
-all_found : (ps : List Pair) → All (IsFound ps) ps
-all_found [] = All-nil (IsFound [])
-all_found (x ∷ ps) =
-    All-cons (IsFound (x ∷ ps)) x ps (λ none. let some = found_first x ps in absurd cc)
-    (All-weaker (IsFound ps) (IsFound (x ∷ ps)) (λ p found. found_following x ps p found (is_eq (nat_cmp x.i_number p.i_number)) refl) ps (all_found ps))
-
-some_is : {A : Type 0} {x y : A} → Some x ≡ Some y → x ≡ y
-some_is e = cc
-
-row_step : (P : ListedChunk → Type 0) (x : ListedChunk) (xs : List ListedChunk) (n : ℕ) (c : ListedChunk) → P x → (row_at nat_cmp number_of xs n ≡ Some c → P c)
-    → (t : Bool) → is_eq (nat_cmp x.number n) ≡ t → row_at nat_cmp number_of (x ∷ xs) n ≡ Some c → P c
-row_step P x xs n c here there true is found =
-    let same : row_at nat_cmp number_of (x ∷ xs) n ≡ Some x = rw is refl in
-    subst P (some_is (sym same ∙ found)) here
-row_step P x xs n c here there false is found =
-    let same : row_at nat_cmp number_of (x ∷ xs) n ≡ row_at nat_cmp number_of xs n = rw is refl in
-    there (sym same ∙ found)
-
--- what holds of all holds of the one that is found
-row_holds : (P : ListedChunk → Type 0) (xs : List ListedChunk) (n : ℕ) (c : ListedChunk) → All P xs → row_at nat_cmp number_of xs n ≡ Some c → P c
-row_holds P [] n c all found = absurd cc
-row_holds P (x ∷ xs) n c all found =
-    row_step P x xs n c (All-head P x xs all) (row_holds P xs n c (All-tail P x xs all)) (is_eq (nat_cmp x.number n)) refl found
-
-abbrev IsBelow : ℕ → Pair → Type 0
-IsBelow n p = chunk_number p.i_number < n
-
--- a chunk that has a pair is listed
-listed_below : (t : ITable) (n m : ℕ) (o : Option (List ℕ)) → All (λ c. c.number < n) (listings t) → m < 64 → text_of_chunk t m ≡ o → (o ≡ None → ⊥) → m < n
-listed_below t n m None below small is some = absurd (some refl)
-listed_below t n m (Some text) below small is some =
-    let x : ListedChunk = record { number = m; digest = hash text } in
-    row_holds (λ c. c.number < n) (listings t) m x below (lists t m small ∙ ap (option_map (λ (y : List ℕ). record { number = m; digest = hash y })) is)
-
-digest_none : (o : Option Pair) → option_map (λ p. p.digest) o ≡ None → o ≡ None
-digest_none None e = refl
-digest_none (Some p) e = absurd cc
-
-pair_below : (t : ITable) (n : ℕ) → All (λ c. c.number < n) (listings t) → (p : Pair) → IsPair p → IsFound t.pairs p → IsBelow n p
-pair_below t n below p is found =
-    let range = in_range w16 1 4095 p.i_number is.0 in
-    listed_below t n (chunk_number p.i_number) (text_of_chunk t (chunk_number p.i_number)) below (omega (arith, range.1)) refl
-    (λ none. let bare = (no_text t (chunk_number p.i_number)).0 none p.i_number refl in found (digest_none (row_at nat_cmp i_number_of t.pairs p.i_number) bare))
-
-pairs_below_in : (t : ITable) (n : ℕ) → All (λ c. c.number < n) (listings t) → (ps : List Pair) → All IsPair ps → All (IsFound t.pairs) ps → All (IsBelow n) ps
-pairs_below_in t n below [] all found = All-nil (IsBelow n)
-pairs_below_in t n below (p ∷ ps) all found =
-    All-cons (IsBelow n) p ps (pair_below t n below p (All-head IsPair p ps all) (All-head (IsFound t.pairs) p ps found))
-    (pairs_below_in t n below ps (All-tail IsPair p ps all) (All-tail (IsFound t.pairs) p ps found))
-
-pairs_below : (t : ITable) (n : ℕ) → IsTable t → All (λ c. c.number < n) (listings t) → All (IsBelow n) t.pairs
-pairs_below t n is below = pairs_below_in t n below t.pairs is.of_pairs (all_found t.pairs)
-
 -- ---- the pairs of a chunk
 
-abbrev IsOf : ℕ → Pair → Type 0
+abbrev pub IsOf : ℕ → Pair → Type 0
 IsOf n p = IsPair p × (chunk_number p.i_number ≡ n)
 
 ordered : (n : ℕ) → Ordered nat_cmp i_number_of nat_cmp_total (pair_row n) (IsOf n)
 ordered n = record { splits = λ b p fits. (((fits.0.0.0, fits.1), eqb-true _ _ fits.0.0.1), fits.0.1); joins = λ b p each up. (((each.0.0, eq-eqb _ _ each.1), up), each.0.1) }
 
-of_chunk : (c : Chunk) → chunk.Fits c → All (IsOf c.number) c.pairs × Ascends nat_cmp i_number_of None c.pairs
+pub of_chunk : (c : Chunk) → chunk.Fits c → All (IsOf c.number) c.pairs × Ascends nat_cmp i_number_of None c.pairs
 of_chunk c fits = ascends_from_fits nat_cmp i_number_of nat_cmp_total (pair_row c.number) (IsOf c.number) (ordered c.number) None c.pairs fits.1.1.1
 
 some_pairs : (c : Chunk) → chunk.Fits c → length c.pairs ≢ 0
 some_pairs c fits none = let range = in_range w8 1 64 (length c.pairs) fits.1.0 in omega (arith, range.0)
 
--- ---- both lists
+-- ---- pairs of lower chunks, of a chunk, and of higher ones
+
+abbrev IsBelow : ℕ → Pair → Type 0
+IsBelow n p = chunk_number p.i_number < n
+
+abbrev IsFrom : ℕ → Pair → Type 0
+IsFrom n p = n ≤ chunk_number p.i_number
+
+abbrev IsApart : ℕ → Pair → Type 0
+IsApart n p = chunk_number p.i_number ≢ n
 
 -- nothing stands before, or a pair of a lower chunk
 abbrev IsBefore : ℕ → Option Pair → Type 0
 IsBefore n None = Unit {0}
 IsBefore n (Some p) = IsBelow n p
 
-above_first : (n : ℕ) (b : Option Pair) (y : Pair) → IsBefore n b → chunk_number y.i_number ≡ n → above nat_cmp i_number_of b y.i_number ≡ true
-above_first n None y before is = refl
-above_first n (Some p) y before is = less_from_lt p.i_number y.i_number (omega arith)
+above_first : (n : ℕ) (b : Option Pair) (y : Pair) → IsBefore n b → n ≤ chunk_number y.i_number → above nat_cmp i_number_of b y.i_number ≡ true
+above_first n None y before from = refl
+above_first n (Some p) y before from = less_from_lt p.i_number y.i_number (omega (arith, before, from))
 
-ascends_following : (n : ℕ) (b : Option Pair) (ys : List Pair) → IsBefore n b → All (IsOf n) ys → Ascends nat_cmp i_number_of None ys → Ascends nat_cmp i_number_of b ys
+-- pairs from a chunk on ascend after all that stands before it
+ascends_following : (n : ℕ) (b c : Option Pair) (ys : List Pair) → IsBefore n b → All (IsFrom n) ys → Ascends nat_cmp i_number_of c ys → Ascends nat_cmp i_number_of b ys
 unfolding Ascends
-ascends_following n b [] before all up = tt
-ascends_following n b (y ∷ ys) before all up = (above_first n b y before (All-head (IsOf n) y ys all).1, up.1)
+ascends_following n b c [] before all up = tt
+ascends_following n b c (y ∷ ys) before all up = (above_first n b y before (All-head (IsFrom n) y ys all), up.1)
 
-ascends_both : (n : ℕ) (b : Option Pair) (xs ys : List Pair) → IsBefore n b → All (IsBelow n) xs → Ascends nat_cmp i_number_of b xs → All (IsOf n) ys → Ascends nat_cmp i_number_of None ys → Ascends nat_cmp i_number_of b (xs ++ ys)
+-- so two lists ascend as one, of which the first stands in chunks before those of the second
+ascends_both : (n : ℕ) (b c : Option Pair) (xs ys : List Pair) → IsBefore n b → All (IsBelow n) xs → All (IsFrom n) ys → Ascends nat_cmp i_number_of b xs → Ascends nat_cmp i_number_of c ys → Ascends nat_cmp i_number_of b (xs ++ ys)
 unfolding Ascends
-ascends_both n b [] ys before below up all more = ascends_following n b ys before all more
-ascends_both n b (x ∷ xs) ys before below up all more =
-    (up.0, ascends_both n (Some x) xs ys (All-head (IsBelow n) x xs below) (All-tail (IsBelow n) x xs below) up.1 all more)
+ascends_both n b c [] ys before below from up more = ascends_following n b c ys before from more
+ascends_both n b c (x ∷ xs) ys before below from up more =
+    (up.0, ascends_both n (Some x) c xs ys (All-head (IsBelow n) x xs below) (All-tail (IsBelow n) x xs below) from up.1 more)
 
-none_in : (m : ℕ) (ps : List Pair) → All (λ p. is_in m p ≡ false) ps → filter (is_in m) ps ≡ []
+-- the parts of a list that ascends do
+ascends_first : (b : Option Pair) (xs ys : List Pair) → Ascends nat_cmp i_number_of b (xs ++ ys) → Ascends nat_cmp i_number_of b xs
+unfolding Ascends
+ascends_first b [] ys up = tt
+ascends_first b (x ∷ xs) ys up = (up.0, ascends_first (Some x) xs ys up.1)
+
+ascends_last : (b : Option Pair) (xs ys : List Pair) → Ascends nat_cmp i_number_of b (xs ++ ys) → (c : Option Pair) × Ascends nat_cmp i_number_of c ys
+unfolding Ascends
+ascends_last b [] ys up = (b, up)
+ascends_last b (x ∷ xs) ys up = ascends_last (Some x) xs ys up.1
+
+none_in : (m : ℕ) (ps : List Pair) → All (IsApart m) ps → filter (is_in m) ps ≡ []
 none_in m [] all = refl
-none_in m (p ∷ ps) all = rw (All-head (λ q. is_in m q ≡ false) p ps all) (none_in m ps (All-tail (λ q. is_in m q ≡ false) p ps all))
-
-all_in : (m : ℕ) (ps : List Pair) → All (λ p. is_in m p ≡ true) ps → filter (is_in m) ps ≡ ps
-all_in m [] all = refl
-all_in m (p ∷ ps) all = rw (All-head (λ q. is_in m q ≡ true) p ps all) (ap (λ (qs : List Pair). p ∷ qs) (all_in m ps (All-tail (λ q. is_in m q ≡ true) p ps all)))
-
-none_of_lower : (n m : ℕ) (xs : List Pair) → n ≤ m → All (IsBelow n) xs → filter (is_in m) xs ≡ []
-none_of_lower n m xs le below = none_in m xs (All-weaker (IsBelow n) (λ p. is_in m p ≡ false) (λ p lt. ne_eqb (chunk_number p.i_number) m (λ e. omega arith)) xs below)
-
-none_of_chunk : (n m : ℕ) (ys : List Pair) → n ≢ m → All (IsOf n) ys → filter (is_in m) ys ≡ []
-none_of_chunk n m ys apart all = none_in m ys (All-weaker (IsOf n) (λ p. is_in m p ≡ false) (λ p is. ne_eqb (chunk_number p.i_number) m (λ e. apart (sym is.1 ∙ e))) ys all)
+none_in m (p ∷ ps) all =
+    rw (ne_eqb (chunk_number p.i_number) m (All-head (IsApart m) p ps all)) (none_in m ps (All-tail (IsApart m) p ps all))
 
 all_of_chunk : (n : ℕ) (ys : List Pair) → All (IsOf n) ys → filter (is_in n) ys ≡ ys
-all_of_chunk n ys all = all_in n ys (All-weaker (IsOf n) (λ p. is_in n p ≡ true) (λ p is. eq-eqb (chunk_number p.i_number) n is.1) ys all)
+all_of_chunk n [] all = refl
+all_of_chunk n (y ∷ ys) all =
+    rw (eq-eqb (chunk_number y.i_number) n (All-head (IsOf n) y ys all).1) (ap (λ (zs : List Pair). y ∷ zs) (all_of_chunk n ys (All-tail (IsOf n) y ys all)))
 
-cons_front : (o : Option ListedChunk) (x : ListedChunk) (xs ys : List ListedChunk) → xs ≡ ys ++ x ∷ [] → cons_option o xs ≡ cons_option o ys ++ x ∷ []
-cons_front None x xs ys e = e
-cons_front (Some y) x xs ys e = ap (λ (zs : List ListedChunk). y ∷ zs) e
+-- ---- what is loaded
 
--- ---- the row of an i-number in both lists
+-- an i-number that is loaded is in no chunk that isn't
+apart_from : (t : ITable) (n : ℕ) (x : ListedChunk) → unloaded_at t n ≡ Some x → (i : ℕ) → loaded t i ≡ true → chunk_number i ≢ n
+apart_from t n x at i is e =
+    let clash : false ≡ true = sym (ap (λ (o : Option ListedChunk). not (is_some o)) (ap (unloaded_at t) e ∙ at)) ∙ is in
+    absurd cc
 
-other_number : (a b : ℕ) → a ≢ b → is_eq (nat_cmp a b) ≡ false
-other_number a b apart = grind (arith, nat_tests)
+same_listed : (f g : ℕ → Option ListedChunk) → ((m : ℕ) → f m ≡ g m) → (ms : List ℕ) → filter_map f ms ≡ filter_map g ms
+same_listed f g same [] = refl
+same_listed f g same (m ∷ ms) = rw (same m) (ap (λ (xs : List ListedChunk). cons_option (g m) xs) (same_listed f g same ms))
 
-below_apart : (a i n : ℕ) → chunk_number a < n → chunk_number i ≡ n → is_eq (nat_cmp a i) ≡ false
-below_apart a i n lower same = other_number a i (λ e. let both : chunk_number a ≡ chunk_number i = ap chunk_number e in absurd (omega (arith, lower, same, both)))
+-- ---- the table with the chunk, whose pairs stand at this place
 
-chunk_apart : (a i n : ℕ) → chunk_number a ≡ n → (chunk_number i == n) ≡ false → is_eq (nat_cmp a i) ≡ false
-chunk_apart a i n of other = other_number a i (λ e. let clash = sym other ∙ eq-eqb (chunk_number i) n (ap chunk_number (sym e) ∙ of) in absurd cc)
+-- the pairs of lower chunks end at this place
+pub record Place (ps : List Pair) (n k : ℕ) : Type 0 where
+  pub inside : k ≤ length ps
+  pub below : AllWithin (λ p. chunk_number p.i_number < n) ps 0 k
+  pub from : AllWithin (λ p. n ≤ chunk_number p.i_number) ps k (length ps)
 
--- ---- the table with the chunk
+-- what a table is after a chunk was loaded in another one
+pub record IsLoadedIn (t u : ITable) (c : Chunk) : Type 0 where
+  pub loaded : (i : ℕ) → loaded u i ≡ (loaded t i || (chunk_number i == c.number))
+  pub digests : (i : ℕ) → digest_at u i ≡ (if chunk_number i == c.number then digest_in c.pairs i else digest_at t i)
+  pub last : All (λ p. chunk_number p.i_number < c.number) t.pairs → u.pairs ≡ t.pairs ++ c.pairs
+  pub listed : listings u ≡ listings t
+  pub handle : handle_of u ≡ handle_of t
 
-abbrev pub with_chunk : ITable → Chunk → ITable
-with_chunk t c = record t { pairs = t.pairs ++ c.pairs }
+abbrev pub entry : Chunk → ListedChunk
+entry c = record { number = c.number; digest = hash (chunk.spell c) }
 
-module _ (t : ITable) (c : Chunk) (is : IsTable t) (fits : chunk.Fits c) (below : All (λ x. x.number < c.number) (listings t)) where
-  lower : All (IsBelow c.number) t.pairs
-  lower = pairs_below t c.number is below
+abbrev pub with_chunk : ITable → Chunk → ℕ → ITable
+with_chunk t c k = record t { pairs = take k t.pairs ++ (c.pairs ++ drop k t.pairs); unloaded = without_row nat_cmp number_of t.unloaded c.number }
 
-  mine : All (IsOf c.number) c.pairs × Ascends nat_cmp i_number_of None c.pairs
+module _ (t : ITable) (c : Chunk) (k : ℕ) (is : IsTable t) (fits : chunk.Fits c) (at : unloaded_at t c.number ≡ Some (entry c)) (place : Place t.pairs c.number k) where
+  abbrev n : ℕ
+  n = c.number
+
+  abbrev u : ITable
+  u = with_chunk t c k
+
+  abbrev lows : List Pair
+  lows = take k t.pairs
+
+  abbrev highs : List Pair
+  highs = drop k t.pairs
+
+  both : lows ++ highs ≡ t.pairs
+  both = take-append-drop k t.pairs
+
+  mine : All (IsOf n) c.pairs × Ascends nat_cmp i_number_of None c.pairs
   mine = of_chunk c fits
 
-  pub is_table_loaded : IsTable (with_chunk t c)
-  is_table_loaded = record {
-    of_principal = is.of_principal;
-    of_pairs = All-append IsPair t.pairs c.pairs is.of_pairs (All-weaker (IsOf c.number) IsPair (λ p each. each.0) c.pairs mine.0);
-    ascending = ascends_both c.number None t.pairs c.pairs tt lower is.ascending mine.0 mine.1;
-  }
+  all_apart : All (IsApart n) t.pairs
+  all_apart = All-weaker (λ p. loaded t p.i_number ≡ true) (IsApart n) (λ p here. apart_from t n (entry c) at p.i_number here) t.pairs is.in_loaded
 
-  pairs_elsewhere : (m : ℕ) → c.number ≢ m → filter (is_in m) (t.pairs ++ c.pairs) ≡ filter (is_in m) t.pairs
+  low : All (IsBelow n) lows
+  low =
+      let none : Pair = record { i_number = 0; digest = [] } in
+      All-from_get_or (IsBelow n) lows none (λ i lt. let near : i < k = omega (arith, lt, length-take-le k t.pairs place.inside) in rw (get_or-take k t.pairs i none near) (place.below i none (omega arith) near))
+
+  all_above : (ps : List Pair) → All (IsFrom n) ps → All (IsApart n) ps → All (IsFrom (n + 1)) ps
+  all_above [] from_it apart = All-nil (IsFrom (n + 1))
+  all_above (p ∷ ps) from_it apart =
+      All-cons (IsFrom (n + 1)) p ps (omega (arith, All-head (IsFrom n) p ps from_it, All-head (IsApart n) p ps apart)) (all_above ps (All-tail (IsFrom n) p ps from_it) (All-tail (IsApart n) p ps apart))
+
+  high : All (IsFrom (n + 1)) highs
+  high =
+      let none : Pair = record { i_number = 0; digest = [] } in
+      let from_it = All-from_get_or (IsFrom n) highs none (λ i lt. rw (get_or-drop k t.pairs i none) (place.from (k + i) none (omega arith) (omega (arith, lt, length-drop k t.pairs, place.inside)))) in
+      all_above highs from_it (All-drop (IsApart n) k t.pairs all_apart)
+
+  -- ---- its pairs
+
+  pairs_elsewhere : (m : ℕ) → n ≢ m → filter (is_in m) u.pairs ≡ filter (is_in m) t.pairs
   pairs_elsewhere m apart =
-      filter-append (is_in m) t.pairs c.pairs
-      ∙ ap (λ (ps : List Pair). filter (is_in m) t.pairs ++ ps) (none_of_chunk c.number m c.pairs apart mine.0)
-      ∙ append-nil (filter (is_in m) t.pairs)
+      let none = none_in m c.pairs (All-weaker (IsOf n) (IsApart m) (λ p of e. apart (sym of.1 ∙ e)) c.pairs mine.0) in
+      filter-append (is_in m) lows (c.pairs ++ highs)
+      ∙ ap (λ (ps : List Pair). filter (is_in m) lows ++ ps) (filter-append (is_in m) c.pairs highs ∙ ap (λ (ps : List Pair). ps ++ filter (is_in m) highs) none)
+      ∙ sym (filter-append (is_in m) lows highs)
+      ∙ ap (filter (is_in m)) both
 
-  pairs_here : filter (is_in c.number) (t.pairs ++ c.pairs) ≡ c.pairs
+  pairs_here : filter (is_in n) u.pairs ≡ c.pairs
   pairs_here =
-      filter-append (is_in c.number) t.pairs c.pairs
-      ∙ ap (λ (ps : List Pair). ps ++ filter (is_in c.number) c.pairs) (none_of_lower c.number c.number t.pairs (omega arith) lower)
-      ∙ all_of_chunk c.number c.pairs mine.0
+      let none_low = none_in n lows (All-take (IsApart n) k t.pairs all_apart) in
+      let none_high = none_in n highs (All-drop (IsApart n) k t.pairs all_apart) in
+      filter-append (is_in n) lows (c.pairs ++ highs)
+      ∙ ap (λ (ps : List Pair). ps ++ filter (is_in n) (c.pairs ++ highs)) none_low
+      ∙ filter-append (is_in n) c.pairs highs
+      ∙ ap (λ (ps : List Pair). filter (is_in n) c.pairs ++ ps) none_high
+      ∙ append-nil (filter (is_in n) c.pairs)
+      ∙ all_of_chunk n c.pairs mine.0
 
-  pub text_elsewhere : (m : ℕ) → c.number ≢ m → text_of_chunk (with_chunk t c) m ≡ text_of_chunk t m
-  unfolding text_of_chunk
-  text_elsewhere m apart = rw (pairs_elsewhere m apart) refl
+  text_elsewhere : (m : ℕ) → n ≢ m → text_of_chunk u m ≡ text_of_chunk t m
+  text_elsewhere m apart = text_by_pairs u t m (pairs_elsewhere m apart)
 
-  pub text_here : text_of_chunk (with_chunk t c) c.number ≡ Some (chunk.spell c)
+  text_here : text_of_chunk u n ≡ Some (chunk.spell c)
   unfolding text_of_chunk
   text_here = rw pairs_here (rw (ne_eqb (length c.pairs) 0 (some_pairs c fits)) refl)
 
-  digests_step : (i : ℕ) (in_chunk : Bool) → (chunk_number i == c.number) ≡ in_chunk → digest_at (with_chunk t c) i ≡ (if in_chunk then digest_in c.pairs i else digest_at t i)
+  digests_step : (i : ℕ) (in_it : Bool) → (chunk_number i == n) ≡ in_it → digest_at u i ≡ (if in_it then digest_in c.pairs i else digest_at t i)
   digests_step i true here =
-      ap (option_map (λ p. p.digest))
-      (row_in_last nat_cmp i_number_of t.pairs c.pairs i (All-weaker (IsBelow c.number) (HasOther nat_cmp i_number_of i) (λ p below_it. below_apart p.i_number i c.number below_it (eqb-true (chunk_number i) c.number here)) t.pairs lower))
+      in_chunk u i ∙ ap (λ (m : ℕ). digest_in (filter (is_in m) u.pairs) i) (eqb-true (chunk_number i) n here) ∙ ap (λ (ps : List Pair). digest_in ps i) pairs_here
   digests_step i false other =
-      ap (option_map (λ p. p.digest))
-      (row_in_first nat_cmp i_number_of t.pairs c.pairs i (All-weaker (IsOf c.number) (HasOther nat_cmp i_number_of i) (λ p of. chunk_apart p.i_number i c.number of.1 other) c.pairs mine.0))
+      let apart : n ≢ chunk_number i = λ e. let clash = sym other ∙ eq-eqb (chunk_number i) n (sym e) in absurd cc in
+      in_chunk u i ∙ ap (λ (ps : List Pair). digest_in ps i) (pairs_elsewhere (chunk_number i) apart) ∙ sym (in_chunk t i)
 
-  pub digests_loaded : (i : ℕ) → digest_at (with_chunk t c) i ≡ (if chunk_number i == c.number then digest_in c.pairs i else digest_at t i)
-  digests_loaded i = digests_step i (chunk_number i == c.number) refl
+  digests_loaded : (i : ℕ) → digest_at u i ≡ (if chunk_number i == n then digest_in c.pairs i else digest_at t i)
+  digests_loaded i = digests_step i (chunk_number i == n) refl
 
-  none_from : (m : ℕ) → c.number ≤ m → text_of_chunk t m ≡ None
-  unfolding text_of_chunk
-  none_from m le = rw (none_of_lower c.number m t.pairs le lower) refl
+  -- where all others are lower they stand last
+  pairs_last : All (IsBelow n) t.pairs → u.pairs ≡ t.pairs ++ c.pairs
+  pairs_last lower =
+      let none : Pair = record { i_number = 0; digest = [] } in
+      let end : length t.pairs ≤ k = elim (cases_lt k (length t.pairs)) [
+        | inl lt ↦ absurd (omega (arith, place.from k none (omega arith) lt, All-get_or (IsBelow n) t.pairs k none lt lower))
+        | inr le ↦ le
+      ] in
+      ap (λ (ps : List Pair). ps ++ (c.pairs ++ highs)) (take_all k t.pairs end)
+      ∙ ap (λ (ps : List Pair). t.pairs ++ (c.pairs ++ ps)) (drop_all k t.pairs end)
+      ∙ ap (λ (ps : List Pair). t.pairs ++ ps) (append-nil c.pairs)
 
-  -- ---- what is listed
+  -- ---- what is loaded
 
-  abbrev entry : ListedChunk
-  entry = record { number = c.number; digest = hash (chunk.spell c) }
+  unloaded_is : (m : ℕ) → unloaded_at u m ≡ cond (is_eq (nat_cmp n m)) None (unloaded_at t m)
+  unloaded_is m = row_at-without_row nat_cmp number_of nat_cmp_total None t.unloaded n m is.unloaded_ascend
 
-  same_before : (m : ℕ) → m < c.number → listing (with_chunk t c) m ≡ listing t m
-  same_before m lt = ap (option_map (λ (y : List ℕ). record { number = m; digest = hash y })) (text_elsewhere m (λ e. omega arith))
+  unloaded_elsewhere : (m : ℕ) → n ≢ m → unloaded_at u m ≡ unloaded_at t m
+  unloaded_elsewhere m apart = unloaded_is m ∙ ap (λ (b : Bool). cond b None (unloaded_at t m)) (other_key n m apart)
 
-  none_before : (m : ℕ) → c.number ≤ m → listing t m ≡ None
-  none_before m le = ap (option_map (λ (y : List ℕ). record { number = m; digest = hash y })) (none_from m le)
+  unloaded_here : unloaded_at u n ≡ None
+  unloaded_here = unloaded_is n ∙ ap (λ (b : Bool). cond b None (unloaded_at t n)) (itself n)
 
-  entry_here : listing (with_chunk t c) c.number ≡ Some entry
-  entry_here = ap (option_map (λ (y : List ℕ). record { number = c.number; digest = hash y })) text_here
+  now_loaded : (i : ℕ) → chunk_number i ≡ n → loaded u i ≡ true
+  now_loaded i same = ap (λ (o : Option ListedChunk). not (is_some o)) (ap (unloaded_at u) same ∙ unloaded_here)
 
-  none_following : (m : ℕ) → c.number < m → listing (with_chunk t c) m ≡ None
-  none_following m lt = ap (option_map (λ (y : List ℕ). record { number = m; digest = hash y })) (text_elsewhere m (λ e. omega arith) ∙ none_from m (omega arith))
+  loaded_step : (i : ℕ) (in_it : Bool) → (chunk_number i == n) ≡ in_it → loaded u i ≡ (loaded t i || in_it)
+  loaded_step i true here =
+      let same = eqb-true (chunk_number i) n here in
+      let old : loaded t i ≡ false = ap (λ (o : Option ListedChunk). not (is_some o)) (ap (unloaded_at t) same ∙ at) in
+      now_loaded i same ∙ sym (ap (λ (b : Bool). b || true) old)
+  loaded_step i false other =
+      let apart : n ≢ chunk_number i = λ e. let clash = sym other ∙ eq-eqb (chunk_number i) n (sym e) in absurd cc in
+      ap (λ (o : Option ListedChunk). not (is_some o)) (unloaded_elsewhere (chunk_number i) apart) ∙ sym (or-false (loaded t i))
 
-  nothing_listed : (f : ℕ → Option ListedChunk) (a k : ℕ) → ((m : ℕ) → a ≤ m → f m ≡ None) → filter_map f (range_with_len a k) ≡ []
-  nothing_listed f a zero none = refl
-  nothing_listed f a (suc k) none = rw (none a (omega arith)) (nothing_listed f (a + 1) k (λ m le. none m (omega arith)))
+  loaded_is : (i : ℕ) → loaded u i ≡ (loaded t i || (chunk_number i == n))
+  loaded_is i = loaded_step i (chunk_number i == n) refl
 
-  one_more : (a k : ℕ) → a ≤ c.number → c.number < a + k → filter_map (listing (with_chunk t c)) (range_with_len a k) ≡ filter_map (listing t) (range_with_len a k) ++ entry ∷ []
-  one_more a zero low high = absurd (omega arith)
-  one_more a (suc k) low high =
-      elim (cases_eq a c.number) [
-        | inl e ↦ (
-            let first : listing (with_chunk t c) a ≡ Some entry = rw e entry_here in
-            let old : listing t a ≡ None = none_before a (omega arith) in
-            rw (first, old)
-            (ap (λ (xs : List ListedChunk). entry ∷ xs) (nothing_listed (listing (with_chunk t c)) (a + 1) k (λ m le. none_following m (omega arith)))
-            ∙ ap (λ (xs : List ListedChunk). xs ++ entry ∷ []) (sym (nothing_listed (listing t) (a + 1) k (λ m le. none_before m (omega arith))))))
-        | inr e ↦ rw (same_before a (omega arith)) (cons_front (listing t a) entry _ _ (one_more (a + 1) k (omega arith) (omega arith)))
+  still_loaded : (i : ℕ) → loaded t i ≡ true → loaded u i ≡ true
+  still_loaded i here = loaded_is i ∙ ap (λ (b : Bool). b || (chunk_number i == n)) here
+
+  -- ---- it is a table
+
+  ascending : Ascends nat_cmp i_number_of None u.pairs
+  ascending =
+      let up : Ascends nat_cmp i_number_of None (lows ++ highs) = subst (Ascends nat_cmp i_number_of None) (sym both) is.ascending in
+      let rest = ascends_last None lows highs up in
+      let below_rest = All-weaker (IsOf n) (IsBelow (n + 1)) (λ p of. omega (arith, of.1)) c.pairs mine.0 in
+      let run = ascends_both (n + 1) None rest.0 c.pairs highs tt below_rest high mine.1 rest.1 in
+      let from_it = All-append (IsFrom n) c.pairs highs (All-weaker (IsOf n) (IsFrom n) (λ p of. omega (arith, of.1)) c.pairs mine.0) (All-weaker (IsFrom (n + 1)) (IsFrom n) (λ p above. omega (arith, above)) highs high) in
+      ascends_both n None None lows (c.pairs ++ highs) tt low from_it (ascends_first None lows highs up) run
+
+  all_three : (P : Pair → Type 0) → All P t.pairs → All P c.pairs → All P u.pairs
+  all_three P old new = All-append P lows (c.pairs ++ highs) (All-take P k t.pairs old) (All-append P c.pairs highs new (All-drop P k t.pairs old))
+
+  is_table_loaded : IsTable u
+  is_table_loaded = record {
+    of_principal = is.of_principal;
+    of_pairs = all_three IsPair is.of_pairs (All-weaker (IsOf n) IsPair (λ p each. each.0) c.pairs mine.0);
+    ascending = ascending;
+    in_loaded = all_three (λ p. loaded u p.i_number ≡ true)
+        (All-weaker (λ p. loaded t p.i_number ≡ true) (λ p. loaded u p.i_number ≡ true) (λ p here. still_loaded p.i_number here) t.pairs is.in_loaded)
+        (All-weaker (IsOf n) (λ p. loaded u p.i_number ≡ true) (λ p of. now_loaded p.i_number of.1) c.pairs mine.0);
+    of_unloaded = all_without_row nat_cmp number_of nat_cmp_total IsListed t.unloaded n is.of_unloaded;
+    unloaded_ascend = ascends_without_row nat_cmp number_of nat_cmp_total None t.unloaded n is.unloaded_ascend;
+  }
+
+  pub keeps_loaded : (known : Known) → IsKept t known → IsKept u (set known n (Some (hash (chunk.spell c))))
+  keeps_loaded known kept =
+      subst (IsKept u) (set_twice known n None (Some (hash (chunk.spell c))))
+      (keeps_more u (set known n None) n (chunk.spell c) (keeps_others t u known n kept is_table_loaded text_elsewhere) text_here)
+
+  -- ---- its root
+
+  listing_same : (m : ℕ) → listing u m ≡ listing t m
+  listing_same m =
+      elim (cases_eq n m) [
+        | inl e ↦ subst (λ (k : ℕ). listing u k ≡ listing t k) e
+            (loaded_listed u n unloaded_here ∙ ap (listed_as n) text_here ∙ sym (unloaded_listed t n (entry c) at))
+        | inr apart ↦
+            ap (λ (o : Option ListedChunk). option_or o (listed_as m (text_of_chunk u m))) (unloaded_elsewhere m apart)
+            ∙ ap (λ (text : Option (List ℕ)). option_or (unloaded_at t m) (listed_as m text)) (text_elsewhere m apart)
       ]
 
-  pub listings_loaded : listings (with_chunk t c) ≡ listings t ++ entry ∷ []
+  listings_loaded : listings u ≡ listings t
   unfolding listings
-  listings_loaded = let range = in_range w8 0 63 c.number fits.0 in one_more 0 64 (omega arith) (omega (arith, range.1))
+  listings_loaded = same_listed (listing u) (listing t) listing_same (range_with_len 0 64)
 
-  pub keeps_loaded : (known : Known) → IsKept t known → IsKept (with_chunk t c) (set known c.number (Some (hash (chunk.spell c))))
-  keeps_loaded known kept =
-      subst (IsKept (with_chunk t c)) (set_twice known c.number None (Some (hash (chunk.spell c))))
-      (keeps_more (with_chunk t c) (set known c.number None) c.number (chunk.spell c)
-      (keeps_others t (with_chunk t c) known c.number kept is_table_loaded text_elsewhere) text_here)
+  handle_loaded : handle_of u ≡ handle_of t
+  handle_loaded = ap (λ (chunks : List ListedChunk). hash (root.spell (record { principal = t.principal; chunks = chunks }))) listings_loaded
+
+  -- ---- all of it
+
+  pub is_loaded_in : IsLoadedIn t u c
+  is_loaded_in = record { loaded = loaded_is; digests = digests_loaded; last = pairs_last; listed = listings_loaded; handle = handle_loaded }

@@ -1,96 +1,157 @@
 -- The laws of a table's root.
-use Rattle.std.proofs.Common.{◌≡◌, ℕ, zero, suc, ◌+◌, ◌<◌, ◌≤◌, true, false, List, [], ◌∷◌, ◌++◌, length, Option, Some, None, Ok, refl, sym, ap, ◌∙◌, inl, inr, arith}
+use Rattle.std.proofs.Common.{◌≡◌, ◌≢◌, ℕ, zero, suc, ◌+◌, ◌<◌, ◌≤◌, true, List, [], ◌∷◌, ◌++◌, length, Option, Some, None, Ok, refl, sym, ap, subst, ◌∙◌, inl, inr, arith}
 use Rattle.std.specs.Prelude.{filter_map}
 use Rattle.std.specs.List.{range_with_len, cons_option}
 use Rattle.std.proofs.lemmas.List.{append-nil}
 use Rattle.std.proofs.lemmas.List.Elements.{filter_map-append}
 use Rattle.std.specs.Int.{w8}
-use Rattle.std.specs.Option.{option_map}
+use Rattle.std.specs.Option.{option_map, option_or}
 use Rattle.std.specs.Ordering.{nat_cmp, is_eq}
-use Rattle.std.proofs.lemmas.Bool.{cases_eq}
-use Rattle.std.proofs.lemmas.Bool.Decides.{nat_tests}
-use Rattle.layout.specs.Format.{FitRows, after_row, whole}
-use Rattle.layout.specs.Laws.{in_range_fits, listed_fits, whole_again}
+use Rattle.std.proofs.lemmas.Bool.{cases_eq, cases_lt}
+use Rattle.std.proofs.lemmas.Cmp.{nat_cmp_total}
+use Rattle.layout.specs.Format.{FitRows, after_row, raw, whole}
+use Rattle.layout.specs.Laws.{listed_fits, whole_again}
 use Rattle.layout.specs.Hash.{hash}
 use Rattle.layout.specs.Ascending.{above, row_at}
+use Rattle.layout.specs.AscendingLaws.{ascends_from_fits, same_rows}
 use Rattle.itable.specs.declared.root.ListedChunk.{ListedChunk}
-use Rattle.itable.specs.Root.{root, chunk_row, number_of}
+use Rattle.itable.specs.Root.{Root, root, chunk_row, number_of}
 use Rattle.itable.specs.RootLaws.{lawful_root}
-use Rattle.itable.specs.ITable.{ITable, IsTable, listing, listings, root_of, text_of_chunk}
+use Rattle.itable.specs.ITable.{ITable, IsListed, IsTable, unloaded_at, listing, listings, root_of, handle_of, text_of_chunk}
 use Rattle.layout.specs.HashLaws.{hash_fits}
-use Rattle.itable.proofs.Runs.{less_from_lt}
+use Rattle.itable.proofs.ListedLaws.{some_is, row_holds, none_beyond, ordered, is_table_of}
+use Rattle.itable.proofs.Runs.{less_from_lt, other_key, itself}
 
--- chunks as a root lists them, for any texts of theirs
-abbrev listed_of : (ℕ → Option (List ℕ)) → ℕ → Option ListedChunk
-listed_of texts n = option_map (λ text. record { number = n; digest = hash text }) (texts n)
+-- chunks by their numbers, as a root may list them
+abbrev IsAtNumber : (ℕ → Option ListedChunk) → Type 0
+IsAtNumber f = (n : ℕ) (c : ListedChunk) → f n ≡ Some c → (raw 32).Fits c.digest × (c.number ≡ n)
 
-abbrev listed_from : (ℕ → Option (List ℕ)) → ℕ → ℕ → List ListedChunk
-listed_from texts a n = filter_map (listed_of texts) (range_with_len a n)
+module _ (f : ℕ → Option ListedChunk) where
+  abbrev listed_from : ℕ → ℕ → List ListedChunk
+  listed_from a n = filter_map f (range_with_len a n)
 
-rows_step : (texts : ℕ → Option (List ℕ)) (a n : ℕ) (b : Option ListedChunk) (o : Option (List ℕ)) → texts a ≡ o → a < 64 → above nat_cmp number_of b a ≡ true
-    → ((c : Option ListedChunk) → ((q : ℕ) → a + 1 ≤ q → above nat_cmp number_of c q ≡ true) → FitRows (after_row chunk_row) c (listed_from texts (a + 1) n)) → ((q : ℕ) → a ≤ q → above nat_cmp number_of b q ≡ true) → FitRows (after_row chunk_row) b (listed_from texts a (suc n))
-unfolding FitRows
-rows_step texts a n b None is small here later up = rw is (later b (λ q le. up q (omega arith)))
-rows_step texts a n b (Some text) is small here later up =
-    rw is (((in_range_fits w8 0 63 a (omega arith) (omega arith) (omega arith), here), hash_fits text), later (Some (record { number = a; digest = hash text })) (λ q le. less_from_lt a q (omega arith)))
+  few_step : (a n : ℕ) (o : Option ListedChunk) → f a ≡ o → length (listed_from (a + 1) n) ≤ n → length (listed_from a (suc n)) ≤ suc n
+  few_step a n None at later = rw at (omega arith)
+  few_step a n (Some c) at later = rw at (omega arith)
 
-rows_from : (texts : ℕ → Option (List ℕ)) (a n : ℕ) (b : Option ListedChunk) → a + n ≤ 64 → ((q : ℕ) → a ≤ q → above nat_cmp number_of b q ≡ true) → FitRows (after_row chunk_row) b (listed_from texts a n)
-unfolding FitRows
-rows_from texts a zero b few up = tt
-rows_from texts a (suc n) b few up = rows_step texts a n b (texts a) refl (omega arith) (up a (omega arith)) (λ c more. rows_from texts (a + 1) n c (omega arith) more) up
+  few_from : (a n : ℕ) → length (listed_from a n) ≤ n
+  few_from a zero = omega arith
+  few_from a (suc n) = few_step a n (f a) refl (few_from (a + 1) n)
 
-few_step : (texts : ℕ → Option (List ℕ)) (a n : ℕ) (o : Option (List ℕ)) → texts a ≡ o → length (listed_from texts (a + 1) n) ≤ n → length (listed_from texts a (suc n)) ≤ suc n
-few_step texts a n None is later = rw is (omega arith)
-few_step texts a n (Some text) is later = rw is (omega arith)
+module _ (f : ℕ → Option ListedChunk) (is : IsAtNumber f) where
+  rows_step : (a n : ℕ) (b o : Option ListedChunk) → f a ≡ o → a < 64 → above nat_cmp number_of b a ≡ true
+      → ((c : Option ListedChunk) → ((q : ℕ) → a + 1 ≤ q → above nat_cmp number_of c q ≡ true) → FitRows (after_row chunk_row) c (listed_from f (a + 1) n)) → ((q : ℕ) → a ≤ q → above nat_cmp number_of b q ≡ true) → FitRows (after_row chunk_row) b (listed_from f a (suc n))
+  unfolding FitRows
+  rows_step a n b None at small here later up = rw at (later b (λ q le. up q (omega arith)))
+  rows_step a n b (Some c) at small here later up =
+      let it = is a c at in
+      let same : c.number ≡ a = it.1 in
+      rw at (ordered.joins b c (omega (arith, same, small), it.0) (up c.number (omega (arith, same))), later (Some c) (λ q le. less_from_lt c.number q (omega (arith, same, le))))
 
-few_from : (texts : ℕ → Option (List ℕ)) (a n : ℕ) → length (listed_from texts a n) ≤ n
-few_from texts a zero = omega arith
-few_from texts a (suc n) = few_step texts a n (texts a) refl (few_from texts (a + 1) n)
+  rows_from : (a n : ℕ) (b : Option ListedChunk) → a + n ≤ 64 → ((q : ℕ) → a ≤ q → above nat_cmp number_of b q ≡ true) → FitRows (after_row chunk_row) b (listed_from f a n)
+  unfolding FitRows
+  rows_from a zero b few up = tt
+  rows_from a (suc n) b few up = rows_step a n b (f a) refl (omega arith) (up a (omega arith)) (λ c more. rows_from (a + 1) n c (omega arith) more) up
+
+  past_step : (a n q : ℕ) (o : Option ListedChunk) → f a ≡ o → a ≢ q → row_at nat_cmp number_of (listed_from f a (suc n)) q ≡ row_at nat_cmp number_of (listed_from f (a + 1) n) q
+  past_step a n q None at apart = rw at refl
+  past_step a n q (Some c) at apart = rw at (rw (other_key c.number q (λ e. apart (sym (is a c at).1 ∙ e))) refl)
+
+  none_from : (a n q : ℕ) → q < a → row_at nat_cmp number_of (listed_from f a n) q ≡ None
+  none_from a zero q lt = refl
+  none_from a (suc n) q lt = past_step a n q (f a) refl (λ e. omega arith) ∙ none_from (a + 1) n q (omega arith)
+
+  here_step : (a n : ℕ) (o : Option ListedChunk) → f a ≡ o → row_at nat_cmp number_of (listed_from f a (suc n)) a ≡ f a
+  here_step a n None at = rw at (none_from (a + 1) n a (omega arith))
+  here_step a n (Some c) at =
+      let key : is_eq (nat_cmp c.number a) ≡ true = rw (is a c at).1 (itself a) in
+      rw at (rw key refl)
+
+  found_from : (a n q : ℕ) → a ≤ q → q < a + n → row_at nat_cmp number_of (listed_from f a n) q ≡ f q
+  found_from a zero q low high = absurd (omega arith)
+  found_from a (suc n) q low high =
+      elim (cases_eq a q) [
+        | inl e ↦ rw (← e) (here_step a n (f a) refl)
+        | inr e ↦ past_step a n q (f a) refl e ∙ found_from (a + 1) n q (omega arith) (omega arith)
+      ]
+
+-- ---- the chunks of a table
+
+-- a chunk's listing, by its text
+abbrev pub listed_as : ℕ → Option (List ℕ) → Option ListedChunk
+listed_as n text = option_map (λ x. record { number = n; digest = hash x }) text
+
+listing_step : (t : ITable) (n : ℕ) (c : ListedChunk) (o : Option ListedChunk) (text : Option (List ℕ)) → IsTable t → unloaded_at t n ≡ o → option_or o (listed_as n text) ≡ Some c → (raw 32).Fits c.digest × (c.number ≡ n)
+listing_step t n c (Some x) text is at found =
+    let held = row_holds IsListed t.unloaded n c is.of_unloaded (at ∙ found) in
+    (held.0.1, held.1)
+listing_step t n c None (Some text) is at found =
+    subst (λ (x : ListedChunk). (raw 32).Fits x.digest × (x.number ≡ n)) (some_is found) (hash_fits text, refl)
+listing_step t n c None None is at found = absurd cc
+
+listing_is : (t : ITable) → IsTable t → IsAtNumber (listing t)
+listing_is t is n c found = listing_step t n c (unloaded_at t n) (text_of_chunk t n) is refl found
 
 pub few_listings : (t : ITable) → length (listings t) ≤ 64
 unfolding listings
-few_listings t = few_from (text_of_chunk t) 0 64
+few_listings t = few_from (listing t) 0 64
+
+rows_of : (t : ITable) → IsTable t → FitRows (after_row chunk_row) None (listings t)
+unfolding listings
+rows_of t is = rows_from (listing t) (listing_is t is) 0 64 None (omega arith) (λ q le. refl)
 
 root_fits : (t : ITable) → IsTable t → root.Fits (root_of t)
-unfolding listings
-root_fits t is = (is.of_principal, listed_fits w8 64 chunk_row (listings t) (omega arith) (few_listings t) (rows_from (text_of_chunk t) 0 64 None (omega arith) (λ q le. refl)))
+root_fits t is = (is.of_principal, listed_fits w8 64 chunk_row (listings t) (omega arith) (few_listings t) (rows_of t is))
 
 -- its text is read as it
 pub root_reads : (t : ITable) → IsTable t → whole root (root.spell (root_of t)) ≡ Ok (root_of t)
 root_reads t is = whole_again root lawful_root (root_of t) (root_fits t is)
 
--- ---- what a root says
-
-other_key : (a b : ℕ) → (a ≡ b → ⊥) → is_eq (nat_cmp a b) ≡ false
-other_key a b h = grind (arith, nat_tests)
-
-itself : (a : ℕ) → is_eq (nat_cmp a a) ≡ true
-itself a = grind (arith, nat_tests)
-
-past_step : (texts : ℕ → Option (List ℕ)) (a n q : ℕ) (o : Option (List ℕ)) → texts a ≡ o → (a ≡ q → ⊥) → row_at nat_cmp number_of (listed_from texts a (suc n)) q ≡ row_at nat_cmp number_of (listed_from texts (a + 1) n) q
-past_step texts a n q None is apart = rw is refl
-past_step texts a n q (Some text) is apart = rw is (rw (other_key a q apart) refl)
-
-none_from : (texts : ℕ → Option (List ℕ)) (a n q : ℕ) → q < a → row_at nat_cmp number_of (listed_from texts a n) q ≡ None
-none_from texts a zero q lt = refl
-none_from texts a (suc n) q lt = past_step texts a n q (texts a) refl (λ e. omega arith) ∙ none_from texts (a + 1) n q (omega arith)
-
-here_step : (texts : ℕ → Option (List ℕ)) (a n : ℕ) (o : Option (List ℕ)) → texts a ≡ o → row_at nat_cmp number_of (listed_from texts a (suc n)) a ≡ listed_of texts a
-here_step texts a n None is = rw is (none_from texts (a + 1) n a (omega arith))
-here_step texts a n (Some text) is = rw is (rw (itself a) refl)
-
-found_from : (texts : ℕ → Option (List ℕ)) (a n q : ℕ) → a ≤ q → q < a + n → row_at nat_cmp number_of (listed_from texts a n) q ≡ listed_of texts q
-found_from texts a zero q low high = absurd (omega arith)
-found_from texts a (suc n) q low high =
-    elim (cases_eq a q) [
-      | inl e ↦ rw (← e) (here_step texts a n (texts a) refl)
-      | inr e ↦ past_step texts a n q (texts a) refl e ∙ found_from texts (a + 1) n q (omega arith) (omega arith)
-    ]
-
--- it lists at a number the chunk of that number, if it has pairs
-pub lists : (t : ITable) (n : ℕ) → n < 64 → row_at nat_cmp number_of (root_of t).chunks n ≡ listing t n
+-- it lists at a number the chunk of that number, if it isn't loaded or has pairs
+pub lists : (t : ITable) (n : ℕ) → IsTable t → n < 64 → row_at nat_cmp number_of (root_of t).chunks n ≡ listing t n
 unfolding listings
-lists t n small = found_from (text_of_chunk t) 0 64 n (omega arith) (omega arith)
+lists t n is small = found_from (listing t) (listing_is t is) 0 64 n (omega arith) (omega arith)
+
+-- the root of an empty table lists none
+pub listings_empty : (p : ℕ) → listings (record { principal = p; pairs = []; unloaded = [] }) ≡ []
+unfolding listings text_of_chunk
+listings_empty p = refl
+
+-- ---- a table of which no chunk is loaded
+
+or_none : (o : Option ListedChunk) → option_or o None ≡ o
+or_none None = refl
+or_none (Some c) = refl
+
+module _ (p : ℕ) (chunks : List ListedChunk) (is : IsTable (record { principal = p; pairs = []; unloaded = chunks })) where
+  abbrev bare : ITable
+  bare = record { principal = p; pairs = []; unloaded = chunks }
+
+  listing_bare : (n : ℕ) → listing bare n ≡ row_at nat_cmp number_of chunks n
+  unfolding text_of_chunk
+  listing_bare n = or_none (row_at nat_cmp number_of chunks n)
+
+  -- its root lists them
+  pub listings_bare : listings bare ≡ chunks
+  listings_bare =
+      let rows = ascends_from_fits nat_cmp number_of nat_cmp_total chunk_row IsListed ordered None (listings bare) (rows_of bare is) in
+      same_rows nat_cmp number_of nat_cmp_total None None (listings bare) chunks rows.1 is.unloaded_ascend (λ n. elim (cases_lt n 64) [
+        | inl near ↦ lists bare n is near ∙ listing_bare n
+        | inr far ↦ none_beyond (listings bare) n rows.0 far ∙ sym (none_beyond chunks n is.of_unloaded far)
+      ])
+
+-- a chunk that isn't loaded, and one that is
+pub unloaded_listed : (t : ITable) (n : ℕ) (c : ListedChunk) → unloaded_at t n ≡ Some c → listing t n ≡ Some c
+unloaded_listed t n c at = ap (λ (o : Option ListedChunk). option_or o (listed_as n (text_of_chunk t n))) at
+
+pub loaded_listed : (t : ITable) (n : ℕ) → unloaded_at t n ≡ None → listing t n ≡ listed_as n (text_of_chunk t n)
+loaded_listed t n none = ap (λ (o : Option ListedChunk). option_or o (listed_as n (text_of_chunk t n))) none
+
+pub listings_of_root : (r : Root) → root.Fits r → listings (record { principal = r.principal; pairs = []; unloaded = r.chunks }) ≡ r.chunks
+listings_of_root r fits = listings_bare r.principal r.chunks (is_table_of r fits)
+
+pub handle_of_root : (r : Root) → root.Fits r → handle_of (record { principal = r.principal; pairs = []; unloaded = r.chunks }) ≡ hash (root.spell r)
+handle_of_root r fits = ap (λ (chunks : List ListedChunk). hash (root.spell (record { principal = r.principal; chunks = chunks }))) (listings_of_root r fits)
 
 -- ---- the chunks one after the other
 
@@ -120,13 +181,10 @@ pub all_listed : (t : ITable) (n : ℕ) (chunks : List ListedChunk) → n ≡ 64
 unfolding listings
 all_listed t n chunks end so_far = so_far ∙ ap (λ (k : ℕ). filter_map (listing t) (range_with_len 0 k)) end
 
-abbrev some_listed : ℕ → List ℕ → Option ListedChunk
-some_listed n d = Some (record { number = n; digest = d })
+known_step : (n : ℕ) (d : List ℕ) (text : Option (List ℕ)) → option_map hash text ≡ Some d → Some (record { number = n; digest = d }) ≡ listed_as n text
+known_step n d None h = absurd cc
+known_step n d (Some text) h = ap (λ (e : List ℕ). Some (record { number = n; digest = e })) (sym (some_is h))
 
-known_step : (texts : ℕ → Option (List ℕ)) (n : ℕ) (d : List ℕ) (o : Option (List ℕ)) → texts n ≡ o → option_map hash o ≡ Some d → some_listed n d ≡ listed_of texts n
-known_step texts n d None is h = absurd cc
-known_step texts n d (Some text) is h = let same : d ≡ hash text = cc in rw is (ap (some_listed n) same)
-
--- a chunk whose digest is known
-pub known_listed : (t : ITable) (n : ℕ) (d : List ℕ) → option_map hash (text_of_chunk t n) ≡ Some d → some_listed n d ≡ listing t n
-known_listed t n d h = known_step (text_of_chunk t) n d (text_of_chunk t n) refl h
+-- a loaded chunk whose digest is known
+pub known_listed : (t : ITable) (n : ℕ) (d : List ℕ) → unloaded_at t n ≡ None → option_map hash (text_of_chunk t n) ≡ Some d → Some (record { number = n; digest = d }) ≡ listing t n
+known_listed t n d none h = known_step n d (text_of_chunk t n) h ∙ sym (loaded_listed t n none)

@@ -1,5 +1,5 @@
 -- The pairs of a chunk stand next to each other.
-use Rattle.std.proofs.Common.{◌≡◌, ℕ, zero, suc, ◌+◌, ◌-◌, ◌<◌, ◌≤◌, Bool, true, false, List, [], ◌∷◌, length, get_or, take, drop, Option, Some, refl, sym, ap, inl, inr, arith}
+use Rattle.std.proofs.Common.{◌≡◌, ◌≢◌, ℕ, zero, suc, ◌+◌, ◌-◌, ◌<◌, ◌≤◌, Bool, true, false, List, [], ◌∷◌, length, get_or, take, drop, Option, Some, refl, sym, ap, inl, inr, arith}
 use Rattle.std.specs.Prelude.{filter}
 use Rattle.std.specs.List.{AllWithin}
 use Rattle.std.specs.List.Sorted.{IsNonDecreasingBy}
@@ -16,6 +16,12 @@ lt_from_less a b h = grind (arith, nat_tests)
 
 pub less_from_lt : (a b : ℕ) → a < b → is_lt (nat_cmp a b) ≡ true
 less_from_lt a b h = grind (arith, nat_tests)
+
+pub other_key : (a b : ℕ) → a ≢ b → is_eq (nat_cmp a b) ≡ false
+other_key a b apart = grind (arith, nat_tests)
+
+pub itself : (a : ℕ) → is_eq (nat_cmp a a) ≡ true
+itself a = grind (arith, nat_tests)
 
 pub same_key : (a b : ℕ) → is_eq (nat_cmp a b) ≡ true → a ≡ b
 same_key a b h = grind (arith, nat_tests)

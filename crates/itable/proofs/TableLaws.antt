@@ -11,18 +11,29 @@ use Rattle.layout.specs.Ranges.{principal as principals}
 use Rattle.layout.specs.Ascending.{Ascends, row_at, with_row, without_row}
 use Rattle.layout.specs.AscendingLaws.{row_at-with_row, row_at-without_row, ascends_with_row, ascends_without_row, all_with_row, all_without_row, same_rows}
 use Rattle.itable.specs.declared.chunk.Pair.{Pair}
+use Rattle.itable.specs.declared.root.ListedChunk.{ListedChunk}
 use Rattle.itable.specs.Chunk.{i_number_of}
-use Rattle.itable.specs.ITable.{ITable, IsPair, IsTable, digest_at, handle_of}
+use Rattle.itable.specs.ITable.{ITable, IsPair, IsListed, IsTable, loaded, digest_at}
 
-pub is_empty_table : (p : ℕ) → principals.Fits p → IsTable (record { principal = p; pairs = [] })
+pub is_empty_table : (p : ℕ) → principals.Fits p → IsTable (record { principal = p; pairs = []; unloaded = [] })
 unfolding Ascends
-is_empty_table p fits = record { of_principal = fits; of_pairs = All-nil IsPair; ascending = tt }
+is_empty_table p fits = record {
+  of_principal = fits;
+  of_pairs = All-nil IsPair;
+  ascending = tt;
+  in_loaded = All-nil (λ q. loaded (record { principal = p; pairs = []; unloaded = [] }) q.i_number ≡ true);
+  of_unloaded = All-nil IsListed;
+  unloaded_ascend = tt;
+}
 
-pub is_table_with : (t : ITable) (x : Pair) → IsPair x → IsTable t → IsTable (record t { pairs = with_row nat_cmp i_number_of t.pairs x })
-is_table_with t x pair is = record {
+pub is_table_with : (t : ITable) (x : Pair) → IsPair x → loaded t x.i_number ≡ true → IsTable t → IsTable (record t { pairs = with_row nat_cmp i_number_of t.pairs x })
+is_table_with t x pair here is = record {
   of_principal = is.of_principal;
   of_pairs = all_with_row nat_cmp i_number_of nat_cmp_total IsPair t.pairs x pair is.of_pairs;
   ascending = ascends_with_row nat_cmp i_number_of nat_cmp_total None t.pairs x refl is.ascending;
+  in_loaded = all_with_row nat_cmp i_number_of nat_cmp_total (λ p. loaded t p.i_number ≡ true) t.pairs x here is.in_loaded;
+  of_unloaded = is.of_unloaded;
+  unloaded_ascend = is.unloaded_ascend;
 }
 
 pub is_table_without : (t : ITable) (i : ℕ) → IsTable t → IsTable (record t { pairs = without_row nat_cmp i_number_of t.pairs i })
@@ -30,6 +41,9 @@ is_table_without t i is = record {
   of_principal = is.of_principal;
   of_pairs = all_without_row nat_cmp i_number_of nat_cmp_total IsPair t.pairs i is.of_pairs;
   ascending = ascends_without_row nat_cmp i_number_of nat_cmp_total None t.pairs i is.ascending;
+  in_loaded = all_without_row nat_cmp i_number_of nat_cmp_total (λ p. loaded t p.i_number ≡ true) t.pairs i is.in_loaded;
+  of_unloaded = is.of_unloaded;
+  unloaded_ascend = is.unloaded_ascend;
 }
 
 key_test : (a b : ℕ) → is_eq (nat_cmp a b) ≡ (a == b)
@@ -72,11 +86,12 @@ same_pairs u t one is same =
     same_rows nat_cmp i_number_of nat_cmp_total None None u.pairs t.pairs one.ascending is.ascending
     (λ i. row_from_digest i u.pairs ∙ ap (pair_of i) (same i) ∙ sym (row_from_digest i t.pairs))
 
--- tables of one principal with the same digests have one handle
-pub same_handle : (u t : ITable) → IsTable u → IsTable t → u.principal ≡ t.principal → ((i : ℕ) → digest_at u i ≡ digest_at t i) → handle_of u ≡ handle_of t
-same_handle u t one is of same =
-    ap (λ (p : ℕ). handle_of (record { principal = p; pairs = u.pairs })) of
-    ∙ ap (λ (ps : List Pair). handle_of (record { principal = t.principal; pairs = ps })) (same_pairs u t one is same)
+-- tables of one principal with the same digests and the same chunks that aren't loaded are one
+pub same_table : (u t : ITable) → IsTable u → IsTable t → u.principal ≡ t.principal → u.unloaded ≡ t.unloaded → ((i : ℕ) → digest_at u i ≡ digest_at t i) → u ≡ t
+same_table u t one is of unloaded same =
+    ap (λ (p : ℕ). record u { principal = p }) of
+    ∙ ap (λ (ps : List Pair). record { principal = t.principal; pairs = ps; unloaded = u.unloaded }) (same_pairs u t one is same)
+    ∙ ap (λ (cs : List ListedChunk). record t { unloaded = cs }) unloaded
 
 -- ---- the digests after a change
 

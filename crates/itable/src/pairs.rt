@@ -1,6 +1,6 @@
 //! Pairs that ascend by i-number, as a map.
 
-ghost use Rattle.std.specs.Prelude.{◌≡◌, ◌<◌, ◌≤◌, ◌-◌, take, drop, None, IsSome, IsOk, OnOk, OnErr, MatchResult};
+ghost use Rattle.std.specs.Prelude.{◌≡◌, ◌<◌, ◌≤◌, ◌-◌, ◌++◌, take, drop, None, IsSome, IsOk, OnOk, OnErr, MatchResult};
 ghost use Rattle.std.specs.Prelude.{filter, length};
 ghost use Rattle.std.specs.Ordering.{nat_cmp};
 ghost use Rattle.std.specs.List.{AllWithin};
@@ -36,6 +36,22 @@ pub(crate) fn put<A: Allocator>(pairs: &mut Vec<Pair, A>, pair: Pair) -> Result<
     Ok(())
 }
 
+/// Puts pairs before those that stand from this place on. After an error they are as before.
+pub(crate) fn put_run<A: Allocator>(
+    pairs: &mut Vec<Pair, A>,
+    place: usize,
+    run: &[Pair],
+) -> Result<(), Memory>
+    requires { place ≤ length pairs.old.items }
+    ensures ok { OnOk result (pairs.new.items
+        ≡ take place pairs.old.items ++ (run.now ++ drop place pairs.old.items)) }
+    ensures err { OnErr result (pairs.new.items ≡ pairs.old.items) }
+{
+    pairs.extend_from_slice(run)?;
+    pairs[place..].rotate_right(run.len());
+    Ok(())
+}
+
 /// Takes the pair of an i-number out, if there is one.
 pub(crate) fn take_out<A: Allocator>(pairs: &mut Vec<Pair, A>, i_number: INumber) -> Option<Pair>
     requires { Ascends nat_cmp i_number_of None pairs.old.items }
@@ -60,7 +76,7 @@ pub(crate) fn pair_at(pairs: &[Pair], i_number: INumber) -> Option<Pair>
 }
 
 /// How many pairs stand in chunks below this number.
-fn count_below(pairs: &[Pair], number: u8) -> usize
+pub(crate) fn count_below(pairs: &[Pair], number: u8) -> usize
     requires { Ascends nat_cmp i_number_of None pairs.now }
     ensures inside { result ≤ length pairs.now }
     ensures below { AllWithin (λ p. chunk_number p.i_number < number) pairs.now 0 result }

@@ -121,6 +121,14 @@ impl<A: Allocator> Root<A> {
     {
         &self.chunks
     }
+
+    /// The chunks themselves, ascending by number, with no memory taken.
+    pub(crate) fn into_chunks(self) -> Vec<ListedChunk, A>
+        ensures same { result.items ≡ self.chunks }
+        ensures fits { root.Fits self }
+    {
+        self.chunks
+    }
 }
 
 /// The root that the bytes spell, all of the bytes.

@@ -1,22 +1,25 @@
 //! I-tables.
 
-ghost use Rattle.std.specs.Prelude.{◌≡◌, ◌<◌, ◌≤◌, ◌==◌, ◌↔◌, ◌++◌, ◌∷◌, [], ℕ, Some, None, IsSome, IsOk, Ok, OnOk};
-ghost use Rattle.std.specs.Prelude.{OnErr, IfOk, IfSome, length, map, if◌then◌else◌};
+ghost use Rattle.std.specs.Prelude.{◌≡◌, ◌<◌, ◌≤◌, ◌==◌, ◌↔◌, ◌++◌, ◌||◌, [], ℕ, true, Some, None, IsSome, IsOk};
+ghost use Rattle.std.specs.Prelude.{Ok, OnOk, OnErr, IfOk, IfSome, length, map, if◌then◌else◌};
 ghost use Rattle.std.specs.List.{All, slice_set};
 ghost use Rattle.layout.specs.Hash.{hash};
 ghost use Rattle.std.specs.Option.{option_map};
+ghost use Rattle.std.specs.Ordering.{nat_cmp};
 ghost use Rattle.std.specs.Vec.{vec_items};
+ghost use Rattle.layout.specs.Ascending.{without_row};
 ghost use Rattle.layout.specs.Format.{whole};
 ghost use Rattle.itable.specs.Chunk.{chunk, chunk as chunk_format, chunk_number};
-ghost use Rattle.itable.specs.Root.{root, chunk_at};
+ghost use Rattle.itable.specs.Root.{root, root as root_format, chunk_at, number_of};
 ghost use Rattle.itable.specs.ITable.{IsTable, digest_at, digest_in, with_digest, without_digest, chunk_of, IsBare};
-ghost use Rattle.itable.specs.ITable.{text_of_chunk};
+ghost use Rattle.itable.specs.ITable.{text_of_chunk, unloaded_at, loaded as is_loaded};
 ghost use Rattle.itable.specs.ITable.{listing as listing_of, listings as listings_of, root_of, handle_of};
 ghost use Rattle.itable.specs.ITable.{IsKnownByDigests, IsKnownByHandle, is_listed, new_texts};
 
 use crate::chunk::{Chunk, ChunkNumber, Pair, write_chunk};
-use crate::pairs::{pair_at, put, run_of, take_out};
-use crate::root::{ListedChunk, write_root};
+use crate::listed::{listed_at, take_listed};
+use crate::pairs::{count_below, pair_at, put, put_run, run_of, take_out};
+use crate::root::{ListedChunk, Root, write_root};
 use layout::{Digest, INumber, Memory, Principal, Writer, digest};
 use std::alloc::Allocator;
 use std::marker::Model;
@@ -28,13 +31,15 @@ fn forget(known: &mut [Option<Digest>; 64], i_number: INumber)
     known[usize::from(ChunkNumber::of(i_number).get())] = None;
 }
 
-/// A digest for each i-number of a principal that has one. Of each chunk it keeps the digest of the text once that was
-/// computed, until a pair of the chunk changes, so that a handle costs the hashes of the chunks that changed.
+/// A digest for each i-number of a principal that has one. A chunk's pairs may not be loaded: it has its digest alone
+/// then. Of each other chunk it keeps the digest of the text once that was computed, until a pair of the chunk changes,
+/// so that a handle costs the hashes of the chunks that changed.
 #[derive(Drop)]
 pub struct ITable<A: Allocator> {
     principal: Principal,
     pairs: Vec<Pair, A>,
     known: [Option<Digest>; 64],
+    unloaded: Vec<ListedChunk, A>,
 }
 
 impl<A: Allocator> Model for ITable<A> {
@@ -43,15 +48,16 @@ impl<A: Allocator> Model for ITable<A> {
 
     ghost Value = { ITable };
 
-    ghost view = { λ t. record { principal = t.principal; pairs = t.pairs.items } };
+    ghost view = { λ t. record { principal = t.principal; pairs = t.pairs.items; unloaded = t.unloaded.items } };
 
-    ghost invariant = { λ t. IsKept (record { principal = t.principal; pairs = t.pairs.items }) t.known };
+    ghost invariant = { λ t. IsKept
+        (record { principal = t.principal; pairs = t.pairs.items; unloaded = t.unloaded.items }) t.known };
 }
 
-impl<A: Allocator> ITable<A> {
+impl<A: Allocator + Copy> ITable<A> {
     /// The table of a principal, without pairs.
     pub fn empty(alloc: A, principal: Principal) -> ITable<A>
-        ensures same { result ≡ record { principal = principal; pairs = [] } }
+        ensures same { result ≡ record { principal = principal; pairs = []; unloaded = [] } }
         // Its root lists no chunk.
         ensures listed { listings_of result ≡ [] }
     {
@@ -61,9 +67,27 @@ impl<A: Allocator> ITable<A> {
             principal,
             pairs: Vec::new(alloc),
             known: [None; 64],
+            unloaded: Vec::new(alloc),
         }
     }
 
+    /// The table of a root, with none of its chunks loaded. It takes no memory.
+    pub fn of_root(alloc: A, root: Root<A>) -> ITable<A>
+        ensures same { result ≡ record { principal = root.principal; pairs = []; unloaded = root.chunks } }
+        // Its root is this one.
+        ensures listed { listings_of result ≡ root.chunks }
+        ensures handle { handle_of result ≡ hash (root_format.spell root) }
+    {
+        ITable {
+            principal: root.principal(),
+            pairs: Vec::new(alloc),
+            known: [None; 64],
+            unloaded: root.into_chunks(),
+        }
+    }
+}
+
+impl<A: Allocator> ITable<A> {
     /// Whose table it is.
     pub fn principal(&self) -> Principal
         ensures same { result ≡ self.now.principal }
@@ -72,15 +96,31 @@ impl<A: Allocator> ITable<A> {
         self.principal
     }
 
-    /// The pairs, ascending by i-number.
+    /// The pairs of the loaded chunks, ascending by i-number.
     pub fn pairs(&self) -> &[Pair]
         ensures { result.now ≡ self.now.pairs }
     {
         &self.pairs
     }
 
+    /// Whether the chunk that an i-number is in is loaded.
+    pub fn loaded(&self, i_number: INumber) -> bool
+        ensures { result ≡ is_loaded self.now i_number }
+    {
+        self.unloaded(i_number).is_none()
+    }
+
+    /// The chunk that an i-number is in, if it isn't loaded.
+    pub fn unloaded(&self, i_number: INumber) -> Option<ListedChunk>
+        ensures found { result ≡ unloaded_at self.now (chunk_number i_number) }
+        ensures number { IfSome result (λ chunk. chunk.number ≡ chunk_number i_number) }
+    {
+        listed_at(&self.unloaded, ChunkNumber::of(i_number))
+    }
+
     /// The digest at an i-number, if it has one.
     pub fn get(&self, i_number: INumber) -> Option<Digest>
+        requires loaded { is_loaded self.now i_number ≡ true }
         ensures found { result ≡ digest_at self.now i_number }
         // It is what the i-number's chunk says.
         ensures in_chunk { (i : ℕ) → digest_at self.now i ≡ digest_in (chunk_of (chunk_number i) self.now).pairs i }
@@ -90,6 +130,7 @@ impl<A: Allocator> ITable<A> {
 
     /// Sets the digest at an i-number. After an error the table is as before.
     pub fn set(&mut self, i_number: INumber, digest: Digest) -> Result<(), Memory>
+        requires loaded { is_loaded self.old i_number ≡ true }
         ensures ok { OnOk result (self.new ≡ with_digest self.old i_number digest) }
         // It takes memory only where the i-number has no digest.
         ensures mapped { IsSome (digest_at self.old i_number) → IsOk result }
@@ -106,6 +147,7 @@ impl<A: Allocator> ITable<A> {
 
     /// Takes the digest at an i-number away, and gives it, if there is one.
     pub fn remove(&mut self, i_number: INumber) -> Option<Digest>
+        requires loaded { is_loaded self.old i_number ≡ true }
         ensures found { result ≡ digest_at self.old i_number }
         ensures left { self.new ≡ without_digest self.old i_number }
         ensures digests { (i : ℕ) → digest_at self.new i ≡ (if i_number == i then None else digest_at self.old i) }
@@ -116,24 +158,35 @@ impl<A: Allocator> ITable<A> {
         take_out(&mut self.pairs, i_number).map(|pair| pair.digest)
     }
 
-    /// Takes in a chunk that stands after all that the table has, and whose text has this digest: so a table is read
-    /// chunk by chunk, and its handle needs no hash of those that stay. After an error the table is as before.
+    /// Takes in a chunk that isn't loaded, and whose text has the digest that the root lists, so that the root and the
+    /// handle stay, and need no hash. Chunks may come in any order. After an error the table is as before.
     pub fn load(&mut self, chunk: &Chunk<A>, digest: Digest) -> Result<(), Memory>
-        requires follows { All (λ c. c.number < chunk.now.number) (listings_of self.old) }
+        requires listed { unloaded_at self.old chunk.now.number
+            ≡ Some (record { number = chunk.now.number; digest = digest }) }
         requires digest { digest ≡ hash (chunk_format.spell chunk.now) }
-        ensures pairs { OnOk result (self.new ≡ record self.old { pairs = self.old.pairs ++ chunk.now.pairs }) }
+        ensures principal { OnOk result (self.new.principal ≡ self.old.principal) }
+        ensures unloaded { OnOk result (self.new.unloaded
+            ≡ without_row nat_cmp number_of self.old.unloaded chunk.now.number) }
+        // So it is loaded, and the others are as they were.
+        ensures loaded { OnOk result ((i : ℕ)
+            → is_loaded self.new i ≡ (is_loaded self.old i || (chunk_number i == chunk.now.number))) }
         // In the chunk it has what the chunk says, and elsewhere what it had.
         ensures digests { OnOk result ((i : ℕ)
             → digest_at self.new i ≡ (if chunk_number i == chunk.now.number then digest_in chunk.now.pairs i
             else digest_at self.old i)) }
-        // Its root lists the chunk after those that it listed.
-        ensures listed { OnOk result (listings_of self.new
-            ≡ listings_of self.old ++ record { number = chunk.now.number; digest = digest } ∷ []) }
+        // The pairs of a chunk above all that are loaded stand last.
+        ensures last { OnOk result (All (λ p. chunk_number p.i_number < chunk.now.number) self.old.pairs
+            → self.new.pairs ≡ self.old.pairs ++ chunk.now.pairs) }
+        // Its root stays.
+        ensures listed { OnOk result (listings_of self.new ≡ listings_of self.old) }
+        ensures handle { OnOk result (handle_of self.new ≡ handle_of self.old) }
         ensures err { OnErr result (self.new ≡ self.old) }
     {
-        let place = usize::from(chunk.number().get());
-        self.pairs.extend_from_slice(chunk.pairs())?;
-        self.known[place] = Some(digest);
+        let number = chunk.number();
+        let place = count_below(&self.pairs, number.get());
+        put_run(&mut self.pairs, place, chunk.pairs())?;
+        take_listed(&mut self.unloaded, number);
+        self.known[usize::from(number.get())] = Some(digest);
         Ok(())
     }
 
@@ -208,10 +261,11 @@ impl<A: Allocator + Copy> ITable<A> {
             principal: self.principal,
             pairs: Vec::from_slice(alloc, &self.pairs)?,
             known,
+            unloaded: Vec::from_slice(alloc, &self.unloaded)?,
         })
     }
 
-    /// The text of a chunk, if any of its i-numbers has a digest.
+    /// The text of a chunk, if it is loaded and any of its i-numbers has a digest.
     pub fn chunk_text(&self, alloc: A, number: ChunkNumber) -> Result<Option<Vec<u8, A>>, Memory>
         ensures text { IfOk result (λ text. option_map vec_items text ≡ text_of_chunk self.now number) }
         // There is none exactly where no i-number of the chunk has a digest.
@@ -229,11 +283,14 @@ impl<A: Allocator + Copy> ITable<A> {
         Ok(Some(text))
     }
 
-    /// A chunk as the root lists it, if any of its i-numbers has a digest.
+    /// A chunk as the root lists it, if it isn't loaded or any of its i-numbers has a digest.
     fn listing(&mut self, alloc: A, number: ChunkNumber) -> Result<Option<ListedChunk>, Memory>
         ensures listed { IfOk result (λ chunk. chunk ≡ listing_of self.old number) }
         ensures same { self.new ≡ self.old }
     {
+        if let Some(chunk) = listed_at(&self.unloaded, number) {
+            return Ok(Some(chunk));
+        }
         let place = usize::from(number.get());
         if let Some(digest) = self.known[place] {
             return Ok(Some(ListedChunk { number, digest }));
@@ -263,7 +320,7 @@ impl<A: Allocator + Copy> ITable<A> {
     /// The text of the root. It hashes the chunks that changed since they were hashed last.
     pub fn root_text(&mut self, alloc: A) -> Result<Vec<u8, A>, Memory>
         ensures text { IfOk result (λ text. text.items ≡ root.spell (root_of self.old)) }
-        // It is read as the root, which lists exactly the chunks that have a text.
+        // It is read as the root, which lists exactly the chunks that aren't loaded or have a text.
         ensures reads { whole root (root.spell (root_of self.old)) ≡ Ok (root_of self.old) }
         ensures lists { (n : ℕ) → n < 64 → chunk_at (root_of self.old) n ≡ listing_of self.old n }
         ensures same { self.new ≡ self.old }
@@ -276,7 +333,8 @@ impl<A: Allocator + Copy> ITable<A> {
     /// The i-handle: the digest of the root's text.
     pub fn handle(&mut self, alloc: A) -> Result<Digest, Memory>
         ensures handle { IfOk result (λ handle. handle ≡ handle_of self.old) }
-        // It is that of any table of this principal with the same digests, and of no other, unless texts collide.
+        // It is that of any table of this principal with the same digests where the same chunks are loaded, and of no
+        // other whole one, unless texts collide.
         ensures known { IsKnownByDigests self.old }
         ensures knows { IsKnownByHandle self.old }
         ensures same { self.new ≡ self.old }

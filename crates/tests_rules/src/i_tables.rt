@@ -70,19 +70,25 @@ fn i_node_of_the_empty_directory(rt: HostRuntime) {
 /// The digest of this byte everywhere is set at an i-number.
 fn set(rt: &impl Host, table: &mut ITable<Global>, number: u16, byte: u8) {
     let digest = Digest::from_bytes([byte; 32]);
-    table.set(i_number(rt, number), digest).expect(rt, "memory");
+    let i_number = i_number(rt, number);
+    assert!(rt; table.loaded(i_number));
+    table.set(i_number, digest).expect(rt, "memory");
 }
 
 /// The digest of an i-number, of this byte everywhere, is removed, if it has one.
 fn removes(rt: &impl Host, table: &mut ITable<Global>, number: u16, byte: Option<u8>) {
-    let found = table.remove(i_number(rt, number));
+    let i_number = i_number(rt, number);
+    assert!(rt; table.loaded(i_number));
+    let found = table.remove(i_number);
     let digest = byte.map(|byte| Digest::from_bytes([byte; 32]));
     check(rt, found == digest, "what was removed");
 }
 
 /// The digest of an i-number is of this byte everywhere, and no other i-number has any.
 fn has_alone(rt: &impl Host, table: &ITable<Global>, number: u16, byte: u8) {
-    let found = table.get(i_number(rt, number));
+    let i_number = i_number(rt, number);
+    assert!(rt; table.loaded(i_number));
+    let found = table.get(i_number);
     check(
         rt,
         found == Some(Digest::from_bytes([byte; 32])),

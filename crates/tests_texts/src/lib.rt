@@ -15,6 +15,8 @@ mod frames;
 #[cfg(test)]
 mod here;
 #[cfg(test)]
+mod i_tables;
+#[cfg(test)]
 mod longest;
 #[cfg(test)]
 mod plans;

@@ -3,7 +3,7 @@ use Rattle.std.proofs.Common.{◌≡◌, ℕ, false, List, [], ◌∷◌, Option
 use Rattle.std.specs.Prelude.{◌==◌, ◌||◌, IsSome, length}
 use Rattle.std.proofs.lemmas.Bool.{eq-eqb, ne_eqb}
 use Rattle.std.specs.Option.{option_map, option_map_or}
-use Rattle.itable.specs.ITable.{ITable, digest_at}
+use Rattle.itable.specs.ITable.{ITable, IsWhole, digest_at}
 use Rattle.itable.specs.Inode.{Inode}
 use Rattle.itable.specs.declared.inode.Kind.TheVariants as kinds
 use Rattle.layout.specs.Ascending.{Ascends}
@@ -15,12 +15,12 @@ use Rattle.tree_parts.specs.Spot.{is_of_file}
 use Rattle.tree_parts.specs.Part.{Open, Part, IsPart, part_of, opened_at, content_of, slot_of, stands_at}
 use Rattle.tree_parts.specs.Acts.{listed}
 
-is_part_of_table : (table : ITable) → IsPart (part_of table)
+is_part_of_table : (table : ITable) → IsWhole table → IsPart (part_of table)
 unfolding Ascends
-is_part_of_table table = record { ascending = tt; mapped = λ i some. absurd cc }
+is_part_of_table table whole = record { whole = whole; ascending = tt; mapped = λ i some. absurd cc }
 
-pub is_part_of : (table : ITable) (opened : List Open) → opened ≡ [] → IsPart (record { table = table; opened = opened })
-is_part_of table opened is = subst (λ (os : List Open). IsPart (record { table = table; opened = os })) (sym is) (is_part_of_table table)
+pub is_part_of : (table : ITable) (opened : List Open) → IsWhole table → opened ≡ [] → IsPart (record { table = table; opened = opened })
+is_part_of table opened whole is = subst (λ (os : List Open). IsPart (record { table = table; opened = os })) (sym is) (is_part_of_table table whole)
 
 -- ---- what an i-node tells
 

@@ -3,7 +3,7 @@ use Rattle.std.specs.Prelude.{◌≡◌, false, List, [], Option, Some, None, Is
 use Rattle.std.specs.Option.{option_map}
 use Rattle.std.specs.Ordering.{nat_cmp}
 use Rattle.layout.specs.Ascending.{Ascends, row_at}
-use Rattle.itable.specs.ITable.{ITable, digest_at}
+use Rattle.itable.specs.ITable.{ITable, IsWhole, digest_at}
 use Rattle.directory.specs.Directory.{Entry}
 use Rattle.layout.specs.Types.{Digest, INumber}
 use Rattle.principals.specs.Table.{Table}
@@ -60,8 +60,9 @@ stands_at reads part i = option_map (content_of reads) (slot_at part i)
 abbrev pub part_of : ITable → Part
 part_of table = record { table = table; opened = [] }
 
--- opened directories ascend by i-number, and have digests in the table
+-- all chunks of the table are loaded; opened directories ascend by i-number, and have digests in it
 pub record IsPart (part : Part) : Type 0 where
+  pub whole : IsWhole part.table
   pub ascending : Ascends nat_cmp number_of None part.opened
   pub mapped : (i : INumber) → IsSome (opened_at part i) → IsSome (digest_at part.table i)
 

@@ -7,7 +7,7 @@ ghost use Rattle.std.specs.Vec.{vec_items};
 ghost use Rattle.std.specs.Ordering.{nat_cmp};
 ghost use Rattle.layout.specs.Ascending.{IsFree};
 ghost use Rattle.directory.specs.Directory.{Entry as ListedEntry};
-ghost use Rattle.itable.specs.ITable.{digest_at};
+ghost use Rattle.itable.specs.ITable.{IsWhole, digest_at, loaded};
 ghost use Rattle.update_cert.specs.Change.{Make, Put, Remove, Link, Unlink, action_of};
 ghost use Rattle.update_cert.specs.World.{Actor, Tree, after_change, is_file, is_removable, is_root as is_root_of};
 ghost use Rattle.update_cert.specs.World.{is_table as is_table_of};
@@ -67,8 +67,9 @@ impl<A: Allocator> Model for Part<A> {
 }
 
 impl<A: Allocator> Part<A> {
-    /// The part of an i-table, of which no directory is opened.
+    /// The part of an i-table of which all chunks are loaded. No directory is opened.
     pub fn of(alloc: A, table: ITable<A>) -> Part<A>
+        requires { IsWhole table }
         ensures { result ≡ part_of table }
     {
         Part {
@@ -501,7 +502,7 @@ impl<A: Allocator> Part<A> {
 /// A part as it is stored: its i-table, and the texts of the directories that are new.
 #[derive(Drop)]
 pub struct LaidPart<A: Allocator> {
-    /// The i-table, with a digest for each directory that changed.
+    /// The i-table, with a digest for each directory that changed. All its chunks are loaded.
     pub table: ITable<A>,
     /// Of each directory that isn't as it was stored the blocks, in order, and the i-node; ascending by i-number.
     pub texts: Vec<Vec<u8, A>, A>,
@@ -509,6 +510,7 @@ pub struct LaidPart<A: Allocator> {
 
 /// Whether an i-table has this digest at an i-number.
 pub fn has_digest<A: Allocator>(table: &ITable<A>, i_number: INumber, digest: Digest) -> bool
+    requires { loaded table.now i_number ≡ true }
     ensures { result ≡ has_digest table.now i_number digest }
 {
     match table.get(i_number) {
@@ -524,6 +526,8 @@ fn one_has_digest<A: Allocator>(
     i_number: INumber,
     digest: Digest,
 ) -> bool
+    requires before { loaded before.now i_number ≡ true }
+    requires table { loaded table.now i_number ≡ true }
     ensures { result ≡ (has_digest before.now i_number digest || has_digest table.now i_number digest) }
 {
     has_digest(before, i_number, digest) || has_digest(table, i_number, digest)
@@ -533,7 +537,9 @@ impl<A: Allocator + Copy> Part<A> {
     /// Makes the texts of the directories that changed, and sets their digests, where this was the i-table before the
     /// operation. Those of a directory that is as it was are left out. Where memory is wanting the part is gone.
     pub fn lay(self, alloc: A, before: &ITable<A>) -> Result<LaidPart<A>, Memory>
+        requires { IsWhole before.now }
         ensures principal { IfOk result (λ laid. laid.table.principal ≡ self.table.principal) }
+        ensures whole { IfOk result (λ laid. IsWhole laid.table) }
         ensures digests { IfOk result (λ laid. (i : ℕ)
             → digest_at laid.table i ≡ option_map slot_digest (slot_at self i)) }
         ensures texts { IfOk result (λ laid. map vec_items laid.texts.items

@@ -26,6 +26,7 @@ returns-clause-stored g c = λ blocks x is_table opened.
       opened = opened;
       table = table;
       well_formed = c.in_ok-handle.ensures.is_table;
+      whole = laid.whole;
       principal = own;
       digests = digests;
       users = λ first. subst (λ (t : Table). digest_at table 1 ≡ Some (principals_digest t)) (sym is_table) (laid.users first);

@@ -21,6 +21,7 @@ loop-open-init g c =
     let table = ap (λ (p : Part). p.table) c.self.view_is in
     record {
       principal = ap (λ t. t.principal) table;
+      whole = c.self.invariant.whole;
       digests = λ i. ap (λ t. digest_at t i) table ∙ laid_first c.args.self.table i;
       texts = ap (map vec_items) c.new-texts.ensures.items ∙ sym (texts_first c.args.before.now c.args.self.table);
       read_back = All-nil (λ o. IsReadBack o.entries);
@@ -50,6 +51,7 @@ loop-open-preserved g c =
     ∙ sym c.one_has_digest-stored.ensures in
     record {
       principal = ap (λ t. t.principal) c.in_ok-set.ensures.ok ∙ inv.principal;
+      whole = ap (λ t. t.unloaded) c.in_ok-set.ensures.ok ∙ inv.whole;
       digests = laid_next first old c.set.new.self all k o d whole inside at is (λ i. c.in_ok-set.ensures.digests i ∙ ap (λ (n : ℕ). if n == i then Some d else digest_at old i) c.i_number-i_number.ensures) inv.digests;
       texts = elim c.if-not-stored.branch [
         | then-not-stored+in_ok-append+in_ok-push w ↦

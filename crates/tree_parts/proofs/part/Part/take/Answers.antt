@@ -1,3 +1,4 @@
+use Rattle.std.proofs.Common.{ap}
 use Rattle.tree_parts.specs.Part.{Part}
 use Rattle.tree_parts.proofs.OpenedLaws.{is_part_taken, entries_left}
 use Rattle.tree_parts.proofs.part.Part.take.Goals as goal
@@ -5,7 +6,7 @@ use Rattle.tree_parts.proofs.part.Part.take.Goals as goal
 pub invariant_of-self : goal.invariant_of-self
 invariant_of-self g c =
     let old : Part = record { table = c.self.inside.table; opened = c.self.inside.opened.items } in
-    is_part_taken old c.remove-digest.new.self c.take_out.new.opened.items c.args.i_number c.self.invariant c.take_out.ensures c.remove-digest.ensures.digests
+    is_part_taken old c.remove-digest.new.self c.take_out.new.opened.items c.args.i_number c.self.invariant c.take_out.ensures c.remove-digest.ensures.digests (ap (λ t. t.unloaded) c.remove-digest.ensures.left)
 
 pub returns-clause-opened : goal.returns-clause-opened
 returns-clause-opened g c = λ i.
