@@ -1,7 +1,7 @@
--- User 0's i-table has an i-node at its i-number 1, where its root and its chunks are what their places take.
+-- User 0's root lists chunk 0, and that has i-number 1, where both are what their places take.
 use Rattle.std.proofs.Common.{◌≡◌, ℕ, Bool, true, false, List, [], ◌∷◌, Option, Some, None, Result, Ok, Err, refl, sym, ap, subst, ◌∙◌, inl, inr, arith}
 use Rattle.std.specs.Prelude.{◌==◌, ◌||◌, not, IfOk, IsSomeAnd, OnOk, if◌then◌else◌}
-use Rattle.std.specs.List.{list_any}
+use Rattle.std.specs.List.{find, list_any}
 use Rattle.std.specs.Option.{option_and_then, option_map, option_map_or}
 use Rattle.std.specs.Ordering.{nat_cmp, is_eq}
 use Rattle.std.specs.Result.{result_ok}
@@ -14,7 +14,7 @@ use Rattle.itable.specs.declared.chunk.Pair.{Pair}
 use Rattle.itable.specs.declared.root.ListedChunk.{ListedChunk}
 use Rattle.itable.specs.Chunk.{Chunk, chunk}
 use Rattle.itable.specs.Root.{Root, root, chunk_at, number_of}
-use Rattle.itable.specs.ITable.{ITable, digest_at, digest_in}
+use Rattle.itable.specs.ITable.{digest_in}
 use Rattle.tree_parts.specs.Blocks.{Agrees, Blocks, chunk_held, inode_told, root_at}
 use Rattle.tree_parts.specs.Spot.{lacks, takes, takes_chunk, takes_root}
 use Rattle.tree_parts.specs.declared.spot.Spot.{Spot}
@@ -26,8 +26,9 @@ use Rattle.update_cert.specs.Reading.{Reading}
 use Rattle.tree_parts.specs.Asked.{HasPrincipals, IsOfPrincipals, Lacks}
 use Rattle.principals.specs.Table.{Table}
 use Rattle.principals.specs.TableText.{table}
-use Rattle.client_tree.specs.Tables.{IsOfTable, IsRead, table_at}
+use Rattle.client_tree.specs.Tables.{HasChunkFor, IsChunkFor}
 use Rattle.client_tree.specs.Principals.{IsNamed, IsOfNamed}
+use Rattle.client_tree.proofs.TableLaws.{LacksText}
 
 -- ---- the row of a key
 
@@ -43,6 +44,29 @@ row_step x rest k n more false is some later =
 has_row : {T : Type 0} (key : T → ℕ) (xs : List T) (n : ℕ) → list_any (λ x. key x == n) xs ≡ true → (y : T) × (row_at nat_cmp key xs n ≡ Some y)
 has_row key [] n some = absurd cc
 has_row key (x ∷ xs) n some = row_step x (row_at nat_cmp key xs n) (key x) n (list_any (λ y. key y == n) xs) (key x == n) refl some (has_row key xs n)
+
+same_test : (k n : ℕ) (b : Bool) → (k == n) ≡ b → is_eq (nat_cmp k n) ≡ b
+same_test k n true is = grind (arith, nat_tests)
+same_test k n false is = grind (arith, nat_tests)
+
+key_is : (k n : ℕ) → is_eq (nat_cmp k n) ≡ true → k ≡ n
+key_is k n is = grind (arith, nat_tests)
+
+-- the first one of the key
+pub first_row : {T : Type 0} (key : T → ℕ) (xs : List T) (n : ℕ) → find (λ x. key x == n) xs ≡ row_at nat_cmp key xs n
+first_row key [] n = refl
+first_row key (x ∷ xs) n = rw (same_test (key x) n (key x == n) refl, first_row key xs n) refl
+
+key_step : {T : Type 0} (key : T → ℕ) (y : T) (rest : Option T) (n : ℕ) (x : T) (here : Bool) → is_eq (nat_cmp (key y) n) ≡ here → (rest ≡ Some x → key x ≡ n) → (if here then Some y else rest) ≡ Some x → key x ≡ n
+key_step key y rest n x true is later found =
+    let same : y ≡ x = cc in
+    ap key (sym same) ∙ key_is (key y) n is
+key_step key y rest n x false is later found = later found
+
+-- and it has that key
+pub row_key : {T : Type 0} (key : T → ℕ) (xs : List T) (n : ℕ) (x : T) → row_at nat_cmp key xs n ≡ Some x → key x ≡ n
+row_key key [] n x at = absurd cc
+row_key key (y ∷ ys) n x at = key_step key y (row_at nat_cmp key ys n) n x (is_eq (nat_cmp (key y) n)) refl (row_key key ys n x) at
 
 -- ---- what a place takes
 
@@ -86,59 +110,85 @@ chunk_has blocks digest there =
     let p = has_row (λ (y : Pair). y.i_number) x.pairs 1 parts.1 in
     (x, p.0.digest, ap (option_and_then (λ text. result_ok (whole chunk text))) held.1 ∙ read.1, ap (option_map (λ (y : Pair). y.digest)) p.1)
 
-told_here : (blocks : Blocks) (handle : Handle) (r : Root) (c : ListedChunk) (x : Chunk) (d : Digest) → root_at blocks handle ≡ Some r → r.principal ≡ 0 → chunk_at r 0 ≡ Some c → chunk_held blocks c.digest ≡ Some x → digest_in x.pairs 1 ≡ Some d → inode_told blocks 0 handle 1 ≡ Some (Some d)
+pub told_here : (blocks : Blocks) (handle : Handle) (r : Root) (c : ListedChunk) (x : Chunk) (d : Digest) → root_at blocks handle ≡ Some r → r.principal ≡ 0 → chunk_at r 0 ≡ Some c → chunk_held blocks c.digest ≡ Some x → digest_in x.pairs 1 ≡ Some d → inode_told blocks 0 handle 1 ≡ Some (Some d)
 told_here blocks handle r c x d held of at chunk_is digest_is = rw held (rw (eq-eqb r.principal 0 of) (rw at (rw chunk_is (ap (λ (o : Option Digest). Some o) digest_is))))
 
-same_some : (a b : Option Digest) → Some a ≡ Some b → a ≡ b
-same_some a b e = cc
+-- ---- the chunk that the table is in
 
--- user 0's i-table has an i-node at 1
-pub has_table : (blocks : Blocks) (handle : Handle) (t : ITable) → IsRead blocks 0 handle t → inode_told blocks 0 handle 1 ≡ Some (digest_at t 1) → (d : Digest) × (digest_at t 1 ≡ Some d)
-has_table blocks handle t is told =
-    let there = is.taken handle (spot.Root 0) (refl, refl) in
-    let (r, c, held, of, at) = root_has blocks handle there in
-    let listed : IsSomeAnd (root_at blocks handle) (λ y. option_map (λ z. z.digest) (chunk_at y 0) ≡ Some c.digest) =
-    subst (λ (o : Option Root). IsSomeAnd o (λ y. option_map (λ z. z.digest) (chunk_at y 0) ≡ Some c.digest)) (sym held) (ap (option_map (λ (z : ListedChunk). z.digest)) at) in
-    let (x, d, chunk_is, digest_is) = chunk_has blocks c.digest (is.taken c.digest (spot.Chunk 0 0) (refl, there, listed)) in
-    let there_told = told_here blocks handle r c x d held of at chunk_is digest_is in
-    (d, same_some (digest_at t 1) (Some d) (sym told ∙ there_told))
+same_root : (a b : Root) (found : Option Root) → found ≡ Some a → found ≡ Some b → a ≡ b
+same_root a b found first second = let both : Some a ≡ Some b = sym first ∙ second in cc
+
+same_chunk : (a b : Chunk) (found : Option Chunk) → found ≡ Some a → found ≡ Some b → a ≡ b
+same_chunk a b found first second = let both : Some a ≡ Some b = sym first ∙ second in cc
+
+none_there : {T : Type 0} (x : T) (found : Option T) → found ≡ Some x → found ≡ None → ⊥
+none_there x found some none = let clash : Some x ≡ None = sym some ∙ none in cc
+
+-- a root that its place takes lists chunk 0
+pub lists_first : (blocks : Blocks) (handle : Handle) (r : Root) → root_at blocks handle ≡ Some r → lacks blocks handle (spot.Root 0) ≡ false → chunk_at r 0 ≡ None → ⊥
+lists_first blocks handle r held there none =
+    let (other, c, found, of, at) = root_has blocks handle there in
+    let same = same_root other r (root_at blocks handle) found held in
+    none_there c (chunk_at r 0) (subst (λ (x : Root). chunk_at x 0 ≡ Some c) same at) none
+
+-- and that chunk, where its place takes it, has i-number 1
+pub has_first : (blocks : Blocks) (digest : Digest) (x : Chunk) → chunk_held blocks digest ≡ Some x → lacks blocks digest (spot.Chunk 0 0) ≡ false → digest_in x.pairs 1 ≡ None → ⊥
+has_first blocks digest x held there none =
+    let (other, d, found, at) = chunk_has blocks digest there in
+    let same = same_chunk other x (chunk_held blocks digest) found held in
+    none_there d (digest_in x.pairs 1) (subst (λ (y : Chunk). digest_in y.pairs 1 ≡ Some d) same at) none
+
+-- the two of them are all that is asked for to know what stands there
+pub has_both : (blocks : Blocks) (handle : Handle) (r : Root) (c : ListedChunk) → root_at blocks handle ≡ Some r → lacks blocks handle (spot.Root 0) ≡ false → chunk_at r 0 ≡ Some c → lacks blocks c.digest (spot.Chunk 0 0) ≡ false → HasChunkFor blocks 0 handle 1
+has_both blocks handle r c held there at chunk_there digest s (inl (place, is)) = rw (place, is) there
+has_both blocks handle r c held there at chunk_there digest s (inr (place, follows, listed)) =
+    let is : option_map (λ y. y.digest) (chunk_at r 0) ≡ Some digest = subst (λ (o : Option Root). IsSomeAnd o (λ x. option_map (λ y. y.digest) (chunk_at x 0) ≡ Some digest)) held listed in
+    let both : Some c.digest ≡ Some digest = sym (ap (option_map (λ (y : ListedChunk). y.digest)) at) ∙ is in
+    let same : c.digest ≡ digest = cc in
+    rw place (subst (λ (d : Digest). lacks blocks d (spot.Chunk 0 0) ≡ false) same chunk_there)
 
 -- ---- the table that a handle names
 
-one_table : (a b : ITable) (read : Option ITable) → read ≡ Some a → read ≡ Some b → a ≡ b
-one_table a b read first second = let both : Some a ≡ Some b = sym first ∙ second in cc
+one_digest : (a b : Digest) (told : Option (Option Digest)) → told ≡ Some (Some a) → told ≡ Some (Some b) → a ≡ b
+one_digest a b told first second = let both : Some (Some a) ≡ Some (Some b) = sym first ∙ second in cc
 
-one_digest : (a b : Digest) (found : Option Digest) → found ≡ Some a → found ≡ Some b → a ≡ b
-one_digest a b found first second = let both : Some a ≡ Some b = sym first ∙ second in cc
-
-nothing_lacks : (blocks : Blocks) (handle : Handle) (before : ITable) (inode : Digest) → IsRead blocks 0 handle before → digest_at before 1 ≡ Some inode → HasPrincipals blocks inode
+nothing_lacks : (blocks : Blocks) (handle : Handle) (inode : Digest) → HasChunkFor blocks 0 handle 1 → inode_told blocks 0 handle 1 ≡ Some (Some inode) → HasPrincipals blocks inode
     → (digest : Digest) (s : Spot) → IsOfNamed blocks handle digest s → lacks blocks digest s ≡ false
-nothing_lacks blocks handle before inode is at has digest s (inl of) = is.taken digest s of
-nothing_lacks blocks handle before inode is at has digest s (inr (other, found, read, there, of)) =
-    let same : other ≡ before = one_table other before (table_at blocks handle) read.spelled is.spelled in
-    let node : found ≡ inode = one_digest found inode (digest_at before 1) (subst (λ (t : ITable). digest_at t 1 ≡ Some found) same there) at in
-    has digest s (subst (λ (d : Digest). IsOfPrincipals blocks d digest s) node of)
+nothing_lacks blocks handle inode first told has digest s (inl of) = first digest s of
+nothing_lacks blocks handle inode first told has digest s (inr (found, there, at, of)) =
+    has digest s (subst (λ (d : Digest). IsOfPrincipals blocks d digest s) (one_digest found inode (inode_told blocks 0 handle 1) at told) of)
 
-pub named_is : (blocks : Blocks) (handle : Handle) (before : ITable) (inode : Digest) (users : Table) → IsRead blocks 0 handle before → inode_told blocks 0 handle 1 ≡ Some (digest_at before 1) → digest_at before 1 ≡ Some inode
+named_is : (blocks : Blocks) (handle : Handle) (inode : Digest) (users : Table) → HasChunkFor blocks 0 handle 1 → inode_told blocks 0 handle 1 ≡ Some (Some inode)
     → table.Fits users → ((reads : Reading) → Agrees blocks reads → reads.content inode ≡ File (table.spell users)) → HasPrincipals blocks inode → IsNamed blocks handle users
-named_is blocks handle before inode users is told at fits content has = record {
+named_is blocks handle inode users first told fits content has = record {
   fits = fits;
-  file = λ reads agrees. ap (option_map reads.content) (agrees.inodes 0 handle 1 (digest_at before 1) told ∙ at) ∙ ap (λ (c : Content). Some c) (content reads agrees);
-  taken = nothing_lacks blocks handle before inode is at has;
+  file = λ reads agrees. ap (option_map reads.content) (agrees.inodes 0 handle 1 (Some inode) told) ∙ ap (λ (c : Content). Some c) (content reads agrees);
+  taken = nothing_lacks blocks handle inode first told has;
 }
+
+-- what was read is named so
+pub named_read : {E : Type 0} (blocks : Blocks) (handle : Handle) (inode : Digest) (r : Result Table E) → HasChunkFor blocks 0 handle 1 → inode_told blocks 0 handle 1 ≡ Some (Some inode)
+    → IfOk r table.Fits → ((reads : Reading) → Agrees blocks reads → IfOk r (λ t. reads.content inode ≡ File (table.spell t))) → OnOk r (HasPrincipals blocks inode) → IfOk r (IsNamed blocks handle)
+named_read blocks handle inode (Ok users) first told fits content has = named_is blocks handle inode users first told fits content has
+named_read blocks handle inode (Err e) first told fits content has = tt
 
 -- ---- what is missing of it
 
-pub lacks_table : (blocks : Blocks) (handle : Handle) (e : ApplyError) → Lacks blocks (IsOfTable blocks 0 handle) e → Lacks blocks (IsOfNamed blocks handle) e
-lacks_table blocks handle (error.Missing digest s) (is, none) = (inl is, none)
-lacks_table blocks handle error.Memory none = tt
+pub lacks_first_root : (blocks : Blocks) (handle : Handle) (e : ApplyError) → LacksText blocks handle (spot.Root 0) e → Lacks blocks (IsChunkFor blocks 0 handle 1) e
+lacks_first_root blocks handle e (inl memory) = subst (Lacks blocks (IsChunkFor blocks 0 handle 1)) (sym memory) tt
+lacks_first_root blocks handle e (inr missing) = subst (Lacks blocks (IsChunkFor blocks 0 handle 1)) (sym missing.0) (inl (refl, refl), missing.1)
 
-pub lacks_users : (blocks : Blocks) (handle : Handle) (before : ITable) (inode : Digest) (e : ApplyError) → IsRead blocks 0 handle before → digest_at before 1 ≡ Some inode → Lacks blocks (IsOfPrincipals blocks inode) e → Lacks blocks (IsOfNamed blocks handle) e
-lacks_users blocks handle before inode (error.Missing digest s) read at (is, none) = (inr (before, inode, read, at, is), none)
-lacks_users blocks handle before inode error.Memory read at none = tt
+pub lacks_first_chunk : (blocks : Blocks) (handle : Handle) (r : Root) (c : ListedChunk) (e : ApplyError) → root_at blocks handle ≡ Some r → lacks blocks handle (spot.Root 0) ≡ false → chunk_at r 0 ≡ Some c → LacksText blocks c.digest (spot.Chunk 0 0) e → Lacks blocks (IsChunkFor blocks 0 handle 1) e
+lacks_first_chunk blocks handle r c e held there at (inl memory) = subst (Lacks blocks (IsChunkFor blocks 0 handle 1)) (sym memory) tt
+lacks_first_chunk blocks handle r c e held there at (inr missing) =
+    let listed : option_map (λ x. x.digest) (chunk_at r 0) ≡ Some c.digest = ap (option_map (λ (x : ListedChunk). x.digest)) at in
+    let first : IsChunkFor blocks 0 handle 1 c.digest (spot.Chunk 0 0) = inr (refl, there, subst (λ (o : Option Root). IsSomeAnd o (λ x. option_map (λ y. y.digest) (chunk_at x 0) ≡ Some c.digest)) (sym held) listed) in
+    subst (Lacks blocks (IsChunkFor blocks 0 handle 1)) (sym missing.0) (first, missing.1)
 
--- what was read is named so
-pub named_read : {E : Type 0} (blocks : Blocks) (handle : Handle) (before : ITable) (inode : Digest) (r : Result Table E) → IsRead blocks 0 handle before → inode_told blocks 0 handle 1 ≡ Some (digest_at before 1) → digest_at before 1 ≡ Some inode
-    → IfOk r table.Fits → ((reads : Reading) → Agrees blocks reads → IfOk r (λ t. reads.content inode ≡ File (table.spell t))) → OnOk r (HasPrincipals blocks inode) → IfOk r (IsNamed blocks handle)
-named_read blocks handle before inode (Ok users) is told at fits content has = named_is blocks handle before inode users is told at fits content has
-named_read blocks handle before inode (Err e) is told at fits content has = tt
+pub lacks_chunk : (blocks : Blocks) (handle : Handle) (e : ApplyError) → Lacks blocks (IsChunkFor blocks 0 handle 1) e → Lacks blocks (IsOfNamed blocks handle) e
+lacks_chunk blocks handle (error.Missing digest s) (is, none) = (inl is, none)
+lacks_chunk blocks handle error.Memory none = tt
+
+pub lacks_users : (blocks : Blocks) (handle : Handle) (inode : Digest) (e : ApplyError) → HasChunkFor blocks 0 handle 1 → inode_told blocks 0 handle 1 ≡ Some (Some inode) → Lacks blocks (IsOfPrincipals blocks inode) e → Lacks blocks (IsOfNamed blocks handle) e
+lacks_users blocks handle inode (error.Missing digest s) first told (is, none) = (inr (inode, first, told, is), none)
+lacks_users blocks handle inode error.Memory first told none = tt

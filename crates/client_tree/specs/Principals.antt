@@ -3,24 +3,24 @@
 use Rattle.std.specs.Prelude.{◌≡◌, ◌⊎◌, ℕ, false, List, Some}
 use Rattle.std.specs.Option.{option_map}
 use Rattle.layout.specs.Types.{Digest, Handle}
-use Rattle.itable.specs.ITable.{ITable, digest_at}
 use Rattle.principals.specs.Table.{Table}
 use Rattle.principals.specs.TableText.{table}
 use Rattle.update_cert.specs.World.{File, Principals}
 use Rattle.update_cert.specs.Reading.{Reading, void_of_table_read}
-use Rattle.tree_parts.specs.Blocks.{Blocks, ForEachReading}
+use Rattle.tree_parts.specs.Blocks.{Blocks, ForEachReading, inode_told}
 use Rattle.tree_parts.specs.Asked.{IsOfPrincipals}
 use Rattle.tree_parts.specs.Spot.{lacks}
 use Rattle.tree_parts.specs.declared.spot.Spot.{Spot}
-use Rattle.client_tree.specs.Tables.{IsOfTable, IsRead}
+use Rattle.client_tree.specs.Tables.{HasChunkFor, IsChunkFor}
 use Rattle.client_tree.specs.View.{View, actor_of, tree, tree_before}
 
--- The digest is asked for to read the table: that of a block of user 0's i-table with this handle, or, once that is
--- read, that of the i-node which it has at i-number 1, or of a block of the table.
+-- The digest is asked for to read the table: that of the root of user 0's i-table with this handle, or of its chunk 0;
+-- once both are held, that of the i-node which the chunk has at i-number 1, or of a block of the table. No other chunk
+-- is asked for.
 abbrev pub IsOfNamed : Blocks → Handle → Digest → Spot → Type 0
 IsOfNamed blocks handle digest s =
-    IsOfTable blocks 0 handle digest s
-    ⊎ ((before : ITable) × (inode : Digest) × IsRead blocks 0 handle before × (digest_at before 1 ≡ Some inode)
+    IsChunkFor blocks 0 handle 1 digest s
+    ⊎ ((inode : Digest) × HasChunkFor blocks 0 handle 1 × (inode_told blocks 0 handle 1 ≡ Some (Some inode))
     × IsOfPrincipals blocks inode digest s)
 
 -- The table that user 0's handle names: the file at its place is the text of this table, whatever stands for the

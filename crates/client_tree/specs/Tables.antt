@@ -1,12 +1,13 @@
 -- The i-table that a handle names, and the blocks that are asked for to read it.
 -- The bytes stand in docs/FORMATS.md.
-use Rattle.std.specs.Prelude.{◌≡◌, false, List, [], ◌∷◌, ◌++◌, Option, Some, IsSomeAnd}
+use Rattle.std.specs.Prelude.{◌≡◌, ◌⊎◌, false, List, [], ◌∷◌, ◌++◌, Option, Some, IsSomeAnd}
 use Rattle.std.specs.Option.{option_and_then, option_map}
+use Rattle.itable.specs.Chunk.{chunk_number}
 use Rattle.itable.specs.Root.{Root, chunk_at}
 use Rattle.itable.specs.ITable.{ITable, IsTable, IsWhole, handle_of}
 use Rattle.itable.specs.declared.chunk.Pair.{Pair}
 use Rattle.itable.specs.declared.root.ListedChunk.{ListedChunk}
-use Rattle.layout.specs.Types.{Digest, Handle, Principal}
+use Rattle.layout.specs.Types.{Digest, Handle, INumber, Principal}
 use Rattle.tree_parts.specs.Blocks.{Blocks, root_at, chunk_held}
 use Rattle.tree_parts.specs.Spot.{lacks}
 use Rattle.tree_parts.specs.declared.spot.Spot.{Spot}
@@ -37,6 +38,19 @@ IsOfTable blocks p handle digest (spot.Chunk q n) =
     (q ≡ p) × (lacks blocks handle (spot.Root p) ≡ false)
     × IsSomeAnd (root_at blocks handle) (λ r. option_map (λ c. c.digest) (chunk_at r n) ≡ Some digest)
 IsOfTable blocks p handle digest other = ⊥
+
+-- The digest is asked for to know what an i-table with this handle has at an i-number: the handle itself, at the place
+-- of its root, or, once the root is held, the digest that it has of the chunk that the i-number is in.
+abbrev pub IsChunkFor : Blocks → Principal → Handle → INumber → Digest → Spot → Type 0
+IsChunkFor blocks p handle i digest s =
+    ((s ≡ spot.Root p) × (digest ≡ handle))
+    ⊎ ((s ≡ spot.Chunk p (chunk_number i)) × (lacks blocks handle (spot.Root p) ≡ false)
+    × IsSomeAnd (root_at blocks handle) (λ r. option_map (λ c. c.digest) (chunk_at r (chunk_number i)) ≡ Some digest))
+
+-- nothing of that is missing
+abbrev pub HasChunkFor : Blocks → Principal → Handle → INumber → Type 0
+HasChunkFor blocks p handle i = (digest : Digest) (s : Spot) → IsChunkFor blocks p handle i digest s
+    → lacks blocks digest s ≡ false
 
 -- The table is the one of this handle that the blocks spell, and nothing of it is missing: its root and each chunk that
 -- the root lists are what their spots take.

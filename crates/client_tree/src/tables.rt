@@ -18,7 +18,7 @@ use std::alloc::Allocator;
 use tree_parts::{ApplyError, Blocks, Spot, takes_chunk, takes_root, value_at};
 
 /// The root of this handle.
-fn root_of<A: Allocator + Copy, B: Blocks>(
+pub(crate) fn root_of<A: Allocator + Copy, B: Blocks>(
     alloc: A,
     blocks: &B,
     principal: Principal,
@@ -29,7 +29,8 @@ fn root_of<A: Allocator + Copy, B: Blocks>(
     ensures principal { IfOk result (λ root. root.principal ≡ principal) }
     ensures hashed { IfOk result (λ root. hash (root_format.spell root) ≡ handle) }
     ensures taken { OnOk result (lacks (B.held blocks.now) handle (spots.Root principal) ≡ false) }
-    ensures missing { IfErr result (Lacks (B.held blocks.now) (IsOfTable (B.held blocks.now) principal handle)) }
+    ensures missing { IfErr result (λ e. e ≡ error.Memory ⊎ ((e ≡ error.Missing handle (spots.Root principal))
+        × (lacks (B.held blocks.now) handle (spots.Root principal) ≡ true))) }
 {
     match value_at::<A, B, Root<A>>(alloc, blocks, handle)? {
         Some(root) if takes_root(principal, &root) => Ok(root),
@@ -38,7 +39,7 @@ fn root_of<A: Allocator + Copy, B: Blocks>(
 }
 
 /// A chunk that the root of this handle lists.
-fn chunk_of<A: Allocator + Copy, B: Blocks>(
+pub(crate) fn chunk_of<A: Allocator + Copy, B: Blocks>(
     alloc: A,
     blocks: &B,
     principal: Principal,

@@ -1,29 +1,17 @@
-use Rattle.std.proofs.Common.{◌≡◌, ℕ, Some, None, sym, ap, subst, ◌∙◌}
-use Rattle.itable.specs.ITable.{digest_at}
-use Rattle.tree_parts.specs.Blocks.{inode_told}
-use Rattle.client_tree.specs.Tables.{IsRead}
-use Rattle.client_tree.proofs.NamedLaws.{has_table, named_read}
+use Rattle.client_tree.proofs.NamedLaws.{lacks_chunk, named_read}
+use Rattle.client_tree.proofs.OpenedLaws.{handed_on}
+use Rattle.tree_parts.specs.Asked.{Lacks}
+use Rattle.client_tree.specs.Principals.{IsOfNamed}
 use Rattle.client_tree.proofs.named.read_named.Goals as goal
 
-pub unreachable-requires : goal.unreachable-requires
-unreachable-requires g c =
+pub returns-in_err-inode-clause-missing : goal.returns-in_err-inode-clause-missing
+returns-in_err-inode-clause-missing g c =
     let held = g.B.Blocks.held c.args.blocks.now in
-    let t = c.in_ok-table.table in
-    let first : c.from-superuser.result ≡ 0 = c.from-superuser.ensures ∙ c.superuser.ensures in
-    let read = subst (λ (p : ℕ). IsRead held p c.args.handle t) first c.in_ok-table.ensures.read in
-    let told = subst (λ (p : ℕ). inode_told held p c.args.handle 1 ≡ Some (digest_at t 1)) first (c.in_ok-table.ensures.told 1) in
-    let some = has_table held c.args.handle t read told in
-    let none : digest_at t 1 ≡ None = ap (digest_at t) (sym c.table-2.ensures) ∙ sym c.get.ensures.found ∙ c.in_default.is in
-    let clash : Some some.0 ≡ None = sym some.1 ∙ none in
-    absurd cc
+    let e = c.in_err-inode.field-0.0 in
+    handed_on c.from_residual.result e (Lacks held (IsOfNamed held c.args.handle)) c.from_residual.ensures.1 (lacks_chunk held c.args.handle e c.in_err-inode.ensures.missing)
 
 pub returns-clause-named : goal.returns-clause-named
 returns-clause-named g c =
     let held = g.B.Blocks.held c.args.blocks.now in
-    let t = c.in_ok-table.table in
-    let first : c.from-superuser.result ≡ 0 = c.from-superuser.ensures ∙ c.superuser.ensures in
-    let read = subst (λ (p : ℕ). IsRead held p c.args.handle t) first c.in_ok-table.ensures.read in
-    let told = subst (λ (p : ℕ). inode_told held p c.args.handle 1 ≡ Some (digest_at t 1)) first (c.in_ok-table.ensures.told 1) in
-    let at : digest_at t 1 ≡ Some c.in-Some.inode = ap (digest_at t) (sym c.table-2.ensures) ∙ sym c.get.ensures.found ∙ c.in-Some.is in
     let is = c.read_principals.ensures in
-    named_read held c.args.handle t c.in-Some.inode c.read_principals.result read told at is.fits is.reads is.taken
+    named_read held c.args.handle c.in_ok-inode.inode c.read_principals.result c.in_ok-inode.ensures.taken c.in_ok-inode.ensures.told is.fits is.reads is.taken

@@ -1,4 +1,4 @@
-use Rattle.std.proofs.Common.{◌≡◌, Option, Some, true, false, refl, sym, ap, ◌∙◌, rules}
+use Rattle.std.proofs.Common.{◌≡◌, Option, Some, true, false, refl, sym, ap, ◌∙◌, inr, rules}
 use Rattle.std.specs.Option.{option_map_or}
 use Rattle.itable.specs.Root.{Root}
 use Rattle.tree_parts.specs.Blocks.{root_at}
@@ -16,7 +16,7 @@ returns-in_default-clause-missing g c =
       | in_default-via-in-Some+else-takes_root w ↦ ap taken w.in-Some.is ∙ sym w.takes_root.ensures ∙ w.if-takes_root.false
       | in_default-via-in_default w ↦ ap taken w.in_default.is
     ] in
-    ((refl, refl), root_missing held c.args.principal c.args.handle (ap taken (sym c.in_ok-root.ensures.found) ∙ none))
+    inr (refl, root_missing held c.args.principal c.args.handle (ap taken (sym c.in_ok-root.ensures.found) ∙ none))
 
 pub returns-in-Some-clause-principal : goal.returns-in-Some-clause-principal
 returns-in-Some-clause-principal g c =
