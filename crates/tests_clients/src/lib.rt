@@ -22,6 +22,8 @@ mod place_of_table;
 #[cfg(test)]
 mod restarts;
 #[cfg(test)]
+mod second_chunk;
+#[cfg(test)]
 mod several_users;
 #[cfg(test)]
 mod two_users;

@@ -15,7 +15,7 @@ use tests_client_aids::clients::{MemoryClient, client_with, declare, hand, step_
 use tree_parts::Blocks;
 
 /// The size of the table: 64 users, and 19 rows.
-const SIZE: u32 = 4101;
+pub(crate) const SIZE: u32 = 4101;
 
 /// Its text: user 0 is a member of the groups 64 to 82.
 fn table_text(rt: &impl Host, zero: &PublicKey, one: &PublicKey) -> Vec<u8> {
@@ -46,14 +46,14 @@ fn blocks_of(rt: &impl Host, zero: &PublicKey, one: &PublicKey) -> [Vec<u8>; 2] 
 
 /// User 0's key, the table's blocks, a client of user 1, and the certificate that it declared.
 #[derive(Drop)]
-struct Scene {
-    key: PrivateKey<Global>,
-    blocks: [Vec<u8>; 2],
-    client: MemoryClient,
-    update: Vec<u8>,
+pub(crate) struct Scene {
+    pub(crate) key: PrivateKey<Global>,
+    pub(crate) blocks: [Vec<u8>; 2],
+    pub(crate) client: MemoryClient,
+    pub(crate) update: Vec<u8>,
 }
 
-fn new_scene(rt: &impl Host) -> Scene {
+pub(crate) fn new_scene(rt: &impl Host) -> Scene {
     let (key, own) = (key_of(rt, 0), key_of(rt, 1));
     let blocks = blocks_of(rt, &key.public(), &own.public());
     let mut client = client_with(rt, 1, own, key.public());
@@ -81,7 +81,7 @@ fn flipped(rt: &impl Host, text: &[u8]) -> Vec<u8> {
 }
 
 /// A store of these blocks, and of user 0's i-table over them.
-fn store_of(rt: &impl Host, blocks: &[Vec<u8>; 2]) -> (Held<Global>, Vec<u8>) {
+pub(crate) fn store_of(rt: &impl Host, blocks: &[Vec<u8>; 2]) -> (Held<Global>, Vec<u8>) {
     let Texts { root, chunk, inode } = texts_over(rt, SIZE, blocks);
     let [front, rest] = blocks;
     let mut store = Held::empty(rt.alloc());
@@ -89,18 +89,28 @@ fn store_of(rt: &impl Host, blocks: &[Vec<u8>; 2]) -> (Held<Global>, Vec<u8>) {
     (store, root)
 }
 
-/// The reply to the certificate after user 0's structure over the i-table of this root.
+/// The reply to the certificate after user 0's structure over the i-table of this root, where the plan has this vector.
+pub(crate) fn reply_with(
+    rt: &impl Host,
+    key: &PrivateKey<Global>,
+    root: &[u8],
+    update: &[u8],
+    vector: &[u8],
+) -> Vec<u8> {
+    let superuser = structure_over(rt, key, 1, root);
+    let plan = plan(rt, 1, 1, &named(update), vector, b"\0");
+    let own = pending(rt, update, &plan);
+    reply(rt, &listed(rt, &shown(rt, &superuser)), &listed(rt, &own))
+}
+
+/// The same, where the plan has the vector of a good reply.
 pub(crate) fn reply_over(
     rt: &impl Host,
     key: &PrivateKey<Global>,
     root: &[u8],
     update: &[u8],
 ) -> Vec<u8> {
-    let superuser = structure_over(rt, key, 1, root);
-    let vector = b"\x02\0\0\0\0\x01\x01\0\0\0\x01";
-    let plan = plan(rt, 1, 1, &named(update), vector, b"\0");
-    let own = pending(rt, update, &plan);
-    reply(rt, &listed(rt, &shown(rt, &superuser)), &listed(rt, &own))
+    reply_with(rt, key, root, update, b"\x02\0\0\0\0\x01\x01\0\0\0\x01")
 }
 
 /// What is handed in breaks the rule on blocks.
