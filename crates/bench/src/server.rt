@@ -124,7 +124,10 @@ pub(crate) fn visit_at<R: Host>(rt: &R, address: &str) -> Result<()> {
 /// Serves so many connections, with a log in memory.
 fn serve_all<R: Host>(rt: &R, listener: &TcpListener, most: u32, pinned: PublicKey) -> bool {
     let alloc = rt.alloc();
-    let (store, log) = (Store::new(alloc), Vec::new(alloc));
+    let Ok(store) = Store::new(alloc) else {
+        return false;
+    };
+    let log = Vec::new(alloc);
     let mut fault = None;
     let connections = Accepted::new(rt, listener, most, &mut fault);
     serve(rt, alloc, &OpenGate, connections, most, &store, pinned, log).is_ok()

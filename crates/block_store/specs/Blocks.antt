@@ -1,28 +1,24 @@
--- Stored blocks: a map from digests to bytes, in which each block stands under its own digest.
-use Rattle.std.specs.Prelude.{◌≡◌, ◌≢◌, ◌≤◌, ℕ, length, Option, Some, unwrap_or}
-use Rattle.std.specs.BTreeMap.{BTreeMap, get}
-use Rattle.std.specs.Cmp.Lexicographic.{slice_cmp}
-use Rattle.std.specs.Option.{option_map}
-use Rattle.std.specs.Ordering.{nat_cmp}
-use Rattle.std.specs.declared.vec.Vec.{Vec}
+-- A stored block beside its digest, and the passes of a store.
+use Rattle.std.specs.Prelude.{◌≡◌, ◌≤◌, ℕ, List, length, refl}
+use Rattle.std.specs.Coded.{Coded, code_by, coded×, coded_ℕ, coded_list}
+use Rattle.boxcar.specs.Table.{Shelves, Where, Shows}
 use Rattle.block_store.specs.declared.store.TheConstants.{BLOCK_LIMIT}
 use Rattle.layout.specs.Hash.{hash}
 use Rattle.layout.specs.Types.{Bytes, Digest}
 
--- the block of a digest, if one is stored
-abbrev pub Blocks : Type 0
-Blocks = Digest → Option Bytes
+-- bytes, and the digest under which they are stored
+pub record Stored : Type 0 where
+  pub digest : Digest
+  pub text : Bytes
 
--- what a tree stores
-abbrev pub blocks_of : {A : Type 0} → BTreeMap Digest (Vec ℕ A) → Blocks
-blocks_of tree digest = option_map (λ block. block.items) (get (slice_cmp nat_cmp) tree digest)
+-- as two lists of numbers
+abbrev pub stored_coded : Coded Stored
+stored_coded = code_by (List ℕ × List ℕ) (coded× (coded_list coded_ℕ) (coded_list coded_ℕ)) (λ b. (b.digest, b.text)) (λ p. record { digest = p.0; text = p.1 }) (λ _. refl)
 
--- each block has the digest under which it stands, and at most BLOCK_LIMIT bytes
-abbrev pub AreOwn : Blocks → Type 0
-AreOwn blocks = (digest : Digest) (block : Bytes) → blocks digest ≡ Some block
-    → (hash block ≡ digest) × (length block ≤ BLOCK_LIMIT)
+-- a stored block has its digest, and at most BLOCK_LIMIT bytes
+abbrev pub IsOwn : Stored → Type 0
+IsOwn block = (hash block.text ≡ block.digest) × (length block.text ≤ BLOCK_LIMIT)
 
--- what is stored once these bytes were put: a block that stood under their digest stays, and else they stand there
-pub record IsPut (before : Blocks) (bytes : Bytes) (after : Blocks) : Type 0 where
-  pub there : after (hash bytes) ≡ Some (unwrap_or (before (hash bytes)) bytes)
-  pub others : (digest : Digest) → digest ≢ hash bytes → after digest ≡ before digest
+-- the pass is one of this store
+abbrev pub IsOf : Shelves → Where Stored → Type 0
+IsOf store pass = Shows store pass

@@ -1,14 +1,15 @@
-//! Blocks, stored by their digests and shared by threads: a map from digests to bytes under a lock.
+//! Blocks, stored by their digests and shared by threads: each stands at its number for good and is read without a
+//! lock, and the numbers are found by digest under a lock.
 //!
-//! What lies under the lock is a `Shelf`: each block stands under its own digest, a put keeps the block and all that
-//! stood there, and a look-up finds just what is there (specs/Blocks.antt, and the clauses of `Shelf`). The clauses of
-//! `Store` say what a caller in any thread knows of what it is given. No clause says that its calls go to the shelf,
-//! and so that a block which was put is found: tests show that.
+//! A stored block has the digest that stands beside it, and at most 32,779 bytes (specs/Blocks.antt). Who stored or
+//! found a block has a pass, and reads with it, in any thread, just the bytes that were put. The lock keeps numbers
+//! alone, and no clause can name what it keeps: so a block that is found is compared with the digest once more. That a
+//! block which was put is found, and which number it has, is shown by tests.
 #![tactic(auto)]
 
+mod block;
 mod error;
 mod pass;
-mod shelf;
 mod store;
 
 pub use error::StoreError;

@@ -1,6 +1,7 @@
-pub mod Texts
+pub mod Kept
+pub mod Long
 pub mod Placing
 pub mod Rows
-pub mod Tidy
-pub mod Kept
 pub mod Serving
+pub mod Texts
+pub mod Tidy

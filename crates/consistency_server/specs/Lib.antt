@@ -3,6 +3,8 @@ pub mod State
 pub mod Answers
 pub mod History
 pub mod Reading
+pub mod Signer
+pub mod Verified
 pub mod Tidy
 pub mod Judged
 pub mod Serving

@@ -8,9 +8,13 @@ mod placement;
 mod refusal;
 mod server;
 mod signed_text;
+mod signer;
 mod state;
 mod structures;
+mod verified;
 
 pub use call::{Answer, Call, CallKind};
 pub use log::{Log, LogFull, MemoryLog};
 pub use server::Ordered;
+pub use signer::signer_of;
+pub use verified::Verified;

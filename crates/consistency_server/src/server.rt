@@ -8,7 +8,8 @@ use crate::call::{Answer, Call, CallKind};
 use crate::log::Log;
 use crate::refusal::Refusal;
 use crate::state::{NewEvent, State, Verdict};
-use layout::{Memory, let_go};
+use crate::verified::Verified;
+use layout::{Memory, User, let_go};
 use lms_sign::PublicKey;
 use std::alloc::Allocator;
 use std::marker::Model;
@@ -158,7 +159,8 @@ fn carry_out<A: Allocator + Copy, G: Log<Call<A>>>(
 
 impl<A: Allocator + Copy> Ordered<A> {
     ghost use Rattle.consistency_server.specs.History.{call_of, update_of, commit_of, answer_of, logged};
-    ghost use Rattle.consistency_server.specs.History.{is_carried_out};
+    ghost use Rattle.consistency_server.specs.History.{is_carried_out, kept};
+    ghost use Rattle.principals.specs.Table.{key_of};
     ghost use Rattle.wire.specs.declared.kinds.Status.TheVariants as status;
 
     /// Before the first call. `pinned` is the key that every client knows, user 0's.
@@ -179,6 +181,13 @@ impl<A: Allocator + Copy> Ordered<A> {
         &self.history
     }
 
+    /// The key by which a signature of the user is judged in the next call.
+    pub fn key_of(&self, user: User) -> Option<PublicKey>
+        ensures { result ≡ key_of user (kept self.now.pinned self.now.history).table }
+    {
+        self.state.key_of(user)
+    }
+
     /// Answers an UPDATE, whose text is a signed certificate.
     pub fn update<G: Log<Call<A>>>(&mut self, log: &mut G, text: &[u8]) -> Answer<A>
         ensures answer { is_carried_out result.status ≡ true
@@ -194,7 +203,7 @@ impl<A: Allocator + Copy> Ordered<A> {
         ensures same { is_carried_out result.status ≡ false → self.new ≡ self.old }
         ensures log_same { is_carried_out result.status ≡ false → G.pushed log.new ≡ G.pushed log.old }
     {
-        self.answer(log, CallKind::Update, text)
+        self.answer(log, CallKind::Update, text, None)
     }
 
     /// Answers a COMMIT, whose text is a signed structure.
@@ -212,11 +221,17 @@ impl<A: Allocator + Copy> Ordered<A> {
         ensures same { is_carried_out result.status ≡ false → self.new ≡ self.old }
         ensures log_same { is_carried_out result.status ≡ false → G.pushed log.new ≡ G.pushed log.old }
     {
-        self.answer(log, CallKind::Commit, text)
+        self.answer(log, CallKind::Commit, text, None)
     }
 
-    /// Answers a call.
-    fn answer<G: Log<Call<A>>>(&mut self, log: &mut G, kind: CallKind, text: &[u8]) -> Answer<A>
+    /// Answers a call. What is known of its signature isn't verified again, and makes no other difference.
+    pub fn answer<G: Log<Call<A>>>(
+        &mut self,
+        log: &mut G,
+        kind: CallKind,
+        text: &[u8],
+        known: Option<&Verified<'_>>,
+    ) -> Answer<A>
         ensures answer { is_carried_out result.status ≡ true
             → result ≡ answer_of self.old.pinned self.old.history (call_of kind text.now) }
         ensures history { is_carried_out result.status ≡ true
@@ -224,13 +239,14 @@ impl<A: Allocator + Copy> Ordered<A> {
         ensures log { is_carried_out result.status ≡ true
             → G.pushed log.new ≡ G.pushed log.old ++ logged self.old (call_of kind text.now) }
         ensures busy { result.status ≡ status.Busy → IsTrue (G.may_be_full log.old) }
+        // It would have gone to the log.
         ensures busy_logged { result.status ≡ status.Busy → logged self.old (call_of kind text.now) ≢ [] }
         ensures bare { is_carried_out result.status ≡ false → result.payload ≡ [] }
         ensures same { is_carried_out result.status ≡ false → self.new ≡ self.old }
         ensures log_same { is_carried_out result.status ≡ false → G.pushed log.new ≡ G.pushed log.old }
     {
         let alloc = *self.history.allocator();
-        match self.try_answer(log, kind, text) {
+        match self.try_answer(log, kind, text, known) {
             Ok(answer) => answer,
             Err(refusal) => Answer::bare(alloc, refusal.status()),
         }
@@ -242,6 +258,7 @@ impl<A: Allocator + Copy> Ordered<A> {
         log: &mut G,
         kind: CallKind,
         text: &[u8],
+        known: Option<&Verified<'_>>,
     ) -> Result<Answer<A>, Refusal>
         ensures answer { IfOk result
             (λ answer. answer ≡ answer_of self.old.pinned self.old.history (call_of kind text.now)) }
@@ -256,7 +273,7 @@ impl<A: Allocator + Copy> Ordered<A> {
         ensures busy_logged { result ≡ Err Refusal.Busy → logged self.old (call_of kind text.now) ≢ [] }
     {
         let alloc = *self.history.allocator();
-        let judged = self.state.judge(alloc, kind, text)?;
+        let judged = self.state.judge(alloc, kind, text, known)?;
         carry_out(&mut self.state, &mut self.history, log, kind, text, judged)
     }
 }

@@ -11,7 +11,7 @@ ghost use Rattle.version_order.specs.Structure.{structure};
 ghost use Rattle.update_cert.specs.Cert.{cert, digest_of};
 ghost use Rattle.pending_list.specs.Signed.{signed};
 ghost use Rattle.pending_list.specs.Reply.{user_of, reply};
-ghost use Rattle.principals.specs.Table.{genesis};
+ghost use Rattle.principals.specs.Table.{genesis, key_of};
 ghost use Rattle.consistency_server.specs.Event.{Placed};
 ghost use Rattle.consistency_server.specs.State.{after_operation, pending_of, next_plan, next_reply, commits};
 ghost use Rattle.consistency_server.specs.Answers.{Happens, outcome_of, read_update, read_commit, placing};
@@ -25,8 +25,9 @@ use crate::log::Log;
 use crate::payload::Payload;
 use crate::placement::{Placement, entries_of, have_plan, pending_of, place, take_out, with_cert};
 use crate::refusal::Refusal;
-use crate::signed_text::{is_signed, read_signed, spells, unsigned};
+use crate::signed_text::{is_signed, read_cert, read_structure, spells, unsigned};
 use crate::structures::{put, structure_of};
+use crate::verified::Verified;
 use layout::{Digest, Memory, Principal, User, digest, let_go, put_in};
 use lms_sign::PublicKey;
 use pending_list::{PendingItem, Reply, Signed, digest_of_last, groups_at};
@@ -188,29 +189,47 @@ impl<A: Allocator + Copy> State<A> {
         }
     }
 
+    /// The key of a user.
+    pub(crate) fn key_of(&self, user: User) -> Option<PublicKey>
+        ensures { result ≡ key_of user self.now.table }
+    {
+        self.table.key_of(user)
+    }
+
     /// What a call leads to.
     #[tactic(auto, unfolding(crate::specs::Answers::outcome_of))]
-    pub(crate) fn judge(&self, alloc: A, kind: CallKind, text: &[u8]) -> Result<Verdict<A>, Memory>
+    pub(crate) fn judge(
+        &self,
+        alloc: A,
+        kind: CallKind,
+        text: &[u8],
+        known: Option<&Verified<'_>>,
+    ) -> Result<Verdict<A>, Memory>
         ensures { IfOk result (λ judged. JudgedAs self.now judged (outcome_of self.now (call_of kind text.now))) }
     {
         match kind {
-            CallKind::Update => self.judge_update(alloc, text),
-            CallKind::Commit => self.judge_commit(alloc, text),
+            CallKind::Update => self.judge_update(alloc, text, known),
+            CallKind::Commit => self.judge_commit(alloc, text, known),
         }
     }
 
     /// What an UPDATE leads to.
-    fn judge_update(&self, alloc: A, text: &[u8]) -> Result<Verdict<A>, Memory>
+    fn judge_update(
+        &self,
+        alloc: A,
+        text: &[u8],
+        known: Option<&Verified<'_>>,
+    ) -> Result<Verdict<A>, Memory>
         ensures { IfOk result (λ judged. JudgedAs self.now judged
             (read_update self.now (whole (signed cert) text.now))) }
     {
-        let Some(found) = read_signed::<A, Cert<A>>(alloc, text)? else {
+        let Some(found) = read_cert(alloc, text)? else {
             return Ok(Verdict::Refused(Status::Form));
         };
         let Some(key) = self.table.key_of(found.value.user()) else {
             return Ok(Verdict::Refused(Status::UnknownUser));
         };
-        if !is_signed::<A, Cert<A>>(&key, &found, text) {
+        if !is_signed::<A, Cert<A>>(&key, &found, text, known) {
             return Ok(Verdict::Refused(Status::BadSignature));
         }
         self.judge_certificate(alloc, text, found)
@@ -353,17 +372,22 @@ impl<A: Allocator + Copy> State<A> {
     }
 
     /// What a COMMIT leads to.
-    fn judge_commit(&self, alloc: A, text: &[u8]) -> Result<Verdict<A>, Memory>
+    fn judge_commit(
+        &self,
+        alloc: A,
+        text: &[u8],
+        known: Option<&Verified<'_>>,
+    ) -> Result<Verdict<A>, Memory>
         ensures { IfOk result (λ judged. JudgedAs self.now judged
             (read_commit self.now (whole (signed structure) text.now))) }
     {
-        let Some(found) = read_signed::<A, Structure<A>>(alloc, text)? else {
+        let Some(found) = read_structure(alloc, text)? else {
             return Ok(Verdict::Refused(Status::Form));
         };
         let Some(key) = self.table.key_of(found.value.plan().user()) else {
             return Ok(Verdict::Refused(Status::UnknownUser));
         };
-        if !is_signed::<A, Structure<A>>(&key, &found, text) {
+        if !is_signed::<A, Structure<A>>(&key, &found, text, known) {
             return Ok(Verdict::Refused(Status::BadSignature));
         }
         self.judge_structure(alloc, text, found)

@@ -3,7 +3,7 @@
 use consistency_server::Call;
 use crossbeam_queue::protocol::{Join, Lesson, Outcome, Protocol, Split};
 use crossbeam_queue::{Pass, RuledArrayQueue};
-use std::alloc::Global;
+use std::alloc::{Allocator, Global};
 use std::collections::LinkedList;
 use std::marker::Brand;
 
@@ -35,7 +35,8 @@ impl ServerName for Brand {
     ghost before = { None };
 }
 
-// What a pass may do, what it has pushed and what it has popped. No value of it is made.
+// What a pass may do, what it has pushed and what it has popped. No value of it is made, and contracts see a call of
+// any allocator as one type.
 pub struct Hand {
     pub pushes: bool,
     pub pops: bool,
@@ -46,7 +47,7 @@ pub struct Hand {
 /// The rule: what was popped, and then what the queue holds, is what was pushed.
 pub struct InOrder;
 
-impl Protocol<Call<Global>, Hand> for InOrder {
+impl<A: Allocator> Protocol<Call<A>, Hand> for InOrder {
     ghost use Rattle.std.specs.Prelude.{true, []};
     ghost use Rattle.server_workers.specs.Hands.{hand};
     ghost use Rattle.server_workers.specs.Relay.{Relayed};
@@ -81,14 +82,14 @@ impl Join<Hand> for Roles {
 /// A push: the call comes after what was pushed. A full queue holds an end of what was pushed.
 pub struct Pushes;
 
-impl Outcome<Call<Global>, Hand> for Pushes {
+impl<A: Allocator> Outcome<Call<A>, Hand> for Pushes {
     ghost use Rattle.std.specs.Prelude.{◌≡◌, [], ◌∷◌, ◌++◌};
     ghost use Rattle.server_workers.specs.Hands.{hand};
 
     ghost then = { λ v x w. w ≡ hand v.pushes v.pops (v.sent ++ x ∷ []) v.got };
 }
 
-impl Lesson<Call<Global>, Hand> for Pushes {
+impl<A: Allocator> Lesson<Call<A>, Hand> for Pushes {
     ghost use Rattle.server_workers.specs.Relay.{HoldsEnd};
 
     ghost fact = { HoldsEnd };
@@ -97,21 +98,21 @@ impl Lesson<Call<Global>, Hand> for Pushes {
 /// A pop: the call comes after what was popped. Who holds both ends knows what the queue holds.
 pub struct Takes;
 
-impl Outcome<Call<Global>, Hand> for Takes {
+impl<A: Allocator> Outcome<Call<A>, Hand> for Takes {
     ghost use Rattle.std.specs.Prelude.{◌≡◌, [], ◌∷◌, ◌++◌};
     ghost use Rattle.server_workers.specs.Hands.{hand};
 
     ghost then = { λ v x w. w ≡ hand v.pushes v.pops v.sent (v.got ++ x ∷ []) };
 }
 
-impl Lesson<Call<Global>, Hand> for Takes {
+impl<A: Allocator> Lesson<Call<A>, Hand> for Takes {
     ghost use Rattle.std.specs.Prelude.{◌≡◌, true, ◌++◌};
 
     ghost fact = { λ v items. v.pushes ≡ true → v.pops ≡ true → v.sent ≡ v.got ++ items };
 }
 
 /// The queue of calls.
-pub type CallQueue = RuledArrayQueue<Call<Global>, Hand, InOrder>;
+pub type CallQueue<A> = RuledArrayQueue<Call<A>, Hand, InOrder, A>;
 
 /// A pass of it.
-pub type CallPass = Pass<Call<Global>, Hand>;
+pub type CallPass<A> = Pass<Call<A>, Hand>;

@@ -7,6 +7,7 @@ ghost use Rattle.server_workers.specs.Flushing.{IsFlushed, Wrote};
 
 use crate::call_queue::{CallPass, CallQueue, Roles, ServerName, Takes};
 use crate::writing::write_record;
+use std::alloc::Allocator;
 use std::io::Write;
 use std::marker::{Model, PhantomData};
 use std::sync::Wait;
@@ -20,16 +21,16 @@ const REST: u64 = 1;
 /// Takes calls from the log and writes their records. Contracts see what its pass knows, and whether a write failed.
 /// What was written is always the records of what was taken, or after a failed write a beginning of them.
 #[derive(Drop)]
-pub struct Flusher<'a, B: ServerName, R: Wait, W: Write + Drop> {
+pub struct Flusher<'a, A: Allocator, B: ServerName, R: Wait, W: Write + Drop> {
     rt: &'a R,
-    queue: &'a CallQueue,
-    pass: CallPass,
+    queue: &'a CallQueue<A>,
+    pass: CallPass<A>,
     writer: W,
     failed: bool,
     server: PhantomData<B>,
 }
 
-impl<'a, B: ServerName, R: Wait, W: Write + Drop> Model for Flusher<'a, B, R, W> {
+impl<'a, A: Allocator, B: ServerName, R: Wait, W: Write + Drop> Model for Flusher<'a, A, B, R, W> {
     ghost use Rattle.std.specs.Prelude.{◌≡◌, true};
     ghost use Rattle.crossbeam_queue.specs.Passes.{IsPassOf};
     ghost use Rattle.server_workers.specs.Hands.{hand_of};
@@ -49,9 +50,14 @@ pub(crate) struct Flushed<W> {
     pub(crate) flushed: bool,
 }
 
-impl<'a, B: ServerName, R: Wait, W: Write + Drop> Flusher<'a, B, R, W> {
+impl<'a, A: Allocator, B: ServerName, R: Wait, W: Write + Drop> Flusher<'a, A, B, R, W> {
     /// Nothing was taken yet. `pass` is the one that pops.
-    pub fn new(rt: &'a R, queue: &'a CallQueue, pass: CallPass, writer: W) -> Flusher<'a, B, R, W>
+    pub fn new(
+        rt: &'a R,
+        queue: &'a CallQueue<A>,
+        pass: CallPass<A>,
+        writer: W,
+    ) -> Flusher<'a, A, B, R, W>
         requires queue { IsPassOf queue.now pass × (pass.table_id ≡ B.queue) }
         requires empty { hand_of pass ≡ hand false true [] [] }
         requires before { W.contents writer ≡ B.before }
@@ -119,7 +125,7 @@ impl<'a, B: ServerName, R: Wait, W: Write + Drop> Flusher<'a, B, R, W> {
     }
 
     /// Flushes again and again, and once more when the workers have ended. It rests between one flush and the next.
-    pub(crate) fn run(self, ended: &AtomicBool) -> Flusher<'a, B, R, W>
+    pub(crate) fn run(self, ended: &AtomicBool) -> Flusher<'a, A, B, R, W>
     where
         R: Clock,
     {
@@ -137,7 +143,7 @@ impl<'a, B: ServerName, R: Wait, W: Write + Drop> Flusher<'a, B, R, W> {
     }
 
     /// The last flush, by who holds both ends.
-    pub(crate) fn finish(self, pushing: CallPass) -> Flushed<W>
+    pub(crate) fn finish(self, pushing: CallPass<A>) -> Flushed<W>
         requires queue { (pushing.table_id ≡ B.queue) × (pushing.me.1 ≡ []) }
         requires pushes { (hand_of pushing).pushes ≡ true }
         ensures { IsFlushed result.flushed B.before (W.contents result.writer) (hand_of pushing).sent }
@@ -151,7 +157,7 @@ impl<'a, B: ServerName, R: Wait, W: Write + Drop> Flusher<'a, B, R, W> {
             server,
         } = self;
         queue.absorb::<Roles>(&mut pass, pushing);
-        let mut whole: Flusher<'a, B, R, W> = Flusher {
+        let mut whole: Flusher<'a, A, B, R, W> = Flusher {
             rt,
             queue,
             pass,

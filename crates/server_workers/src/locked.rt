@@ -1,7 +1,8 @@
 //! What lies under the lock.
 
 ghost use Rattle.std.specs.Prelude.{◌≡◌, [], ◌∷◌, ◌+◌, ◌<◌, true, false, length, leb, IsTrue};
-ghost use Rattle.consistency_server.specs.History.{call_of, answer_of, log_of, is_carried_out};
+ghost use Rattle.principals.specs.Table.{key_of};
+ghost use Rattle.consistency_server.specs.History.{call_of, answer_of, log_of, is_carried_out, kept};
 ghost use Rattle.wire.specs.declared.kinds.Status.TheVariants as status;
 ghost use Rattle.server_workers.specs.Hands.{hand, hand_of};
 ghost use Rattle.server_workers.specs.Counting.{count_of};
@@ -10,8 +11,10 @@ ghost use Rattle.server_workers.specs.declared.call_queue.TheConstants.{QUEUE_RO
 use crate::call_queue::{CallPass, ServerName};
 use crate::queue_log::QueueLog;
 use crate::tally::Tally;
-use consistency_server::{Answer, Call, CallKind, Log, Ordered};
-use std::alloc::Global;
+use consistency_server::{Answer, Call, CallKind, Log, Ordered, Verified};
+use layout::User;
+use lms_sign::PublicKey;
+use std::alloc::Allocator;
 use std::marker::Model;
 use std::sync::Wait;
 use std::sync::ledger::{Book, Ledger};
@@ -21,13 +24,13 @@ use wire::Status;
 /// Whenever the lock is got, the log was pushed what the history leaves in it, and as many calls were counted as it
 /// has.
 #[derive(Drop)]
-pub struct Locked<'a, B: ServerName, L: Ledger, R: Wait> {
-    ordered: Ordered<Global>,
-    log: QueueLog<'a, B, R>,
+pub struct Locked<'a, A: Allocator, B: ServerName, L: Ledger, R: Wait> {
+    ordered: Ordered<A>,
+    log: QueueLog<'a, A, B, R>,
     book: Book<L>,
 }
 
-impl<'a, B: ServerName, L: Ledger, R: Wait> Model for Locked<'a, B, L, R> {
+impl<'a, A: Allocator, B: ServerName, L: Ledger, R: Wait> Model for Locked<'a, A, B, L, R> {
     ghost use Rattle.std.specs.Prelude.{◌≡◌, length};
     ghost use Rattle.consistency_server.specs.History.{Ordered, log_of};
 
@@ -46,13 +49,15 @@ pub(crate) fn is_carried_out(status: Status) -> bool
     !matches!(status, Status::Busy | Status::Memory)
 }
 
-/// Carries out a call of either kind, over a log that was pushed what the history leaves in it.
-fn carry_out<G: Log<Call<Global>>>(
-    ordered: &mut Ordered<Global>,
+/// Carries out a call of either kind, over a log that was pushed what the history leaves in it. `known` is what was
+/// verified of its signature before.
+fn carry_out<A: Allocator + Copy, G: Log<Call<A>>>(
+    ordered: &mut Ordered<A>,
     log: &mut G,
     kind: CallKind,
     text: &[u8],
-) -> Answer<Global>
+    known: Option<&Verified<'_>>,
+) -> Answer<A>
     requires { G.pushed log.old ≡ log_of ordered.old.pinned ordered.old.history }
     ensures answer { is_carried_out result.status ≡ true
         → result ≡ answer_of ordered.old.pinned ordered.old.history (call_of kind text.now) }
@@ -63,30 +68,34 @@ fn carry_out<G: Log<Call<Global>>>(
     ensures log { G.pushed log.new ≡ log_of ordered.new.pinned ordered.new.history }
     ensures busy { result.status ≡ status.Busy → IsTrue (G.may_be_full log.old) }
 {
-    match kind {
-        CallKind::Update => ordered.update(log, text),
-        CallKind::Commit => ordered.commit(log, text),
-    }
+    ordered.answer(log, kind, text, known)
 }
 
 /// How many calls the history has.
-fn call_count(ordered: &Ordered<Global>) -> usize
+fn call_count<A: Allocator + Copy>(ordered: &Ordered<A>) -> usize
     ensures { result ≡ length ordered.now.history }
 {
     ordered.history().len()
 }
 
-impl<'a, B: ServerName, L: Ledger, R: Wait> Locked<'a, B, L, R> {
+impl<'a, A: Allocator + Copy, B: ServerName, L: Ledger, R: Wait> Locked<'a, A, B, L, R> {
     /// Before the first call.
     pub(crate) fn new(
-        ordered: Ordered<Global>,
-        log: QueueLog<'a, B, R>,
+        ordered: Ordered<A>,
+        log: QueueLog<'a, A, B, R>,
         book: Book<L>,
-    ) -> Locked<'a, B, L, R>
+    ) -> Locked<'a, A, B, L, R>
         requires { (ordered ≡ record { pinned = B.pinned; history = [] }) × (log ≡ []) × (book.total ≡ 0) }
         ensures { result ≡ record { pinned = B.pinned; history = [] } }
     {
         Locked { ordered, log, book }
+    }
+
+    /// The key by which a signature of the user is judged in the next call.
+    pub(crate) fn key_of(&self, user: User) -> Option<PublicKey>
+        ensures { result ≡ key_of user (kept B.pinned self.now.history).table }
+    {
+        self.ordered.key_of(user)
     }
 
     /// Carries out a call, and counts it where it is answered otherwise than busy or out of memory.
@@ -95,7 +104,8 @@ impl<'a, B: ServerName, L: Ledger, R: Wait> Locked<'a, B, L, R> {
         mine: &mut Tally<L>,
         kind: CallKind,
         text: &[u8],
-    ) -> Answer<Global>
+        known: Option<&Verified<'_>>,
+    ) -> Answer<A>
         requires { 0 < mine.old.share.parts }
         ensures answer { is_carried_out result.status ≡ true
             → result ≡ answer_of B.pinned self.old.history (call_of kind text.now) }
@@ -110,7 +120,7 @@ impl<'a, B: ServerName, L: Ledger, R: Wait> Locked<'a, B, L, R> {
     {
         let Locked { ordered, log, book } = self;
         let Tally { answered, share } = mine;
-        let answer = carry_out(ordered, log, kind, text);
+        let answer = carry_out(ordered, log, kind, text, known);
         if is_carried_out(answer.status()) {
             book.add(share, 1);
             book.audit(share);
@@ -133,7 +143,7 @@ impl<'a, B: ServerName, L: Ledger, R: Wait> Locked<'a, B, L, R> {
     }
 
     /// When all workers have ended: the history has as many calls as they answered.
-    pub(crate) fn close(self, all: &mut Tally<L>) -> (Ordered<Global>, CallPass)
+    pub(crate) fn close(self, all: &mut Tally<L>) -> (Ordered<A>, CallPass<A>)
         requires { all.old.share.parts ≡ L.parts }
         ensures pinned { result.0.pinned ≡ B.pinned }
         ensures counted { length result.0.history ≡ all.new.answered }

@@ -7,20 +7,20 @@ ghost use Rattle.server_workers.specs.declared.call_queue.TheConstants.{QUEUE_RO
 
 use crate::call_queue::{CallPass, CallQueue, Pushes, ServerName};
 use consistency_server::{Call, Log, LogFull};
-use std::alloc::Global;
+use std::alloc::Allocator;
 use std::marker::{Model, PhantomData};
 use std::sync::Wait;
 
 /// The end of the queue that pushes. Contracts see what was pushed, the oldest first.
 #[derive(Drop)]
-pub(crate) struct QueueLog<'a, B: ServerName, R: Wait> {
+pub(crate) struct QueueLog<'a, A: Allocator, B: ServerName, R: Wait> {
     rt: &'a R,
-    queue: &'a CallQueue,
-    pass: CallPass,
+    queue: &'a CallQueue<A>,
+    pass: CallPass<A>,
     server: PhantomData<B>,
 }
 
-impl<'a, B: ServerName, R: Wait> Model for QueueLog<'a, B, R> {
+impl<'a, A: Allocator, B: ServerName, R: Wait> Model for QueueLog<'a, A, B, R> {
     ghost use Rattle.std.specs.Prelude.{◌≡◌, List, [], true, false};
     ghost use Rattle.crossbeam_queue.specs.Passes.{IsPassOf, ruled_capacity};
     ghost use Rattle.consistency_server.specs.Answers.{Call};
@@ -35,9 +35,13 @@ impl<'a, B: ServerName, R: Wait> Model for QueueLog<'a, B, R> {
         × (ruled_capacity l.queue.now ≡ QUEUE_ROOM) × (hand_of l.pass ≡ hand true false (hand_of l.pass).sent []) };
 }
 
-impl<'a, B: ServerName, R: Wait> QueueLog<'a, B, R> {
+impl<'a, A: Allocator, B: ServerName, R: Wait> QueueLog<'a, A, B, R> {
     /// The end of a queue into which nothing was pushed.
-    pub(crate) fn new(rt: &'a R, queue: &'a CallQueue, pass: CallPass) -> QueueLog<'a, B, R>
+    pub(crate) fn new(
+        rt: &'a R,
+        queue: &'a CallQueue<A>,
+        pass: CallPass<A>,
+    ) -> QueueLog<'a, A, B, R>
         requires queue { IsPassOf queue.now pass × (pass.table_id ≡ B.queue) × (ruled_capacity queue.now ≡ QUEUE_ROOM) }
         requires empty { hand_of pass ≡ hand true false [] [] }
         ensures { result ≡ [] }
@@ -50,7 +54,7 @@ impl<'a, B: ServerName, R: Wait> QueueLog<'a, B, R> {
         }
     }
 
-    pub(crate) fn into_pass(self) -> CallPass
+    pub(crate) fn into_pass(self) -> CallPass<A>
         ensures queue { (result.table_id ≡ B.queue) × (result.me.1 ≡ []) }
         ensures pushed { hand_of result ≡ hand true false self.entry [] }
     {
@@ -59,7 +63,7 @@ impl<'a, B: ServerName, R: Wait> QueueLog<'a, B, R> {
     }
 }
 
-impl<'a, B: ServerName, R: Wait> Log<Call<Global>> for QueueLog<'a, B, R> {
+impl<'a, A: Allocator, B: ServerName, R: Wait> Log<Call<A>> for QueueLog<'a, A, B, R> {
     ghost use Rattle.std.specs.Prelude.{leb, length};
     ghost use Rattle.server_workers.specs.declared.call_queue.TheConstants.{QUEUE_ROOM};
 
@@ -68,7 +72,7 @@ impl<'a, B: ServerName, R: Wait> Log<Call<Global>> for QueueLog<'a, B, R> {
     // Once it was full, at least 1,024 calls were pushed.
     ghost may_be_full = { λ l. leb QUEUE_ROOM (length l) };
 
-    fn try_push(&mut self, event: Call<Global>) -> Result<(), LogFull> {
+    fn try_push(&mut self, event: Call<A>) -> Result<(), LogFull> {
         match self
             .queue
             .push_as::<Pushes, R>(self.rt, &mut self.pass, event)

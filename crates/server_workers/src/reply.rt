@@ -7,18 +7,18 @@ ghost use Rattle.server_workers.specs.Conversation.{bare, ok};
 
 use consistency_server::Answer;
 use layout::Memory;
-use std::alloc::Global;
+use std::alloc::Allocator;
 use std::marker::Model;
 use wire::{Status, reply_frame};
 
 /// A status, and what comes with `Ok`: no more bytes than a frame takes.
 #[derive(Drop)]
-pub(crate) struct ReplyBody {
+pub(crate) struct ReplyBody<A: Allocator> {
     status: Status,
-    payload: Vec<u8>,
+    payload: Vec<u8, A>,
 }
 
-impl Model for ReplyBody {
+impl<A: Allocator> Model for ReplyBody<A> {
     ghost use Rattle.std.specs.Prelude.{◌≡◌, ◌<◌, true, length};
     ghost use Rattle.wire.specs.Frame.{may_carry};
     ghost use Rattle.consistency_server.specs.Answers.{Answer};
@@ -31,9 +31,9 @@ impl Model for ReplyBody {
     ghost invariant = { λ r. (may_carry r.status r.payload.items ≡ true) × (length r.payload.items < BODY_LIMIT) };
 }
 
-impl ReplyBody {
+impl<A: Allocator> ReplyBody<A> {
     /// A status with nothing after it.
-    pub(crate) fn bare(alloc: Global, status: Status) -> ReplyBody
+    pub(crate) fn bare(alloc: A, status: Status) -> ReplyBody<A>
         ensures { result ≡ bare status }
     {
         ReplyBody {
@@ -43,7 +43,7 @@ impl ReplyBody {
     }
 
     /// `Ok`, with what comes with it.
-    pub(crate) fn ok(payload: Vec<u8>) -> ReplyBody
+    pub(crate) fn ok(payload: Vec<u8, A>) -> ReplyBody<A>
         requires { length payload.items < BODY_LIMIT }
         ensures { result ≡ ok payload.items }
     {
@@ -54,7 +54,7 @@ impl ReplyBody {
     }
 
     /// The answer to a call.
-    pub(crate) fn of(answer: Answer<Global>) -> ReplyBody
+    pub(crate) fn of(answer: Answer<A>) -> ReplyBody<A>
         ensures { result ≡ answer }
     {
         let status = answer.status();
@@ -66,7 +66,7 @@ impl ReplyBody {
     }
 
     /// Its frame.
-    pub(crate) fn frame(&self, alloc: Global) -> Result<Vec<u8>, Memory>
+    pub(crate) fn frame(&self, alloc: A) -> Result<Vec<u8, A>, Memory>
         ensures { IfOk result (λ bytes. bytes.items ≡ frame.spell (reply_body self.now.status self.now.payload)) }
     {
         reply_frame(alloc, self.status, &self.payload)

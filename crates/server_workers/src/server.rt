@@ -20,7 +20,7 @@ use block_store::Store;
 use consistency_server::Ordered;
 use layout::Memory;
 use lms_sign::PublicKey;
-use std::alloc::Global;
+use std::alloc::{Allocator, Global};
 use std::io::Write;
 use std::marker::Brand;
 use std::sync::Wait;
@@ -32,9 +32,9 @@ use std::time::Clock;
 
 /// What is left of a server.
 #[derive(Drop)]
-pub struct Served<W> {
+pub struct Served<W, A: Allocator = Global> {
     /// The one order of calls.
-    pub ordered: Ordered<Global>,
+    pub ordered: Ordered<A>,
     /// How many UPDATE and COMMIT calls the workers carried out: those answered otherwise than busy or out of memory.
     pub answered: u64,
     /// The connections for which no thread could be started, and which were dropped unread.
@@ -45,11 +45,18 @@ pub struct Served<W> {
 }
 
 /// A worker's whole work, unless no thread could be started for it: then its connection is dropped unread.
-fn work_unless_unread<G: Gate, C: Connection, B: ServerName, L: Ledger, R: Wait>(
+fn work_unless_unread<
+    A: Allocator + Copy,
+    G: Gate,
+    C: Connection,
+    B: ServerName,
+    L: Ledger,
+    R: Wait,
+>(
     rt: &R,
     is_unread: &AtomicBool,
     connection: C,
-    shared: &Shared<'_, B, L, R>,
+    shared: &Shared<'_, A, B, L, R>,
     gate: &G,
     part: WorkerTally<L>,
 ) -> WorkerTally<L> {
@@ -60,7 +67,7 @@ fn work_unless_unread<G: Gate, C: Connection, B: ServerName, L: Ledger, R: Wait>
 }
 
 /// A flag for each connection: that it is dropped unread.
-fn flags(alloc: Global, count: usize) -> Result<Vec<AtomicBool>, Memory>
+fn flags<A: Allocator>(alloc: A, count: usize) -> Result<Vec<AtomicBool, A>, Memory>
     ensures { IfOk result (λ v. vec_len v ≡ count) }
 {
     let mut all = Vec::new(alloc);
@@ -76,6 +83,7 @@ fn start<
     's,
     'a: 's,
     E,
+    A: Allocator + Copy + Send + Sync + 's,
     G: Gate + Sync,
     C: Connection + Send + 's,
     I: Iterator<Item = C> + Drop,
@@ -85,12 +93,12 @@ fn start<
 >(
     rt: &'s R,
     scope: &'s Scope<'s, E>,
-    shared: &'s Shared<'a, B, L, R>,
+    shared: &'s Shared<'a, A, B, L, R>,
     gate: &'s G,
     connections: I,
     unread: &'s [AtomicBool],
     all: &mut Tally<L>,
-    running: &mut Vec<JoinHandle<WorkerTally<L>>>,
+    running: &mut Vec<JoinHandle<WorkerTally<L>>, A>,
 ) -> usize
     requires can { I.can_next connections × IsFinite (I.remaining connections) }
     requires parts { (length unread.now + 1 ≡ L.parts) × (all.old.share.parts ≡ L.parts) }
@@ -121,11 +129,16 @@ fn start<
 }
 
 /// Waits for the workers, and puts their tallies together.
-fn gather<B: ServerName + Send + Sync, L: Ledger + Send + Sync, R: Threads + Wait + Sync>(
+fn gather<
+    A: Allocator + Copy + Send + Sync,
+    B: ServerName + Send + Sync,
+    L: Ledger + Send + Sync,
+    R: Threads + Wait + Sync,
+>(
     rt: &R,
-    shared: &Shared<'_, B, L, R>,
+    shared: &Shared<'_, A, B, L, R>,
     all: &mut Tally<L>,
-    running: Vec<JoinHandle<WorkerTally<L>>>,
+    running: Vec<JoinHandle<WorkerTally<L>>, A>,
 )
     requires { all.old.share.parts + vec_len running ≡ L.parts }
     ensures { all.new.share.parts ≡ L.parts }
@@ -142,6 +155,7 @@ fn run_all<
     's,
     'a: 's,
     E,
+    A: Allocator + Copy + Send + Sync + 's,
     G: Gate + Sync,
     C: Connection + Send + 's,
     I: Iterator<Item = C> + Drop,
@@ -151,12 +165,12 @@ fn run_all<
 >(
     rt: &'s R,
     scope: &'s Scope<'s, E>,
-    shared: &'s Shared<'a, B, L, R>,
+    shared: &'s Shared<'a, A, B, L, R>,
     gate: &'s G,
     connections: I,
     unread: &'s [AtomicBool],
     stock: Tally<L>,
-    running: Vec<JoinHandle<WorkerTally<L>>>,
+    running: Vec<JoinHandle<WorkerTally<L>>, A>,
 ) -> (Tally<L>, usize)
     requires can { I.can_next connections × IsFinite (I.remaining connections) }
     requires parts { (length unread.now + 1 ≡ L.parts) × (stock.share.parts ≡ L.parts) }
@@ -181,6 +195,7 @@ fn run_all<
 
 /// Runs a worker for each connection to its end, and puts the tallies together.
 fn serve_all<
+    A: Allocator + Copy + Send + Sync,
     G: Gate + Sync,
     C: Connection + Send,
     I: Iterator<Item = C> + Drop,
@@ -189,12 +204,12 @@ fn serve_all<
     R: Threads + Wait + Sync,
 >(
     rt: &R,
-    shared: &Shared<'_, B, L, R>,
+    shared: &Shared<'_, A, B, L, R>,
     gate: &G,
     connections: I,
     unread: &[AtomicBool],
     stock: Tally<L>,
-    running: Vec<JoinHandle<WorkerTally<L>>>,
+    running: Vec<JoinHandle<WorkerTally<L>>, A>,
 ) -> (Tally<L>, usize)
     requires can { I.can_next connections × IsFinite (I.remaining connections) }
     requires parts { (length unread.now + 1 ≡ L.parts) × (stock.share.parts ≡ L.parts) }
@@ -214,6 +229,7 @@ fn serve_all<
 
 /// The server over one queue and one ledger, which `B` and `L` name.
 fn serve_in<
+    A: Allocator + Copy + Send + Sync,
     G: Gate + Sync,
     C: Connection + Send,
     I: Iterator<Item = C> + Drop,
@@ -223,17 +239,17 @@ fn serve_in<
     R: Threads + Wait + Clock + Sync,
 >(
     rt: &R,
-    alloc: Global,
+    alloc: A,
     gate: &G,
-    queue: &CallQueue,
-    pass: CallPass,
+    queue: &CallQueue<A>,
+    pass: CallPass<A>,
     blank: Blank,
     connections: I,
     most: usize,
-    store: &Store<Global>,
+    store: &Store<A>,
     pinned: PublicKey,
     writer: W,
-) -> Result<Served<W>, Memory>
+) -> Result<Served<W, A>, Memory>
     requires can { I.can_next connections × IsFinite (I.remaining connections) }
     requires queue { IsPassOf queue.now pass × (pass.table_id ≡ B.queue) × (ruled_capacity queue.now ≡ QUEUE_ROOM) }
     requires first { hand_of pass ≡ hand true true [] [] }
@@ -248,10 +264,10 @@ fn serve_in<
     let running = Vec::with_capacity(alloc, most)?;
     let unread = flags(alloc, most)?;
     let unread = unread.as_slice();
-    let (shared, stock, popping) = Shared::<'_, B, L, R>::new(
+    let (shared, stock, popping) = Shared::<'_, A, B, L, R>::new(
         rt, alloc, queue, pass, blank, store, pinned,
     );
-    let flusher = Flusher::<'_, B, R, W>::new(rt, queue, popping, writer);
+    let flusher = Flusher::<'_, A, B, R, W>::new(rt, queue, popping, writer);
     let ended = AtomicBool::new(false);
     let workers = &shared;
     let flag = &ended;
@@ -283,6 +299,7 @@ fn serve_in<
 /// Serves at most `most` connections, a worker each, which starts at once, beside a flusher that writes the log.
 /// `pinned` is the key of user 0.
 pub fn serve<
+    A: Allocator + Copy + Send + Sync,
     G: Gate + Sync,
     C: Connection + Send,
     I: Iterator<Item = C> + Drop,
@@ -290,14 +307,14 @@ pub fn serve<
     R: Threads + Wait + Clock + Sync,
 >(
     rt: &R,
-    alloc: Global,
+    alloc: A,
     gate: &G,
     connections: I,
     most: u32,
-    store: &Store<Global>,
+    store: &Store<A>,
     pinned: PublicKey,
     writer: W,
-) -> Result<Served<W>, Memory>
+) -> Result<Served<W, A>, Memory>
     requires { I.can_next connections × IsFinite (I.remaining connections) }
     ensures pinned { IfOk result (λ s. s.ordered.pinned ≡ pinned) }
     // The workers carried out what they answered.
@@ -308,7 +325,7 @@ pub fn serve<
 {
     let (queue, pass) = empty_queue(alloc)?;
     let blank = Blank::new(most as u64 + 1);
-    serve_in::<G, C, I, W, Brand, Brand, R>(
+    serve_in::<A, G, C, I, W, Brand, Brand, R>(
         rt,
         alloc,
         gate,

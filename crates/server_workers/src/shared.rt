@@ -16,36 +16,36 @@ use crate::queue_log::QueueLog;
 use crate::reply::ReplyBody;
 use crate::tally::Tally;
 use block_store::{Store, StoreError};
-use consistency_server::{CallKind, Ordered};
+use consistency_server::{CallKind, Ordered, Verified, signer_of};
 use layout::Digest;
 use lms_sign::PublicKey;
-use std::alloc::Global;
+use std::alloc::Allocator;
 use std::sync::atomic::{AtomicU64, Ordering};
 use std::sync::ledger::{Blank, Ledger};
 use std::sync::{Mutex, Wait};
 use wire::{RequestKind, Status, request_of};
 
-/// The one order of calls under its lock, the blocks under theirs, and the number of the last call at the gate.
+/// The one order of calls under its lock, the store of blocks, and the number of the last call at the gate.
 #[derive(Drop)]
-pub struct Shared<'a, B: ServerName, L: Ledger, R: Wait> {
-    pub(crate) alloc: Global,
-    pub(crate) locked: Mutex<Locked<'a, B, L, R>>,
-    pub(crate) store: &'a Store<Global>,
+pub struct Shared<'a, A: Allocator, B: ServerName, L: Ledger, R: Wait> {
+    pub(crate) alloc: A,
+    pub(crate) locked: Mutex<Locked<'a, A, B, L, R>>,
+    pub(crate) store: &'a Store<A>,
     pub(crate) last_call: AtomicU64,
 }
 
-impl<'a, B: ServerName, L: Ledger, R: Wait> Shared<'a, B, L, R> {
+impl<'a, A: Allocator + Copy, B: ServerName, L: Ledger, R: Wait> Shared<'a, A, B, L, R> {
     /// Before the first call: what workers share, the tally of what they answer, and the pass of who writes the log.
     /// `pass` is that of an empty queue, and `pinned` the key of user 0.
     pub fn new(
         rt: &'a R,
-        alloc: Global,
-        queue: &'a CallQueue,
-        pass: CallPass,
+        alloc: A,
+        queue: &'a CallQueue<A>,
+        pass: CallPass<A>,
         blank: Blank,
-        store: &'a Store<Global>,
+        store: &'a Store<A>,
         pinned: PublicKey,
-    ) -> (Shared<'a, B, L, R>, Tally<L>, CallPass)
+    ) -> (Shared<'a, A, B, L, R>, Tally<L>, CallPass<A>)
         requires queue { IsPassOf queue.now pass × (pass.table_id ≡ B.queue) × (ruled_capacity queue.now ≡ QUEUE_ROOM) }
         requires first { hand_of pass ≡ hand true true [] [] }
         requires key { pinned ≡ B.pinned }
@@ -58,7 +58,7 @@ impl<'a, B: ServerName, L: Ledger, R: Wait> Shared<'a, B, L, R> {
         let mut pushing = pass;
         let popping = queue.another::<Roles>(&mut pushing);
         let (book, share) = blank.open::<L>();
-        let log = QueueLog::<'a, B, R>::new(rt, queue, pushing);
+        let log = QueueLog::<'a, A, B, R>::new(rt, queue, pushing);
         let shared = Shared {
             alloc,
             locked: Mutex::new(Locked::new(Ordered::genesis(alloc, pinned), log, book)),
@@ -75,7 +75,7 @@ impl<'a, B: ServerName, L: Ledger, R: Wait> Shared<'a, B, L, R> {
         gate: &G,
         tally: &mut Tally<L>,
         body: &[u8],
-    ) -> ReplyBody
+    ) -> ReplyBody<A>
         requires { 0 < tally.old.share.parts }
         ensures replies { RepliesToBody B.pinned (request_of body.now) result }
         ensures counted { tally.new.answered ≡ tally.old.answered + count_in (request_of body.now) result.status }
@@ -92,7 +92,8 @@ impl<'a, B: ServerName, L: Ledger, R: Wait> Shared<'a, B, L, R> {
         }
     }
 
-    /// Carries out a call under the lock, which is let go before anything is done with the answer.
+    /// Carries out a call under the lock, which is let go before anything is done with the answer. Its signature is
+    /// verified before.
     fn call<G: Gate>(
         &self,
         rt: &R,
@@ -100,7 +101,7 @@ impl<'a, B: ServerName, L: Ledger, R: Wait> Shared<'a, B, L, R> {
         tally: &mut Tally<L>,
         kind: CallKind,
         text: &[u8],
-    ) -> ReplyBody
+    ) -> ReplyBody<A>
         requires { 0 < tally.old.share.parts }
         ensures replies { RepliesToCall B.pinned (call_of kind text.now) result }
         ensures counted { tally.new.answered ≡ tally.old.answered + count_of result.status }
@@ -111,12 +112,26 @@ impl<'a, B: ServerName, L: Ledger, R: Wait> Shared<'a, B, L, R> {
                 .fetch_add(1, Ordering::SeqCst)
                 .wrapping_add(1),
         );
-        let answer = self.locked.lock(rt).call(tally, kind, text);
+        let verified = self.verified(rt, kind, text);
+        let answer = self
+            .locked
+            .lock(rt)
+            .call(tally, kind, text, verified.as_ref());
         ReplyBody::of(answer)
     }
 
+    /// The signature of a call's text, verified without the lock, which is taken for a look at the signer's key alone.
+    /// None where there is no such key, or memory runs out: what isn't known is found out under the lock.
+    fn verified<'t>(&self, rt: &R, kind: CallKind, text: &'t [u8]) -> Option<Verified<'t>> {
+        let Ok(Some(signer)) = signer_of(self.alloc, kind, text) else {
+            return None;
+        };
+        let key = self.locked.lock(rt).key_of(signer);
+        Some(Verified::new(key?, text))
+    }
+
     /// Stores a block.
-    fn put(&self, rt: &R, block: &[u8]) -> ReplyBody
+    fn put(&self, rt: &R, block: &[u8]) -> ReplyBody<A>
         ensures { RepliesToPut block.now result }
     {
         match self.store.put(rt, block) {
@@ -129,16 +144,18 @@ impl<'a, B: ServerName, L: Ledger, R: Wait> Shared<'a, B, L, R> {
         }
     }
 
-    /// Finds the block of a digest.
-    fn get(&self, rt: &R, digest: &[u8]) -> ReplyBody
+    /// Finds the block of a digest. It is read and copied without a lock.
+    fn get(&self, rt: &R, digest: &[u8]) -> ReplyBody<A>
         ensures { RepliesToGet digest.now result }
     {
         let Ok(digest) = <[u8; 32]>::try_from(digest) else {
             return ReplyBody::bare(self.alloc, Status::Form);
         };
-        match self.store.fetch(rt, Digest::from_bytes(digest)) {
-            Ok(Some(block)) => ReplyBody::ok(block),
-            Ok(None) => ReplyBody::bare(self.alloc, Status::Absent),
+        let Some(pass) = self.store.find(rt, Digest::from_bytes(digest)) else {
+            return ReplyBody::bare(self.alloc, Status::Absent);
+        };
+        match Vec::from_slice(self.alloc, self.store.get_by_pass(&pass)) {
+            Ok(block) => ReplyBody::ok(block),
             Err(_) => ReplyBody::bare(self.alloc, Status::Memory),
         }
     }

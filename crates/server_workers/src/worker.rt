@@ -15,7 +15,7 @@ use crate::reply::ReplyBody;
 use crate::shared::Shared;
 use crate::tally::{Tally, WorkerTally};
 use layout::Memory;
-use std::alloc::Global;
+use std::alloc::Allocator;
 use std::sync::Wait;
 use std::sync::ledger::Ledger;
 use wire::{FrameError, Frames};
@@ -40,7 +40,11 @@ impl From<ConnectionFault> for Ended {
 }
 
 /// Writes the frame of a reply.
-fn answer<C: Connection>(alloc: Global, connection: &mut C, reply: &ReplyBody) -> Result<(), Ended>
+fn answer<A: Allocator, C: Connection>(
+    alloc: A,
+    connection: &mut C,
+    reply: &ReplyBody<A>,
+) -> Result<(), Ended>
     ensures ok { OnOk result (C.told connection.new
         ≡ goes_on [] (frame.spell (reply_body reply.now.status reply.now.payload)) (C.told connection.old)) }
     ensures err { IfErr result (λ _. (part rest : List ℕ)
@@ -55,9 +59,9 @@ fn answer<C: Connection>(alloc: Global, connection: &mut C, reply: &ReplyBody) -
 }
 
 /// Reads on.
-fn read_on<C: Connection>(
+fn read_on<A: Allocator, C: Connection>(
     connection: &mut C,
-    frames: &mut Frames<Global>,
+    frames: &mut Frames<A>,
     buffer: &mut [u8],
 ) -> Result<(), Ended>
     requires { 0 < length buffer.old }
@@ -78,13 +82,13 @@ fn read_on<C: Connection>(
 }
 
 /// Replies to the next frame, or reads on where it isn't whole.
-fn step<G: Gate, C: Connection, B: ServerName, L: Ledger, R: Wait>(
+fn step<A: Allocator + Copy, G: Gate, C: Connection, B: ServerName, L: Ledger, R: Wait>(
     rt: &R,
     connection: &mut C,
-    shared: &Shared<'_, B, L, R>,
+    shared: &Shared<'_, A, B, L, R>,
     gate: &G,
     tally: &mut Tally<L>,
-    frames: &mut Frames<Global>,
+    frames: &mut Frames<A>,
     buffer: &mut [u8],
 ) -> Result<(), Ended>
     requires part { 0 < tally.old.share.parts }
@@ -108,10 +112,10 @@ fn step<G: Gate, C: Connection, B: ServerName, L: Ledger, R: Wait>(
 }
 
 /// Replies to the requests of a connection, up to its end or fault, or to a length at fault.
-pub fn converse<G: Gate, C: Connection, B: ServerName, L: Ledger, R: Wait>(
+pub fn converse<A: Allocator + Copy, G: Gate, C: Connection, B: ServerName, L: Ledger, R: Wait>(
     rt: &R,
     connection: &mut C,
-    shared: &Shared<'_, B, L, R>,
+    shared: &Shared<'_, A, B, L, R>,
     gate: &G,
     tally: &mut Tally<L>,
 ) -> Ended
@@ -146,10 +150,10 @@ pub fn converse<G: Gate, C: Connection, B: ServerName, L: Ledger, R: Wait>(
 }
 
 /// A worker's whole work.
-pub(crate) fn work<G: Gate, C: Connection, B: ServerName, L: Ledger, R: Wait>(
+pub(crate) fn work<A: Allocator + Copy, G: Gate, C: Connection, B: ServerName, L: Ledger, R: Wait>(
     rt: &R,
     mut connection: C,
-    shared: &Shared<'_, B, L, R>,
+    shared: &Shared<'_, A, B, L, R>,
     gate: &G,
     part: WorkerTally<L>,
 ) -> WorkerTally<L> {

@@ -8,7 +8,7 @@ ghost use Rattle.server_workers.specs.Records.{number_of, record_of};
 ghost use Rattle.server_workers.specs.Flushing.{AppendsBeginning};
 
 use consistency_server::{Call, CallKind};
-use std::alloc::Global;
+use std::alloc::Allocator;
 use std::io::{ErrorKind, Write};
 
 /// The writer of the log took no more.
@@ -55,7 +55,10 @@ fn write_whole<W: Write>(writer: &mut W, bytes: &[u8]) -> Result<(), WriteFailed
 
 /// Writes the record of a call, or where the writer fails a beginning of it. A text of 4 GiB, which no frame brings,
 /// counts as a failed write.
-pub(crate) fn write_record<W: Write>(writer: &mut W, call: &Call<Global>) -> Result<(), WriteFailed>
+pub(crate) fn write_record<A: Allocator, W: Write>(
+    writer: &mut W,
+    call: &Call<A>,
+) -> Result<(), WriteFailed>
     ensures ok { OnOk result (Appends (W.contents writer.old) (W.contents writer.new) (record_of call.now)) }
     ensures err { OnErr result (AppendsBeginning (W.contents writer.old) (W.contents writer.new) (record_of call.now)) }
 {

@@ -4,7 +4,7 @@
 use block_store::Store;
 use clap::error::ErrorKind;
 use clap::{Arg, ArgAction, ArgMatches, Command, value_parser};
-use layout::{Memory, let_go};
+use layout::{Memory, beside, let_go};
 use lms_sign::{KEY_SIZE, PublicKey};
 use server_workers::{Accepted, OpenGate, serve};
 use std::alloc::{AllocError, Global};
@@ -131,14 +131,14 @@ fn serve_all<R: AllocGlobal + Clock + Threads + Wait + Sync>(
     begun: Begun,
     fault: &mut Option<io::Error>,
 ) -> Result<bool, Memory> {
+    let alloc = rt.alloc();
+    let (begun, store) = beside(begun, Store::new(alloc))?;
     let Begun {
         listener,
         most,
         pinned,
         log,
     } = begun;
-    let alloc = rt.alloc();
-    let store = Store::new(alloc);
     let connections = Accepted::new(rt, &listener, most, fault);
     let served = serve(rt, alloc, &OpenGate, connections, most, &store, pinned, log)?;
     let flushed = served.flushed;

@@ -166,7 +166,8 @@ fn serve_one<R: Alloc<A = Global> + Abort + Clock + Threads + Wait + Sync>(
     pinned: PublicKey,
 ) -> u64 {
     let alloc = rt.alloc();
-    let (store, log) = (Store::new(alloc), Vec::new(alloc));
+    let store = Store::new(alloc).expect(rt, "memory");
+    let log = Vec::new(alloc);
     let mut fault = None;
     let connections = Accepted::new(rt, listener, 1, &mut fault);
     let served = serve(rt, alloc, &OpenGate, connections, 1, &store, pinned, log);

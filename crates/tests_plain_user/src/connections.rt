@@ -40,7 +40,7 @@ pub(crate) fn serve_pipes<R: Host, G: Gate + Sync>(
     for pipe in pipes {
         ends.push(ServerEnd::new(rt, pipe)).expect(rt, "memory");
     }
-    let store = Store::new(alloc);
+    let store = Store::new(alloc).expect(rt, "memory");
     let log = Vec::new(alloc);
     let served = serve(rt, alloc, gate, ends.into_iter(), 8, &store, pinned, log);
     served.expect(rt, "memory")

@@ -14,6 +14,7 @@ use server_workers::{
     CallPass, CallQueue, Ended, Flusher, MemoryConnection, OpenGate, ServerName, Shared, Tally,
     converse, empty_queue,
 };
+use std::alloc::Global;
 use std::io::Write;
 use std::marker::Brand;
 use std::sync::ledger::{Blank, Ledger};
@@ -26,7 +27,7 @@ const FILLING: u32 = 512;
 #[derive(Drop)]
 struct ByHand<'a, B: ServerName, L: Ledger, R: Host> {
     rt: &'a R,
-    shared: Shared<'a, B, L, R>,
+    shared: Shared<'a, Global, B, L, R>,
     tally: Tally<L>,
     ghost part: { 0 < tally.share.parts },
 }
@@ -95,7 +96,7 @@ fn fill<B: ServerName, L: Ledger, R: Host>(
 /// Fills the log, whereupon a call of the other user is answered Busy, twice, and empties it, whereupon it isn't.
 fn is_busy_while_full<W: Write + Drop, B: ServerName, L: Ledger, R: Host>(
     server: &mut ByHand<'_, B, L, R>,
-    flusher: &mut Flusher<'_, B, R, W>,
+    flusher: &mut Flusher<'_, Global, B, R, W>,
     (superuser, other): (PlainUser, PlainUser),
     changes: &[u8],
 ) {
@@ -114,8 +115,8 @@ fn is_busy_while_full<W: Write + Drop, B: ServerName, L: Ledger, R: Host>(
 /// The same with a server over this queue: how many calls were carried out, and what was written.
 fn fill_and_empty<W: Write + Drop, B: ServerName, L: Ledger, R: Host>(
     rt: &R,
-    queue: &CallQueue,
-    pass: CallPass,
+    queue: &CallQueue<Global>,
+    pass: CallPass<Global>,
     blank: Blank,
     pinned: PublicKey,
     users: (PlainUser, PlainUser),
@@ -129,11 +130,11 @@ fn fill_and_empty<W: Write + Drop, B: ServerName, L: Ledger, R: Host>(
     requires parts { (blank.parts ≡ L.parts) × (blank.parts ≡ 1) }
 {
     let alloc = rt.alloc();
-    let store = Store::new(alloc);
-    let (shared, tally, popping) = Shared::<'_, B, L, R>::new(
+    let store = Store::new(alloc).expect(rt, "memory");
+    let (shared, tally, popping) = Shared::<'_, Global, B, L, R>::new(
         rt, alloc, queue, pass, blank, &store, pinned,
     );
-    let mut flusher = Flusher::<'_, B, R, W>::new(rt, queue, popping, writer);
+    let mut flusher = Flusher::<'_, Global, B, R, W>::new(rt, queue, popping, writer);
     let mut server = ByHand { rt, shared, tally };
     is_busy_while_full(&mut server, &mut flusher, users, changes);
     let carried_out = server.tally.answered();

@@ -164,7 +164,7 @@ fn serve_failing<R: Host>(
     left: usize,
 ) -> Served<Failing> {
     let alloc = rt.alloc();
-    let store = Store::new(alloc);
+    let store = Store::new(alloc).expect(rt, "memory");
     let mut output = Vec::new(alloc);
     let mut connections = Vec::new(alloc);
     connections

@@ -14,7 +14,8 @@ use wire::Status;
 /// Serves two connections.
 fn serve_two<R: Host>(rt: &R, listener: &TcpListener, pinned: PublicKey) -> Served<Vec<u8>> {
     let alloc = rt.alloc();
-    let (store, log) = (Store::new(alloc), Vec::new(alloc));
+    let store = Store::new(alloc).expect(rt, "memory");
+    let log = Vec::new(alloc);
     let mut fault = None;
     let connections = Accepted::new(rt, listener, 2, &mut fault);
     let served = serve(rt, alloc, &OpenGate, connections, 2, &store, pinned, log);

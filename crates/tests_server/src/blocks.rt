@@ -1,11 +1,14 @@
-//! Blocks that are put and fetched, by one thread and by two.
+//! Blocks that are put, found and read, by one thread and by several.
+
+ghost use Rattle.block_store.specs.Blocks.{IsOf};
 
 use crate::by_hand::Host;
-use block_store::{BLOCK_LIMIT, Store, StoreError};
+use block_store::{BLOCK_LIMIT, BlockPass, Store, StoreError};
 use layout::Digest;
 use std::alloc::Global;
 use std::sync::Wait;
 use std::thread;
+use std::thread::Threads;
 
 /// The SHA-256 of no bytes (FIPS 180-4's own vector).
 const EMPTY: [u8; 32] = [
@@ -21,17 +24,25 @@ fn put<R: Wait>(rt: &R, store: &Store<Global>, bytes: &[u8]) -> Result<Digest, S
     }
 }
 
-/// Whether the store gives these bytes for the digest.
+/// Whether the store finds these bytes for the digest.
+fn finds<R: Wait>(rt: &R, store: &Store<Global>, digest: Digest, bytes: &[u8]) -> bool {
+    match store.find(rt, digest) {
+        Some(pass) => store.get_by_pass(&pass) == bytes && pass.digest() == digest,
+        None => false,
+    }
+}
+
+/// Whether the store gives these bytes for the digest, as a copy and by a pass.
 fn gives<R: Wait>(rt: &R, store: &Store<Global>, digest: Digest, bytes: &[u8]) -> bool {
     match store.fetch(rt, digest) {
-        Ok(Some(block)) => block.as_slice() == bytes,
+        Ok(Some(block)) => block.as_slice() == bytes && finds(rt, store, digest, bytes),
         Ok(None) | Err(_) => false,
     }
 }
 
 /// Whether the store has no block of this digest.
 fn lacks(rt: &impl Host, store: &Store<Global>, digest: Digest) -> bool {
-    store.fetch(rt, digest).expect(rt, "memory").is_none()
+    store.find(rt, digest).is_none() && store.fetch(rt, digest).expect(rt, "memory").is_none()
 }
 
 /// Whether a block is put under this digest, and given.
@@ -41,10 +52,15 @@ fn takes(rt: &impl Host, store: &Store<Global>, digest: Digest, bytes: &[u8]) ->
 
 #[test]
 fn the_empty_block_is_found(rt: HostRuntime) {
-    let store = Store::new(rt.alloc());
+    let store = Store::new(rt.alloc()).expect(&rt, "memory");
     let empty = Digest::from_bytes(EMPTY);
     assert!(rt; lacks(&rt, &store, empty), "before the put");
+    assert!(rt; store.get_at(0).is_none(), "no first block");
     assert!(rt; takes(&rt, &store, empty, &[]), "put and got");
+    assert!(rt;
+        store.get_at(0).is_some_and(|block| block.is_empty()),
+        "the first block"
+    );
     // Again: the block stays, beside others.
     assert!(rt; put(&rt, &store, &[]) == Ok(empty), "the digest again");
     assert!(rt;
@@ -82,7 +98,7 @@ fn gives_sized(rt: &impl Host, store: &Store<Global>, size: usize, number: u8) -
 
 #[test]
 fn the_largest_block_passes(rt: HostRuntime) {
-    let store = Store::new(rt.alloc());
+    let store = Store::new(rt.alloc()).expect(&rt, "memory");
     let mut bytes = Vec::from_elem(rt.alloc(), 7_u8, 32_779).expect(&rt, "memory");
     let digest = layout::digest(&bytes);
     assert!(rt; takes(&rt, &store, digest, &bytes), "32,779 bytes");
@@ -120,7 +136,7 @@ fn gives_numbers(rt: &impl Host, store: &Store<Global>, size: usize, numbers: &[
 
 #[test]
 fn blocks_of_all_sizes_are_found(rt: HostRuntime) {
-    let store = Store::new(rt.alloc());
+    let store = Store::new(rt.alloc()).expect(&rt, "memory");
     for size in &SIZES {
         for number in 0..3u8 {
             put_sized(&rt, &store, *size, number);
@@ -137,7 +153,7 @@ static TOO_LARGE: [usize; 4] = [32_780, 32_781, 65_536, 2_097_151];
 
 #[test]
 fn larger_blocks_are_refused(rt: HostRuntime) {
-    let store = Store::new(rt.alloc());
+    let store = Store::new(rt.alloc()).expect(&rt, "memory");
     for size in &TOO_LARGE {
         let bytes = block(&rt, *size, 1);
         assert!(rt;
@@ -174,7 +190,7 @@ fn fill_sizes<R: Wait>(rt: &R, alloc: Global, store: &Store<Global>, numbers: [u
 #[test]
 fn two_threads_put_blocks_of_all_sizes(rt: HostRuntime) {
     let alloc = rt.alloc();
-    let store = Store::new(alloc);
+    let store = Store::new(alloc).expect(&rt, "memory");
     let (first, second) = thread::join(
         &rt,
         || fill_sizes(&rt, alloc, &store, [1, 2, 3, 4]),
@@ -202,7 +218,7 @@ fn fill<R: Wait>(rt: &R, store: &Store<Global>, from: u32, to: u32) -> u32 {
 
 #[test]
 fn two_threads_put_and_fetch(rt: HostRuntime) {
-    let store = Store::new(rt.alloc());
+    let store = Store::new(rt.alloc()).expect(&rt, "memory");
     // Both put the blocks 1,000 to 1,999.
     let (first, second) = thread::join(
         &rt,
@@ -215,4 +231,88 @@ fn two_threads_put_and_fetch(rt: HostRuntime) {
         let digest = layout::digest(&bytes);
         assert!(rt; gives(&rt, &store, digest, &bytes), "block {number}");
     }
+}
+
+/// A block that is put again keeps its number, and others come after it.
+#[test]
+fn a_block_has_one_number(rt: HostRuntime) {
+    let store = Store::new(rt.alloc()).expect(&rt, "memory");
+    let first = store.put(&rt, b"one").expect(&rt, "memory");
+    let other = store.put(&rt, b"two").expect(&rt, "memory");
+    let again = store.put(&rt, b"one").expect(&rt, "memory");
+    assert_eq!(rt; (first.index(), other.index(), again.index()), (0, 1, 0));
+    if first.index() == again.index() {
+        store.agree(&first, &again);
+    }
+    assert!(rt; store.get_at(0) == Some(b"one".as_slice()), "the first");
+    assert!(rt; store.get_at(1) == Some(b"two".as_slice()), "the second");
+    assert!(rt; store.get_at(2).is_none(), "no third");
+}
+
+/// How often a reader reads.
+const READS: u32 = 5_000;
+
+/// How many blocks are put beside the readers.
+const OTHERS: u32 = 1_000;
+
+/// Reads the block of a pass, by the pass and by its number. Tells how often it had these bytes.
+fn read_again(store: &Store<Global>, pass: &BlockPass<Global>, bytes: &[u8]) -> u32
+    requires { IsOf store.now pass.now }
+{
+    let mut read = 0u32;
+    for _ in 0..READS {
+        if store.get_by_pass(pass) == bytes && store.get_at(pass.index()) == Some(bytes) {
+            read = read.wrapping_add(1);
+        }
+    }
+    read
+}
+
+/// Two threads read. It is a function of its own, since a closure in a closure doesn't hand on what a read requires.
+fn read_twice<R: Threads + Sync>(
+    rt: &R,
+    store: &Store<Global>,
+    pass: &BlockPass<Global>,
+    bytes: &[u8],
+) -> (u32, u32)
+    requires { IsOf store.now pass.now }
+{
+    thread::join(
+        rt,
+        || read_again(store, pass, bytes),
+        || read_again(store, pass, bytes),
+    )
+}
+
+/// Two threads read, and a third puts others: how often each of the two read these bytes, and how many others came as
+/// they were put.
+fn read_beside<R: Threads + Wait + Sync>(
+    rt: &R,
+    store: &Store<Global>,
+    pass: &BlockPass<Global>,
+    bytes: &[u8],
+) -> ((u32, u32), u32)
+    requires { IsOf store.now pass.now }
+{
+    thread::join(
+        rt,
+        ||
+            requires { IsOf store.now pass.now }
+        { read_twice(rt, store, pass, bytes) },
+        || fill(rt, store, 0, OTHERS),
+    )
+}
+
+#[test]
+fn two_threads_read_while_a_third_puts(rt: HostRuntime) {
+    let store = Store::new(rt.alloc()).expect(&rt, "memory");
+    let bytes = b"the first block";
+    let pass = store.put(&rt, bytes).expect(&rt, "memory");
+    assert_eq!(rt;
+        read_beside(&rt, &store, &pass, bytes),
+        ((READS, READS), OTHERS)
+    );
+    assert!(rt; store.get_at(0) == Some(bytes.as_slice()), "the first");
+    assert!(rt; store.get_at(1_000).is_some(), "the last");
+    assert!(rt; store.get_at(1_001).is_none(), "no more");
 }

@@ -29,9 +29,10 @@ fn converse_once<G: Gate, C: Connection, W: Write + Drop, B: ServerName, L: Ledg
     rt: &R,
     alloc: Global,
     gate: &G,
-    queue: &CallQueue,
-    pass: CallPass,
+    queue: &CallQueue<Global>,
+    pass: CallPass<Global>,
     blank: Blank,
+    store: &Store<Global>,
     pinned: PublicKey,
     connection: &mut C,
     writer: W,
@@ -42,11 +43,10 @@ fn converse_once<G: Gate, C: Connection, W: Write + Drop, B: ServerName, L: Ledg
     requires name { blank.name ≡ L.name }
     requires parts { (blank.parts ≡ L.parts) × (blank.parts ≡ 1) }
 {
-    let store = Store::new(alloc);
-    let (shared, mut tally, popping) = Shared::<'_, B, L, R>::new(
-        rt, alloc, queue, pass, blank, &store, pinned,
+    let (shared, mut tally, popping) = Shared::<'_, Global, B, L, R>::new(
+        rt, alloc, queue, pass, blank, store, pinned,
     );
-    let mut flusher = Flusher::<'_, B, R, W>::new(rt, queue, popping, writer);
+    let mut flusher = Flusher::<'_, Global, B, R, W>::new(rt, queue, popping, writer);
     let ended = converse(rt, connection, &shared, gate, &mut tally);
     flusher.flush();
     (ended, tally.answered(), flusher.into_writer())
@@ -61,10 +61,11 @@ pub(crate) fn conversed<G: Gate, C: Connection, W: Write + Drop, R: Host>(
     writer: W,
 ) -> (Ended, u64, W) {
     let alloc = rt.alloc();
+    let store = Store::new(alloc).expect(rt, "memory");
     let (queue, pass) = empty_queue(alloc).expect(rt, "memory");
     let blank = Blank::new(1);
     converse_once::<G, C, W, Brand, Brand, R>(
-        rt, alloc, gate, &queue, pass, blank, pinned, connection, writer,
+        rt, alloc, gate, &queue, pass, blank, &store, pinned, connection, writer,
     )
 }
 

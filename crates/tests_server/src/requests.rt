@@ -110,7 +110,7 @@ pub(crate) static REPLIES: [&[u8]; 6] = [
 fn replies_in_pieces<R: Host>(rt: &R, input: &[u8], piece: usize, wanted: &[u8])
     requires { 0 < piece }
 {
-    let store = Store::new(rt.alloc());
+    let store = Store::new(rt.alloc()).expect(rt, "memory");
     let mut output = Vec::new(rt.alloc());
     let served = served(rt, &store, input, piece, &mut output);
     assert_eq!(rt; (served.answered, served.unserved), (0, 0));
@@ -132,7 +132,7 @@ fn requests_over_memory(rt: HostRuntime) {
 /// After a request that no text follows this length ends the conversation: a request after it isn't read any more.
 fn ends_at<R: Host>(rt: &R, length: &[u8; 4]) {
     let input = joined(rt, &[&[0, 0, 0, 1, 1], length, &[0, 0, 0, 1, 3]]);
-    let store = Store::new(rt.alloc());
+    let store = Store::new(rt.alloc()).expect(rt, "memory");
     let mut output = Vec::new(rt.alloc());
     let served = served(rt, &store, &input, 1000, &mut output);
     assert_eq!(rt; served.answered, 1);
@@ -152,7 +152,7 @@ fn a_length_at_fault_ends_it(rt: HostRuntime) {
 
 /// What these bytes are replied.
 fn replied<R: Host>(rt: &R, input: &[u8]) -> Vec<u8> {
-    let store = Store::new(rt.alloc());
+    let store = Store::new(rt.alloc()).expect(rt, "memory");
     let mut output = Vec::new(rt.alloc());
     served(rt, &store, input, 3, &mut output);
     output
@@ -206,7 +206,7 @@ fn outputs<R: Host>(rt: &R, count: usize) -> Vec<Vec<u8>> {
 /// Offers connections of the same bytes, one for each output, to a server of at most so many: how many it took.
 fn offer<R: Host>(rt: &R, input: &[u8], outputs: &mut Vec<Vec<u8>>, most: u32) -> u32 {
     let alloc = rt.alloc();
-    let store = Store::new(alloc);
+    let store = Store::new(alloc).expect(rt, "memory");
     let mut taken = 0;
     let connections = Offered {
         input,

@@ -2,8 +2,5 @@
 use Rattle.server_workers.proofs.Carrying.{log_goes_on}
 use Rattle.server_workers.proofs.locked.carry_out.Goals as goal
 
-pub returns-in-Update-clause-log : goal.returns-in-Update-clause-log
-returns-in-Update-clause-log g c = let e = c.update.ensures in log_goes_on _ _ _ _ _ _ c.requires e.history e.log e.same e.log_same
-
-pub returns-in-Commit-clause-log : goal.returns-in-Commit-clause-log
-returns-in-Commit-clause-log g c = let e = c.commit.ensures in log_goes_on _ _ _ _ _ _ c.requires e.history e.log e.same e.log_same
+pub returns-clause-log : goal.returns-clause-log
+returns-clause-log g c = let e = c.answer.ensures in log_goes_on _ _ _ _ _ _ c.requires e.history e.log e.same e.log_same

@@ -3,4 +3,4 @@ use Rattle.std.specs.Prelude.{vec_len}
 use Rattle.server_workers.proofs.server.flags.Given as goal
 
 abbrev pub invariant-loop-i : goal.invariant-loop-i
-invariant-loop-i l = vec_len l.all ≡ l._i
+invariant-loop-i g l = vec_len l.all ≡ l._i
