@@ -13,7 +13,8 @@ pub record Stored : Type 0 where
 
 -- as two lists of numbers
 abbrev pub stored_coded : Coded Stored
-stored_coded = code_by (List ℕ × List ℕ) (coded× (coded_list coded_ℕ) (coded_list coded_ℕ)) (λ b. (b.digest, b.text)) (λ p. record { digest = p.0; text = p.1 }) (λ _. refl)
+stored_coded = code_by (List ℕ × List ℕ) (coded× (coded_list coded_ℕ) (coded_list coded_ℕ))
+    (λ b. (b.digest, b.text)) (λ p. record { digest = p.0; text = p.1 }) (λ _. refl)
 
 -- a stored block has its digest, and at most BLOCK_LIMIT bytes
 abbrev pub IsOwn : Stored → Type 0

@@ -1,6 +1,10 @@
 //! Blocks that threads share.
 
-ghost use Rattle.std.specs.Prelude.{◌≡◌, ◌≤◌, ◌<◌, length, Err, IfOk, IfErr, IfSome};
+ghost use Rattle.std.specs.Prelude.{◌≡◌, ◌≤◌, ◌<◌, length, true, false, is_some, Some, Err, IfOk, IfErr, IfSome, OnOk};
+ghost use Rattle.std.specs.Prelude.{OnErr};
+ghost use Rattle.std.specs.BTreeMap.{Updates, IsUnchanged, get};
+ghost use Rattle.std.specs.Cmp.Lexicographic.{slice_cmp};
+ghost use Rattle.std.specs.Ordering.{nat_cmp};
 ghost use Rattle.layout.specs.Hash.{hash};
 ghost use Rattle.block_store.specs.Blocks.{IsOwn, IsOf};
 ghost use Rattle.block_store.specs.declared.error.StoreError.TheVariants as store_error;
@@ -47,7 +51,7 @@ impl<A: Allocator + Copy> Store<A> {
     }
 
     /// Stores a block of at most 32,779 bytes, and gives its pass. Of one that is stored already the pass is that of
-    /// the stored one.
+    /// the stored one. After Memory it may stand at a number and not be found by its digest.
     pub fn put<R: Wait>(&self, rt: &R, bytes: &[u8]) -> Result<BlockPass<A>, StoreError>
         ensures of { IfOk result (λ pass. IsOf self.now pass) }
         ensures text { IfOk result (λ pass. pass.value.text ≡ bytes.now) }
@@ -167,7 +171,8 @@ impl<A: Allocator + Copy> Store<A> {
 
     /// The pass of the block of a number, if one has it.
     fn pass_at(&self, number: usize) -> Option<BlockPass<A>>
-        ensures { IfSome result (λ pass. IsOf self.now pass × IsOwn pass.value) }
+        ensures of { IfSome result (λ pass. IsOf self.now pass × IsOwn pass.value) }
+        ensures index { IfSome result (λ pass. pass.index ≡ number) }
     {
         let place = self.blocks.witness(number)?;
         let block = self.blocks.get_seen(number, &place)?;
@@ -183,7 +188,12 @@ fn note<A: Allocator + Copy>(
     numbers: &mut BTreeMap<Digest, usize, A>,
     digest: Digest,
     number: usize,
-) -> Result<(), Memory> {
+) -> Result<(), Memory>
+    ensures noted { OnOk result (is_some (get (slice_cmp nat_cmp) numbers.old digest) ≡ false
+        → Updates (slice_cmp nat_cmp) numbers.old numbers.new digest (Some number)) }
+    ensures stays { is_some (get (slice_cmp nat_cmp) numbers.old digest) ≡ true → numbers.new ≡ numbers.old }
+    ensures err { OnErr result (IsUnchanged numbers.old numbers.new) }
+{
     if !numbers.contains_key(&digest) {
         numbers.insert(digest, number)?;
     }

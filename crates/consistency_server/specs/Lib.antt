@@ -4,7 +4,7 @@ pub mod Answers
 pub mod History
 pub mod Reading
 pub mod Signer
-pub mod Verified
+pub mod Verification
 pub mod Tidy
 pub mod Judged
 pub mod Serving

@@ -11,10 +11,10 @@ mod signed_text;
 mod signer;
 mod state;
 mod structures;
-mod verified;
+mod verification;
 
 pub use call::{Answer, Call, CallKind};
 pub use log::{Log, LogFull, MemoryLog};
 pub use server::Ordered;
 pub use signer::signer_of;
-pub use verified::Verified;
+pub use verification::Verification;

@@ -8,7 +8,7 @@ use crate::call::{Answer, Call, CallKind};
 use crate::log::Log;
 use crate::refusal::Refusal;
 use crate::state::{NewEvent, State, Verdict};
-use crate::verified::Verified;
+use crate::verification::Verification;
 use layout::{Memory, User, let_go};
 use lms_sign::PublicKey;
 use std::alloc::Allocator;
@@ -230,7 +230,7 @@ impl<A: Allocator + Copy> Ordered<A> {
         log: &mut G,
         kind: CallKind,
         text: &[u8],
-        known: Option<&Verified<'_>>,
+        known: Option<&Verification<'_>>,
     ) -> Answer<A>
         ensures answer { is_carried_out result.status ≡ true
             → result ≡ answer_of self.old.pinned self.old.history (call_of kind text.now) }
@@ -258,7 +258,7 @@ impl<A: Allocator + Copy> Ordered<A> {
         log: &mut G,
         kind: CallKind,
         text: &[u8],
-        known: Option<&Verified<'_>>,
+        known: Option<&Verification<'_>>,
     ) -> Result<Answer<A>, Refusal>
         ensures answer { IfOk result
             (λ answer. answer ≡ answer_of self.old.pinned self.old.history (call_of kind text.now)) }

@@ -9,7 +9,7 @@ ghost use Rattle.update_cert.specs.Cert.{cert};
 ghost use Rattle.pending_list.specs.Signed.{signed};
 ghost use Rattle.consistency_server.specs.Reading.{FoundIs};
 
-use crate::verified::Verified;
+use crate::verification::Verification;
 use layout::{Memory, ReadError, Text, are_bytes};
 use lms_sign::{PublicKey, SIGNATURE_SIZE, verify};
 use pending_list::Signed;
@@ -79,7 +79,7 @@ pub(crate) fn is_signed<A: Allocator + Copy, T: Text<A>>(
     key: &PublicKey,
     found: &Signed<T>,
     text: &[u8],
-    known: Option<&Verified<'_>>,
+    known: Option<&Verification<'_>>,
 ) -> bool
     requires { text.now ≡ (signed T.format).spell found.now }
     ensures { result ≡ valid key.now (T.format.spell found.now.value) found.now.signature }

@@ -27,7 +27,7 @@ use crate::placement::{Placement, entries_of, have_plan, pending_of, place, take
 use crate::refusal::Refusal;
 use crate::signed_text::{is_signed, read_cert, read_structure, spells, unsigned};
 use crate::structures::{put, structure_of};
-use crate::verified::Verified;
+use crate::verification::Verification;
 use layout::{Digest, Memory, Principal, User, digest, let_go, put_in};
 use lms_sign::PublicKey;
 use pending_list::{PendingItem, Reply, Signed, digest_of_last, groups_at};
@@ -203,7 +203,7 @@ impl<A: Allocator + Copy> State<A> {
         alloc: A,
         kind: CallKind,
         text: &[u8],
-        known: Option<&Verified<'_>>,
+        known: Option<&Verification<'_>>,
     ) -> Result<Verdict<A>, Memory>
         ensures { IfOk result (λ judged. JudgedAs self.now judged (outcome_of self.now (call_of kind text.now))) }
     {
@@ -218,7 +218,7 @@ impl<A: Allocator + Copy> State<A> {
         &self,
         alloc: A,
         text: &[u8],
-        known: Option<&Verified<'_>>,
+        known: Option<&Verification<'_>>,
     ) -> Result<Verdict<A>, Memory>
         ensures { IfOk result (λ judged. JudgedAs self.now judged
             (read_update self.now (whole (signed cert) text.now))) }
@@ -376,7 +376,7 @@ impl<A: Allocator + Copy> State<A> {
         &self,
         alloc: A,
         text: &[u8],
-        known: Option<&Verified<'_>>,
+        known: Option<&Verification<'_>>,
     ) -> Result<Verdict<A>, Memory>
         ensures { IfOk result (λ judged. JudgedAs self.now judged
             (read_commit self.now (whole (signed structure) text.now))) }

@@ -1,7 +1,8 @@
 -- I-tables: a digest for each i-number of a principal that has one, and the chunks, the root and the handle by which
 -- the table is stored. Of the chunks that aren't loaded it has the digests alone.
 -- The bytes stand in docs/FORMATS.md.
-use Rattle.std.specs.Prelude.{◌≡◌, ℕ, ◌==◌, ◌<◌, Bool, true, ◌&&◌, not, List, [], ◌∷◌, ◌++◌, Option, Some, None, filter, filter_map, length, if◌then◌else◌}
+use Rattle.std.specs.Prelude.{◌≡◌, ℕ, ◌==◌, ◌<◌, Bool, true, ◌&&◌, not, List, [], ◌∷◌, ◌++◌, Option, Some, None}
+use Rattle.std.specs.Prelude.{filter, filter_map, length, if◌then◌else◌}
 use Rattle.std.specs.List.{All, list_any, range_with_len}
 use Rattle.std.specs.Option.{is_some, option_map, option_or}
 use Rattle.std.specs.Ordering.{nat_cmp}
@@ -28,7 +29,7 @@ pub record ITable : Type 0 where
 abbrev pub unloaded_at : ITable → ℕ → Option ListedChunk
 unloaded_at t n = row_at nat_cmp number_of t.unloaded n
 
--- the chunk of an i-number is loaded, so that the pairs tell its digest
+-- the chunk of an i-number is loaded, or the table has none there: so the pairs tell its digest
 abbrev pub loaded : ITable → INumber → Bool
 loaded t i = not (is_some (unloaded_at t (chunk_number i)))
 
@@ -57,7 +58,7 @@ pub record IsTable (t : ITable) : Type 0 where
 abbrev pub digest_in : List Pair → INumber → Option Digest
 digest_in pairs i = option_map (λ p. p.digest) (row_at nat_cmp i_number_of pairs i)
 
--- and that a table has
+-- and that a table has, where the chunk of the i-number is loaded
 abbrev pub digest_at : ITable → INumber → Option Digest
 digest_at t i = digest_in t.pairs i
 
@@ -77,7 +78,7 @@ is_in n p = chunk_number p.i_number == n
 abbrev pub chunk_of : ℕ → ITable → Chunk
 chunk_of n t = record { number = n; pairs = filter (is_in n) t.pairs }
 
--- no i-number of the chunk has a digest
+-- no i-number of the chunk has a digest among the pairs
 abbrev pub IsBare : ℕ → ITable → Type 0
 IsBare n t = (i : INumber) → chunk_number i ≡ n → digest_at t i ≡ None
 
@@ -106,8 +107,8 @@ handle_of t = hash (root.spell (root_of t))
 abbrev pub is_listed : List ListedChunk → ListedChunk → Bool
 is_listed before c = list_any (λ b. (b.number == c.number) && bytes_eq b.digest c.digest) before
 
--- the texts by which a table is stored and another one isn't, whose root lists these chunks: of each chunk that isn't
--- listed there, and of the root
+-- The texts by which a table is stored and another one isn't, whose root lists these chunks: of each loaded chunk that
+-- isn't listed there, and of the root. A chunk that isn't loaded has no text here: it is one that the other root lists.
 unfoldable pub new_texts : List ListedChunk → ITable → List Bytes
 new_texts before t =
     filter_map (λ c. text_of_chunk t c.number) (filter (λ c. not (is_listed before c)) (listings t))

@@ -268,7 +268,7 @@ impl<A: Allocator + Copy> ITable<A> {
     /// The text of a chunk, if it is loaded and any of its i-numbers has a digest.
     pub fn chunk_text(&self, alloc: A, number: ChunkNumber) -> Result<Option<Vec<u8, A>>, Memory>
         ensures text { IfOk result (λ text. option_map vec_items text ≡ text_of_chunk self.now number) }
-        // There is none exactly where no i-number of the chunk has a digest.
+        // There is none exactly where no i-number of the chunk has a digest among the pairs.
         ensures absent { (text_of_chunk self.now number ≡ None) ↔ IsBare number self.now }
         // It is read as the chunk.
         ensures reads { IfSome (text_of_chunk self.now number)
@@ -361,8 +361,8 @@ impl<A: Allocator + Copy> ITable<A> {
     }
 
     /// The texts by which this table is stored and another one isn't, whose root lists these chunks: those of the
-    /// chunks that aren't listed there, ascending, and that of the root. It hashes the chunks that changed since they
-    /// were hashed last.
+    /// loaded chunks that aren't listed there, ascending, and that of the root. A chunk that isn't loaded has no text here:
+    /// the other root lists it. It hashes the chunks that changed since they were hashed last.
     pub fn new_texts(
         &mut self,
         alloc: A,

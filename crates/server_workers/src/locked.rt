@@ -11,7 +11,7 @@ ghost use Rattle.server_workers.specs.declared.call_queue.TheConstants.{QUEUE_RO
 use crate::call_queue::{CallPass, ServerName};
 use crate::queue_log::QueueLog;
 use crate::tally::Tally;
-use consistency_server::{Answer, Call, CallKind, Log, Ordered, Verified};
+use consistency_server::{Answer, Call, CallKind, Log, Ordered, Verification};
 use layout::User;
 use lms_sign::PublicKey;
 use std::alloc::Allocator;
@@ -56,7 +56,7 @@ fn carry_out<A: Allocator + Copy, G: Log<Call<A>>>(
     log: &mut G,
     kind: CallKind,
     text: &[u8],
-    known: Option<&Verified<'_>>,
+    known: Option<&Verification<'_>>,
 ) -> Answer<A>
     requires { G.pushed log.old ≡ log_of ordered.old.pinned ordered.old.history }
     ensures answer { is_carried_out result.status ≡ true
@@ -104,7 +104,7 @@ impl<'a, A: Allocator + Copy, B: ServerName, L: Ledger, R: Wait> Locked<'a, A, B
         mine: &mut Tally<L>,
         kind: CallKind,
         text: &[u8],
-        known: Option<&Verified<'_>>,
+        known: Option<&Verification<'_>>,
     ) -> Answer<A>
         requires { 0 < mine.old.share.parts }
         ensures answer { is_carried_out result.status ≡ true

@@ -16,7 +16,7 @@ use crate::queue_log::QueueLog;
 use crate::reply::ReplyBody;
 use crate::tally::Tally;
 use block_store::{Store, StoreError};
-use consistency_server::{CallKind, Ordered, Verified, signer_of};
+use consistency_server::{CallKind, Ordered, Verification, signer_of};
 use layout::Digest;
 use lms_sign::PublicKey;
 use std::alloc::Allocator;
@@ -112,7 +112,7 @@ impl<'a, A: Allocator + Copy, B: ServerName, L: Ledger, R: Wait> Shared<'a, A, B
                 .fetch_add(1, Ordering::SeqCst)
                 .wrapping_add(1),
         );
-        let verified = self.verified(rt, kind, text);
+        let verified = self.verification(rt, kind, text);
         let answer = self
             .locked
             .lock(rt)
@@ -122,12 +122,12 @@ impl<'a, A: Allocator + Copy, B: ServerName, L: Ledger, R: Wait> Shared<'a, A, B
 
     /// The signature of a call's text, verified without the lock, which is taken for a look at the signer's key alone.
     /// None where there is no such key, or memory runs out: what isn't known is found out under the lock.
-    fn verified<'t>(&self, rt: &R, kind: CallKind, text: &'t [u8]) -> Option<Verified<'t>> {
+    fn verification<'t>(&self, rt: &R, kind: CallKind, text: &'t [u8]) -> Option<Verification<'t>> {
         let Ok(Some(signer)) = signer_of(self.alloc, kind, text) else {
             return None;
         };
         let key = self.locked.lock(rt).key_of(signer);
-        Some(Verified::new(key?, text))
+        Some(Verification::new(key?, text))
     }
 
     /// Stores a block.

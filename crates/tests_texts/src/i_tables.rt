@@ -1,11 +1,23 @@
 //! I-tables of which some chunks aren't loaded.
 
 use crate::here::Here;
-use itable::{ChunkNumber, ITable, ListedChunk, read_chunk, read_root};
+use itable::{ChunkNumber, ITable, read_chunk, read_root};
 use layout::{Digest, INumber, digest, let_go};
 use std::alloc::Global;
 use tests_aids::numbers::{i_number, principal};
 use tests_aids::{Aided, Host, check};
+
+/// The handle of the whole table, and the one once i-number 2 has a digest of 8s: computed with Python's hashlib from the
+/// formats of chunks and roots.
+const WHOLE: [u8; 32] = [
+    0xe7, 0x28, 0x61, 0x58, 0x16, 0xa8, 0xa5, 0x12, 0x5a, 0xc6, 0x36, 0x3e, 0x66, 0xfe, 0x1b, 0x1c,
+    0x21, 0xaa, 0xc4, 0xf0, 0x24, 0x95, 0xea, 0xaa, 0x88, 0xbc, 0x52, 0x7a, 0xd2, 0x7f, 0x5f, 0x7c,
+];
+
+const CHANGED: [u8; 32] = [
+    0x43, 0xdf, 0x1a, 0xf8, 0xb1, 0xec, 0xbd, 0x70, 0x80, 0x6c, 0x99, 0x1a, 0x9e, 0x1a, 0x46, 0xd1,
+    0x59, 0x7f, 0x14, 0x9b, 0x41, 0x87, 0xd5, 0x89, 0xd4, 0xd1, 0xd9, 0x16, 0x45, 0x06, 0x5d, 0x8e,
+];
 
 /// The digest of this byte everywhere is set at an i-number, whose chunk is loaded.
 fn set(rt: &impl Host, table: &mut ITable<Global>, number: u16, byte: u8) {
@@ -59,29 +71,10 @@ fn load(rt: &impl Host, table: &mut ITable<Global>, whole: &ITable<Global>, numb
     check(rt, found == get(rt, whole, i_number), "the digest");
 }
 
-/// The chunks as the root lists them.
-fn listings(rt: &impl Host, table: &mut ITable<Global>) -> Vec<ListedChunk> {
-    table.listings(rt.alloc()).expect(rt, "memory")
-}
-
-/// The handle.
-fn handle(rt: &impl Host, table: &mut ITable<Global>) -> Digest {
-    table.handle(rt.alloc()).expect(rt, "memory")
-}
-
-/// Two tables have one root.
-fn have_one_root(rt: &impl Host, one: &mut ITable<Global>, other: &mut ITable<Global>) {
-    let (first, second) = (listings(rt, one), listings(rt, other));
-    check(rt, *first == *second, "the same chunks");
-    check(rt, handle(rt, one) == handle(rt, other), "the same handle");
-}
-
-/// The first chunk is listed with the digest of its text.
-fn lists_the_first(rt: &impl Host, table: &mut ITable<Global>) {
-    let text = text_of(rt, table, i_number(rt, 1));
-    let chunks = listings(rt, table);
-    let first = chunks.first().expect(rt, "a chunk");
-    check(rt, first.digest == digest(&text), "its digest");
+/// A table has this handle.
+fn has_handle(rt: &impl Host, table: &mut ITable<Global>, bytes: [u8; 32]) {
+    let handle = table.handle(rt.alloc()).expect(rt, "memory");
+    check(rt, handle == Digest::from_bytes(bytes), "its handle");
 }
 
 #[test]
@@ -89,13 +82,12 @@ fn part_of_a_table(rt: HostRuntime) {
     let rt = (rt, Here);
     let mut whole = whole_table(&rt);
     let mut part = table_of_root(&rt, &mut whole);
-    have_one_root(&rt, &mut part, &mut whole);
+    has_handle(&rt, &mut whole, WHOLE);
+    has_handle(&rt, &mut part, WHOLE);
     load(&rt, &mut part, &whole, 4095);
     load(&rt, &mut part, &whole, 1);
-    have_one_root(&rt, &mut part, &mut whole);
+    has_handle(&rt, &mut part, WHOLE);
     set(&rt, &mut part, 2, 8);
-    lists_the_first(&rt, &mut part);
-    set(&rt, &mut whole, 2, 8);
-    have_one_root(&rt, &mut part, &mut whole);
+    has_handle(&rt, &mut part, CHANGED);
     check(&rt, !part.loaded(i_number(&rt, 200)), "not loaded");
 }

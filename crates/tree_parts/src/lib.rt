@@ -1,5 +1,5 @@
-//! A principal's part of the tree: what is read of it from the blocks that are held, which blocks are asked for, what the
-//! changes of a certificate make of it, and how it is stored.
+//! A principal's part of the tree: what is read of it from the blocks that are held, which blocks are asked for, what
+//! the changes of a certificate make of it, and how it is stored.
 #![tactic(auto)]
 
 mod applying;

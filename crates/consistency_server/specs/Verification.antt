@@ -1,8 +1,8 @@
--- A signature that was verified under a key, and whether it is valid.
+-- What the verification of a signature under a key came to.
 use Rattle.std.specs.Prelude.{Bool}
 use Rattle.layout.specs.Types.{Bytes, Key}
 
-pub record Verified : Type 0 where
+pub record Verification : Type 0 where
   pub key : Key
   -- what stands before the signature
   pub unsigned : Bytes

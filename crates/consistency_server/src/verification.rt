@@ -1,4 +1,4 @@
-//! Signatures that are verified before the one order is locked.
+//! Verifications of signatures, made before the one order is locked.
 
 ghost use Rattle.std.specs.Prelude.{◌≡◌, ◌++◌, IfSome};
 ghost use Rattle.lms_sign.specs.Signature.{valid};
@@ -6,22 +6,22 @@ ghost use Rattle.lms_sign.specs.Signature.{valid};
 use lms_sign::{PublicKey, SIGNATURE_SIZE, verify};
 use std::marker::Model;
 
-/// A signature that was verified under a key. It tells nothing of what a server keeps: so it is made without a lock, and
-/// holds for good.
+/// What the verification of a signature under a key came to. It tells nothing of what a server keeps: so it is made
+/// without a lock, and holds for good.
 #[derive(Drop)]
-pub struct Verified<'a> {
+pub struct Verification<'a> {
     key: PublicKey,
     unsigned: &'a [u8],
     signature: &'a [u8],
     is_valid: bool,
 }
 
-impl<'a> Model for Verified<'a> {
+impl<'a> Model for Verification<'a> {
     ghost use Rattle.std.specs.Prelude.{◌≡◌};
     ghost use Rattle.lms_sign.specs.Signature.{valid};
-    ghost use Rattle.consistency_server.specs.Verified.{Verified};
+    ghost use Rattle.consistency_server.specs.Verification.{Verification};
 
-    ghost Value = { Verified };
+    ghost Value = { Verification };
 
     ghost view = { λ v. record {
       key = v.key;
@@ -33,16 +33,16 @@ impl<'a> Model for Verified<'a> {
     ghost invariant = { λ v. v.is_valid ≡ valid v.key v.unsigned.now v.signature.now };
 }
 
-impl<'a> Verified<'a> {
+impl<'a> Verification<'a> {
     /// Verifies the last 2,508 bytes of a text as the signature of what stands before them.
-    pub fn new(key: PublicKey, text: &'a [u8]) -> Verified<'a>
+    pub fn new(key: PublicKey, text: &'a [u8]) -> Verification<'a>
         ensures key { result.key ≡ key }
         ensures text { result.unsigned ++ result.signature ≡ text.now }
         ensures valid { result.is_valid ≡ valid result.key result.unsigned result.signature }
     {
         let (unsigned, signature) = text.split_at(text.len().saturating_sub(SIGNATURE_SIZE));
         let is_valid = verify(&key, unsigned, signature);
-        Verified {
+        Verification {
             key,
             unsigned,
             signature,
