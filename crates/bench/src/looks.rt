@@ -47,7 +47,7 @@ fn store_file(alloc: Global, store: &mut Held<Global>, file: &[u8]) -> Result<Di
     // User 0's i-table has something at the place of the table of principals, which isn't read here.
     table.set(INumber::table(), named)?;
     table.set(INumber::root(), named)?;
-    store.keep_all(table.new_texts(alloc, &[])?)?;
+    store.keep_all(table.texts(alloc)?)?;
     Ok(table.handle(alloc)?)
 }
 

@@ -1,9 +1,10 @@
 //! How long things take, for people: `bench lms` keys, signatures and verifications, `bench itable` an i-table of
 //! 4,095 digests, `bench look` looks at files, `bench operations` the calls of an operation among 64 users, with how
-//! much of each is signing and verifying, `bench server` operations over TCP. `bench visit=ADDR` makes an operation at
-//! a server that runs. With no word it does nothing.
+//! much of each is signing and verifying, `bench server` operations and blocks over TCP. `bench visit=ADDR` makes an
+//! operation at a server that runs. With no word it does nothing.
 #![tactic(auto)]
 
+mod blocks;
 mod host;
 mod i_tables;
 mod lms;

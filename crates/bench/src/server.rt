@@ -1,5 +1,6 @@
 //! Operations over TCP, and what they are compared with: the time of the signatures that they need.
 
+use crate::blocks;
 use crate::host::Host;
 use crate::lms::{Signing, measure_signing};
 use crate::world::new_others;
@@ -17,7 +18,7 @@ use tests_plain_user::{CallError, Caller, PlainUser, listing};
 use wire::Status;
 
 /// How many connections operate side by side.
-static CONNECTIONS: [u8; 3] = [1, 2, 4];
+pub(crate) static CONNECTIONS: [u8; 3] = [1, 2, 4];
 
 /// How many operations each of them makes.
 const OPERATIONS: u32 = 256;
@@ -51,7 +52,7 @@ fn operate_over<S: Read + Write + Drop>(
 }
 
 /// A connection that sends at once what is written to it.
-fn connect<R: Host>(rt: &R, address: SocketAddr) -> Result<TcpStream> {
+pub(crate) fn connect<R: Host>(rt: &R, address: SocketAddr) -> Result<TcpStream> {
     let stream = TcpStream::connect(rt, address)?;
     stream.set_nodelay(true)?;
     Ok(stream)
@@ -122,7 +123,12 @@ pub(crate) fn visit_at<R: Host>(rt: &R, address: &str) -> Result<()> {
 }
 
 /// Serves so many connections, with a log in memory.
-fn serve_all<R: Host>(rt: &R, listener: &TcpListener, most: u32, pinned: PublicKey) -> bool {
+pub(crate) fn serve_all<R: Host>(
+    rt: &R,
+    listener: &TcpListener,
+    most: u32,
+    pinned: PublicKey,
+) -> bool {
     let alloc = rt.alloc();
     let Ok(store) = Store::new(alloc) else {
         return false;
@@ -154,7 +160,7 @@ fn measure<R: Host>(rt: &R, connections: u8) -> Result<(u32, f64)> {
 }
 
 /// Prints for each number of connections how many operations a second were committed, and how many one thread could
-/// sign and verify: an operation needs two signatures, each of them made and verified once.
+/// sign and verify: an operation needs two signatures, each of them made and verified once. Then the same of blocks.
 pub(crate) fn report<R: Host>(rt: &R) -> Result<()> {
     let Signing { sign, verify } = measure_signing(rt, rt.alloc())?;
     let possible = 0.5 / sign.saturating_add(verify).as_secs_f64();
@@ -167,5 +173,8 @@ pub(crate) fn report<R: Host>(rt: &R) -> Result<()> {
             "{connections} connections: {committed} operations, {rate:.0} a second, ratio {ratio:.2}"
         )?;
     }
-    Ok(())
+    let superuser = PlainUser::new(rt.alloc(), 0)?;
+    let pinned = superuser.public();
+    let_go(superuser);
+    blocks::report(rt, pinned)
 }

@@ -11,7 +11,7 @@ use Rattle.client_runs.specs.declared.slot.Slot.TheVariants as slot
 use Rattle.client_runs.specs.declared.world.Act.{Act}
 use Rattle.client_runs.specs.declared.world.Answer.{Answer}
 use Rattle.client_runs.specs.declared.world.WorldStep.{WorldStep}
-use Rattle.client_runs.specs.Steps.{Client, Owner, first}
+use Rattle.client_steps.specs.Steps.{Client, Owner, first}
 use Rattle.client_runs.specs.Runs.{Event, IsRun, Keys, client_of, owner, public_key}
 use Rattle.client_runs.specs.Released.{views}
 use Rattle.client_runs.specs.UsedOnce.{CertificatesOnce, EachClient, LeavesOnce, StructuresOnce}

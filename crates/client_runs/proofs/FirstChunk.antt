@@ -21,14 +21,14 @@ use Rattle.itable.specs.declared.chunk.Pair.{Pair}
 use Rattle.itable.specs.declared.root.ListedChunk.{ListedChunk}
 use Rattle.itable.specs.Chunk.{Chunk, chunk, chunk_number, i_number_of}
 use Rattle.itable.specs.File.{NoneCollide}
-use Rattle.itable.specs.ITable.{ITable, IsListed, IsPair, IsTable, IsWhole, chunk_of, listing, loaded, digest_at, digest_in, handle_of, is_in, root_of, text_of_chunk}
+use Rattle.itable.specs.ITable.{ITable, IsListed, IsPair, IsTable, chunk_of, loaded, digest_at, digest_in, handle_of, is_in, root_of, text_of_chunk, unloaded_at}
 use Rattle.itable.specs.Root.{Root, chunk_at, root}
 use Rattle.itable.proofs.ChunkLaws.{chunk_reads, in_chunk}
-use Rattle.itable.proofs.RootLaws.{lists, root_reads}
+use Rattle.itable.proofs.RootLaws.{lists, loaded_listed, root_reads}
 use Rattle.itable.proofs.TableLaws.{same_pairs}
 use Rattle.tree_parts.specs.Blocks.{chunk_held, inode_told, root_at, told_by, told_under}
 use Rattle.agreement.proofs.Members.{In}
-use Rattle.client_runs.proofs.Among.{all_held, found, of_are_among, of_texts}
+use Rattle.client_runs.proofs.Among.{all_held, of_are_among, of_texts}
 
 some_is : {A : Type 0} {x y : A} → Some x ≡ Some y → x ≡ y
 some_is e = cc
@@ -85,10 +85,6 @@ same_first ps qs all_p all_q up_p up_q same =
       | inr other ↦ ap (option_map (λ (p : Pair). p.digest)) (none_elsewhere ps all_p i other ∙ sym (none_elsewhere qs all_q i other))
     ])
 
--- a chunk of a whole table is listed by its text
-pub listed_whole : (t : ITable) (n : ℕ) → IsWhole t → listing t n ≡ option_map (λ (y : Bytes). record { number = n; digest = hash y }) (text_of_chunk t n)
-listed_whole t n whole = rw whole refl
-
 -- the text of a chunk
 text_is : (t : ITable) (n : ℕ) (text : Bytes) → text_of_chunk t n ≡ Some text → text ≡ chunk.spell (chunk_of n t)
 unfolding text_of_chunk
@@ -121,27 +117,31 @@ module _ (texts : List Bytes) where
       ap (λ (n : ℕ). told_by (of_texts texts) i (chunk_at h.top n)) zero ∙ ap (told_by (of_texts texts) i) h.listed_is ∙ ap (option_map (λ (x : Chunk). digest_in x.pairs i)) held in
       ap (option_and_then (told_under (of_texts texts) 0 i)) h.top_is ∙ (rw (eq-eqb h.top.principal 0 h.principal) by)
 
-  -- the i-table of which it tells has that chunk 0
-  pub chunk_is : (handle : Handle) → (h : HasChunk handle) → (t : ITable) → IsTable t → ((i : ℕ) → inode_told (of_texts texts) 0 handle i ≡ Some (digest_at t i)) → (text : Bytes) → text_of_chunk t 0 ≡ Some text → text ≡ chunk.spell h.first
+  -- an i-table of which it tells there has that chunk 0
+  pub chunk_is : (handle : Handle) → (h : HasChunk handle) → (t : ITable) → IsTable t → ((i : ℕ) → chunk_number i ≡ 0 → inode_told (of_texts texts) 0 handle i ≡ Some (digest_at t i)) → (text : Bytes) → text_of_chunk t 0 ≡ Some text → text ≡ chunk.spell h.first
   chunk_is handle h t is told text has =
       let same : filter (is_in 0) t.pairs ≡ h.first.pairs =
       same_first (filter (is_in 0) t.pairs) h.first.pairs (kept_pairs t.pairs is.of_pairs) h.inside (kept_ascend None t.pairs is.ascending) h.ascending (λ i zero.
-      ap (λ (n : ℕ). digest_in (chunk_of n t).pairs i) (sym zero) ∙ sym (in_chunk t i) ∙ some_is (sym (told i) ∙ told_at handle h i zero)) in
+      ap (λ (n : ℕ). digest_in (chunk_of n t).pairs i) (sym zero) ∙ sym (in_chunk t i) ∙ some_is (sym (told i zero) ∙ told_at handle h i zero)) in
       text_is t 0 text has ∙ ap (λ (ps : List Pair). chunk.spell (record { number = 0; pairs = ps })) same
       ∙ ap (λ (n : ℕ). chunk.spell (record { number = n; pairs = h.first.pairs })) (sym h.number)
 
-  -- ---- the handle of a table
+  -- and that chunk's text is one of the texts
+  pub chunk_in : (handle : Handle) → (h : HasChunk handle) → In (chunk.spell h.first) texts
+  chunk_in handle h = (of_are_among texts h.listed.digest (chunk.spell h.first) h.first_is).0
 
-  module _ (apart : NoneCollide texts texts) (t : ITable) (is : IsTable t) (all : IsWhole t) (zero : t.principal ≡ 0) (root_in : In (root.spell (root_of t)) texts) (text : Bytes) (has : text_of_chunk t 0 ≡ Some text) where
+  -- ---- the handle of a table whose chunk 0 is loaded
+
+  module _ (apart : NoneCollide texts texts) (t : ITable) (is : IsTable t) (here : unloaded_at t 0 ≡ None) (zero : t.principal ≡ 0) (root_in : In (root.spell (root_of t)) texts) (text : Bytes) (has : text_of_chunk t 0 ≡ Some text) where
     top_at : root_at (of_texts texts) (handle_of t) ≡ Some (root_of t)
     top_at = ap (option_and_then (λ text. result_ok (whole root text))) (all_held texts apart (root.spell (root_of t)) root_in) ∙ ap result_ok (root_reads t is)
 
     listed_at : chunk_at (root_of t) 0 ≡ Some (record { number = 0; digest = hash text })
-    listed_at = lists t 0 is (omega arith) ∙ listed_whole t 0 all ∙ ap (option_map (λ (y : Bytes). record { number = 0; digest = hash y })) has
+    listed_at = lists t 0 is (omega arith) ∙ loaded_listed t 0 here ∙ ap (option_map (λ (y : Bytes). record { number = 0; digest = hash y })) has
 
-    -- where the chunk's text is among the texts
-    pub new_chunk : In text texts → HasChunk (handle_of t)
-    new_chunk i =
+    -- where the chunk's text is among the texts, too
+    pub has_chunk : In text texts → HasChunk (handle_of t)
+    has_chunk i =
         let spelled = text_is t 0 text has in
         record {
           top = root_of t;
@@ -160,30 +160,8 @@ module _ (texts : List Bytes) where
         reads_so : (o : Option Bytes) → o ≡ Some text → IfSome o (λ y. whole chunk y ≡ Ok (chunk_of 0 t)) → whole chunk (chunk.spell (chunk_of 0 t)) ≡ Ok (chunk_of 0 t)
         reads_so o same reads = ap (whole chunk) (sym (text_is t 0 text has)) ∙ subst (λ (p : Option Bytes). IfSome p (λ y. whole chunk y ≡ Ok (chunk_of 0 t))) same reads
 
-    pub new_told : (i : In text texts) → (n : ℕ) → chunk_number n ≡ 0 → inode_told (of_texts texts) 0 (handle_of t) n ≡ Some (digest_at t n)
-    unfolding new_chunk
-    new_told i n zero =
-        told_at (handle_of t) (new_chunk i) n zero
+    pub chunk_told : (i : In text texts) → (n : ℕ) → chunk_number n ≡ 0 → inode_told (of_texts texts) 0 (handle_of t) n ≡ Some (digest_at t n)
+    unfolding has_chunk
+    chunk_told i n zero =
+        told_at (handle_of t) (has_chunk i) n zero
         ∙ ap (λ (o : Option Digest). Some o) (ap (λ (m : ℕ). digest_in (chunk_of m t).pairs n) (sym zero) ∙ sym (in_chunk t n))
-
-    -- or has the digest of the one that another handle has
-    pub old_chunk : (handle : Handle) → (h : HasChunk handle) → hash (chunk.spell h.first) ≡ hash text → HasChunk (handle_of t)
-    old_chunk handle h same =
-        let among = of_are_among texts h.listed.digest (chunk.spell h.first) h.first_is in
-        record {
-          top = root_of t;
-          top_is = top_at;
-          principal = zero;
-          listed = record { number = 0; digest = hash text };
-          listed_is = listed_at;
-          first = h.first;
-          first_is = found texts apart (chunk.spell h.first) (hash text) among.0 same;
-          reads = h.reads;
-          number = h.number;
-          inside = h.inside;
-          ascending = h.ascending;
-        }
-
-    pub old_told : (handle : Handle) → (h : HasChunk handle) → hash (chunk.spell h.first) ≡ hash text → (n : ℕ) → chunk_number n ≡ 0 → inode_told (of_texts texts) 0 (handle_of t) n ≡ Some (digest_in h.first.pairs n)
-    unfolding old_chunk
-    old_told handle h same n zero = told_at (handle_of t) (old_chunk handle h same) n zero

@@ -21,7 +21,7 @@ use Rattle.release_runs.proofs.Opening.{IsOf, opened_holds}
 use Rattle.release_runs.proofs.Releasing.{IsTriedCert, IsTriedStructure, declare_fails, declares, sign_fails, signs}
 use Rattle.release_runs.proofs.Stories.{OfCert, OfStructure, Release, last_in, phase_in, text_in}
 use Rattle.client_verify.specs.State.{Ready, State, declared, next_cert, next_structure, on, released, signed_over, signed_text}
-use Rattle.client_runs.specs.Steps.{Begins, Call, Client, Closed, Commits, HasBegun, HasCommitted, HasSigned, IsOpened, IsSound, Open, Opens, Owner, Parts, Signs}
+use Rattle.client_steps.specs.Steps.{Begins, Call, Client, Closed, Commits, HasBegun, HasCommitted, HasSigned, IsOpened, IsSound, Open, Opens, Owner, Parts, Signs}
 use Rattle.client_runs.specs.Runs.{Event}
 use Rattle.client_runs.specs.Released.{accepted_by, in_hand, released_by, tried_by, view_over, where_signed}
 use Rattle.client_runs.proofs.Lowering.{if_ready, low_begin_failed, low_begun, low_client, low_opened, low_owner, low_parts, low_sign_failed, low_signed, of_declared}

@@ -7,7 +7,7 @@ use Rattle.std.specs.Option.{option_map_or}
 use Rattle.std.proofs.lemmas.Bool.{eqb-true}
 use Rattle.std.proofs.lemmas.List.Elements.{All-head}
 use Rattle.leaf_ledger.specs.Ledger.{LeafNumber}
-use Rattle.layout.specs.Types.{Bytes, Digest, Handle, INumber, Key, Principal, User}
+use Rattle.layout.specs.Types.{Bytes, Digest, Handle, Key, User}
 use Rattle.itable.specs.File.{NoneCollide}
 use Rattle.principals.specs.Table.{Table}
 use Rattle.principals.specs.TableText.{table}
@@ -20,8 +20,9 @@ use Rattle.wire.specs.declared.kinds.Status.TheVariants as status
 use Rattle.client_tree.specs.Genesis.{first_blocks, first_texts}
 use Rattle.client_tree.specs.Held.{Block, held, keeping_all}
 use Rattle.client_tree.specs.Principals.{IsPending}
-use Rattle.client_tree.specs.Tree.{IsOutcome, IsStored, Stored}
+use Rattle.client_tree.specs.Tree.{IsOutcome, IsStored, IsUntouched, Stored}
 use Rattle.client_tree.specs.View.{handle_in}
+use Rattle.client_tree.specs.declared.questions.Question.{Question}
 use Rattle.client_releases.specs.declared.error.ClientError.{ClientError}
 use Rattle.client_releases.specs.declared.error.ClientError.TheVariants as error
 use Rattle.client_releases.specs.declared.phase.Phase.{Phase}
@@ -37,12 +38,12 @@ use Rattle.client_verify.specs.Judged.{AsksOrAccepts, GoesOn, Handed, IsGood, Ju
 use Rattle.client_verify.specs.Looked.{Given, Looked}
 use Rattle.agreement.specs.Runs.{View}
 use Rattle.agreement.proofs.Members.{In, in-append, in-left, in-right}
-use Rattle.client_runs.specs.Steps.{Asks, Begins, Call, Client, Closed, Closes, Commits, Crashes, Gives, HasBegun, HasGiven, HasHeard, HasLooked, HasSigned, HasTaken, Hears, IsStep, Looks, Open, Opens, Owner, Sees, Signs, Takes}
+use Rattle.client_steps.specs.Steps.{Asks, Begins, Call, Client, Closed, Closes, Commits, Crashes, Gives, HasBegun, HasGiven, HasHeard, HasLooked, HasSigned, HasTaken, Hears, IsStep, Looks, Open, Opens, Owner, Sees, Signs, Takes}
 use Rattle.client_runs.specs.Runs.{Event, IsRun, Keys, client_of, owner, public_key}
 use Rattle.client_runs.specs.Released.{accepted_by, hashed_at, hashed_by, in_hand, reply_texts, stored_texts, tried_by, tried_view, views, where_signed, view_over as over}
 use Rattle.client_runs.proofs.Among.{AreAmong, agrees_within, among_all_kept, among_kept, among_none, are_within, of_texts}
 use Rattle.client_runs.proofs.FirstChunk.{HasChunk}
-use Rattle.client_runs.proofs.Stored.{Names, NamesSame, made}
+use Rattle.client_runs.proofs.Stored.{Names, NamesSame, made, made_same}
 
 module _ (texts : List Bytes) (apart : NoneCollide texts texts) (key : Key) where
   -- The table of principals of these lists, as blocks among the texts tell it.
@@ -102,9 +103,17 @@ module _ (texts : List Bytes) (apart : NoneCollide texts texts) (key : Key) wher
   own_made : (s : State) (good : Good) (own : Stored) (groups : List Stored) → Knows s → IsOutcome (held s.blocks) (view_of s.pinned good) (own ∷ groups) → AreIn own.texts → IsMade good.lists good.table own.handle
   own_made s good own groups k outcome inside zero few old =
       let first : own.principal ≡ good.lists.own.cert.user = head_is own.principal good.lists.own.cert.user (map (λ (g : Stored). g.principal) groups) (raised_groups good.table good.lists.own) outcome.principals in
-      let stored = subst (λ (p : Key). IsStored (held s.blocks) (view_of p good) own) k.pinned (All-head (IsStored (held s.blocks) (view_of s.pinned good)) own groups outcome.stored) in
-      made texts apart (held s.blocks) k.among (view_of key good) own stored (first ∙ zero) inside few old
+      let one = subst (λ (p : Key). IsOf p own) k.pinned (All-head (IsOf s.pinned) own groups outcome.stored) in
+      elim one [
+        | inl stored ↦ made texts apart (held s.blocks) k.among (view_of key good) own stored (first ∙ zero) inside few old
+        | inr untouched ↦ (
+            let named : own.handle ≡ handle_in key good.lists.structures 0 = untouched.named ∙ ap (handle_in key good.lists.structures) (first ∙ zero) in
+            made_same texts own.handle (handle_in key good.lists.structures 0) (table.spell good.table) named old)
+      ]
     where
+      IsOf : Key → Stored → Type 0
+      IsOf p own = IsStored (held s.blocks) (view_of p good) own ⊎ IsUntouched (view_of p good) own
+
       head_is : (a b : ℕ) (xs ys : List ℕ) → a ∷ xs ≡ b ∷ ys → a ≡ b
       head_is a b xs ys e = cc e
 
@@ -163,22 +172,26 @@ module _ (texts : List Bytes) (apart : NoneCollide texts texts) (key : Key) wher
 
   -- ---- looks
 
-  looked : (s : State) (v : AcceptedView) (p : Principal) (i : INumber) (answer : Sees) (new : State) → Knows s → Looked s v p i answer new → Knows new
-  looked s v p i (look.Need digest) new k h = subst (λ (n : State). Knows n) (sym h.2) (record { pinned = k.pinned; among = k.among; checked = k.checked; accepted = k.accepted })
-  looked s v p i (look.File bytes) new k h = subst (λ (n : State). Knows n) (sym h.0) (record { pinned = k.pinned; among = k.among; checked = k.checked; accepted = k.accepted })
-  looked s v p i (look.Dir entries) new k h = subst (λ (n : State). Knows n) (sym h.0) (record { pinned = k.pinned; among = k.among; checked = k.checked; accepted = k.accepted })
-  looked s v p i look.None new k h = subst (λ (n : State). Knows n) (sym h.0) (record { pinned = k.pinned; among = k.among; checked = k.checked; accepted = k.accepted })
-  looked s v p i (look.Broken rule) new k h = absurd h
+  looked : (s : State) (v : AcceptedView) (q : Question) (answer : Sees) (new : State) → Knows s → Looked s v q answer new → Knows new
+  looked s v q (look.Need digest) new k h = subst (λ (n : State). Knows n) (sym h.2) (record { pinned = k.pinned; among = k.among; checked = k.checked; accepted = k.accepted })
+  looked s v q (look.File bytes) new k h = subst (λ (n : State). Knows n) (sym h.0) (record { pinned = k.pinned; among = k.among; checked = k.checked; accepted = k.accepted })
+  looked s v q (look.Dir entries) new k h = subst (λ (n : State). Knows n) (sym h.0) (record { pinned = k.pinned; among = k.among; checked = k.checked; accepted = k.accepted })
+  looked s v q look.None new k h = subst (λ (n : State). Knows n) (sym h.0) (record { pinned = k.pinned; among = k.among; checked = k.checked; accepted = k.accepted })
+  looked s v q (look.Kind kind) new k h = subst (λ (n : State). Knows n) (sym h.0) (record { pinned = k.pinned; among = k.among; checked = k.checked; accepted = k.accepted })
+  looked s v q (look.Free found) new k h = subst (λ (n : State). Knows n) (sym h.0) (record { pinned = k.pinned; among = k.among; checked = k.checked; accepted = k.accepted })
+  looked s v q (look.Broken rule) new k h = absurd h
 
-  block_looked : (s : State) (v : AcceptedView) (l : Looking) (block : Option Bytes) (answer : Sees) (new : State) → Knows s → AreIn (option_to_list block) → IsSomeAnd block (λ text. Looked (holding s text) v l.principal l.i_number answer new) → Knows new
+  block_looked : (s : State) (v : AcceptedView) (l : Looking) (block : Option Bytes) (answer : Sees) (new : State) → Knows s → AreIn (option_to_list block) → IsSomeAnd block (λ text. Looked (holding s text) v l.question answer new) → Knows new
   block_looked s v l None answer new k here h = absurd h
-  block_looked s v l (Some text) answer new k here h = looked (holding s text) v l.principal l.i_number answer new (held_too s text k (here text (inl refl))) h
+  block_looked s v l (Some text) answer new k here h = looked (holding s text) v l.question answer new (held_too s text k (here text (inl refl))) h
 
   given : (s : State) (v : AcceptedView) (l : Looking) (block : Option Bytes) (answer : Sees) (new : State) → Knows s → AreIn (option_to_list block) → Given s v l block answer new → Knows new
   given s v l block (look.Need digest) new k here h = block_looked s v l block (look.Need digest) new k here h.1
   given s v l block (look.File bytes) new k here h = block_looked s v l block (look.File bytes) new k here h.1
   given s v l block (look.Dir entries) new k here h = block_looked s v l block (look.Dir entries) new k here h.1
   given s v l block look.None new k here h = block_looked s v l block look.None new k here h.1
+  given s v l block (look.Kind kind) new k here h = block_looked s v l block (look.Kind kind) new k here h.1
+  given s v l block (look.Free found) new k here h = block_looked s v l block (look.Free found) new k here h.1
   given s v l block (look.Broken rule) new k here h = subst (λ (n : State). Knows n) (sym h.1) k
 
   -- ---- calls
@@ -231,13 +244,13 @@ module _ (texts : List Bytes) (apart : NoneCollide texts texts) (key : Key) wher
     commits status.Ok is = subst (λ (n : State). Knows n) (sym is) (record { pinned = k.pinned; among = k.among; checked = k.checked; accepted = k.accepted })
     commits other is = same is
 
-    looks : (p : Principal) (i : INumber) (answer : Result Sees ClientError) → HasLooked s p i answer new → Knows new
-    looks p i (Err e) h = same h.err
-    looks p i (Ok answer) h = go s.view h.sees h.looked
+    looks : (q : Question) (answer : Result Sees ClientError) → HasLooked s q answer new → Knows new
+    looks q (Err e) h = same h.err
+    looks q (Ok answer) h = go s.view h.sees h.looked
       where
-        go : (view : Option AcceptedView) → IsSome view → IfSome view (λ v. Looked s v p i answer new) → Knows new
+        go : (view : Option AcceptedView) → IsSome view → IfSome view (λ v. Looked s v q answer new) → Knows new
         go None some h = absurd (cc some)
-        go (Some v) some h = looked s v p i answer new k h
+        go (Some v) some h = looked s v q answer new k h
 
     gives : (block : Option Bytes) (answer : Result Sees ClientError) → AreIn (option_to_list block) → HasGiven s block answer new → Knows new
     gives block (Err e) here h = same h.err
@@ -278,7 +291,7 @@ module _ (texts : List Bytes) (apart : NoneCollide texts texts) (key : Key) wher
       takes s new k block answer (λ t i. inside t (in-left t (option_to_list block) (stored_texts answer) i)) (λ t i. inside t (in-right t (option_to_list block) (stored_texts answer) i)) is
   step o own first (Open s) (Signs answer) (Open new) inside is k = signs s new k answer is
   step o own first (Open s) (Commits st) (Open new) inside is k = commits s new k st is.state
-  step o own first (Open s) (Looks p i answer) (Open new) inside is k = looks s new k p i answer is
+  step o own first (Open s) (Looks q answer) (Open new) inside is k = looks s new k q answer is
   step o own first (Open s) (Gives block answer) (Open new) inside is k = gives s new k block answer inside is
   step o own first (Open s) call after inside is k = absurd is
 

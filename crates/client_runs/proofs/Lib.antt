@@ -16,13 +16,10 @@ mod Stored
 mod KnownViews
 mod TrueTables
 mod Agreed
-mod Anywhere
 mod Same
 mod OneMore
 mod NotTaken
 mod Telling
-mod Answered
-mod Heard
 mod Taking
 mod ScriptKeys
 mod Ended

@@ -8,7 +8,7 @@ use Rattle.client_releases.specs.declared.error.ClientError.TheVariants as error
 use Rattle.client_releases.specs.Releasing.{IsKept, IsTried, structure_record}
 use Rattle.release_runs.specs.Steps as low
 use Rattle.client_verify.specs.State.{IsOfDeclared, Ready, State, next_cert, next_structure, on, released, signed_over, signed_text}
-use Rattle.client_runs.specs.Steps.{Client, Closed, HasBegun, HasSigned, IsHandedBack, IsLeft, IsOpened, IsSound, Open, Owner, Parts}
+use Rattle.client_steps.specs.Steps.{Client, Closed, HasBegun, HasSigned, IsHandedBack, IsLeft, IsOpened, IsSound, Open, Owner, Parts}
 
 -- the owner, the devices and the client, as client_releases has them
 abbrev pub low_owner : Owner → low.Owner

@@ -6,7 +6,7 @@ use Rattle.client_verify.specs.State.{State}
 use Rattle.client_runs.specs.declared.world.Act.{Act}
 use Rattle.client_runs.specs.declared.world.Act.TheVariants as act
 use Rattle.client_runs.specs.declared.world.Answer.TheVariants as answer
-use Rattle.client_runs.specs.Steps.{Client, Closed, Crashes, IsLeft, Open, Owner, Parts, journal_of, ledger_of}
+use Rattle.client_steps.specs.Steps.{Client, Closed, Crashes, IsLeft, Open, Owner, Parts, journal_of, ledger_of}
 use Rattle.client_runs.specs.Carried.{ComesOf}
 use Rattle.client_runs.specs.NotTaken.{CantFromOpen, MayLeaveBoth}
 

@@ -7,7 +7,7 @@ use Rattle.client_runs.specs.declared.world.Answer.{Answer}
 use Rattle.client_runs.specs.declared.world.Answer.TheVariants as answer
 use Rattle.client_runs.specs.declared.world.WorldStep.{WorldStep}
 use Rattle.client_runs.specs.declared.slot.Slot.{Slot}
-use Rattle.client_runs.specs.Steps.{Call, Client, IsSound, IsStep, Owner}
+use Rattle.client_steps.specs.Steps.{Call, Client, IsSound, IsStep, Owner}
 use Rattle.client_runs.specs.Runs.{Event, IsRun, Keys, client_of, owner}
 use Rattle.client_runs.specs.Carried.{ComesOf, IsEventOf, IsTaken, Keep, script_keys}
 use Rattle.client_runs.specs.NotTaken.{CantBeTaken}

@@ -1,8 +1,9 @@
 -- Calls that release nothing leave what was released as it was.
 use Rattle.std.proofs.Common.{◌≡◌, Option, Some, None, Ok, Err, Result, IfSome, IsSome, IsSomeAnd, ap, inl, inr}
-use Rattle.layout.specs.Types.{Bytes, INumber, Principal}
+use Rattle.layout.specs.Types.{Bytes}
 use Rattle.pending_list.specs.Reply.{Reply}
 use Rattle.reply_rules.specs.Lists.{Lists, lists_of}
+use Rattle.client_tree.specs.declared.questions.Question.{Question}
 use Rattle.client_releases.specs.declared.error.ClientError.{ClientError}
 use Rattle.client_verify.specs.declared.look.Look.TheVariants as look
 use Rattle.client_verify.specs.declared.step.Step.TheVariants as step
@@ -13,7 +14,7 @@ use Rattle.client_verify.specs.State.{AcceptedView, Checked, Reading, State, Wri
 use Rattle.client_verify.specs.Judged.{AsksOrAccepts, GoesOn, Handed, Judged, Taken}
 use Rattle.client_verify.specs.Looked.{Given, Looked}
 use Rattle.client_runs.proofs.Replies.{kept}
-use Rattle.client_runs.specs.Steps.{Asks, HasGiven, HasHeard, HasLooked, HasTaken, Sees}
+use Rattle.client_steps.specs.Steps.{Asks, HasGiven, HasHeard, HasLooked, HasTaken, Sees}
 
 -- what was released is as it was
 abbrev pub IsQuiet : State → State → Type 0
@@ -76,30 +77,34 @@ takes s block (Ok answer) new h = go s.checked h.wants h.handed
 
 -- a look leaves what was released, and what is under check or accepted
 
-looked : (s : State) (v : AcceptedView) (p : Principal) (i : INumber) (answer : Sees) (new : State) → Looked s v p i answer new → kept new ≡ kept s
-looked s v p i (look.Need digest) new h = ap kept h.2
-looked s v p i (look.File bytes) new h = ap kept h.0
-looked s v p i (look.Dir entries) new h = ap kept h.0
-looked s v p i look.None new h = ap kept h.0
-looked s v p i (look.Broken rule) new h = absurd h
+looked : (s : State) (v : AcceptedView) (q : Question) (answer : Sees) (new : State) → Looked s v q answer new → kept new ≡ kept s
+looked s v q (look.Need digest) new h = ap kept h.2
+looked s v q (look.File bytes) new h = ap kept h.0
+looked s v q (look.Dir entries) new h = ap kept h.0
+looked s v q look.None new h = ap kept h.0
+looked s v q (look.Kind kind) new h = ap kept h.0
+looked s v q (look.Free found) new h = ap kept h.0
+looked s v q (look.Broken rule) new h = absurd h
 
-pub looks : (s : State) (p : Principal) (i : INumber) (answer : Result Sees ClientError) (new : State) → HasLooked s p i answer new → kept new ≡ kept s
-looks s p i (Err e) new h = ap kept h.err
-looks s p i (Ok answer) new h = go s.view h.sees h.looked
+pub looks : (s : State) (q : Question) (answer : Result Sees ClientError) (new : State) → HasLooked s q answer new → kept new ≡ kept s
+looks s q (Err e) new h = ap kept h.err
+looks s q (Ok answer) new h = go s.view h.sees h.looked
   where
-    go : (view : Option AcceptedView) → IsSome view → IfSome view (λ v. Looked s v p i answer new) → kept new ≡ kept s
+    go : (view : Option AcceptedView) → IsSome view → IfSome view (λ v. Looked s v q answer new) → kept new ≡ kept s
     go None some h = absurd (cc some)
-    go (Some v) some h = looked s v p i answer new h
+    go (Some v) some h = looked s v q answer new h
 
-block_looked : (s : State) (v : AcceptedView) (l : Looking) (block : Option Bytes) (answer : Sees) (new : State) → IsSomeAnd block (λ text. Looked (holding s text) v l.principal l.i_number answer new) → kept new ≡ kept s
+block_looked : (s : State) (v : AcceptedView) (l : Looking) (block : Option Bytes) (answer : Sees) (new : State) → IsSomeAnd block (λ text. Looked (holding s text) v l.question answer new) → kept new ≡ kept s
 block_looked s v l None answer new h = absurd h
-block_looked s v l (Some text) answer new h = looked (holding s text) v l.principal l.i_number answer new h
+block_looked s v l (Some text) answer new h = looked (holding s text) v l.question answer new h
 
 given : (s : State) (v : AcceptedView) (l : Looking) (block : Option Bytes) (answer : Sees) (new : State) → Given s v l block answer new → kept new ≡ kept s
 given s v l block (look.Need digest) new h = block_looked s v l block (look.Need digest) new h.1
 given s v l block (look.File bytes) new h = block_looked s v l block (look.File bytes) new h.1
 given s v l block (look.Dir entries) new h = block_looked s v l block (look.Dir entries) new h.1
 given s v l block look.None new h = block_looked s v l block look.None new h.1
+given s v l block (look.Kind kind) new h = block_looked s v l block (look.Kind kind) new h.1
+given s v l block (look.Free found) new h = block_looked s v l block (look.Free found) new h.1
 given s v l block (look.Broken rule) new h = ap kept h.1
 
 pub gives : (s : State) (block : Option Bytes) (answer : Result Sees ClientError) (new : State) → HasGiven s block answer new → kept new ≡ kept s

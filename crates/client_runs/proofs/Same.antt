@@ -1,17 +1,18 @@
 -- No call of an open client changes its user's keys.
 use Rattle.std.proofs.Common.{◌≡◌, List, Option, Some, Ok, Err, Result, refl, ap, subst}
 use Rattle.std.specs.Prelude.{IsErrOf}
-use Rattle.layout.specs.Types.{Bytes, Digest, INumber, Principal}
+use Rattle.layout.specs.Types.{Bytes, Digest}
 use Rattle.update_cert.specs.Change.{Change}
 use Rattle.wire.specs.declared.kinds.Status.{Status}
 use Rattle.wire.specs.declared.kinds.Status.TheVariants as status
+use Rattle.client_tree.specs.declared.questions.Question.{Question}
 use Rattle.client_releases.specs.declared.error.ClientError.{ClientError}
 use Rattle.client_releases.specs.declared.error.ClientError.TheVariants as error
 use Rattle.client_releases.specs.Releasing.{IsKept, structure_record}
 use Rattle.leaf_ledger.specs.Ledger.{LeafNumber}
 use Rattle.client_verify.specs.State.{Ready, State, on, released, signed_over, signed_text}
 use Rattle.client_runs.specs.Slots.{AreSame}
-use Rattle.client_runs.specs.Steps.{Asks, Begins, Call, Closes, Commits, Crashes, FromOpen, Gives, HasBegun, HasCommitted, HasGiven, HasHeard, HasLooked, HasSigned, HasTaken, Hears, Looks, Open, Opens, Sees, Signs, Takes}
+use Rattle.client_steps.specs.Steps.{Asks, Begins, Call, Closes, Commits, Crashes, FromOpen, Gives, HasBegun, HasCommitted, HasGiven, HasHeard, HasLooked, HasSigned, HasTaken, Hears, Looks, Open, Opens, Sees, Signs, Takes}
 use Rattle.client_runs.proofs.Lowering.{if_ready, with_ready}
 use Rattle.client_runs.proofs.Quiet as quiet
 
@@ -45,8 +46,8 @@ module _ (s new : State) where
   pub takes : (block : Option Bytes) (answer : Result Asks ClientError) → HasTaken s block answer new → AreSame s new
   takes block answer b = quietly (quiet.takes s block answer new b)
 
-  pub looks : (p : Principal) (i : INumber) (answer : Result Sees ClientError) → HasLooked s p i answer new → AreSame s new
-  looks p i answer b = quietly (ap (λ k. k.0) (quiet.looks s p i answer new b))
+  pub looks : (q : Question) (answer : Result Sees ClientError) → HasLooked s q answer new → AreSame s new
+  looks q answer b = quietly (ap (λ k. k.0) (quiet.looks s q answer new b))
 
   pub gives : (block : Option Bytes) (answer : Result Sees ClientError) → HasGiven s block answer new → AreSame s new
   gives block answer b = quietly (ap (λ k. k.0) (quiet.gives s block answer new b))
@@ -79,6 +80,6 @@ module _ (s new : State) where
   steps (Takes block answer) b = takes block answer b
   steps (Signs answer) b = signs answer b
   steps (Commits status) b = commits status b
-  steps (Looks p i answer) b = looks p i answer b
+  steps (Looks q answer) b = looks q answer b
   steps (Gives block answer) b = gives block answer b
   steps Crashes b = absurd b

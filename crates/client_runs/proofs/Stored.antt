@@ -1,13 +1,13 @@
 -- What the handle of user 0's part names that a client makes of a reply: the table of principals that the handle before
 -- names, or that of the reply's view.
 use Rattle.std.proofs.Common.{◌≡◌, ℕ, ◌≤◌, Bool, true, false, ◌==◌, ◌&&◌, not, List, [], ◌∷◌, ◌++◌, length, map, Option, Some, None, refl, sym, ap, ◌∙◌, subst, inl, inr, if◌then◌else◌, option_map, arith}
-use Rattle.std.specs.Prelude.{◌⊎◌, filter, filter_map}
+use Rattle.std.specs.Prelude.{◌⊎◌, filter_map}
 use Rattle.std.specs.Int.{w8, w16}
-use Rattle.std.specs.List.{concat, cons_option, flat_map, range_with_len}
-use Rattle.std.specs.Option.{option_and_then, option_map_or}
-use Rattle.std.specs.Ordering.{nat_cmp, is_eq}
+use Rattle.std.specs.List.{concat, cons_option, flat_map, list_all, range_with_len}
+use Rattle.std.specs.Option.{is_some, option_and_then, option_map_or}
+use Rattle.std.specs.Ordering.{nat_cmp}
 use Rattle.std.specs.Str.{bytes_eq}
-use Rattle.std.proofs.lemmas.Bool.{and_parts, eq-eqb, eqb-true}
+use Rattle.std.proofs.lemmas.Bool.{and_parts, eq-eqb}
 use Rattle.std.proofs.lemmas.List.{append-nil}
 use Rattle.std.proofs.lemmas.List.Elements.{All-cons, All-nil}
 use Rattle.std.proofs.lemmas.Slice.Eq.{bytes_eq-Decides}
@@ -20,26 +20,25 @@ use Rattle.itable.specs.declared.chunk.Pair.{Pair}
 use Rattle.itable.specs.declared.root.ListedChunk.{ListedChunk}
 use Rattle.itable.specs.File.{NoneCollide, blocks_of, inode_of}
 use Rattle.itable.specs.Inode.{Inode, inode}
-use Rattle.itable.specs.ITable.{ITable, IsListed, IsPair, IsTable, IsWhole, loaded, digest_at, digest_in, is_listed, listing, listings, new_texts, root_of, text_of_chunk, handle_of as table_handle}
-use Rattle.itable.specs.Root.{number_of, root}
-use Rattle.itable.specs.Chunk.{chunk}
+use Rattle.itable.specs.ITable.{ITable, IsListed, IsPair, IsTable, loaded, digest_at, is_same_text, new_chunk, new_texts, root_text, text_of_chunk, unloaded_at, handle_of as table_handle, texts as table_texts}
+use Rattle.itable.specs.Root.{number_of}
+use Rattle.itable.specs.Chunk.{chunk_number}
 use Rattle.itable.proofs.Blocks.{next_block, no_block}
 use Rattle.itable.proofs.ChunkLaws.{no_text}
 use Rattle.itable.proofs.FileLaws.{file_fits, joined as blocks_joined}
-use Rattle.itable.proofs.RootLaws.{lists}
 use Rattle.principals.specs.TableText.{table}
 use Rattle.update_cert.specs.World.{Content, File}
 use Rattle.update_cert.specs.Reading.{Reading}
 use Rattle.tree_parts.specs.Blocks.{Agrees, Blocks, file_over, if_of_size, inode_told, joined}
-use Rattle.tree_parts.specs.Slots.{changed_texts, has_digest}
+use Rattle.tree_parts.specs.Slots.{changed_texts, has_digest, holds}
 use Rattle.tree_parts.proofs.Contents.{file_is, inode_held}
+use Rattle.tree_parts.proofs.LoadLaws.{mapped_loaded, none_unloaded}
 use Rattle.client_tree.specs.Genesis.{common_texts, first_handle, inode_digest, root_inode, first_table, first_table_texts, first_texts, principals, table_inode, table_text}
-use Rattle.client_tree.specs.Tree.{IsStored, Stored, principals_digest, principals_texts}
+use Rattle.client_tree.specs.Tree.{IsStored, Stored, file_of_principals, has_principals, principals_digest, principals_texts}
 use Rattle.client_tree.specs.View.{View, handle_of as handle_in_view}
-use Rattle.agreement.proofs.Members.{In, flat_map-in, in-kept, in-left, in-right}
-use Rattle.agreement.proofs.Tests.{any_in}
+use Rattle.agreement.proofs.Members.{In, flat_map-in, in-left, in-right}
 use Rattle.client_runs.proofs.Among.{AreAmong, all_held, are_within, of_texts, told_within}
-use Rattle.client_runs.proofs.FirstChunk.{HasChunk, chunk_is, listed_whole, new_chunk, new_told, old_chunk, old_told, told_at}
+use Rattle.client_runs.proofs.FirstChunk.{HasChunk, chunk_in, chunk_is, chunk_told, has_chunk}
 
 some_is : {A : Type 0} {x y : A} → Some x ≡ Some y → x ≡ y
 some_is e = cc
@@ -55,39 +54,7 @@ filter_map-in {A} {B} f (z ∷ zs) x y (inr i) e = go (f z) (filter_map-in f zs 
     go None ih = ih
     go (Some w) ih = inr ih
 
-in-filter_map : {A B : Type 0} (f : A → Option B) (xs : List A) (y : B) → In y (filter_map f xs) → (x : A) × (f x ≡ Some y)
-in-filter_map f [] y i = absurd i
-in-filter_map {A} {B} f (z ∷ zs) y i = go (f z) refl i (in-filter_map f zs y)
-  where
-    go : (o : Option B) → f z ≡ o → In y (cons_option o (filter_map f zs)) → (In y (filter_map f zs) → (x : A) × (f x ≡ Some y)) → (x : A) × (f x ≡ Some y)
-    go None is j ih = ih j
-    go (Some w) is (inl e) ih = (z, is ∙ ap Some (sym e))
-    go (Some w) is (inr j) ih = ih j
-
-row_in : (xs : List ListedChunk) (n : ℕ) (x : ListedChunk) → row_at nat_cmp number_of xs n ≡ Some x → In x xs
-row_in [] n x e = absurd (cc e)
-row_in (z ∷ zs) n x e = go (is_eq (nat_cmp (number_of z) n)) e (row_in zs n x)
-  where
-    go : (b : Bool) → (if b then Some z else row_at nat_cmp number_of zs n) ≡ Some x → (row_at nat_cmp number_of zs n ≡ Some x → In x zs) → In x (z ∷ zs)
-    go true is ih = inl (sym (some_is is))
-    go false is ih = inr (ih is)
-
 -- ---- tables
-
--- the text of a chunk that a root lists
-listed_text : (t : ITable) (c : ListedChunk) → IsWhole t → In c (listings t) → c.number ≡ 0 → (text : Bytes) × (text_of_chunk t 0 ≡ Some text) × (hash text ≡ c.digest)
-unfolding listings
-listed_text t c whole i zero =
-    let (n, is) = in-filter_map (listing t) (range_with_len 0 64) c i in
-    go n (text_of_chunk t n) refl (sym (listed_whole t n whole) ∙ is)
-  where
-    go : (n : ℕ) (o : Option Bytes) → text_of_chunk t n ≡ o → option_map (λ (text : Bytes). record { number = n; digest = hash text }) o ≡ Some c → (text : Bytes) × (text_of_chunk t 0 ≡ Some text) × (hash text ≡ c.digest)
-    go n None has e = absurd (cc e)
-    go n (Some text) has e =
-        let one : ListedChunk = record { number = n; digest = hash text } in
-        let same : one ≡ c = some_is e in
-        let at : n ≡ 0 = ap (λ (x : ListedChunk). x.number) same ∙ zero in
-        (text, ap (text_of_chunk t) (sym at) ∙ has, ap (λ (x : ListedChunk). x.digest) same)
 
 -- chunk 0 is there, where i-number 1 has a digest
 some_text : (t : ITable) (d : Digest) → digest_at t 1 ≡ Some d → (text : Bytes) × (text_of_chunk t 0 ≡ Some text)
@@ -97,19 +64,33 @@ some_text t d at = go (text_of_chunk t 0) refl
     go None none = absurd (let clash : None ≡ Some d = sym ((no_text t 0).0 none 1 refl) ∙ at in cc clash)
     go (Some text) has = (text, has)
 
--- the root of a table is one of its new texts, and so is its chunk 0 where it isn't listed yet
-root_new : (before : List ListedChunk) (t : ITable) → In (root.spell (root_of t)) (new_texts before t)
-unfolding new_texts
-root_new before t = in-right (root.spell (root_of t)) (filter_map (λ c. text_of_chunk t c.number) (filter (λ c. not (is_listed before c)) (listings t))) (root.spell (root_of t) ∷ []) (inl refl)
+-- the root of a table is one of its texts, and so is its chunk 0
+root_there : (t : ITable) → In (root_text t) (table_texts t)
+unfolding table_texts
+root_there t = in-right (root_text t) (filter_map (text_of_chunk t) (range_with_len 0 64)) (root_text t ∷ []) (inl refl)
 
-chunk_new : (before : List ListedChunk) (t : ITable) (text : Bytes) → IsTable t → IsWhole t → text_of_chunk t 0 ≡ Some text → is_listed before (record { number = 0; digest = hash text }) ≡ false → In text (new_texts before t)
+chunk_there : (t : ITable) (text : Bytes) → text_of_chunk t 0 ≡ Some text → In text (table_texts t)
+unfolding table_texts
+chunk_there t text has =
+    in-left text (filter_map (text_of_chunk t) (range_with_len 0 64)) (root_text t ∷ []) (filter_map-in (text_of_chunk t) (range_with_len 0 64) 0 text (inl refl) has)
+
+-- they are among its new texts, where the table before hasn't these very texts
+root_new : (before t : ITable) → bytes_eq (root_text t) (root_text before) ≡ false → In (root_text t) (new_texts before t)
 unfolding new_texts
-chunk_new before t text is whole has new =
-    let c : ListedChunk = record { number = 0; digest = hash text } in
-    let there : In c (listings t) = row_in (listings t) 0 c (lists t 0 is (omega arith) ∙ listed_whole t 0 whole ∙ ap (option_map (λ (y : Bytes). record { number = 0; digest = hash y })) has) in
-    let kept : In c (filter (λ c. not (is_listed before c)) (listings t)) = in-kept (λ (c : ListedChunk). not (is_listed before c)) c (listings t) there (ap not new) in
-    in-left text (filter_map (λ c. text_of_chunk t c.number) (filter (λ c. not (is_listed before c)) (listings t))) (root.spell (root_of t) ∷ [])
-    (filter_map-in (λ (c : ListedChunk). text_of_chunk t c.number) (filter (λ c. not (is_listed before c)) (listings t)) c text kept has)
+root_new before t other =
+    in-right (root_text t) (filter_map (new_chunk before t) (range_with_len 0 64)) (if bytes_eq (root_text t) (root_text before) then [] else root_text t ∷ [])
+    (subst (λ (b : Bool). In (root_text t) (if b then [] else root_text t ∷ [])) (sym other) (inl refl))
+
+chunk_new : (before t : ITable) (text : Bytes) → text_of_chunk t 0 ≡ Some text → is_same_text (text_of_chunk before 0) (text_of_chunk t 0) ≡ false → In text (new_texts before t)
+unfolding new_texts
+chunk_new before t text has other =
+    in-left text (filter_map (new_chunk before t) (range_with_len 0 64)) (if bytes_eq (root_text t) (root_text before) then [] else root_text t ∷ [])
+    (filter_map-in (new_chunk before t) (range_with_len 0 64) 0 text (inl refl) (ap (λ (b : Bool). if b then None else text_of_chunk t 0) other ∙ has))
+
+same_text : (old new : Option Bytes) (text : Bytes) → new ≡ Some text → is_same_text old new ≡ true → old ≡ Some text
+same_text None new text has e = absurd (cc e)
+same_text (Some a) None text has e = absurd (cc has)
+same_text (Some a) (Some b) text has e = ap (λ (y : Bytes). Some y) ((bytes_eq-Decides a b).0 e) ∙ has
 
 has_digest_is : (t : ITable) (i : ℕ) (d : Digest) → has_digest t i d ≡ true → digest_at t i ≡ Some d
 has_digest_is t i d has = go (digest_at t i) has
@@ -132,6 +113,10 @@ module _ (texts : List Bytes) where
   -- or what another one names
   abbrev pub NamesSame : Handle → Handle → Type 0
   NamesSame handle before = (reads : Reading) → Agrees (of_texts texts) reads → file_at reads handle ≡ file_at reads before
+
+  -- one handle names the same
+  pub made_same : (handle before : Handle) (bytes : Bytes) → handle ≡ before → HasChunk texts before → HasChunk texts handle × (NamesSame handle before ⊎ Names handle bytes)
+  made_same handle before bytes is old = (subst (HasChunk texts) (sym is) old, inl (λ reads agrees. ap (file_at reads) is))
 
   same_told : (handle before : Handle) (told : Option Digest) → inode_told (of_texts texts) 0 handle 1 ≡ Some told → inode_told (of_texts texts) 0 before 1 ≡ Some told → NamesSame handle before
   same_told handle before told a b = λ reads agrees. ap (option_map reads.content) (agrees.inodes 0 handle 1 told a ∙ sym (agrees.inodes 0 before 1 told b))
@@ -162,82 +147,74 @@ module _ (texts : List Bytes) where
       zero : st.table.principal ≡ 0
       zero = st.principal ∙ own
 
-      told_before : (i : ℕ) → inode_told (of_texts texts) 0 (handle_in_view x 0) i ≡ Some (digest_at st.before i)
-      told_before i =
-          told_within blocks (of_texts texts) (are_within texts apart blocks among) 0 (handle_in_view x 0) i (digest_at st.before i)
-          (subst (λ (p : ℕ). inode_told blocks p (handle_in_view x p) i ≡ Some (digest_at st.before i)) own (st.opened.told i))
+      -- The table of principals stands in chunk 0, so that this chunk is loaded.
+      here : unloaded_at st.table 0 ≡ None
+      here = none_unloaded st.table 1 (mapped_loaded st.table 1 st.well_formed (ap is_some (st.users own)))
 
-      module _ (new : bytes_eq (table_handle st.table) (table_handle st.before) ≡ false) where
-        texts_are : s.texts ≡ changed_texts st.before st.part.table st.part.opened ++ principals_texts st.before s.principal x.table ++ new_texts (listings st.before) st.table
-        texts_are =
-            st.stored
-            ∙ ap (λ (b : Bool). changed_texts st.before st.part.table st.part.opened ++ principals_texts st.before s.principal x.table ++ (if b then [] else new_texts (listings st.before) st.table)) new
+      here_before : unloaded_at st.part.before 0 ≡ None
+      here_before = ap (λ (cs : List ListedChunk). row_at nat_cmp number_of cs 0) (st.is_part.unloaded ∙ sym st.carried) ∙ here
 
-        new_in : (t : Bytes) → In t (new_texts (listings st.before) st.table) → In t texts
-        new_in t i =
-            inside t
-            (subst (λ (ts : List Bytes). In t ts) (sym texts_are)
-            (in-right t (changed_texts st.before st.part.table st.part.opened ++ principals_texts st.before s.principal x.table) (new_texts (listings st.before) st.table) i))
+      stands_on : table_handle st.part.before ≡ handle_in_view x 0
+      stands_on = st.opened.after.stands_on ∙ ap (handle_in_view x) own
 
-        users_in : (t : Bytes) → In t (principals_texts st.before s.principal x.table) → In t texts
-        users_in t i =
-            inside t
-            (subst (λ (ts : List Bytes). In t ts) (sym texts_are)
-            (in-left t (changed_texts st.before st.part.table st.part.opened ++ principals_texts st.before s.principal x.table) (new_texts (listings st.before) st.table)
-            (in-right t (changed_texts st.before st.part.table st.part.opened) (principals_texts st.before s.principal x.table) i)))
+      told_before : (i : ℕ) → chunk_number i ≡ 0 → inode_told (of_texts texts) 0 (handle_in_view x 0) i ≡ Some (digest_at st.part.before i)
+      told_before i inside =
+          let in_loaded : loaded st.part.before i ≡ true = ap (λ (o : Option ListedChunk). not (is_some o)) (ap (unloaded_at st.part.before) inside ∙ here_before) in
+          let same : inode_told blocks st.part.table.principal (table_handle st.part.before) i ≡ inode_told blocks 0 (handle_in_view x 0) i =
+          ap (λ (p : ℕ). inode_told blocks p (table_handle st.part.before) i) (st.opened.after.principal ∙ own) ∙ ap (λ (h : Handle). inode_told blocks 0 h i) stands_on in
+          told_within blocks (of_texts texts) (are_within texts apart blocks among) 0 (handle_in_view x 0) i (digest_at st.part.before i) (sym same ∙ st.opened.read.told i in_loaded)
 
-        -- where its chunk 0 is new
-        module _ (text : Bytes) (has : text_of_chunk st.table 0 ≡ Some text) where
-          root_in : In (root.spell (root_of st.table)) texts
-          root_in = new_in (root.spell (root_of st.table)) (root_new (listings st.before) st.table)
+      abbrev changed : List Bytes
+      changed = changed_texts blocks st.part.before st.part.table st.part.opened
 
-          fresh : is_listed (listings st.before) (record { number = 0; digest = hash text }) ≡ false → Result (table_handle st.table)
-          fresh unlisted =
-              let i = new_in text (chunk_new (listings st.before) st.table text st.well_formed st.whole has unlisted) in
-              let told : inode_told (of_texts texts) 0 (table_handle st.table) 1 ≡ Some (Some (principals_digest x.table)) =
-              new_told texts apart st.table st.well_formed st.whole zero root_in text has i 1 refl ∙ ap (λ (o : Option Digest). Some o) (st.users own) in
-              (new_chunk texts apart st.table st.well_formed st.whole zero root_in text has i, go (has_digest st.before 1 (principals_digest x.table)) refl told)
-            where
-              go : (b : Bool) → has_digest st.before 1 (principals_digest x.table) ≡ b → inode_told (of_texts texts) 0 (table_handle st.table) 1 ≡ Some (Some (principals_digest x.table))
-                  → NamesSame (table_handle st.table) (handle_in_view x 0) ⊎ Names (table_handle st.table) (table.spell x.table)
-              go true there told =
-                  inl (same_told (table_handle st.table) (handle_in_view x 0) (Some (principals_digest x.table)) told
-                  (told_before 1 ∙ ap (λ (o : Option Digest). Some o) (has_digest_is st.before 1 (principals_digest x.table) there)))
-              go false other told =
-                  let bytes = table.spell x.table in
-                  let are : principals_texts st.before s.principal x.table ≡ blocks_of bytes ++ inode.spell (inode_of bytes) ∷ [] = rw (eq-eqb s.principal 0 own, other) refl in
-                  inr (file_named (table_handle st.table) bytes few told
-                  (λ t i. users_in t (subst (λ (ts : List Bytes). In t ts) (sym are) (in-left t (blocks_of bytes) (inode.spell (inode_of bytes) ∷ []) i)))
-                  (users_in (inode.spell (inode_of bytes)) (subst (λ (ts : List Bytes). In (inode.spell (inode_of bytes)) ts) (sym are) (in-right (inode.spell (inode_of bytes)) (blocks_of bytes) (inode.spell (inode_of bytes) ∷ []) (inl refl)))))
+      abbrev of_users : List Bytes
+      of_users = principals_texts blocks st.part.before s.principal x.table
 
-          -- or has the digest of that of the table before
-          known : is_listed (listings st.before) (record { number = 0; digest = hash text }) ≡ true → Result (table_handle st.table)
-          known there =
-              let (c, i, test) = any_in (λ (b : ListedChunk). (b.number == 0) && bytes_eq b.digest (hash text)) (listings st.before) there in
-              let parts = and_parts (c.number == 0) (bytes_eq c.digest (hash text)) test in
-              let (before, had, hashed) = listed_text st.before c st.opened.read.whole i (eqb-true c.number 0 parts.0) in
-              let spelled = chunk_is texts (handle_in_view x 0) old st.before st.opened.read.is_table told_before before had in
-              let same : hash (chunk.spell old.first) ≡ hash text = ap hash (sym spelled) ∙ hashed ∙ (bytes_eq-Decides c.digest (hash text)).0 parts.1 in (
-                old_chunk texts apart st.table st.well_formed st.whole zero root_in text has (handle_in_view x 0) old same,
-                inl (same_told (table_handle st.table) (handle_in_view x 0) (digest_in old.first.pairs 1)
-                    (old_told texts apart st.table st.well_formed st.whole zero root_in text has (handle_in_view x 0) old same 1 refl) (told_at texts (handle_in_view x 0) old 1 refl)),
-              )
+      new_in : (t : Bytes) → In t (new_texts st.part.before st.table) → In t texts
+      new_in t i = inside t (subst (λ (ts : List Bytes). In t ts) (sym st.stored) (in-right t (changed ++ of_users) (new_texts st.part.before st.table) i))
 
-          either : (b : Bool) → is_listed (listings st.before) (record { number = 0; digest = hash text }) ≡ b → Result (table_handle st.table)
-          either true there = known there
-          either false unlisted = fresh unlisted
+      users_in : (t : Bytes) → In t of_users → In t texts
+      users_in t i =
+          inside t (subst (λ (ts : List Bytes). In t ts) (sym st.stored) (in-left t (changed ++ of_users) (new_texts st.part.before st.table) (in-right t changed of_users i)))
+
+      -- its chunk 0 is new, or that of the table before
+      chunk_among : (text : Bytes) → text_of_chunk st.table 0 ≡ Some text → (b : Bool) → is_same_text (text_of_chunk st.part.before 0) (text_of_chunk st.table 0) ≡ b → In text texts
+      chunk_among text has false other = new_in text (chunk_new st.part.before st.table text has other)
+      chunk_among text has true same =
+          let spelled = chunk_is texts (handle_in_view x 0) old st.part.before st.before_well_formed told_before text (same_text (text_of_chunk st.part.before 0) (text_of_chunk st.table 0) text has same) in
+          subst (λ (y : Bytes). In y texts) (sym spelled) (chunk_in texts (handle_in_view x 0) old)
+
+      -- where its root is new
+      rooted : bytes_eq (root_text st.table) (root_text st.part.before) ≡ false → Result (table_handle st.table)
+      rooted other =
+          let (text, has) = some_text st.table (principals_digest x.table) (st.users own) in
+          let root_in = new_in (root_text st.table) (root_new st.part.before st.table other) in
+          let i = chunk_among text has (is_same_text (text_of_chunk st.part.before 0) (text_of_chunk st.table 0)) refl in
+          let told : inode_told (of_texts texts) 0 (table_handle st.table) 1 ≡ Some (Some (principals_digest x.table)) =
+          chunk_told texts apart st.table st.well_formed here zero root_in text has i 1 refl ∙ ap (λ (o : Option Digest). Some o) (st.users own) in
+          (has_chunk texts apart st.table st.well_formed here zero root_in text has i, go (has_principals blocks st.part.before x.table) refl told)
+        where
+          go : (b : Bool) → has_principals blocks st.part.before x.table ≡ b → inode_told (of_texts texts) 0 (table_handle st.table) 1 ≡ Some (Some (principals_digest x.table))
+              → NamesSame (table_handle st.table) (handle_in_view x 0) ⊎ Names (table_handle st.table) (table.spell x.table)
+          go true there told =
+              let had = (and_parts (has_digest st.part.before 1 (principals_digest x.table)) (list_all (holds blocks) (file_of_principals x.table)) there).0 in
+              inl (same_told (table_handle st.table) (handle_in_view x 0) (Some (principals_digest x.table)) told
+              (told_before 1 refl ∙ ap (λ (o : Option Digest). Some o) (has_digest_is st.part.before 1 (principals_digest x.table) had)))
+          go false other told =
+              let bytes = table.spell x.table in
+              let are : of_users ≡ file_of_principals x.table = rw (eq-eqb s.principal 0 own, other) refl in
+              inr (file_named (table_handle st.table) bytes few told
+              (λ t i. users_in t (subst (λ (ts : List Bytes). In t ts) (sym are) (in-left t (blocks_of bytes) (inode.spell (inode_of bytes) ∷ []) i)))
+              (users_in (inode.spell (inode_of bytes)) (subst (λ (ts : List Bytes). In (inode.spell (inode_of bytes)) ts) (sym are) (in-right (inode.spell (inode_of bytes)) (blocks_of bytes) (inode.spell (inode_of bytes) ∷ []) (inl refl)))))
 
       -- it names the table of the view, or what the handle before names
       pub made : Result s.handle
-      made = subst Result (sym st.named) (go (bytes_eq (table_handle st.table) (table_handle st.before)) refl)
+      made = subst Result (sym st.named) (go (bytes_eq (root_text st.table) (root_text st.part.before)) refl)
         where
-          go : (b : Bool) → bytes_eq (table_handle st.table) (table_handle st.before) ≡ b → Result (table_handle st.table)
+          go : (b : Bool) → bytes_eq (root_text st.table) (root_text st.part.before) ≡ b → Result (table_handle st.table)
           go true same =
-              let is : table_handle st.table ≡ handle_in_view x 0 = (bytes_eq-Decides (table_handle st.table) (table_handle st.before)).0 same ∙ st.opened.read.named ∙ ap (handle_in_view x) own in
-              (subst (HasChunk texts) (sym is) old, inl (λ reads agrees. ap (file_at reads) is))
-          go false new =
-              let some = some_text st.table (principals_digest x.table) (st.users own) in
-              either new some.0 some.1 (is_listed (listings st.before) (record { number = 0; digest = hash some.0 })) refl
+              made_same (table_handle st.table) (handle_in_view x 0) (table.spell x.table) (ap hash ((bytes_eq-Decides (root_text st.table) (root_text st.part.before)).0 same) ∙ stands_on) old
+          go false other = rooted other
 
     -- ---- the beginning
 
@@ -271,14 +248,14 @@ module _ (texts : List Bytes) where
       some_first : (text : Bytes) × (text_of_chunk (first_table 0 key) 0 ≡ Some text)
       some_first = some_text (first_table 0 key) (inode_digest (table_inode key)) refl
 
-      root_first : In (root.spell (root_of (first_table 0 key))) texts
-      root_first = first_in (root.spell (root_of (first_table 0 key))) (root_new [] (first_table 0 key))
+      root_first : In (root_text (first_table 0 key)) texts
+      root_first = first_in (root_text (first_table 0 key)) (root_there (first_table 0 key))
 
       chunk_first : In some_first.0 texts
-      chunk_first = first_in some_first.0 (chunk_new [] (first_table 0 key) some_first.0 is_first refl some_first.1 refl)
+      chunk_first = first_in some_first.0 (chunk_there (first_table 0 key) some_first.0 some_first.1)
 
       pub first_chunk : HasChunk texts (first_handle 0 key)
-      first_chunk = new_chunk texts apart (first_table 0 key) is_first refl refl root_first some_first.0 some_first.1 chunk_first
+      first_chunk = has_chunk texts apart (first_table 0 key) is_first refl refl root_first some_first.0 some_first.1 chunk_first
 
       one_block : blocks_of (table_text key) ≡ table_text key ∷ []
       one_block =
@@ -290,7 +267,7 @@ module _ (texts : List Bytes) where
 
       pub first_named : Names (first_handle 0 key) (table_text key)
       first_named =
-          file_named (first_handle 0 key) (table_text key) (omega (arith, size)) (new_told texts apart (first_table 0 key) is_first refl refl root_first some_first.0 some_first.1 chunk_first 1 refl)
+          file_named (first_handle 0 key) (table_text key) (omega (arith, size)) (chunk_told texts apart (first_table 0 key) is_first refl refl root_first some_first.0 some_first.1 chunk_first 1 refl)
           (λ t i. at_block t (subst (λ (ts : List Bytes). In t ts) one_block i)) text_in.1
         where
           at_block : (t : Bytes) → In t (table_text key ∷ []) → In t texts

@@ -9,6 +9,7 @@ use Rattle.leaf_ledger.specs.Device.{HasRisen, History, MayLeave, started}
 use Rattle.leaf_ledger.specs.Ledger.{IsForeign, UsedAsBefore}
 use Rattle.client_journal.specs.Records.{IsDamaged}
 use Rattle.update_cert.specs.Change.{Change}
+use Rattle.client_tree.specs.declared.questions.Question.TheVariants as question
 use Rattle.wire.specs.declared.kinds.Status.{Status}
 use Rattle.client_releases.specs.declared.error.ClientError.{ClientError}
 use Rattle.client_releases.specs.declared.error.ClientError.TheVariants as error
@@ -23,11 +24,12 @@ use Rattle.client_runs.specs.declared.world.Act.{Act}
 use Rattle.client_runs.specs.declared.world.Act.TheVariants as act
 use Rattle.client_runs.specs.declared.world.Answer.{Answer}
 use Rattle.client_runs.specs.declared.world.Answer.TheVariants as answer
-use Rattle.client_runs.specs.Steps.{Begins, Client, Closed, Closes, Commits, Gives, HasBegun, HasCommitted, HasGiven, HasHeard, HasLooked, HasSigned, HasTaken, Hears, IsHandedBack, IsOpened, IsRefused, IsSound, Looks, Open, Opens, Owner, Parts, Signs, Takes, journal_of, ledger_of, own_key}
+use Rattle.client_steps.specs.Steps.{Begins, Client, Closed, Closes, Commits, Gives, HasBegun, HasCommitted, HasGiven, HasHeard, HasLooked, HasSigned, HasTaken, Hears, IsHandedBack, IsOpened, IsRefused, IsSound, Looks, Open, Opens, Owner, Parts, Signs, Takes, journal_of, ledger_of, own_key}
 use Rattle.client_runs.specs.Carried.{ComesOf}
 use Rattle.client_runs.specs.NotTaken.{CantFromOpen, MayLeaveBoth}
 use Rattle.client_runs.specs.Slots.{AreSame}
-use Rattle.client_runs.specs.Told.{IsAcceptedBy, IsTold, asked, on_ok, resent, seen, texts_in}
+use Rattle.client_steps.specs.Anywhere.{asked, on_ok, seen}
+use Rattle.client_runs.specs.Told.{IsAcceptedBy, IsTold, resent, texts_in}
 use Rattle.client_runs.proofs.Same as unchanged
 use Rattle.client_runs.proofs.NotTaken.{crashes, open_stays}
 
@@ -82,10 +84,10 @@ module _ {A : Type 0} (o : Owner) (old new : State) (t : Act A) where
       (record { call = Commits status; is_call = refl; told = tt; step = b; sound = sound })
 
   pub looks : (p : Principal) (i : INumber) (r : Result (Look A) ClientError) → t ≡ act.Look p i
-      → HasLooked old p i (on_ok seen r) new → IsSound (Open new) → ComesOf o (Open old) t (answer.Sees r) (Open new)
+      → HasLooked old (question.At p i) (on_ok seen r) new → IsSound (Open new) → ComesOf o (Open old) t (answer.Sees r) (Open new)
   looks p i r is b sound =
       same_step (act.Look p i) (answer.Sees r) (Open new) is
-      (record { call = Looks p i (on_ok seen r); is_call = refl; told = tt; step = b; sound = sound })
+      (record { call = Looks (question.At p i) (on_ok seen r); is_call = refl; told = tt; step = b; sound = sound })
 
   pub gives : (block : Option (Vec ℕ A)) (r : Result (Look A) ClientError) → t ≡ act.Give block
       → HasGiven old (option_map vec_items block) (on_ok seen r) new → IsSound (Open new) → ComesOf o (Open old) t (answer.Sees r) (Open new)

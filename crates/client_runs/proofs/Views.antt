@@ -11,7 +11,7 @@ use Rattle.agreement.proofs.Members.{In, in-append, in-left, in-map, in-right, m
 use Rattle.release_runs.proofs.Stories.{OfCert, OfStructure, Release, last_in}
 use Rattle.release_runs.specs.Steps as low
 use Rattle.client_verify.specs.State.{Ready}
-use Rattle.client_runs.specs.Steps.{Call, Client, Closed, IsSound, IsStep, Open, Opens, Owner, Signs}
+use Rattle.client_steps.specs.Steps.{Call, Client, Closed, IsSound, IsStep, Open, Opens, Owner, Signs}
 use Rattle.client_runs.specs.Runs.{Event, IsRun, Keys, client_of, owner}
 use Rattle.client_runs.specs.Released.{accepted_by, in_hand, released, tried_view, view_over, views, where_signed}
 use Rattle.client_runs.proofs.Holds.{Holds, IsTriedOver, Tries, is_over, signed_in, structures}

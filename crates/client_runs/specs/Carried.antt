@@ -7,7 +7,7 @@ use Rattle.client_runs.specs.declared.world.Act.{Act}
 use Rattle.client_runs.specs.declared.world.Answer.{Answer}
 use Rattle.client_runs.specs.declared.world.Answer.TheVariants as answer
 use Rattle.client_runs.specs.declared.world.WorldStep.{WorldStep}
-use Rattle.client_runs.specs.Steps.{Call, Client, IsSound, IsStep, Owner}
+use Rattle.client_steps.specs.Steps.{Call, Client, IsSound, IsStep, Owner}
 use Rattle.client_runs.specs.Runs.{Event, IsRun, Keys, client_of}
 use Rattle.client_runs.specs.Released.{views}
 use Rattle.client_runs.specs.UsedOnce.{CertificatesOnce, LeavesOnce, StructuresOnce}

@@ -1,14 +1,11 @@
 -- When a step can't be taken, by the client as it is and what it is told to do.
-use Rattle.std.specs.Prelude.{◌≡◌, ◌≢◌, ◌⊎◌, ◌<◌, List, length, IsSome, IsSomeAnd, false}
-use Rattle.layout.specs.Types.{Bytes, Digest}
+use Rattle.layout.specs.Types.{Bytes}
 use Rattle.leaf_ledger.specs.Device.{History, MayLeave}
-use Rattle.update_cert.specs.Change.{Change}
-use Rattle.client_releases.specs.declared.phase.Phase.TheVariants as phase
-use Rattle.client_verify.specs.Laid.{are_laid}
 use Rattle.client_verify.specs.State.{State}
+use Rattle.client_steps.specs.Steps.{Client, Closed, Open, journal_of, ledger_of}
+use Rattle.client_steps.specs.NotCalled.{CantBegin, CantCommit, CantGive, CantHear, CantLook, CantSign, CantTake}
 use Rattle.client_runs.specs.declared.world.Act.{Act}
 use Rattle.client_runs.specs.declared.world.Act.TheVariants as act
-use Rattle.client_runs.specs.Steps.{Client, Closed, Open, journal_of, ledger_of}
 use Rattle.client_runs.specs.Told.{texts_in}
 
 -- a crash may leave this text of the ledger's file, and that one of the journal's
@@ -20,34 +17,6 @@ MayLeaveBoth ledger journal ledger_left journal_left = MayLeave ledger.now ledge
 abbrev pub NoneLeaves : Client → Bytes → Bytes → Type 0
 NoneLeaves client ledger_left journal_left = MayLeaveBoth (ledger_of client)
     (journal_of client) ledger_left journal_left → ⊥
-
--- an operation is under way, the changes are too many, or what they need wasn't laid out
-abbrev pub CantBegin : State → List (Change Digest) → List Bytes → Type 0
-CantBegin s changes laid = (s.phase ≢ phase.Idle) ⊎ ((16 < length changes) ⊎ (are_laid laid changes ≡ false))
-
--- no reply is waited for
-abbrev pub CantHear : State → Type 0
-CantHear s = s.phase ≢ phase.Declared
-
--- no reply is under check, which asks for a block
-abbrev pub CantTake : State → Type 0
-CantTake s = IsSome s.checked → ⊥
-
--- no reply was accepted whose structure isn't signed yet
-abbrev pub CantSign : State → Type 0
-CantSign s = IsSome s.accepted → ⊥
-
--- no answer to a structure is waited for
-abbrev pub CantCommit : State → Type 0
-CantCommit s = s.phase ≢ phase.Signed
-
--- there is no accepted view
-abbrev pub CantLook : State → Type 0
-CantLook s = IsSome s.view → ⊥
-
--- no look is under way, which asks for a block
-abbrev pub CantGive : State → Type 0
-CantGive s = IsSomeAnd s.view (λ v. IsSome v.looking) → ⊥
 
 -- A closed client opens whenever it is told to, and crashes wherever a crash leaves this. It can't do anything else.
 abbrev pub CantFromClosed : {A : Type 0} → Client → Act A → Type 0

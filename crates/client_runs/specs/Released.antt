@@ -20,7 +20,7 @@ use Rattle.reply_check.specs.FirstBroken.{reply_in}
 use Rattle.agreement.specs.Runs.{View}
 use Rattle.release_runs.specs.Released.{found_text, unsigned}
 use Rattle.client_verify.specs.State.{Ready, State, next_structure}
-use Rattle.client_runs.specs.Steps.{Asks, Call, Opens, Begins, Hears, Takes, Signs, Gives, Client, Closed, Open}
+use Rattle.client_steps.specs.Steps.{Asks, Call, Opens, Begins, Hears, Takes, Signs, Gives, Client, Closed, Open}
 use Rattle.client_runs.specs.Runs.{Event, Keys, client_of, public_key}
 
 -- ---- released texts

@@ -3,7 +3,7 @@
 use Rattle.std.specs.Prelude.{List, [], ◌∷◌, ◌==◌, if◌then◌else◌}
 use Rattle.layout.specs.Types.{Key, User}
 use Rattle.lms_sign.specs.Keys.{Secret, public_key_of}
-use Rattle.client_runs.specs.Steps.{Call, Client, IsSound, IsStep, Owner, first}
+use Rattle.client_steps.specs.Steps.{Call, Client, IsSound, IsStep, Owner, first}
 
 -- what each user's key is made of
 abbrev pub Keys : Type 0

@@ -8,7 +8,7 @@ use Rattle.client_runs.specs.declared.slot.Slot.TheVariants as slot
 use Rattle.client_runs.specs.declared.world.Act.{Act}
 use Rattle.client_runs.specs.declared.world.Act.TheVariants as act
 use Rattle.client_runs.specs.declared.world.Answer.{Answer}
-use Rattle.client_runs.specs.Steps.{Client, Closed, IsSound, Open, Owner, first}
+use Rattle.client_steps.specs.Steps.{Client, Closed, IsSound, Open, Owner, first}
 use Rattle.client_runs.specs.Runs.{owner, public_key}
 use Rattle.client_runs.specs.Carried.{ComesOf, script_keys}
 

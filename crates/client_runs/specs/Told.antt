@@ -3,60 +3,23 @@ use Rattle.std.specs.Prelude.{◌≡◌, List, [], Option, Some, None, Result, O
 use Rattle.std.specs.Option.{option_map}
 use Rattle.std.specs.Vec.{vec_items}
 use Rattle.std.specs.declared.vec.Vec.{Vec}
-use Rattle.std.proofs.Common.{◌∙◌, sym}
-use Rattle.std.proofs.Math.ListN.{length-map}
 use Rattle.layout.specs.Types.{Bytes}
 use Rattle.leaf_ledger.specs.Device.{started}
+use Rattle.client_tree.specs.declared.questions.Question.TheVariants as question
 use Rattle.client_releases.specs.declared.phase.Phase.{Phase}
 use Rattle.client_releases.specs.declared.phase.Phase.TheVariants as phase
-use Rattle.client_verify.specs.declared.look.Look.{Look}
-use Rattle.client_verify.specs.declared.look.Look.TheVariants as look
-use Rattle.client_verify.specs.declared.step.Step.{Step}
-use Rattle.client_verify.specs.declared.step.Step.TheVariants as step
 use Rattle.client_verify.specs.State.{AcceptedView}
+use Rattle.client_steps.specs.Steps.{Begins, Call, Client, Closed, Closes, Commits, Crashes, Gives, Hears, Looks, Open, Opens, Signs, Takes}
+use Rattle.client_steps.specs.Anywhere.{asked, on_ok, seen}
 use Rattle.client_runs.specs.declared.world.Accepted.{Accepted}
 use Rattle.client_runs.specs.declared.world.Act.{Act}
 use Rattle.client_runs.specs.declared.world.Act.TheVariants as act
 use Rattle.client_runs.specs.declared.world.Answer.{Answer}
 use Rattle.client_runs.specs.declared.world.Answer.TheVariants as answer
-use Rattle.client_runs.specs.Steps.{Asks, Begins, Call, Client, Closed, Closes, Commits, Crashes, Gives, Hears, Looks, Open, Opens, Sees, Signs, Takes}
 
--- ---- what lies in memory, wherever it lies
-
+-- texts that lie in memory
 abbrev pub texts_in : {A B : Type 0} → Vec (Vec B A) A → List (List B)
 texts_in texts = map vec_items texts.items
-
-abbrev pub bytes_anywhere : {B A : Type 0} → Vec B A → Vec B (Unit {0})
-bytes_anywhere v =
-    record { ptr = v.ptr; len = v.len; cap = v.cap; alloc = tt; items = v.items; ok = v.ok; small = v.small }
-
-abbrev pub texts_anywhere : {B A : Type 0} → Vec (Vec B A) A → Vec (Vec B (Unit {0})) (Unit {0})
-texts_anywhere v =
-    record {
-      ptr = v.ptr;
-      len = v.len;
-      cap = v.cap;
-      alloc = tt;
-      items = map bytes_anywhere v.items;
-      ok = (v.ok.0 ∙ sym (length-map v.items bytes_anywhere), v.ok.1);
-      small = v.small;
-    }
-
-abbrev pub asked : {A : Type 0} → Step A → Asks
-asked (step.Need digest) = step.Need digest
-asked (step.Store texts) = step.Store (texts_anywhere texts)
-asked (step.Broken rule) = step.Broken rule
-
-abbrev pub seen : {A : Type 0} → Look A → Sees
-seen (look.Need digest) = look.Need digest
-seen (look.File bytes) = look.File (bytes_anywhere bytes)
-seen (look.Dir entries) = look.Dir entries
-seen look.None = look.None
-seen (look.Broken rule) = look.Broken rule
-
-abbrev pub on_ok : {T U E : Type 0} → (T → U) → Result T E → Result U E
-on_ok f (Ok x) = Ok (f x)
-on_ok f (Err e) = Err e
 
 -- ---- the call of a step
 
@@ -70,7 +33,7 @@ call_of (act.Reply text) (answer.Asks r) = Some (Hears text.items (on_ok asked r
 call_of (act.Block block) (answer.Asks r) = Some (Takes (option_map vec_items block) (on_ok asked r))
 call_of act.Sign (answer.Signed r) = Some (Signs (on_ok (λ x. x.text.items) r))
 call_of (act.Committed status) answer.Committed = Some (Commits status)
-call_of (act.Look p i) (answer.Sees r) = Some (Looks p i (on_ok seen r))
+call_of (act.Look p i) (answer.Sees r) = Some (Looks (question.At p i) (on_ok seen r))
 call_of (act.Give block) (answer.Sees r) = Some (Gives (option_map vec_items block) (on_ok seen r))
 call_of (act.Crash ledger journal) answer.Crashed = Some Crashes
 call_of other answer = None

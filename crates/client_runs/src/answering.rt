@@ -5,8 +5,10 @@ ghost use Rattle.std.specs.Option.{option_copied, option_map};
 ghost use Rattle.std.specs.Vec.{vec_items};
 ghost use Rattle.client_runs.specs.Slots.{StaysOpen, Tells};
 
-use crate::calls::{MemoryClient, begin, commit, give, hear, look, sign, take};
+use crate::armed::MemoryClient;
+use crate::signing::sign_and_tell;
 use crate::world::{Act, Answer};
+use client_steps::{begin, commit, give, hear, look, take};
 use layout::{INumber, Memory, Principal};
 use std::alloc::Allocator;
 use update_cert::Change;
@@ -61,7 +63,7 @@ fn takes<A: Allocator + Copy>(client: &mut MemoryClient<A>, block: &Option<Vec<u
 fn signs<A: Allocator + Copy>(alloc: A, client: &mut MemoryClient<A>) -> Result<Answer<A>, Memory>
     ensures { IfOk result (λ answer. Tells client.old Act.Sign answer client.new) }
 {
-    match sign(alloc, client)? {
+    match sign_and_tell(alloc, client)? {
         Some(answer) => Ok(Answer::Signed(answer)),
         None => Ok(Answer::NotTaken),
     }

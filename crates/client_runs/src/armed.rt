@@ -3,6 +3,7 @@
 ghost use Rattle.std.specs.Prelude.{◌≡◌, [], false, true, IfErr, IfOk};
 ghost use Rattle.leaf_ledger.specs.Device.{MayLeave, started};
 
+use client_verify::Client;
 use layout::Memory;
 use leaf_ledger::{CrashError, Device, DeviceError, MemoryDevice};
 use std::alloc::Allocator;
@@ -20,8 +21,11 @@ pub(crate) struct ArmedDevice<A: Allocator + Copy> {
     order: Order<A>,
 }
 
+/// A client over two such devices.
+pub(crate) type MemoryClient<A> = Client<ArmedDevice<A>, ArmedDevice<A>, A>;
+
 impl<A: Allocator + Copy> Model for ArmedDevice<A> {
-    ghost use Rattle.client_runs.specs.Steps.{Device as DeviceState};
+    ghost use Rattle.client_steps.specs.Steps.{Device as DeviceState};
 
     ghost Value = { DeviceState };
 

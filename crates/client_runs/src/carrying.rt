@@ -4,7 +4,7 @@ ghost use Rattle.std.specs.Prelude.{◌≡◌, ◌≢◌, ℕ, IfOk, OnOk, lengt
 ghost use Rattle.client_runs.specs.Runs.{owner, public_key};
 ghost use Rattle.client_runs.specs.Carried.{AreCarriedOut, ComesOf, script_keys};
 ghost use Rattle.client_runs.specs.Slots.{AreReady, client_at};
-ghost use Rattle.client_runs.specs.Steps.{first};
+ghost use Rattle.client_steps.specs.Steps.{first};
 
 use crate::laws::{each_is_used_once, runs_agree};
 use crate::slot::{Orders, Slot, key_of, step};

@@ -4,9 +4,9 @@
 
 mod answering;
 mod armed;
-mod calls;
 mod carrying;
 mod laws;
+mod signing;
 mod slot;
 mod world;
 

@@ -2,7 +2,7 @@
 
 ghost use Rattle.std.specs.Prelude.{◌≡◌, false, true, IfOk};
 ghost use Rattle.leaf_ledger.specs.Device.{started};
-ghost use Rattle.client_runs.specs.Steps.{Open, Owner, first};
+ghost use Rattle.client_steps.specs.Steps.{Open, Owner, first};
 ghost use Rattle.client_runs.specs.Runs.{owner, public_key};
 ghost use Rattle.client_runs.specs.Carried.{ComesOf, script_keys};
 ghost use Rattle.client_runs.specs.Slots.{IsOf, client_in};
@@ -10,9 +10,9 @@ ghost use Rattle.client_runs.specs.Told.{resent as resent_in};
 ghost use Rattle.client_runs.specs.NotTaken.{MayLeaveBoth};
 
 use crate::answering::call;
-use crate::armed::{ArmedDevice, Order};
-use crate::calls::{MemoryClient, stands};
+use crate::armed::{ArmedDevice, MemoryClient, Order};
 use crate::world::{Act, Answer};
+use client_steps::stands;
 use client_verify::{Client, Parts, Phase};
 use layout::{Memory, User, beside, let_go};
 use lms_sign::{PrivateKey, PublicKey};

@@ -5,6 +5,7 @@ pub mod NamedLaws
 pub mod LookLaws
 pub mod ViewLaws
 pub mod OpenedLaws
+pub mod QuestionLaws
 pub mod TreeLaws
 pub mod WrittenLaws
 pub mod LostLaws

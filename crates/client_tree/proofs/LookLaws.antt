@@ -1,22 +1,27 @@
 -- What is read of an i-node is what its places take.
-use Rattle.std.proofs.Common.{◌≡◌, ℕ, false, List, Option, Some, Result, Ok, Err, sym, ap, subst, ◌∙◌, inl, inr}
-use Rattle.std.specs.Prelude.{IsSome, IsSomeAnd, OnOk, slice_get, take}
+use Rattle.std.proofs.Common.{◌≡◌, ℕ, true, false, List, Option, Some, None, Result, Ok, Err, sym, ap, subst, ◌∙◌, inl, inr}
+use Rattle.std.specs.Prelude.{IfErr, IsSome, IsSomeAnd, OnOk, slice_get, take}
 use Rattle.std.specs.Option.{option_map}
 use Rattle.layout.specs.Types.{Digest, INumber, Principal}
 use Rattle.itable.specs.Inode.{Inode}
 use Rattle.itable.specs.declared.inode.Kind.{Kind}
 use Rattle.tree_parts.specs.Blocks.{Blocks, inode_at, joined, Agrees}
-use Rattle.tree_parts.specs.Asked.{HasBlocks, IsBlock}
+use Rattle.tree_parts.specs.Asked.{HasBlocks, HasChunkFor, IsBlock, Lacks}
+use Rattle.tree_parts.specs.declared.error.ApplyError.{ApplyError}
+use Rattle.directory.specs.Directory.{Entry}
 use Rattle.tree_parts.specs.Spot.{lacks}
 use Rattle.tree_parts.specs.declared.spot.Spot.{Spot}
 use Rattle.tree_parts.specs.declared.spot.Spot.TheVariants as spot
-use Rattle.itable.specs.ITable.{ITable}
+use Rattle.itable.specs.ITable.{loaded}
 use Rattle.principals.specs.Table.{Table}
 use Rattle.update_cert.specs.World.{is_table}
 use Rattle.update_cert.specs.Reading.{Reading}
-use Rattle.tree_parts.specs.Part.{Laid, Part, Slot, content_of, slot_at}
-use Rattle.client_tree.specs.View.{View, shown, tree}
-use Rattle.client_tree.specs.Opened.{HasLooked, IsOfInode, IsOpened}
+use Rattle.tree_parts.specs.Part.{Changed, Laid, Part, Slot, content_of, slot_here}
+use Rattle.tree_parts.proofs.LoadLaws.{slot_loaded}
+use Rattle.tree_parts.proofs.SomeReading.{some_reading}
+use Rattle.client_tree.specs.View.{View, handle_of, shown, tree}
+use Rattle.client_tree.specs.Opened.{HasLooked, IsLooked, IsOfInode, IsOpened, IsOpeningAt, IsThere}
+use Rattle.client_tree.proofs.OpenedLaws.{wider}
 
 -- a block of an i-node is one of its kind's
 of_kind : (blocks : Blocks) (inode : Digest) (n : Inode) (kind : Kind) (digest : Digest) (s : Spot) → inode_at blocks inode ≡ Some n → IsBlock blocks kind inode digest s → n.kind ≡ kind
@@ -32,23 +37,78 @@ all_taken blocks p i inode n held taken has digest s (inr (kind, is)) =
     has digest s (subst (λ (k : Kind). IsBlock blocks k inode digest s) (sym kinds) is)
 
 -- what is read there is what the opened part has; the table of principals is no part's
-pub look_stands : (blocks : Blocks) (reads : Reading) (users : Table) (x : View) (p : Principal) (i : INumber) (before : ITable) (part : Part) (s : Option Slot) → IsOpened blocks x p before part → Agrees blocks reads → is_table p i ≡ false → slot_at part i ≡ s
+pub look_stands : (blocks : Blocks) (reads : Reading) (users : Table) (x : View) (p : Principal) (i : INumber) (part : Part) (s : Option Slot) → IsOpened blocks x p part → Agrees blocks reads → is_table p i ≡ false → loaded part.table i ≡ true → slot_here part i ≡ s
     → shown reads users x p i ≡ option_map (content_of reads) s
-look_stands blocks reads users x p i before part s is agrees place at =
-    let own : part.table.principal ≡ p = is.after.principal ∙ is.read.principal in
+look_stands blocks reads users x p i part s is agrees place here at =
+    let own : part.table.principal ≡ p = is.after.principal in
     let stands = (is.stands reads agrees users).stands i (ap (λ (q : ℕ). is_table q i) own ∙ place) in
-    rw place (ap (λ (q : ℕ). tree reads users x q i) (sym own) ∙ stands ∙ ap (option_map (content_of reads)) at)
+    rw place (ap (λ (q : ℕ). tree reads users x q i) (sym own) ∙ stands ∙ ap (option_map (content_of reads)) (slot_loaded reads part i here ∙ at))
+
+-- the i-node that lies there
+pub lies_there : (blocks : Blocks) (part : Part) (i : INumber) (inode digest : Digest) (s : Spot) → loaded part.table i ≡ true → slot_here part i ≡ Some (Laid inode) → IsOfInode blocks part.table.principal i inode digest s → IsThere blocks part i digest s
+lies_there blocks part i inode digest s here at of = (inode, λ reads agrees. slot_loaded reads part i here ∙ at, of)
+
+-- is the one that the chunk has
+there_is : (blocks : Blocks) (part : Part) (i : INumber) (slot : Option Slot) (digest : Digest) (s : Spot) → loaded part.table i ≡ true → slot_here part i ≡ slot → IsThere blocks part i digest s → (inode : Digest) × (slot ≡ Some (Laid inode)) × IsOfInode blocks part.table.principal i inode digest s
+there_is blocks part i slot digest s here at (inode, there, of) =
+    let some = some_reading blocks in
+    (inode, sym at ∙ sym (slot_loaded some.0 part i here) ∙ there some.0 some.1, of)
+
+-- where nothing lies there, or a directory that changed, nothing of it is missing
+pub nothing_there : (blocks : Blocks) (part : Part) (i : INumber) (slot : Option Slot) → loaded part.table i ≡ true → slot_here part i ≡ slot → ((inode : Digest) → slot ≡ Some (Laid inode) → ⊥) → (digest : Digest) (s : Spot) → IsThere blocks part i digest s → lacks blocks digest s ≡ false
+nothing_there blocks part i slot here at none digest s there = let found = there_is blocks part i slot digest s here at there in absurd (none found.0 found.1)
+
+each_there : (blocks : Blocks) (p : Principal) (i : INumber) (part : Part) (inode : Digest) → part.table.principal ≡ p → loaded part.table i ≡ true → slot_here part i ≡ Some (Laid inode)
+    → ((digest : Digest) (s : Spot) → IsOfInode blocks p i inode digest s → lacks blocks digest s ≡ false) → (digest : Digest) (s : Spot) → IsThere blocks part i digest s → lacks blocks digest s ≡ false
+each_there blocks p i part inode own here at taken digest s there =
+    let found = there_is blocks part i (Some (Laid inode)) digest s here at there in
+    let same : inode ≡ found.0 = let both : Some (Laid inode) ≡ Some (Laid found.0) = found.1 in cc in
+    taken digest s (subst (λ (q : ℕ). IsOfInode blocks q i inode digest s) own (subst (λ (d : List ℕ). IsOfInode blocks part.table.principal i d digest s) (sym same) found.2))
 
 -- where what the i-node there is of was read, nothing of it is missing
-pub looked : {T E : Type 0} (blocks : Blocks) (x : View) (p : Principal) (i : INumber) (before : ITable) (part : Part) (inode : Digest) (r : Result T E) → IsOpened blocks x p before part → slot_at part i ≡ Some (Laid inode)
+pub looked : {T E : Type 0} (blocks : Blocks) (x : View) (p : Principal) (i : INumber) (part : Part) (inode : Digest) (r : Result T E) → IsOpened blocks x p part → HasChunkFor blocks p (handle_of x p) i → loaded part.table i ≡ true → slot_here part i ≡ Some (Laid inode)
     → OnOk r ((digest : Digest) (s : Spot) → IsOfInode blocks p i inode digest s → lacks blocks digest s ≡ false) → OnOk r (HasLooked blocks x p i)
-looked blocks x p i before part inode (Ok t) is at taken = record {
-  before = before;
+looked blocks x p i part inode (Ok t) is chunk here at taken = record {
   part = part;
   opened = is;
-  taken = λ digest s (other, there, of).
-      let same : other ≡ inode = let both : Some (Laid other) ≡ Some (Laid inode) = sym there ∙ at in cc in
-      let own : part.table.principal ≡ p = is.after.principal ∙ is.read.principal in
-      taken digest s (subst (λ (q : ℕ). IsOfInode blocks q i inode digest s) own (subst (λ (d : List ℕ). IsOfInode blocks part.table.principal i d digest s) same of));
+  chunk = chunk;
+  taken = λ digest s there. each_there blocks p i part inode is.after.principal here at taken digest s there;
 }
-looked blocks x p i before part inode (Err e) is at taken = tt
+looked blocks x p i part inode (Err e) is chunk here at taken = tt
+
+pub none_laid : (inode : Digest) → None ≡ Some (Laid inode) → ⊥
+none_laid inode is = absurd cc
+
+pub changed_laid : (d : Digest) (entries : List Entry) (inode : Digest) → Some (Changed d entries) ≡ Some (Laid inode) → ⊥
+changed_laid d entries inode is = absurd cc
+
+-- so where nothing lies there
+pub looked_nothing : (blocks : Blocks) (x : View) (p : Principal) (i : INumber) (part : Part) → IsOpened blocks x p part → HasChunkFor blocks p (handle_of x p) i → loaded part.table i ≡ true → slot_here part i ≡ None → HasLooked blocks x p i
+looked_nothing blocks x p i part is chunk here at = record {
+  part = part;
+  opened = is;
+  chunk = chunk;
+  taken = λ digest s there. nothing_there blocks part i None here at none_laid digest s there;
+}
+
+-- and where a directory that changed does
+pub looked_changed : (blocks : Blocks) (x : View) (p : Principal) (i : INumber) (part : Part) (d : Digest) (entries : List Entry) → IsOpened blocks x p part → HasChunkFor blocks p (handle_of x p) i → loaded part.table i ≡ true → slot_here part i ≡ Some (Changed d entries) → HasLooked blocks x p i
+looked_changed blocks x p i part d entries is chunk here at = record {
+  part = part;
+  opened = is;
+  chunk = chunk;
+  taken = λ digest s there. nothing_there blocks part i (Some (Changed d entries)) here at (changed_laid d entries) digest s there;
+}
+
+-- what is missing of the i-node that lies there is asked for by the look
+pub lacks_there : {T : Type 0} (blocks : Blocks) (x : View) (p : Principal) (i : INumber) (part : Part) (inode : Digest) (r : Result T ApplyError) → is_table p i ≡ false → IsOpened blocks x p part → loaded part.table i ≡ true → slot_here part i ≡ Some (Laid inode)
+    → IfErr r (Lacks blocks (IsOfInode blocks p i inode)) → IfErr r (Lacks blocks (IsLooked blocks x p i))
+lacks_there blocks x p i part inode (Ok t) place is here at lacks = tt
+lacks_there blocks x p i part inode (Err e) place is here at lacks =
+    wider blocks (IsOfInode blocks p i inode) (IsLooked blocks x p i) e
+    (λ digest s of. (place, inr (part, is, lies_there blocks part i inode digest s here at (subst (λ (q : ℕ). IsOfInode blocks q i inode digest s) (sym is.after.principal) of))))
+    lacks
+
+-- and so is what the part is opened by
+pub lacks_opening : (blocks : Blocks) (x : View) (p : Principal) (i : INumber) (e : ApplyError) → is_table p i ≡ false → Lacks blocks (IsOpeningAt blocks x p i) e → Lacks blocks (IsLooked blocks x p i) e
+lacks_opening blocks x p i e place lacks = wider blocks (IsOpeningAt blocks x p i) (IsLooked blocks x p i) e (λ digest s asked. (place, inl asked)) lacks

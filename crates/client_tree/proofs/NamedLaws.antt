@@ -23,12 +23,10 @@ use Rattle.tree_parts.specs.declared.error.ApplyError.{ApplyError}
 use Rattle.tree_parts.specs.declared.error.ApplyError.TheVariants as error
 use Rattle.update_cert.specs.World.{Content, File}
 use Rattle.update_cert.specs.Reading.{Reading}
-use Rattle.tree_parts.specs.Asked.{HasPrincipals, IsOfPrincipals, Lacks}
+use Rattle.tree_parts.specs.Asked.{HasChunkFor, HasPrincipals, IsChunkFor, IsListed, IsOfPrincipals, IsRoot, Lacks}
 use Rattle.principals.specs.Table.{Table}
 use Rattle.principals.specs.TableText.{table}
-use Rattle.client_tree.specs.Tables.{HasChunkFor, IsChunkFor}
 use Rattle.client_tree.specs.Principals.{IsNamed, IsOfNamed}
-use Rattle.client_tree.proofs.TableLaws.{LacksText}
 
 -- ---- the row of a key
 
@@ -140,7 +138,7 @@ has_first blocks digest x held there none =
 
 -- the two of them are all that is asked for to know what stands there
 pub has_both : (blocks : Blocks) (handle : Handle) (r : Root) (c : ListedChunk) → root_at blocks handle ≡ Some r → lacks blocks handle (spot.Root 0) ≡ false → chunk_at r 0 ≡ Some c → lacks blocks c.digest (spot.Chunk 0 0) ≡ false → HasChunkFor blocks 0 handle 1
-has_both blocks handle r c held there at chunk_there digest s (inl (place, is)) = rw (place, is) there
+has_both blocks handle r c held there at chunk_there digest s (inl (is, place)) = rw (place, is) there
 has_both blocks handle r c held there at chunk_there digest s (inr (place, follows, listed)) =
     let is : option_map (λ y. y.digest) (chunk_at r 0) ≡ Some digest = subst (λ (o : Option Root). IsSomeAnd o (λ x. option_map (λ y. y.digest) (chunk_at x 0) ≡ Some digest)) held listed in
     let both : Some c.digest ≡ Some digest = sym (ap (option_map (λ (y : ListedChunk). y.digest)) at) ∙ is in
@@ -174,16 +172,15 @@ named_read blocks handle inode (Err e) first told fits content has = tt
 
 -- ---- what is missing of it
 
-pub lacks_first_root : (blocks : Blocks) (handle : Handle) (e : ApplyError) → LacksText blocks handle (spot.Root 0) e → Lacks blocks (IsChunkFor blocks 0 handle 1) e
-lacks_first_root blocks handle e (inl memory) = subst (Lacks blocks (IsChunkFor blocks 0 handle 1)) (sym memory) tt
-lacks_first_root blocks handle e (inr missing) = subst (Lacks blocks (IsChunkFor blocks 0 handle 1)) (sym missing.0) (inl (refl, refl), missing.1)
+pub lacks_first_root : (blocks : Blocks) (handle : Handle) (e : ApplyError) → Lacks blocks (IsRoot 0 handle) e → Lacks blocks (IsChunkFor blocks 0 handle 1) e
+lacks_first_root blocks handle (error.Missing digest s) (is, none) = (inl is, none)
+lacks_first_root blocks handle error.Memory none = tt
 
-pub lacks_first_chunk : (blocks : Blocks) (handle : Handle) (r : Root) (c : ListedChunk) (e : ApplyError) → root_at blocks handle ≡ Some r → lacks blocks handle (spot.Root 0) ≡ false → chunk_at r 0 ≡ Some c → LacksText blocks c.digest (spot.Chunk 0 0) e → Lacks blocks (IsChunkFor blocks 0 handle 1) e
-lacks_first_chunk blocks handle r c e held there at (inl memory) = subst (Lacks blocks (IsChunkFor blocks 0 handle 1)) (sym memory) tt
-lacks_first_chunk blocks handle r c e held there at (inr missing) =
-    let listed : option_map (λ x. x.digest) (chunk_at r 0) ≡ Some c.digest = ap (option_map (λ (x : ListedChunk). x.digest)) at in
-    let first : IsChunkFor blocks 0 handle 1 c.digest (spot.Chunk 0 0) = inr (refl, there, subst (λ (o : Option Root). IsSomeAnd o (λ x. option_map (λ y. y.digest) (chunk_at x 0) ≡ Some c.digest)) (sym held) listed) in
-    subst (Lacks blocks (IsChunkFor blocks 0 handle 1)) (sym missing.0) (first, missing.1)
+pub lacks_first_chunk : (blocks : Blocks) (handle : Handle) (r : Root) (c : ListedChunk) (e : ApplyError) → root_at blocks handle ≡ Some r → lacks blocks handle (spot.Root 0) ≡ false → chunk_at r 0 ≡ Some c → c.number ≡ 0 → Lacks blocks (IsListed 0 c) e → Lacks blocks (IsChunkFor blocks 0 handle 1) e
+lacks_first_chunk blocks handle r c (error.Missing digest s) held there at first (is, none) =
+    let listed : option_map (λ x. x.digest) (chunk_at r 0) ≡ Some digest = ap (option_map (λ (x : ListedChunk). x.digest)) at ∙ ap (λ (d : Digest). Some d) (sym is.0) in
+    (inr (is.1 ∙ ap (spot.Chunk 0) first, there, subst (λ (o : Option Root). IsSomeAnd o (λ x. option_map (λ y. y.digest) (chunk_at x 0) ≡ Some digest)) (sym held) listed), none)
+lacks_first_chunk blocks handle r c error.Memory held there at first none = tt
 
 pub lacks_chunk : (blocks : Blocks) (handle : Handle) (e : ApplyError) → Lacks blocks (IsChunkFor blocks 0 handle 1) e → Lacks blocks (IsOfNamed blocks handle) e
 lacks_chunk blocks handle (error.Missing digest s) (is, none) = (inl is, none)

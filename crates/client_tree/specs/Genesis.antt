@@ -11,7 +11,7 @@ use Rattle.itable.specs.declared.chunk.Pair.{Pair}
 use Rattle.itable.specs.declared.inode.Kind.TheVariants as kind
 use Rattle.itable.specs.Inode.{Inode, inode}
 use Rattle.itable.specs.File.{inode_of, inode_over}
-use Rattle.itable.specs.ITable.{ITable, handle_of, new_texts}
+use Rattle.itable.specs.ITable.{ITable, handle_of, texts}
 use Rattle.directory.specs.Directory.{directory}
 use Rattle.client_tree.specs.Held.{Block, keeping_all}
 
@@ -49,7 +49,7 @@ principals = range_with_len 0 96
 
 -- the texts by which a principal's i-table is stored
 abbrev pub first_table_texts : Key → Principal → List Bytes
-first_table_texts key p = new_texts [] (first_table p key)
+first_table_texts key p = texts (first_table p key)
 
 -- the table of principals with its i-node, and the empty directory with its
 unfoldable pub common_texts : Key → List Bytes

@@ -3,6 +3,7 @@ pub mod Genesis
 pub mod Tables
 pub mod View
 pub mod Principals
+pub mod Questions
 pub mod Opened
 pub mod Tree
 pub mod Lost

@@ -8,10 +8,9 @@ use Rattle.principals.specs.TableText.{table}
 use Rattle.update_cert.specs.World.{File, Principals}
 use Rattle.update_cert.specs.Reading.{Reading, void_of_table_read}
 use Rattle.tree_parts.specs.Blocks.{Blocks, ForEachReading, inode_told}
-use Rattle.tree_parts.specs.Asked.{IsOfPrincipals}
+use Rattle.tree_parts.specs.Asked.{HasChunkFor, IsChunkFor, IsOfPrincipals}
 use Rattle.tree_parts.specs.Spot.{lacks}
 use Rattle.tree_parts.specs.declared.spot.Spot.{Spot}
-use Rattle.client_tree.specs.Tables.{HasChunkFor, IsChunkFor}
 use Rattle.client_tree.specs.View.{View, actor_of, tree, tree_before}
 
 -- The digest is asked for to read the table: that of the root of user 0's i-table with this handle, or of its chunk 0;

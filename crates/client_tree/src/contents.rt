@@ -10,7 +10,7 @@ ghost use Rattle.client_tree.specs.Opened.{IsOfInode};
 ghost use Rattle.client_tree.specs.Seen.{content_seen};
 
 use directory::Directory;
-use itable::Kind;
+use itable::{Inode, Kind};
 use layout::{Digest, INumber, Principal};
 use std::alloc::Allocator;
 use tree_parts::{ApplyError, Blocks, read_directory, read_file, read_inode};
@@ -24,6 +24,31 @@ pub enum Seen<A: Allocator> {
     File(Vec<u8, A>),
     /// This directory.
     Directory(Directory<A>),
+}
+
+/// Of what kind and size is what stands at an i-number.
+#[derive(Clone, Copy, Debug, PartialEq, Eq)]
+pub enum SeenKind {
+    /// Nothing stands there.
+    Nothing,
+    /// A file of so many bytes.
+    File(u32),
+    /// A directory whose text has so many bytes: 6 where it is empty, else more.
+    Directory(u32),
+}
+
+impl SeenKind {
+    ghost use Rattle.client_tree.specs.Questions.{kind_in};
+
+    /// What an i-node tells.
+    pub(crate) fn of<A: Allocator>(inode: &Inode<A>) -> SeenKind
+        ensures { result ≡ kind_in inode.now }
+    {
+        match inode.kind() {
+            Kind::File => SeenKind::File(inode.size()),
+            Kind::Directory => SeenKind::Directory(inode.size()),
+        }
+    }
 }
 
 /// What the i-node of this digest is of, at an i-number of a principal.

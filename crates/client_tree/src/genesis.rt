@@ -123,7 +123,7 @@ fn first_table_texts<A: Allocator + Copy>(
     ensures { IfOk result (λ texts. map vec_items texts.items ≡ first_table_texts key.now principal) }
 {
     let mut table = first_table(alloc, principal, key)?;
-    table.new_texts(alloc, &[])
+    table.texts(alloc)
 }
 
 /// The table of principals of the beginning with its i-node, and the empty directory with its.

@@ -8,14 +8,16 @@ mod held;
 mod lost;
 mod named;
 mod opened;
+mod questions;
 mod tables;
 mod tree;
 mod view;
 
-pub use contents::Seen;
+pub use contents::{Seen, SeenKind};
 pub use genesis::{first_blocks, root_digest};
 pub use held::{Held, With};
 pub use named::{PendingTable, table_of};
+pub use questions::{Answer, Question};
 pub use tables::read_table;
 pub use tree::{Outcome, Stored};
 pub use view::View;

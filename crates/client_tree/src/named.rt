@@ -7,13 +7,11 @@ ghost use Rattle.itable.specs.Root.{chunk_at};
 ghost use Rattle.principals.specs.Table.{Table as Principals};
 ghost use Rattle.update_cert.specs.World.{Principals as Listed, Tree};
 ghost use Rattle.update_cert.specs.Reading.{Reading};
-ghost use Rattle.tree_parts.specs.Asked.{Lacks};
+ghost use Rattle.tree_parts.specs.Asked.{HasChunkFor, IsChunkFor, Lacks};
 ghost use Rattle.tree_parts.specs.Blocks.{inode_told};
 ghost use Rattle.client_tree.specs.View.{after_items, handle_in, is_superusers};
 ghost use Rattle.client_tree.specs.Principals.{IsNamed, IsOfNamed, IsPending};
-ghost use Rattle.client_tree.specs.Tables.{HasChunkFor, IsChunkFor};
 
-use crate::tables::{chunk_of, root_of};
 use crate::view::handle_in;
 use itable::{Chunk, ChunkNumber, ListedChunk, Pair, Root};
 use layout::{Digest, INumber, Memory, Principal, User};
@@ -21,7 +19,7 @@ use lms_sign::Key;
 use pending_list::{PendingItem, Signed};
 use principals::Table;
 use std::alloc::Allocator;
-use tree_parts::{ApplyError, Blocks, read_principals};
+use tree_parts::{ApplyError, Blocks, chunk_of, read_principals, root_of};
 use update_cert::{Voids, apply_table};
 use version_order::Structure;
 

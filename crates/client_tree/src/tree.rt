@@ -1,20 +1,24 @@
 //! What the own operation makes of the tree of a view.
 
-ghost use Rattle.std.specs.Prelude.{◌≡◌, ◌==◌, ◌++◌, ℕ, Some, false, IfOk, IfErr, OnOk, map, if◌then◌else◌};
+ghost use Rattle.std.specs.Prelude.{◌≡◌, ◌⊎◌, ◌==◌, ◌&&◌, ◌++◌, ◌∷◌, [], ℕ, Some, false, true, IfOk, IfErr, OnOk, map};
+ghost use Rattle.std.specs.Prelude.{if◌then◌else◌};
+ghost use Rattle.std.specs.List.{list_all};
 ghost use Rattle.std.specs.Vec.{vec_items};
+ghost use Rattle.layout.specs.Hash.{hash};
 ghost use Rattle.itable.specs.File.{blocks_of, inode_of};
 ghost use Rattle.itable.specs.Inode.{inode};
-ghost use Rattle.itable.specs.ITable.{IsTable, IsWhole, digest_at, handle_of as table_handle};
+ghost use Rattle.itable.specs.ITable.{IsTable, digest_at, handle_of as table_handle, loaded, new_texts};
 ghost use Rattle.principals.specs.Table.{Table as Principals};
 ghost use Rattle.principals.specs.TableText.{table as table_format};
 ghost use Rattle.update_cert.specs.World.{is_table};
 ghost use Rattle.update_cert.specs.Reading.{Reading, void_of_read};
-ghost use Rattle.tree_parts.specs.Blocks.{Agrees, Blocks as Held, ForEachReading};
+ghost use Rattle.tree_parts.specs.Blocks.{Agrees, ForEachReading};
 ghost use Rattle.tree_parts.specs.Asked.{Lacks};
+ghost use Rattle.tree_parts.specs.Slots.{has_digest as has_digest_at, holds};
 ghost use Rattle.client_tree.specs.View.{View as ViewModel, actor_of, shown, tree_before, written};
-ghost use Rattle.client_tree.specs.Opened.{HasLooked, IsLooked, IsOpened, IsReached};
-ghost use Rattle.client_tree.specs.Tree.{IsLost, IsOutcome, IsStored, IsWanted, principals_digest, principals_texts};
-ghost use Rattle.client_tree.specs.Tree.{table_texts};
+ghost use Rattle.client_tree.specs.Opened.{HasLooked, IsLooked, IsNeeded, IsOpened};
+ghost use Rattle.client_tree.specs.Tree.{IsLost, IsOutcome, IsStored, IsUntouched, IsWanted, principals_digest};
+ghost use Rattle.client_tree.specs.Tree.{principals_texts};
 ghost use Rattle.client_tree.specs.Seen.{content_seen};
 
 use crate::contents::{Seen, read_content};
@@ -27,7 +31,7 @@ use pending_list::raised_groups;
 use principals::Table;
 use std::alloc::Allocator;
 use std::marker::Model;
-use tree_parts::{ApplyError, Blocks, LaidPart, Slot, has_digest, is_table};
+use tree_parts::{ApplyError, Blocks, LaidPart, Slot, has_digest, holds_laid, is_table};
 use update_cert::Voids;
 
 /// A principal's part, as it is stored.
@@ -89,35 +93,30 @@ fn store_table<A: Allocator + Copy>(
     table: ITable<A>,
 ) -> Result<StoredTable<A>, Memory>
     ensures handle { IfOk result (λ s. s.handle ≡ table_handle table) }
-    ensures texts { IfOk result (λ s. map vec_items s.texts.items ≡ table_texts before table) }
+    ensures texts { IfOk result (λ s. map vec_items s.texts.items ≡ new_texts before table) }
     ensures is_table { OnOk result (IsTable table) }
 {
     let mut before = before;
     let mut table = table;
     // It is as its type keeps it.
     let _principal = table.principal();
+    let texts = table.new_texts(alloc, &mut before)?;
     let handle = table.handle(alloc)?;
-    let texts = if handle == before.handle(alloc)? {
-        Vec::new(alloc)
-    } else {
-        let listed = before.listings(alloc)?;
-        table.new_texts(alloc, &listed)?
-    };
     Ok(StoredTable { handle, texts })
 }
 
-/// A part that was laid as it is stored, where this i-table was stored before: the texts of its directories come first.
-fn store_laid<A: Allocator + Copy>(
-    alloc: A,
-    before: ITable<A>,
-    laid: LaidPart<A>,
-) -> Result<StoredTable<A>, Memory>
+/// A part that was laid, as it is stored: the texts of its directories come first.
+fn store_laid<A: Allocator + Copy>(alloc: A, laid: LaidPart<A>) -> Result<StoredTable<A>, Memory>
     ensures handle { IfOk result (λ s. s.handle ≡ table_handle laid.table) }
     ensures texts { IfOk result (λ s. map vec_items s.texts.items
-        ≡ map vec_items laid.texts.items ++ table_texts before laid.table) }
+        ≡ map vec_items laid.texts.items ++ new_texts laid.before laid.table) }
     ensures is_table { OnOk result (IsTable laid.table) }
 {
-    let LaidPart { table, mut texts } = laid;
+    let LaidPart {
+        before,
+        table,
+        mut texts,
+    } = laid;
     let stored = store_table(alloc, before, table)?;
     let mut of_table = stored.texts;
     texts.append(&mut of_table)?;
@@ -134,84 +133,96 @@ struct Written<A: Allocator> {
     voids: PartVoids<A>,
 }
 
-/// A part that was laid, and at its place the file of the table of principals, where this i-table was stored before:
-/// the texts of the file come last, and only where it is another one.
-fn with_principals<A: Allocator + Copy>(
+/// Whether an i-table has this file at the place of the table of principals, and each of its texts is held.
+fn has_file<A: Allocator, B: Blocks>(blocks: &B, table: &ITable<A>, file: &Laid<A>) -> bool
+    requires loaded { loaded table.now 1 ≡ true }
+    ensures { result ≡ (has_digest_at table.now 1 (hash file.now.inode.items)
+        && list_all (holds (B.held blocks.now)) (map vec_items file.now.blocks.items ++ file.now.inode.items ∷ [])) }
+{
+    has_digest(table, INumber::table(), digest(&file.inode)) && holds_laid(blocks, file)
+}
+
+/// A part that was laid, and at its place the file of the table of principals: the texts of the file come last, and only
+/// where it is another one than before.
+fn with_principals<A: Allocator + Copy, B: Blocks>(
     alloc: A,
-    before: &ITable<A>,
+    blocks: &B,
     laid: LaidPart<A>,
     users: &Table<A>,
 ) -> Result<LaidPart<A>, Memory>
-    requires before { IsWhole before.now }
-    requires laid { IsWhole laid.table }
+    requires before { loaded laid.before 1 ≡ true }
+    requires table { loaded laid.table 1 ≡ true }
     ensures digests { IfOk result (λ new. (i : ℕ)
         → digest_at new.table i ≡ (if 1 == i then Some (principals_digest users.now) else digest_at laid.table i)) }
     ensures texts { IfOk result (λ new. map vec_items new.texts.items
-        ≡ map vec_items laid.texts.items ++ principals_texts before.now 0 users.now) }
+        ≡ map vec_items laid.texts.items ++ principals_texts (B.held blocks.now) laid.before 0 users.now) }
     ensures principal { IfOk result (λ new. new.table.principal ≡ laid.table.principal) }
-    ensures whole { IfOk result (λ new. IsWhole new.table) }
+    ensures unloaded { IfOk result (λ new. new.table.unloaded ≡ laid.table.unloaded) }
+    ensures before { IfOk result (λ new. new.before ≡ laid.before) }
 {
     let LaidPart {
+        before,
         mut table,
         mut texts,
     } = laid;
-    let Laid { inode, mut blocks } = lay_principals(alloc, users)?;
-    let digest = digest(&inode);
-    if !has_digest(before, INumber::table(), digest) {
-        texts.append(&mut blocks)?;
-        texts.push(inode)?;
+    let mut file = lay_principals(alloc, users)?;
+    let stored = has_file(blocks, &before, &file);
+    table.set(INumber::table(), digest(&file.inode))?;
+    if !stored {
+        texts.append(&mut file.blocks)?;
+        texts.push(file.inode)?;
     }
-    table.set(INumber::table(), digest)?;
-    Ok(LaidPart { table, texts })
+    Ok(LaidPart {
+        before,
+        table,
+        texts,
+    })
 }
 
 /// A part that was laid, with the table of principals where it is user 0's.
-fn with_table<A: Allocator + Copy>(
+fn with_table<A: Allocator + Copy, B: Blocks>(
     alloc: A,
+    blocks: &B,
     principal: Principal,
-    before: &ITable<A>,
     laid: LaidPart<A>,
     users: &Table<A>,
 ) -> Result<LaidPart<A>, Memory>
-    requires before { IsWhole before.now }
-    requires laid { IsWhole laid.table }
+    requires before { principal ≡ 0 → loaded laid.before 1 ≡ true }
+    requires table { principal ≡ 0 → loaded laid.table 1 ≡ true }
     ensures digests { IfOk result (λ new. (i : ℕ) → is_table principal i ≡ false
         → digest_at new.table i ≡ digest_at laid.table i) }
     ensures users { IfOk result (λ new. principal ≡ 0 → digest_at new.table 1 ≡ Some (principals_digest users.now)) }
     ensures texts { IfOk result (λ new. map vec_items new.texts.items
-        ≡ map vec_items laid.texts.items ++ principals_texts before.now principal users.now) }
+        ≡ map vec_items laid.texts.items ++ principals_texts (B.held blocks.now) laid.before principal users.now) }
     ensures principal { IfOk result (λ new. new.table.principal ≡ laid.table.principal) }
-    ensures whole { IfOk result (λ new. IsWhole new.table) }
+    ensures unloaded { IfOk result (λ new. new.table.unloaded ≡ laid.table.unloaded) }
+    ensures before { IfOk result (λ new. new.before ≡ laid.before) }
 {
     if principal.get() == 0 {
-        with_principals(alloc, before, laid, users)
+        with_principals(alloc, blocks, laid, users)
     } else {
         Ok(laid)
     }
 }
 
 /// A part that was opened, as it is stored.
-fn store_part<A: Allocator + Copy>(
+fn store_part<A: Allocator + Copy, B: Blocks>(
     alloc: A,
+    blocks: &B,
     principal: Principal,
     opened: Opened<A>,
     users: &Table<A>,
 ) -> Result<Written<A>, Memory>
-    requires { IsWhole opened.before }
-    ensures stored { (blocks : Held) (x : ViewModel) → x.table ≡ users.now
-        → IsOpened blocks x principal opened.before opened.part
-        → IfOk result (λ w. IsStored blocks x w.stored) }
+    requires loaded { principal ≡ 0 → loaded opened.part.table 1 ≡ true }
+    ensures stored { (x : ViewModel) → x.table ≡ users.now → IsOpened (B.held blocks.now) x principal opened.part
+        → IfOk result (λ w. IsStored (B.held blocks.now) x w.stored) }
     ensures principal { IfOk result (λ w. w.stored.principal ≡ principal) }
     ensures voids { IfOk result (λ w. w.voids ≡ record { principal = principal; numbers = opened.voids }) }
 {
-    let Opened {
-        before,
-        part,
-        voids,
-    } = opened;
-    let laid = part.lay(alloc, &before)?;
-    let laid = with_table(alloc, principal, &before, laid, users)?;
-    let StoredTable { handle, texts } = store_laid(alloc, before, laid)?;
+    let Opened { part, voids } = opened;
+    let laid = part.lay(alloc, blocks)?;
+    let laid = with_table(alloc, blocks, principal, laid, users)?;
+    let StoredTable { handle, texts } = store_laid(alloc, laid)?;
     Ok(Written {
         stored: Stored {
             principal,
@@ -220,6 +231,21 @@ fn store_part<A: Allocator + Copy>(
         },
         voids: PartVoids::new(principal, voids),
     })
+}
+
+/// A part that stays on this handle: nothing of it is new, and none of its changes lacks effect.
+fn kept_part<A: Allocator + Copy>(alloc: A, principal: Principal, handle: Digest) -> Written<A>
+    ensures stored { result.stored ≡ record { principal = principal; handle = handle; texts = [] } }
+    ensures voids { result.voids ≡ record { principal = principal; numbers = [] } }
+{
+    Written {
+        stored: Stored {
+            principal,
+            handle,
+            texts: Vec::new(alloc),
+        },
+        voids: PartVoids::new(principal, Voids::of(Vec::new(alloc))),
+    }
 }
 
 impl<'a, A: Allocator + Copy> View<'a, A> {
@@ -243,7 +269,8 @@ impl<'a, A: Allocator + Copy> View<'a, A> {
         blocks: &B,
         principal: Principal,
     ) -> Result<Written<A>, ApplyError>
-        ensures stored { IfOk result (λ w. IsStored (B.held blocks.now) self.now w.stored) }
+        ensures stored { IfOk result (λ w. IsStored (B.held blocks.now) self.now w.stored
+            ⊎ IsUntouched self.now w.stored) }
         ensures principal { IfOk result (λ w. w.stored.principal ≡ principal) }
         ensures changed { IfOk result (λ w. w.voids.principal ≡ principal) }
         ensures voids { ForEachReading (B.held blocks.now) (λ reads.
@@ -252,10 +279,14 @@ impl<'a, A: Allocator + Copy> View<'a, A> {
               numbers = void_of_read reads (actor_of self.now.table self.now.own) principal self.now.own.cert.changes
                   (tree_before reads users self.now);
             })) }
-        ensures missing { IfErr result (Lacks (B.held blocks.now) (IsReached (B.held blocks.now) self.now principal)) }
+        ensures missing { IfErr result (Lacks (B.held blocks.now) (IsNeeded (B.held blocks.now) self.now principal)) }
     {
-        let opened = self.open(alloc, blocks, principal)?;
-        let written = store_part(alloc, principal, opened, self.table())?;
+        if !self.is_touched(principal) {
+            let handle = self.handle_of(alloc, principal)?;
+            return Ok(kept_part(alloc, principal, handle));
+        }
+        let opened = self.open_to_store(alloc, blocks, principal)?;
+        let written = store_part(alloc, blocks, principal, opened, self.table())?;
         Ok(written)
     }
 
@@ -305,7 +336,7 @@ impl<'a, A: Allocator + Copy> View<'a, A> {
             let text = self.table().text(alloc)?;
             return Ok(Seen::File(text));
         }
-        let opened = self.open(alloc, blocks, principal)?;
+        let opened = self.open_at(alloc, blocks, principal, i_number)?;
         let Some(slot) = opened.part.into_slot(i_number) else {
             return Ok(Seen::Nothing);
         };

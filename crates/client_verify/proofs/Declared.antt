@@ -1,6 +1,6 @@
 -- A reply that breaks none of the rules on itself is one to the declared operation.
-use Rattle.std.proofs.Common.{◌≡◌, ◌-◌, ℕ, Bool, ◌&&◌, true, false, List, [], ◌∷◌, ◌++◌, length, Option, Some, None, Result, Ok, Err, refl, sym, ap, subst, ◌∙◌, inl, inr}
-use Rattle.std.specs.Prelude.{◌==◌, bytes_eq, is_ok, IsSome, IsSomeAnd, if◌then◌else◌, slice_get}
+use Rattle.std.proofs.Common.{◌≡◌, ◌-◌, Bool, ◌&&◌, true, false, List, [], ◌∷◌, ◌++◌, length, Option, Some, None, Result, Ok, Err, refl, sym, ap, subst, ◌∙◌, inl, inr}
+use Rattle.std.specs.Prelude.{◌==◌, bytes_eq, is_ok, IsSomeAnd, if◌then◌else◌, slice_get}
 use Rattle.std.specs.List.{list_all}
 use Rattle.std.specs.Option.{option_and_then, option_map, option_map_or}
 use Rattle.std.specs.Result.{result_ok}

@@ -21,7 +21,7 @@ use Rattle.itable.proofs.Blocks.{next_block, no_block}
 use Rattle.itable.proofs.FileLaws.{file_fits, inode_fits}
 use Rattle.directory.specs.Directory.{directory}
 use Rattle.directory.specs.DirectoryLaws.{lawful_directory}
-use Rattle.update_cert.specs.World.{Content, File, Directory, Principals, genesis, is_table, is_root}
+use Rattle.update_cert.specs.World.{Content, File, Directory, genesis, is_table}
 use Rattle.update_cert.specs.Reading.{Reading}
 use Rattle.tree_parts.specs.Blocks.{Agrees, Blocks, directory_over, file_over, if_of_size, joined, of_size}
 use Rattle.tree_parts.proofs.Contents.{directory_is, file_is, inode_held}

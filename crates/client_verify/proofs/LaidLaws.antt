@@ -1,6 +1,6 @@
 -- The blocks of a file that was laid out, one by one.
-use Rattle.std.proofs.Common.{◌≡◌, ℕ, zero, suc, ◌+◌, ◌-◌, ◌*◌, ◌<◌, ◌≤◌, Bool, true, false, ◌&&◌, List, [], ◌∷◌, length, map, take, drop, Ok, Result, sym, ap, refl, ◌∙◌, add-one, arith, drop-cons}
-use Rattle.std.specs.Prelude.{◌==◌, ◌||◌, Contains, min, slice_index_or}
+use Rattle.std.proofs.Common.{◌≡◌, ℕ, zero, suc, ◌+◌, ◌-◌, ◌*◌, ◌<◌, ◌≤◌, Bool, true, false, ◌&&◌, List, ◌∷◌, length, map, take, drop, Result, sym, ap, refl, ◌∙◌, add-one, arith, drop-cons}
+use Rattle.std.specs.Prelude.{◌==◌, Contains, min, slice_index_or}
 use Rattle.std.specs.List.{list_any}
 use Rattle.std.specs.Option.{option_map_or}
 use Rattle.std.specs.Result.{result_ok}
@@ -9,11 +9,10 @@ use Rattle.std.proofs.lemmas.Bool.{eq-eqb}
 use Rattle.std.proofs.lemmas.List.{drop_all, length-drop, length-take}
 use Rattle.std.proofs.lemmas.List.Folds.{list_any-from_Any}
 use Rattle.std.proofs.lemmas.Slice.Eq.{bytes_eq-Decides}
-use Rattle.layout.specs.Format.{whole}
 use Rattle.layout.specs.Hash.{hash}
 use Rattle.layout.specs.Types.{Bytes, Digest}
 use Rattle.itable.specs.Inode.{Inode, block_count, inode}
-use Rattle.itable.specs.File.{blocks_of, inode_of, pieces}
+use Rattle.itable.specs.File.{inode_of, pieces}
 use Rattle.itable.proofs.FileLaws.{reads_again}
 use Rattle.tree_parts.specs.Spot.{is_of_file, size_of_block}
 use Rattle.client_verify.specs.Laid.{IsLaidAnywhere, are_blocks_laid, has_text, is_whole_file}

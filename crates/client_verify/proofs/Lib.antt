@@ -4,3 +4,4 @@ pub mod GenesisLaws
 pub mod Handing
 pub mod Declared
 pub mod Releasing
+pub mod Standing

@@ -1,14 +1,14 @@
 -- What a client's releases do, seen from the client.
 use Rattle.std.proofs.Common.{◌≡◌, ◌≢◌, ℕ, ◌+◌, List, ◌++◌, length, Option, Some, None, Ok, Err, Bool, true, false, inl, inr, refl, sym, ap, subst, ◌<◌, ◌∙◌, length-append, arith}
 use Rattle.std.specs.Prelude.{◌↔◌, ◌⊎◌, Result, IfErr, IfSome, IsErrOf, IsSome, IsSomeAnd, OnErr, OnOk}
-use Rattle.layout.specs.Types.{Bytes, Key, Digest}
+use Rattle.layout.specs.Types.{Bytes, Digest}
 use Rattle.layout.specs.Format.{be}
 use Rattle.layout.specs.HashLaws.{length-hash}
 use Rattle.lms_sign.specs.Tree.{inner_node, node}
 use Rattle.lms_sign.specs.Keys.{lms_type, ots_type, public_key_of}
-use Rattle.lms_sign.specs.Signature.{signature_of, valid}
+use Rattle.lms_sign.specs.Signature.{signature_of}
 use Rattle.lms_sign.proofs.Validity.{length-signature, signed_valid}
-use Rattle.leaf_ledger.specs.Ledger.{IsFull, IsLeastFree, LeafNumber}
+use Rattle.leaf_ledger.specs.Ledger.{IsFull, LeafNumber}
 use Rattle.client_journal.specs.Records.{Record}
 use Rattle.version_order.specs.Structure.{Structure, structure}
 use Rattle.update_cert.specs.Change.{Change}
@@ -18,7 +18,7 @@ use Rattle.principals.specs.Table.{Table}
 use Rattle.reply_rules.specs.Lists.{Lists}
 use Rattle.pending_list.specs.Reply.{digest_of_last}
 use Rattle.client_tree.specs.Held.{Block, keeping_all}
-use Rattle.client_releases.specs.Releasing.{AnyMoment, Devices, IsKept, IsTried, OneHasRisen, cert_record, structure_record}
+use Rattle.client_releases.specs.Releasing.{AnyMoment, Devices, IsKept, IsTried, cert_record, structure_record}
 use Rattle.client_releases.specs.Told.{IsReleased, Released, Stands, sent, signed_by}
 use Rattle.client_releases.specs.declared.error.ClientError.{ClientError}
 use Rattle.client_releases.specs.declared.error.ClientError.TheVariants as error
@@ -28,7 +28,7 @@ use Rattle.client_releases.proofs.Seen.{declared_with, failed_with, signed_with,
 use Rattle.client_releases.proofs.Untouched.{none_tried, untouched}
 use Rattle.client_verify.specs.State.{AcceptedView, AreReplies, Checked, IsOfDeclared, Ready, State, declared, declared_text, failed, laying, next_cert, next_structure, on, released, signed_over, signed_structure, signed_text, view_of}
 use Rattle.reply_check.specs.Good.{with_own}
-use Rattle.reply_check.specs.Verified.{AreOwn, IsSealed, IsSigned}
+use Rattle.reply_check.specs.Verified.{AreOwn, IsSealed}
 use Rattle.reply_check.proofs.VerifiedLaws.{seals}
 
 -- a client over what it released

@@ -17,12 +17,13 @@ use Rattle.client_tree.specs.Principals.{IsOfNamed}
 use Rattle.tree_parts.specs.Spot.{lacks}
 use Rattle.pending_list.specs.Reply.{Reply}
 use Rattle.reply_check.specs.declared.asked.Asked.{Asked}
-use Rattle.reply_check.specs.FirstBroken.{reply_breaks, reply_in, view_over}
+use Rattle.reply_check.specs.FirstBroken.{view_over}
 use Rattle.reply_check.specs.Good.{Good, view_of}
-use Rattle.client_verify.specs.State.{State, AcceptedView, Checked, Reading, Writing, asked_of, known, holding}
+use Rattle.client_verify.specs.State.{State, AcceptedView, Checked, Reading, Writing, asked_of, holding}
 use Rattle.reply_check.specs.AskedBlock.{block_breaks}
-use Rattle.client_verify.specs.Judged.{AsksOrAccepts, GoesOn, Handed, IsGood, Judged, Taken}
-use Rattle.client_verify.specs.Looked.{Looked, Given}
+use Rattle.client_verify.specs.Judged.{AsksOrAccepts, GoesOn, Handed, IsGood, Taken}
+use Rattle.client_verify.specs.Looked.{Given, Looked}
+use Rattle.client_tree.specs.declared.questions.Question.{Question}
 use Rattle.reply_check.specs.Reached.{IsAnswer}
 use Rattle.reply_check.specs.declared.reaching.Shown.{Shown}
 
@@ -80,25 +81,27 @@ handed_goes old k block text (step.Store texts) new none is goes = (none, some_o
 handed_goes old (Reading r a) block text (step.Broken rule) new none is goes = absurd (no_rule (lists_of r) goes)
 handed_goes old (Writing x a) block text (step.Broken rule) new none is goes = absurd goes
 
-pub given_looked : {A : Type 0} (old : State) (v : AcceptedView) (l : Looking) (block : Option (List ℕ)) (text : List ℕ) (s : Look A) (new : State) → block_breaks (held old.blocks) l.asked block ≡ None → block ≡ Some text → Looked (holding old text) v l.principal l.i_number s new → Given old v l block s new
+pub given_looked : {A : Type 0} (old : State) (v : AcceptedView) (l : Looking) (block : Option (List ℕ)) (text : List ℕ) (s : Look A) (new : State) → block_breaks (held old.blocks) l.asked block ≡ None → block ≡ Some text → Looked (holding old text) v l.question s new → Given old v l block s new
 given_looked old v l block text (look.Need d) new none is looked = (none, some_one block text _ is looked)
 given_looked old v l block text (look.File bytes) new none is looked = (none, some_one block text _ is looked)
 given_looked old v l block text (look.Dir entries) new none is looked = (none, some_one block text _ is looked)
 given_looked old v l block text look.None new none is looked = (none, some_one block text _ is looked)
+given_looked old v l block text (look.Kind kind) new none is looked = (none, some_one block text _ is looked)
+given_looked old v l block text (look.Free found) new none is looked = (none, some_one block text _ is looked)
 given_looked old v l block text (look.Broken rule) new none is looked = absurd looked
 
 -- what was told of a look with one block more that was kept, is told of the look that was under way
 pub given_from : {A : Type 0} (inner old : State) (v : AcceptedView) (l : Looking) (blocks : List Block) (block : Option (List ℕ)) (text : List ℕ) (s : Look A) (new : State) → inner ≡ old → blocks ≡ keeping old.blocks text → old.view ≡ Some v
-    → block_breaks (held old.blocks) l.asked block ≡ None → block ≡ Some text → IfSome inner.view (λ w. Looked (record inner { blocks = blocks }) w l.principal l.i_number s new) → Given old v l block s new
+    → block_breaks (held old.blocks) l.asked block ≡ None → block ≡ Some text → IfSome inner.view (λ w. Looked (record inner { blocks = blocks }) w l.question s new) → Given old v l block s new
 given_from {A} inner old v l blocks block text s new is kept there none given looked =
-    let of_old : IfSome old.view (λ w. Looked {A = A} (record old { blocks = blocks }) w l.principal l.i_number s new) = subst (λ (x : State). IfSome x.view (λ w. Looked {A = A} (record x { blocks = blocks }) w l.principal l.i_number s new)) is looked in
-    let of_view : Looked {A = A} (record old { blocks = blocks }) v l.principal l.i_number s new = subst (λ (o : Option AcceptedView). IfSome o (λ w. Looked {A = A} (record old { blocks = blocks }) w l.principal l.i_number s new)) there of_old in
-    given_looked old v l block text s new none given (subst (λ (b : List Block). Looked {A = A} (record old { blocks = b }) v l.principal l.i_number s new) kept of_view)
+    let of_old : IfSome old.view (λ w. Looked {A = A} (record old { blocks = blocks }) w l.question s new) = subst (λ (x : State). IfSome x.view (λ w. Looked {A = A} (record x { blocks = blocks }) w l.question s new)) is looked in
+    let of_view : Looked {A = A} (record old { blocks = blocks }) v l.question s new = subst (λ (o : Option AcceptedView). IfSome o (λ w. Looked {A = A} (record old { blocks = blocks }) w l.question s new)) there of_old in
+    given_looked old v l block text s new none given (subst (λ (b : List Block). Looked {A = A} (record old { blocks = b }) v l.question s new) kept of_view)
 
 -- what is shown by blocks in a view is shown by the same blocks in the same view
-pub shown_there : {A : Type 0} (before blocks : List Block) (key same_key : List ℕ) (t : Table) (x : Lists) (v : AcceptedView) (p i : ℕ) (s : Shown A) → before ≡ blocks → key ≡ same_key → t ≡ v.table → x ≡ v.lists
-    → IsAnswer (held before) (view_over key t x) p i s → IsAnswer (held blocks) (view_over same_key v.table v.lists) p i s
-shown_there {A} before blocks key same_key t x v p i s same pinned of_table of_lists shown =
-    let of_view : IsAnswer {A = A} (held before) (view_over key v.table v.lists) p i s = subst (λ (y : Lists). IsAnswer {A = A} (held before) (view_over key v.table y) p i s) of_lists (subst (λ (u : Table). IsAnswer {A = A} (held before) (view_over key u x) p i s) of_table shown) in
-    subst (λ (bs : List Block). IsAnswer {A = A} (held bs) (view_over same_key v.table v.lists) p i s) same
-    (subst (λ (k : List ℕ). IsAnswer {A = A} (held before) (view_over k v.table v.lists) p i s) pinned of_view)
+pub shown_there : {A : Type 0} (before blocks : List Block) (key same_key : List ℕ) (t : Table) (x : Lists) (v : AcceptedView) (q : Question) (s : Shown A) → before ≡ blocks → key ≡ same_key → t ≡ v.table → x ≡ v.lists
+    → IsAnswer (held before) (view_over key t x) q s → IsAnswer (held blocks) (view_over same_key v.table v.lists) q s
+shown_there {A} before blocks key same_key t x v q s same pinned of_table of_lists shown =
+    let of_view : IsAnswer {A = A} (held before) (view_over key v.table v.lists) q s = subst (λ (y : Lists). IsAnswer {A = A} (held before) (view_over key v.table y) q s) of_lists (subst (λ (u : Table). IsAnswer {A = A} (held before) (view_over key u x) q s) of_table shown) in
+    subst (λ (bs : List Block). IsAnswer {A = A} (held bs) (view_over same_key v.table v.lists) q s) same
+    (subst (λ (k : List ℕ). IsAnswer {A = A} (held before) (view_over k v.table v.lists) q s) pinned of_view)

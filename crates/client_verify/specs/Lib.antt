@@ -4,3 +4,4 @@ pub mod Looked
 pub mod Laid
 pub mod Told
 pub mod JudgedLast
+pub mod Standing

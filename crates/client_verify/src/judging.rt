@@ -1,7 +1,7 @@
 //! The client judges a reply, and the blocks that it asks for: a rule is broken, one block more is wanted, or the reply
 //! is accepted.
 
-ghost use Rattle.std.specs.Prelude.{◌≡◌, IfErr, IfOk, IfSome, IsOk, IsSome, IsSomeAnd, None, OnErr, Some};
+ghost use Rattle.std.specs.Prelude.{◌≡◌, IfErr, IfOk, IfSome, IsOk, IsSome, IsSomeAnd, None, OnErr, OnOk, Some};
 ghost use Rattle.std.specs.Option.{option_copied, option_map};
 ghost use Rattle.layout.specs.Hash.{hash};
 ghost use Rattle.reply_rules.specs.Lists.{lists_of};
@@ -16,6 +16,7 @@ ghost use Rattle.client_verify.specs.State.{lists_under, released};
 ghost use Rattle.client_verify.specs.JudgedLast.{judged_last, listed};
 ghost use Rattle.client_verify.specs.Judged.{AsksOrAccepts, GoesOn, Handed, IsReading, IsWriting, Judged, ReadsOn};
 ghost use Rattle.client_verify.specs.Judged.{unjudged};
+ghost use Rattle.client_verify.specs.Standing.{HoldsOneMore, IsLacking, OnlyJudges, StandsAfter};
 
 use crate::client::Client;
 use crate::keeping::keep;
@@ -135,6 +136,19 @@ impl<L: Device, J: Device, A: Allocator + Copy> Client<L, J, A> {
         ensures judged { IfOk result (λ step. Judged self.old text.now step self.new) }
         ensures only_memory { IfErr result (λ e. e ≡ ClientError.Memory) }
         ensures err { OnErr result (self.new ≡ self.old) }
+        // What it waits for then, and what stays.
+        ensures stands { IfOk result (λ step. StandsAfter self.old step self.new) }
+        ensures only { OnOk result (OnlyJudges self.old self.new) }
+    {
+        self.take_reply(text)
+    }
+
+    /// Takes a reply. Only want of memory is an error.
+    fn take_reply(&mut self, text: &[u8]) -> Result<Step<A>, ClientError>
+        requires { self.old.phase ≡ Phase.Declared }
+        ensures judged { IfOk result (λ step. Judged self.old text.now step self.new) }
+        ensures only_memory { IfErr result (λ e. e ≡ ClientError.Memory) }
+        ensures err { OnErr result (self.new ≡ self.old) }
     {
         let known = self.known();
         let reply = match judge(self.alloc, &known, text)? {
@@ -240,7 +254,27 @@ impl<L: Device, J: Device, A: Allocator + Copy> Client<L, J, A> {
         requires { IsSome self.old.checked }
         ensures handed { IfSome self.old.checked
             (λ k. IfOk result (λ step. Handed self.old k (option_copied block.entry) step self.new)) }
-        // A block that is absent or has another digest is told without memory.
+        // A block that breaks the rule on blocks is told without memory.
+        ensures told { IfSome self.old.checked
+            (λ k. block_breaks (held self.old.blocks) (asked_of k) (option_copied block.entry) ≡ Some Rule.Block
+            → IsOk result) }
+        ensures only_memory { IfErr result (λ e. e ≡ ClientError.Memory) }
+        ensures err { OnErr result (self.new ≡ self.old) }
+        // What it waits for then, and what stays. A block that was lacking is one more that is held.
+        ensures stands { IfOk result (λ step. StandsAfter self.old step self.new) }
+        ensures only { OnOk result (OnlyJudges self.old self.new) }
+        ensures more { IfSome self.old.checked
+            (λ k. IsLacking self.old (asked_of k) → IfOk result (λ step. HoldsOneMore self.old step self.new)) }
+    {
+        self.take_block(block)
+    }
+
+    /// Takes the block that the reply under check asks for, or its absence. Only want of memory is an error.
+    fn take_block(&mut self, block: Option<&[u8]>) -> Result<Step<A>, ClientError>
+        requires { IsSome self.old.checked }
+        ensures handed { IfSome self.old.checked
+            (λ k. IfOk result (λ step. Handed self.old k (option_copied block.entry) step self.new)) }
+        // A block that breaks the rule on blocks is told without memory.
         ensures told { IfSome self.old.checked
             (λ k. block_breaks (held self.old.blocks) (asked_of k) (option_copied block.entry) ≡ Some Rule.Block
             → IsOk result) }

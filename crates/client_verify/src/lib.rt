@@ -16,6 +16,7 @@ mod view;
 
 pub use client::Client;
 pub use client_releases::{ClientError, Parts, Phase};
+pub use client_tree::SeenKind;
 pub use laid::{are_laid, laid_file_is_laid};
 pub use look::Look;
 pub use reply_rules::Rule;

@@ -1,11 +1,12 @@
 //! What a client sees.
 
+use client_tree::SeenKind;
 use directory::Directory;
-use layout::Digest;
+use layout::{Digest, INumber};
 use reply_rules::Rule;
 use std::alloc::Allocator;
 
-/// What a client sees at an i-number of its accepted view, or what it asks for to see it.
+/// What a client is told of its accepted view, or what it asks for to tell it.
 #[derive(Drop)]
 pub enum Look<A: Allocator> {
     /// The block of this digest is asked for.
@@ -16,6 +17,10 @@ pub enum Look<A: Allocator> {
     Dir(Directory<A>),
     /// Nothing stands there.
     None,
+    /// Of this kind and size is what stands there.
+    Kind(SeenKind),
+    /// Nothing stands at this i-number, which is the least of those that were asked about, or something at each of them.
+    Free(Option<INumber>),
     /// The block that was handed in breaks this rule.
     Broken(Rule),
 }

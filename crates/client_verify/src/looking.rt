@@ -1,34 +1,38 @@
-//! The client looks at what stands in its accepted view.
+//! The client is asked about its accepted view.
 
-ghost use Rattle.std.specs.Prelude.{◌≡◌, IfErr, IfOk, IfSome, IsOk, IsSome, IsSomeAnd, OnErr, Some};
+ghost use Rattle.std.specs.Prelude.{◌≡◌, ◌≤◌, IfErr, IfOk, IfSome, IsOk, IsSome, IsSomeAnd, OnErr, OnOk, Some};
 ghost use Rattle.std.specs.Option.{option_copied};
 ghost use Rattle.client_tree.specs.Held.{held};
+ghost use Rattle.client_tree.specs.declared.questions.Question.TheVariants.{At, Kind, Free};
 ghost use Rattle.reply_check.specs.Reached.{IsAnswer};
 ghost use Rattle.reply_check.specs.AskedBlock.{block_breaks};
 ghost use Rattle.reply_check.specs.FirstBroken.{view_over};
 ghost use Rattle.client_verify.specs.Told.{IsTold};
 ghost use Rattle.client_verify.specs.Looked.{Given, Looked};
+ghost use Rattle.client_verify.specs.Standing.{IsLacking, LookHoldsOneMore, LookStandsAfter, OnlyLooks};
 
 use crate::client::Client;
 use crate::keeping::keep;
 use crate::look::Look;
 use crate::view::Looking;
 use client_releases::ClientError;
-use client_tree::Seen;
+use client_tree::{Answer, Question, Seen};
 use layout::{INumber, Memory, Principal, let_go};
 use leaf_ledger::Device;
 use reply_check::{Shown, check, show, show_with};
 use reply_rules::Rule;
 use std::alloc::Allocator;
 
-/// What is seen, as it is told.
-fn told<A: Allocator>(seen: Seen<A>) -> Look<A>
-    ensures { IsTold seen result }
+/// An answer, as it is told.
+fn told<A: Allocator>(answer: Answer<A>) -> Look<A>
+    ensures { IsTold answer result }
 {
-    match seen {
-        Seen::File(bytes) => Look::File(bytes),
-        Seen::Directory(directory) => Look::Dir(directory),
-        Seen::Nothing => Look::None,
+    match answer {
+        Answer::Sees(Seen::File(bytes)) => Look::File(bytes),
+        Answer::Sees(Seen::Directory(directory)) => Look::Dir(directory),
+        Answer::Sees(Seen::Nothing) => Look::None,
+        Answer::Kind(kind) => Look::Kind(kind),
+        Answer::Free(found) => Look::Free(found),
     }
 }
 
@@ -38,32 +42,84 @@ impl<L: Device, J: Device, A: Allocator + Copy> Client<L, J, A> {
     pub fn look(&mut self, principal: Principal, i_number: INumber) -> Result<Look<A>, ClientError>
         requires { IsSome self.old.view }
         ensures looked { IfSome self.old.view
-            (λ v. IfOk result (λ look. Looked self.old v principal i_number look self.new)) }
+            (λ v. IfOk result (λ look. Looked self.old v (At principal i_number) look self.new)) }
+        ensures only_memory { IfErr result (λ e. e ≡ ClientError.Memory) }
+        ensures err { OnErr result (self.new ≡ self.old) }
+        // What it waits for then, and what stays.
+        ensures stands { IfOk result (λ look. LookStandsAfter self.old look self.new) }
+        ensures only { OnOk result (OnlyLooks self.old self.new) }
+    {
+        self.begin_look(Question::At(principal, i_number))
+    }
+
+    /// Of what kind and size is what stands at an i-number of a principal in the accepted view, or the block that is
+    /// wanted to tell it: beyond what opens the part it is the i-node alone. A look that was under way is over. Only
+    /// want of memory is an error.
+    pub fn kind(&mut self, principal: Principal, i_number: INumber) -> Result<Look<A>, ClientError>
+        requires { IsSome self.old.view }
+        ensures looked { IfSome self.old.view
+            (λ v. IfOk result (λ look. Looked self.old v (Kind principal i_number) look self.new)) }
+        ensures only_memory { IfErr result (λ e. e ≡ ClientError.Memory) }
+        ensures err { OnErr result (self.new ≡ self.old) }
+        // What it waits for then, and what stays.
+        ensures stands { IfOk result (λ look. LookStandsAfter self.old look self.new) }
+        ensures only { OnOk result (OnlyLooks self.old self.new) }
+    {
+        self.begin_look(Question::Kind(principal, i_number))
+    }
+
+    /// The least i-number of a principal, from the first to the last, at which nothing stands in the accepted view, if
+    /// there is one, or the block that is wanted to tell it: beyond what opens the part it is a chunk. A look that was
+    /// under way is over. Only want of memory is an error.
+    pub fn free(
+        &mut self,
+        principal: Principal,
+        first: INumber,
+        last: INumber,
+    ) -> Result<Look<A>, ClientError>
+        requires view { IsSome self.old.view }
+        requires range { first ≤ last }
+        ensures looked { IfSome self.old.view
+            (λ v. IfOk result (λ look. Looked self.old v (Free principal first last) look self.new)) }
+        ensures only_memory { IfErr result (λ e. e ≡ ClientError.Memory) }
+        ensures err { OnErr result (self.new ≡ self.old) }
+        // What it waits for then, and what stays.
+        ensures stands { IfOk result (λ look. LookStandsAfter self.old look self.new) }
+        ensures only { OnOk result (OnlyLooks self.old self.new) }
+    {
+        self.begin_look(Question::Free(principal, first, last))
+    }
+
+    /// Begins a look: the answer to a question about the accepted view, or the block that is wanted to tell it.
+    fn begin_look(&mut self, question: Question) -> Result<Look<A>, ClientError>
+        requires { IsSome self.old.view }
+        ensures looked { IfSome self.old.view
+            (λ v. IfOk result (λ look. Looked self.old v question look self.new)) }
         ensures only_memory { IfErr result (λ e. e ≡ ClientError.Memory) }
         ensures err { OnErr result (self.new ≡ self.old) }
     {
         let Some(view) = &self.view else {
             unreachable!()
         };
+        // A copy is handed down, since the question is kept where a block is asked for.
+        let copy = question;
         let shown = show(
             self.alloc,
             &self.pinned,
             view.good.table(),
             view.good.lists(),
-            principal,
-            i_number,
+            copy,
             &self.blocks,
         )?;
-        Ok(self.answer(principal, i_number, shown))
+        Ok(self.answer(question, shown))
     }
 
     /// Goes on with a look: a block is asked for, or it is over.
-    fn answer(&mut self, principal: Principal, i_number: INumber, shown: Shown<A>) -> Look<A>
+    fn answer(&mut self, question: Question, shown: Shown<A>) -> Look<A>
         requires view { IsSome self.old.view }
         requires shown { IfSome self.old.view
-            (λ v. IsAnswer (held self.old.blocks) (view_over self.old.pinned v.table v.lists) principal i_number
-            shown) }
-        ensures { IfSome self.old.view (λ v. Looked self.old v principal i_number result self.new) }
+            (λ v. IsAnswer (held self.old.blocks) (view_over self.old.pinned v.table v.lists) question shown) }
+        ensures { IfSome self.old.view (λ v. Looked self.old v question result self.new) }
     {
         let Some(view) = &mut self.view else {
             unreachable!()
@@ -71,16 +127,12 @@ impl<L: Device, J: Device, A: Allocator + Copy> Client<L, J, A> {
         match shown {
             Shown::Lacks(asked) => {
                 let digest = asked.digest;
-                view.looking = Some(Looking {
-                    principal,
-                    i_number,
-                    asked,
-                });
+                view.looking = Some(Looking { question, asked });
                 Look::Need(digest)
             }
-            Shown::Sees(seen) => {
+            Shown::Tells(answer) => {
                 view.looking = None;
-                told(seen)
+                told(answer)
             }
         }
     }
@@ -91,7 +143,29 @@ impl<L: Device, J: Device, A: Allocator + Copy> Client<L, J, A> {
         ensures given { IfSome self.old.view
             (λ v. IfSome v.looking (λ l. IfOk result
             (λ look. Given self.old v l (option_copied block.entry) look self.new))) }
-        // A block that is absent or has another digest is told without memory.
+        // A block that breaks the rule on blocks is told without memory.
+        ensures told { IfSome self.old.view
+            (λ v. IfSome v.looking (λ l. block_breaks (held self.old.blocks) l.asked (option_copied block.entry)
+            ≡ Some Rule.Block → IsOk result)) }
+        ensures only_memory { IfErr result (λ e. e ≡ ClientError.Memory) }
+        ensures err { OnErr result (self.new ≡ self.old) }
+        // What it waits for then, and what stays. A block that was lacking is one more that is held.
+        ensures stands { IfOk result (λ look. LookStandsAfter self.old look self.new) }
+        ensures only { OnOk result (OnlyLooks self.old self.new) }
+        ensures more { IfSome self.old.view
+            (λ v. IfSome v.looking (λ l. IsLacking self.old l.asked
+            → IfOk result (λ look. LookHoldsOneMore self.old look self.new))) }
+    {
+        self.take_given(block)
+    }
+
+    /// Takes the block that the look asks for, or its absence. Only want of memory is an error.
+    fn take_given(&mut self, block: Option<&[u8]>) -> Result<Look<A>, ClientError>
+        requires { IsSomeAnd self.old.view (λ v. IsSome v.looking) }
+        ensures given { IfSome self.old.view
+            (λ v. IfSome v.looking (λ l. IfOk result
+            (λ look. Given self.old v l (option_copied block.entry) look self.new))) }
+        // A block that breaks the rule on blocks is told without memory.
         ensures told { IfSome self.old.view
             (λ v. IfSome v.looking (λ l. block_breaks (held self.old.blocks) l.asked (option_copied block.entry)
             ≡ Some Rule.Block → IsOk result)) }
@@ -115,14 +189,13 @@ impl<L: Device, J: Device, A: Allocator + Copy> Client<L, J, A> {
             &self.pinned,
             view.good.table(),
             view.good.lists(),
-            looking.principal,
-            looking.i_number,
+            looking.question,
             &self.blocks,
             digest,
             text,
         )?;
         match keep(self.alloc, &mut self.blocks, digest, text) {
-            Ok(()) => Ok(self.answer(looking.principal, looking.i_number, shown)),
+            Ok(()) => Ok(self.answer(looking.question, shown)),
             Err(_) => {
                 let_go(shown);
                 Err(ClientError::Memory)

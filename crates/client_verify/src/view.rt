@@ -1,6 +1,7 @@
 //! What a client keeps of replies: one under check, one that was accepted, and the view that was signed.
 
-use layout::{Digest, INumber, Principal};
+use client_tree::Question;
+use layout::Digest;
 use pending_list::Signed;
 use reply_check::{Admitted, Asked, Good};
 use std::alloc::Allocator;
@@ -89,11 +90,10 @@ impl<A: Allocator> Model for Ready<A> {
     } };
 }
 
-/// A look that is under way: at what, and the block that is asked for.
+/// A look that is under way: the question, and the block that is asked for.
 #[derive(Clone, Copy, Debug)]
 pub(crate) struct Looking {
-    pub(crate) principal: Principal,
-    pub(crate) i_number: INumber,
+    pub(crate) question: Question,
     pub(crate) asked: Asked,
 }
 

@@ -1,81 +1,97 @@
 //! What a line of a script says.
 
 use crate::task::{Task, tasks_of};
-use crate::words::{Unread, i_number_of, principal_of, user_of};
-use layout::{INumber, Principal, User};
+use crate::words::{ServerName, Unread, i_number, next, number, principal, server, user};
+use hostile_server::Edit;
+use layout::{INumber, Principal, User, let_go};
 use std::alloc::Allocator;
+use std::str::Split;
 
-/// A command of a script. The server is `a`.
+/// A command of a script.
 #[derive(Drop)]
 pub(crate) enum Command<A: Allocator> {
     /// `begin U` or `begin U CHANGES`: the contents are laid out and stored, and the user declares an operation.
     Begin(User, Vec<Task<A>, A>),
-    /// `update U a`: the certificate is sent, the reply handed in with its blocks and, where it is accepted, the
-    /// structure signed.
-    Update(User),
-    /// `commit U a`: the structure is sent.
-    Commit(User),
+    /// `update U X` or `update U X EDIT`: the certificate is sent, the reply edited and handed in with its blocks and,
+    /// where it is accepted, the structure signed.
+    Update(User, ServerName, Option<Edit>),
+    /// `commit U X`: the structure is sent.
+    Commit(User, ServerName),
     /// `restart U`: the client crashes, nothing unsynced is kept, and it is opened again.
     Restart(User),
     /// `show U P I`: what stands there in the user's view.
     Show(User, Principal, INumber),
-}
-
-impl<A: Allocator> Command<A> {
-    /// Whose client it is for.
-    pub(crate) fn user(&self) -> User {
-        match self {
-            Command::Begin(user, _) => *user,
-            Command::Update(user) | Command::Commit(user) | Command::Restart(user) => *user,
-            Command::Show(user, _, _) => *user,
-        }
-    }
-}
-
-fn user(word: &str) -> Result<User, Unread> {
-    match user_of(word) {
-        Some(user) => Ok(user),
-        None => Err(Unread::NoCommand),
-    }
+    /// `fork X Y`: Y becomes a copy of X.
+    Fork(ServerName, ServerName),
+    /// `invent X V W`: in X the plan of what V has pending gains an entry of W's committed operation.
+    Invent(ServerName, User, User),
+    /// `force X V`: X lists V's last signed structure, unchecked, and drops what V has pending.
+    Force(ServerName, User),
 }
 
 /// `U` or `U CHANGES`.
 fn begin_of<A: Allocator + Copy>(alloc: A, rest: &str) -> Result<Command<A>, Unread> {
-    match rest.split_once(' ') {
-        None => Ok(Command::Begin(user(rest)?, Vec::new(alloc))),
-        Some((word, changes)) => {
-            let user = user(word)?;
-            Ok(Command::Begin(user, tasks_of(alloc, changes)?))
-        }
-    }
+    let (word, changes) = match rest.split_once(' ') {
+        Some((word, changes)) => (word, Some(changes)),
+        None => (rest, None),
+    };
+    let user = user(&mut word.split(' '))?;
+    let tasks = match changes {
+        Some(changes) => tasks_of(alloc, changes)?,
+        None => Vec::new(alloc),
+    };
+    Ok(Command::Begin(user, tasks))
 }
 
-/// `U a`: the user.
-fn at_server(rest: &str) -> Result<User, Unread> {
-    match rest.split_once(' ') {
-        Some((word, "a")) => user(word),
+/// What is made of a reply, by this verb.
+fn edit_of(verb: &str, words: &mut Split<'_, char>) -> Result<Edit, Unread> {
+    match verb {
+        "drop" => Ok(Edit::DropStructure(user(words)?)),
+        "old" => {
+            let user = user(words)?;
+            Ok(Edit::OldStructure(user, number(words)?))
+        }
+        "hide" => Ok(Edit::HideItem(user(words)?)),
+        "cut" => Ok(Edit::Cut(number(words)?)),
+        "flip" => Ok(Edit::Flip(number(words)?)),
         _ => Err(Unread::NoCommand),
     }
 }
 
-/// `U P I`.
-fn show_of<A: Allocator>(rest: &str) -> Result<Command<A>, Unread> {
-    let Some((word, place)) = rest.split_once(' ') else {
-        return Err(Unread::NoCommand);
+/// `U X` or `U X EDIT`.
+fn update_of<A: Allocator>(words: &mut Split<'_, char>) -> Result<Command<A>, Unread> {
+    let user = user(words)?;
+    let server = server(words)?;
+    let edit = match words.next() {
+        Some(verb) => Some(edit_of(verb, words)?),
+        None => None,
     };
-    let Some((principal, i_number)) = place.split_once(' ') else {
-        return Err(Unread::NoCommand);
-    };
-    match (
-        user_of(word),
-        principal_of(principal),
-        i_number_of(i_number),
-    ) {
-        (Some(user), Some(principal), Some(i_number)) => {
-            Ok(Command::Show(user, principal, i_number))
-        }
+    Ok(Command::Update(user, server, edit))
+}
+
+/// The command of this name, up to its last word.
+fn command_in<A: Allocator>(name: &str, words: &mut Split<'_, char>) -> Result<Command<A>, Unread> {
+    match name {
+        "update" => update_of(words),
+        "commit" => Ok(Command::Commit(user(words)?, server(words)?)),
+        "restart" => Ok(Command::Restart(user(words)?)),
+        "show" => Ok(Command::Show(user(words)?, principal(words)?, i_number(words)?)),
+        "fork" => Ok(Command::Fork(server(words)?, server(words)?)),
+        "invent" => Ok(Command::Invent(server(words)?, user(words)?, user(words)?)),
+        "force" => Ok(Command::Force(server(words)?, user(words)?)),
         _ => Err(Unread::NoCommand),
     }
+}
+
+/// The command of this name and these words, of which none is left.
+fn whole_command<A: Allocator>(name: &str, rest: &str) -> Result<Command<A>, Unread> {
+    let mut words = rest.split(' ');
+    let command = command_in(name, &mut words)?;
+    if words.next().is_some() {
+        let_go(command);
+        return Err(Unread::NoCommand);
+    }
+    Ok(command)
 }
 
 /// The command of a line, whose words are parted by one blank.
@@ -83,12 +99,9 @@ pub(crate) fn command_of<A: Allocator + Copy>(alloc: A, line: &str) -> Result<Co
     let Some((name, rest)) = line.split_once(' ') else {
         return Err(Unread::NoCommand);
     };
-    match name {
-        "begin" => begin_of(alloc, rest),
-        "update" => Ok(Command::Update(at_server(rest)?)),
-        "commit" => Ok(Command::Commit(at_server(rest)?)),
-        "restart" => Ok(Command::Restart(user(rest)?)),
-        "show" => show_of(rest),
-        _ => Err(Unread::NoCommand),
+    if name == "begin" {
+        begin_of(alloc, rest)
+    } else {
+        whole_command(name, rest)
     }
 }

@@ -2,7 +2,6 @@
 
 use crate::players::Players;
 use crate::task::{TableTask, Task, TaskAction};
-use client_tree::Held;
 use directory::Directory;
 use itable::{Inode, Laid, LayError, lay_file};
 use layout::{Digest, Memory, Text, digest};
@@ -14,18 +13,6 @@ use update_cert::{Action, Change, TableChange};
 pub(crate) struct Work<A: Allocator> {
     pub(crate) changes: Vec<Change<A>, A>,
     pub(crate) laid: Vec<Vec<u8, A>, A>,
-}
-
-/// Stores a copy of each of these texts.
-pub(crate) fn store<A: Allocator + Copy>(
-    alloc: A,
-    blocks: &mut Held<A>,
-    texts: &[Vec<u8, A>],
-) -> Result<(), Memory> {
-    for text in texts {
-        let _digest = blocks.keep(Vec::from_slice(alloc, text)?)?;
-    }
-    Ok(())
 }
 
 /// Lays a file out, and gives the digest of its i-node.

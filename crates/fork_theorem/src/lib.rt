@@ -1,6 +1,7 @@
-//! Scripts of clients and a server in one process: each line is a command, and prints one line. It has no theorem yet.
+//! Scripts of clients and servers in one process: each line is a command, and prints one line. It has no theorem yet.
 #![tactic(auto)]
 
+mod blocks;
 mod command;
 mod laying;
 mod operation;

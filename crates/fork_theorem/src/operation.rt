@@ -2,15 +2,16 @@
 
 ghost use Rattle.std.specs.Prelude.{◌≡◌, IsSome};
 
-use crate::laying::{Work, store};
+use crate::blocks::StoredBlocks;
+use crate::laying::Work;
 use crate::outcome::Outcome;
-use crate::server::{Server, exchange};
-use client_tree::Held;
+use crate::server::exchange;
 use client_verify::{Client, ClientError, Look, Phase, Step, are_laid};
-use layout::{INumber, Memory, Principal, User, put_in};
+use hostile_server::{Edit, Hostile};
+use layout::{INumber, Memory, Principal, User, let_go, put_in};
 use leaf_ledger::Device;
 use std::alloc::Allocator;
-use tree_parts::Blocks;
+use std::sync::Wait;
 use update_cert::MOST_CHANGES;
 use wire::{RequestKind, Status};
 
@@ -27,9 +28,9 @@ fn stopped<A: Allocator>(user: User, error: ClientError) -> Result<Outcome<A>, M
 }
 
 /// Stores what was laid out, and declares the operation.
-fn declare<L: Device, J: Device, A: Allocator + Copy>(
+fn declare<R: Wait, L: Device, J: Device, A: Allocator + Copy>(
     alloc: A,
-    blocks: &mut Held<A>,
+    blocks: &StoredBlocks<'_, R, A>,
     client: &mut Client<L, J, A>,
     work: Work<A>,
 ) -> Result<Outcome<A>, Memory>
@@ -37,10 +38,12 @@ fn declare<L: Device, J: Device, A: Allocator + Copy>(
 {
     let user = client.user();
     let Work { changes, laid } = work;
-    if changes.len() > MOST_CHANGES || !are_laid(alloc, &laid, &changes)? {
+    if changes.len() > MOST_CHANGES
+        || !are_laid(alloc, &laid, &changes)?
+        || !blocks.put_all(&laid)?
+    {
         return Ok(Outcome::Error);
     }
-    store(alloc, blocks, &laid)?;
     match client.begin(&changes, &laid) {
         Ok(_) => Ok(Outcome::Begun(user, client.number())),
         Err(error) => stopped(user, error),
@@ -48,9 +51,9 @@ fn declare<L: Device, J: Device, A: Allocator + Copy>(
 }
 
 /// Stores what was laid out, and declares the operation, where the client has none.
-pub(crate) fn begin<L: Device, J: Device, A: Allocator + Copy>(
+pub(crate) fn begin<R: Wait, L: Device, J: Device, A: Allocator + Copy>(
     alloc: A,
-    blocks: &mut Held<A>,
+    blocks: &StoredBlocks<'_, R, A>,
     client: &mut Client<L, J, A>,
     work: Work<A>,
 ) -> Result<Outcome<A>, Memory> {
@@ -60,10 +63,10 @@ pub(crate) fn begin<L: Device, J: Device, A: Allocator + Copy>(
     }
 }
 
-/// Hands a reply in, and each block that it asks for: what the client comes to in the end. A client asks for no block
-/// twice, unless texts collide, so that the bound is never met.
-fn judged<L: Device, J: Device, A: Allocator + Copy>(
-    blocks: &Held<A>,
+/// Hands a reply in, and each block that it asks for: what the client comes to in the end. Each block that is taken is
+/// one more that is held, so that the bound is never met.
+fn judged<R: Wait, L: Device, J: Device, A: Allocator + Copy>(
+    blocks: &StoredBlocks<'_, R, A>,
     client: &mut Client<L, J, A>,
     reply: &[u8],
 ) -> Result<Step<A>, ClientError>
@@ -84,17 +87,19 @@ fn judged<L: Device, J: Device, A: Allocator + Copy>(
     Ok(step)
 }
 
-/// Signs what was accepted.
+/// Signs what was accepted. The structure's text is put into `last`.
 fn signed<L: Device, J: Device, A: Allocator + Copy>(
     alloc: A,
     client: &mut Client<L, J, A>,
+    last: &mut Vec<u8, A>,
 ) -> Result<Outcome<A>, Memory> {
     let user = client.user();
     if !client.ready() {
         return Ok(Outcome::Error);
     }
-    if let Err(error) = client.sign() {
-        return stopped(user, error);
+    match client.sign() {
+        Ok(text) => *last = text,
+        Err(error) => return stopped(user, error),
     }
     if !client.has_view() {
         return Ok(Outcome::Error);
@@ -104,10 +109,11 @@ fn signed<L: Device, J: Device, A: Allocator + Copy>(
 }
 
 /// Hands the reply in with its blocks and, where it is accepted, stores the new texts and signs.
-fn accept<L: Device, J: Device, A: Allocator + Copy>(
+fn accept<R: Wait, L: Device, J: Device, A: Allocator + Copy>(
     alloc: A,
-    blocks: &mut Held<A>,
+    blocks: &StoredBlocks<'_, R, A>,
     client: &mut Client<L, J, A>,
+    last: &mut Vec<u8, A>,
     reply: &[u8],
 ) -> Result<Outcome<A>, Memory>
     requires { client.old.phase ≡ Phase.Declared }
@@ -117,19 +123,39 @@ fn accept<L: Device, J: Device, A: Allocator + Copy>(
         Ok(Step::Broken(rule)) => Ok(Outcome::Broken(user, rule)),
         Ok(Step::Need(_)) => Ok(Outcome::Error),
         Ok(Step::Store(texts)) => {
-            store(alloc, blocks, &texts)?;
-            signed(alloc, client)
+            let is_stored = blocks.put_all(&texts);
+            let_go(texts);
+            if is_stored? {
+                signed(alloc, client, last)
+            } else {
+                Ok(Outcome::Error)
+            }
         }
         Err(error) => stopped(user, error),
     }
 }
 
-/// Sends the declared certificate, and takes the reply.
-pub(crate) fn update<L: Device, J: Device, A: Allocator + Copy>(
+/// The reply after an edit, if there is one.
+fn edited<A: Allocator + Copy>(
+    server: &Hostile<A>,
+    reply: Vec<u8, A>,
+    edit: Option<Edit>,
+) -> Result<Vec<u8, A>, Memory> {
+    match edit {
+        Some(edit) => server.edit(reply, edit),
+        None => Ok(reply),
+    }
+}
+
+/// Sends the declared certificate, and takes the reply after this edit of it. Where it is accepted, the text of the
+/// signed structure is put into `last`.
+pub(crate) fn update<R: Wait, L: Device, J: Device, A: Allocator + Copy>(
     alloc: A,
-    server: &mut Server<A>,
-    blocks: &mut Held<A>,
+    server: &mut Hostile<A>,
+    edit: Option<Edit>,
+    blocks: &StoredBlocks<'_, R, A>,
     client: &mut Client<L, J, A>,
+    last: &mut Vec<u8, A>,
 ) -> Result<Outcome<A>, Memory> {
     let user = client.user();
     if client.phase() != Phase::Declared {
@@ -139,13 +165,14 @@ pub(crate) fn update<L: Device, J: Device, A: Allocator + Copy>(
     if status != Status::Ok {
         return Ok(Outcome::Declined(user, status));
     }
-    accept(alloc, blocks, client, &reply)
+    let reply = edited(server, reply, edit)?;
+    accept(alloc, blocks, client, last, &reply)
 }
 
 /// Sends the signed structure, and takes the status.
 pub(crate) fn commit<L: Device, J: Device, A: Allocator + Copy>(
     alloc: A,
-    server: &mut Server<A>,
+    server: &mut Hostile<A>,
     client: &mut Client<L, J, A>,
 ) -> Result<Outcome<A>, Memory> {
     let user = client.user();
@@ -162,8 +189,8 @@ pub(crate) fn commit<L: Device, J: Device, A: Allocator + Copy>(
 }
 
 /// Looks at an i-number, and hands in each block that the look asks for.
-fn looked<L: Device, J: Device, A: Allocator + Copy>(
-    blocks: &Held<A>,
+fn looked<R: Wait, L: Device, J: Device, A: Allocator + Copy>(
+    blocks: &StoredBlocks<'_, R, A>,
     client: &mut Client<L, J, A>,
     principal: Principal,
     i_number: INumber,
@@ -186,8 +213,8 @@ fn looked<L: Device, J: Device, A: Allocator + Copy>(
 }
 
 /// What stands at an i-number in the client's view.
-pub(crate) fn show<L: Device, J: Device, A: Allocator + Copy>(
-    blocks: &Held<A>,
+pub(crate) fn show<R: Wait, L: Device, J: Device, A: Allocator + Copy>(
+    blocks: &StoredBlocks<'_, R, A>,
     client: &mut Client<L, J, A>,
     principal: Principal,
     i_number: INumber,
@@ -201,7 +228,7 @@ pub(crate) fn show<L: Device, J: Device, A: Allocator + Copy>(
         Ok(Look::Dir(directory)) => Ok(Outcome::Directory(user, directory)),
         Ok(Look::None) => Ok(Outcome::Nothing(user)),
         Ok(Look::Broken(rule)) => Ok(Outcome::Broken(user, rule)),
-        Ok(Look::Need(_)) => Ok(Outcome::Error),
+        Ok(Look::Need(_) | Look::Kind(_) | Look::Free(_)) => Ok(Outcome::Error),
         Err(error) => stopped(user, error),
     }
 }

@@ -47,6 +47,12 @@ pub(crate) enum Outcome<A: Allocator> {
     Directory(User, Directory<A>),
     /// Nothing stands there.
     Nothing(User),
+    /// A server became a copy of another.
+    Forked,
+    /// A plan of the server gained an entry.
+    Invented,
+    /// The server listed a structure.
+    Forced,
 }
 
 /// ` lost` and the numbers, where there are any.
@@ -128,6 +134,9 @@ impl<A: Allocator> Outcome<A> {
                 write_entries(directory, writer)
             }
             Outcome::Nothing(user) => write_words(user, "none", writer),
+            Outcome::Forked => writer.write_all(b"fork"),
+            Outcome::Invented => writer.write_all(b"invent"),
+            Outcome::Forced => writer.write_all(b"force"),
         }
     }
 

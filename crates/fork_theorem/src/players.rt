@@ -8,11 +8,13 @@ use leaf_ledger::MemoryDevice;
 use lms_sign::{PrivateKey, PublicKey};
 use std::alloc::Allocator;
 
-/// A client whose devices are in memory, and its first key.
+/// A client whose devices are in memory, its first key, and what it signed last.
 #[derive(Drop)]
 pub(crate) struct Player<A: Allocator + Copy> {
     pub(crate) client: Client<MemoryDevice<A>, MemoryDevice<A>, A>,
     key: PublicKey,
+    /// The text of its last signed structure: no bytes before the first.
+    pub(crate) last: Vec<u8, A>,
 }
 
 /// The clients that were named so far.
@@ -41,13 +43,14 @@ fn crashed<A: Allocator + Copy>(
     }
 }
 
-/// A client of a user over these devices. A device in memory fails by want of memory alone, and what stands on these is
-/// the user's own: so nothing else refuses it.
+/// A client of a user over these devices, whose last signed structure this is. A device in memory fails by want of
+/// memory alone, and what stands on these is the user's own: so nothing else refuses it.
 fn open<A: Allocator + Copy>(
     alloc: A,
     user: User,
     pinned: PublicKey,
     parts: Parts<MemoryDevice<A>, MemoryDevice<A>, A>,
+    last: Vec<u8, A>,
 ) -> Result<Player<A>, Memory> {
     let Parts {
         key,
@@ -59,6 +62,7 @@ fn open<A: Allocator + Copy>(
         Ok(client) => Ok(Player {
             client,
             key: public,
+            last,
         }),
         Err((_, parts)) => {
             let_go(parts);
@@ -81,7 +85,7 @@ fn first_open<A: Allocator + Copy>(
         ledger,
         journal,
     };
-    open(alloc, user, pinned, parts)
+    open(alloc, user, pinned, parts, Vec::new(alloc))
 }
 
 /// Where the client of a user stands in the list, if it was named.
@@ -133,7 +137,11 @@ impl<A: Allocator + Copy> Players<A> {
     /// out the client is gone, and the script ends.
     pub(crate) fn restart(&mut self, user: User) -> Result<Phase, Memory> {
         let place = self.place_of(user)?;
-        let Player { client, key: _ } = self.list.remove(place);
+        let Player {
+            client,
+            key: _,
+            last,
+        } = self.list.remove(place);
         let Parts {
             key,
             ledger,
@@ -146,10 +154,18 @@ impl<A: Allocator + Copy> Players<A> {
             ledger,
             journal,
         };
-        let player = open(self.alloc, user, self.pinned, parts)?;
+        let player = open(self.alloc, user, self.pinned, parts, last)?;
         let phase = player.client.phase();
         self.list.push(player)?;
         Ok(phase)
+    }
+
+    /// The text of the structure that the client of a user signed last: no bytes where it signed none.
+    pub(crate) fn last_signed(&self, user: User) -> &[u8] {
+        match named_at(&self.list, user) {
+            Some(place) => &self.list[place].last,
+            None => &[],
+        }
     }
 
     /// The first key of a user's client.

@@ -7,6 +7,7 @@ use crate::world::World;
 use layout::{Memory, let_go};
 use std::alloc::{AllocError, Allocator};
 use std::io::{self, BufRead, Write};
+use std::sync::Wait;
 use thiserror::Error;
 
 /// Why a script could not be run to its end. The lines before stand.
@@ -41,9 +42,9 @@ fn without_end(line: &[u8]) -> &[u8] {
 }
 
 /// What a line comes to; nothing where it is empty or a comment.
-fn outcome_of<A: Allocator + Copy>(
+fn outcome_of<R: Wait, A: Allocator + Copy>(
     alloc: A,
-    world: &mut World<A>,
+    world: &mut World<'_, R, A>,
     line: &[u8],
 ) -> Result<Option<Outcome<A>>, Memory> {
     if line.is_empty() || line.starts_with(b"#".as_slice()) {
@@ -60,11 +61,11 @@ fn outcome_of<A: Allocator + Copy>(
 }
 
 /// Runs the script that the reader gives in this world, and writes a line for each command.
-fn play_in<A: Allocator + Copy, R: BufRead, W: Write>(
+fn play_in<R: Wait, A: Allocator + Copy, I: BufRead, O: Write>(
     alloc: A,
-    world: &mut World<A>,
-    reader: &mut R,
-    writer: &mut W,
+    world: &mut World<'_, R, A>,
+    reader: &mut I,
+    writer: &mut O,
 ) -> Result<(), PlayError> {
     let mut line = Vec::new(alloc);
     for _ in 0..u64::MAX {
@@ -93,13 +94,14 @@ fn write_line<A: Allocator, W: Write>(
 }
 
 /// Runs the script that the reader gives, and writes a line for each command. Lines that are empty or begin with `#`
-/// are skipped.
-pub fn play<A: Allocator + Copy, R: BufRead, W: Write>(
+/// are skipped. It waits for the lock of the stored blocks, which nobody else has.
+pub fn play<R: Wait, A: Allocator + Copy, I: BufRead, O: Write>(
+    rt: &R,
     alloc: A,
-    reader: &mut R,
-    writer: &mut W,
+    reader: &mut I,
+    writer: &mut O,
 ) -> Result<(), PlayError> {
-    let mut world = World::new(alloc)?;
+    let mut world = World::new(rt, alloc)?;
     let played = play_in(alloc, &mut world, reader, writer);
     let_go(world);
     played

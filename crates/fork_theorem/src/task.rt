@@ -1,8 +1,9 @@
 //! What a script has a user do.
 
-ghost use Rattle.std.specs.Prelude.{◌≡◌, ◌≤◌, IfOk, length};
+ghost use Rattle.std.specs.Prelude.{◌≡◌, ◌≤◌, IfOk, length, true};
+ghost use Rattle.directory.specs.Name.{is_name};
 
-use crate::words::{Unread, bytes_of, group_of, i_number_of, principal_of, user_of};
+use crate::words::{Unread, bytes_of, group, i_number, next, principal, user};
 use directory::{Entry, Name, Target, name_text};
 use layout::{Group, User, let_go};
 use std::alloc::Allocator;
@@ -46,25 +47,14 @@ pub(crate) enum Task<A: Allocator> {
     OfTable(TableTask),
 }
 
-/// The next word.
-fn next<'a>(words: &mut Split<'a, char>) -> Result<&'a str, Unread> {
-    match words.next() {
-        Some(word) => Ok(word),
-        None => Err(Unread::NoCommand),
-    }
-}
-
 /// The file or directory that the next two words name.
 fn target(words: &mut Split<'_, char>) -> Result<Target, Unread> {
-    let principal = principal_of(next(words)?);
-    let i_number = i_number_of(next(words)?);
-    match (principal, i_number) {
-        (Some(principal), Some(i_number)) => Ok(Target {
-            principal,
-            i_number,
-        }),
-        _ => Err(Unread::NoCommand),
-    }
+    let principal = principal(words)?;
+    let i_number = i_number(words)?;
+    Ok(Target {
+        principal,
+        i_number,
+    })
 }
 
 /// What is made: a file or the empty directory.
@@ -76,38 +66,47 @@ fn made<A: Allocator>(alloc: A, words: &mut Split<'_, char>) -> Result<TaskActio
     }
 }
 
-/// An entry: its name, and what it stands for.
-fn entry<A: Allocator>(alloc: A, words: &mut Split<'_, char>) -> Result<Entry<A>, Unread> {
-    let Some(name) = name_text(next(words)?.as_bytes()) else {
-        return Err(Unread::NoCommand);
-    };
-    let target = target(words)?;
-    let entry = Entry::new(alloc, name, target)?;
-    Ok(entry)
+/// The new bytes of a file.
+fn put<A: Allocator>(alloc: A, words: &mut Split<'_, char>) -> Result<TaskAction<A>, Unread> {
+    Ok(TaskAction::Put(bytes_of(alloc, next(words)?)?))
 }
 
-/// The name of an entry.
-fn name<A: Allocator>(alloc: A, words: &mut Split<'_, char>) -> Result<Name<A>, Unread> {
-    let Some(text) = name_text(next(words)?.as_bytes()) else {
-        return Err(Unread::NoCommand);
-    };
-    let name = Name::new(alloc, text)?;
-    Ok(name)
-}
-
-/// The user that the next word names.
-fn user(words: &mut Split<'_, char>) -> Result<User, Unread> {
-    match user_of(next(words)?) {
-        Some(user) => Ok(user),
+/// The name that the next word is.
+fn name<'a>(words: &mut Split<'a, char>) -> Result<&'a str, Unread>
+    ensures { IfOk result (λ name. is_name name.now ≡ true) }
+{
+    match name_text(next(words)?.as_bytes()) {
+        Some(text) => Ok(text),
         None => Err(Unread::NoCommand),
     }
 }
 
-/// The group that the next word names.
-fn group(words: &mut Split<'_, char>) -> Result<Group, Unread> {
-    match group_of(next(words)?) {
-        Some(group) => Ok(group),
-        None => Err(Unread::NoCommand),
+/// A new entry: its name, and what it stands for.
+fn linked<A: Allocator>(alloc: A, words: &mut Split<'_, char>) -> Result<TaskAction<A>, Unread> {
+    let name = name(words)?;
+    let target = target(words)?;
+    Ok(TaskAction::Link(Entry::new(alloc, name, target)?))
+}
+
+/// The name of an entry that is taken out.
+fn unlinked<A: Allocator>(alloc: A, words: &mut Split<'_, char>) -> Result<TaskAction<A>, Unread> {
+    let name = name(words)?;
+    Ok(TaskAction::Unlink(Name::new(alloc, name)?))
+}
+
+/// What is done at an i-number, by this verb.
+fn action<A: Allocator>(
+    alloc: A,
+    verb: &str,
+    words: &mut Split<'_, char>,
+) -> Result<TaskAction<A>, Unread> {
+    match verb {
+        "make" => made(alloc, words),
+        "put" => put(alloc, words),
+        "remove" => Ok(TaskAction::Remove),
+        "link" => linked(alloc, words),
+        "unlink" => unlinked(alloc, words),
+        _ => Err(Unread::NoCommand),
     }
 }
 
@@ -118,26 +117,29 @@ fn task_at<A: Allocator>(
     words: &mut Split<'_, char>,
 ) -> Result<Task<A>, Unread> {
     let place = target(words)?;
-    let action = match verb {
-        "make" => made(alloc, words)?,
-        "put" => TaskAction::Put(bytes_of(alloc, next(words)?)?),
-        "remove" => TaskAction::Remove,
-        "link" => TaskAction::Link(entry(alloc, words)?),
-        "unlink" => TaskAction::Unlink(name(alloc, words)?),
-        _ => return Err(Unread::NoCommand),
-    };
-    Ok(Task::At(place, action))
+    Ok(Task::At(place, action(alloc, verb, words)?))
+}
+
+/// A group and a user.
+fn membership(words: &mut Split<'_, char>) -> Result<(Group, User), Unread> {
+    let group = group(words)?;
+    Ok((group, user(words)?))
 }
 
 /// What is done to the table of principals by this verb, if it is one of those.
 fn table_task(verb: &str, words: &mut Split<'_, char>) -> Result<Option<TableTask>, Unread> {
-    let task = match verb {
-        "adduser" => TableTask::AddUser(user(words)?),
-        "addmember" => TableTask::AddMember(group(words)?, user(words)?),
-        "dropmember" => TableTask::DropMember(group(words)?, user(words)?),
-        _ => return Ok(None),
-    };
-    Ok(Some(task))
+    match verb {
+        "adduser" => Ok(Some(TableTask::AddUser(user(words)?))),
+        "addmember" => {
+            let (group, user) = membership(words)?;
+            Ok(Some(TableTask::AddMember(group, user)))
+        }
+        "dropmember" => {
+            let (group, user) = membership(words)?;
+            Ok(Some(TableTask::DropMember(group, user)))
+        }
+        _ => Ok(None),
+    }
 }
 
 /// What a change of a script says, up to its last word.
@@ -166,16 +168,11 @@ pub(crate) fn tasks_of<A: Allocator + Copy>(
     text: &str,
 ) -> Result<Vec<Task<A>, A>, Unread> {
     let mut tasks = Vec::new(alloc);
-    for (place, part) in text.split(';').enumerate() {
-        let words = if place == 0 {
-            Some(part)
-        } else {
-            part.strip_prefix(' ')
-        };
-        match words {
-            Some(words) if place < MOST_CHANGES => tasks.push(task_of(alloc, words)?)?,
-            _ => return Err(Unread::NoCommand),
+    for part in text.split("; ") {
+        if tasks.len() == MOST_CHANGES {
+            return Err(Unread::NoCommand);
         }
+        tasks.push(task_of(alloc, part)?)?;
     }
     Ok(tasks)
 }

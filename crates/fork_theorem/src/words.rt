@@ -4,6 +4,24 @@ use directory::name_text;
 use itable::FILE_SIZE;
 use layout::{Group, INumber, Memory, Principal, User};
 use std::alloc::{AllocError, AllocFailed, Allocator};
+use std::str::Split;
+
+/// The name of a server: a small letter.
+#[derive(Clone, Copy, PartialEq, Eq)]
+pub(crate) struct ServerName(u8);
+
+impl ServerName {
+    /// The server that is there at the beginning.
+    pub(crate) const FIRST: ServerName = ServerName(b'a');
+
+    /// The name that a word is, if it is one.
+    fn of(word: &str) -> Option<ServerName> {
+        match word.as_bytes() {
+            [letter] if letter.is_ascii_lowercase() => Some(ServerName(*letter)),
+            _ => None,
+        }
+    }
+}
 
 /// Why a line isn't read as a command.
 #[derive(Debug, Drop)]
@@ -32,12 +50,25 @@ impl From<Memory> for Unread {
     }
 }
 
-/// A number in ASCII digits, of which any may be leading zeros, with no sign.
+/// Whether a word is a number: ASCII digits, of which any may be leading zeros, with no sign.
+fn is_number(word: &str) -> bool {
+    !word.is_empty() && word.bytes().all(|byte| byte.is_ascii_digit())
+}
+
+/// A number that is at most 65,535.
 fn number_of(word: &str) -> Option<u16> {
-    if word.is_empty() || !word.bytes().all(|byte| byte.is_ascii_digit()) {
+    if !is_number(word) {
         return None;
     }
     word.parse().ok()
+}
+
+/// A number of any size: one that is greater than all that can be counted stands for the greatest.
+fn any_number_of(word: &str) -> Option<u64> {
+    if !is_number(word) {
+        return None;
+    }
+    Some(word.parse().unwrap_or(u64::MAX))
 }
 
 /// A number that is at most 255.
@@ -45,19 +76,19 @@ fn byte_of(word: &str) -> Option<u8> {
     u8::try_from(number_of(word)?).ok()
 }
 
-pub(crate) fn user_of(word: &str) -> Option<User> {
+fn user_of(word: &str) -> Option<User> {
     User::new(byte_of(word)?)
 }
 
-pub(crate) fn group_of(word: &str) -> Option<Group> {
+fn group_of(word: &str) -> Option<Group> {
     Group::new(byte_of(word)?)
 }
 
-pub(crate) fn principal_of(word: &str) -> Option<Principal> {
+fn principal_of(word: &str) -> Option<Principal> {
     Principal::new(byte_of(word)?)
 }
 
-pub(crate) fn i_number_of(word: &str) -> Option<INumber> {
+fn i_number_of(word: &str) -> Option<INumber> {
     INumber::new(number_of(word)?)
 }
 
@@ -80,4 +111,52 @@ pub(crate) fn bytes_of<A: Allocator>(alloc: A, word: &str) -> Result<Vec<u8, A>,
     }
     let bytes = Vec::from_slice(alloc, word.as_bytes())?;
     Ok(bytes)
+}
+
+// ---- the words of a line in turn
+
+/// The next word.
+pub(crate) fn next<'a>(words: &mut Split<'a, char>) -> Result<&'a str, Unread> {
+    match words.next() {
+        Some(word) => Ok(word),
+        None => Err(Unread::NoCommand),
+    }
+}
+
+/// What a word stands for, if it stands for anything.
+fn known<T>(value: Option<T>) -> Result<T, Unread> {
+    match value {
+        Some(value) => Ok(value),
+        None => Err(Unread::NoCommand),
+    }
+}
+
+/// The user that the next word names.
+pub(crate) fn user(words: &mut Split<'_, char>) -> Result<User, Unread> {
+    known(user_of(next(words)?))
+}
+
+/// The group that the next word names.
+pub(crate) fn group(words: &mut Split<'_, char>) -> Result<Group, Unread> {
+    known(group_of(next(words)?))
+}
+
+/// The principal that the next word names.
+pub(crate) fn principal(words: &mut Split<'_, char>) -> Result<Principal, Unread> {
+    known(principal_of(next(words)?))
+}
+
+/// The i-number that the next word is.
+pub(crate) fn i_number(words: &mut Split<'_, char>) -> Result<INumber, Unread> {
+    known(i_number_of(next(words)?))
+}
+
+/// The number that the next word is, of any size.
+pub(crate) fn number(words: &mut Split<'_, char>) -> Result<u64, Unread> {
+    known(any_number_of(next(words)?))
+}
+
+/// The server that the next word names.
+pub(crate) fn server(words: &mut Split<'_, char>) -> Result<ServerName, Unread> {
+    known(ServerName::of(next(words)?))
 }

@@ -1,37 +1,41 @@
-//! The clients of a script, its server, and the blocks that are stored.
+//! The clients of a script, its servers, and the blocks that are stored.
 
+use crate::blocks::StoredBlocks;
 use crate::command::Command;
 use crate::laying::work_of;
 use crate::operation::{begin, commit, restarted, show, update};
 use crate::outcome::Outcome;
 use crate::players::Players;
-use crate::server::Server;
+use crate::server::Servers;
 use crate::task::Task;
-use client_tree::Held;
+use crate::words::ServerName;
 use client_verify::Phase;
+use hostile_server::Edit;
 use itable::LayError;
-use layout::{Memory, User};
+use layout::{INumber, Memory, Principal, User, beside};
 use std::alloc::Allocator;
+use std::sync::Wait;
 
-/// The clients that were named so far, the server, and the stored blocks.
+/// The clients that were named so far, the servers, and the stored blocks, which all of them share.
 #[derive(Drop)]
-pub(crate) struct World<A: Allocator + Copy> {
+pub(crate) struct World<'a, R: Wait, A: Allocator + Copy> {
     alloc: A,
     players: Players<A>,
-    server: Server<A>,
-    blocks: Held<A>,
+    servers: Servers<A>,
+    blocks: StoredBlocks<'a, R, A>,
 }
 
-impl<A: Allocator + Copy> World<A> {
+impl<'a, R: Wait, A: Allocator + Copy> World<'a, R, A> {
     /// A server at the beginning, and client 0.
-    pub(crate) fn new(alloc: A) -> Result<World<A>, Memory> {
-        let players = Players::new(alloc)?;
-        let server = Server::new(alloc, players.pinned())?;
+    pub(crate) fn new(rt: &'a R, alloc: A) -> Result<World<'a, R, A>, Memory> {
+        let (blocks, players) = beside(StoredBlocks::new(rt, alloc)?, Players::new(alloc))?;
+        let servers = Servers::new(alloc, players.pinned());
+        let ((blocks, players), servers) = beside((blocks, players), servers)?;
         Ok(World {
             alloc,
             players,
-            server,
-            blocks: Held::empty(alloc),
+            servers,
+            blocks,
         })
     }
 
@@ -49,21 +53,107 @@ impl<A: Allocator + Copy> World<A> {
         };
         let place = self.players.place_of(user)?;
         let client = &mut self.players.list[place].client;
-        begin(self.alloc, &mut self.blocks, client, work)
+        begin(self.alloc, &self.blocks, client, work)
+    }
+
+    /// Sends the user's certificate to the server, and hands in its reply after this edit.
+    fn update(
+        &mut self,
+        user: User,
+        server: ServerName,
+        edit: Option<Edit>,
+    ) -> Result<Outcome<A>, Memory> {
+        let Some(at) = self.servers.place_of(server) else {
+            return Ok(Outcome::Error);
+        };
+        let place = self.players.place_of(user)?;
+        let player = &mut self.players.list[place];
+        let server = &mut self.servers.list[at].server;
+        update(
+            self.alloc,
+            server,
+            edit,
+            &self.blocks,
+            &mut player.client,
+            &mut player.last,
+        )
+    }
+
+    /// Sends the user's structure to the server.
+    fn commit(&mut self, user: User, server: ServerName) -> Result<Outcome<A>, Memory> {
+        let Some(at) = self.servers.place_of(server) else {
+            return Ok(Outcome::Error);
+        };
+        let place = self.players.place_of(user)?;
+        let client = &mut self.players.list[place].client;
+        commit(self.alloc, &mut self.servers.list[at].server, client)
+    }
+
+    /// What stands at an i-number in the user's view.
+    fn show(
+        &mut self,
+        user: User,
+        principal: Principal,
+        i_number: INumber,
+    ) -> Result<Outcome<A>, Memory> {
+        let place = self.players.place_of(user)?;
+        let client = &mut self.players.list[place].client;
+        show(&self.blocks, client, principal, i_number)
+    }
+
+    /// Makes the second server a copy of the first.
+    fn fork(&mut self, from: ServerName, to: ServerName) -> Result<Outcome<A>, Memory> {
+        let is_forked = self.servers.fork(from, to)?;
+        Ok(if is_forked {
+            Outcome::Forked
+        } else {
+            Outcome::Error
+        })
+    }
+
+    /// Has the server invent an entry of another's operation in the plan of what the user has pending.
+    fn invent(
+        &mut self,
+        server: ServerName,
+        user: User,
+        other: User,
+    ) -> Result<Outcome<A>, Memory> {
+        let Some(at) = self.servers.place_of(server) else {
+            return Ok(Outcome::Error);
+        };
+        let is_invented = self.servers.list[at].server.invent(user, other)?;
+        Ok(if is_invented {
+            Outcome::Invented
+        } else {
+            Outcome::Error
+        })
+    }
+
+    /// Has the server list what the user signed last.
+    fn force(&mut self, server: ServerName, user: User) -> Result<Outcome<A>, Memory> {
+        let Some(at) = self.servers.place_of(server) else {
+            return Ok(Outcome::Error);
+        };
+        let last = self.players.last_signed(user);
+        let is_forced = self.servers.list[at].server.force(last)?;
+        Ok(if is_forced {
+            Outcome::Forced
+        } else {
+            Outcome::Error
+        })
     }
 
     /// Carries out a command.
     pub(crate) fn run(&mut self, command: Command<A>) -> Result<Outcome<A>, Memory> {
-        let place = self.players.place_of(command.user())?;
-        let client = &mut self.players.list[place].client;
         match command {
             Command::Begin(user, tasks) => self.begin(user, tasks),
-            Command::Update(_) => { update(self.alloc, &mut self.server, &mut self.blocks, client) }
-            Command::Commit(_) => commit(self.alloc, &mut self.server, client),
+            Command::Update(user, server, edit) => self.update(user, server, edit),
+            Command::Commit(user, server) => self.commit(user, server),
             Command::Restart(user) => Ok(restarted(user, self.players.restart(user)?)),
-            Command::Show(_, principal, i_number) => {
-                show(&self.blocks, client, principal, i_number)
-            }
+            Command::Show(user, principal, i_number) => self.show(user, principal, i_number),
+            Command::Fork(from, to) => self.fork(from, to),
+            Command::Invent(server, user, other) => self.invent(server, user, other),
+            Command::Force(server, user) => self.force(server, user),
         }
     }
 }

@@ -1,43 +1,74 @@
 -- The texts of a table that another one hasn't.
-use Rattle.std.proofs.Common.{◌≡◌, ℕ, ◌+◌, ◌<◌, ◌≤◌, Bool, true, false, List, [], ◌∷◌, ◌++◌, length, take, Option, Some, None, refl, sym, ap, ◌∙◌, add-one}
-use Rattle.std.specs.Prelude.{not, filter, filter_map, slice_index_or, if◌then◌else◌}
-use Rattle.std.proofs.Math.Seq.{take-suc}
-use Rattle.std.proofs.lemmas.List.{append-nil, take_all}
-use Rattle.std.proofs.lemmas.List.Elements.{filter_map-append}
-use Rattle.itable.specs.declared.root.ListedChunk.{ListedChunk}
-use Rattle.itable.specs.Root.{root}
-use Rattle.itable.specs.ITable.{ITable, is_listed, listings, new_texts, root_of, text_of_chunk}
+use Rattle.std.proofs.Common.{◌≡◌, ℕ, ◌<◌, Bool, true, false, List, [], ◌∷◌, ◌++◌, length, Option, Some, None, Ok, refl, sym, ap, ◌∙◌}
+use Rattle.std.specs.Prelude.{◌==◌, ◌&&◌, Result, filter_map, IfSome, if◌then◌else◌}
+use Rattle.std.specs.Bool.{Decides}
+use Rattle.std.specs.List.{range_with_len}
+use Rattle.std.specs.Str.{bytes_eq}
+use Rattle.std.proofs.lemmas.Bool.Decides.{Decides-and, Decides-eqb, Decides-like}
+use Rattle.std.proofs.lemmas.List.{append-nil}
+use Rattle.std.proofs.lemmas.Slice.Eq.{bytes_eq-Decides}
+use Rattle.layout.specs.Format.{whole}
+use Rattle.layout.specs.declared.error.ReadError.{ReadError}
+use Rattle.layout.specs.Types.{Principal}
+use Rattle.itable.specs.declared.chunk.Pair.{Pair}
+use Rattle.itable.specs.Chunk.{Chunk, chunk}
+use Rattle.itable.specs.ITable.{ITable, IsTable, chunk_of, is_same_text, new_chunk, new_texts, root_text, text_of_chunk, texts}
+use Rattle.itable.proofs.ChunkLaws.{chunk_reads}
 
--- the text of a chunk, if it isn't one of these
-abbrev pub new_of : List ListedChunk → ITable → ListedChunk → Option (List ℕ)
-new_of before t c = if is_listed before c then None else text_of_chunk t c.number
+abbrev done : Chunk → Result Chunk ReadError
+done x = Ok x
 
-module _ (f : ListedChunk → Option (List ℕ)) where
-  next : (cs : List ListedChunk) (k : ℕ) (c : ListedChunk) → k < length cs → c ≡ slice_index_or cs k c → filter_map f (take (k + 1) cs) ≡ filter_map f (take k cs) ++ filter_map f (c ∷ [])
-  next cs k c inside at =
-      ap (filter_map f) (rw add-one (take-suc cs k c inside ∙ ap (λ (x : ListedChunk). take k cs ++ x ∷ []) (sym at))) ∙ filter_map-append f (take k cs) (c ∷ [])
+ok_is : (x y : Chunk) → done x ≡ done y → x ≡ y
+ok_is x y e = cc
 
-  -- one text more
-  pub some_next : (cs : List ListedChunk) (k : ℕ) (c : ListedChunk) (text : List ℕ) (old new : List (List ℕ)) → k < length cs → c ≡ slice_index_or cs k c → f c ≡ Some text → new ≡ old ++ text ∷ [] → old ≡ filter_map f (take k cs) → new ≡ filter_map f (take (k + 1) cs)
-  some_next cs k c text old new inside at is grown so_far = grown ∙ rw so_far (sym (next cs k c inside at ∙ rw is refl))
+once_more : (o : Option (List ℕ)) → (if is_same_text o o then None else o) ≡ None
+once_more None = refl
+once_more (Some text) = rw ((bytes_eq-Decides text text).1 refl) refl
 
-  -- none more
-  pub none_next : (cs : List ListedChunk) (k : ℕ) (c : ListedChunk) (old : List (List ℕ)) → k < length cs → c ≡ slice_index_or cs k c → f c ≡ None → old ≡ filter_map f (take k cs) → old ≡ filter_map f (take (k + 1) cs)
-  none_next cs k c old inside at is so_far = so_far ∙ sym (next cs k c inside at ∙ rw is (append-nil (filter_map f (take k cs))))
+-- a chunk of which the other table has the same pairs
+pub none_new : (before t : ITable) (n : ℕ) → (chunk_of n before).pairs ≡ (chunk_of n t).pairs → new_chunk before t n ≡ None
+unfolding text_of_chunk
+none_new before t n same =
+    let text = λ (pairs : List Pair). if length pairs == 0 then None else Some (chunk.spell (record { number = n; pairs = pairs })) in
+    ap (λ (pairs : List Pair). if is_same_text (text pairs) (text (chunk_of n t).pairs) then None else text (chunk_of n t).pairs) same ∙ once_more (text (chunk_of n t).pairs)
 
-new_step : (t : ITable) (c : ListedChunk) (known : Bool) (kept : List (List ℕ)) (ks : List ListedChunk) → kept ≡ filter_map (λ x. text_of_chunk t x.number) ks
-    → filter_map (λ x. if known then None else text_of_chunk t x.number) (c ∷ []) ++ kept ≡ filter_map (λ x. text_of_chunk t x.number) (if not known then c ∷ ks else ks)
-new_step t c true kept ks is = is
-new_step t c false kept ks is = rw is (sym (filter_map-append (λ x. text_of_chunk t x.number) (c ∷ []) ks))
+-- and of which it has others
+pub some_new : (before t : ITable) (n : ℕ) → IsTable before → IsTable t → n < 64 → ¬ ((chunk_of n before).pairs ≡ (chunk_of n t).pairs) → new_chunk before t n ≡ text_of_chunk t n
+some_new before t n is_before is inside other = go (text_of_chunk before n) (text_of_chunk t n) (chunk_reads before n is_before inside) (chunk_reads t n is inside)
+  where
+    go : (old new : Option (List ℕ)) → IfSome old (λ text. whole chunk text ≡ Ok (chunk_of n before)) → IfSome new (λ text. whole chunk text ≡ Ok (chunk_of n t)) → (if is_same_text old new then None else new) ≡ new
+    go None new reads_old reads_new = refl
+    go (Some a) None reads_old reads_new = refl
+    go (Some a) (Some b) reads_old reads_new = by (bytes_eq a b) refl
+      where
+        by : (same : Bool) → bytes_eq a b ≡ same → (if same then None else Some b) ≡ Some b
+        by false e = refl
+        by true e =
+            let one = sym reads_old ∙ ap (whole chunk) ((bytes_eq-Decides a b).0 e) ∙ reads_new in
+            absurd (other (ap (λ (c : Chunk). c.pairs) (ok_is (chunk_of n before) (chunk_of n t) one)))
 
-new_is : (before : List ListedChunk) (t : ITable) (cs : List ListedChunk) → filter_map (new_of before t) cs ≡ filter_map (λ c. text_of_chunk t c.number) (filter (λ c. not (is_listed before c)) cs)
-new_is before t [] = refl
-new_is before t (c ∷ cs) =
-    filter_map-append (new_of before t) (c ∷ []) cs ∙ new_step t c (is_listed before c) (filter_map (new_of before t) cs) (filter (λ x. not (is_listed before x)) cs) (new_is before t cs)
+module _ (before t : ITable) where
+  -- those of the chunks, and the root where it is another one
+  pub root_new : (chunks new : List (List ℕ)) → chunks ≡ filter_map (new_chunk before t) (range_with_len 0 64) → bytes_eq (root_text t) (root_text before) ≡ false → new ≡ chunks ++ root_text t ∷ [] → new ≡ new_texts before t
+  unfolding new_texts
+  root_new chunks new so_far other grown = grown ∙ ap (λ (front : List (List ℕ)). front ++ root_text t ∷ []) so_far ∙ rw other refl
 
--- all of them, and the root
-pub all_new : (before : List ListedChunk) (t : ITable) (k : ℕ) (old new : List (List ℕ)) → length (listings t) ≤ k → old ≡ filter_map (new_of before t) (take k (listings t)) → new ≡ old ++ root.spell (root_of t) ∷ [] → new ≡ new_texts before t
-unfolding new_texts
-all_new before t k old new past so_far grown =
-    let chunks = so_far ∙ ap (filter_map (new_of before t)) (take_all k (listings t) past) ∙ new_is before t (listings t) in
-    grown ∙ ap (λ (texts : List (List ℕ)). texts ++ root.spell (root_of t) ∷ []) chunks
+  pub root_stays : (chunks : List (List ℕ)) → chunks ≡ filter_map (new_chunk before t) (range_with_len 0 64) → bytes_eq (root_text t) (root_text before) ≡ true → chunks ≡ new_texts before t
+  unfolding new_texts
+  root_stays chunks so_far same = so_far ∙ sym (append-nil (filter_map (new_chunk before t) (range_with_len 0 64))) ∙ rw same refl
+
+-- all chunks of a table are new to one that has none
+pub texts_told : (t : ITable) (p : Principal) (chunks new : List (List ℕ)) → chunks ≡ filter_map (new_chunk (record { principal = p; pairs = []; unloaded = [] }) t) (range_with_len 0 64) → new ≡ chunks ++ root_text t ∷ [] → new ≡ texts t
+unfolding texts text_of_chunk
+texts_told t p chunks new so_far grown = grown ∙ ap (λ (front : List (List ℕ)). front ++ root_text t ∷ []) so_far
+
+-- ---- pairs
+
+pair_is : (a b : Pair) → a.i_number ≡ b.i_number → a.digest ≡ b.digest → a ≡ b
+pair_is a b i d = ap (λ (n : ℕ). record { i_number = n; digest = a.digest }) i ∙ ap (λ (x : List ℕ). record { i_number = b.i_number; digest = x }) d
+
+pub pair_decides : (a b : Pair) → Decides ((a.i_number == b.i_number) && bytes_eq a.digest b.digest) (a ≡ b)
+pair_decides a b =
+    Decides-like _ (λ (both : (a.i_number ≡ b.i_number) × (a.digest ≡ b.digest)). pair_is a b both.0 both.1)
+    (λ (e : a ≡ b). (ap (λ (p : Pair). p.i_number) e, ap (λ (p : Pair). p.digest) e))
+    (Decides-and _ _ (Decides-eqb a.i_number b.i_number) (bytes_eq-Decides a.digest b.digest))

@@ -161,25 +161,30 @@ range_push a (suc n) =
     let same : a + 1 + n ≡ a + suc n = omega arith in
     ap (λ (ks : List ℕ). a ∷ ks) (range_push (a + 1) n ∙ ap (λ (k : ℕ). range_with_len (a + 1) n ++ k ∷ []) same)
 
-listed_push : (t : ITable) (n : ℕ) → filter_map (listing t) (range_with_len 0 (n + 1)) ≡ filter_map (listing t) (range_with_len 0 n) ++ cons_option (listing t n) []
-listed_push t n =
-    let more : n + 1 ≡ suc n = omega arith in
-    let at : 0 + n ≡ n = omega arith in
-    let range : range_with_len 0 (n + 1) ≡ range_with_len 0 n ++ n ∷ [] = ap (range_with_len 0) more ∙ range_push 0 n ∙ ap (λ (k : ℕ). range_with_len 0 n ++ k ∷ []) at in
-    ap (filter_map (listing t)) range ∙ filter_map-append (listing t) (range_with_len 0 n) (n ∷ [])
+module _ {X : Type 0} (f : ℕ → Option X) where
+  push : (n : ℕ) → filter_map f (range_with_len 0 (n + 1)) ≡ filter_map f (range_with_len 0 n) ++ cons_option (f n) []
+  push n =
+      let more : n + 1 ≡ suc n = omega arith in
+      let at : 0 + n ≡ n = omega arith in
+      let range : range_with_len 0 (n + 1) ≡ range_with_len 0 n ++ n ∷ [] = ap (range_with_len 0) more ∙ range_push 0 n ∙ ap (λ (k : ℕ). range_with_len 0 n ++ k ∷ []) at in
+      ap (filter_map f) range ∙ filter_map-append f (range_with_len 0 n) (n ∷ [])
 
--- one more chunk that has pairs, and one that has none
-pub one_listed : (t : ITable) (n : ℕ) (old new : List ListedChunk) (x : ListedChunk) → old ≡ filter_map (listing t) (range_with_len 0 n) → Some x ≡ listing t n → new ≡ old ++ x ∷ [] → new ≡ filter_map (listing t) (range_with_len 0 (n + 1))
-one_listed t n old new x so_far here is =
-    is ∙ ap (λ (front : List ListedChunk). front ++ x ∷ []) so_far ∙ ap (λ (o : Option ListedChunk). filter_map (listing t) (range_with_len 0 n) ++ cons_option o []) here ∙ sym (listed_push t n)
+  -- one more number that has something, and one that has nothing
+  pub one_more : (n : ℕ) (old new : List X) (x : X) → old ≡ filter_map f (range_with_len 0 n) → Some x ≡ f n → new ≡ old ++ x ∷ [] → new ≡ filter_map f (range_with_len 0 (n + 1))
+  one_more n old new x so_far here is =
+      is ∙ ap (λ (front : List X). front ++ x ∷ []) so_far ∙ ap (λ (o : Option X). filter_map f (range_with_len 0 n) ++ cons_option o []) here ∙ sym (push n)
 
-pub none_listed : (t : ITable) (n : ℕ) (old : List ListedChunk) → old ≡ filter_map (listing t) (range_with_len 0 n) → None ≡ listing t n → old ≡ filter_map (listing t) (range_with_len 0 (n + 1))
-none_listed t n old so_far here =
-    so_far ∙ sym (append-nil (filter_map (listing t) (range_with_len 0 n))) ∙ ap (λ (o : Option ListedChunk). filter_map (listing t) (range_with_len 0 n) ++ cons_option o []) here ∙ sym (listed_push t n)
+  pub none_more : (n : ℕ) (old : List X) → old ≡ filter_map f (range_with_len 0 n) → None ≡ f n → old ≡ filter_map f (range_with_len 0 (n + 1))
+  none_more n old so_far here =
+      so_far ∙ sym (append-nil (filter_map f (range_with_len 0 n))) ∙ ap (λ (o : Option X). filter_map f (range_with_len 0 n) ++ cons_option o []) here ∙ sym (push n)
+
+  -- all 64
+  pub all_told : (n : ℕ) (xs : List X) → n ≡ 64 → xs ≡ filter_map f (range_with_len 0 n) → xs ≡ filter_map f (range_with_len 0 64)
+  all_told n xs end so_far = so_far ∙ ap (λ (k : ℕ). filter_map f (range_with_len 0 k)) end
 
 pub all_listed : (t : ITable) (n : ℕ) (chunks : List ListedChunk) → n ≡ 64 → chunks ≡ filter_map (listing t) (range_with_len 0 n) → chunks ≡ listings t
 unfolding listings
-all_listed t n chunks end so_far = so_far ∙ ap (λ (k : ℕ). filter_map (listing t) (range_with_len 0 k)) end
+all_listed t n chunks end so_far = all_told (listing t) n chunks end so_far
 
 known_step : (n : ℕ) (d : List ℕ) (text : Option (List ℕ)) → option_map hash text ≡ Some d → Some (record { number = n; digest = d }) ≡ listed_as n text
 known_step n d None h = absurd cc

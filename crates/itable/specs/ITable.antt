@@ -1,9 +1,9 @@
 -- I-tables: a digest for each i-number of a principal that has one, and the chunks, the root and the handle by which
 -- the table is stored. Of the chunks that aren't loaded it has the digests alone.
 -- The bytes stand in docs/FORMATS.md.
-use Rattle.std.specs.Prelude.{◌≡◌, ℕ, ◌==◌, ◌<◌, Bool, true, ◌&&◌, not, List, [], ◌∷◌, ◌++◌, Option, Some, None}
+use Rattle.std.specs.Prelude.{◌≡◌, ℕ, ◌==◌, ◌<◌, Bool, true, false, not, List, [], ◌∷◌, ◌++◌, Option, Some, None}
 use Rattle.std.specs.Prelude.{filter, filter_map, length, if◌then◌else◌}
-use Rattle.std.specs.List.{All, list_any, range_with_len}
+use Rattle.std.specs.List.{All, range_with_len}
 use Rattle.std.specs.Option.{is_some, option_map, option_or}
 use Rattle.std.specs.Ordering.{nat_cmp}
 use Rattle.std.specs.Str.{bytes_eq}
@@ -103,16 +103,29 @@ root_of t = record { principal = t.principal; chunks = listings t }
 abbrev pub handle_of : ITable → Handle
 handle_of t = hash (root.spell (root_of t))
 
--- a root that lists these chunks lists this one, with this digest
-abbrev pub is_listed : List ListedChunk → ListedChunk → Bool
-is_listed before c = list_any (λ b. (b.number == c.number) && bytes_eq b.digest c.digest) before
+-- the text of the root
+abbrev pub root_text : ITable → Bytes
+root_text t = root.spell (root_of t)
 
--- The texts by which a table is stored and another one isn't, whose root lists these chunks: of each loaded chunk that
--- isn't listed there, and of the root. A chunk that isn't loaded has no text here: it is one that the other root lists.
-unfoldable pub new_texts : List ListedChunk → ITable → List Bytes
-new_texts before t =
-    filter_map (λ c. text_of_chunk t c.number) (filter (λ c. not (is_listed before c)) (listings t))
-    ++ root.spell (root_of t) ∷ []
+-- The texts by which a table is stored: of each loaded chunk, ascending, and of the root. A chunk that isn't loaded has
+-- no text here.
+unfoldable pub texts : ITable → List Bytes
+texts t = filter_map (text_of_chunk t) (range_with_len 0 64) ++ root_text t ∷ []
+
+-- both are there, and are one text
+abbrev pub is_same_text : Option Bytes → Option Bytes → Bool
+is_same_text (Some old) (Some new) = bytes_eq old new
+is_same_text None new = false
+is_same_text (Some old) None = false
+
+-- the text of a chunk, unless another table has this very text of it
+abbrev pub new_chunk : ITable → ITable → ℕ → Option Bytes
+new_chunk before t n = if is_same_text (text_of_chunk before n) (text_of_chunk t n) then None else text_of_chunk t n
+
+-- The texts by which a table is stored and another one isn't. Texts are compared, and not their digests alone.
+unfoldable pub new_texts : ITable → ITable → List Bytes
+new_texts before t = filter_map (new_chunk before t) (range_with_len 0 64)
+    ++ (if bytes_eq (root_text t) (root_text before) then [] else root_text t ∷ [])
 
 -- a table of the same principal with the same digests has the same handle, if the same chunks aren't loaded
 abbrev pub IsKnownByDigests : ITable → Type 0

@@ -2,6 +2,7 @@
 
 ghost use Rattle.std.specs.Prelude.{◌≡◌, ◌<◌, ◌≤◌, ◌-◌, ◌++◌, take, drop, None, IsSome, IsOk, OnOk, OnErr, MatchResult};
 ghost use Rattle.std.specs.Prelude.{filter, length};
+ghost use Rattle.std.specs.Bool.{Decides};
 ghost use Rattle.std.specs.Ordering.{nat_cmp};
 ghost use Rattle.std.specs.List.{AllWithin};
 ghost use Rattle.layout.specs.Ascending.{Ascends, Stands, IsFree, row_at, with_row, without_row};
@@ -105,4 +106,11 @@ pub(crate) fn run_of(pairs: &[Pair], number: ChunkNumber) -> &[Pair]
 {
     let places = places_of(pairs, number);
     &pairs[places.start..places.end]
+}
+
+/// Whether these are the same pairs.
+pub(crate) fn are_same(pairs: &[Pair], others: &[Pair]) -> bool
+    ensures { Decides result (pairs.now ≡ others.now) }
+{
+    pairs == others
 }

@@ -1,8 +1,8 @@
 //! I-tables.
 
 ghost use Rattle.std.specs.Prelude.{◌≡◌, ◌<◌, ◌≤◌, ◌==◌, ◌↔◌, ◌++◌, ◌||◌, [], ℕ, true, Some, None, IsSome, IsOk};
-ghost use Rattle.std.specs.Prelude.{Ok, OnOk, OnErr, IfOk, IfSome, length, map, if◌then◌else◌};
-ghost use Rattle.std.specs.List.{All, slice_set};
+ghost use Rattle.std.specs.Prelude.{Ok, OnOk, OnErr, IfOk, IfSome, filter_map, length, map, if◌then◌else◌};
+ghost use Rattle.std.specs.List.{All, range_with_len, slice_set};
 ghost use Rattle.layout.specs.Hash.{hash};
 ghost use Rattle.std.specs.Option.{option_map};
 ghost use Rattle.std.specs.Ordering.{nat_cmp};
@@ -14,11 +14,11 @@ ghost use Rattle.itable.specs.Root.{root, root as root_format, chunk_at, number_
 ghost use Rattle.itable.specs.ITable.{IsTable, digest_at, digest_in, with_digest, without_digest, chunk_of, IsBare};
 ghost use Rattle.itable.specs.ITable.{text_of_chunk, unloaded_at, loaded as is_loaded};
 ghost use Rattle.itable.specs.ITable.{listing as listing_of, listings as listings_of, root_of, handle_of};
-ghost use Rattle.itable.specs.ITable.{IsKnownByDigests, IsKnownByHandle, is_listed, new_texts};
+ghost use Rattle.itable.specs.ITable.{IsKnownByDigests, IsKnownByHandle, new_chunk, new_texts, texts as texts_of};
 
 use crate::chunk::{Chunk, ChunkNumber, Pair, write_chunk};
 use crate::listed::{listed_at, take_listed};
-use crate::pairs::{count_below, pair_at, put, put_run, run_of, take_out};
+use crate::pairs::{are_same, count_below, pair_at, put, put_run, run_of, take_out};
 use crate::root::{ListedChunk, Root, write_root};
 use layout::{Digest, INumber, Memory, Principal, Writer, digest};
 use std::alloc::Allocator;
@@ -243,13 +243,6 @@ fn spelled_root<A: Allocator + Copy>(
     Ok(writer.finish())
 }
 
-/// Whether a root that lists these chunks lists this one, with this digest.
-fn lists(before: &[ListedChunk], chunk: &ListedChunk) -> bool
-    ensures { result ≡ is_listed before.now chunk.now }
-{
-    before.iter().any(|listed| listed.number == chunk.number && listed.digest == chunk.digest)
-}
-
 impl<A: Allocator + Copy> ITable<A> {
     /// The same table once more, which keeps the digests of chunks that are known. The error is Memory.
     pub fn copy(&self, alloc: A) -> Result<ITable<A>, Memory>
@@ -344,43 +337,66 @@ impl<A: Allocator + Copy> ITable<A> {
         Ok(digest(&text))
     }
 
-    /// The text of a chunk, if it isn't one of these.
-    fn new_text(
+    /// The text of a chunk, unless another table has this very text of it.
+    fn new_chunk(
         &self,
         alloc: A,
-        before: &[ListedChunk],
-        chunk: &ListedChunk,
+        before: &ITable<A>,
+        number: ChunkNumber,
     ) -> Result<Option<Vec<u8, A>>, Memory>
-        ensures { IfOk result (λ text. option_map vec_items text
-            ≡ (if is_listed before.now chunk.now then None else text_of_chunk self.now chunk.now.number)) }
+        ensures { IfOk result (λ text. option_map vec_items text ≡ new_chunk before.now self.now number) }
     {
-        if lists(before, chunk) {
+        // It is below 64.
+        let _number = number.get();
+        if are_same(run_of(&before.pairs, number), run_of(&self.pairs, number)) {
             return Ok(None);
         }
-        self.chunk_text(alloc, chunk.number)
+        self.chunk_text(alloc, number)
     }
 
-    /// The texts by which this table is stored and another one isn't, whose root lists these chunks: those of the
-    /// loaded chunks that aren't listed there, ascending, and that of the root. A chunk that isn't loaded has no text here:
-    /// the other root lists it. It hashes the chunks that changed since they were hashed last.
-    pub fn new_texts(
-        &mut self,
-        alloc: A,
-        before: &[ListedChunk],
-    ) -> Result<Vec<Vec<u8, A>, A>, Memory>
-        ensures texts { IfOk result (λ texts. map vec_items texts.items ≡ new_texts before.now self.old) }
-        ensures same { self.new ≡ self.old }
+    /// The texts of the chunks of which another table hasn't this very text.
+    fn new_chunks(&self, alloc: A, before: &ITable<A>) -> Result<Vec<Vec<u8, A>, A>, Memory>
+        ensures { IfOk result (λ texts. map vec_items texts.items
+            ≡ filter_map (new_chunk before.now self.now) (range_with_len 0 64)) }
     {
-        self.root_holds();
-        let chunks = self.listings(alloc)?;
         let mut texts = Vec::new(alloc);
-        for chunk in &chunks {
-            if let Some(text) = self.new_text(alloc, before, chunk)? {
+        for number in 0..64 {
+            if let Some(text) = self.new_chunk(alloc, before, ChunkNumber::at(number))? {
                 texts.push(text)?;
             }
         }
-        let root = spelled_root(alloc, self.principal, &chunks)?;
-        texts.push(root)?;
+        Ok(texts)
+    }
+
+    /// The texts by which this table is stored: those of its loaded chunks, ascending, and that of its root. It hashes the
+    /// chunks that changed since they were hashed last.
+    pub fn texts(&mut self, alloc: A) -> Result<Vec<Vec<u8, A>, A>, Memory>
+        ensures texts { IfOk result (λ texts. map vec_items texts.items ≡ texts_of self.old) }
+        ensures same { self.new ≡ self.old }
+    {
+        let mut texts = self.new_chunks(alloc, &ITable::empty(alloc, self.principal))?;
+        texts.push(self.root_text(alloc)?)?;
+        Ok(texts)
+    }
+
+    /// The texts by which this table is stored and another one isn't: those of the loaded chunks that the other one
+    /// hasn't, ascending, and that of the root, where the other's is another one. Texts are compared, and not their
+    /// digests alone. It hashes the chunks that changed since they were hashed last.
+    pub fn new_texts(
+        &mut self,
+        alloc: A,
+        before: &mut ITable<A>,
+    ) -> Result<Vec<Vec<u8, A>, A>, Memory>
+        ensures texts { IfOk result (λ texts. map vec_items texts.items ≡ new_texts before.old self.old) }
+        ensures same { self.new ≡ self.old }
+        ensures before { before.new ≡ before.old }
+    {
+        let mut texts = self.new_chunks(alloc, before)?;
+        let root = self.root_text(alloc)?;
+        let stays = root == before.root_text(alloc)?;
+        if !stays {
+            texts.push(root)?;
+        }
         Ok(texts)
     }
 }

@@ -1,14 +1,11 @@
 -- From the rules' tests to the first broken rule.
-use Rattle.std.proofs.Common.{◌≡◌, ℕ, ◌<◌, arith, ◌-◌, Bool, ◌&&◌, true, false, List, [], ◌∷◌, Option, Some, None, refl, sym, ap, ◌∙◌, length}
-use Rattle.std.specs.Prelude.{IsSome, IfSome, IfOk, Result, Ok, Err}
+use Rattle.std.proofs.Common.{◌≡◌, ℕ, ◌-◌, Bool, ◌&&◌, true, false, List, [], ◌∷◌, Option, Some, None, refl, length}
+use Rattle.std.specs.Prelude.{IsSome, IfOk, Result, Ok, Err}
 use Rattle.std.specs.List.{slice_get}
 use Rattle.std.specs.Option.{option_map, option_map_or}
 use Rattle.pending_list.specs.Reply.{PendingItem, Reply}
-use Rattle.reply_rules.specs.declared.rule.Rule.{Rule}
-use Rattle.reply_rules.specs.Lists.{Lists, lists_of, split_last}
+use Rattle.reply_rules.specs.Lists.{lists_of, split_last}
 use Rattle.reply_rules.specs.Rules.{lists, structures_ascend}
-use Rattle.reply_rules.specs.Broken.{least, broken}
-use Rattle.principals.specs.Table.{genesis}
 use Rattle.std.specs.Str.{bytes_eq}
 use Rattle.reply_check.specs.FirstBroken.{own_pending, cert_sent}
 

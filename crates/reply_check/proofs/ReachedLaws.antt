@@ -1,15 +1,13 @@
 -- What lists that break no rule say of the groups that the own operation raises, and of the parts that it writes.
-use Rattle.std.proofs.Common.{◌≡◌, ℕ, zero, suc, ◌+◌, ◌<◌, ◌≤◌, Bool, true, false, ◌&&◌, ◌||◌, List, [], ◌∷◌, ◌++◌, Option, Some, None, map, filter, refl, sym, ap, subst, ◌∙◌, arith, append_assoc}
+use Rattle.std.proofs.Common.{◌≡◌, ℕ, zero, suc, ◌+◌, ◌<◌, ◌≤◌, Bool, true, false, ◌||◌, List, [], ◌∷◌, ◌++◌, None, map, filter, refl, sym, ap, subst, ◌∙◌, arith, append_assoc}
 use Rattle.std.specs.Prelude.{◌==◌}
 use Rattle.std.specs.List.{All, flat_map, list_any}
 use Rattle.std.proofs.lemmas.List.{append-nil}
 use Rattle.std.proofs.lemmas.Bool.{eq-eqb}
 use Rattle.std.proofs.lemmas.List.Elements.{All-append, All-cons, All-head, All-nil, All-tail, All-weaker}
-use Rattle.layout.specs.Types.{Group, Key}
+use Rattle.layout.specs.Types.{Key}
 use Rattle.principals.specs.Table.{Table}
 use Rattle.version_order.specs.Plan.{Plan}
-use Rattle.version_order.specs.Vector.{version_of}
-use Rattle.pending_list.specs.Reply.{PendingItem}
 use Rattle.pending_list.specs.Groups.{groups, groups_below, raised_groups, raises}
 use Rattle.reply_rules.specs.Lists.{Lists}
 use Rattle.reply_rules.specs.Rules.{entries, group_records, link, numbers, unknown_user, vector}

@@ -1,6 +1,6 @@
 -- What is signed, and so needn't be verified again.
-use Rattle.std.proofs.Common.{◌≡◌, ◌≢◌, ℕ, ◌+◌, List, [], ◌∷◌, ◌++◌, length, take, drop, Option, Some, None, Bool, true, false, refl, sym, ap, subst, ◌∙◌, inl, inr, arith}
-use Rattle.std.specs.Prelude.{◌==◌, ◌&&◌, ◌||◌, find, IfSome}
+use Rattle.std.proofs.Common.{◌≡◌, ◌≢◌, ℕ, List, [], ◌∷◌, ◌++◌, length, take, drop, Option, Some, None, Bool, true, false, refl, sym, ap, subst, ◌∙◌, inl, inr, arith}
+use Rattle.std.specs.Prelude.{◌==◌, ◌||◌, find, IfSome}
 use Rattle.std.specs.List.{list_all}
 use Rattle.std.specs.Option.{option_map_or}
 use Rattle.std.proofs.lemmas.Bool.{and_parts, cases_Bool, eqb-true, ne_eqb}
@@ -14,12 +14,12 @@ use Rattle.version_order.specs.Structure.{Structure, structure}
 use Rattle.update_cert.specs.Cert.{Cert, cert}
 use Rattle.pending_list.specs.declared.signed.Signed.{Signed}
 use Rattle.pending_list.specs.Reply.{PendingItem, Reply}
-use Rattle.reply_rules.specs.Lists.{Lists, items}
+use Rattle.reply_rules.specs.Lists.{Lists}
 use Rattle.reply_rules.specs.Broken.{later_rules, least}
 use Rattle.reply_rules.specs.Rules.{unknown_user}
 use Rattle.reply_rules.specs.declared.rule.Rule.{Rule}
 use Rattle.reply_rules.specs.declared.rule.Rule.TheVariants as rule
-use Rattle.reply_check.specs.FirstBroken.{cert_verifies, certificates, lists_break, shown_of, signatures, structure_verifies, super_signature, verifies}
+use Rattle.reply_check.specs.FirstBroken.{cert_verifies, certificates, lists_break, signatures, structure_verifies, super_signature, verifies}
 use Rattle.reply_check.specs.Verified.{AreOf, AreOwn, AreSupers, IsCertSigned, IsSealed, IsSigned}
 
 -- what all items have that pass, the first one has that is found

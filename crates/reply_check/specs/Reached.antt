@@ -1,32 +1,30 @@
 -- Nobody has to believe this file: an aid of contracts that are no promise.
--- What the own operation makes, or what stands at an i-number, comes to by the blocks that are held.
-use Rattle.std.specs.Prelude.{◌≡◌, ◌≤◌, ◌<◌, ℕ, List, ◌∷◌, ◌++◌, Some, None, true, false, map}
+-- What the own operation makes, or what is told of the tree, comes to by the blocks that are held.
+use Rattle.std.specs.Prelude.{◌≡◌, ◌≤◌, ◌<◌, ℕ, List, ◌∷◌, ◌++◌, Some, None, true, map}
 use Rattle.std.specs.List.{flat_map}
 use Rattle.std.specs.Vec.{vec_items}
 use Rattle.version_order.specs.Plan.{Plan}
-use Rattle.layout.specs.Types.{Group, INumber, Key, Principal}
+use Rattle.layout.specs.Types.{Group, Key}
 use Rattle.version_order.specs.Vector.{version_of}
 use Rattle.pending_list.specs.Groups.{raises}
 use Rattle.principals.specs.Table.{Table}
-use Rattle.update_cert.specs.World.{is_table}
-use Rattle.update_cert.specs.Reading.{Reading}
-use Rattle.tree_parts.specs.Blocks.{Blocks, Agrees}
+use Rattle.tree_parts.specs.Blocks.{Blocks}
 use Rattle.tree_parts.specs.Spot.{lacks}
 use Rattle.reply_rules.specs.Lists.{Lists}
-use Rattle.client_tree.specs.View.{View, handle_in, shown}
+use Rattle.client_tree.specs.View.{View, handle_in}
 use Rattle.client_tree.specs.Principals.{IsOfNamed}
 use Rattle.reply_check.specs.FirstBroken.{ByTable, IsRead, lists_break, view_over}
-use Rattle.client_tree.specs.Opened.{HasLooked, IsLooked}
+use Rattle.client_tree.specs.Questions.{IsAnsweredBy, IsAskedBy}
+use Rattle.client_tree.specs.declared.questions.Question.{Question}
 use Rattle.client_tree.specs.Tree.{IsLost, IsOutcome, IsWanted, Stored}
 use Rattle.reply_check.specs.Good.{record_over}
-use Rattle.client_tree.specs.Seen.{content_seen}
 use Rattle.reply_check.specs.declared.reaching.Written.{Written}
 use Rattle.reply_check.specs.declared.reaching.Written.TheVariants as written
 use Rattle.reply_check.specs.declared.reaching.Made.{Made}
 use Rattle.reply_check.specs.declared.reaching.Reached.{Reached}
 use Rattle.reply_check.specs.declared.reaching.Reached.TheVariants as reached
 use Rattle.reply_check.specs.declared.reaching.Shown.{Shown}
-use Rattle.reply_check.specs.declared.reaching.Shown.TheVariants as answer
+use Rattle.reply_check.specs.declared.reaching.Shown.TheVariants as shown
 
 -- a group's part, where the plan has a version of the group
 abbrev pub IsRaisedIn : Plan → Stored → Type 0
@@ -51,7 +49,6 @@ IsReached blocks key x (reached.Lacks a) = IsOfNamed blocks (handle_in key x.str
 IsReached blocks key x (reached.Breaks rule) = ByTable blocks key x (Some rule)
 IsReached blocks key x (reached.BreaksNone t w) = IsRead blocks key x t.table t.voids × (lists_break t.table x ≡ None) × IsWritten blocks (view_over key t.table x) t.voids w
 
-abbrev pub IsAnswer : {A : Type 0} → Blocks → View → Principal → INumber → Shown A → Type 0
-IsAnswer blocks x p i (answer.Lacks a) = IsLooked blocks x p i a.digest a.spot × (lacks blocks a.digest a.spot ≡ true)
-IsAnswer blocks x p i (answer.Sees seen) =
-    (is_table p i ≡ false → HasLooked blocks x p i) × ((reads : Reading) (users : Table) → Agrees blocks reads → content_seen seen ≡ shown reads users x p i)
+abbrev pub IsAnswer : {A : Type 0} → Blocks → View → Question → Shown A → Type 0
+IsAnswer blocks x q (shown.Lacks a) = IsAskedBy blocks x q a.digest a.spot × (lacks blocks a.digest a.spot ≡ true)
+IsAnswer blocks x q (shown.Tells answer) = IsAnsweredBy blocks x q answer

@@ -1,4 +1,4 @@
-//! What the own operation makes of the tree, and what stands there, as far as the blocks that are held tell it.
+//! What the own operation makes of the tree, and what is told of it, as far as the blocks that are held tell it.
 
 ghost use Rattle.std.specs.Prelude.{◌≡◌, ◌≤◌, ◌<◌, None, IfOk, IsSomeAnd};
 ghost use Rattle.std.specs.List.{All};
@@ -16,8 +16,8 @@ use crate::by_table::lists_broken;
 use crate::good::Good;
 use crate::known::Known;
 use crate::lists::{Admitted, Lists};
-use client_tree::{Held, PendingTable, Seen, Stored, View, With, table_of};
-use layout::{Digest, Group, INumber, Memory, Principal, Version};
+use client_tree::{Answer, Held, PendingTable, Question, Stored, View, With, table_of};
+use layout::{Digest, Group, Memory, Version};
 use lms_sign::PublicKey;
 use pending_list::table_version;
 use principals::Table;
@@ -60,13 +60,13 @@ pub enum Reached<A: Allocator> {
     BreaksNone(PendingTable<A>, Written<A>),
 }
 
-/// What stands at an i-number, or the block that is wanted to tell it.
+/// The answer to a question, or the block that is wanted to tell it.
 #[derive(Drop)]
 pub enum Shown<A: Allocator> {
     /// This block is wanted.
     Lacks(Asked),
-    /// This is seen.
-    Sees(Seen<A>),
+    /// This is the answer.
+    Tells(Answer<A>),
 }
 
 /// The block that is missing.
@@ -211,37 +211,35 @@ pub fn reach<A: Allocator + Copy, B: Blocks>(
     Ok(Reached::BreaksNone(table, written))
 }
 
-/// What stands at an i-number of a principal in the tree of a view.
+/// The answer to a question about the tree of a view.
 fn show_in<A: Allocator + Copy, B: Blocks>(
     alloc: A,
     view: &View<'_, A>,
-    principal: Principal,
-    i_number: INumber,
+    question: Question,
     blocks: &B,
 ) -> Result<Shown<A>, Memory>
-    ensures { IfOk result (λ shown. IsAnswer (B.held blocks.now) view.now principal i_number shown) }
+    ensures { IfOk result (λ shown. IsAnswer (B.held blocks.now) view.now question shown) }
 {
-    match view.look(alloc, blocks, principal, i_number) {
-        Ok(seen) => Ok(Shown::Sees(seen)),
+    match view.answer(alloc, blocks, question) {
+        Ok(answer) => Ok(Shown::Tells(answer)),
         Err(error) => Ok(Shown::Lacks(wanted(error)?)),
     }
 }
 
-/// What stands at an i-number of a principal in the tree of these lists, by this table of principals.
+/// The answer to a question about the tree of these lists, by this table of principals.
 pub fn show<A: Allocator + Copy, B: Blocks>(
     alloc: A,
     pinned: &PublicKey,
     table: &Table<A>,
     lists: &Lists<A>,
-    principal: Principal,
-    i_number: INumber,
+    question: Question,
     blocks: &B,
 ) -> Result<Shown<A>, Memory>
-    ensures { IfOk result (λ shown. IsAnswer (B.held blocks.now) (view_over pinned.now table.now lists.now) principal
-        i_number shown) }
+    ensures { IfOk result (λ shown. IsAnswer (B.held blocks.now) (view_over pinned.now table.now lists.now) question
+        shown) }
 {
     let view = lists.view(pinned.as_bytes(), table);
-    show_in(alloc, &view, principal, i_number, blocks)
+    show_in(alloc, &view, question, blocks)
 }
 
 /// The same as `write`, where one block more is held, whose digest was computed.
@@ -284,16 +282,15 @@ pub fn show_with<A: Allocator + Copy>(
     pinned: &PublicKey,
     table: &Table<A>,
     lists: &Lists<A>,
-    principal: Principal,
-    i_number: INumber,
+    question: Question,
     blocks: &Held<A>,
     digest: Digest,
     text: &[u8],
 ) -> Result<Shown<A>, Memory>
     requires { digest ≡ hash text.now }
     ensures { IfOk result (λ shown. IsAnswer (held (keeping blocks.now text.now))
-        (view_over pinned.now table.now lists.now) principal i_number shown) }
+        (view_over pinned.now table.now lists.now) question shown) }
 {
     let with = With::new(blocks, digest, text);
-    show(alloc, pinned, table, lists, principal, i_number, &with)
+    show(alloc, pinned, table, lists, question, &with)
 }

@@ -6,31 +6,36 @@ use fork_theorem::play;
 use std::env;
 use std::io::{self, BufReader, ErrorKind};
 use std::process::ExitCode;
+use std::rt::Runtime;
+use std::sync::Wait;
 
 /// The status where the program is given words.
 const WORDS: u8 = 5;
 
 /// The words that it was given.
-fn given_words(rt: &HostRuntime) -> io::Result<Vec<String>> {
+fn given_words<R: Runtime + AllocGlobal>(rt: &R) -> io::Result<Vec<String>> {
     Ok(env::args(rt)?.collect(rt.alloc())?)
 }
 
 /// Tells what is wrong with the words, or the help that they ask for.
-fn refuse(rt: &HostRuntime, fault: &clap::Error) -> anyhow::Result<ExitCode> {
+fn refuse<R: Runtime>(rt: &R, fault: &clap::Error) -> anyhow::Result<ExitCode> {
     fault.print(rt)?;
     let status = if fault.exit_code() == 0 { 0 } else { WORDS };
     Ok(ExitCode::from(status))
 }
 
 /// Runs the script.
-fn play_script(rt: &HostRuntime) -> anyhow::Result<ExitCode> {
+fn play_script<R: Runtime + AllocGlobal + Wait>(rt: &R) -> anyhow::Result<ExitCode> {
     let mut reader = BufReader::new(rt.alloc(), rt.reader())?;
-    play(rt.alloc(), &mut reader, &mut io::writer(rt))?;
+    play(rt, rt.alloc(), &mut reader, &mut io::writer(rt))?;
     Ok(ExitCode::SUCCESS)
 }
 
 /// Runs the script, unless it is given words: the program takes none but `--help`.
-fn run_words(rt: &HostRuntime, words: &[String]) -> anyhow::Result<ExitCode> {
+fn run_words<R: Runtime + AllocGlobal + Wait>(
+    rt: &R,
+    words: &[String],
+) -> anyhow::Result<ExitCode> {
     let command = Command::new(rt.alloc(), "sundr_play").about(
         "Runs a script from standard input: a command a line, a printed line for each",
     );
@@ -41,7 +46,7 @@ fn run_words(rt: &HostRuntime, words: &[String]) -> anyhow::Result<ExitCode> {
 }
 
 /// Runs the script, unless it is given words.
-fn run(rt: &HostRuntime) -> anyhow::Result<ExitCode> {
+fn run<R: Runtime + AllocGlobal + Wait>(rt: &R) -> anyhow::Result<ExitCode> {
     match given_words(rt) {
         Ok(words) => run_words(rt, &words),
         Err(fault) if fault.kind() == ErrorKind::OutOfMemory => Err(fault.into()),

@@ -21,8 +21,9 @@ use update_cert::{Action, Change};
 /// How many blocks are handed in at most for one look.
 const BOUND: usize = 100;
 
-/// The texts of an i-table with one i-number, 5 of its chunk: whose root it is, the number by which the root lists the
-/// chunk, that of the chunk itself, the i-node, how many of the texts are stored, and the rule that is broken.
+/// The texts of an i-table with one i-number, 5 of chunk 0 or 69 of chunk 1: whose root it is, the number by which the
+/// root lists the chunk, that of the chunk itself, the i-node, how many of the texts are stored, and the rule that is
+/// broken.
 #[derive(Clone, Copy)]
 struct Part {
     owner: u8,
@@ -43,7 +44,7 @@ const WHOLE: Part = Part {
     broken: None,
 };
 
-static PARTS: [Part; 7] = [
+static PARTS: [Part; 8] = [
     WHOLE,
     Part {
         inode: b"absent root",
@@ -63,8 +64,15 @@ static PARTS: [Part; 7] = [
         ..WHOLE
     },
     Part {
-        listed: 1,
+        chunk: 1,
         broken: Some(Rule::Content),
+        ..WHOLE
+    },
+    // A chunk without 64:5 isn't asked for.
+    Part {
+        listed: 1,
+        chunk: 1,
+        stored: 1,
         ..WHOLE
     },
     Part {
@@ -91,11 +99,12 @@ fn keep_some(rt: &impl Host, store: &mut Held<Global>, texts: &[&[u8]], count: u
 
 /// Stores the texts of a part, and gives its handle.
 fn store_part(rt: &impl Host, store: &mut Held<Global>, part: &Part) -> [u8; 32] {
+    let place = if part.chunk == 0 { 5 } else { 69 };
     let chunk = joined(
         rt,
         &[
             b"STC1",
-            &[part.chunk, 1, 0, 5],
+            &[part.chunk, 1, 0, place],
             digest(part.inode).as_bytes(),
         ],
     );

@@ -72,7 +72,7 @@ fn commits(rt: &impl Host, server: &mut Server, client: &mut MemoryClient, struc
 }
 
 /// A declared operation is placed, accepted and committed by an honest server: its structure.
-fn completes(
+pub(crate) fn completes(
     rt: &impl Host,
     store: &mut Held<Global>,
     server: &mut Server,

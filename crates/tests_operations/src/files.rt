@@ -10,13 +10,15 @@ use tests_aids::{Host, check};
 use tests_client_aids::changes::{Planned, lay, nothing};
 use update_cert::Action;
 
-/// A file, by its i-number and its size, and how many blocks the operation asks for that makes it: the root of the
-/// i-table and the one chunk that changed last, but of the beginning none.
+/// A file, by its i-number and its size; how many blocks the operation asks for that makes it: the root of the i-table,
+/// and chunk 0 where that changed last, but of the beginning none; and how many a look at it asks for in the end: its
+/// chunk, where no operation needed that since it changed.
 #[derive(Clone, Copy)]
 struct Case {
     number: u16,
     size: usize,
     asked: usize,
+    in_the_end: usize,
 }
 
 static CASES: [Case; 5] = [
@@ -24,26 +26,31 @@ static CASES: [Case; 5] = [
         number: 3,
         size: 0,
         asked: 0,
+        in_the_end: 0,
     },
     Case {
         number: 4,
         size: 1,
         asked: 2,
+        in_the_end: 0,
     },
     Case {
         number: 63,
         size: 4096,
         asked: 2,
+        in_the_end: 0,
     },
     Case {
         number: 64,
         size: 4097,
         asked: 2,
+        in_the_end: 1,
     },
     Case {
         number: 4095,
         size: 4194304,
-        asked: 2,
+        asked: 1,
+        in_the_end: 0,
     },
 ];
 
@@ -89,26 +96,27 @@ fn is_file(rt: &impl Host, seen: &Look<Global>, size: usize) {
     check(rt, same, "the bytes of a file");
 }
 
-/// The file of a case stands at its i-number. A look at it asks for nothing, since the client laid it out.
-fn stands(rt: &impl Host, world: &mut World, case: Case) {
+/// The file of a case stands at its i-number. A look at it asks for so many blocks: none of the file, since the client
+/// laid it out.
+fn stands(rt: &impl Host, world: &mut World, case: Case, asked: usize) {
     let seen = look_through(rt, world, case.number);
     is_file(rt, &seen, case.size);
     let_go(seen);
-    asked_for_so_many(rt, world, 0);
+    asked_for_so_many(rt, world, asked);
 }
 
 /// Makes the file of each case, and sees it right after that.
 fn makes_each(rt: &impl Host, world: &mut World) {
     for case in &CASES {
         makes(rt, world, *case);
-        stands(rt, world, *case);
+        stands(rt, world, *case, 0);
     }
 }
 
 /// Sees the file of each case.
 fn stands_each(rt: &impl Host, world: &mut World) {
     for case in &CASES {
-        stands(rt, world, *case);
+        stands(rt, world, *case, case.in_the_end);
     }
 }
 

@@ -115,7 +115,7 @@ fn sees(
                 look = next;
             }
             Look::File(file) => return check_text(rt, &file, bytes),
-            Look::Dir(_) | Look::None | Look::Broken(_) => panic!(rt; "no file"),
+            _ => panic!(rt; "no file"),
         }
     }
     panic!(rt; "too many blocks")

@@ -4,16 +4,17 @@ use fork_theorem::{PlayError, play};
 use std::alloc::Global;
 use std::io::{self, BufReader, Cursor, ErrorKind, Read};
 use std::process::Abort;
+use std::sync::Wait;
 
 /// What a test runs in.
-pub(crate) trait Host: Alloc<A = Global> + Abort {}
+pub(crate) trait Host: Alloc<A = Global> + Abort + Wait {}
 
-impl<R: Alloc<A = Global> + Abort> Host for R {}
+impl<R: Alloc<A = Global> + Abort + Wait> Host for R {}
 
 /// A script, and what it prints.
-struct Case {
-    script: &'static [u8],
-    lines: &'static [u8],
+pub(crate) struct Case {
+    pub(crate) script: &'static [u8],
+    pub(crate) lines: &'static [u8],
 }
 
 static CASES: [Case; 11] = [
@@ -664,7 +665,7 @@ fn check_text(rt: &impl Host, found: &[u8], wanted: &[u8]) {
 pub(crate) fn prints(rt: &impl Host, script: &[u8], lines: &[u8]) {
     let mut reader = Cursor::new(script);
     let mut writer = Vec::new(rt.alloc());
-    play(rt.alloc(), &mut reader, &mut writer).expect(rt, "lines");
+    play(rt, rt.alloc(), &mut reader, &mut writer).expect(rt, "lines");
     check_text(rt, &writer, lines);
 }
 
@@ -719,7 +720,7 @@ fn lines_before_a_failing_read(rt: HostRuntime) {
     let failing = Failing { bytes: SCRIPT };
     let mut reader = BufReader::new(rt.alloc(), failing).expect(&rt, "memory");
     let mut writer = Vec::new(rt.alloc());
-    let played = play(rt.alloc(), &mut reader, &mut writer);
+    let played = play(&rt, rt.alloc(), &mut reader, &mut writer);
     assert!(rt; matches!(played, Err(PlayError::Read)), "no reader");
     check_text(&rt, &writer, b"0 begin 1\nerror\n");
 }
@@ -732,7 +733,7 @@ fn lines_before_a_failing_write(rt: HostRuntime) {
     let mut room = [0; ROOM];
     let mut reader = Cursor::new(b"begin 0\nupdate 0 a\ncommit 0 a\n".as_slice());
     let mut writer = Cursor::new(room.as_mut_slice());
-    let played = play(rt.alloc(), &mut reader, &mut writer);
+    let played = play(&rt, rt.alloc(), &mut reader, &mut writer);
     assert!(rt; matches!(played, Err(PlayError::Write)), "no writer");
     check_text(&rt, &room, b"0 begin 1\n0 ");
 }

@@ -1,6 +1,6 @@
 -- What stands in a part after an action.
 use Rattle.std.proofs.Common.{◌≡◌, ◌≢◌, ℕ, Bool, true, false, List, [], ◌∷◌, Option, Some, None, refl, subst, sym, ap, ◌∙◌, arith}
-use Rattle.std.specs.Prelude.{◌==◌, ◌&&◌, ◌||◌, not, nat_le, is_some, IsSome, IsSomeAnd, if◌then◌else◌, slice_index_or}
+use Rattle.std.specs.Prelude.{◌==◌, ◌&&◌, ◌||◌, not, nat_le, is_some, IsSome, if◌then◌else◌, slice_index_or}
 use Rattle.std.specs.List.{slice_set}
 use Rattle.std.specs.Option.{option_map}
 use Rattle.std.specs.Ordering.{nat_cmp, is_eq}
@@ -11,18 +11,19 @@ use Rattle.layout.specs.Ascending.{Stands, row_at, with_row}
 use Rattle.directory.specs.Directory.{Entry, linked, unlinked}
 use Rattle.itable.specs.ITable.{digest_at}
 use Rattle.layout.specs.Types.{Digest}
-use Rattle.update_cert.specs.Change.{Action, Make, Put, Remove, Link, Unlink, AddUser, AddMember, DropMember, Change, change, action_of, table_action_of}
+use Rattle.update_cert.specs.Change.{Action, Make, Put, Remove, Link, Unlink, AddUser, AddMember, DropMember, Change, action_of, table_action_of}
 use Rattle.update_cert.specs.declared.change.Action.{Action as Held}
 use Rattle.update_cert.specs.declared.change.Action.TheVariants as held
 use Rattle.update_cert.specs.declared.change.TableChange.{TableChange}
 use Rattle.update_cert.specs.declared.change.TableChange.TheVariants as table_change
 use Rattle.principals.specs.Table.{Table, user_added, member_added, member_dropped}
-use Rattle.update_cert.specs.World.{Content, File, Directory, Principals, Actor, Tree, permitted, has_effect, action_fits, fits, has_room, has_name, entries_of, becomes, content_after, after_change, is_table, changes_table}
+use Rattle.update_cert.specs.World.{Content, File, Directory, Principals, Actor, Tree, permitted, has_effect, action_fits, fits, has_room, has_name, entries_of, becomes, content_after, after_change, is_removable, is_root, is_table, changes_table}
 use Rattle.update_cert.specs.Reading.{Reading, read_action, read_change}
-use Rattle.tree_parts.specs.Part.{Open, Part, Slot, Changed, HasTable, IsPart, IsPartOf, number_of, opened_at, slot_at, slot_of, stands_at}
+use Rattle.tree_parts.specs.Part.{Open, Part, Slot, Changed, HasTable, IsPart, IsPartOf, number_of, opened_at, slot_at, slot_here, slot_of, stands_at}
 use Rattle.tree_parts.specs.Slots.{content_in, laid_under, slot_becomes, slot_changes, slot_after_change}
-use Rattle.tree_parts.specs.Acts.{Acts, change_at, is_void_of, listed}
-use Rattle.update_cert.proofs.EffectLaws.{fits_read, effect_read, kind_read, at_table, other_void, table_place}
+use Rattle.tree_parts.specs.Asked.{needs_slot}
+use Rattle.tree_parts.specs.Acts.{Acts, change_at, is_void_of, listed, stands_here}
+use Rattle.update_cert.proofs.EffectLaws.{fits_read, other_void, table_place}
 use Rattle.tree_parts.proofs.OpenedLaws.{entries_in, entries_with, is_part_with, key_test}
 use Rattle.tree_parts.proofs.PartLaws.{closed}
 
@@ -44,7 +45,7 @@ slot_opened es (Some others) (Some d) is has = let same : others ≡ es = cc in 
 
 -- the slots where a directory is opened, or changes
 pub slot_with : (old : Part) (opened : List Open) (o : Open) (i : ℕ) → IsSome (digest_at old.table o.i_number) → opened ≡ with_row nat_cmp number_of old.opened o
-    → slot_at (record { table = old.table; opened = opened }) i ≡ (if o.i_number == i then Some (Changed (laid_under (slot_at old i)) o.entries) else slot_at old i)
+    → slot_here (record { before = old.before; table = old.table; opened = opened }) i ≡ (if o.i_number == i then Some (Changed (laid_under (slot_here old i)) o.entries) else slot_here old i)
 slot_with old opened o i here with =
     let entries = ap (λ (os : List Open). entries_in os i) with ∙ entries_with old.opened o i in
     ap (λ (es : Option (List Entry)). slot_in es (digest_at old.table i)) entries
@@ -63,7 +64,7 @@ a_directory (Some (Principals table)) es is = absurd cc
 a_directory (Some (Directory others)) es is = let same : others ≡ es = cc in ap (λ (x : List Entry). Some (Directory x)) same
 
 -- what stands where no directory is opened
-pub stands_closed : (reads : Reading) (part : Part) (i : ℕ) (es : List Entry) → opened_at part i ≡ None → Some es ≡ listed (option_map reads.content (digest_at part.table i)) → stands_at reads part i ≡ Some (Directory es)
+pub stands_closed : (reads : Reading) (part : Part) (i : ℕ) (es : List Entry) → opened_at part i ≡ None → Some es ≡ listed (option_map reads.content (digest_at part.table i)) → stands_here reads part i ≡ Some (Directory es)
 stands_closed reads part i es none found = closed reads part i none ∙ a_directory (option_map reads.content (digest_at part.table i)) es found
 
 -- the action makes these entries of the others
@@ -85,12 +86,12 @@ edit_step reads c s made es es2 false false at makes is = refl
 
 -- in a directory that is opened
 pub edit_acts : (reads : Reading) (user : ℕ) (c : Change Digest) (old new : Part) (made es es2 : List Entry) (fitted : Bool) → IsPart old → opened_at old c.i_number ≡ Some es → fitted ≡ fits user c (Some (Directory es))
-    → ((i : ℕ) → slot_at new i ≡ (if c.i_number == i then Some (Changed (laid_under (slot_at old i)) es2) else slot_at old i)) → Makes reads c.action es made → es2 ≡ (if fitted then made else es) → Acts reads user c old new fitted
+    → ((i : ℕ) → slot_here new i ≡ (if c.i_number == i then Some (Changed (laid_under (slot_here old i)) es2) else slot_here old i)) → Makes reads c.action es made → es2 ≡ (if fitted then made else es) → Acts reads user c old new fitted
 edit_acts reads user c old new made es es2 fitted part there fit news makes is =
-    let here : slot_at old c.i_number ≡ Some (Changed (laid_under (slot_at old c.i_number)) es) = slot_opened es (opened_at old c.i_number) (digest_at old.table c.i_number) there (part.mapped c.i_number (ap is_some there)) in
+    let here : slot_here old c.i_number ≡ Some (Changed (laid_under (slot_here old c.i_number)) es) = slot_opened es (opened_at old c.i_number) (digest_at old.table c.i_number) there (part.mapped c.i_number (ap is_some there)) in
     record {
       is_fit = fit ∙ ap (λ (s : Option Slot). fits user c (content_in reads s)) (sym here);
-      slots = λ i. news i ∙ edit_step reads c (slot_at old i) made es es2 fitted (c.i_number == i) (λ t. subst (λ (k : ℕ). slot_at old k ≡ Some (Changed (laid_under (slot_at old k)) es)) (eqb-true c.i_number i t) here) makes is;
+      slots = λ i. news i ∙ edit_step reads c (slot_here old i) made es es2 fitted (c.i_number == i) (λ t. subst (λ (k : ℕ). slot_here old k ≡ Some (Changed (laid_under (slot_here old k)) es)) (eqb-true c.i_number i t) here) makes is;
     }
 
 open_step : (reads : Reading) (c : Change Digest) (s : Option Slot) (made es es2 : List Entry) (t : Bool) → (t ≡ true → content_in reads s ≡ Some (Directory es)) → Makes reads c.action es made → es2 ≡ made
@@ -99,15 +100,15 @@ open_step reads c s made es es2 true at makes is = ap (λ (x : List Entry). Some
 open_step reads c s made es es2 false at makes is = refl
 
 -- in one that wasn't: it is opened
-pub open_acts : (reads : Reading) (user : ℕ) (c : Change Digest) (old new : Part) (made es es2 : List Entry) → stands_at reads old c.i_number ≡ Some (Directory es) → true ≡ fits user c (Some (Directory es))
-    → ((i : ℕ) → slot_at new i ≡ (if c.i_number == i then Some (Changed (laid_under (slot_at old i)) es2) else slot_at old i)) → Makes reads c.action es made → es2 ≡ made → Acts reads user c old new true
+pub open_acts : (reads : Reading) (user : ℕ) (c : Change Digest) (old new : Part) (made es es2 : List Entry) → stands_here reads old c.i_number ≡ Some (Directory es) → true ≡ fits user c (Some (Directory es))
+    → ((i : ℕ) → slot_here new i ≡ (if c.i_number == i then Some (Changed (laid_under (slot_here old i)) es2) else slot_here old i)) → Makes reads c.action es made → es2 ≡ made → Acts reads user c old new true
 open_acts reads user c old new made es es2 here fit news makes is = record {
   is_fit = fit ∙ ap (fits user c) (sym here);
-  slots = λ i. news i ∙ open_step reads c (slot_at old i) made es es2 (c.i_number == i) (λ t. sym (ap (stands_at reads old) (eqb-true c.i_number i t)) ∙ here) makes is;
+  slots = λ i. news i ∙ open_step reads c (slot_here old i) made es es2 (c.i_number == i) (λ t. sym (ap (stands_here reads old) (eqb-true c.i_number i t)) ∙ here) makes is;
 }
 
 -- where it doesn't fit, all stays
-pub void_acts : (reads : Reading) (user : ℕ) (c : Change Digest) (part : Part) → fits user c (stands_at reads part c.i_number) ≡ false → Acts reads user c part part false
+pub void_acts : (reads : Reading) (user : ℕ) (c : Change Digest) (part : Part) → fits user c (stands_here reads part c.i_number) ≡ false → Acts reads user c part part false
 void_acts reads user c part fit = record { is_fit = sym fit; slots = λ i. refl }
 
 pub no_room : (name : List ℕ) (content : Option Content) → None ≡ listed content → has_room name content ≡ false
@@ -145,13 +146,13 @@ module _ (part : Part) (k place : ℕ) (d o : Open) (at : Stands nat_cmp number_
   mapped_there : IsPart part → IsSome (digest_at part.table o.i_number)
   mapped_there is = ap (λ (i : ℕ). is_some (digest_at part.table i)) key_stays ∙ is.mapped k (ap is_some opened_there)
 
-  pub is_part_edited : IsPart part → IsPart (record { table = part.table; opened = slice_set part.opened place o })
+  pub is_part_edited : IsPart part → IsPart (record { before = part.before; table = part.table; opened = slice_set part.opened place o })
   is_part_edited is = is_part_with part (slice_set part.opened place o) o is (mapped_there is) set_with
 
-  pub slot_edited : IsPart part → (i : ℕ) → slot_at (record { table = part.table; opened = slice_set part.opened place o }) i ≡ (if k == i then Some (Changed (laid_under (slot_at part i)) o.entries) else slot_at part i)
+  pub slot_edited : IsPart part → (i : ℕ) → slot_here (record { before = part.before; table = part.table; opened = slice_set part.opened place o }) i ≡ (if k == i then Some (Changed (laid_under (slot_here part i)) o.entries) else slot_here part i)
   slot_edited is i =
       slot_with part (slice_set part.opened place o) o i (mapped_there is) set_with
-      ∙ ap (λ (n : ℕ). if n == i then Some (Changed (laid_under (slot_at part i)) o.entries) else slot_at part i) key_stays
+      ∙ ap (λ (n : ℕ). if n == i then Some (Changed (laid_under (slot_here part i)) o.entries) else slot_here part i) key_stays
 
 -- ---- a change of the part's principal
 
@@ -170,6 +171,27 @@ pub of_table : (reads : Reading) (actor : Actor) (c : Change Digest) (s : Option
 unfolding slot_changes has_effect
 of_table reads actor c s is = rw is refl
 
+is_so : (b : Bool) → not b ≡ false → b ≡ true
+is_so true is = refl
+is_so false is = absurd cc
+
+-- where it doesn't matter what stands at a place, no action of a part fits there
+none_fits : (user p i : ℕ) (a : Action Digest) (content : Option Content) → is_table p i ≡ false → needs_slot user p i a ≡ false → action_fits user p i a content ≡ false
+none_fits user p i (Make new) content place none = rw none (and-false (not (is_some content)))
+none_fits user p i (Put new) content place none = absurd cc
+none_fits user p i Remove content place none = let root : is_root p i ≡ true = is_so (is_root p i) none in rw (place, root) (and-false (is_removable content))
+none_fits user p i (Link entry) content place none = absurd cc
+none_fits user p i (Unlink name) content place none = absurd cc
+none_fits user p i (AddUser u key) content place none = rw place refl
+none_fits user p i (AddMember g u) content place none = rw place refl
+none_fits user p i (DropMember g u) content place none = rw place refl
+
+pub unneeded : (reads : Reading) (actor : Actor) (c : Change Digest) (s : Option Slot) → is_table c.principal c.i_number ≡ false → needs_slot actor.user c.principal c.i_number c.action ≡ false → slot_changes reads actor c s ≡ false
+unfolding slot_changes has_effect
+unneeded reads actor c s place none =
+    rw place
+    (ap (λ (t : Bool). permitted actor c && t) (none_fits actor.user c.principal c.i_number c.action (content_in reads s) place none) ∙ and-false (permitted actor c))
+
 unchanged : (reads : Reading) (actor : Actor) (c : Change Digest) (s : Option Slot) → slot_changes reads actor c s ≡ false → slot_after_change reads actor c s ≡ s
 unfolding slot_after_change
 unchanged reads actor c s none = rw none refl
@@ -179,17 +201,22 @@ either true x y is = sym is
 either false x y is = refl
 
 -- and leaves them
-pub slots_still : (reads : Reading) (actor : Actor) (c : Change Digest) (part : Part) (i : ℕ) → slot_changes reads actor c (slot_at part i) ≡ false → slot_at part i ≡ (if c.i_number == i then slot_after_change reads actor c (slot_at part i) else slot_at part i)
-slots_still reads actor c part i not = either (c.i_number == i) (slot_after_change reads actor c (slot_at part i)) (slot_at part i) (unchanged reads actor c (slot_at part i) not)
+pub slots_still : (reads : Reading) (actor : Actor) (c : Change Digest) (s : Option Slot) (i : ℕ) → slot_changes reads actor c s ≡ false → s ≡ (if c.i_number == i then slot_after_change reads actor c s else s)
+slots_still reads actor c s i not = either (c.i_number == i) (slot_after_change reads actor c s) s (unchanged reads actor c s not)
 
 -- all else has effect where it fits
 changes_fits : (reads : Reading) (actor : Actor) (c : Change Digest) (s : Option Slot) (user : ℕ) → is_table c.principal c.i_number ≡ false → permitted actor c ≡ true → actor.user ≡ user → slot_changes reads actor c s ≡ fits user c (content_in reads s)
 unfolding slot_changes has_effect
 changes_fits reads actor c s user place may is = rw (place, may, is) refl
 
-pub has_acted : (reads : Reading) (user : ℕ) (actor : Actor) (c : Change Digest) (old new : Part) (fitted : Bool) → is_table c.principal c.i_number ≡ false → permitted actor c ≡ true → actor.user ≡ user → Acts reads user c old new fitted
-    → fitted ≡ slot_changes reads actor c (slot_at old c.i_number)
-has_acted reads user actor c old new fitted place may is acts = acts.is_fit ∙ sym (changes_fits reads actor c (slot_at old c.i_number) user place may is)
+-- an action at a loaded i-number, said of the slots at all i-numbers
+pub record Follows (reads : Reading) (user : ℕ) (c : Change Digest) (old new : Part) (fitted : Bool) : Type 0 where
+  pub is_fit : fitted ≡ fits user c (stands_at reads old c.i_number)
+  pub slots : (i : ℕ) → slot_at reads new i ≡ (if fitted && (c.i_number == i) then slot_becomes reads c.action (slot_at reads old i) else slot_at reads old i)
+
+pub has_acted : (reads : Reading) (user : ℕ) (actor : Actor) (c : Change Digest) (old new : Part) (fitted : Bool) → is_table c.principal c.i_number ≡ false → permitted actor c ≡ true → actor.user ≡ user → Follows reads user c old new fitted
+    → fitted ≡ slot_changes reads actor c (slot_at reads old c.i_number)
+has_acted reads user actor c old new fitted place may is acts = acts.is_fit ∙ sym (changes_fits reads actor c (slot_at reads old c.i_number) user place may is)
 
 change_step : (reads : Reading) (actor : Actor) (c : Change Digest) (s : Option Slot) (fitted t : Bool) → (t ≡ true → fitted ≡ slot_changes reads actor c s) → (if fitted && t then slot_becomes reads c.action s else s) ≡ (if t then slot_after_change reads actor c s else s)
 unfolding slot_after_change
@@ -198,12 +225,11 @@ change_step reads actor c s false true is = rw (sym (is refl)) refl
 change_step reads actor c s true false is = refl
 change_step reads actor c s false false is = refl
 
-pub slots_acted : (reads : Reading) (user : ℕ) (actor : Actor) (c : Change Digest) (old new : Part) (fitted : Bool) (i : ℕ) → is_table c.principal c.i_number ≡ false → permitted actor c ≡ true → actor.user ≡ user → Acts reads user c old new fitted
-    → slot_at new i ≡ (if c.i_number == i then slot_after_change reads actor c (slot_at old i) else slot_at old i)
+pub slots_acted : (reads : Reading) (user : ℕ) (actor : Actor) (c : Change Digest) (old new : Part) (fitted : Bool) (i : ℕ) → is_table c.principal c.i_number ≡ false → permitted actor c ≡ true → actor.user ≡ user → Follows reads user c old new fitted
+    → slot_at reads new i ≡ (if c.i_number == i then slot_after_change reads actor c (slot_at reads old i) else slot_at reads old i)
 slots_acted reads user actor c old new fitted i place may is acts =
-    acts.slots i ∙ change_step reads actor c (slot_at old i) fitted (c.i_number == i) (λ t. has_acted reads user actor c old new fitted place may is acts ∙ ap (λ (k : ℕ). slot_changes reads actor c (slot_at old k)) (eqb-true c.i_number i t))
-
--- ---- the world
+    acts.slots i
+    ∙ change_step reads actor c (slot_at reads old i) fitted (c.i_number == i) (λ t. has_acted reads user actor c old new fitted place may is acts ∙ ap (λ (k : ℕ). slot_changes reads actor c (slot_at reads old k)) (eqb-true c.i_number i t))
 
 -- ---- the table of principals stays a table
 
@@ -279,14 +305,14 @@ same_place p q i k same place here = grind (arith, nat_tests)
 
 -- the part of the tree after a change of its principal
 pub part_followed : (reads : Reading) (actor : Actor) (c : Change Digest) (old new : Part) (tree : Tree) → c.principal ≡ old.table.principal → new.table.principal ≡ old.table.principal
-    → ((i : ℕ) → slot_at new i ≡ (if c.i_number == i then slot_after_change reads actor c (slot_at old i) else slot_at old i)) → IsPartOf reads old tree → IsPartOf reads new (after_change actor (read_change reads c) tree)
+    → ((i : ℕ) → slot_at reads new i ≡ (if c.i_number == i then slot_after_change reads actor c (slot_at reads old i) else slot_at reads old i)) → IsPartOf reads old tree → IsPartOf reads new (after_change actor (read_change reads c) tree)
 part_followed reads actor c old new tree of same slots is = record {
   has_table = has_table_after actor (read_change reads c) tree is.has_table;
   stands = λ i place.
       let p = new.table.principal in
       let stood : tree p i ≡ stands_at reads old i = ap (λ (q : ℕ). tree q i) same ∙ is.stands i (ap (λ (q : ℕ). is_table q i) (sym same) ∙ place) in
       ap (λ (t : Bool). if t then content_after actor (read_change reads c) (tree p i) else tree p i) (own_test p c.principal i c.i_number (same ∙ sym of))
-      ∙ followed_step reads actor c (slot_at old i) (tree p i) (c.i_number == i) (same_place p c.principal i c.i_number (same ∙ sym of) place) stood
+      ∙ followed_step reads actor c (slot_at reads old i) (tree p i) (c.i_number == i) (same_place p c.principal i c.i_number (same ∙ sym of) place) stood
       ∙ sym (ap (content_in reads) (slots i));
 }
 
@@ -301,7 +327,7 @@ part_foreign reads actor c part tree other is = record {
 }
 
 void_step : (reads : Reading) (actor : Actor) (c : Change Digest) (part : Part) (tree : Tree) (t : Bool) → is_table c.principal c.i_number ≡ t → c.principal ≡ part.table.principal → changes_table c.action ≡ false → IsPartOf reads part tree
-    → slot_changes reads actor c (slot_at part c.i_number) ≡ has_effect actor c (tree c.principal c.i_number)
+    → slot_changes reads actor c (slot_at reads part c.i_number) ≡ has_effect actor c (tree c.principal c.i_number)
 unfolding slot_changes
 void_step reads actor c part tree true place of other is =
     let at = table_place c.principal c.i_number place in
@@ -312,7 +338,7 @@ void_step reads actor c part tree false place of other is =
     rw place (ap (has_effect actor c) (sym here))
 
 -- it is void where it has no effect on the tree
-pub void_followed : (reads : Reading) (actor : Actor) (c : Change Digest) (part : Part) (tree : Tree) (effect : Bool) → c.principal ≡ part.table.principal → changes_table c.action ≡ false → IsPartOf reads part tree → effect ≡ slot_changes reads actor c (slot_at part c.i_number) → not effect ≡ is_void_of actor part.table.principal c tree
+pub void_followed : (reads : Reading) (actor : Actor) (c : Change Digest) (part : Part) (tree : Tree) (effect : Bool) → c.principal ≡ part.table.principal → changes_table c.action ≡ false → IsPartOf reads part tree → effect ≡ slot_changes reads actor c (slot_at reads part c.i_number) → not effect ≡ is_void_of actor part.table.principal c tree
 void_followed reads actor c part tree effect of other is told =
     ap not (told ∙ void_step reads actor c part tree (is_table c.principal c.i_number) refl of other is)
     ∙ sym (ap (λ (t : Bool). (t && not (changes_table c.action)) && not (has_effect actor c (tree c.principal c.i_number))) (eq-eqb c.principal part.table.principal of)

@@ -58,11 +58,16 @@ pub directory_is : (blocks : Blocks) (reads : Reading) (digest : List ℕ) (n : 
 directory_is blocks reads digest n entries agrees held of_directory over = is_directory blocks n entries (reads.content digest) of_directory over (agrees.contents digest n held)
 
 pub read_back : (entries : List Entry) → directory.Fits entries → inode.Fits (directory_inode entries) → concat (blocks_of (directory.spell entries)) ≡ directory.spell entries → IsReadBack entries
-read_back entries fits inode_fits all = λ blocks reads agrees held.
-    let text = directory.spell entries in
-    let n = directory_inode entries in
-    let digest = hash (inode.spell n) in
-    let blocks_held : All (IsHeld blocks) (blocks_of text) = all_front (IsHeld blocks) (blocks_of text) (inode.spell n ∷ []) held in
-    let inode_is_held : IsHeld blocks (inode.spell n) = All-head (IsHeld blocks) (inode.spell n) [] (all_back (IsHeld blocks) (blocks_of text) (inode.spell n ∷ []) held) in
-    let over : directory_over blocks n ≡ Some entries = ap (option_and_then (of_size directory n.size)) (joined_held blocks (blocks_of text) blocks_held ∙ ap (λ (t : List ℕ). Some t) all) ∙ spelled_of_size entries fits in
-    directory_is blocks reads digest n entries agrees (inode_held blocks n inode_fits inode_is_held) refl over
+read_back entries fits inode_fits all =
+    record {
+      fits = fits;
+      inode_fits = inode_fits;
+      reads = λ blocks reads agrees held.
+          let text = directory.spell entries in
+          let n = directory_inode entries in
+          let digest = hash (inode.spell n) in
+          let blocks_held : All (IsHeld blocks) (blocks_of text) = all_front (IsHeld blocks) (blocks_of text) (inode.spell n ∷ []) held in
+          let inode_is_held : IsHeld blocks (inode.spell n) = All-head (IsHeld blocks) (inode.spell n) [] (all_back (IsHeld blocks) (blocks_of text) (inode.spell n ∷ []) held) in
+          let over : directory_over blocks n ≡ Some entries = ap (option_and_then (of_size directory n.size)) (joined_held blocks (blocks_of text) blocks_held ∙ ap (λ (t : List ℕ). Some t) all) ∙ spelled_of_size entries fits in
+          directory_is blocks reads digest n entries agrees (inode_held blocks n inode_fits inode_is_held) refl over;
+    }

@@ -9,3 +9,5 @@ pub mod LaidLaws
 pub mod SomeReading
 pub mod Contents
 pub mod TakenLaws
+pub mod ChunkLaws
+pub mod LoadLaws

@@ -45,9 +45,11 @@ taken_mapped true x y mapped some = some
 taken_mapped false x y mapped some = mapped some
 
 -- where nothing stands at an i-number any more
-pub is_part_taken : (old : Part) (table : ITable) (opened : List Open) (k : ℕ) → IsPart old → opened ≡ without_row nat_cmp number_of old.opened k → ((i : ℕ) → digest_at table i ≡ (if k == i then None else digest_at old.table i)) → table.unloaded ≡ old.table.unloaded → IsPart (record { table = table; opened = opened })
-is_part_taken old table opened k is left taken unloaded = record {
-  whole = unloaded ∙ is.whole;
+pub is_part_taken : (old : Part) (table : ITable) (opened : List Open) (k : ℕ) → IsPart old → opened ≡ without_row nat_cmp number_of old.opened k → ((i : ℕ) → digest_at table i ≡ (if k == i then None else digest_at old.table i)) → table.principal ≡ old.table.principal → table.unloaded ≡ old.table.unloaded
+    → IsPart (record { before = old.before; table = table; opened = opened })
+is_part_taken old table opened k is left taken whose unloaded = record {
+  principal = is.principal ∙ sym whose;
+  unloaded = is.unloaded ∙ sym unloaded;
   ascending = subst (Ascends nat_cmp number_of None) (sym left) (ascends_without_row nat_cmp number_of nat_cmp_total None old.opened k is.ascending);
   mapped = λ i some.
       let there : IsSome (if k == i then None else entries_in old.opened i) = ap is_some (sym (entries_left old.opened opened k i is.ascending left)) ∙ some in
@@ -59,9 +61,10 @@ opened_mapped true o i table x same here mapped some = subst (λ (k : ℕ). IsSo
 opened_mapped false o i table x same here mapped some = mapped some
 
 -- where a directory is opened, or changes
-pub is_part_with : (old : Part) (opened : List Open) (o : Open) → IsPart old → IsSome (digest_at old.table o.i_number) → opened ≡ with_row nat_cmp number_of old.opened o → IsPart (record { table = old.table; opened = opened })
+pub is_part_with : (old : Part) (opened : List Open) (o : Open) → IsPart old → IsSome (digest_at old.table o.i_number) → opened ≡ with_row nat_cmp number_of old.opened o → IsPart (record { before = old.before; table = old.table; opened = opened })
 is_part_with old opened o is here with = record {
-  whole = is.whole;
+  principal = is.principal;
+  unloaded = is.unloaded;
   ascending = subst (Ascends nat_cmp number_of None) (sym with) (ascends_with_row nat_cmp number_of nat_cmp_total None old.opened o refl is.ascending);
   mapped = λ i some. opened_mapped (o.i_number == i) o i old.table (entries_in old.opened i) refl here (is.mapped i) (ap is_some (sym (ap (λ (os : List Open). entries_in os i) with ∙ entries_with old.opened o i)) ∙ some);
 }

@@ -1,26 +1,30 @@
 -- The laws of a principal's part.
-use Rattle.std.proofs.Common.{◌≡◌, ℕ, false, List, [], ◌∷◌, Option, Some, None, refl, subst, sym, ap, ◌∙◌, arith}
+use Rattle.std.proofs.Common.{◌≡◌, ℕ, true, false, List, [], ◌∷◌, Option, Some, None, refl, subst, sym, ap, ◌∙◌, arith}
 use Rattle.std.specs.Prelude.{◌==◌, ◌||◌, IsSome, length}
 use Rattle.std.proofs.lemmas.Bool.{eq-eqb, ne_eqb}
 use Rattle.std.specs.Option.{option_map, option_map_or}
-use Rattle.itable.specs.ITable.{ITable, IsWhole, digest_at}
+use Rattle.itable.specs.ITable.{ITable, digest_at}
 use Rattle.itable.specs.Inode.{Inode}
 use Rattle.itable.specs.declared.inode.Kind.TheVariants as kinds
+use Rattle.std.specs.Ordering.{nat_cmp}
 use Rattle.layout.specs.Ascending.{Ascends}
 use Rattle.directory.specs.Directory.{Entry}
 use Rattle.update_cert.specs.World.{Content, File, Directory, Principals, is_file, is_removable}
 use Rattle.update_cert.specs.Reading.{Reading}
 use Rattle.tree_parts.specs.Blocks.{Blocks, inode_at, IsOf, Agrees, directory_over}
 use Rattle.tree_parts.specs.Spot.{is_of_file}
-use Rattle.tree_parts.specs.Part.{Open, Part, IsPart, part_of, opened_at, content_of, slot_of, stands_at}
-use Rattle.tree_parts.specs.Acts.{listed}
+use Rattle.tree_parts.specs.Part.{Open, Part, IsPart, number_of, opened_at, content_of, slot_of}
+use Rattle.tree_parts.specs.Acts.{listed, stands_here}
 
-is_part_of_table : (table : ITable) → IsWhole table → IsPart (part_of table)
+-- a part before any change
+pub is_part_of : (before table : ITable) (opened : List Open) → table ≡ before → opened ≡ [] → IsPart (record { before = before; table = table; opened = opened })
 unfolding Ascends
-is_part_of_table table whole = record { whole = whole; ascending = tt; mapped = λ i some. absurd cc }
-
-pub is_part_of : (table : ITable) (opened : List Open) → IsWhole table → opened ≡ [] → IsPart (record { table = table; opened = opened })
-is_part_of table opened whole is = subst (λ (os : List Open). IsPart (record { table = table; opened = os })) (sym is) (is_part_of_table table whole)
+is_part_of before table opened same none = record {
+  principal = sym (ap (λ (t : ITable). t.principal) same);
+  unloaded = sym (ap (λ (t : ITable). t.unloaded) same);
+  ascending = subst (Ascends nat_cmp number_of None) (sym none) tt;
+  mapped = λ i some. let clash : false ≡ true = rw none at some in absurd cc;
+}
 
 -- ---- what an i-node tells
 
@@ -43,7 +47,7 @@ laid_content reads None = refl
 laid_content reads (Some d) = refl
 
 -- what stands where no directory is opened
-pub closed : (reads : Reading) (part : Part) (i : ℕ) → opened_at part i ≡ None → stands_at reads part i ≡ option_map reads.content (digest_at part.table i)
+pub closed : (reads : Reading) (part : Part) (i : ℕ) → opened_at part i ≡ None → stands_here reads part i ≡ option_map reads.content (digest_at part.table i)
 closed reads part i none = rw none (laid_content reads (digest_at part.table i))
 
 changed_content : (reads : Reading) (es : List Entry) (digest : Option (List ℕ)) → IsSome digest → option_map (content_of reads) (option_map (slot_of (Some es)) digest) ≡ Some (Directory es)
@@ -51,7 +55,7 @@ changed_content reads es None has = absurd cc
 changed_content reads es (Some d) has = refl
 
 -- and where one is
-pub opened : (reads : Reading) (part : Part) (i : ℕ) (es : List Entry) → opened_at part i ≡ Some es → IsSome (digest_at part.table i) → stands_at reads part i ≡ Some (Directory es)
+pub opened : (reads : Reading) (part : Part) (i : ℕ) (es : List Entry) → opened_at part i ≡ Some es → IsSome (digest_at part.table i) → stands_here reads part i ≡ Some (Directory es)
 opened reads part i es there has = rw there (changed_content reads es (digest_at part.table i) has)
 
 module _ (blocks : Blocks) (reads : Reading) (agrees : Agrees blocks reads) where
@@ -68,11 +72,11 @@ module _ (blocks : Blocks) (reads : Reading) (agrees : Agrees blocks reads) wher
   removable_read (Some d) (Some n) is = let at : inode_at blocks d ≡ Some n = cc in sym (removable_of blocks n (reads.content d) (agrees.contents d n at))
 
   -- a file stands where its i-node says so
-  pub file_told : (part : Part) (i : ℕ) (found : Option Inode) → opened_at part i ≡ None → option_map (λ n. Some n) found ≡ option_map (inode_at blocks) (digest_at part.table i) → option_map_or (λ n. is_of_file n.kind) found false ≡ is_file (stands_at reads part i)
+  pub file_told : (part : Part) (i : ℕ) (found : Option Inode) → opened_at part i ≡ None → option_map (λ n. Some n) found ≡ option_map (inode_at blocks) (digest_at part.table i) → option_map_or (λ n. is_of_file n.kind) found false ≡ is_file (stands_here reads part i)
   file_told part i found none is = file_read (digest_at part.table i) found is ∙ sym (ap is_file (closed reads part i none))
 
   -- a file, or a directory of 6 bytes
-  pub removable_told : (part : Part) (i : ℕ) (found : Option Inode) → opened_at part i ≡ None → option_map (λ n. Some n) found ≡ option_map (inode_at blocks) (digest_at part.table i) → option_map_or (λ n. is_of_file n.kind || (n.size == 6)) found false ≡ is_removable (stands_at reads part i)
+  pub removable_told : (part : Part) (i : ℕ) (found : Option Inode) → opened_at part i ≡ None → option_map (λ n. Some n) found ≡ option_map (inode_at blocks) (digest_at part.table i) → option_map_or (λ n. is_of_file n.kind || (n.size == 6)) found false ≡ is_removable (stands_here reads part i)
   removable_told part i found none is = removable_read (digest_at part.table i) found is ∙ sym (ap is_removable (closed reads part i none))
 
   a_list : (n : Inode) (content : Content) (entries : List Entry) → IsOf blocks n content → n.kind ≡ kinds.Directory → directory_over blocks n ≡ Some entries → Some entries ≡ listed (Some content)

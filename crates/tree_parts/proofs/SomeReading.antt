@@ -86,7 +86,7 @@ unfolding read_rows
 no_bytes zero entries e = sym (ap (λ (p : List Entry × List ℕ). p.0) (ok_is ([], []) (entries, []) e))
 no_bytes (suc n) entries e = absurd cc
 
-empty_at_6 : (text : List ℕ) (entries : List Entry) → whole directory text ≡ Ok entries → (entries ≡ []) ↔ (length text ≡ 6)
+pub empty_at_6 : (text : List ℕ) (entries : List Entry) → whole directory text ≡ Ok entries → (entries ≡ []) ↔ (length text ≡ 6)
 empty_at_6 text entries e =
     let read = rows_read text entries e in (
       λ none.

@@ -1,14 +1,19 @@
--- What is asked for: the i-node that a change meets at its i-number, and the blocks of the directory that it is of,
--- where the change has to know them.
-use Rattle.std.specs.Prelude.{◌≡◌, ◌⊎◌, ℕ, Bool, true, false, ◌&&◌, not, List, Some, IsSome, IsSomeAnd, slice_get, take}
+-- What is asked for: the chunk of the i-table that the i-number of a change is in, the i-node that the change meets
+-- there, and the blocks of the directory that it is of, where the change has to know them.
+use Rattle.std.specs.Prelude.{◌≡◌, ◌⊎◌, ℕ, Bool, true, false, ◌&&◌, not, List, Some, None, IsSome, IsSomeAnd, slice_get, take}
+use Rattle.std.specs.Option.{option_map}
 use Rattle.itable.specs.declared.inode.Kind.{Kind}
 use Rattle.itable.specs.declared.inode.Kind.TheVariants as kind
 use Rattle.update_cert.specs.Change.{Action, Make, Put, Remove, Link, Unlink, AddUser, AddMember, DropMember, Change}
-use Rattle.layout.specs.Types.{Digest, INumber, Principal}
-use Rattle.update_cert.specs.World.{Actor, is_root, is_table, permitted}
-use Rattle.tree_parts.specs.Blocks.{Blocks, ForEachReading, inode_at, joined}
+use Rattle.layout.specs.Types.{Digest, Handle, INumber, Principal, User}
+use Rattle.itable.specs.Chunk.{chunk_number}
+use Rattle.itable.specs.Root.{chunk_at}
+use Rattle.itable.specs.ITable.{digest_at, loaded, root_of, unloaded_at}
+use Rattle.itable.specs.declared.root.ListedChunk.{ListedChunk}
+use Rattle.update_cert.specs.World.{Actor, is_root, is_table, may_make, permitted}
+use Rattle.tree_parts.specs.Blocks.{Blocks, ForEachReading, inode_at, inode_told, joined, root_at}
 use Rattle.tree_parts.specs.Spot.{lacks, spot_of}
-use Rattle.tree_parts.specs.Part.{Part, Laid, slot_at}
+use Rattle.tree_parts.specs.Part.{Part, Laid, handle, slot_at}
 use Rattle.tree_parts.specs.Slots.{slot_after}
 use Rattle.tree_parts.specs.declared.error.ApplyError.{ApplyError}
 use Rattle.tree_parts.specs.declared.error.ApplyError.TheVariants as error
@@ -19,6 +24,40 @@ use Rattle.tree_parts.specs.declared.spot.Spot.TheVariants as spot
 abbrev pub Lacks : Blocks → (Digest → Spot → Type 0) → ApplyError → Type 0
 Lacks blocks IsAsked (error.Missing digest s) = IsAsked digest s × (lacks blocks digest s ≡ true)
 Lacks blocks IsAsked error.Memory = Unit {0}
+
+-- ---- of an i-table
+
+-- the digest is the handle, which names the root
+abbrev pub IsRoot : Principal → Handle → Digest → Spot → Type 0
+IsRoot p handle digest s = (digest ≡ handle) × (s ≡ spot.Root p)
+
+-- the digest is that of a chunk, as a root lists it
+abbrev pub IsListed : Principal → ListedChunk → Digest → Spot → Type 0
+IsListed p c digest s = (digest ≡ c.digest) × (s ≡ spot.Chunk p c.number)
+
+-- The digest is the handle, or, once the root is held, that of the chunk which it lists for an i-number.
+abbrev pub IsChunkFor : Blocks → Principal → Handle → INumber → Digest → Spot → Type 0
+IsChunkFor blocks p handle i digest s =
+    IsRoot p handle digest s
+    ⊎ ((s ≡ spot.Chunk p (chunk_number i)) × (lacks blocks handle (spot.Root p) ≡ false)
+    × IsSomeAnd (root_at blocks handle) (λ r. option_map (λ c. c.digest) (chunk_at r (chunk_number i)) ≡ Some digest))
+
+-- nothing of that is missing
+abbrev pub HasChunkFor : Blocks → Principal → Handle → INumber → Type 0
+HasChunkFor blocks p handle i = (digest : Digest) (s : Spot) → IsChunkFor blocks p handle i digest s
+    → lacks blocks digest s ≡ false
+
+-- The part is read from these blocks: they hold the root of the handle that it stands on, and each chunk that is loaded
+-- of those which the root lists, and tell what the i-table before has there.
+pub record IsReadFrom (blocks : Blocks) (part : Part) : Type 0 where
+  pub root : root_at blocks (handle part) ≡ Some (root_of part.before)
+  pub takes_root : lacks blocks (handle part) (spot.Root part.table.principal) ≡ false
+  pub chunks : (n : ℕ) (c : ListedChunk) → chunk_at (root_of part.before) n ≡ Some c → unloaded_at part.before n ≡ None
+      → lacks blocks c.digest (spot.Chunk part.table.principal n) ≡ false
+  pub told : (i : INumber) → loaded part.before i ≡ true
+      → inode_told blocks part.table.principal (handle part) i ≡ Some (digest_at part.before i)
+
+-- ---- of an i-node
 
 -- the digest is that of the i-node at this i-number
 abbrev pub IsInode : Principal → INumber → Digest → Digest → Spot → Type 0
@@ -54,6 +93,23 @@ HasPrincipals blocks inode = (digest : Digest) (s : Spot) → IsOfPrincipals blo
     → lacks blocks digest s ≡ false
 
 -- ---- of a change
+
+-- Whether the change fits depends on what stands at its i-number, if on anything: not where its user may not make it
+-- there, nor at the place of the root directory, which stays. Changes of the table of principals stand in no chunk.
+abbrev pub needs_slot : {C : Type 0} → User → Principal → INumber → Action C → Bool
+needs_slot user p i (Make new) = may_make user p i
+needs_slot user p i (Put new) = true
+needs_slot user p i Remove = not (is_root p i)
+needs_slot user p i (Link entry) = true
+needs_slot user p i (Unlink name) = true
+needs_slot user p i (AddUser u key) = false
+needs_slot user p i (AddMember g u) = false
+needs_slot user p i (DropMember g u) = false
+
+-- so it asks for the chunk that the i-number is in
+abbrev pub asks_slot : {C : Type 0} → Actor → Change C → Bool
+asks_slot actor c = permitted actor c
+    && (not (is_table c.principal c.i_number) && needs_slot actor.user c.principal c.i_number c.action)
 
 -- Whether the change fits depends on what kind of thing stands at its i-number, and so on the i-node there: of a make
 -- it depends on whether anything does, and at the places of the table of principals and of the root it is told by the
@@ -95,13 +151,24 @@ abbrev pub IsMetAt : Blocks → Actor → List (Change Digest) → Part → ℕ 
 IsMetAt blocks actor changes part k c inode =
     (slice_get changes k ≡ Some c) × (c.principal ≡ part.table.principal)
     × ForEachReading blocks (λ reads. slot_after reads actor part.table.principal c.i_number (take k changes)
-    (slot_at part c.i_number) ≡ Some (Laid inode))
+    (slot_at reads part c.i_number) ≡ Some (Laid inode))
 
--- The digest is asked for by one of these changes, at its turn.
-abbrev pub IsAskedFor : Blocks → Actor → List (Change Digest) → Part → Digest → Spot → Type 0
-IsAskedFor blocks actor changes part digest s =
+-- one of these changes, which is of the part's principal, asks for the chunk of its i-number
+abbrev pub IsChunkAskedFor : Blocks → Actor → List (Change Digest) → Part → Digest → Spot → Type 0
+IsChunkAskedFor blocks actor changes part digest s =
+    (k : ℕ) × (c : Change Digest) × (slice_get changes k ≡ Some c) × (c.principal ≡ part.table.principal)
+    × (asks_slot actor c ≡ true) × IsChunkFor blocks part.table.principal (handle part) c.i_number digest s
+
+-- or, at its turn, for what it meets there
+abbrev pub IsInodeAskedFor : Blocks → Actor → List (Change Digest) → Part → Digest → Spot → Type 0
+IsInodeAskedFor blocks actor changes part digest s =
     (k : ℕ) × (c : Change Digest) × (inode : Digest) × IsMetAt blocks actor changes part k c inode
     × (asks actor c ≡ true) × IsWantedBy blocks c inode digest s
+
+-- The digest is asked for by one of these changes.
+abbrev pub IsAskedFor : Blocks → Actor → List (Change Digest) → Part → Digest → Spot → Type 0
+IsAskedFor blocks actor changes part digest s =
+    IsChunkAskedFor blocks actor changes part digest s ⊎ IsInodeAskedFor blocks actor changes part digest s
 
 -- nothing that they ask for is missing
 abbrev pub HasAskedFor : Blocks → Actor → List (Change Digest) → Part → Type 0

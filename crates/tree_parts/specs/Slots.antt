@@ -1,6 +1,6 @@
 -- What changes make of a part's slots, and the digests and texts that the slots then have.
 use Rattle.std.specs.Prelude.{◌≡◌, ◌==◌, Bool, false, not, ◌&&◌, ◌||◌, List, [], ◌∷◌, ◌++◌, Option, Some, None, if◌then◌else◌}
-use Rattle.std.specs.List.{All, flat_map}
+use Rattle.std.specs.List.{All, flat_map, list_all}
 use Rattle.std.specs.Option.{option_map, option_map_or}
 use Rattle.std.specs.Str.{bytes_eq}
 use Rattle.layout.specs.Hash.{hash}
@@ -71,22 +71,29 @@ slot_digest (Changed digest entries) = directory_digest entries
 abbrev pub directory_texts : List Entry → List Bytes
 directory_texts entries = blocks_of (directory.spell entries) ++ inode.spell (directory_inode entries) ∷ []
 
--- whoever holds the texts of this directory reads it from them: its digest stands for it
-abbrev pub IsReadBack : List Entry → Type 0
-IsReadBack entries =
-    (blocks : Blocks) → ForEachReading blocks (λ reads. All (IsHeld blocks) (directory_texts entries)
-    → reads.content (directory_digest entries) ≡ Directory entries)
+-- The directory and its i-node have texts, and whoever holds the directory's texts reads it from them: its digest stands
+-- for it.
+pub record IsReadBack (entries : List Entry) : Type 0 where
+  pub fits : directory.Fits entries
+  pub inode_fits : inode.Fits (directory_inode entries)
+  pub reads : (blocks : Blocks) → ForEachReading blocks (λ reads. All (IsHeld blocks) (directory_texts entries)
+      → reads.content (directory_digest entries) ≡ Directory entries)
 
 -- the i-table has this digest at an i-number
 abbrev pub has_digest : ITable → INumber → Digest → Bool
 has_digest t i digest = option_map_or (λ stored. bytes_eq stored digest) (digest_at t i) false
 
--- the directory has the digest that its i-number had before the operation, or the one under which it was laid in it:
--- nothing of it is new
-abbrev pub is_stored : ITable → ITable → Open → Bool
-is_stored before t o = has_digest before o.i_number (directory_digest o.entries)
-    || has_digest t o.i_number (directory_digest o.entries)
+-- the text is held, as this very text: it isn't enough that one of its digest is
+abbrev pub holds : Blocks → Bytes → Bool
+holds blocks text = option_map_or (λ held. bytes_eq held text) (blocks (hash text)) false
+
+-- The directory has the digest that its i-number had before the operation, or the one under which it was laid in it, and
+-- each of its texts is held: nothing of it is new.
+abbrev pub is_stored : Blocks → ITable → ITable → Open → Bool
+is_stored blocks before t o =
+    (has_digest before o.i_number (directory_digest o.entries) || has_digest t o.i_number (directory_digest o.entries))
+    && list_all (holds blocks) (directory_texts o.entries)
 
 -- the texts of those that are new, ascending by i-number
-unfoldable pub changed_texts : ITable → ITable → List Open → List Bytes
-changed_texts before t opened = flat_map (λ o. if is_stored before t o then [] else directory_texts o.entries) opened
+unfoldable pub changed_texts : Blocks → ITable → ITable → List Open → List Bytes
+changed_texts blocks before t opened = flat_map (λ o. if is_stored blocks before t o then [] else directory_texts o.entries) opened

@@ -1,6 +1,7 @@
 //! Blocks that a client holds.
 
-ghost use Rattle.std.specs.Prelude.{◌≡◌, ℕ, List, None, IsOk, IfOk, IfSome};
+ghost use Rattle.std.specs.Prelude.{◌≡◌, ◌++◌, ◌∷◌, [], ℕ, List, None, IsOk, IfOk, IfSome, map};
+ghost use Rattle.std.specs.List.{list_all};
 ghost use Rattle.std.specs.Option.{option_and_then, option_copied, option_map};
 ghost use Rattle.std.specs.Result.{result_ok};
 ghost use Rattle.std.specs.Vec.{vec_items};
@@ -8,9 +9,10 @@ ghost use Rattle.layout.specs.Format.{whole};
 ghost use Rattle.layout.specs.Hash.{hash};
 ghost use Rattle.update_cert.specs.Reading.{Reading};
 ghost use Rattle.tree_parts.specs.Blocks.{Agrees, Blocks as Held, inode_at as inode_of, joined};
+ghost use Rattle.tree_parts.specs.Slots.{holds as is_held};
 
-use itable::Inode;
-use layout::{Digest, Memory, ReadError, Text};
+use itable::{Inode, Laid};
+use layout::{Digest, Memory, ReadError, Text, digest};
 use std::alloc::Allocator;
 
 /// Blocks by digest: texts of i-nodes, of directories and of i-tables, and blocks of files.
@@ -65,6 +67,31 @@ pub fn value_at<A: Allocator + Copy, B: Blocks, T: Text<A>>(
         Some(text) => spelled(alloc, text),
         None => Ok(None),
     }
+}
+
+/// Whether a text is held, as this very text: it isn't enough that one of its digest is.
+fn holds<B: Blocks>(blocks: &B, text: &[u8]) -> bool
+    ensures { result ≡ is_held (B.held blocks.now) text.now }
+{
+    match blocks.get(digest(text)) {
+        Some(held) => held == text,
+        None => false,
+    }
+}
+
+/// Whether each of these texts is.
+fn holds_all<A: Allocator, B: Blocks>(blocks: &B, texts: &[Vec<u8, A>]) -> bool
+    ensures { result ≡ list_all (λ text. is_held (B.held blocks.now) (vec_items text)) texts.now }
+{
+    texts.iter().all(|text| holds(blocks, text))
+}
+
+/// Whether each text of what was laid is held, as this very text.
+pub fn holds_laid<A: Allocator, B: Blocks>(blocks: &B, laid: &Laid<A>) -> bool
+    ensures { result ≡ list_all (is_held (B.held blocks.now))
+        (map vec_items laid.now.blocks.items ++ laid.now.inode.items ∷ []) }
+{
+    holds_all(blocks, &laid.blocks) && holds(blocks, &laid.inode)
 }
 
 /// The i-node of a digest, if its text is held and is one.

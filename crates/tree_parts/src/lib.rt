@@ -1,9 +1,10 @@
-//! A principal's part of the tree: what is read of it from the blocks that are held, which blocks are asked for, what
-//! the changes of a certificate make of it, and how it is stored.
+//! A principal's part of the tree: what is read of it from the blocks that are held, which blocks are asked for, what the
+//! changes of a certificate make of it, and how it is stored.
 #![tactic(auto)]
 
 mod applying;
 mod blocks;
+mod chunks;
 mod error;
 mod laying;
 mod opened;
@@ -11,8 +12,9 @@ mod part;
 mod reading;
 mod spot;
 
-pub use applying::{Applied, apply};
-pub use blocks::{Blocks, some_reading_agrees, value_at};
+pub use applying::apply;
+pub use blocks::{Blocks, holds_laid, some_reading_agrees, value_at};
+pub use chunks::{chunk_of, root_of};
 pub use error::ApplyError;
 pub use part::{LaidPart, Part, Slot, has_digest};
 pub use reading::{read_directory, read_file, read_inode, read_principals};

@@ -8,7 +8,7 @@ ghost use Rattle.update_cert.specs.World.{Directory as Listed, has_name, has_roo
 ghost use Rattle.tree_parts.specs.Part.{number_of};
 
 use directory::{DirError, Directory, Entry};
-use layout::{INumber, Memory};
+use layout::{INumber, Memory, ReadError, Text};
 use std::alloc::Allocator;
 use std::marker::Model;
 
@@ -70,6 +70,20 @@ impl<A: Allocator> Open<A> {
 }
 
 impl<A: Allocator + Copy> Open<A> {
+    /// The same directory once more.
+    pub(crate) fn copy(&self, alloc: A) -> Result<Open<A>, Memory>
+        ensures { IfOk result (λ copy. copy ≡ self.now) }
+    {
+        // It fits its format.
+        let _entries = self.directory.entries();
+        let text = self.directory.text(alloc)?;
+        match Directory::read(alloc, &text) {
+            Ok(directory) => Ok(Open::new(self.i_number, directory)),
+            Err(ReadError::Memory) => Err(Memory),
+            Err(_) => unreachable!(),
+        }
+    }
+
     /// Puts this entry in, if its name is free and there is room.
     pub(crate) fn link(&mut self, entry: &Entry<A>) -> Result<bool, Memory>
         ensures room { IfOk result (λ room. room ≡ has_room entry.now.name (Some (Listed self.old.entries))) }
@@ -104,4 +118,18 @@ pub(crate) fn take_out<A: Allocator>(opened: &mut Vec<Open<A>, A>, i_number: INu
     if let Ok(place) = find(opened, i_number) {
         let _open = opened.remove(place);
     }
+}
+
+/// The same directories once more.
+pub(crate) fn copies<A: Allocator + Copy>(
+    alloc: A,
+    opened: &[Open<A>],
+) -> Result<Vec<Open<A>, A>, Memory>
+    ensures { IfOk result (λ copies. copies.items ≡ opened.now) }
+{
+    let mut copies = Vec::new(alloc);
+    for open in opened {
+        copies.push(open.copy(alloc)?)?;
+    }
+    Ok(copies)
 }

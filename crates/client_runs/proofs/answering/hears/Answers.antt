@@ -1,8 +1,8 @@
 use Rattle.std.proofs.Common.{refl, subst}
 use Rattle.layout.specs.Types.{Bytes}
 use Rattle.client_runs.specs.declared.world.Act.TheVariants as act
-use Rattle.client_runs.specs.Steps.{HasHeard}
-use Rattle.client_runs.specs.Told.{asked, on_ok}
+use Rattle.client_steps.specs.Steps.{HasHeard}
+use Rattle.client_steps.specs.Anywhere.{asked, on_ok}
 use Rattle.client_runs.proofs.Taking as taking
 use Rattle.client_runs.proofs.answering.hears.Goals as goal
 

@@ -1,8 +1,8 @@
 use Rattle.std.proofs.Common.{Option, refl, subst}
 use Rattle.layout.specs.Types.{Bytes}
 use Rattle.client_runs.specs.declared.world.Act.TheVariants as act
-use Rattle.client_runs.specs.Steps.{HasTaken}
-use Rattle.client_runs.specs.Told.{on_ok, asked}
+use Rattle.client_steps.specs.Steps.{HasTaken}
+use Rattle.client_steps.specs.Anywhere.{on_ok, asked}
 use Rattle.client_runs.proofs.Taking as taking
 use Rattle.client_runs.proofs.answering.takes.Goals as goal
 

@@ -1,6 +1,6 @@
 use Rattle.std.proofs.Common.{◌∙◌, ap, refl, sym}
 use Rattle.leaf_ledger.specs.Device.{started}
-use Rattle.client_runs.specs.Steps.{Closed, Owner, Parts}
+use Rattle.client_steps.specs.Steps.{Closed, Owner, Parts}
 use Rattle.client_runs.specs.Runs.{owner}
 use Rattle.client_runs.specs.Carried.{script_keys}
 use Rattle.client_runs.proofs.Taking as taking

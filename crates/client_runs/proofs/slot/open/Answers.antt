@@ -1,4 +1,4 @@
-use Rattle.client_runs.specs.Steps.{Owner, Parts}
+use Rattle.client_steps.specs.Steps.{Owner, Parts}
 use Rattle.client_runs.specs.Runs.{owner}
 use Rattle.client_runs.specs.Carried.{script_keys}
 use Rattle.client_runs.proofs.Taking as taking

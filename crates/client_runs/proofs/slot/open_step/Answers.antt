@@ -1,7 +1,7 @@
 use Rattle.std.proofs.Common.{◌∙◌, ap, sym}
 use Rattle.leaf_ledger.specs.Device.{started}
 use Rattle.client_runs.specs.Slots.{Tells}
-use Rattle.client_runs.specs.Steps.{IsHandedBack, Open, Parts}
+use Rattle.client_steps.specs.Steps.{IsHandedBack, Open, Parts}
 use Rattle.client_runs.proofs.Taking as taking
 use Rattle.client_runs.proofs.slot.open_step.Goals as goal
 

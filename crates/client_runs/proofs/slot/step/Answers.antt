@@ -1,6 +1,6 @@
 use Rattle.std.proofs.Common.{IfOk, ◌∙◌, ◌≡◌, ap, subst, sym}
 use Rattle.client_runs.specs.declared.slot.Slot.{Slot}
-use Rattle.client_runs.specs.Steps.{Client, Open, Owner}
+use Rattle.client_steps.specs.Steps.{Client, Open, Owner}
 use Rattle.client_runs.specs.Runs.{owner}
 use Rattle.client_runs.specs.Carried.{ComesOf, script_keys}
 use Rattle.client_runs.specs.Slots.{IsOf, client_in}

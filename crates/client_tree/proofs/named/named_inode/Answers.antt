@@ -3,11 +3,9 @@ use Rattle.itable.specs.ITable.{digest_in}
 use Rattle.itable.specs.Root.{chunk_at, number_of}
 use Rattle.tree_parts.specs.Spot.{lacks}
 use Rattle.tree_parts.specs.declared.spot.Spot.TheVariants as spot
-use Rattle.tree_parts.specs.Asked.{Lacks}
-use Rattle.client_tree.specs.Tables.{IsChunkFor}
+use Rattle.tree_parts.specs.Asked.{IsChunkFor, IsListed, Lacks}
 use Rattle.client_tree.proofs.NamedLaws.{has_both, has_first, lacks_first_chunk, lists_first, row_key}
 use Rattle.client_tree.proofs.OpenedLaws.{handed_on}
-use Rattle.client_tree.proofs.TableLaws.{LacksText}
 use Rattle.client_tree.proofs.named.named_inode.Goals as goal
 
 pub unreachable-requires : goal.unreachable-requires
@@ -39,9 +37,8 @@ returns-in_err-chunk-clause-missing g c =
     let root_taken = subst (λ (p : ℕ). lacks held c.args.handle (spot.Root p) ≡ false) first c.in_ok-root.ensures.taken in
     let at : chunk_at r 0 ≡ Some listed = sym c.first_chunk.ensures ∙ c.in-Some.is in
     let number = row_key number_of r.chunks 0 listed at in
-    let of_first = subst (λ (p : ℕ). LacksText held listed.digest (spot.Chunk p listed.number) e) first c.in_err-chunk.ensures.missing in
-    let missing = subst (λ (n : ℕ). LacksText held listed.digest (spot.Chunk 0 n) e) number of_first in
-    handed_on c.from_residual-in_err-chunk.result e (Lacks held (IsChunkFor held 0 c.args.handle 1)) c.from_residual-in_err-chunk.ensures.1 (lacks_first_chunk held c.args.handle r listed e c.in_ok-root.ensures.found root_taken at missing)
+    let missing = subst (λ (p : ℕ). Lacks held (IsListed p listed) e) first c.in_err-chunk.ensures.missing in
+    handed_on c.from_residual-in_err-chunk.result e (Lacks held (IsChunkFor held 0 c.args.handle 1)) c.from_residual-in_err-chunk.ensures.1 (lacks_first_chunk held c.args.handle r listed e c.in_ok-root.ensures.found root_taken at number missing)
 
 pub returns-clause-taken : goal.returns-clause-taken
 returns-clause-taken g c =

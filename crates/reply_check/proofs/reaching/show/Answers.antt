@@ -12,4 +12,4 @@ returns g c =
     let over : c.view-view.result ≡ view_over c.args.pinned.now c.args.table.now lists =
     c.view-view.ensures
     ∙ ap (λ (k : Key). record { key = k; table = c.args.table.now; structures = lists.structures; others = lists.others; own = lists.own }) c.as_bytes.ensures.same in
-    subst (λ (v : View). IfOk c.show_in.result (λ x. IsAnswer (g.B.Blocks.held c.args.blocks.now) v c.args.principal c.args.i_number x)) over c.show_in.ensures
+    subst (λ (v : View). IfOk c.show_in.result (λ x. IsAnswer (g.B.Blocks.held c.args.blocks.now) v c.args.question x)) over c.show_in.ensures

@@ -1,4 +1,4 @@
-use Rattle.std.proofs.Common.{◌≡◌, ◌+◌, ℕ, List, [], ◌∷◌, length, take, refl, sym, ap, ◌∙◌, subst, arith}
+use Rattle.std.proofs.Common.{◌≡◌, ◌+◌, ℕ, List, [], ◌∷◌, length, take, sym, ap, ◌∙◌, subst, arith}
 use Rattle.std.proofs.lemmas.List.{length-take, take_all}
 use Rattle.std.specs.Int.{w8}
 use Rattle.std.specs.Vec.{vec_items}
@@ -8,9 +8,10 @@ use Rattle.update_cert.specs.Change.{Change}
 use Rattle.layout.specs.Types.{Digest}
 use Rattle.update_cert.specs.World.{after, void_from}
 use Rattle.update_cert.specs.Reading.{after_read, void_of_read}
-use Rattle.tree_parts.specs.Part.{IsPartOf, slot_at}
+use Rattle.tree_parts.specs.Part.{IsPartOf, Part, handle, slot_at}
 use Rattle.tree_parts.specs.Slots.{slot_after}
-use Rattle.tree_parts.specs.Asked.{IsAskedFor, Lacks}
+use Rattle.tree_parts.specs.Asked.{IsAskedFor, IsReadFrom, Lacks}
+use Rattle.tree_parts.specs.declared.error.ApplyError.TheVariants as error
 use Rattle.tree_parts.specs.Acts.{is_void_of}
 use Rattle.tree_parts.proofs.AskedLaws.{all_met, handed_on, lacks_met, met_next}
 use Rattle.tree_parts.proofs.TreeLaws.{part_next, slot_next, voids_next}
@@ -20,13 +21,18 @@ use Rattle.tree_parts.proofs.applying.apply.Goals as goal
 
 pub loop-place-init : goal.loop-place-init
 unfolding after void_from slot_after
-loop-place-init g c = record {
-  principal = refl;
-  part = λ reads agrees tree actor is of one. is;
-  voids = λ reads agrees tree actor is of one. c.new-numbers.ensures.items;
-  slots = λ reads agrees actor of one i. refl;
-  taken = λ actor of one k change inode digest s lt met asked wanted. absurd (omega (arith, lt));
-}
+loop-place-init g c =
+    let part = c.args.part.now in
+    let same : c.in_ok-changed.changed ≡ part = c.in_ok-changed.ensures in
+    record {
+      principal = ap (λ (p : Part). p.table.principal) same;
+      stands = ap handle same;
+      read = subst (IsReadFrom (g.B.Blocks.held c.args.blocks.now)) (sym same) c.requires.read;
+      part = λ reads agrees tree actor is of one. subst (λ (p : Part). IsPartOf reads p tree) (sym same) is;
+      voids = λ reads agrees tree actor is of one. c.new-numbers.ensures.items;
+      slots = λ reads agrees actor of one i. ap (λ (p : Part). slot_at reads p i) same;
+      taken = λ actor of one k change digest s lt there own met. absurd (omega (arith, lt));
+    }
 
 pub returns-in_err-apply_change-clause-missing : goal.returns-in_err-apply_change-clause-missing
 returns-in_err-apply_change-clause-missing g c = λ actor of one.
@@ -37,15 +43,20 @@ returns-in_err-apply_change-clause-missing g c = λ actor of one.
     let missing = c.in_err-apply_change.ensures.missing actor (of ∙ sym c.user-user.ensures.same) (ap actor.member inv.principal ∙ one) in
     let inside = rw c.changes-change-items.ensures at c.loop-place-test.true in
     let at = rw c.changes-change-items.ensures at c.change-item.is in
-    let lacks : Lacks blocks (IsAskedFor blocks actor cs c.args.part) e = lacks_met blocks actor c.args.part c.loop-place.part cs c.loop-place.place c.change-item.result e inv.principal missing.0 inside at (λ reads agrees. inv.slots reads agrees actor of one) missing.1 in
-    handed_on c.from_residual.result e (Lacks blocks (IsAskedFor blocks actor cs c.args.part)) c.from_residual.ensures.1 lacks
+    let lacks : Lacks blocks (IsAskedFor blocks actor cs c.args.part.now) e = lacks_met blocks actor c.args.part.now c.loop-place.changed cs c.loop-place.place c.change-item.result e inv.principal inv.stands missing.0 inside at (λ reads agrees. inv.slots reads agrees actor of one) missing.1 in
+    handed_on c.from_residual-in_err-apply_change.result e (Lacks blocks (IsAskedFor blocks actor cs c.args.part.now)) c.from_residual-in_err-apply_change.ensures.1 lacks
+
+pub returns-in_err-push-clause-missing : goal.returns-in_err-push-clause-missing
+returns-in_err-push-clause-missing g c = λ actor of one.
+    let blocks = g.B.Blocks.held c.args.blocks.now in
+    handed_on c.from_residual-in_err-push.result error.Memory (Lacks blocks (IsAskedFor blocks actor c.args.cert.now.changes c.args.part.now)) c.from_residual-in_err-push.ensures.1 tt
 
 pub loop-place-preserved : goal.loop-place-preserved
 loop-place-preserved g c =
     let inv = c.loop-place.invariant in
     let blocks = g.B.Blocks.held c.args.blocks.now in
-    let first = c.args.part in
-    let part = c.loop-place.part in
+    let first = c.args.part.now in
+    let part = c.loop-place.changed in
     let new = c.apply_change.new.self in
     let cs = c.args.cert.now.changes in
     let k = c.loop-place.place in
@@ -57,6 +68,8 @@ loop-place-preserved g c =
     let long : length (take k cs) ≡ k = length-take k cs ∙ omega (arith, inside) in
     record {
       principal = done.principal ∙ inv.principal;
+      stands = done.handle ∙ inv.stands;
+      read = done.read;
       part = λ reads agrees tree actor is of one.
           part_next reads actor (take k cs) (take (k + 1) cs) change new tree front
           (done.part reads agrees (after_read reads actor (take k cs) tree) actor (inv.part reads agrees tree actor is of one) (of ∙ sym c.user-user.ensures.same) (ap actor.member inv.principal ∙ one));
@@ -71,11 +84,11 @@ loop-place-preserved g c =
           ]);
       slots = λ reads agrees actor of one i.
           let p = first.table.principal in
-          let old = slot_at part i in
+          let old = slot_at reads part i in
           let more = done.slots reads agrees actor (of ∙ sym c.user-user.ensures.same) (ap actor.member inv.principal ∙ one) i ∙ ap (λ (q : ℕ). slot_after reads actor q i (change ∷ []) old) inv.principal in
-          slot_next reads actor p i (take k cs) (take (k + 1) cs) change (slot_at first i) old (slot_at new i) front (inv.slots reads agrees actor of one i) more;
+          slot_next reads actor p i (take k cs) (take (k + 1) cs) change (slot_at reads first i) old (slot_at reads new i) front (inv.slots reads agrees actor of one i) more;
       taken = λ actor of one.
-          met_next blocks actor first part cs k change inv.principal inside at (λ reads agrees. inv.slots reads agrees actor of one)
+          met_next blocks actor first part cs k change inv.principal inv.stands inside at (λ reads agrees. inv.slots reads agrees actor of one)
           (done.taken actor (of ∙ sym c.user-user.ensures.same) (ap actor.member inv.principal ∙ one))
           (inv.taken actor of one);
     }
@@ -85,7 +98,7 @@ returns-clause-part g c = λ reads agrees tree actor is of one.
     let cs = c.args.cert.now.changes in
     let past = rw c.changes-change-items.ensures at c.loop-place-test.false in
     let all = take_all c.loop-place.place cs past in
-    subst (λ (xs : List (Change Digest)). IsPartOf reads c.loop-place.part (after_read reads actor xs tree)) all (c.loop-place.invariant.part reads agrees tree actor is of one)
+    rw c.put_in.ensures (subst (λ (xs : List (Change Digest)). IsPartOf reads c.loop-place.changed (after_read reads actor xs tree)) all (c.loop-place.invariant.part reads agrees tree actor is of one))
 
 pub returns-clause-voids : goal.returns-clause-voids
 returns-clause-voids g c = λ reads agrees tree actor is of one.
@@ -93,23 +106,32 @@ returns-clause-voids g c = λ reads agrees tree actor is of one.
     let past = rw c.changes-change-items.ensures at c.loop-place-test.false in
     let all = take_all c.loop-place.place cs past in
     c.of.ensures
-    ∙ subst (λ (xs : List (Change Digest)). c.loop-place.numbers.items ≡ void_of_read reads actor c.args.part.table.principal xs tree) all (c.loop-place.invariant.voids reads agrees tree actor is of one)
+    ∙ subst (λ (xs : List (Change Digest)). c.loop-place.numbers.items ≡ void_of_read reads actor c.args.part.now.table.principal xs tree) all (c.loop-place.invariant.voids reads agrees tree actor is of one)
 
 pub returns-clause-slots : goal.returns-clause-slots
 returns-clause-slots g c = λ reads agrees actor of one i.
     let cs = c.args.cert.now.changes in
     let past = rw c.changes-change-items.ensures at c.loop-place-test.false in
     let all = take_all c.loop-place.place cs past in
-    subst (λ (xs : List (Change Digest)). slot_at c.loop-place.part i ≡ slot_after reads actor c.args.part.table.principal i xs (slot_at c.args.part i)) all (c.loop-place.invariant.slots reads agrees actor of one i)
+    rw c.put_in.ensures (subst (λ (xs : List (Change Digest)). slot_at reads c.loop-place.changed i ≡ slot_after reads actor c.args.part.now.table.principal i xs (slot_at reads c.args.part.now i)) all (c.loop-place.invariant.slots reads agrees actor of one i))
 
 pub returns-clause-taken : goal.returns-clause-taken
 returns-clause-taken g c = λ actor of one.
     let cs = c.args.cert.now.changes in
     let past = rw c.changes-change-items.ensures at c.loop-place-test.false in
-    all_met (g.B.Blocks.held c.args.blocks.now) actor cs c.args.part c.loop-place.place past (c.loop-place.invariant.taken actor of one)
+    all_met (g.B.Blocks.held c.args.blocks.now) actor cs c.args.part.now c.loop-place.place past (c.loop-place.invariant.taken actor of one)
 
 pub returns-clause-principal : goal.returns-clause-principal
-returns-clause-principal g c = c.loop-place.invariant.principal
+returns-clause-principal g c = rw c.put_in.ensures c.loop-place.invariant.principal
+
+pub returns-clause-handle : goal.returns-clause-handle
+returns-clause-handle g c = rw c.put_in.ensures c.loop-place.invariant.stands
+
+pub returns-clause-read : goal.returns-clause-read
+returns-clause-read g c = rw c.put_in.ensures c.loop-place.invariant.read
+
+pub apply_change-requires : goal.apply_change-requires
+apply_change-requires g c = record { read = c.loop-place.invariant.read }
 
 -- ---- there are at most 16 changes
 

@@ -1,7 +1,7 @@
 use Rattle.std.proofs.Common.{◌≡◌, ◌<◌, ◌++◌, ℕ, List, [], ◌∷◌, length, map, take, sym, ap, subst, ◌∙◌}
 use Rattle.std.proofs.lemmas.List.{map-append, take_all}
 use Rattle.std.proofs.lemmas.List.Elements.{All-append, All-cons, All-nil}
-use Rattle.std.specs.Prelude.{slice_index_or}
+use Rattle.std.specs.Prelude.{◌⊎◌, slice_index_or}
 use Rattle.std.specs.Int.{w8}
 use Rattle.std.specs.List.{All}
 use Rattle.layout.specs.Laws.{in_range}
@@ -11,11 +11,12 @@ use Rattle.update_cert.specs.World.{Tree}
 use Rattle.update_cert.specs.Reading.{Reading, void_of_read}
 use Rattle.update_cert.specs.Cert.{Cert, cert}
 use Rattle.tree_parts.specs.Asked.{Lacks}
+use Rattle.tree_parts.specs.Blocks.{Blocks}
 use Rattle.pending_list.specs.Reply.{PendingItem}
 use Rattle.client_tree.specs.Lost.{PartVoids, lost_from}
-use Rattle.client_tree.specs.View.{actor_of, tree_before, written}
-use Rattle.client_tree.specs.Opened.{IsReached}
-use Rattle.client_tree.specs.Tree.{IsStored, IsWanted, Stored}
+use Rattle.client_tree.specs.View.{View, actor_of, tree_before, written}
+use Rattle.client_tree.specs.Opened.{IsNeeded}
+use Rattle.client_tree.specs.Tree.{IsStored, IsUntouched, IsWanted, Stored}
 use Rattle.client_tree.proofs.LostLaws.{lost_is_void}
 use Rattle.client_tree.proofs.OpenedLaws.{handed_on, take_next, wider}
 use Rattle.client_tree.proofs.WrittenLaws.{are_listed, has_item}
@@ -32,10 +33,13 @@ returns-in_err-written-2-clause-missing g c =
     let inside : k < length (written x) = rw principals at c.loop-principal-test.true in
     let at : p ≡ slice_index_or (written x) k p = rw principals at c.principal-item.is in
     handed_on c.from_residual-in_err-written-2.result e (Lacks held (IsWanted held x)) c.from_residual-in_err-written-2.ensures.1
-    (wider held (IsReached held x p) (IsWanted held x) e (λ digest s reached. (p, has_item (written x) k p inside at, reached)) c.in_err-written-2.ensures.missing)
+    (wider held (IsNeeded held x p) (IsWanted held x) e (λ digest s reached. (p, has_item (written x) k p inside at, reached)) c.in_err-written-2.ensures.missing)
 
 abbrev HasVoids : Reading → Table → PendingItem → Tree → PartVoids → Type 0
 HasVoids reads t own tree v = v.numbers ≡ void_of_read reads (actor_of t own) v.principal own.cert.changes tree
+
+abbrev IsKept : Blocks → View → Stored → Type 0
+IsKept blocks x s = IsStored blocks x s ⊎ IsUntouched x s
 
 pub loop-principal-preserved : goal.loop-principal-preserved
 loop-principal-preserved g c =
@@ -53,7 +57,7 @@ loop-principal-preserved g c =
     let next = take_next (written x) k p inside at in
     record {
       principals = ap (map (λ (s : Stored). s.principal)) c.in_ok-push.ensures.items ∙ map-append (λ (s : Stored). s.principal) c.loop-principal.parts.items (stored ∷ []) ∙ ap (λ (ps : List Principal). ps ++ stored.principal ∷ []) inv.principals ∙ ap (λ (q : Principal). take k (written x) ++ q ∷ []) done.principal ∙ sym next;
-      stored = subst (All (IsStored held x)) (sym c.in_ok-push.ensures.items) (All-append (IsStored held x) c.loop-principal.parts.items (stored ∷ []) inv.stored (All-cons (IsStored held x) stored [] done.stored (All-nil (IsStored held x))));
+      stored = subst (All (IsKept held x)) (sym c.in_ok-push.ensures.items) (All-append (IsKept held x) c.loop-principal.parts.items (stored ∷ []) inv.stored (All-cons (IsKept held x) stored [] done.stored (All-nil (IsKept held x))));
       parts = ap (map (λ (v : PartVoids). v.principal)) c.in_ok-push-2.ensures.items ∙ map-append (λ (v : PartVoids). v.principal) c.loop-principal.of_parts.items (voids ∷ []) ∙ ap (λ (ps : List Principal). ps ++ voids.principal ∷ []) inv.parts ∙ ap (λ (q : Principal). take k (written x) ++ q ∷ []) done.changed ∙ sym next;
       voids = λ reads agrees users.
           let tree = tree_before reads users x in

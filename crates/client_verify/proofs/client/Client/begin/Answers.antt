@@ -1,4 +1,4 @@
-use Rattle.std.proofs.Common.{◌≡◌, ap, map, refl, subst, sym, ◌∙◌}
+use Rattle.std.proofs.Common.{◌≡◌, ap, map, subst, sym, ◌∙◌}
 use Rattle.std.specs.Vec.{vec_items}
 use Rattle.std.proofs.lemmas.Result.{on_err_weaker, on_ok_weaker}
 use Rattle.layout.specs.Types.{Bytes}
@@ -10,7 +10,7 @@ use Rattle.client_releases.specs.declared.phase.Phase.TheVariants as phase
 use Rattle.client_releases.specs.Releasing.{AnyMoment, IsTried, OneHasRisen, cert_record}
 use Rattle.client_releases.specs.Told.{Released, sent}
 use Rattle.client_verify.specs.State.{State, declared_text, next_cert, released}
-use Rattle.client_verify.proofs.Releasing.{at_device, begun, begun_failed, but_device, err_at, never_else, of_released, ok_either, only_device, own_after, refused_moments, refused_tried, same_error, seen, stands_in}
+use Rattle.client_verify.proofs.Releasing.{at_device, begun, begun_failed, but_device, err_at, never_else, ok_either, only_device, own_after, refused_moments, refused_tried, same_error, seen, stands_in}
 use Rattle.client_verify.proofs.client.Client.begin.Goals as goal
 
 pub returns-in-Err-clause-any_moment : goal.returns-in-Err-clause-any_moment

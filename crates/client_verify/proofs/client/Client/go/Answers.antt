@@ -1,4 +1,4 @@
-use Rattle.std.proofs.Common.{◌≡◌, List, map, refl, subst}
+use Rattle.std.proofs.Common.{map, refl, subst}
 use Rattle.client_tree.specs.Held.{held}
 use Rattle.reply_check.specs.declared.reaching.Written.{Written}
 use Rattle.reply_check.specs.Reached.{IsWritten}

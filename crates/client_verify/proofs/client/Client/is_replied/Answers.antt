@@ -1,7 +1,5 @@
-use Rattle.std.proofs.Common.{◌≡◌, Option, Some, None, ap, refl, subst, sym}
-use Rattle.std.specs.Prelude.{IsSomeAnd}
-use Rattle.pending_list.specs.Reply.{PendingItem, pending_item}
-use Rattle.reply_rules.specs.Lists.{Lists, lists_of}
+use Rattle.std.proofs.Common.{ap, refl, subst}
+use Rattle.reply_rules.specs.Lists.{lists_of}
 use Rattle.client_releases.specs.Told.{IsReleased}
 use Rattle.client_verify.specs.State.{known, released}
 use Rattle.client_verify.proofs.Declared.{of_declared, own_fits}

@@ -1,17 +1,9 @@
-use Rattle.std.proofs.Common.{◌≡◌, Some, ap, ◌∙◌, rules}
-use Rattle.client_tree.specs.Held.{held}
-use Rattle.reply_check.specs.Reached.{IsAnswer}
-use Rattle.reply_check.specs.FirstBroken.{view_over}
-use Rattle.client_verify.specs.State.{State, AcceptedView}
-use Rattle.client_verify.proofs.Steps.{if_some, shown_there}
+use Rattle.client_tree.specs.declared.questions.Question.TheVariants as question
+use Rattle.client_verify.proofs.Standing.{begun_only, begun_stands}
 use Rattle.client_verify.proofs.client.Client.look.Goals as goal
 
-pub answer-requires-clause-shown : goal.answer-requires-clause-shown
-answer-requires-clause-shown g c =
-    let old = c.args.self.now in
-    let v = c.in-Some.view in
-    let there : old.view ≡ Some v = search rules in
-    let table : c.table.result.now ≡ v.table = c.table.ensures ∙ ap (λ (w : AcceptedView). w.table) c.view.view_is in
-    let lists : c.lists.result.now ≡ v.lists = c.lists.ensures ∙ ap (λ (w : AcceptedView). w.lists) c.view.view_is in
-    if_some old.view v (λ w. IsAnswer (held old.blocks) (view_over old.pinned w.table w.lists) c.args.principal c.args.i_number c.in_ok-shown.shown) there
-    (shown_there c.self.inside.blocks old.blocks c.self.inside.pinned old.pinned c.table.result.now c.lists.result.now v c.args.principal c.args.i_number c.in_ok-shown.shown (ap (λ (s : State). s.blocks) c.self.view_is) (ap (λ (s : State). s.pinned) c.self.view_is) table lists c.in_ok-shown.ensures)
+pub returns-clause-stands : goal.returns-clause-stands
+returns-clause-stands g c = begun_stands c.args.self.now c.args.self.now.view (question.At c.args.principal c.args.i_number) c.begin_look.result c.begin_look.new.self c.requires c.begin_look.ensures.looked
+
+pub returns-clause-only : goal.returns-clause-only
+returns-clause-only g c = begun_only c.args.self.now c.args.self.now.view (question.At c.args.principal c.args.i_number) c.begin_look.result c.begin_look.new.self c.requires c.begin_look.ensures.looked

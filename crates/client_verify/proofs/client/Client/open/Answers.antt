@@ -1,4 +1,4 @@
-use Rattle.std.proofs.Common.{◌≡◌, List, Option, Some, None, refl, sym, subst, ap, inl, ◌∙◌, rules}
+use Rattle.std.proofs.Common.{refl, inl}
 use Rattle.lms_sign.specs.Keys.{public_key_of}
 use Rattle.leaf_ledger.proofs.Lives.{no_call}
 use Rattle.client_releases.proofs.Opening.{ledger_refused}

@@ -1,13 +1,10 @@
-use Rattle.std.proofs.Common.{◌≡◌, ℕ, IsSome, List, Some, None, Option, ap, refl, rules, subst, sym, ◌∙◌}
+use Rattle.std.proofs.Common.{◌≡◌, IsSome, Some, Option, ap, refl, subst, sym, ◌∙◌}
 use Rattle.layout.specs.Types.{Bytes}
-use Rattle.lms_sign.specs.Keys.{public_key_of}
-use Rattle.leaf_ledger.specs.Ledger.{IsFull, IsLeastFree, LeafNumber}
-use Rattle.version_order.specs.Structure.{Structure, structure}
-use Rattle.reply_rules.specs.Lists.{Lists}
-use Rattle.client_releases.specs.declared.error.ClientError.TheVariants as error
+use Rattle.leaf_ledger.specs.Ledger.{IsLeastFree, LeafNumber}
+use Rattle.version_order.specs.Structure.{structure}
 use Rattle.client_releases.specs.Releasing.{AnyMoment, IsTried, OneHasRisen, structure_record}
 use Rattle.client_releases.specs.Told.{Released, sent}
-use Rattle.client_verify.specs.State.{IsOfDeclared, Ready, State, next_structure, released, signed_text}
+use Rattle.client_verify.specs.State.{Ready, State, next_structure, released, signed_text}
 use Rattle.client_verify.proofs.Handing.{if_at}
 use Rattle.client_verify.proofs.Steps.{if_some}
 use Rattle.client_verify.proofs.Releasing.{always, no_full, not_full_error, nothing_replied, own_failed, own_signed, refused_moments, refused_tried, seen, shown_is, signed_of, stands_ready, view_is}

@@ -1,6 +1,6 @@
 use Rattle.std.proofs.Common.{◌∙◌, sym, ap, arith}
 use Rattle.itable.specs.ITable.{ITable, listing}
-use Rattle.itable.proofs.RootLaws.{one_listed, none_listed, all_listed}
+use Rattle.itable.proofs.RootLaws.{one_more, none_more, all_listed}
 use Rattle.itable.proofs.table.ITable.listings.Goals as goal
 use Rattle.itable.proofs.table.ITable.listings.Goals.{in-Some+in_ok-push, in_default}
 
@@ -13,8 +13,8 @@ loop-number-preserved g c =
     let here = c.in_ok-chunk.ensures.listed ∙ ap (λ (u : ITable). listing u c.at.result) c.loop-number.invariant.same ∙ ap (listing t) c.at.ensures in
     record {
       so_far = elim c.match-branch-2.branch [
-        | in-Some+in_ok-push w ↦ rw w.chunks-is (one_listed t n old _ w.in-Some.chunk so_far (sym w.in-Some.is ∙ here) w.in_ok-push.ensures.items)
-        | in_default w ↦ rw w.chunks-is (none_listed t n old so_far (sym w.in_default.is ∙ here))
+        | in-Some+in_ok-push w ↦ rw w.chunks-is (one_more (listing t) n old _ w.in-Some.chunk so_far (sym w.in-Some.is ∙ here) w.in_ok-push.ensures.items)
+        | in_default w ↦ rw w.chunks-is (none_more (listing t) n old so_far (sym w.in_default.is ∙ here))
       ];
       same = c.in_ok-chunk.ensures.same ∙ c.loop-number.invariant.same;
     }

@@ -1,4 +1,4 @@
-use Rattle.std.proofs.Common.{◌≡◌, ◌≢◌, Some, subst, sym, rules}
+use Rattle.std.proofs.Common.{◌≡◌, ◌≢◌, Some, subst, rules}
 use Rattle.principals.specs.Table.{key_of}
 use Rattle.reply_check.specs.Good.{Good}
 use Rattle.reply_check.specs.Verified.{AreOf}

@@ -1,7 +1,6 @@
-use Rattle.std.proofs.Common.{◌≡◌, ℕ, ◌+◌, ◌-◌, ◌++◌, ◌∷◌, [], List, Option, Some, length, sym, ap, subst, ◌∙◌}
-use Rattle.std.specs.Prelude.{IfSome, IsSomeAnd}
-use Rattle.std.specs.List.{slice_get}
-use Rattle.pending_list.specs.Reply.{PendingItem, Reply}
+use Rattle.std.proofs.Common.{◌≡◌, sym, ap, subst, ◌∙◌}
+use Rattle.std.specs.Prelude.{IsSomeAnd}
+use Rattle.pending_list.specs.Reply.{Reply}
 use Rattle.reply_rules.specs.Lists.{lists_of}
 use Rattle.reply_check.proofs.ListsLaws.{own_is_last}
 use Rattle.reply_check.proofs.lists.Admitted.broken_by.Goals as goal

@@ -6,8 +6,8 @@ use Rattle.tree_parts.specs.declared.error.ApplyError.TheVariants.{Memory}
 use Rattle.tree_parts.specs.Asked.{Lacks}
 use Rattle.update_cert.specs.Change.{Link}
 use Rattle.update_cert.specs.World.{Directory, has_room}
-use Rattle.tree_parts.specs.Acts.{LiesAt, change_at, listed}
-use Rattle.tree_parts.specs.Part.{Part, opened_at, stands_at}
+use Rattle.tree_parts.specs.Acts.{LiesAt, change_at, listed, stands_here}
+use Rattle.tree_parts.specs.Part.{Part, opened_at}
 use Rattle.tree_parts.proofs.PartLaws.{closed}
 use Rattle.tree_parts.proofs.ActLaws.{is_part_edited, slot_edited, opened_there, edit_acts, open_acts, void_acts, stands_closed, makes_linked, no_room}
 use Rattle.tree_parts.proofs.AskedLaws.{handed_on, has_opened}
@@ -15,21 +15,21 @@ use Rattle.tree_parts.proofs.part.Part.link.Goals as goal
 
 pub invariant_of-self : goal.invariant_of-self
 invariant_of-self g c =
-    let old : Part = record { table = c.self.inside.table; opened = c.self.inside.opened.items } in
+    let old : Part = record { before = c.self.inside.before; table = c.self.inside.table; opened = c.self.inside.opened.items } in
     let at = rw c.deref.ensures.value at c.in-Ok.ensures in
     let here : c.index_mut.result.now ≡ slice_index_or c.self.inside.opened.items c.in-Ok.place c.index_mut.result.now = search rules in
     is_part_edited old c.args.i_number c.in-Ok.place c.index_mut.result.now c.link.new.self at here c.link.ensures.i_number c.self.invariant
 
 pub invariant_of-self-in-Ok : goal.invariant_of-self-in-Ok
 invariant_of-self-in-Ok g c =
-    let old : Part = record { table = c.self.inside.table; opened = c.self.inside.opened.items } in
+    let old : Part = record { before = c.self.inside.before; table = c.self.inside.table; opened = c.self.inside.opened.items } in
     let at = rw c.deref.ensures.value at c.in-Ok.ensures in
     let here : c.index_mut.result.now ≡ slice_index_or c.self.inside.opened.items c.in-Ok.place c.index_mut.result.now = search rules in
     is_part_edited old c.args.i_number c.in-Ok.place c.index_mut.result.now c.link.new.self at here c.link.ensures.i_number c.self.invariant
 
 pub returns-in-Ok-clause-acts : goal.returns-in-Ok-clause-acts
 returns-in-Ok-clause-acts g c = λ reads agrees user.
-    let old : Part = record { table = c.self.inside.table; opened = c.self.inside.opened.items } in
+    let old : Part = record { before = c.self.inside.before; table = c.self.inside.table; opened = c.self.inside.opened.items } in
     let i = c.args.i_number in
     let d = c.index_mut.result.now in
     let o = c.link.new.self in
@@ -47,7 +47,7 @@ returns-in_default-clause-acts g c = λ reads agrees user.
     let free = rw c.deref.ensures.value at c.in-Err.ensures in
     let none : opened_at part i ≡ None = rw (← c.self.view_is) (ap (option_map (λ x. x.entries)) free.found) in
     let nothing = sym c.in_default.is ∙ c.in_ok-directory.ensures.found reads agrees ∙ ap listed (sym (closed reads part i none)) in
-    void_acts reads user (change_at part i (Link c.args.entry.now)) part (no_room c.args.entry.now.name (stands_at reads part i) nothing)
+    void_acts reads user (change_at part i (Link c.args.entry.now)) part (no_room c.args.entry.now.name (stands_here reads part i) nothing)
 
 -- what was read doesn't take it
 pub returns-then-not-branch-clause-acts : goal.returns-then-not-branch-clause-acts
@@ -76,13 +76,13 @@ returns-clause-acts g c = λ reads agrees user.
     let key = c.in_ok-link.ensures.i_number ∙ ap (λ x. x.i_number) c.new-open.ensures in
     let fit = sym c.if-not-branch.false ∙ c.in_ok-link.ensures.room ∙ ap (λ (xs : List Entry). has_room c.args.entry.now.name (Some (Directory xs))) entries in
     let made : o.entries ≡ linked es c.args.entry.now = c.in_ok-link.ensures.entries ∙ ap (λ t. if t then linked c.new-open.result.entries c.args.entry.now else c.new-open.result.entries) c.if-not-branch.false ∙ ap (λ (xs : List Entry). linked xs c.args.entry.now) entries in
-    open_acts reads user (change_at part i (Link c.args.entry.now)) part _ (linked es c.args.entry.now) es o.entries here fit (rw key at c.in_ok-open.ensures.slots) (makes_linked reads es c.args.entry.now) made
+    open_acts reads user (change_at part i (Link c.args.entry.now)) part _ (linked es c.args.entry.now) es o.entries here fit (rw key at c.in_ok-open_at.ensures.slots) (makes_linked reads es c.args.entry.now) made
 
 -- ---- nothing of it is missing
 
 pub returns-in-Ok-clause-taken : goal.returns-in-Ok-clause-taken
 returns-in-Ok-clause-taken g c =
-    let old : Part = record { table = c.self.inside.table; opened = c.self.inside.opened.items } in
+    let old : Part = record { before = c.self.inside.before; table = c.self.inside.table; opened = c.self.inside.opened.items } in
     let d = c.index_mut.result.now in
     let at = rw c.deref.ensures.value at c.in-Ok.ensures in
     let here : d ≡ slice_index_or c.self.inside.opened.items c.in-Ok.place d = search rules in
@@ -115,7 +115,7 @@ returns-in_err-link-clause-missing g c =
     let blocks = g.B.Blocks.held c.args.blocks.now in
     handed_on c.from_residual-in_err-link.result Memory (Lacks blocks (LiesAt blocks c.args.self.now c.args.i_number true)) c.from_residual-in_err-link.ensures.1 tt
 
-pub returns-in_err-open-clause-missing : goal.returns-in_err-open-clause-missing
-returns-in_err-open-clause-missing g c =
+pub returns-in_err-open_at-clause-missing : goal.returns-in_err-open_at-clause-missing
+returns-in_err-open_at-clause-missing g c =
     let blocks = g.B.Blocks.held c.args.blocks.now in
-    handed_on c.from_residual-in_err-open.result Memory (Lacks blocks (LiesAt blocks c.args.self.now c.args.i_number true)) c.from_residual-in_err-open.ensures.1 tt
+    handed_on c.from_residual-in_err-open_at.result Memory (Lacks blocks (LiesAt blocks c.args.self.now c.args.i_number true)) c.from_residual-in_err-open_at.ensures.1 tt

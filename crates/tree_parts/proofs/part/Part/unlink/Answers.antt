@@ -6,8 +6,8 @@ use Rattle.tree_parts.specs.declared.error.ApplyError.TheVariants.{Memory}
 use Rattle.tree_parts.specs.Asked.{Lacks}
 use Rattle.update_cert.specs.Change.{Unlink}
 use Rattle.update_cert.specs.World.{Directory, has_name}
-use Rattle.tree_parts.specs.Acts.{LiesAt, change_at, listed}
-use Rattle.tree_parts.specs.Part.{Part, opened_at, stands_at}
+use Rattle.tree_parts.specs.Acts.{LiesAt, change_at, listed, stands_here}
+use Rattle.tree_parts.specs.Part.{Part, opened_at}
 use Rattle.tree_parts.proofs.PartLaws.{closed}
 use Rattle.tree_parts.proofs.ActLaws.{is_part_edited, slot_edited, opened_there, edit_acts, open_acts, void_acts, stands_closed, makes_unlinked, no_name}
 use Rattle.tree_parts.proofs.AskedLaws.{handed_on, has_opened}
@@ -15,14 +15,14 @@ use Rattle.tree_parts.proofs.part.Part.unlink.Goals as goal
 
 pub invariant_of-self : goal.invariant_of-self
 invariant_of-self g c =
-    let old : Part = record { table = c.self.inside.table; opened = c.self.inside.opened.items } in
+    let old : Part = record { before = c.self.inside.before; table = c.self.inside.table; opened = c.self.inside.opened.items } in
     let at = rw c.deref.ensures.value at c.in-Ok.ensures in
     let here : c.index_mut.result.now ≡ slice_index_or c.self.inside.opened.items c.in-Ok.place c.index_mut.result.now = search rules in
     is_part_edited old c.args.i_number c.in-Ok.place c.index_mut.result.now c.unlink.new.self at here c.unlink.ensures.i_number c.self.invariant
 
 pub returns-in-Ok-clause-acts : goal.returns-in-Ok-clause-acts
 returns-in-Ok-clause-acts g c = λ reads agrees user.
-    let old : Part = record { table = c.self.inside.table; opened = c.self.inside.opened.items } in
+    let old : Part = record { before = c.self.inside.before; table = c.self.inside.table; opened = c.self.inside.opened.items } in
     let i = c.args.i_number in
     let d = c.index_mut.result.now in
     let o = c.unlink.new.self in
@@ -40,7 +40,7 @@ returns-in_default-clause-acts g c = λ reads agrees user.
     let free = rw c.deref.ensures.value at c.in-Err.ensures in
     let none : opened_at part i ≡ None = rw (← c.self.view_is) (ap (option_map (λ x. x.entries)) free.found) in
     let nothing = sym c.in_default.is ∙ c.in_ok-directory.ensures.found reads agrees ∙ ap listed (sym (closed reads part i none)) in
-    void_acts reads user (change_at part i (Unlink c.args.name.now)) part (no_name c.args.name.now (stands_at reads part i) nothing)
+    void_acts reads user (change_at part i (Unlink c.args.name.now)) part (no_name c.args.name.now (stands_here reads part i) nothing)
 
 -- what was read doesn't take it
 pub returns-then-not-unlink-clause-acts : goal.returns-then-not-unlink-clause-acts
@@ -69,13 +69,13 @@ returns-clause-acts g c = λ reads agrees user.
     let key = c.unlink-2.ensures.i_number ∙ ap (λ x. x.i_number) c.new-open.ensures in
     let fit = sym c.if-not-unlink.false ∙ c.unlink-2.ensures.had ∙ ap (λ (xs : List Entry). has_name c.args.name.now (Some (Directory xs))) entries in
     let made : o.entries ≡ unlinked es c.args.name.now = c.unlink-2.ensures.entries ∙ ap (λ t. if t then unlinked c.new-open.result.entries c.args.name.now else c.new-open.result.entries) c.if-not-unlink.false ∙ ap (λ (xs : List Entry). unlinked xs c.args.name.now) entries in
-    open_acts reads user (change_at part i (Unlink c.args.name.now)) part _ (unlinked es c.args.name.now) es o.entries here fit (rw key at c.in_ok-open.ensures.slots) (makes_unlinked reads es c.args.name.now) made
+    open_acts reads user (change_at part i (Unlink c.args.name.now)) part _ (unlinked es c.args.name.now) es o.entries here fit (rw key at c.in_ok-open_at.ensures.slots) (makes_unlinked reads es c.args.name.now) made
 
 -- ---- nothing of it is missing
 
 pub returns-in-Ok-clause-taken : goal.returns-in-Ok-clause-taken
 returns-in-Ok-clause-taken g c =
-    let old : Part = record { table = c.self.inside.table; opened = c.self.inside.opened.items } in
+    let old : Part = record { before = c.self.inside.before; table = c.self.inside.table; opened = c.self.inside.opened.items } in
     let d = c.index_mut.result.now in
     let at = rw c.deref.ensures.value at c.in-Ok.ensures in
     let here : d ≡ slice_index_or c.self.inside.opened.items c.in-Ok.place d = search rules in
@@ -98,7 +98,7 @@ returns-in_err-directory-clause-missing g c =
     let blocks = g.B.Blocks.held c.args.blocks.now in
     handed_on c.from_residual.result c.in_err-directory.field-0.0 (Lacks blocks (LiesAt blocks c.args.self.now c.args.i_number true)) c.from_residual.ensures.1 c.in_err-directory.ensures.missing
 
-pub returns-in_err-open-clause-missing : goal.returns-in_err-open-clause-missing
-returns-in_err-open-clause-missing g c =
+pub returns-in_err-open_at-clause-missing : goal.returns-in_err-open_at-clause-missing
+returns-in_err-open_at-clause-missing g c =
     let blocks = g.B.Blocks.held c.args.blocks.now in
-    handed_on c.from_residual-in_err-open.result Memory (Lacks blocks (LiesAt blocks c.args.self.now c.args.i_number true)) c.from_residual-in_err-open.ensures.1 tt
+    handed_on c.from_residual-in_err-open_at.result Memory (Lacks blocks (LiesAt blocks c.args.self.now c.args.i_number true)) c.from_residual-in_err-open_at.ensures.1 tt

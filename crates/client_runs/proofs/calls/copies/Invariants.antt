@@ -1,5 +1,0 @@
-use Rattle.std.proofs.Common.{◌≡◌, take}
-use Rattle.client_runs.proofs.calls.copies.Given as goal
-
-abbrev pub invariant-loop-shown : goal.invariant-loop-shown
-invariant-loop-shown g l = l.copies.items ≡ take l.shown-index l.structures

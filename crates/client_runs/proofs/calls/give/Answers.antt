@@ -1,9 +1,0 @@
-use Rattle.std.proofs.Common.{rules}
-use Rattle.std.specs.Option.{option_copied}
-use Rattle.client_runs.proofs.Heard.{given_to}
-use Rattle.client_runs.proofs.calls.give.Goals as goal
-
-pub returns : goal.returns
-returns g c =
-    let e = c.give.ensures in
-    given_to c.args.client.now c.give.new.self (option_copied c.args.block) c.give.result (search rules) c.is_bytes.ensures e.given e.told e.only_memory e.err

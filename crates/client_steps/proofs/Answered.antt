@@ -1,0 +1,145 @@
+-- What `begin` and `sign` of a client ensure is what a step of it tells, wherever the answer lies in memory.
+use Rattle.std.proofs.Common.{◌≡◌, ◌≢◌, ℕ, ◌≤◌, List, Option, Some, Ok, Err, Result, IfOk, IfErr, OnOk, OnErr, true, length, ap}
+use Rattle.std.specs.Prelude.{◌↔◌, IfSome, IsErrOf, IsSome}
+use Rattle.std.specs.Vec.{vec_items}
+use Rattle.std.specs.declared.vec.Vec.{Vec}
+use Rattle.layout.specs.Ranges.{last_version}
+use Rattle.layout.specs.Types.{Bytes, Digest}
+use Rattle.leaf_ledger.specs.Ledger.{IsFull, IsLeastFree, LeafNumber}
+use Rattle.version_order.specs.Structure.{structure}
+use Rattle.update_cert.specs.Change.{Change}
+use Rattle.update_cert.specs.Cert.{cert}
+use Rattle.update_cert.specs.declared.cert.TheConstants.{MOST_CHANGES}
+use Rattle.client_releases.specs.declared.error.ClientError.{ClientError}
+use Rattle.client_releases.specs.declared.error.ClientError.TheVariants as error
+use Rattle.client_releases.specs.declared.phase.Phase.TheVariants as phase
+use Rattle.client_releases.specs.Releasing.{AnyMoment, IsKept, IsTried, OneHasRisen, cert_record, structure_record}
+use Rattle.client_verify.specs.Laid.{are_laid}
+use Rattle.client_verify.specs.State.{Ready, State, declared, declared_text, failed, laying, next_cert, next_structure, on, signed_over, signed_text}
+use Rattle.client_steps.specs.Steps.{HasBegun, HasSigned}
+use Rattle.client_steps.specs.Anywhere.{on_ok}
+
+-- the same error is told of both
+to_err : {T U E : Type 0} (f : T → U) (r : Result T E) (e : E) → IsErrOf (on_ok f r) e → IsErrOf r e
+to_err f (Ok x) e h = cc h
+to_err f (Err x) e h = cc h
+
+from_err : {T U E : Type 0} (f : T → U) (r : Result T E) (e : E) → IsErrOf r e → IsErrOf (on_ok f r) e
+from_err f r e h = ap (on_ok f) h
+
+errs : {T U E : Type 0} (f : T → U) (r : Result T E) (e : E) (P : Type 0) → (IsErrOf r e ↔ P) → (IsErrOf (on_ok f r) e ↔ P)
+errs f r e P h = (λ is. h.0 (to_err f r e is), λ p. from_err f r e (h.1 p))
+
+module _ {A : Type 0} where
+  told_err : (answer : Result (Vec ℕ A) ClientError) (e : ClientError) → IsErrOf (on_ok vec_items answer) e → IsErrOf answer e
+  told_err answer e h = to_err vec_items answer e h
+
+  told_errs : (answer : Result (Vec ℕ A) ClientError) (e : ClientError) (P : Type 0) → (IsErrOf answer e ↔ P) → (IsErrOf (on_ok vec_items answer) e ↔ P)
+  told_errs answer e P h = errs vec_items answer e P h
+
+module _ {A : Type 0} (s new : State) (changes : List (Change Digest)) (laid : List Bytes) where
+  pub begun : (answer : Result (Vec ℕ A) ClientError)
+      → s.phase ≡ phase.Idle → length changes ≤ MOST_CHANGES → are_laid laid changes ≡ true
+      → OnOk answer ((leaf : LeafNumber) × IsKept leaf (cert_record (declared_text s leaf changes)) s.devices new.devices × (new ≡ on new.devices (declared s leaf changes laid)))
+      → IfOk answer (λ x. x.items ≡ new.text)
+      → OnOk answer (cert.Fits (next_cert s changes))
+      → ((leaf : LeafNumber) → IsLeastFree s.devices.ledger.file.now.text leaf → AnyMoment leaf (cert_record (declared_text s leaf changes)) s.devices new.devices)
+      → OnErr answer (IsTried (λ leaf. cert_record (declared_text s leaf changes)) s.devices new.devices)
+      → (IsErrOf answer error.NoLeaf ↔ IsFull s.devices.ledger.file.now.text)
+      → (IsErrOf answer error.NoNumber ↔ ((s.number ≡ last_version) × (IsFull s.devices.ledger.file.now.text → ⊥)))
+      → (IsErrOf answer error.Device → OneHasRisen s.devices new.devices)
+      → (IsErrOf answer error.Device → new ≡ on new.devices (failed (laying laid s)))
+      → (IsErrOf answer error.Device → cert.Fits (next_cert s changes))
+      → IfErr answer (λ e. (e ≢ error.Foreign) × (e ≢ error.Damaged))
+      → IfErr answer (λ e. e ≢ error.Device → new ≡ s)
+      → HasBegun s changes laid (on_ok vec_items answer) new
+  begun (Ok x) i few l d t f any tr nl nn r fl fd only e =
+      record {
+        idle = i;
+        few = few;
+        were_laid = l;
+        declared = d;
+        text = t;
+        fits = f;
+        any_moment = any;
+        tried = tr;
+        no_leaf = told_errs (Ok x) error.NoLeaf (IsFull s.devices.ledger.file.now.text) nl;
+        no_number = told_errs (Ok x) error.NoNumber ((s.number ≡ last_version) × (IsFull s.devices.ledger.file.now.text → ⊥)) nn;
+        rose = λ h. r (told_err (Ok x) error.Device h);
+        fails = λ h. fl (told_err (Ok x) error.Device h);
+        fits_device = λ h. fd (told_err (Ok x) error.Device h);
+        only = only;
+        err = e;
+      }
+  begun (Err x) i few l d t f any tr nl nn r fl fd only e =
+      record {
+        idle = i;
+        few = few;
+        were_laid = l;
+        declared = d;
+        text = t;
+        fits = f;
+        any_moment = any;
+        tried = tr;
+        no_leaf = told_errs (Err x) error.NoLeaf (IsFull s.devices.ledger.file.now.text) nl;
+        no_number = told_errs (Err x) error.NoNumber ((s.number ≡ last_version) × (IsFull s.devices.ledger.file.now.text → ⊥)) nn;
+        rose = λ h. r (told_err (Err x) error.Device h);
+        fails = λ h. fl (told_err (Err x) error.Device h);
+        fits_device = λ h. fd (told_err (Err x) error.Device h);
+        only = only;
+        err = e;
+      }
+
+-- what an error leaves of the devices
+abbrev Tries : State → State → Ready → Type 0
+Tries s new r = IsTried (λ leaf. structure_record (signed_text s leaf r)) s.devices new.devices
+
+module _ {A : Type 0} (s new : State) where
+  tr_on : (answer : Result (Vec ℕ A) ClientError) (ready : Option Ready) → IfSome ready (λ r. OnErr answer (Tries s new r)) → IfSome ready (λ r. OnErr (on_ok vec_items answer) (Tries s new r))
+  tr_on (Ok x) ready h = h
+  tr_on (Err x) ready h = h
+
+  pub signed : (answer : Result (Vec ℕ A) ClientError)
+      → IsSome s.accepted
+      → OnOk answer (IfSome s.accepted (λ r. (leaf : LeafNumber) × IsKept leaf (structure_record (signed_text s leaf r)) s.devices new.devices × (new ≡ on new.devices (signed_over s leaf r))))
+      → IfOk answer (λ x. x.items ≡ new.text)
+      → OnOk answer (IfSome s.accepted (λ r. structure.Fits (next_structure s r)))
+      → IfSome s.accepted (λ r. (leaf : LeafNumber) → IsLeastFree s.devices.ledger.file.now.text leaf → AnyMoment leaf (structure_record (signed_text s leaf r)) s.devices new.devices)
+      → IfSome s.accepted (λ r. OnErr answer (IsTried (λ leaf. structure_record (signed_text s leaf r)) s.devices new.devices))
+      → (IsErrOf answer error.NoLeaf ↔ IsFull s.devices.ledger.file.now.text)
+      → (IsErrOf answer error.Device → OneHasRisen s.devices new.devices)
+      → (IsErrOf answer error.Device → new ≡ on new.devices (failed s))
+      → (IsErrOf answer error.Device → IfSome s.accepted (λ r. structure.Fits (next_structure s r)))
+      → IfErr answer (λ e. (e ≢ error.NoNumber) × (e ≢ error.Foreign) × (e ≢ error.Damaged))
+      → IfErr answer (λ e. e ≢ error.Device → new ≡ s)
+      → HasSigned s (on_ok vec_items answer) new
+  signed (Ok x) ready d t f any tr nl r fl fd only e =
+      record {
+        ready = ready;
+        signed = d;
+        text = t;
+        fits = f;
+        any_moment = any;
+        tried = tr_on (Ok x) s.accepted tr;
+        no_leaf = told_errs (Ok x) error.NoLeaf (IsFull s.devices.ledger.file.now.text) nl;
+        rose = λ h. r (told_err (Ok x) error.Device h);
+        fails = λ h. fl (told_err (Ok x) error.Device h);
+        fits_device = λ h. fd (told_err (Ok x) error.Device h);
+        only = only;
+        err = e;
+      }
+  signed (Err x) ready d t f any tr nl r fl fd only e =
+      record {
+        ready = ready;
+        signed = d;
+        text = t;
+        fits = f;
+        any_moment = any;
+        tried = tr_on (Err x) s.accepted tr;
+        no_leaf = told_errs (Err x) error.NoLeaf (IsFull s.devices.ledger.file.now.text) nl;
+        rose = λ h. r (told_err (Err x) error.Device h);
+        fails = λ h. fl (told_err (Err x) error.Device h);
+        fits_device = λ h. fd (told_err (Err x) error.Device h);
+        only = only;
+        err = e;
+      }

@@ -1,0 +1,4 @@
+pub mod Joins
+mod Anywhere
+mod Answered
+mod Heard
