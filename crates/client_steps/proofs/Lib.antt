@@ -1,4 +1,4 @@
 pub mod Joins
-mod Anywhere
-mod Answered
-mod Heard
+pub mod Anywhere
+pub mod Answered
+pub mod Heard

@@ -6,7 +6,7 @@ use Rattle.layout.specs.Types.{Digest, INumber, Principal}
 use Rattle.itable.specs.Inode.{Inode}
 use Rattle.itable.specs.declared.inode.Kind.{Kind}
 use Rattle.tree_parts.specs.Blocks.{Blocks, inode_at, joined, Agrees}
-use Rattle.tree_parts.specs.Asked.{HasBlocks, HasChunkFor, IsBlock, Lacks}
+use Rattle.tree_parts.specs.Asked.{HasBlocks, IsBlock, Lacks}
 use Rattle.tree_parts.specs.declared.error.ApplyError.{ApplyError}
 use Rattle.directory.specs.Directory.{Entry}
 use Rattle.tree_parts.specs.Spot.{lacks}
@@ -19,8 +19,8 @@ use Rattle.update_cert.specs.Reading.{Reading}
 use Rattle.tree_parts.specs.Part.{Changed, Laid, Part, Slot, content_of, slot_here}
 use Rattle.tree_parts.proofs.LoadLaws.{slot_loaded}
 use Rattle.tree_parts.proofs.SomeReading.{some_reading}
-use Rattle.client_tree.specs.View.{View, handle_of, shown, tree}
-use Rattle.client_tree.specs.Opened.{HasLooked, IsLooked, IsOfInode, IsOpened, IsOpeningAt, IsThere}
+use Rattle.client_tree.specs.View.{View, shown}
+use Rattle.client_tree.specs.Opened.{HasLooked, IsLooked, IsOfInode, IsOpenedAt, IsOpeningAt, IsThere}
 use Rattle.client_tree.proofs.OpenedLaws.{wider}
 
 -- a block of an i-node is one of its kind's
@@ -37,12 +37,10 @@ all_taken blocks p i inode n held taken has digest s (inr (kind, is)) =
     has digest s (subst (λ (k : Kind). IsBlock blocks k inode digest s) (sym kinds) is)
 
 -- what is read there is what the opened part has; the table of principals is no part's
-pub look_stands : (blocks : Blocks) (reads : Reading) (users : Table) (x : View) (p : Principal) (i : INumber) (part : Part) (s : Option Slot) → IsOpened blocks x p part → Agrees blocks reads → is_table p i ≡ false → loaded part.table i ≡ true → slot_here part i ≡ s
+pub look_stands : (blocks : Blocks) (reads : Reading) (users : Table) (x : View) (p : Principal) (i : INumber) (part : Part) (s : Option Slot) → IsOpenedAt blocks x p i part → Agrees blocks reads → is_table p i ≡ false → loaded part.table i ≡ true → slot_here part i ≡ s
     → shown reads users x p i ≡ option_map (content_of reads) s
 look_stands blocks reads users x p i part s is agrees place here at =
-    let own : part.table.principal ≡ p = is.after.principal in
-    let stands = (is.stands reads agrees users).stands i (ap (λ (q : ℕ). is_table q i) own ∙ place) in
-    rw place (ap (λ (q : ℕ). tree reads users x q i) (sym own) ∙ stands ∙ ap (option_map (content_of reads)) (slot_loaded reads part i here ∙ at))
+    rw place (is.stands reads agrees users place ∙ ap (option_map (content_of reads)) (slot_loaded reads part i here ∙ at))
 
 -- the i-node that lies there
 pub lies_there : (blocks : Blocks) (part : Part) (i : INumber) (inode digest : Digest) (s : Spot) → loaded part.table i ≡ true → slot_here part i ≡ Some (Laid inode) → IsOfInode blocks part.table.principal i inode digest s → IsThere blocks part i digest s
@@ -66,15 +64,14 @@ each_there blocks p i part inode own here at taken digest s there =
     taken digest s (subst (λ (q : ℕ). IsOfInode blocks q i inode digest s) own (subst (λ (d : List ℕ). IsOfInode blocks part.table.principal i d digest s) (sym same) found.2))
 
 -- where what the i-node there is of was read, nothing of it is missing
-pub looked : {T E : Type 0} (blocks : Blocks) (x : View) (p : Principal) (i : INumber) (part : Part) (inode : Digest) (r : Result T E) → IsOpened blocks x p part → HasChunkFor blocks p (handle_of x p) i → loaded part.table i ≡ true → slot_here part i ≡ Some (Laid inode)
+pub looked : {T E : Type 0} (blocks : Blocks) (x : View) (p : Principal) (i : INumber) (part : Part) (inode : Digest) (r : Result T E) → IsOpenedAt blocks x p i part → loaded part.table i ≡ true → slot_here part i ≡ Some (Laid inode)
     → OnOk r ((digest : Digest) (s : Spot) → IsOfInode blocks p i inode digest s → lacks blocks digest s ≡ false) → OnOk r (HasLooked blocks x p i)
-looked blocks x p i part inode (Ok t) is chunk here at taken = record {
+looked blocks x p i part inode (Ok t) is here at taken = record {
   part = part;
   opened = is;
-  chunk = chunk;
   taken = λ digest s there. each_there blocks p i part inode is.after.principal here at taken digest s there;
 }
-looked blocks x p i part inode (Err e) is chunk here at taken = tt
+looked blocks x p i part inode (Err e) is here at taken = tt
 
 pub none_laid : (inode : Digest) → None ≡ Some (Laid inode) → ⊥
 none_laid inode is = absurd cc
@@ -83,25 +80,23 @@ pub changed_laid : (d : Digest) (entries : List Entry) (inode : Digest) → Some
 changed_laid d entries inode is = absurd cc
 
 -- so where nothing lies there
-pub looked_nothing : (blocks : Blocks) (x : View) (p : Principal) (i : INumber) (part : Part) → IsOpened blocks x p part → HasChunkFor blocks p (handle_of x p) i → loaded part.table i ≡ true → slot_here part i ≡ None → HasLooked blocks x p i
-looked_nothing blocks x p i part is chunk here at = record {
+pub looked_nothing : (blocks : Blocks) (x : View) (p : Principal) (i : INumber) (part : Part) → IsOpenedAt blocks x p i part → loaded part.table i ≡ true → slot_here part i ≡ None → HasLooked blocks x p i
+looked_nothing blocks x p i part is here at = record {
   part = part;
   opened = is;
-  chunk = chunk;
   taken = λ digest s there. nothing_there blocks part i None here at none_laid digest s there;
 }
 
 -- and where a directory that changed does
-pub looked_changed : (blocks : Blocks) (x : View) (p : Principal) (i : INumber) (part : Part) (d : Digest) (entries : List Entry) → IsOpened blocks x p part → HasChunkFor blocks p (handle_of x p) i → loaded part.table i ≡ true → slot_here part i ≡ Some (Changed d entries) → HasLooked blocks x p i
-looked_changed blocks x p i part d entries is chunk here at = record {
+pub looked_changed : (blocks : Blocks) (x : View) (p : Principal) (i : INumber) (part : Part) (d : Digest) (entries : List Entry) → IsOpenedAt blocks x p i part → loaded part.table i ≡ true → slot_here part i ≡ Some (Changed d entries) → HasLooked blocks x p i
+looked_changed blocks x p i part d entries is here at = record {
   part = part;
   opened = is;
-  chunk = chunk;
   taken = λ digest s there. nothing_there blocks part i (Some (Changed d entries)) here at (changed_laid d entries) digest s there;
 }
 
 -- what is missing of the i-node that lies there is asked for by the look
-pub lacks_there : {T : Type 0} (blocks : Blocks) (x : View) (p : Principal) (i : INumber) (part : Part) (inode : Digest) (r : Result T ApplyError) → is_table p i ≡ false → IsOpened blocks x p part → loaded part.table i ≡ true → slot_here part i ≡ Some (Laid inode)
+pub lacks_there : {T : Type 0} (blocks : Blocks) (x : View) (p : Principal) (i : INumber) (part : Part) (inode : Digest) (r : Result T ApplyError) → is_table p i ≡ false → IsOpenedAt blocks x p i part → loaded part.table i ≡ true → slot_here part i ≡ Some (Laid inode)
     → IfErr r (Lacks blocks (IsOfInode blocks p i inode)) → IfErr r (Lacks blocks (IsLooked blocks x p i))
 lacks_there blocks x p i part inode (Ok t) place is here at lacks = tt
 lacks_there blocks x p i part inode (Err e) place is here at lacks =

@@ -1,11 +1,11 @@
 -- User 0's root lists chunk 0, and that has i-number 1, where both are what their places take.
 use Rattle.std.proofs.Common.{◌≡◌, ℕ, Bool, true, false, List, [], ◌∷◌, Option, Some, None, Result, Ok, Err, refl, sym, ap, subst, ◌∙◌, inl, inr, arith}
-use Rattle.std.specs.Prelude.{◌==◌, ◌||◌, not, IfOk, IsSomeAnd, OnOk, if◌then◌else◌}
+use Rattle.std.specs.Prelude.{◌==◌, ◌||◌, not, filter, IfOk, IsSomeAnd, OnOk, if◌then◌else◌}
 use Rattle.std.specs.List.{find, list_any}
 use Rattle.std.specs.Option.{option_and_then, option_map, option_map_or}
 use Rattle.std.specs.Ordering.{nat_cmp, is_eq}
 use Rattle.std.specs.Result.{result_ok}
-use Rattle.std.proofs.lemmas.Bool.{and_parts, eqb-true, eq-eqb}
+use Rattle.std.proofs.lemmas.Bool.{and_parts, eqb-true}
 use Rattle.std.proofs.lemmas.Bool.Decides.{nat_tests}
 use Rattle.layout.specs.Ascending.{row_at}
 use Rattle.layout.specs.Format.{whole}
@@ -21,12 +21,19 @@ use Rattle.tree_parts.specs.declared.spot.Spot.{Spot}
 use Rattle.tree_parts.specs.declared.spot.Spot.TheVariants as spot
 use Rattle.tree_parts.specs.declared.error.ApplyError.{ApplyError}
 use Rattle.tree_parts.specs.declared.error.ApplyError.TheVariants as error
-use Rattle.update_cert.specs.World.{Content, File}
-use Rattle.update_cert.specs.Reading.{Reading}
-use Rattle.tree_parts.specs.Asked.{HasChunkFor, HasPrincipals, IsChunkFor, IsListed, IsOfPrincipals, IsRoot, Lacks}
+use Rattle.update_cert.specs.World.{Actor, Content, File, Principals, Tree}
+use Rattle.update_cert.specs.Reading.{Reading, after_read, void_of_table_read}
+use Rattle.tree_parts.specs.Asked.{HasChunkFor, HasPrincipals, IsChunkFor, IsListed, IsOfPrincipals, Lacks}
 use Rattle.principals.specs.Table.{Table}
 use Rattle.principals.specs.TableText.{table}
-use Rattle.client_tree.specs.Principals.{IsNamed, IsOfNamed}
+use Rattle.client_tree.specs.Principals.{IsNamed, IsOfNamed, IsPending}
+use Rattle.client_tree.specs.View.{View, actor_of, after_items, is_superusers, named, tree, tree_before}
+use Rattle.client_tree.proofs.OpenedLaws.{superusers}
+use Rattle.pending_list.specs.Reply.{PendingItem}
+use Rattle.update_cert.specs.Cert.{Cert}
+use Rattle.principals.specs.TableTextLaws.{lawful_table}
+use Rattle.layout.specs.Laws.{whole_again}
+use Rattle.tree_parts.proofs.SomeReading.{some_reading}
 
 -- ---- the row of a key
 
@@ -108,9 +115,6 @@ chunk_has blocks digest there =
     let p = has_row (λ (y : Pair). y.i_number) x.pairs 1 parts.1 in
     (x, p.0.digest, ap (option_and_then (λ text. result_ok (whole chunk text))) held.1 ∙ read.1, ap (option_map (λ (y : Pair). y.digest)) p.1)
 
-pub told_here : (blocks : Blocks) (handle : Handle) (r : Root) (c : ListedChunk) (x : Chunk) (d : Digest) → root_at blocks handle ≡ Some r → r.principal ≡ 0 → chunk_at r 0 ≡ Some c → chunk_held blocks c.digest ≡ Some x → digest_in x.pairs 1 ≡ Some d → inode_told blocks 0 handle 1 ≡ Some (Some d)
-told_here blocks handle r c x d held of at chunk_is digest_is = rw held (rw (eq-eqb r.principal 0 of) (rw at (rw chunk_is (ap (λ (o : Option Digest). Some o) digest_is))))
-
 -- ---- the chunk that the table is in
 
 same_root : (a b : Root) (found : Option Root) → found ≡ Some a → found ≡ Some b → a ≡ b
@@ -172,10 +176,6 @@ named_read blocks handle inode (Err e) first told fits content has = tt
 
 -- ---- what is missing of it
 
-pub lacks_first_root : (blocks : Blocks) (handle : Handle) (e : ApplyError) → Lacks blocks (IsRoot 0 handle) e → Lacks blocks (IsChunkFor blocks 0 handle 1) e
-lacks_first_root blocks handle (error.Missing digest s) (is, none) = (inl is, none)
-lacks_first_root blocks handle error.Memory none = tt
-
 pub lacks_first_chunk : (blocks : Blocks) (handle : Handle) (r : Root) (c : ListedChunk) (e : ApplyError) → root_at blocks handle ≡ Some r → lacks blocks handle (spot.Root 0) ≡ false → chunk_at r 0 ≡ Some c → c.number ≡ 0 → Lacks blocks (IsListed 0 c) e → Lacks blocks (IsChunkFor blocks 0 handle 1) e
 lacks_first_chunk blocks handle r c (error.Missing digest s) held there at first (is, none) =
     let listed : option_map (λ x. x.digest) (chunk_at r 0) ≡ Some digest = ap (option_map (λ (x : ListedChunk). x.digest)) at ∙ ap (λ (d : Digest). Some d) (sym is.0) in
@@ -186,6 +186,40 @@ pub lacks_chunk : (blocks : Blocks) (handle : Handle) (e : ApplyError) → Lacks
 lacks_chunk blocks handle (error.Missing digest s) (is, none) = (inl is, none)
 lacks_chunk blocks handle error.Memory none = tt
 
-pub lacks_users : (blocks : Blocks) (handle : Handle) (inode : Digest) (e : ApplyError) → HasChunkFor blocks 0 handle 1 → inode_told blocks 0 handle 1 ≡ Some (Some inode) → Lacks blocks (IsOfPrincipals blocks inode) e → Lacks blocks (IsOfNamed blocks handle) e
-lacks_users blocks handle inode (error.Missing digest s) first told (is, none) = (inr (inode, first, told, is), none)
-lacks_users blocks handle inode error.Memory first told none = tt
+-- ---- the table is one
+
+spelled_once : (one other : Table) → table.Fits one → table.Fits other → table.spell one ≡ table.spell other → one ≡ other
+spelled_once one other fits also same =
+    let both : Ok one ≡ Ok other = sym (whole_again table lawful_table one fits) ∙ ap (whole table) same ∙ whole_again table lawful_table other also in
+    cc
+
+same_file : (one other : List ℕ) → Some (File one) ≡ Some (File other) → one ≡ other
+same_file one other both = cc
+
+-- blocks tell of one table that a handle names
+pub one_named : (blocks : Blocks) (handle : Handle) (one other : Table) → IsNamed blocks handle one → IsNamed blocks handle other → one ≡ other
+one_named blocks handle one other is also =
+    let some = some_reading blocks in
+    spelled_once one other is.fits also.fits (same_file (table.spell one) (table.spell other) (sym (is.file some.0 some.1) ∙ also.file some.0 some.1))
+
+-- what the pending operations make of it is told by what they make of the table alone, whatever the view's table is
+pub pending_then : (users : Table) (x : View) (first new : Table) (voids : List ℕ) (cert : Cert) → cert ≡ x.own.cert
+    → ((reads : Reading) (t : Table) (tree : Tree) → tree 0 1 ≡ Some (Principals users) → after_items reads t (filter is_superusers x.others) tree 0 1 ≡ Some (Principals first))
+    → ((reads : Reading) (tree : Tree) (actor : Actor) → tree 0 1 ≡ Some (Principals first) → actor.user ≡ cert.user → actor.number ≡ cert.number → after_read reads actor cert.changes tree 0 1 ≡ Some (Principals new))
+    → ((reads : Reading) (tree : Tree) (actor : Actor) → tree 0 1 ≡ Some (Principals first) → actor.user ≡ cert.user → actor.number ≡ cert.number → voids ≡ void_of_table_read reads actor cert.changes tree)
+    → (reads : Reading) → (tree reads users x 0 1 ≡ Some (Principals new)) × (voids ≡ void_of_table_read reads (actor_of x.table x.own) x.own.cert.changes (tree_before reads users x))
+pending_then users x first new voids cert same others own void reads =
+    let user = ap (λ (k : Cert). k.user) (sym same) in
+    let number = ap (λ (k : Cert). k.number) (sym same) in
+    let before : tree_before reads users x 0 1 ≡ Some (Principals first) = ap (λ (is : List PendingItem). after_items reads x.table is (named reads users x) 0 1) (superusers x x.others) ∙ others reads x.table (named reads users x) refl in (
+      subst (λ (k : Cert). after_read reads (actor_of x.table x.own) k.changes (tree_before reads users x) 0 1 ≡ Some (Principals new)) same (own reads (tree_before reads users x) (actor_of x.table x.own) before user number),
+      void reads (tree_before reads users x) (actor_of x.table x.own) before user number ∙ ap (λ (k : Cert). void_of_table_read reads (actor_of x.table x.own) k.changes (tree_before reads users x)) same,
+    )
+
+same_principals : (one other : Table) → Some (Principals one) ≡ Some (Principals other) → one ≡ other
+same_principals one other both = cc
+
+-- so no other table is the view's
+pub one_pending : (users : Table) (x : View) (new : Table) (voids numbers : List ℕ) (reads : Reading) → (tree reads users x 0 1 ≡ Some (Principals new)) × (voids ≡ void_of_table_read reads (actor_of x.table x.own) x.own.cert.changes (tree_before reads users x)) → IsPending users x numbers
+    → (x.table ≡ new) × (numbers ≡ voids)
+one_pending users x new voids numbers reads (now, void) is = (same_principals x.table new (sym (is.after reads) ∙ now), is.void reads ∙ sym void)

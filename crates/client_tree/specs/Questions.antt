@@ -1,20 +1,19 @@
 -- What is asked of a view, what is asked for to tell it, and what is told: what stands at an i-number, of what kind and
 -- size it is, and at which i-number of a range nothing stands.
-use Rattle.std.specs.Prelude.{◌≡◌, ◌≤◌, ◌<◌, ◌↔◌, ◌⊎◌, true, false, [], length, Option, Some, None, IsSome, if◌then◌else◌}
+use Rattle.std.specs.Prelude.{◌≡◌, ◌≤◌, ◌<◌, ◌↔◌, ◌⊎◌, false, [], length, Option, Some, None, IsSome, if◌then◌else◌}
 use Rattle.std.specs.Option.{option_map, option_map_or}
 use Rattle.layout.specs.Types.{Digest, INumber, Principal}
 use Rattle.itable.specs.Inode.{Inode}
 use Rattle.principals.specs.Table.{Table}
 use Rattle.update_cert.specs.World.{Content, File, Directory, is_table}
-use Rattle.update_cert.specs.Reading.{Reading}
 use Rattle.tree_parts.specs.Blocks.{Blocks, ForEachReading, inode_at}
 use Rattle.tree_parts.specs.Part.{Part, Slot, Laid, Changed, slot_at}
 use Rattle.tree_parts.specs.Slots.{directory_inode}
 use Rattle.tree_parts.specs.Spot.{is_of_file, lacks}
-use Rattle.tree_parts.specs.Asked.{HasChunkFor, IsChunkFor, IsInode}
+use Rattle.tree_parts.specs.Asked.{IsInode, IsRoot}
 use Rattle.tree_parts.specs.declared.spot.Spot.{Spot}
 use Rattle.client_tree.specs.View.{View, handle_of, shown}
-use Rattle.client_tree.specs.Opened.{HasLooked, IsLooked, IsOpened, IsOpening, IsOpeningAt}
+use Rattle.client_tree.specs.Opened.{HasLooked, HasOpeningAt, IsLooked, IsOpenedAt, IsOpeningAt}
 use Rattle.client_tree.specs.Seen.{content_seen}
 use Rattle.client_tree.specs.declared.contents.SeenKind.{SeenKind}
 use Rattle.client_tree.specs.declared.contents.SeenKind.TheVariants as seen
@@ -54,13 +53,12 @@ abbrev pub IsAskedForKind : Blocks → View → Principal → INumber → Digest
 IsAskedForKind blocks x p i digest s =
     (is_table p i ≡ false)
     × (IsOpeningAt blocks x p i digest s
-    ⊎ ((part : Part) × IsOpened blocks x p part × IsInodeThere blocks part i digest s))
+    ⊎ ((part : Part) × IsOpenedAt blocks x p i part × IsInodeThere blocks part i digest s))
 
 -- nothing of that is missing, and it tells this
 pub record HasKind (blocks : Blocks) (x : View) (p : Principal) (i : INumber) (kind : SeenKind) : Type 0 where
   pub part : Part
-  pub opened : IsOpened blocks x p part
-  pub chunk : HasChunkFor blocks p (handle_of x p) i
+  pub opened : IsOpenedAt blocks x p i part
   pub taken : (digest : Digest) (s : Spot) → IsInodeThere blocks part i digest s → lacks blocks digest s ≡ false
   pub tells : ForEachReading blocks (λ reads. slot_kind blocks (slot_at reads part i) ≡ Some kind)
 
@@ -78,26 +76,24 @@ abbrev pub AreMapped : Blocks → View → Principal → INumber → INumber →
 AreMapped blocks x p first i = ForEachReading blocks (λ reads. (users : Table) (j : INumber) → first ≤ j → j < i
     → IsSome (shown reads users x p j))
 
--- What opens the principal's part, or the chunk of an i-number of the range, once it is known that something stands at
--- each one before it; no i-node beyond those that open the part. None where the range is the place of the table of
--- principals alone.
+-- The root of the i-table, or what opens the part at an i-number of the range, once it is known that something stands
+-- at each one before it; no i-node beyond those of which changes there ask. None where the range is the place of the
+-- table of principals alone, which was read before.
 abbrev pub IsAskedForFree : Blocks → View → Principal → INumber → INumber → Digest → Spot → Type 0
 IsAskedForFree blocks x p first last digest s =
     (is_table p last ≡ false)
-    × (IsOpening blocks x p digest s
-    ⊎ ((i : INumber) × (first ≤ i) × (i ≤ last) × AreMapped blocks x p first i
-    × IsChunkFor blocks p (handle_of x p) i digest s))
+    × (IsRoot p (handle_of x p) digest s
+    ⊎ ((i : INumber) × (first ≤ i) × (i ≤ last) × (is_table p i ≡ false) × AreMapped blocks x p first i
+    × IsOpeningAt blocks x p i digest s))
 
 -- the i-number is one of the range, and isn't beyond the one that was found
 abbrev pub IsSearched : INumber → INumber → Option INumber → INumber → Type 0
 IsSearched first last found i = (first ≤ i) × (i ≤ option_map_or (λ n. n) found last)
 
--- nothing of that is missing: neither what opens the part, nor a chunk of the range up to the i-number that was found
-pub record HasSearched (blocks : Blocks) (x : View) (p : Principal) (first last : INumber) (found : Option INumber)
-    : Type 0 where
-  pub part : Part
-  pub opened : IsOpened blocks x p part
-  pub chunks : (i : INumber) → IsSearched first last found i → HasChunkFor blocks p (handle_of x p) i
+-- nothing by which the part is opened at these is missing
+abbrev pub HasSearched : Blocks → View → Principal → INumber → INumber → Option INumber → Type 0
+HasSearched blocks x p first last found =
+    (i : INumber) → IsSearched first last found i → is_table p i ≡ false → HasOpeningAt blocks x p i
 
 -- ---- each question
 

@@ -16,6 +16,7 @@ use Rattle.update_cert.specs.Reading.{Reading}
 use Rattle.tree_parts.specs.Blocks.{Blocks, ForEachReading}
 use Rattle.tree_parts.specs.Part.{Part, Changed, IsPart, slot_here}
 use Rattle.tree_parts.specs.Slots.{slot_digest, directory_digest, changed_texts, has_digest, holds, IsReadBack}
+use Rattle.tree_parts.specs.declared.scope.Scope.TheVariants as scopes
 use Rattle.tree_parts.specs.declared.spot.Spot.{Spot}
 use Rattle.client_tree.specs.View.{View, handle_of, lost as lost_of, tree, written}
 use Rattle.client_tree.specs.Principals.{IsPending}
@@ -86,7 +87,7 @@ pub record IsStored (blocks : Blocks) (x : View) (s : Stored) : Type 0 where
 
 -- No operation on the part has a change of it: it goes on as it is.
 pub record IsUntouched (x : View) (s : Stored) : Type 0 where
-  pub untouched : is_touched x s.principal ≡ false
+  pub untouched : is_touched x scopes.All s.principal ≡ false
   pub named : s.handle ≡ handle_of x s.principal
   pub stored : s.texts ≡ []
 

@@ -116,6 +116,13 @@ impl<A: Allocator> Held<A> {
         }
     }
 
+    /// What is true of them at all times. For the proofs of callers: it does nothing.
+    pub fn stands(&self)
+        ensures { AreHeld self.now }
+    {
+        let _blocks = &self.blocks;
+    }
+
     /// Keeps a text, and gives its digest. After an error the blocks are as before.
     pub fn keep(&mut self, text: Vec<u8, A>) -> Result<Digest, Memory>
         ensures digest { IfOk result (λ digest. digest ≡ hash text.items) }

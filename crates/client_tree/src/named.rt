@@ -1,6 +1,6 @@
 //! The table of principals of a view: the one that user 0's handle names, and what the pending operations make of it.
 
-ghost use Rattle.std.specs.Prelude.{◌≡◌, ◌==◌, Some, IfOk, IfErr, OnOk, filter, find};
+ghost use Rattle.std.specs.Prelude.{◌≡◌, ◌==◌, ℕ, List, Some, IfOk, IfErr, OnOk, filter, find};
 ghost use Rattle.std.specs.Option.{option_copied};
 ghost use Rattle.itable.specs.ITable.{digest_in};
 ghost use Rattle.itable.specs.Root.{chunk_at};
@@ -136,6 +136,18 @@ pub fn table_of<A: Allocator + Copy, B: Blocks>(
           others = others.now;
           own = own.now;
         }) t.voids) }
+    // No other table is that of these lists by these blocks, and no other numbers are those of the own changes of it
+    // that have no effect.
+    ensures only { IfOk result (λ t. (users table : Principals) (numbers : List ℕ)
+        → IsNamed (B.held blocks.now) (handle_in key.now structures.now 0) users
+        → IsPending users (record {
+          key = key.now;
+          table = table;
+          structures = structures.now;
+          others = others.now;
+          own = own.now;
+        }) numbers
+        → (table ≡ t.table) × (numbers ≡ t.voids)) }
     // Missing names a digest that is asked for to read the table, and no text of it is held that its spot takes.
     ensures missing { IfErr result
         (Lacks (B.held blocks.now) (IsOfNamed (B.held blocks.now) (handle_in key.now structures.now 0))) }

@@ -1,15 +1,16 @@
 //! What is asked of a view, and what it tells.
 
-ghost use Rattle.std.specs.Prelude.{◌≡◌, false, IfOk, IfErr, length};
+ghost use Rattle.std.specs.Prelude.{◌≡◌, [], false, IfOk, IfErr, length};
 ghost use Rattle.directory.specs.Directory.{directory as directory_format};
 ghost use Rattle.principals.specs.TableText.{table as table_format};
 ghost use Rattle.tree_parts.specs.Slots.{directory_inode};
 ghost use Rattle.principals.specs.Table.{Table as Principals};
 ghost use Rattle.update_cert.specs.World.{is_table};
 ghost use Rattle.tree_parts.specs.Blocks.{ForEachReading};
-ghost use Rattle.tree_parts.specs.Asked.{Lacks};
-ghost use Rattle.client_tree.specs.View.{shown};
-ghost use Rattle.client_tree.specs.Opened.{IsOpened};
+ghost use Rattle.tree_parts.specs.Asked.{IsReadFrom, Lacks};
+ghost use Rattle.tree_parts.specs.declared.scope.Scope.{Scope as ScopeModel};
+ghost use Rattle.client_tree.specs.View.{handle_of, shown};
+ghost use Rattle.client_tree.specs.Opened.{IsPartAfter};
 ghost use Rattle.client_tree.specs.declared.contents.SeenKind.TheVariants as kinds;
 ghost use Rattle.client_tree.specs.Questions.{HasKind, HasSearched, IsAnsweredBy, IsAskedBy, IsAskedForFree};
 ghost use Rattle.client_tree.specs.Questions.{IsAskedForKind, IsKindOf, IsLeastFree, kind_in};
@@ -68,9 +69,8 @@ fn kind_of_directory<A: Allocator + Copy>(
 }
 
 impl<'a, A: Allocator + Copy> View<'a, A> {
-    /// Of what kind and size is what stands at an i-number of a principal. No block of a file or of a directory is read
-    /// for it, beyond those of directories in which pending operations link. The errors are Missing of a block, and
-    /// Memory.
+    /// Of what kind and size is what stands at an i-number of a principal. No block of a file is read for it, and of a
+    /// directory only where a pending link or unlink there asks for it. The errors are Missing of a block, and Memory.
     pub fn kind<B: Blocks>(
         &self,
         alloc: A,
@@ -91,7 +91,7 @@ impl<'a, A: Allocator + Copy> View<'a, A> {
             return Ok(kind_of_table(alloc, self.table())?);
         }
         let opened = self.open_at(alloc, blocks, principal, i_number)?;
-        let Some(slot) = opened.part.into_slot(i_number) else {
+        let Some(slot) = opened.into_slot(i_number) else {
             return Ok(SeenKind::Nothing);
         };
         match slot {
@@ -103,7 +103,8 @@ impl<'a, A: Allocator + Copy> View<'a, A> {
         }
     }
 
-    /// The least i-number of a range at which an opened part has nothing, if there is one.
+    /// The least i-number of a range at which nothing stands, if there is one, of a principal whose part before any
+    /// operation is this one.
     fn search<B: Blocks>(
         &self,
         alloc: A,
@@ -113,7 +114,9 @@ impl<'a, A: Allocator + Copy> View<'a, A> {
         first: INumber,
         last: INumber,
     ) -> Result<Option<INumber>, ApplyError>
-        requires opened { IsOpened (B.held blocks.now) self.now principal part }
+        requires part { (scope : ScopeModel) → IsPartAfter (B.held blocks.now) scope self.now.table [] principal
+            (handle_of self.now principal) part }
+        requires read { IsReadFrom (B.held blocks.now) part }
         requires place { is_table principal last ≡ false }
         ensures free { ForEachReading (B.held blocks.now) (λ reads. (users : Principals)
             → IfOk result (IsLeastFree (shown reads users self.now principal) first last)) }
@@ -127,8 +130,8 @@ impl<'a, A: Allocator + Copy> View<'a, A> {
             let Some(i_number) = INumber::new(number) else {
                 unreachable!()
             };
-            part.load(alloc, blocks, i_number)?;
-            if !is_table(principal, i_number) && !part.stands(i_number) {
+            let is_mapped = self.is_mapped(alloc, blocks, &mut part, principal, i_number)?;
+            if !is_mapped {
                 return Ok(Some(i_number));
             }
         }
@@ -136,7 +139,7 @@ impl<'a, A: Allocator + Copy> View<'a, A> {
     }
 
     /// The least i-number of a principal, from the first to the last, at which nothing stands, if there is one. No i-node
-    /// is read for it, beyond those of which pending operations ask. The errors are Missing of a block, and Memory.
+    /// is read for it, beyond those of which changes there ask. The errors are Missing of a block, and Memory.
     pub fn free<B: Blocks>(
         &self,
         alloc: A,
@@ -148,7 +151,7 @@ impl<'a, A: Allocator + Copy> View<'a, A> {
         // Whatever stands for the digests of which no block tells.
         ensures free { ForEachReading (B.held blocks.now) (λ reads. (users : Principals)
             → IfOk result (IsLeastFree (shown reads users self.now principal) first last)) }
-        // Each chunk of the range, up to the i-number that was found, is what its place takes.
+        // Nothing is missing by which the part is opened at the i-numbers of the range, up to the one that was found.
         ensures taken { is_table principal last ≡ false
             → IfOk result (HasSearched (B.held blocks.now) self.now principal first last) }
         ensures missing { IfErr result
@@ -159,8 +162,8 @@ impl<'a, A: Allocator + Copy> View<'a, A> {
             let _positive = first.get();
             return Ok(None);
         }
-        let opened = self.open(alloc, blocks, principal)?;
-        self.search(alloc, blocks, principal, opened.part, first, last)
+        let part = self.first_part(alloc, blocks, principal)?;
+        self.search(alloc, blocks, principal, part, first, last)
     }
 
     /// The answer to a question. The errors are Missing of a block, and Memory.

@@ -23,7 +23,6 @@ ghost use Rattle.client_tree.specs.Seen.{content_seen};
 
 use crate::contents::{Seen, read_content};
 use crate::lost::{PartVoids, lost_among};
-use crate::opened::Opened;
 use crate::view::View;
 use itable::{ITable, Laid, LayError, lay_file};
 use layout::{Digest, INumber, Memory, Principal, Text, digest};
@@ -31,7 +30,9 @@ use pending_list::raised_groups;
 use principals::Table;
 use std::alloc::Allocator;
 use std::marker::Model;
-use tree_parts::{ApplyError, Blocks, LaidPart, Slot, has_digest, holds_laid, is_table};
+use tree_parts::{
+    Applied, ApplyError, Blocks, LaidPart, Scope, Slot, has_digest, holds_laid, is_table,
+};
 use update_cert::Voids;
 
 /// A principal's part, as it is stored.
@@ -210,7 +211,7 @@ fn store_part<A: Allocator + Copy, B: Blocks>(
     alloc: A,
     blocks: &B,
     principal: Principal,
-    opened: Opened<A>,
+    opened: Applied<A>,
     users: &Table<A>,
 ) -> Result<Written<A>, Memory>
     requires loaded { principal ≡ 0 → loaded opened.part.table 1 ≡ true }
@@ -219,7 +220,7 @@ fn store_part<A: Allocator + Copy, B: Blocks>(
     ensures principal { IfOk result (λ w. w.stored.principal ≡ principal) }
     ensures voids { IfOk result (λ w. w.voids ≡ record { principal = principal; numbers = opened.voids }) }
 {
-    let Opened { part, voids } = opened;
+    let Applied { part, voids } = opened;
     let laid = part.lay(alloc, blocks)?;
     let laid = with_table(alloc, blocks, principal, laid, users)?;
     let StoredTable { handle, texts } = store_laid(alloc, laid)?;
@@ -281,7 +282,7 @@ impl<'a, A: Allocator + Copy> View<'a, A> {
             })) }
         ensures missing { IfErr result (Lacks (B.held blocks.now) (IsNeeded (B.held blocks.now) self.now principal)) }
     {
-        if !self.is_touched(principal) {
+        if !self.is_touched(&Scope::All, principal) {
             let handle = self.handle_of(alloc, principal)?;
             return Ok(kept_part(alloc, principal, handle));
         }
@@ -337,7 +338,7 @@ impl<'a, A: Allocator + Copy> View<'a, A> {
             return Ok(Seen::File(text));
         }
         let opened = self.open_at(alloc, blocks, principal, i_number)?;
-        let Some(slot) = opened.part.into_slot(i_number) else {
+        let Some(slot) = opened.into_slot(i_number) else {
             return Ok(Seen::Nothing);
         };
         match slot {

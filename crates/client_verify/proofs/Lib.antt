@@ -1,4 +1,5 @@
 pub mod Steps
+pub mod Telling
 pub mod LaidLaws
 pub mod GenesisLaws
 pub mod Handing

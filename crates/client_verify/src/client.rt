@@ -75,7 +75,7 @@ impl<L: Device, J: Device, A: Allocator + Copy> Client<L, J, A> {
     ghost use Rattle.update_cert.specs.Reading.{Reading};
     ghost use Rattle.itable.specs.ITable.{digest_at};
     ghost use Rattle.tree_parts.specs.Blocks.{Agrees};
-    ghost use Rattle.client_tree.specs.Held.{held};
+    ghost use Rattle.client_tree.specs.Held.{AreHeld, held};
     ghost use Rattle.client_tree.specs.Genesis.{first_table, first_texts, table_text};
     ghost use Rattle.lms_sign.specs.Keys.{public_key_of};
     ghost use Rattle.leaf_ledger.specs.Device.{HasRisen};
@@ -188,8 +188,10 @@ impl<L: Device, J: Device, A: Allocator + Copy> Client<L, J, A> {
     pub fn stands(&self)
         ensures released { IsReleased (released self.now) }
         ensures replies { AreReplies (released self.now) self.now.checked self.now.accepted }
+        ensures held { AreHeld self.now.blocks }
     {
         self.releases.stands();
+        self.blocks.stands();
         let _checked = &self.checked;
         let _accepted = &self.accepted;
     }

@@ -53,8 +53,8 @@ impl<L: Device, J: Device, A: Allocator + Copy> Client<L, J, A> {
     }
 
     /// Of what kind and size is what stands at an i-number of a principal in the accepted view, or the block that is
-    /// wanted to tell it: beyond what opens the part it is the i-node alone. A look that was under way is over. Only
-    /// want of memory is an error.
+    /// wanted to tell it: beyond what opens the part there it is the i-node alone. A look that was under way is over.
+    /// Only want of memory is an error.
     pub fn kind(&mut self, principal: Principal, i_number: INumber) -> Result<Look<A>, ClientError>
         requires { IsSome self.old.view }
         ensures looked { IfSome self.old.view
@@ -69,8 +69,8 @@ impl<L: Device, J: Device, A: Allocator + Copy> Client<L, J, A> {
     }
 
     /// The least i-number of a principal, from the first to the last, at which nothing stands in the accepted view, if
-    /// there is one, or the block that is wanted to tell it: beyond what opens the part it is a chunk. A look that was
-    /// under way is over. Only want of memory is an error.
+    /// there is one, or the block that is wanted to tell it: the root of the part, or what opens the part at an i-number
+    /// of the range. A look that was under way is over. Only want of memory is an error.
     pub fn free(
         &mut self,
         principal: Principal,
@@ -115,6 +115,7 @@ impl<L: Device, J: Device, A: Allocator + Copy> Client<L, J, A> {
     }
 
     /// Goes on with a look: a block is asked for, or it is over.
+    #[tactic(auto, using(crate::proofs::Telling::looked_told))]
     fn answer(&mut self, question: Question, shown: Shown<A>) -> Look<A>
         requires view { IsSome self.old.view }
         requires shown { IfSome self.old.view

@@ -33,27 +33,53 @@ const NUMBERS: [u16; 4] = [1, 64, 128, 192];
 
 // ---- a reply, and a look
 
-/// User 1's operation: a file is made at each of the i-numbers.
-fn making_each(rt: &impl Host) -> Planned {
+/// User 1's operation: at each of the i-numbers a file of these bytes is made, or replaces the one there.
+fn file_at_each(rt: &impl Host, bytes: &[u8], is_new: bool) -> Planned {
     let mut planned = nothing(rt);
     for number in &NUMBERS {
-        let digest = lay(rt, &mut planned, b"a");
+        let digest = lay(rt, &mut planned, bytes);
         let (owner, number) = (principal(rt, 1), i_number(rt, *number));
-        let change = Change::new(owner, number, Action::Make(digest));
-        plan_change(rt, &mut planned, change);
+        let action = if is_new {
+            Action::Make(digest)
+        } else {
+            Action::Put(digest)
+        };
+        plan_change(rt, &mut planned, Change::new(owner, number, action));
     }
     planned
 }
 
+/// User 1 declares that operation, whose contents are stored: its UPDATE.
+fn declares_each(rt: &impl Host, users: &mut Users, bytes: &[u8], is_new: bool) -> Vec<u8> {
+    let Planned { changes, laid } = file_at_each(rt, bytes, is_new);
+    for text in &laid {
+        keep_each(rt, &mut users.store, &[text]);
+    }
+    declare_changes(rt, &mut users.first, changes, laid)
+}
+
 /// User 1 makes them, in one operation that is committed.
 fn makes_each(rt: &impl Host, scene: &mut Listed) {
-    let Planned { changes, laid } = making_each(rt);
+    let update = declares_each(rt, &mut scene.users, b"a", true);
     let Users { first, store, .. } = &mut scene.users;
-    for text in &laid {
-        keep_each(rt, store, &[text]);
-    }
-    let update = declare_changes(rt, first, changes, laid);
     let _structure = completes(rt, store, &mut scene.server, first, &update);
+}
+
+/// User 1 replaces them, in one operation that stays pending.
+fn replaces_each(rt: &impl Host, scene: &mut Listed) {
+    let update = declares_each(rt, &mut scene.users, b"b", false);
+    let _reply = answers_update_so(rt, &mut scene.server, &update, Status::Ok);
+}
+
+/// User 2, who just opened its client, makes an operation without changes, and asks for four blocks: the root, the
+/// chunk, the i-node and the block of the table of principals.
+fn second_goes_on(rt: &impl Host, scene: &mut Listed) {
+    let Users { second, store, .. } = &mut scene.users;
+    let update = declare(rt, second);
+    let text = answers_update_so(rt, &mut scene.server, &update, Status::Ok);
+    let asked = asked_of(rt, second, store, &text);
+    check(rt, asked == 4, "four blocks for the reply");
+    let _structure = sign(rt, second);
 }
 
 /// The client accepts the reply: how many blocks it asked for.
@@ -90,33 +116,44 @@ fn look_through(
     panic!(rt; "too many blocks")
 }
 
-/// User 2, who just opened its client, sees a file of user 1, and asks for so many blocks.
-fn second_sees(rt: &impl Host, users: &mut Users, asked: usize) {
+/// User 2 sees these bytes in a file of user 1's, and asks for so many blocks.
+fn second_sees(rt: &impl Host, users: &mut Users, bytes: &[u8], asked: usize) {
     let Users { second, store, .. } = users;
     let begun = look_at(rt, second, 1, 64);
     let seen = look_through(rt, second, store, begun, asked);
     match &seen {
-        Look::File(bytes) => check_text(rt, bytes, b"a"),
+        Look::File(seen) => check_text(rt, seen, bytes),
         _ => panic!(rt; "no file"),
     }
     let_go(seen);
 }
 
-/// For the reply the root, the chunk, the i-node and the block of the table of principals; and those of the file for the
-/// look.
+/// The root, the chunk, the i-node and the block of the file, and nothing more for a second look.
 #[test]
 fn four_blocks_and_four(rt: HostRuntime) {
     let rt = &(rt, Here);
     let mut scene = both_are_listed(rt);
     makes_each(rt, &mut scene);
+    second_goes_on(rt, &mut scene);
+    second_sees(rt, &mut scene.users, b"a", 4);
+    second_sees(rt, &mut scene.users, b"a", 0);
+    let_go(scene);
+}
+
+/// Of an operation that is pending the change at that i-number alone asks for something: the look for the root, the
+/// chunk, the i-node that the change meets, and the new one with its block; the others each for a chunk more.
+#[test]
+fn pending_elsewhere(rt: HostRuntime) {
+    let rt = &(rt, Here);
+    let mut scene = both_are_listed(rt);
+    makes_each(rt, &mut scene);
+    replaces_each(rt, &mut scene);
+    second_goes_on(rt, &mut scene);
+    second_sees(rt, &mut scene.users, b"b", 5);
     let Users { second, store, .. } = &mut scene.users;
-    let update = declare(rt, second);
-    let text = answers_update_so(rt, &mut scene.server, &update, Status::Ok);
-    let asked = asked_of(rt, second, store, &text);
-    check(rt, asked == 4, "four blocks for the reply");
-    let _structure = sign(rt, second);
-    second_sees(rt, &mut scene.users, 4);
-    second_sees(rt, &mut scene.users, 0);
+    is_of_kind(rt, second, store, (1, 128), SeenKind::File(1), 1);
+    is_free(rt, second, store, (1, 1, 4095), Some(2), 1);
+    is_free(rt, second, store, (1, 192, 4095), Some(193), 1);
     let_go(scene);
 }
 
@@ -174,7 +211,8 @@ fn sees_thousand(rt: &impl Host) -> (Scene, MemoryClient) {
 /// Of this kind and size is what stands at an i-number, and so many blocks are asked for.
 fn is_of_kind(
     rt: &impl Host,
-    (scene, client): &mut (Scene, MemoryClient),
+    client: &mut MemoryClient,
+    store: &Held<Global>,
     (owner, number): (u8, u16),
     kind: SeenKind,
     asked: usize,
@@ -182,7 +220,7 @@ fn is_of_kind(
     assert!(rt; client.has_view());
     let begun = client.kind(principal(rt, owner), i_number(rt, number));
     let begun = begun.expect(rt, "memory");
-    match look_through(rt, client, &scene.store, begun, asked) {
+    match look_through(rt, client, store, begun, asked) {
         Look::Kind(found) => check(rt, found == kind, "the kind"),
         _ => panic!(rt; "no kind"),
     }
@@ -191,7 +229,8 @@ fn is_of_kind(
 /// This is the least i-number of a range at which nothing stands, and so many blocks are asked for.
 fn is_free(
     rt: &impl Host,
-    (scene, client): &mut (Scene, MemoryClient),
+    client: &mut MemoryClient,
+    store: &Held<Global>,
     (owner, first, last): (u8, u16, u16),
     free: Option<u16>,
     asked: usize,
@@ -200,7 +239,7 @@ fn is_free(
     assert!(rt; client.has_view() && first.get() <= last.get());
     let begun = client.free(principal(rt, owner), first, last);
     let begun = begun.expect(rt, "memory");
-    match look_through(rt, client, &scene.store, begun, asked) {
+    match look_through(rt, client, store, begun, asked) {
         Look::Free(found) => check(rt, found.map(|i| i.get()) == free, "the i-number"),
         _ => panic!(rt; "no i-number"),
     }
@@ -210,24 +249,33 @@ fn is_free(
 #[test]
 fn kinds_and_sizes(rt: HostRuntime) {
     let rt = &(rt, Here);
-    let mut world = sees_thousand(rt);
-    is_of_kind(rt, &mut world, (2, 700), SeenKind::File(LARGEST), 3);
-    is_of_kind(rt, &mut world, (2, 1000), SeenKind::File(LARGEST), 1);
-    is_of_kind(rt, &mut world, (2, 1001), SeenKind::Nothing, 0);
-    is_of_kind(rt, &mut world, (0, 2), SeenKind::Directory(6), 0);
-    is_of_kind(rt, &mut world, (0, 1), SeenKind::File(352), 0);
-    let_go(world);
+    let (scene, mut client) = sees_thousand(rt);
+    let store = &scene.store;
+    is_of_kind(rt, &mut client, store, (2, 700), SeenKind::File(LARGEST), 3);
+    is_of_kind(
+        rt,
+        &mut client,
+        store,
+        (2, 1000),
+        SeenKind::File(LARGEST),
+        1,
+    );
+    is_of_kind(rt, &mut client, store, (2, 1001), SeenKind::Nothing, 0);
+    is_of_kind(rt, &mut client, store, (0, 2), SeenKind::Directory(6), 0);
+    is_of_kind(rt, &mut client, store, (0, 1), SeenKind::File(352), 0);
+    let_go((scene, client));
 }
 
 /// The root, and the chunks up to the one that has the answer, and no i-node.
 #[test]
 fn least_free_numbers(rt: HostRuntime) {
     let rt = &(rt, Here);
-    let mut world = sees_thousand(rt);
-    is_free(rt, &mut world, (2, 640, 650), None, 2);
-    is_free(rt, &mut world, (2, 1, 4095), Some(1001), 15);
-    is_free(rt, &mut world, (2, 1002, 4095), Some(1002), 0);
-    is_free(rt, &mut world, (0, 1, 1), None, 0);
-    is_free(rt, &mut world, (0, 1, 63), Some(3), 0);
-    let_go(world);
+    let (scene, mut client) = sees_thousand(rt);
+    let store = &scene.store;
+    is_free(rt, &mut client, store, (2, 640, 650), None, 2);
+    is_free(rt, &mut client, store, (2, 1, 4095), Some(1001), 15);
+    is_free(rt, &mut client, store, (2, 1002, 4095), Some(1002), 0);
+    is_free(rt, &mut client, store, (0, 1, 1), None, 0);
+    is_free(rt, &mut client, store, (0, 1, 63), Some(3), 0);
+    let_go((scene, client));
 }

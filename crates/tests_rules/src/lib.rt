@@ -1,7 +1,9 @@
 //! Tests of the rules on a reply's lists, made by hand, and of what is read from blocks: i-tables, what a spot takes,
-//! and what is missing.
+//! what is missing, and what changes make of a part.
 #![tactic(auto)]
 
+#[cfg(test)]
+mod applied;
 #[cfg(test)]
 mod blocks;
 #[cfg(test)]

@@ -17,10 +17,10 @@ use Rattle.update_cert.specs.declared.change.Action.TheVariants as held
 use Rattle.update_cert.specs.declared.change.TableChange.{TableChange}
 use Rattle.update_cert.specs.declared.change.TableChange.TheVariants as table_change
 use Rattle.principals.specs.Table.{Table, user_added, member_added, member_dropped}
-use Rattle.update_cert.specs.World.{Content, File, Directory, Principals, Actor, Tree, permitted, has_effect, action_fits, fits, has_room, has_name, entries_of, becomes, content_after, after_change, is_removable, is_root, is_table, changes_table}
-use Rattle.update_cert.specs.Reading.{Reading, read_action, read_change}
+use Rattle.update_cert.specs.World.{Content, File, Directory, Principals, Actor, Tree, permitted, has_effect, action_fits, fits, has_room, has_name, entries_of, becomes, content_after, after, after_change, is_removable, is_root, is_table, changes_table}
+use Rattle.update_cert.specs.Reading.{Reading, after_read, read_action, read_change}
 use Rattle.tree_parts.specs.Part.{Open, Part, Slot, Changed, HasTable, IsPart, IsPartOf, number_of, opened_at, slot_at, slot_here, slot_of, stands_at}
-use Rattle.tree_parts.specs.Slots.{content_in, laid_under, slot_becomes, slot_changes, slot_after_change}
+use Rattle.tree_parts.specs.Slots.{content_in, laid_under, slot_becomes, slot_changes, slot_after, slot_after_change}
 use Rattle.tree_parts.specs.Asked.{needs_slot}
 use Rattle.tree_parts.specs.Acts.{Acts, change_at, is_void_of, listed, stands_here}
 use Rattle.update_cert.proofs.EffectLaws.{fits_read, other_void, table_place}
@@ -363,3 +363,36 @@ is_tables (table_change.DropMember g u) = refl
 -- it is void in no part
 pub not_of_part : (actor : Actor) (p : ℕ) (c : Change Digest) (tree : Tree) → changes_table c.action ≡ true → false ≡ is_void_of actor p c tree
 not_of_part actor p c tree is = sym (ap (λ (t : Bool). ((c.principal == p) && not t) && not (has_effect actor c (tree c.principal c.i_number))) is ∙ ap (λ (t : Bool). t && not (has_effect actor c (tree c.principal c.i_number))) (and-false (c.principal == p)))
+
+-- ---- what stands at one i-number, after changes in turn
+
+turned : (p q i k : ℕ) → ((p == q) && (i == k)) ≡ ((q == p) && (k == i))
+turned p q i k = grind (arith, nat_tests)
+
+not_table : (p q i k : ℕ) → is_table p i ≡ false → ((p == q) && (i == k)) ≡ true → is_table q k ≡ false
+not_table p q i k place here = grind (arith, nat_tests)
+
+one_after : (reads : Reading) (actor : Actor) (p i : ℕ) (c : Change Digest) (tree : Tree) (s : Option Slot) → is_table p i ≡ false → tree p i ≡ content_in reads s
+    → after_change actor (read_change reads c) tree p i ≡ content_in reads (slot_after reads actor p i (c ∷ []) s)
+unfolding slot_after
+one_after reads actor p i c tree s place is =
+    followed_step reads actor c s (tree p i) ((p == c.principal) && (i == c.i_number)) (not_table p c.principal i c.i_number place) is
+    ∙ ap (λ (t : Bool). content_in reads (if t then slot_after_change reads actor c s else s)) (turned p c.principal i c.i_number)
+
+first_after : (reads : Reading) (actor : Actor) (p i : ℕ) (c : Change Digest) (cs : List (Change Digest)) (s : Option Slot) → slot_after reads actor p i (c ∷ cs) s ≡ slot_after reads actor p i cs (slot_after reads actor p i (c ∷ []) s)
+unfolding slot_after
+first_after reads actor p i c cs s = elim ((c.principal == p) && (c.i_number == i)) as (λ t.
+    (if t then slot_after reads actor p i cs (slot_after_change reads actor c s) else slot_after reads actor p i cs s)
+    ≡ slot_after reads actor p i cs (if t then slot_after_change reads actor c s else s)) [
+      | true ↦ refl
+      | false ↦ refl
+    ]
+
+-- it is what the slot there is then of; the table of principals is no part's
+pub stands_after : (reads : Reading) (actor : Actor) (p i : ℕ) (cs : List (Change Digest)) (tree : Tree) (s : Option Slot) → is_table p i ≡ false → tree p i ≡ content_in reads s
+    → after_read reads actor cs tree p i ≡ content_in reads (slot_after reads actor p i cs s)
+unfolding after slot_after
+stands_after reads actor p i [] tree s place is = is
+stands_after reads actor p i (c ∷ cs) tree s place is =
+    stands_after reads actor p i cs (after_change actor (read_change reads c) tree) (slot_after reads actor p i (c ∷ []) s) place (one_after reads actor p i c tree s place is)
+    ∙ sym (ap (content_in reads) (first_after reads actor p i c cs s))

@@ -1,25 +1,27 @@
 -- What is asked for, from the part at a change's turn to the first part.
 use Rattle.std.proofs.Common.{◌≡◌, ℕ, ◌+◌, ◌<◌, ◌≤◌, Bool, true, false, List, length, take, Option, Some, None, Result, Ok, Err, refl, subst, sym, ap, ◌∙◌, inl, inr, arith}
-use Rattle.std.specs.Prelude.{◌⊎◌, ◌&&◌, not, IfErr, IsErr, IsErrAnd, OnOk, slice_get, slice_index_or}
+use Rattle.std.specs.Prelude.{◌⊎◌, ◌==◌, ◌&&◌, not, IfErr, IsErr, IsErrAnd, OnOk, slice_get, slice_index_or}
 use Rattle.std.specs.Option.{option_map}
 use Rattle.std.proofs.Math.Bool.{and-false}
 use Rattle.std.proofs.lemmas.Bool.{and_parts, cases_lt}
+use Rattle.std.proofs.lemmas.Bool.Decides.{nat_tests}
 use Rattle.std.proofs.lemmas.Option.{slice_get_read, slice_get_within}
 use Rattle.update_cert.specs.Change.{Action, Make, Put, Remove, Link, Unlink, AddUser, AddMember, DropMember, Change}
-use Rattle.layout.specs.Types.{Digest}
+use Rattle.layout.specs.Types.{Digest, INumber}
 use Rattle.update_cert.specs.World.{Actor, is_root, is_table, permitted}
-use Rattle.update_cert.specs.Reading.{Reading}
 use Rattle.directory.specs.Directory.{Entry}
 use Rattle.itable.specs.ITable.{digest_at, loaded}
-use Rattle.tree_parts.specs.Blocks.{Blocks, Agrees, ForEachReading}
+use Rattle.tree_parts.specs.Blocks.{Blocks, ForEachReading}
 use Rattle.tree_parts.specs.Spot.{lacks}
 use Rattle.tree_parts.specs.Part.{Laid, Part, handle, opened_at, slot_at, slot_of}
 use Rattle.tree_parts.specs.Slots.{slot_after}
 use Rattle.itable.specs.declared.inode.Kind.TheVariants as kind
-use Rattle.tree_parts.specs.Asked.{HasAskedFor, HasChunkFor, IsChunkFor, Lacks, IsInode, IsBlock, IsAskedFor, IsMetAt, IsWantedBy, asks, asks_slot, needs_inode, needs_entries, needs_slot}
+use Rattle.tree_parts.specs.Asked.{HasAskedFor, HasChunkFor, IsChunkFor, Lacks, IsInode, IsBlock, IsAskedFor, IsMadeIn, IsMetAt, IsWantedBy, asks, asks_slot, needs_inode, needs_entries, needs_slot, covers}
 use Rattle.tree_parts.specs.Acts.{HasAt, HasBy, HasFor, LiesAt, LiesBy, LiesFor, LiesMet}
 use Rattle.tree_parts.specs.declared.error.ApplyError.{ApplyError}
 use Rattle.tree_parts.specs.declared.error.ApplyError.TheVariants as error
+use Rattle.tree_parts.specs.declared.scope.Scope.{Scope}
+use Rattle.tree_parts.specs.declared.scope.Scope.TheVariants as scopes
 use Rattle.tree_parts.specs.declared.spot.Spot.{Spot}
 use Rattle.tree_parts.proofs.SomeReading.{some_reading}
 use Rattle.tree_parts.proofs.LoadLaws.{slot_loaded}
@@ -32,6 +34,19 @@ lacks_wider blocks P Q error.Memory wider lacks = tt
 -- the change at a place
 got : (cs : List (Change Digest)) (k : ℕ) (c : Change Digest) → k < length cs → c ≡ slice_index_or cs k c → slice_get cs k ≡ Some c
 got cs k c inside at = slice_get_read cs (length cs) k c refl inside at
+
+-- one that isn't made stands at another i-number than those that are
+pub elsewhere : (scope : Scope) (n i : INumber) → covers scope n ≡ false → covers scope i ≡ true → (n == i) ≡ false
+elsewhere scopes.All n i none covered = absurd cc
+elsewhere (scopes.At m) n i none covered = grind (arith, nat_tests)
+
+pub elsewhere_too : (scope : Scope) (n i : INumber) → covers scope n ≡ true → covers scope i ≡ false → (n == i) ≡ false
+elsewhere_too scopes.All n i covered none = absurd cc
+elsewhere_too (scopes.At m) n i covered none = grind (arith, nat_tests)
+
+-- where changes at an i-number are made, the part has there what these changes make of what the first one has
+abbrev pub IsSlotThen : Blocks → Scope → Actor → Part → Part → List (Change Digest) → INumber → Type 0
+IsSlotThen blocks scope actor first part cs i = covers scope i ≡ true → ForEachReading blocks (λ reads. slot_at reads part i ≡ slot_after reads actor first.table.principal i cs (slot_at reads first i))
 
 -- what lacks at an i-number is what the action there asks for
 lacks_for : (blocks : Blocks) (part : Part) (c : Change Digest) (i : ℕ) (entries : Bool) (e : ApplyError) → i ≡ c.i_number → needs_entries c.action ≡ entries → needs_inode c.principal c.i_number c.action ≡ true → Lacks blocks (LiesAt blocks part i entries) e → Lacks blocks (LiesFor blocks part c) e
@@ -46,38 +61,41 @@ each_for blocks part c i entries (Ok t) here are needs lacks = tt
 each_for blocks part c i entries (Err e) here are needs lacks = lacks_for blocks part c i entries e here are (needs refl) lacks
 
 -- a change that lacks something at its turn lacks what is asked for
-asked_then : (blocks : Blocks) (actor : Actor) (first part : Part) (cs : List (Change Digest)) (k : ℕ) (c : Change Digest) (digest : Digest) (s : Spot) → part.table.principal ≡ first.table.principal → handle part ≡ handle first → c.principal ≡ part.table.principal → k < length cs → c ≡ slice_index_or cs k c
-    → ((reads : Reading) → Agrees blocks reads → (n : ℕ) → slot_at reads part n ≡ slot_after reads actor first.table.principal n (take k cs) (slot_at reads first n))
-    → LiesBy blocks actor part c digest s → IsAskedFor blocks actor cs first digest s
-asked_then blocks actor first part cs k c digest s same stands of inside at slots (inl (asked, chunk)) =
+asked_then : (blocks : Blocks) (scope : Scope) (actor : Actor) (first part : Part) (cs : List (Change Digest)) (k : ℕ) (c : Change Digest) (digest : Digest) (s : Spot) → part.table.principal ≡ first.table.principal → handle part ≡ handle first → IsMadeIn scope part.table.principal c → k < length cs → c ≡ slice_index_or cs k c
+    → IsSlotThen blocks scope actor first part (take k cs) c.i_number → LiesBy blocks actor part c digest s → IsAskedFor blocks scope actor cs first digest s
+asked_then blocks scope actor first part cs k c digest s same stands (of, covered) inside at slots (inl (asked, chunk)) =
     inl (
       k,
       c,
       got cs k c inside at,
-      of ∙ same,
+      (of ∙ same, covered),
       asked,
       subst (λ (h : Digest). IsChunkFor blocks first.table.principal h c.i_number digest s) stands (subst (λ (p : ℕ). IsChunkFor blocks p (handle part) c.i_number digest s) same chunk),
     )
-asked_then blocks actor first part cs k c digest s same stands of inside at slots (inr (asked, (inode, lies, wanted))) =
+asked_then blocks scope actor first part cs k c digest s same stands (of, covered) inside at slots (inr (asked, (inode, lies, wanted))) =
     inr (
       k,
       c,
       inode,
-      (got cs k c inside at, of ∙ same, λ reads agrees. sym (slots reads agrees c.i_number) ∙ lies reads agrees),
+      (of ∙ same, covered),
+      (got cs k c inside at, λ reads agrees. sym (slots covered reads agrees) ∙ lies reads agrees),
       asked,
       subst (λ (p : ℕ). IsInode p c.i_number inode digest s ⊎ ((needs_entries c.action ≡ true) × IsBlock blocks kind.Directory inode digest s)) (sym of) wanted,
     )
 
-pub lacks_met : (blocks : Blocks) (actor : Actor) (first part : Part) (cs : List (Change Digest)) (k : ℕ) (c : Change Digest) (e : ApplyError) → part.table.principal ≡ first.table.principal → handle part ≡ handle first → c.principal ≡ part.table.principal → k < length cs → c ≡ slice_index_or cs k c
-    → ((reads : Reading) → Agrees blocks reads → (n : ℕ) → slot_at reads part n ≡ slot_after reads actor first.table.principal n (take k cs) (slot_at reads first n))
-    → Lacks blocks (LiesBy blocks actor part c) e → Lacks blocks (IsAskedFor blocks actor cs first) e
-lacks_met blocks actor first part cs k c e same stands of inside at slots missing =
-    lacks_wider blocks (LiesBy blocks actor part c) (IsAskedFor blocks actor cs first) e (λ digest s lies. asked_then blocks actor first part cs k c digest s same stands of inside at slots lies) missing
+pub lacks_met : (blocks : Blocks) (scope : Scope) (actor : Actor) (first part : Part) (cs : List (Change Digest)) (k : ℕ) (c : Change Digest) (e : ApplyError) → part.table.principal ≡ first.table.principal → handle part ≡ handle first → IsMadeIn scope part.table.principal c → k < length cs → c ≡ slice_index_or cs k c
+    → IsSlotThen blocks scope actor first part (take k cs) c.i_number → Lacks blocks (LiesBy blocks actor part c) e → Lacks blocks (IsAskedFor blocks scope actor cs first) e
+lacks_met blocks scope actor first part cs k c e same stands made inside at slots missing =
+    lacks_wider blocks (LiesBy blocks actor part c) (IsAskedFor blocks scope actor cs first) e (λ digest s lies. asked_then blocks scope actor first part cs k c digest s same stands made inside at slots lies) missing
 
 -- an error that is handed on
 pub handed_on : {X : Type 0} (r : Result X ApplyError) (v : ApplyError) (P : ApplyError → Type 0) → IsErrAnd r (λ e. e ≡ v) → P v → IfErr r P
 handed_on (Ok x) v P is holds = tt
 handed_on (Err e) v P is holds = subst P (sym is) holds
+
+pub on_ok : {T E : Type 0} (r : Result T E) (P Q : Type 0) → (P → Q) → OnOk r P → OnOk r Q
+on_ok (Ok x) P Q to holds = to holds
+on_ok (Err e) P Q to holds = tt
 
 -- ---- nothing of it is missing
 
@@ -209,50 +227,49 @@ IsMet blocks actor cs part k c digest s =
     ((asks_slot actor c ≡ true) × IsChunkFor blocks part.table.principal (handle part) c.i_number digest s)
     ⊎ ((inode : Digest) × IsMetAt blocks actor cs part k c inode × (asks actor c ≡ true) × IsWantedBy blocks c inode digest s)
 
-abbrev pub HasMet : Blocks → Actor → List (Change Digest) → Part → ℕ → Type 0
-HasMet blocks actor cs part place =
-    (k : ℕ) (c : Change Digest) (digest : Digest) (s : Spot) → k < place → slice_get cs k ≡ Some c → c.principal ≡ part.table.principal → IsMet blocks actor cs part k c digest s → lacks blocks digest s ≡ false
+abbrev pub HasMet : Blocks → Scope → Actor → List (Change Digest) → Part → ℕ → Type 0
+HasMet blocks scope actor cs part place =
+    (k : ℕ) (c : Change Digest) (digest : Digest) (s : Spot) → k < place → slice_get cs k ≡ Some c → IsMadeIn scope part.table.principal c → IsMet blocks actor cs part k c digest s → lacks blocks digest s ≡ false
 
 -- what a change meets at its turn lies in the part as it is then
-lies_then : (blocks : Blocks) (actor : Actor) (first part : Part) (cs : List (Change Digest)) (k : ℕ) (c : Change Digest) (digest : Digest) (s : Spot) → part.table.principal ≡ first.table.principal → handle part ≡ handle first
-    → ((reads : Reading) → Agrees blocks reads → (n : ℕ) → slot_at reads part n ≡ slot_after reads actor first.table.principal n (take k cs) (slot_at reads first n))
-    → IsMet blocks actor cs first k c digest s → LiesBy blocks actor part c digest s
-lies_then blocks actor first part cs k c digest s same stands slots (inl (asked, chunk)) =
+lies_then : (blocks : Blocks) (scope : Scope) (actor : Actor) (first part : Part) (cs : List (Change Digest)) (k : ℕ) (c : Change Digest) (digest : Digest) (s : Spot) → part.table.principal ≡ first.table.principal → handle part ≡ handle first
+    → IsMadeIn scope first.table.principal c → IsSlotThen blocks scope actor first part (take k cs) c.i_number → IsMet blocks actor cs first k c digest s → LiesBy blocks actor part c digest s
+lies_then blocks scope actor first part cs k c digest s same stands (of, covered) slots (inl (asked, chunk)) =
     inl (
       asked,
       subst (λ (h : Digest). IsChunkFor blocks part.table.principal h c.i_number digest s) (sym stands) (subst (λ (p : ℕ). IsChunkFor blocks p (handle first) c.i_number digest s) (sym same) chunk),
     )
-lies_then blocks actor first part cs k c digest s same stands slots (inr (inode, (there, of, meets), asked, wanted)) =
+lies_then blocks scope actor first part cs k c digest s same stands (of, covered) slots (inr (inode, (there, meets), asked, wanted)) =
     inr (
       asked,
       (
         inode,
-        λ reads agrees. slots reads agrees c.i_number ∙ meets reads agrees,
+        λ reads agrees. slots covered reads agrees ∙ meets reads agrees,
         subst (λ (p : ℕ). IsInode p c.i_number inode digest s ⊎ ((needs_entries c.action ≡ true) × IsBlock blocks kind.Directory inode digest s)) (of ∙ sym same) wanted,
       ),
     )
 
-pub met_next : (blocks : Blocks) (actor : Actor) (first part : Part) (cs : List (Change Digest)) (k : ℕ) (c : Change Digest) → part.table.principal ≡ first.table.principal → handle part ≡ handle first → k < length cs → c ≡ slice_index_or cs k c
-    → ((reads : Reading) → Agrees blocks reads → (n : ℕ) → slot_at reads part n ≡ slot_after reads actor first.table.principal n (take k cs) (slot_at reads first n))
-    → (c.principal ≡ part.table.principal → HasBy blocks actor part c) → HasMet blocks actor cs first k → HasMet blocks actor cs first (k + 1)
-met_next blocks actor first part cs k c same stands inside at slots has before = λ j d digest s lt there of met.
+pub met_next : (blocks : Blocks) (scope : Scope) (actor : Actor) (first part : Part) (cs : List (Change Digest)) (k : ℕ) (c : Change Digest) → part.table.principal ≡ first.table.principal → handle part ≡ handle first → k < length cs → c ≡ slice_index_or cs k c
+    → IsSlotThen blocks scope actor first part (take k cs) c.i_number → (IsMadeIn scope part.table.principal c → HasBy blocks actor part c) → HasMet blocks scope actor cs first k → HasMet blocks scope actor cs first (k + 1)
+met_next blocks scope actor first part cs k c same stands inside at slots has before = λ j d digest s lt there made met.
     elim (cases_lt j k) [
-      | inl earlier ↦ before j d digest s earlier there of met
+      | inl earlier ↦ before j d digest s earlier there made met
       | inr late ↦ (
           let place : j ≡ k = omega (arith, lt, late) in
           let is : c ≡ d = let both : Some c ≡ Some d = sym (got cs k c inside at) ∙ sym (ap (slice_get cs) place) ∙ there in cc in
           let here : IsMet blocks actor cs first k c digest s = subst (λ (x : Change Digest). IsMet blocks actor cs first k x digest s) (sym is) (subst (λ (n : ℕ). IsMet blocks actor cs first n d digest s) place met) in
-          has (ap (λ (x : Change Digest). x.principal) is ∙ of ∙ sym same) digest s (lies_then blocks actor first part cs k c digest s same stands slots here))
+          let own : IsMadeIn scope first.table.principal c = subst (IsMadeIn scope first.table.principal) (sym is) made in
+          has (own.0 ∙ sym same, own.1) digest s (lies_then blocks scope actor first part cs k c digest s same stands own slots here))
     ]
 
-met_of : (blocks : Blocks) (actor : Actor) (cs : List (Change Digest)) (part : Part) (place : ℕ) → length cs ≤ place → HasMet blocks actor cs part place → (digest : Digest) (s : Spot) → IsAskedFor blocks actor cs part digest s → lacks blocks digest s ≡ false
-met_of blocks actor cs part place past has digest s (inl (k, c, at, of, asked, chunk)) =
+met_of : (blocks : Blocks) (scope : Scope) (actor : Actor) (cs : List (Change Digest)) (part : Part) (place : ℕ) → length cs ≤ place → HasMet blocks scope actor cs part place → (digest : Digest) (s : Spot) → IsAskedFor blocks scope actor cs part digest s → lacks blocks digest s ≡ false
+met_of blocks scope actor cs part place past has digest s (inl (k, c, at, made, asked, chunk)) =
     let inside = slice_get_within cs k c at in
-    has k c digest s (omega (arith, past, inside)) at of (inl (asked, chunk))
-met_of blocks actor cs part place past has digest s (inr (k, c, inode, met, asked, wanted)) =
+    has k c digest s (omega (arith, past, inside)) at made (inl (asked, chunk))
+met_of blocks scope actor cs part place past has digest s (inr (k, c, inode, made, met, asked, wanted)) =
     let inside = slice_get_within cs k c met.0 in
-    has k c digest s (omega (arith, past, inside)) met.0 met.1 (inr (inode, met, asked, wanted))
+    has k c digest s (omega (arith, past, inside)) met.0 made (inr (inode, met, asked, wanted))
 
 -- and all have, once all are made
-pub all_met : (blocks : Blocks) (actor : Actor) (cs : List (Change Digest)) (part : Part) (place : ℕ) → length cs ≤ place → HasMet blocks actor cs part place → HasAskedFor blocks actor cs part
-all_met blocks actor cs part place past has = λ digest s asked. met_of blocks actor cs part place past has digest s asked
+pub all_met : (blocks : Blocks) (scope : Scope) (actor : Actor) (cs : List (Change Digest)) (part : Part) (place : ℕ) → length cs ≤ place → HasMet blocks scope actor cs part place → HasAskedFor blocks scope actor cs part
+all_met blocks scope actor cs part place past has = λ digest s asked. met_of blocks scope actor cs part place past has digest s asked

@@ -13,10 +13,6 @@ onto_onto : (old text : List ℕ) (rest : Option (List ℕ)) → onto (old ++ te
 onto_onto old text None = refl
 onto_onto old text (Some more) = ap (λ (all : List ℕ). Some all) (append_assoc old text more)
 
-pub onto_nothing : (rest : Option (List ℕ)) → onto [] rest ≡ rest
-onto_nothing None = refl
-onto_nothing (Some more) = refl
-
 -- the blocks from a place on begin with the one there
 at_place : (ds : List (List ℕ)) (i : ℕ) (d : List ℕ) → i < length ds → d ≡ slice_index_or ds i d → drop i ds ≡ d ∷ drop (i + 1) ds
 at_place ds i d inside is = rw add-one (drop-cons ds i d inside ∙ ap (λ (x : List ℕ). x ∷ drop (suc i) ds) (sym is))

@@ -1,6 +1,7 @@
 -- The tree and a principal's part of it, after changes in turn.
 use Rattle.std.proofs.Common.{◌≡◌, ◌≢◌, ℕ, suc, ◌+◌, Bool, true, false, List, [], ◌∷◌, ◌++◌, length, Option, refl, subst, sym, ap, ◌∙◌, arith}
 use Rattle.std.specs.Prelude.{◌==◌, ◌&&◌, not, if◌then◌else◌}
+use Rattle.std.proofs.Math.Bool.{and-false}
 use Rattle.std.proofs.lemmas.Bool.{eq-eqb, ne_eqb}
 use Rattle.update_cert.specs.Change.{Change}
 use Rattle.layout.specs.Types.{Digest}
@@ -58,6 +59,32 @@ pub slot_foreign : (reads : Reading) (actor : Actor) (p i : ℕ) (c : Change Dig
 unfolding slot_after
 slot_foreign reads actor p i c s other = sym (ap (λ (t : Bool). if t && (c.i_number == i) then slot_after_change reads actor c s else s) (ne_eqb c.principal p other))
 
+pub slot_elsewhere : (reads : Reading) (actor : Actor) (p i : ℕ) (c : Change Digest) (s : Option Slot) → (c.i_number == i) ≡ false → s ≡ slot_after reads actor p i (c ∷ []) s
+unfolding slot_after
+slot_elsewhere reads actor p i c s other = sym (ap (λ (t : Bool). if t then slot_after_change reads actor c s else s) (ap (λ (t : Bool). (c.principal == p) && t) other ∙ and-false (c.principal == p)))
+
+-- ---- within a scope
+
+-- where this is made, or isn't
+pub within_is : (t : Bool) (x s new : Option Slot) → t ≡ true → x ≡ (if t then new else s) → x ≡ new
+within_is true x s new all is = is
+within_is false x s new all is = absurd cc
+
+pub within_none : (reads : Reading) (actor : Actor) (p i : ℕ) (s : Option Slot) (t : Bool) → s ≡ (if t then slot_after reads actor p i [] s else s)
+unfolding slot_after
+within_none reads actor p i s true = refl
+within_none reads actor p i s false = refl
+
+-- a change that isn't made leaves each slot
+pub within_left : (reads : Reading) (actor : Actor) (p i : ℕ) (c : Change Digest) (s : Option Slot) (t : Bool) → (t ≡ true → (c.i_number == i) ≡ false) → s ≡ (if t then slot_after reads actor p i (c ∷ []) s else s)
+within_left reads actor p i c s true other = slot_elsewhere reads actor p i c s (other refl)
+within_left reads actor p i c s false other = refl
+
+-- and one that is made those out of the scope
+pub within_made : (reads : Reading) (actor : Actor) (p i : ℕ) (c : Change Digest) (s new : Option Slot) (t : Bool) → (t ≡ false → (c.i_number == i) ≡ false) → new ≡ slot_after reads actor p i (c ∷ []) s → new ≡ (if t then slot_after reads actor p i (c ∷ []) s else s)
+within_made reads actor p i c s new true other is = is
+within_made reads actor p i c s new false other is = is ∙ sym (slot_elsewhere reads actor p i c s (other refl))
+
 -- ---- one change more
 
 pub part_next : (reads : Reading) (actor : Actor) (cs next : List (Change Digest)) (c : Change Digest) (part : Part) (tree : Tree) → next ≡ cs ++ c ∷ [] → IsPartOf reads part (after_change actor (read_change reads c) (after_read reads actor cs tree)) → IsPartOf reads part (after_read reads actor next tree)
@@ -70,6 +97,11 @@ slot_next reads actor p i cs next c first old new is before more =
     ∙ ap (slot_after reads actor p i (c ∷ [])) before
     ∙ sym (slot_last reads actor p i cs c first)
     ∙ sym (ap (λ (xs : List (Change Digest)). slot_after reads actor p i xs first) is)
+
+pub within_next : (reads : Reading) (actor : Actor) (p i : ℕ) (cs next : List (Change Digest)) (c : Change Digest) (first old new : Option Slot) (t : Bool) → next ≡ cs ++ c ∷ [] → old ≡ (if t then slot_after reads actor p i cs first else first)
+    → new ≡ (if t then slot_after reads actor p i (c ∷ []) old else old) → new ≡ (if t then slot_after reads actor p i next first else first)
+within_next reads actor p i cs next c first old new true is before more = slot_next reads actor p i cs next c first old new is before more
+within_next reads actor p i cs next c first old new false is before more = more ∙ before
 
 pub voids_next : (reads : Reading) (actor : Actor) (p k : ℕ) (cs next : List (Change Digest)) (c : Change Digest) (tree : Tree) (old new : List ℕ) (t : Bool) → next ≡ cs ++ c ∷ [] → length cs ≡ k → t ≡ is_void_of actor p c (after_read reads actor cs tree) → old ≡ void_of_read reads actor p cs tree → new ≡ old ++ if_void t (k + 1) → new ≡ void_of_read reads actor p next tree
 voids_next reads actor p k cs next c tree old new t is long told before more =

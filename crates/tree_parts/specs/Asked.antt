@@ -1,6 +1,6 @@
 -- What is asked for: the chunk of the i-table that the i-number of a change is in, the i-node that the change meets
 -- there, and the blocks of the directory that it is of, where the change has to know them.
-use Rattle.std.specs.Prelude.{◌≡◌, ◌⊎◌, ℕ, Bool, true, false, ◌&&◌, not, List, Some, None, IsSome, IsSomeAnd, slice_get, take}
+use Rattle.std.specs.Prelude.{◌≡◌, ◌⊎◌, ◌==◌, ℕ, Bool, true, false, ◌&&◌, not, List, Option, Some, None, IsSome, IsSomeAnd, slice_get, take, if◌then◌else◌}
 use Rattle.std.specs.Option.{option_map}
 use Rattle.itable.specs.declared.inode.Kind.{Kind}
 use Rattle.itable.specs.declared.inode.Kind.TheVariants as kind
@@ -10,13 +10,16 @@ use Rattle.itable.specs.Chunk.{chunk_number}
 use Rattle.itable.specs.Root.{chunk_at}
 use Rattle.itable.specs.ITable.{digest_at, loaded, root_of, unloaded_at}
 use Rattle.itable.specs.declared.root.ListedChunk.{ListedChunk}
+use Rattle.update_cert.specs.Reading.{Reading}
 use Rattle.update_cert.specs.World.{Actor, is_root, is_table, may_make, permitted}
 use Rattle.tree_parts.specs.Blocks.{Blocks, ForEachReading, inode_at, inode_told, joined, root_at}
 use Rattle.tree_parts.specs.Spot.{lacks, spot_of}
-use Rattle.tree_parts.specs.Part.{Part, Laid, handle, slot_at}
+use Rattle.tree_parts.specs.Part.{Part, Slot, Laid, handle, slot_at}
 use Rattle.tree_parts.specs.Slots.{slot_after}
 use Rattle.tree_parts.specs.declared.error.ApplyError.{ApplyError}
 use Rattle.tree_parts.specs.declared.error.ApplyError.TheVariants as error
+use Rattle.tree_parts.specs.declared.scope.Scope.{Scope}
+use Rattle.tree_parts.specs.declared.scope.Scope.TheVariants as scopes
 use Rattle.tree_parts.specs.declared.spot.Spot.{Spot}
 use Rattle.tree_parts.specs.declared.spot.Spot.TheVariants as spot
 
@@ -145,32 +148,44 @@ abbrev pub IsWantedBy : Blocks → Change Digest → Digest → Digest → Spot 
 IsWantedBy blocks c inode digest s = IsInode c.principal c.i_number inode digest s
     ⊎ ((needs_entries c.action ≡ true) × IsBlock blocks kind.Directory inode digest s)
 
--- At its turn a change of the part's principal lies at this i-node, whatever stands for the digests of which no block
--- tells.
+-- At its turn the change lies at this i-node, whatever stands for the digests of which no block tells.
 abbrev pub IsMetAt : Blocks → Actor → List (Change Digest) → Part → ℕ → Change Digest → Digest → Type 0
 IsMetAt blocks actor changes part k c inode =
-    (slice_get changes k ≡ Some c) × (c.principal ≡ part.table.principal)
+    (slice_get changes k ≡ Some c)
     × ForEachReading blocks (λ reads. slot_after reads actor part.table.principal c.i_number (take k changes)
     (slot_at reads part c.i_number) ≡ Some (Laid inode))
 
--- one of these changes, which is of the part's principal, asks for the chunk of its i-number
-abbrev pub IsChunkAskedFor : Blocks → Actor → List (Change Digest) → Part → Digest → Spot → Type 0
-IsChunkAskedFor blocks actor changes part digest s =
-    (k : ℕ) × (c : Change Digest) × (slice_get changes k ≡ Some c) × (c.principal ≡ part.table.principal)
+-- which changes are made: all of them, or those at one i-number
+abbrev pub covers : Scope → INumber → Bool
+covers scopes.All i = true
+covers (scopes.At n) i = n == i
+
+-- a principal's slot at an i-number, after those of these changes that are made, in turn
+abbrev pub slot_within : Scope → Reading → Actor → Principal → INumber → List (Change Digest) → Option Slot → Option Slot
+slot_within scope reads actor p i changes s = if covers scope i then slot_after reads actor p i changes s else s
+
+-- the change is of this principal's part, and of the scope: it is made
+abbrev pub IsMadeIn : Scope → Principal → Change Digest → Type 0
+IsMadeIn scope p c = (c.principal ≡ p) × (covers scope c.i_number ≡ true)
+
+-- one of these changes, which is made, asks for the chunk of its i-number
+abbrev pub IsChunkAskedFor : Blocks → Scope → Actor → List (Change Digest) → Part → Digest → Spot → Type 0
+IsChunkAskedFor blocks scope actor changes part digest s =
+    (k : ℕ) × (c : Change Digest) × (slice_get changes k ≡ Some c) × IsMadeIn scope part.table.principal c
     × (asks_slot actor c ≡ true) × IsChunkFor blocks part.table.principal (handle part) c.i_number digest s
 
 -- or, at its turn, for what it meets there
-abbrev pub IsInodeAskedFor : Blocks → Actor → List (Change Digest) → Part → Digest → Spot → Type 0
-IsInodeAskedFor blocks actor changes part digest s =
-    (k : ℕ) × (c : Change Digest) × (inode : Digest) × IsMetAt blocks actor changes part k c inode
-    × (asks actor c ≡ true) × IsWantedBy blocks c inode digest s
+abbrev pub IsInodeAskedFor : Blocks → Scope → Actor → List (Change Digest) → Part → Digest → Spot → Type 0
+IsInodeAskedFor blocks scope actor changes part digest s =
+    (k : ℕ) × (c : Change Digest) × (inode : Digest) × IsMadeIn scope part.table.principal c
+    × IsMetAt blocks actor changes part k c inode × (asks actor c ≡ true) × IsWantedBy blocks c inode digest s
 
--- The digest is asked for by one of these changes.
-abbrev pub IsAskedFor : Blocks → Actor → List (Change Digest) → Part → Digest → Spot → Type 0
-IsAskedFor blocks actor changes part digest s =
-    IsChunkAskedFor blocks actor changes part digest s ⊎ IsInodeAskedFor blocks actor changes part digest s
+-- The digest is asked for by one of those of these changes that are made.
+abbrev pub IsAskedFor : Blocks → Scope → Actor → List (Change Digest) → Part → Digest → Spot → Type 0
+IsAskedFor blocks scope actor changes part digest s =
+    IsChunkAskedFor blocks scope actor changes part digest s ⊎ IsInodeAskedFor blocks scope actor changes part digest s
 
 -- nothing that they ask for is missing
-abbrev pub HasAskedFor : Blocks → Actor → List (Change Digest) → Part → Type 0
-HasAskedFor blocks actor changes part = (digest : Digest) (s : Spot) → IsAskedFor blocks actor changes part digest s
-    → lacks blocks digest s ≡ false
+abbrev pub HasAskedFor : Blocks → Scope → Actor → List (Change Digest) → Part → Type 0
+HasAskedFor blocks scope actor changes part =
+    (digest : Digest) (s : Spot) → IsAskedFor blocks scope actor changes part digest s → lacks blocks digest s ≡ false

@@ -10,12 +10,14 @@ mod laying;
 mod opened;
 mod part;
 mod reading;
+mod scope;
 mod spot;
 
-pub use applying::apply;
+pub use applying::{Applied, apply, apply_within};
 pub use blocks::{Blocks, holds_laid, some_reading_agrees, value_at};
 pub use chunks::{chunk_of, root_of};
 pub use error::ApplyError;
 pub use part::{LaidPart, Part, Slot, has_digest};
 pub use reading::{read_directory, read_file, read_inode, read_principals};
+pub use scope::Scope;
 pub use spot::{Spot, is_table, size_of_block, takes_chunk, takes_root};

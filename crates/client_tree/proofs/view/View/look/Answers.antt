@@ -15,7 +15,7 @@ returns-in_default-clause-seen g c = λ reads users agrees.
     let is = c.in_ok-opened.ensures.opened in
     let x = c.args.self.now in
     let p = c.args.principal in
-    let part = c.in_ok-opened.opened.part in
+    let part = c.in_ok-opened.opened in
     let place : is_table p c.args.i_number ≡ false = sym c.is_table.ensures ∙ c.if-is_table.false in
     let at : slot_here part c.args.i_number ≡ None = sym c.into_slot.ensures ∙ ap (option_map slot_in) c.in_default.is in
     sym (look_stands (g.B.Blocks.held c.args.blocks.now) reads users x p c.args.i_number part None is agrees place c.in_ok-opened.ensures.loaded at)
@@ -25,7 +25,7 @@ returns-in-Laid-clause-seen g c = λ reads users agrees.
     let is = c.in_ok-opened.ensures.opened in
     let x = c.args.self.now in
     let p = c.args.principal in
-    let part = c.in_ok-opened.opened.part in
+    let part = c.in_ok-opened.opened in
     let place : is_table p c.args.i_number ≡ false = sym c.is_table.ensures ∙ c.if-is_table.false in
     let at : slot_here part c.args.i_number ≡ Some (Laid c.in-Laid.digest) = sym c.into_slot.ensures ∙ ap (option_map slot_in) c.in-Some.is ∙ ap (λ s. Some (slot_in s)) c.in-Laid.is in
     let there = look_stands (g.B.Blocks.held c.args.blocks.now) reads users x p c.args.i_number part (Some (Laid c.in-Laid.digest)) is agrees place c.in_ok-opened.ensures.loaded at in
@@ -34,16 +34,16 @@ returns-in-Laid-clause-seen g c = λ reads users agrees.
 pub returns-in-Laid-clause-taken : goal.returns-in-Laid-clause-taken
 returns-in-Laid-clause-taken g c = λ place.
     let is = c.in_ok-opened.ensures.opened in
-    let part = c.in_ok-opened.opened.part in
+    let part = c.in_ok-opened.opened in
     let at : slot_here part c.args.i_number ≡ Some (Laid c.in-Laid.digest) = sym c.into_slot.ensures ∙ ap (option_map slot_in) c.in-Some.is ∙ ap (λ s. Some (slot_in s)) c.in-Laid.is in
-    looked (g.B.Blocks.held c.args.blocks.now) c.args.self.now c.args.principal c.args.i_number part c.in-Laid.digest c.read_content.result is c.in_ok-opened.ensures.taken c.in_ok-opened.ensures.loaded at c.read_content.ensures.taken
+    looked (g.B.Blocks.held c.args.blocks.now) c.args.self.now c.args.principal c.args.i_number part c.in-Laid.digest c.read_content.result is c.in_ok-opened.ensures.loaded at c.read_content.ensures.taken
 
-pub returns-clause-seen : goal.returns-clause-seen
-returns-clause-seen g c = λ reads users agrees.
+pub returns-in-Changed-clause-seen : goal.returns-in-Changed-clause-seen
+returns-in-Changed-clause-seen g c = λ reads users agrees.
     let is = c.in_ok-opened.ensures.opened in
     let x = c.args.self.now in
     let p = c.args.principal in
-    let part = c.in_ok-opened.opened.part in
+    let part = c.in_ok-opened.opened in
     let place : is_table p c.args.i_number ≡ false = sym c.is_table.ensures ∙ c.if-is_table.false in
     let at : slot_here part c.args.i_number ≡ Some (Changed c.in-Changed._laid c.in-Changed.directory) = sym c.into_slot.ensures ∙ ap (option_map slot_in) c.in-Some.is ∙ ap (λ s. Some (slot_in s)) c.in-Changed.is in
     sym (look_stands (g.B.Blocks.held c.args.blocks.now) reads users x p c.args.i_number part (Some (Changed c.in-Changed._laid c.in-Changed.directory)) is agrees place c.in_ok-opened.ensures.loaded at)
@@ -52,15 +52,15 @@ returns-clause-seen g c = λ reads users agrees.
 
 pub returns-in_default-clause-taken : goal.returns-in_default-clause-taken
 returns-in_default-clause-taken g c = λ place.
-    let part = c.in_ok-opened.opened.part in
+    let part = c.in_ok-opened.opened in
     let at : slot_here part c.args.i_number ≡ None = sym c.into_slot.ensures ∙ ap (option_map slot_in) c.in_default.is in
-    looked_nothing (g.B.Blocks.held c.args.blocks.now) c.args.self.now c.args.principal c.args.i_number part c.in_ok-opened.ensures.opened c.in_ok-opened.ensures.taken c.in_ok-opened.ensures.loaded at
+    looked_nothing (g.B.Blocks.held c.args.blocks.now) c.args.self.now c.args.principal c.args.i_number part c.in_ok-opened.ensures.opened c.in_ok-opened.ensures.loaded at
 
-pub returns-clause-taken : goal.returns-clause-taken
-returns-clause-taken g c = λ place.
-    let part = c.in_ok-opened.opened.part in
+pub returns-in-Changed-clause-taken : goal.returns-in-Changed-clause-taken
+returns-in-Changed-clause-taken g c = λ place.
+    let part = c.in_ok-opened.opened in
     let at : slot_here part c.args.i_number ≡ Some (Changed c.in-Changed._laid c.in-Changed.directory) = sym c.into_slot.ensures ∙ ap (option_map slot_in) c.in-Some.is ∙ ap (λ s. Some (slot_in s)) c.in-Changed.is in
-    looked_changed (g.B.Blocks.held c.args.blocks.now) c.args.self.now c.args.principal c.args.i_number part c.in-Changed._laid c.in-Changed.directory c.in_ok-opened.ensures.opened c.in_ok-opened.ensures.taken c.in_ok-opened.ensures.loaded at
+    looked_changed (g.B.Blocks.held c.args.blocks.now) c.args.self.now c.args.principal c.args.i_number part c.in-Changed._laid c.in-Changed.directory c.in_ok-opened.ensures.opened c.in_ok-opened.ensures.loaded at
 
 -- ---- or what is missing is told
 
@@ -76,7 +76,7 @@ returns-in_err-opened-clause-missing g c =
 pub returns-in-Laid-clause-missing : goal.returns-in-Laid-clause-missing
 returns-in-Laid-clause-missing g c =
     let p = c.args.principal in
-    let part = c.in_ok-opened.opened.part in
+    let part = c.in_ok-opened.opened in
     let place : is_table p c.args.i_number ≡ false = sym c.is_table.ensures ∙ c.if-is_table.false in
     let at : slot_here part c.args.i_number ≡ Some (Laid c.in-Laid.digest) = sym c.into_slot.ensures ∙ ap (option_map slot_in) c.in-Some.is ∙ ap (λ s. Some (slot_in s)) c.in-Laid.is in
     lacks_there (g.B.Blocks.held c.args.blocks.now) c.args.self.now p c.args.i_number part c.in-Laid.digest c.read_content.result place c.in_ok-opened.ensures.opened c.in_ok-opened.ensures.loaded at c.read_content.ensures.missing

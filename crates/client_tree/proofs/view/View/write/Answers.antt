@@ -7,6 +7,7 @@ use Rattle.client_tree.specs.Opened.{IsNeeded, is_touched}
 use Rattle.client_tree.specs.View.{actor_of, handle_of, tree_before}
 use Rattle.client_tree.specs.Tree.{Stored}
 use Rattle.client_tree.proofs.OpenedLaws.{handed_on, none_void, own_leaves}
+use Rattle.tree_parts.specs.declared.scope.Scope.TheVariants as scopes
 use Rattle.client_tree.proofs.view.View.write.Goals as goal
 
 pub returns-in_err-opened-clause-missing : goal.returns-in_err-opened-clause-missing
@@ -34,11 +35,11 @@ returns-clause-voids g c = λ reads agrees users.
 pub returns-then-not-is_touched-clause-stored : goal.returns-then-not-is_touched-clause-stored
 returns-then-not-is_touched-clause-stored g c =
     let x = c.args.self.now in
-    let none : is_touched x c.args.principal ≡ false = sym c.is_touched.ensures ∙ c.if-not-is_touched.true in
+    let none : is_touched x scopes.All c.args.principal ≡ false = sym c.is_touched.ensures ∙ c.if-not-is_touched.true in
     let is = c.kept_part.ensures.stored in
     let whose = ap (λ (s : Stored). s.principal) is in
     inr (record {
-      untouched = ap (is_touched x) whose ∙ none;
+      untouched = ap (is_touched x scopes.All) whose ∙ none;
       named = ap (λ (s : Stored). s.handle) is ∙ c.in_ok-handle.ensures ∙ ap (handle_of x) (sym whose);
       stored = ap (λ (s : Stored). s.texts) is;
     })
@@ -47,5 +48,5 @@ pub returns-then-not-is_touched-clause-voids : goal.returns-then-not-is_touched-
 returns-then-not-is_touched-clause-voids g c = λ reads agrees users.
     let x = c.args.self.now in
     let p = c.args.principal in
-    let none : is_touched x p ≡ false = sym c.is_touched.ensures ∙ c.if-not-is_touched.true in
+    let none : is_touched x scopes.All p ≡ false = sym c.is_touched.ensures ∙ c.if-not-is_touched.true in
     voids_of p c.kept_part.result.voids [] _ c.kept_part.ensures.voids (none_void reads (actor_of x.table x.own) p x.own.cert.changes (tree_before reads users x) (own_leaves x p none))
