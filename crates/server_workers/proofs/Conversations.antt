@@ -8,9 +8,10 @@ use Rattle.layout.specs.Types.{Bytes, Key}
 use Rattle.wire.specs.Frame.{frame, request_of, reply_body}
 use Rattle.wire.specs.Stream.{frames_of, IsFrameThen, BeginsFrame, BeginsAtFault}
 use Rattle.consistency_server.specs.Answers.{Answer}
-use Rattle.server_workers.specs.declared.connection.Ended.{Ended}
-use Rattle.server_workers.specs.declared.connection.Ended.TheVariants as ended
-use Rattle.server_workers.specs.Conversation.{Exchange, IsExchange, RepliesToBody, count_in, requests, replies, counted, Told, goes_on, EndsWith, Conversed}
+use Rattle.server_workers.specs.declared.ended.Ended.{Ended}
+use Rattle.server_workers.specs.declared.ended.Ended.TheVariants as ended
+use Rattle.connection.specs.Told.{Told, goes_on}
+use Rattle.server_workers.specs.Conversation.{Exchange, IsExchange, RepliesToBody, count_in, requests, replies, counted, EndsWith, Conversed}
 use Rattle.server_workers.specs.Conversing.{Standing, Conversing, Steps, GoesOn}
 
 -- ---- what a connection tells

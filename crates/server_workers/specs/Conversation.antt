@@ -1,9 +1,10 @@
 -- Connections: the frames of requests are read, and the frames of their replies are written.
-use Rattle.std.specs.Prelude.{◌≡◌, ◌≢◌, ◌⊎◌, ◌≤◌, ◌<◌, ◌+◌, ℕ, List, [], ◌∷◌, ◌++◌, length, take, map, Option, Some, None, option_map}
+use Rattle.std.specs.Prelude.{◌≡◌, ◌≢◌, ◌⊎◌, ◌≤◌, ◌<◌, ◌+◌, ℕ, List, [], ◌∷◌, ◌++◌, length, map, Option, Some, None}
 use Rattle.std.specs.List.{All}
 use Rattle.block_store.specs.declared.store.TheConstants.{BLOCK_LIMIT}
 use Rattle.layout.specs.Hash.{hash}
 use Rattle.layout.specs.Types.{Bytes, Key}
+use Rattle.connection.specs.Told.{Told, goes_on}
 use Rattle.wire.specs.declared.kinds.Status.{Status}
 use Rattle.wire.specs.declared.kinds.Status.TheVariants as status
 use Rattle.wire.specs.declared.kinds.RequestKind.{RequestKind}
@@ -13,8 +14,8 @@ use Rattle.wire.specs.Stream.{frames_of, BeginsFrame, BeginsAtFault}
 use Rattle.consistency_server.specs.Answers.{Call, Answer}
 use Rattle.consistency_server.specs.History.{update_of, commit_of, answer_of}
 use Rattle.server_workers.specs.Counting.{count_of}
-use Rattle.server_workers.specs.declared.connection.Ended.{Ended}
-use Rattle.server_workers.specs.declared.connection.Ended.TheVariants.{End, Fault, Length, Memory}
+use Rattle.server_workers.specs.declared.ended.Ended.{Ended}
+use Rattle.server_workers.specs.declared.ended.Ended.TheVariants.{End, Fault, Length, Memory}
 
 -- ---- replies
 
@@ -95,19 +96,6 @@ replies es = frames_of (map (λ e. reply_body e.reply.status e.reply.payload) es
 unfoldable pub counted : List Exchange → ℕ
 counted [] = 0
 counted (e ∷ es) = count_in (request_of e.request) e.reply.status + counted es
-
--- what was read from a connection, and what was written to it
-pub record Told : Type 0 where
-  pub read : Bytes
-  pub written : Bytes
-
--- what a connection tells of whose bytes so many were read, and to which these were written
-abbrev pub told_of : Bytes → ℕ → Bytes → Option Told
-told_of input given written = Some (record { read = take given input; written = written })
-
--- what it tells once these bytes more were read and written
-abbrev pub goes_on : Bytes → Bytes → Option Told → Option Told
-goes_on read written told = option_map (λ t. record { read = t.read ++ read; written = t.written ++ written }) told
 
 -- All frames that were read were replied to, where it ended by itself: at the end of the stream, or at a length at
 -- fault.

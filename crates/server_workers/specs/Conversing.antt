@@ -4,9 +4,10 @@ use Rattle.std.specs.Prelude.{◌≡◌, ◌≤◌, ◌+◌, ℕ, List, ◌++◌
 use Rattle.leaf_ledger.specs.Device.{HasRisen}
 use Rattle.std.specs.List.{All}
 use Rattle.layout.specs.Types.{Bytes, Key}
-use Rattle.server_workers.specs.Conversation.{Exchange, IsExchange, requests, replies, counted, Told, goes_on, Conversed}
-use Rattle.server_workers.specs.declared.connection.Ended.{Ended}
-use Rattle.server_workers.specs.declared.connection.Ended.TheVariants.{Fault}
+use Rattle.connection.specs.Told.{Told, goes_on}
+use Rattle.server_workers.specs.Conversation.{Exchange, IsExchange, requests, replies, counted, Conversed}
+use Rattle.server_workers.specs.declared.ended.Ended.{Ended}
+use Rattle.server_workers.specs.declared.ended.Ended.TheVariants.{Fault}
 
 -- how it stands: what the connection tells, how many calls were answered, and which bytes wait
 pub record Standing : Type 0 where

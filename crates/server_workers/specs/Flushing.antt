@@ -2,6 +2,7 @@
 use Rattle.std.specs.Prelude.{◌≡◌, List, [], ◌++◌, Bool, true, false, not, Option}
 use Rattle.std.specs.Io.KnownBytes.{Appends}
 use Rattle.layout.specs.Types.{Bytes}
+use Rattle.connection.specs.Written.{AppendsBeginning}
 use Rattle.consistency_server.specs.Answers.{Call}
 use Rattle.server_workers.specs.declared.call_queue.Hand.{Hand}
 use Rattle.server_workers.specs.Records.{records}
@@ -10,10 +11,6 @@ use Rattle.server_workers.specs.Records.{records}
 pub record Flushing : Type 0 where
   pub hand : Hand
   pub failed : Bool
-
--- a beginning of these bytes was written
-abbrev pub AppendsBeginning : Option Bytes → Option Bytes → Bytes → Type 0
-AppendsBeginning before now bytes = (part rest : Bytes) × Appends before now part × (bytes ≡ part ++ rest)
 
 -- The records of what was taken were written, or after a failed write a beginning of them.
 abbrev pub Wrote : Bool → Option Bytes → Option Bytes → List Call → Type 0

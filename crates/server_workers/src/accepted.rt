@@ -3,7 +3,7 @@
 ghost use Rattle.std.specs.Prelude.{◌≡◌, ◌+◌, MatchOption};
 ghost use Rattle.std.specs.Iterator.{at_most};
 
-use crate::socket::Socket;
+use connection::Socket;
 use std::net::TcpListener;
 use std::time::{Clock, Duration};
 use std::{io, thread};

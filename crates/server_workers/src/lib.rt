@@ -3,30 +3,26 @@
 
 mod accepted;
 mod call_queue;
-mod connection;
+mod ended;
 mod flusher;
 mod gate;
 mod locked;
-mod memory;
 mod new_queue;
 mod queue_log;
 mod reply;
 mod server;
 mod shared;
-mod socket;
 mod tally;
 mod worker;
 mod writing;
 
 pub use accepted::Accepted;
 pub use call_queue::{CallPass, CallQueue, ServerName};
-pub use connection::{Connection, ConnectionFault, Ended};
+pub use ended::Ended;
 pub use flusher::Flusher;
 pub use gate::{Gate, OpenGate};
-pub use memory::MemoryConnection;
 pub use new_queue::empty_queue;
 pub use server::{Served, serve};
 pub use shared::Shared;
-pub use socket::Socket;
 pub use tally::Tally;
 pub use worker::converse;

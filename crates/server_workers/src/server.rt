@@ -9,7 +9,6 @@ ghost use Rattle.server_workers.specs.Flushing.{IsFlushed};
 ghost use Rattle.server_workers.specs.declared.call_queue.TheConstants.{QUEUE_ROOM};
 
 use crate::call_queue::{CallPass, CallQueue, ServerName};
-use crate::connection::Connection;
 use crate::flusher::{Flushed, Flusher};
 use crate::gate::Gate;
 use crate::new_queue::empty_queue;
@@ -17,6 +16,7 @@ use crate::shared::Shared;
 use crate::tally::{Tally, WorkerTally};
 use crate::worker::work;
 use block_store::Store;
+use connection::Connection;
 use consistency_server::Ordered;
 use layout::Memory;
 use lms_sign::PublicKey;

@@ -4,16 +4,18 @@ ghost use Rattle.std.specs.Prelude.{◌≡◌, ◌≢◌, ◌⊎◌, ◌+◌, �
 ghost use Rattle.std.specs.Prelude.{length};
 ghost use Rattle.leaf_ledger.specs.Device.{HasRisen};
 ghost use Rattle.wire.specs.Frame.{frame, reply_body};
-ghost use Rattle.server_workers.specs.declared.connection.Ended.TheVariants as ended;
-ghost use Rattle.server_workers.specs.Conversation.{Conversed, goes_on};
+ghost use Rattle.server_workers.specs.declared.ended.Ended.TheVariants as ended;
+ghost use Rattle.connection.specs.Told.{goes_on};
+ghost use Rattle.server_workers.specs.Conversation.{Conversed};
 ghost use Rattle.server_workers.specs.Conversing.{GoesOn, IsCaused};
 
 use crate::call_queue::ServerName;
-use crate::connection::{Connection, ConnectionFault, Ended};
+use crate::ended::Ended;
 use crate::gate::Gate;
 use crate::reply::ReplyBody;
 use crate::shared::Shared;
 use crate::tally::{Tally, WorkerTally};
+use connection::{Connection, ConnectionFault};
 use layout::Memory;
 use std::alloc::Allocator;
 use std::sync::Wait;

@@ -8,11 +8,11 @@ use crate::connections::{Host, users};
 use crate::operations::records;
 use crate::user::{PlainUser, listing};
 use block_store::Store;
+use connection::MemoryConnection;
 use layout::let_go;
 use lms_sign::PublicKey;
 use server_workers::{
-    CallPass, CallQueue, Ended, Flusher, MemoryConnection, OpenGate, ServerName, Shared, Tally,
-    converse, empty_queue,
+    CallPass, CallQueue, Ended, Flusher, OpenGate, ServerName, Shared, Tally, converse, empty_queue,
 };
 use std::alloc::Global;
 use std::io::Write;

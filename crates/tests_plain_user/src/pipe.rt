@@ -2,7 +2,7 @@
 
 ghost use Rattle.std.specs.Prelude.{◌≤◌, length, None};
 
-use server_workers::{Connection, ConnectionFault};
+use connection::{Connection, ConnectionFault};
 use std::alloc::Global;
 use std::io::{self, Read, Write};
 use std::sync::{Condvar, Mutex, Wait};

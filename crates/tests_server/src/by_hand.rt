@@ -6,11 +6,11 @@ ghost use Rattle.server_workers.specs.Hands.{hand, hand_of};
 
 use crate::requests::{REPLIES, REQUESTS, append, joined, key, put_frame};
 use block_store::Store;
+use connection::{Connection, MemoryConnection};
 use layout::digest;
 use lms_sign::PublicKey;
 use server_workers::{
-    CallPass, CallQueue, Connection, Ended, Flusher, Gate, MemoryConnection, OpenGate, ServerName,
-    Shared, converse, empty_queue,
+    CallPass, CallQueue, Ended, Flusher, Gate, OpenGate, ServerName, Shared, converse, empty_queue,
 };
 use std::alloc::Global;
 use std::io::Write;

@@ -5,7 +5,8 @@ ghost use Rattle.leaf_ledger.specs.Device.{HasRisen};
 
 use crate::by_hand::{Host, conversed};
 use crate::requests::key;
-use server_workers::{Connection, ConnectionFault, Ended, OpenGate};
+use connection::{Connection, ConnectionFault};
+use server_workers::{Ended, OpenGate};
 
 /// A connection of which the first reads give these bytes each, and every later read and every write fails. It notes
 /// what it was asked for.

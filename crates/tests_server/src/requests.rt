@@ -4,8 +4,9 @@ ghost use Rattle.std.specs.Prelude.{◌<◌};
 ghost use Rattle.std.specs.Iterator.{at_most};
 
 use block_store::Store;
+use connection::MemoryConnection;
 use lms_sign::PublicKey;
-use server_workers::{MemoryConnection, OpenGate, Served, serve};
+use server_workers::{OpenGate, Served, serve};
 use std::alloc::Global;
 use std::process::Abort;
 use std::slice::IterMut;

@@ -1,6 +1,7 @@
 //! Connections over TCP: what is accepted, and the bytes of a socket both ways.
 
-use server_workers::{Accepted, Connection, Socket};
+use connection::{Connection, Socket};
+use server_workers::Accepted;
 use std::io;
 use std::io::{ErrorKind, Read, Write};
 use std::net::{Net, Shutdown, SocketAddr, TcpListener, TcpStream};

@@ -1,7 +1,7 @@
 -- The head, and then the text.
 use Rattle.std.proofs.Common.{rules, ◌≡◌, ◌++◌}
 use Rattle.server_workers.specs.Records.{record_of}
-use Rattle.server_workers.proofs.Written.{on_err, begins_first, begins_as, second_ok, second_err}
+use Rattle.connection.proofs.Written.{on_err, begins_first, begins_as, second_ok, second_err}
 use Rattle.server_workers.proofs.writing.write_record.Goals as goal
 
 pub returns-in_err-write_whole-clause-err : goal.returns-in_err-write_whole-clause-err

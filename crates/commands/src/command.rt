@@ -1,0 +1,53 @@
+//! Commands.
+
+use layout::{Group, User};
+use lms_sign::PublicKey;
+
+/// What a user asks for. A path is a word of a command line: `/a/b`, from the root directory on, or `@p:i/a/b`, from
+/// what stands at the i-number of a principal.
+#[derive(Clone, Copy)]
+pub enum Command<'a> {
+    /// To see the entries of the directory to which the path leads.
+    Ls(&'a str),
+    /// To see the bytes of the file to which the path leads.
+    Cat(&'a str),
+    /// To write a file: in the place of the one to which the path leads, or a new one.
+    Put {
+        /// Where it is to stand.
+        path: &'a str,
+        /// Its bytes.
+        content: &'a [u8],
+    },
+    /// To make an empty directory.
+    Mkdir(&'a str),
+    /// To take away a name and what stands there, a file or an empty directory.
+    Rm(&'a str),
+    /// To give what stands at an i-number one more name.
+    Link {
+        /// The new name, in its directory.
+        path: &'a str,
+        /// What it is to stand for: `@p:i`.
+        target: &'a str,
+    },
+    /// To list a user.
+    AddUser {
+        /// Who.
+        user: User,
+        /// The user's key.
+        key: PublicKey,
+    },
+    /// To make a user a member of a group.
+    AddMember {
+        /// Of which group.
+        group: Group,
+        /// Who.
+        user: User,
+    },
+    /// To make a user a member of a group no more.
+    DropMember {
+        /// Of which group.
+        group: Group,
+        /// Who.
+        user: User,
+    },
+}

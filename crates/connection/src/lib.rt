@@ -1,0 +1,12 @@
+//! Streams of bytes both ways: in memory, and over TCP; and bytes that are written whole.
+#![tactic(auto)]
+
+mod connection;
+mod memory;
+mod socket;
+mod writing;
+
+pub use connection::{Connection, ConnectionFault};
+pub use memory::MemoryConnection;
+pub use socket::Socket;
+pub use writing::{WriteFault, write_whole};

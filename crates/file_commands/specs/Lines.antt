@@ -1,0 +1,191 @@
+-- What the words of a command line say.
+use Rattle.std.specs.Prelude.{◌≡◌, ◌&&◌, ℕ, Bool, List, [], ◌∷◌, length, Option, Some, None, Result, Ok, Err, codes, if◌then◌else◌, nat_le, nat_lt}
+use Rattle.std.specs.List.{list_all}
+use Rattle.std.specs.Option.{ok_or, option_map_or}
+use Rattle.std.specs.Str.{bytes_eq}
+use Rattle.std.specs.Char.{digit_value}
+use Rattle.std.specs.Str.Parse.{digits_value, without_leading_plus}
+use Rattle.clap.specs.Words.{Kinds, Row, Text, fault_of, first_of, matches_of, one_of, subcommand_of}
+use Rattle.hex.specs.Hex.{decode_sized}
+use Rattle.layout.specs.Types.{Bytes, Group, Key, User}
+use Rattle.lms_sign.specs.Keys.{is_key}
+use Rattle.commands.specs.declared.command.Command.TheVariants as command
+use Rattle.file_commands.specs.Words.{sundr_app}
+use Rattle.file_commands.specs.declared.line.Line.{Line}
+use Rattle.file_commands.specs.declared.line.Wanted.{Wanted}
+use Rattle.file_commands.specs.declared.line.Wanted.TheVariants as wanted
+use Rattle.file_commands.specs.declared.line.LineError.{LineError}
+use Rattle.file_commands.specs.declared.line.LineError.TheVariants as error
+use Rattle.file_commands.specs.declared.reading.Unread.{Unread}
+use Rattle.file_commands.specs.declared.reading.Unread.TheVariants as unread
+
+-- what is to be done: a command with its words
+pub data Order : Type 0 where
+  ShowKey : Order
+  Ls : Text → Order
+  Cat : Text → Order
+  Put : Text → Text → Order
+  Mkdir : Text → Order
+  Rm : Text → Order
+  Link : Text → Text → Order
+  AddUser : User → Key → Order
+  AddMember : Group → User → Order
+  DropMember : Group → User → Order
+
+-- What a line says. There is no order where a file's content stands in its path's place, which no line has.
+pub record Said : Type 0 where
+  pub dir : Text
+  pub server : Text
+  pub user : User
+  pub order : Option Order
+
+-- ---- lines in memory
+
+abbrev pub order_of : Wanted → Option Order
+order_of wanted.Key = Some ShowKey
+order_of (wanted.Put path file) = Some (Put path.now file.now)
+order_of (wanted.Run (command.Ls path)) = Some (Ls path.now)
+order_of (wanted.Run (command.Cat path)) = Some (Cat path.now)
+order_of (wanted.Run (command.Put path content)) = None
+order_of (wanted.Run (command.Mkdir path)) = Some (Mkdir path.now)
+order_of (wanted.Run (command.Rm path)) = Some (Rm path.now)
+order_of (wanted.Run (command.Link path target)) = Some (Link path.now target.now)
+order_of (wanted.Run (command.AddUser user key)) = Some (AddUser user key)
+order_of (wanted.Run (command.AddMember group user)) = Some (AddMember group user)
+order_of (wanted.Run (command.DropMember group user)) = Some (DropMember group user)
+
+abbrev pub said : Line → Said
+said line = record { dir = line.dir.now; server = line.server.now; user = line.user; order = order_of line.wanted }
+
+-- an answer is f of what is read, and what hinders it is the same
+abbrev pub reads : {X Y : Type 0} → (X → Y) → Result X Unread → Result Y Unread
+reads f (Ok x) = Ok (f x)
+reads f (Err e) = Err e
+
+-- ---- values
+
+infixl 10 ◌>>=◌
+abbrev pub ◌>>=◌ : {X Y : Type 0} → Result X Unread → (X → Result Y Unread) → Result Y Unread
+Ok x >>= f = f x
+Err e >>= f = Err e
+
+abbrev pub text_in : Text → List Row → Result Text Unread
+text_in id rows = ok_or (first_of id rows) unread.Words
+
+abbrev pub is_byte : Text → Bool
+is_byte digits = nat_lt 0 (length digits) && list_all (λ d. nat_lt (digit_value d) 10) digits
+    && nat_lt (digits_value 10 digits) 256
+
+-- the number below 256 that a text of decimal digits is
+abbrev pub number_of : Text → Option ℕ
+number_of text =
+    if is_byte (without_leading_plus text) then Some (digits_value 10 (without_leading_plus text)) else None
+
+abbrev pub number_in : Text → List Row → Result ℕ Unread
+number_in id rows = ok_or (option_map_or number_of (one_of id rows) None) unread.Words
+
+abbrev pub user_in : Text → List Row → Result User Unread
+user_in id rows = do
+  number ← number_in id rows
+  if nat_lt number 64 then Ok number else Err unread.Words
+
+abbrev pub group_in : Text → List Row → Result Group Unread
+group_in id rows = do
+  number ← number_in id rows
+  if nat_le 64 number && nat_lt number 96 then Ok number else Err unread.Words
+
+abbrev pub checked_key : Bytes → Result Key Unread
+checked_key bytes = if is_key bytes then Ok bytes else Err unread.Key
+
+abbrev pub decoded_key : {E : Type 0} → Result Bytes E → Result Key Unread
+decoded_key (Ok bytes) = checked_key bytes
+decoded_key (Err e) = Err unread.Key
+
+-- the key of 56 bytes that 112 hexadecimal digits are
+abbrev pub key_of : Text → Result Key Unread
+key_of text = decoded_key (decode_sized text 56)
+
+-- ---- commands
+
+abbrev pub path_in : (Text → Order) → List Row → Result (Option Order) Unread
+path_in order rows = do
+  path ← text_in (codes "PATH") rows
+  Ok (Some (order path))
+
+abbrev pub put_in : List Row → Result (Option Order) Unread
+put_in rows = do
+  path ← text_in (codes "PATH") rows
+  file ← text_in (codes "FILE") rows
+  Ok (Some (Put path file))
+
+abbrev pub link_in : List Row → Result (Option Order) Unread
+link_in rows = do
+  path ← text_in (codes "PATH") rows
+  target ← text_in (codes "TARGET") rows
+  Ok (Some (Link path target))
+
+abbrev pub adduser_in : List Row → Result (Option Order) Unread
+adduser_in rows = do
+  user ← user_in (codes "U") rows
+  hex ← text_in (codes "HEX") rows
+  key ← key_of hex
+  Ok (Some (AddUser user key))
+
+abbrev pub member_in : List Row → Result (Group × User) Unread
+member_in rows = do
+  group ← group_in (codes "G") rows
+  user ← user_in (codes "U") rows
+  Ok (group, user)
+
+abbrev pub change_in : (Group → User → Order) → List Row → Result (Option Order) Unread
+change_in order rows = do
+  member ← member_in rows
+  Ok (Some (order member.0 member.1))
+
+abbrev pub order_in : Text → List Row → Result (Option Order) Unread
+order_in name rows = if bytes_eq name (codes "key") then Ok (Some ShowKey)
+    else (if bytes_eq name (codes "ls") then path_in Ls rows
+    else (if bytes_eq name (codes "cat") then path_in Cat rows
+    else (if bytes_eq name (codes "put") then put_in rows
+    else (if bytes_eq name (codes "mkdir") then path_in Mkdir rows
+    else (if bytes_eq name (codes "rm") then path_in Rm rows
+    else (if bytes_eq name (codes "link") then link_in rows
+    else (if bytes_eq name (codes "adduser") then adduser_in rows
+    else (if bytes_eq name (codes "addmember") then change_in AddMember rows
+    else (if bytes_eq name (codes "dropmember") then change_in DropMember rows
+    else Err unread.Words)))))))))
+
+abbrev pub order_met : Option (Text × List Row) → Result (Option Order) Unread
+order_met None = Err unread.Words
+order_met (Some p) = order_in p.0 p.1
+
+-- ---- lines
+
+abbrev pub line_in : List Row → Option (Text × List Row) → Result Said Unread
+line_in rows sub = do
+  dir ← text_in (codes "dir") rows
+  server ← text_in (codes "server") rows
+  user ← user_in (codes "user") rows
+  order ← order_met sub
+  Ok (record { dir = dir; server = server; user = user; order = order })
+
+-- the words are refused where clap finds a fault in them, and else the values that it finds are read
+abbrev pub judged : Kinds → List Row → Option (Text × List Row) → Result Said Unread
+judged [] rows sub = line_in rows sub
+judged (k ∷ ks) rows sub = Err unread.Words
+
+-- what the words say, of which the first is the program's name
+abbrev pub line_of : List Text → Result Said Unread
+line_of words = judged (fault_of sundr_app words) (matches_of sundr_app words) (subcommand_of sundr_app words)
+
+-- the error of a line that is unread for this cause, or want of memory
+abbrev pub IsErrorOf : LineError → Unread → Type 0
+IsErrorOf (error.Words fault) why = why ≡ unread.Words
+IsErrorOf error.Key why = why ≡ unread.Key
+IsErrorOf error.Memory why = Unit {0}
+
+-- the error is this reading's, or want of memory
+abbrev pub IsWhy : LineError → Result Said Unread → Type 0
+IsWhy (error.Words fault) answer = answer ≡ Err unread.Words
+IsWhy error.Key answer = answer ≡ Err unread.Key
+IsWhy error.Memory answer = Unit {0}

@@ -1,0 +1,69 @@
+-- The words that the program takes, as what clap reads of its command.
+use Rattle.std.specs.Prelude.{ℕ, Some, codes, pos, true}
+use Rattle.clap.specs.Words.{App, Rule, Text, new_app, new_rule, with_rule, with_subcommand}
+use Rattle.clap.specs.declared.builder.ArgAction.TheVariants.{Set}
+use Rattle.clap.specs.declared.builder.ValueParser.TheVariants as parser
+
+-- a required value, by its place
+abbrev pub placed : Text → Rule
+placed id = record (new_rule id) { action = Some Set; required = true }
+
+-- its value has a name in help
+abbrev pub valued : Rule → Rule
+valued rule = record rule { value_names = 1 }
+
+-- a required option
+abbrev pub named : Text → Rule
+named id = valued (record (placed id) { long = Some id })
+
+-- its value is a number from `low` to `high`
+abbrev pub numbered : ℕ → ℕ → Rule → Rule
+numbered low high rule = record rule { parser = Some (parser.Signed (pos low) (pos high)) }
+
+abbrev pub of_user : Rule → Rule
+of_user = numbered 0 63
+
+abbrev pub of_group : Rule → Rule
+of_group = numbered 64 95
+
+-- ---- the commands
+
+abbrev pub key_app : App
+key_app = new_app (codes "key")
+
+-- a command that takes a path alone
+abbrev pub path_app : Text → App
+path_app name = with_rule (new_app name) (placed (codes "PATH"))
+
+abbrev pub put_app : App
+put_app = with_rule (path_app (codes "put")) (placed (codes "FILE"))
+
+abbrev pub link_app : App
+link_app = with_rule (path_app (codes "link")) (placed (codes "TARGET"))
+
+abbrev pub adduser_app : App
+adduser_app = with_rule (with_rule (new_app (codes "adduser")) (of_user (placed (codes "U")))) (placed (codes "HEX"))
+
+-- a command that takes a group and a user
+abbrev pub member_app : Text → App
+member_app name = with_rule (with_rule (new_app name) (of_group (placed (codes "G")))) (of_user (placed (codes "U")))
+
+-- ---- the program
+
+abbrev pub options_app : App
+options_app =
+    with_rule (with_rule (with_rule (new_app (codes "sundr")) (named (codes "dir"))) (named (codes "server")))
+    (of_user (named (codes "user")))
+
+-- a command is required
+abbrev pub requires_command : App → App
+requires_command app = record app { top = record app.top { subcommand_required = true } }
+
+infixl 10 ◌with◌
+abbrev ◌with◌ : App → App → App
+app with sub = with_subcommand app sub.top
+
+abbrev pub sundr_app : App
+sundr_app = requires_command options_app with key_app with path_app (codes "ls") with path_app (codes "cat")
+    with put_app with path_app (codes "mkdir") with path_app (codes "rm") with link_app with adduser_app
+    with member_app (codes "addmember") with member_app (codes "dropmember")

@@ -1,0 +1,48 @@
+//! What a command line says.
+
+use commands::Command;
+use layout::User;
+use thiserror::Error;
+
+/// What hinders a line from being read.
+#[derive(Debug, Drop, Error)]
+pub enum LineError {
+    /// The words aren't ones that the program takes, or ask for help: this is clap's text.
+    #[error("{0}")]
+    Words(clap::Error),
+    /// What stands for a key isn't one of 112 hexadecimal digits.
+    #[error("bad key")]
+    Key,
+    /// Memory ran out.
+    #[error("memory")]
+    Memory,
+}
+
+/// What is to be done.
+#[derive(Clone, Copy)]
+pub enum Wanted<'a> {
+    /// To print the own public key.
+    Key,
+    /// To carry out a command; none that puts a file's content, of which a line has the name alone.
+    Run(Command<'a>),
+    /// To put the content of a file of the system at a path.
+    Put {
+        /// The path.
+        path: &'a str,
+        /// The file's name.
+        file: &'a str,
+    },
+}
+
+/// A command line that was read.
+#[derive(Clone, Copy)]
+pub struct Line<'a> {
+    /// The directory with the user's keys and journal.
+    pub dir: &'a str,
+    /// The server's address.
+    pub server: &'a str,
+    /// The user.
+    pub user: User,
+    /// What is to be done.
+    pub wanted: Wanted<'a>,
+}

@@ -1,0 +1,181 @@
+//! The reading of a command line.
+
+ghost use Rattle.std.specs.Prelude.{◌≡◌, Ok, map, MatchResult};
+ghost use Rattle.clap.specs.Words.{found_of, rows_of, subcommand_rows_of};
+ghost use Rattle.file_commands.specs.Lines.{reads, order_of, said, text_in, number_in, user_in, group_in, key_of};
+ghost use Rattle.file_commands.specs.Lines.{put_in, link_in, adduser_in, member_in, order_in};
+ghost use Rattle.file_commands.specs.Lines.{line_in, line_of, IsErrorOf, IsWhy};
+
+use crate::line::{Line, LineError, Wanted};
+use crate::words::command;
+use clap::error::ErrorKind;
+use clap::{ArgMatches, Command as Words};
+use commands::Command;
+use hex::FromHex;
+use layout::{Group, User};
+use lms_sign::{KEY_SIZE, PublicKey};
+use std::alloc::Global;
+use std::convert::AsStr;
+
+/// Why matches aren't read as a line.
+#[derive(Clone, Copy, Debug)]
+pub(crate) enum Unread {
+    /// A value isn't there, or not in its range.
+    Words,
+    /// What stands for a key is none.
+    Key,
+}
+
+/// A value of the matches as text.
+fn text<'a>(matches: &ArgMatches<'a>, id: &str) -> Result<&'a str, Unread>
+    ensures { reads (λ text. text.now) result ≡ text_in id.now (rows_of (found_of matches.now)) }
+{
+    matches.get_str(id).ok_or(Unread::Words)
+}
+
+/// A value of the matches as a number.
+fn number(matches: &ArgMatches<'_>, id: &str) -> Result<u8, Unread>
+    ensures { result ≡ number_in id.now (rows_of (found_of matches.now)) }
+{
+    matches.get_one::<u8>(id).ok_or(Unread::Words)
+}
+
+fn user(matches: &ArgMatches<'_>, id: &str) -> Result<User, Unread>
+    ensures { result ≡ user_in id.now (rows_of (found_of matches.now)) }
+{
+    User::new(number(matches, id)?).ok_or(Unread::Words)
+}
+
+fn group(matches: &ArgMatches<'_>, id: &str) -> Result<Group, Unread>
+    ensures { result ≡ group_in id.now (rows_of (found_of matches.now)) }
+{
+    Group::new(number(matches, id)?).ok_or(Unread::Words)
+}
+
+/// The key of a text.
+fn key(text: &str) -> Result<PublicKey, Unread>
+    ensures { result ≡ key_of text.now }
+{
+    match <[u8; KEY_SIZE] as FromHex>::from_hex(text) {
+        Ok(bytes) => PublicKey::from_bytes(bytes).ok_or(Unread::Key),
+        Err(_) => Err(Unread::Key),
+    }
+}
+
+/// A path, and a file's name.
+fn put<'a>(matches: &ArgMatches<'a>) -> Result<Wanted<'a>, Unread>
+    ensures { reads order_of result ≡ put_in (rows_of (found_of matches.now)) }
+{
+    let path = text(matches, "PATH")?;
+    let file = text(matches, "FILE")?;
+    Ok(Wanted::Put { path, file })
+}
+
+/// A path, and a place.
+fn link<'a>(matches: &ArgMatches<'a>) -> Result<Wanted<'a>, Unread>
+    ensures { reads order_of result ≡ link_in (rows_of (found_of matches.now)) }
+{
+    let path = text(matches, "PATH")?;
+    let target = text(matches, "TARGET")?;
+    Ok(Wanted::Run(Command::Link { path, target }))
+}
+
+/// A user, and the user's key.
+fn adduser<'a>(matches: &ArgMatches<'a>) -> Result<Wanted<'a>, Unread>
+    ensures { reads order_of result ≡ adduser_in (rows_of (found_of matches.now)) }
+{
+    let user = user(matches, "U")?;
+    let key = key(text(matches, "HEX")?)?;
+    Ok(Wanted::Run(Command::AddUser { user, key }))
+}
+
+/// A group, and a user.
+fn member(matches: &ArgMatches<'_>) -> Result<(Group, User), Unread>
+    ensures { result ≡ member_in (rows_of (found_of matches.now)) }
+{
+    let group = group(matches, "G")?;
+    let user = user(matches, "U")?;
+    Ok((group, user))
+}
+
+/// What is to be done by the command of this name, with these words.
+fn wanted<'a>(name: &str, matches: &ArgMatches<'a>) -> Result<Wanted<'a>, Unread>
+    ensures { reads order_of result ≡ order_in name.now (rows_of (found_of matches.now)) }
+{
+    let command = match name {
+        "key" => return Ok(Wanted::Key),
+        "put" => return put(matches),
+        "link" => return link(matches),
+        "adduser" => return adduser(matches),
+        "ls" => Command::Ls(text(matches, "PATH")?),
+        "cat" => Command::Cat(text(matches, "PATH")?),
+        "mkdir" => Command::Mkdir(text(matches, "PATH")?),
+        "rm" => Command::Rm(text(matches, "PATH")?),
+        "addmember" => {
+            let (group, user) = member(matches)?;
+            Command::AddMember { group, user }
+        }
+        "dropmember" => {
+            let (group, user) = member(matches)?;
+            Command::DropMember { group, user }
+        }
+        _ => return Err(Unread::Words),
+    };
+    Ok(Wanted::Run(command))
+}
+
+/// The line that the matches give.
+fn line<'a>(matches: &ArgMatches<'a>) -> Result<Line<'a>, Unread>
+    ensures { reads said result ≡ line_in (rows_of (found_of matches.now)) (subcommand_rows_of matches.now) }
+{
+    let dir = text(matches, "dir")?;
+    let server = text(matches, "server")?;
+    let user = user(matches, "user")?;
+    let Some((name, inner)) = matches.subcommand() else {
+        return Err(Unread::Words);
+    };
+    match wanted(name, inner) {
+        Ok(wanted) => Ok(Line {
+            dir,
+            server,
+            user,
+            wanted,
+        }),
+        Err(unread) => Err(unread),
+    }
+}
+
+/// The error of a line that isn't read.
+fn refuse(words: &mut Words<'_>, unread: Unread) -> LineError
+    ensures { IsErrorOf result unread }
+{
+    match unread {
+        Unread::Key => LineError::Key,
+        Unread::Words => {
+            match words.error(ErrorKind::MissingRequiredArgument, "a value is missing") {
+                Ok(fault) => LineError::Words(fault),
+                Err(_) => LineError::Memory,
+            }
+        }
+    }
+}
+
+impl<'a> Line<'a> {
+    /// Reads a line from its words, of which the first is the program's name.
+    pub fn read<S: AsStr>(alloc: Global, words: &'a [S]) -> Result<Line<'a>, LineError>
+        ensures { MatchResult result (λ line. line_of (map S.text words.entry.now) ≡ Ok (said line))
+            (λ e. IsWhy e (line_of (map S.text words.entry.now))) }
+    {
+        let Ok(mut command) = command(alloc) else {
+            return Err(LineError::Memory);
+        };
+        match command.try_get_matches_from_mut(words) {
+            Ok(matches) => match line(&matches) {
+                Ok(line) => Ok(line),
+                Err(unread) => Err(refuse(&mut command, unread)),
+            },
+            Err(fault) if fault.kind() == ErrorKind::OutOfMemory => Err(LineError::Memory),
+            Err(fault) => Err(LineError::Words(fault)),
+        }
+    }
+}

@@ -1,0 +1,14 @@
+//! How conversations end.
+
+/// How a conversation ended.
+#[derive(Clone, Copy, Debug, PartialEq, Eq)]
+pub enum Ended {
+    /// The connection was read to its end.
+    End,
+    /// The connection failed.
+    Fault,
+    /// The length of a frame was 0 or above 2,097,152.
+    Length,
+    /// Memory ran out.
+    Memory,
+}
