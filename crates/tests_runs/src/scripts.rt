@@ -12,9 +12,9 @@ pub(crate) trait Host: Alloc<A = Global> + Abort + Wait {}
 impl<R: Alloc<A = Global> + Abort + Wait> Host for R {}
 
 /// A script, and what it prints.
-pub(crate) struct Case {
-    pub(crate) script: &'static [u8],
-    pub(crate) lines: &'static [u8],
+struct Case {
+    script: &'static [u8],
+    lines: &'static [u8],
 }
 
 static CASES: [Case; 11] = [

@@ -1,4 +1,5 @@
-//! Tests of stored blocks and of the server's workers, over connections in memory and over sockets, by threads.
+//! Tests of stored blocks and of the server's workers, over connections in memory and over sockets, by threads; and that
+//! a verification under another key counts for nothing.
 #![tactic(auto)]
 
 #[cfg(test)]
@@ -11,3 +12,5 @@ mod faults;
 mod requests;
 #[cfg(test)]
 mod sockets;
+#[cfg(test)]
+mod verifications;

@@ -1,0 +1,164 @@
+//! What each lie comes to: what is no command, what finds nothing to do, and what a client sees of it.
+
+use crate::scripts::prints;
+
+/// What is no command, before what comes out of its phase.
+const NO_COMMANDS: &str = "\
+fork a -> error
+fork b a -> error
+fork a B -> error
+fork a bb -> error
+fork a 1 -> error
+fork a b c -> error
+update 0 b -> error
+update 0 a  -> error
+update 0 a bend 1 -> error
+update 0 a drop -> error
+update 0 a drop 64 -> error
+update 0 a old 1 -> error
+update 0 a old 1 +1 -> error
+update 0 a hide x -> error
+update 0 a cut -1 -> error
+update 0 a flip 1 2 -> error
+commit 0 b -> error
+invent a 1 -> error
+invent b 0 0 -> error
+force a 64 -> error
+force b 0 -> error
+update 0 a cut 0 -> 0 busy
+update 0 a old 1 4294967296 -> 0 busy
+fork a b -> fork
+update 0 b -> 0 busy
+commit 0 b -> 0 busy
+begin 0 link 0 2 a;b 0 3 -> 0 begin 1
+update 0 b -> 0 accepted 1
+show 0 0 2 -> 0 dir a;b 0:3
+";
+
+/// An entry is invented where both operations are there, also of the own one; its structure is pending no more.
+const INVENTED: &str = "\
+invent a 0 0 -> error
+begin 0 adduser 1 -> 0 begin 1
+update 0 a -> 0 accepted 1
+invent a 0 0 -> error
+commit 0 a -> 0 committed
+invent a 0 0 -> error
+begin 0 -> 0 begin 2
+update 0 a -> 0 accepted 2
+invent a 0 0 -> invent
+invent a 0 1 -> error
+commit 0 a -> 0 status 5
+force a 0 -> force
+commit 0 a -> 0 committed
+begin 0 -> 0 begin 3
+update 0 a -> 0 accepted 3
+";
+
+/// What was signed last is listed, before its commit and once more after it, also after a crash.
+const FORCED: &str = "\
+force a 1 -> error
+begin 0 -> 0 begin 1
+force a 0 -> error
+update 0 a -> 0 accepted 1
+restart 0 -> 0 signed
+force a 0 -> force
+commit 0 a -> 0 committed
+begin 0 make 0 3 file x -> 0 begin 2
+restart 0 -> 0 declared
+force a 0 -> force
+update 0 a -> 0 accepted 2
+show 0 0 3 -> 0 file x
+";
+
+/// An edit that finds nothing to change leaves the reply.
+const NOTHING_TO_CHANGE: &str = "\
+begin 0 adduser 1 -> 0 begin 1
+update 0 a drop 1 -> 0 accepted 1
+commit 0 a -> 0 committed
+begin 0 -> 0 begin 2
+update 0 a hide 1 -> 0 accepted 2
+commit 0 a -> 0 committed
+begin 0 -> 0 begin 3
+update 0 a old 0 9 -> 0 accepted 3
+commit 0 a -> 0 committed
+begin 0 -> 0 begin 4
+update 0 a old 0 3 -> 0 accepted 4
+commit 0 a -> 0 committed
+begin 0 -> 0 begin 5
+update 0 a cut 10000 -> 0 accepted 5
+commit 0 a -> 0 committed
+begin 0 -> 0 begin 6
+update 0 a flip 99999999999999999999999 -> 0 accepted 6
+";
+
+/// Two forks go on by themselves over the same blocks; then one becomes a copy of the other.
+const FORKED: &str = "\
+begin 0 adduser 1; make 0 3 file hello -> 0 begin 1
+update 0 a -> 0 accepted 1
+commit 0 a -> 0 committed
+fork a b -> fork
+begin 0 put 0 3 one -> 0 begin 2
+update 0 a -> 0 accepted 2
+commit 0 a -> 0 committed
+begin 1 -> 1 begin 1
+update 1 b -> 1 accepted 1
+show 1 0 3 -> 1 file hello
+commit 1 a -> 1 status 5
+commit 1 b -> 1 committed
+begin 1 -> 1 begin 2
+update 1 a -> 1 status 4
+update 1 b hide 1 -> 1 broken 4
+update 1 b -> 1 accepted 2
+fork b a -> fork
+commit 1 a -> 1 committed
+begin 0 -> 0 begin 3
+update 0 a -> 0 status 4
+";
+
+/// A copied server rolls back to what was listed before the copy was made.
+const ROLLED_BACK: &str = "\
+begin 0 adduser 1 -> 0 begin 1
+update 0 a -> 0 accepted 1
+commit 0 a -> 0 committed
+begin 0 -> 0 begin 2
+update 0 a -> 0 accepted 2
+commit 0 a -> 0 committed
+fork a b -> fork
+begin 1 -> 1 begin 1
+update 1 b old 0 1 -> 1 broken 12
+update 1 b -> 1 accepted 1
+commit 1 b -> 1 committed
+begin 0 -> 0 begin 3
+update 0 a old 0 1 -> 0 broken 3
+update 0 a -> 0 accepted 3
+";
+
+#[test]
+fn what_is_no_command(rt: HostRuntime) {
+    prints(&rt, NO_COMMANDS);
+}
+
+#[test]
+fn an_invented_entry(rt: HostRuntime) {
+    prints(&rt, INVENTED);
+}
+
+#[test]
+fn a_forced_structure(rt: HostRuntime) {
+    prints(&rt, FORCED);
+}
+
+#[test]
+fn edits_that_change_nothing(rt: HostRuntime) {
+    prints(&rt, NOTHING_TO_CHANGE);
+}
+
+#[test]
+fn two_forks(rt: HostRuntime) {
+    prints(&rt, FORKED);
+}
+
+#[test]
+fn a_copied_server_rolls_back(rt: HostRuntime) {
+    prints(&rt, ROLLED_BACK);
+}
