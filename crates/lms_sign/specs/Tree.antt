@@ -9,6 +9,10 @@ use Rattle.lms_sign.specs.OneTime.{key_of}
 unfoldable pub leaf_node : Bytes → ℕ → Digest → Digest
 leaf_node id number key = hash_of id number 0x8282 key
 
+-- the value of a leaf of the key that is made of a seed and an identifier: its node
+abbrev pub leaf_value : Bytes → Bytes → ℕ → Digest
+leaf_value seed id leaf = leaf_node id (1024 + leaf) (key_of seed id leaf)
+
 -- the node above two; 0x8383 is D_INTR
 unfoldable pub inner_node : Bytes → ℕ → Digest → Digest → Digest
 inner_node id number left right = hash_of id number 0x8383 (left ++ right)

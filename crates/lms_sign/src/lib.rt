@@ -28,5 +28,5 @@ pub use private_key::{PrivateKey, SEED_SIZE};
 pub use public_key::{ID_SIZE, KEY_SIZE, Key, PublicKey};
 pub use signing::sign;
 pub use spent_leaf::{SpentLeaf, burn};
-pub use tree::LEAF_COUNT;
+pub use tree::{LEAF_COUNT, leaf_value};
 pub use verification::verify;

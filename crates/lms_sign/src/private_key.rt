@@ -4,15 +4,14 @@ ghost use Rattle.std.specs.Prelude.{◌≡◌, true, ℕ, ◌+◌, ◌*◌, ◌<
 ghost use Rattle.std.specs.Prelude.{vec_len};
 ghost use Rattle.lms_sign.specs.Hashing.{joined};
 ghost use Rattle.lms_sign.specs.Keys.{public_key_of};
-ghost use Rattle.lms_sign.specs.OneTime.{key_of};
 ghost use Rattle.lms_sign.specs.Signature.{path_of, signature_of, valid};
-ghost use Rattle.lms_sign.specs.Tree.{leaf_node, inner_node};
+ghost use Rattle.lms_sign.specs.Tree.{leaf_value, inner_node};
 
 use crate::bytes::put;
 use crate::form::{LMS_TYPE, LMS_TYPE_AT, SIGNATURE_SIZE, put_front};
-use crate::one_time::{leaf_key, put_values, randomizer, text_digest};
+use crate::one_time::{put_values, randomizer, text_digest};
 use crate::public_key::PublicKey;
-use crate::tree::{LEAF_COUNT, inner_node, leaf_node, put_path};
+use crate::tree::{LEAF_COUNT, inner_node, leaf_value, put_path};
 use layout::{Digest, Memory};
 use std::alloc::Allocator;
 use std::marker::Model;
@@ -55,13 +54,26 @@ fn leaf_nodes<A: Allocator>(
     ensures size { IfOk result (λ nodes. vec_len nodes ≡ 2048) }
     ensures leaves { IfOk result
         (λ nodes. (leaf : ℕ) → leaf < LEAF_COUNT
-        → slice_index_or nodes.items (LEAF_COUNT + leaf) []
-        ≡ leaf_node id.now (LEAF_COUNT + leaf) (key_of seed.now id.now leaf)) }
+        → slice_index_or nodes.items (LEAF_COUNT + leaf) [] ≡ leaf_value seed.now id.now leaf) }
 {
     let mut nodes = vec![in alloc; Digest::from_bytes([0; 32]); PLACE_COUNT]?;
     for leaf in 0..LEAF_COUNT {
-        let number = LEAF_COUNT + leaf;
-        nodes[number as usize] = leaf_node(id, number, &leaf_key(seed, id, leaf));
+        nodes[(LEAF_COUNT + leaf) as usize] = leaf_value(seed, id, leaf);
+    }
+    Ok(nodes)
+}
+
+/// The places of the nodes, with the values of the leaves at theirs.
+fn with_leaves<A: Allocator>(alloc: A, values: &[Digest]) -> Result<Vec<Digest, A>, Memory>
+    requires { length values.now ≡ LEAF_COUNT }
+    ensures size { IfOk result (λ nodes. vec_len nodes ≡ 2048) }
+    ensures leaves { IfOk result
+        (λ nodes. (leaf : ℕ) → leaf < LEAF_COUNT
+        → slice_index_or nodes.items (LEAF_COUNT + leaf) [] ≡ slice_index_or values.now leaf []) }
+{
+    let mut nodes = vec![in alloc; Digest::from_bytes([0; 32]); PLACE_COUNT]?;
+    for leaf in 0..values.len() {
+        nodes[LEAF_COUNT as usize + leaf] = values[leaf];
     }
     Ok(nodes)
 }
@@ -83,14 +95,43 @@ fn fill_inner_nodes(nodes: &mut [Digest], id: &[u8; 16])
 }
 
 impl<A: Allocator> PrivateKey<A> {
+    /// The key over these leaves.
+    fn over_leaves(seed: [u8; 32], id: [u8; 16], leaves: Vec<Digest, A>) -> PrivateKey<A>
+        requires size { vec_len leaves ≡ 2048 }
+        requires leaves { (leaf : ℕ) → leaf < LEAF_COUNT
+            → slice_index_or leaves.items (LEAF_COUNT + leaf) [] ≡ leaf_value seed id leaf }
+        ensures { result ≡ record { seed = seed; id = id } }
+    {
+        let mut nodes = leaves;
+        fill_inner_nodes(&mut nodes, &id);
+        PrivateKey { seed, id, nodes }
+    }
+
     /// Draws a key from a seed, in about a million compressions of SHA-256. Only want of memory is an error.
     pub fn from_seed(alloc: A, seed: [u8; 32], id: [u8; 16]) -> Result<PrivateKey<A>, Memory>
         ensures seed { IfOk result (λ key. key.seed ≡ seed) }
         ensures id { IfOk result (λ key. key.id ≡ id) }
     {
-        let mut nodes = leaf_nodes(alloc, &seed, &id)?;
-        fill_inner_nodes(&mut nodes, &id);
-        Ok(PrivateKey { seed, id, nodes })
+        let leaves = leaf_nodes(alloc, &seed, &id)?;
+        Ok(PrivateKey::over_leaves(seed, id, leaves))
+    }
+
+    /// The same key, in about two thousand compressions of SHA-256, from the values of its leaves in order
+    /// (`leaf_value`), which many threads can compute beside each other. Only want of memory is an error.
+    pub fn from_leaf_values(
+        alloc: A,
+        seed: [u8; 32],
+        id: [u8; 16],
+        values: &[Digest],
+    ) -> Result<PrivateKey<A>, Memory>
+        requires size { length values.now ≡ LEAF_COUNT }
+        requires values { (leaf : ℕ) → leaf < LEAF_COUNT
+            → slice_index_or values.now leaf [] ≡ leaf_value seed id leaf }
+        ensures seed { IfOk result (λ key. key.seed ≡ seed) }
+        ensures id { IfOk result (λ key. key.id ≡ id) }
+    {
+        let leaves = with_leaves(alloc, values)?;
+        Ok(PrivateKey::over_leaves(seed, id, leaves))
     }
 
     /// The public key that goes with it.
