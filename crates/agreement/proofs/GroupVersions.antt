@@ -4,7 +4,7 @@ use Rattle.std.specs.Prelude.{◌⊎◌, ◌==◌, ◌&&◌, map, nat_le, nat_lt
 use Rattle.std.specs.List.{filter, list_all, list_any}
 use Rattle.std.specs.Option.{option_map_or}
 use Rattle.std.specs.Ordering.{nat_cmp}
-use Rattle.std.proofs.lemmas.Bool.{eq-eqb, ne_eqb, ltb-true, lt-ltb, le-ltb, leb-true, cases_Bool, cases_lt, cases_eq, false≢true, true≢false, and_parts, or_cases}
+use Rattle.std.proofs.lemmas.Bool.{eqb-true, eq-eqb, ne_eqb, ltb-true, lt-ltb, le-ltb, leb-true, cases_Bool, cases_lt, cases_eq, false≢true, true≢false, and_parts, or_cases}
 use Rattle.layout.specs.Ascending.{row_at}
 use Rattle.layout.specs.AscendingKeys.{key_test}
 use Rattle.principals.specs.Table.{Table, is_member}
@@ -110,6 +110,24 @@ next_group_version t i v g low high user e =
     = kept ∙ ap (λ n. if raises_at t (table_version i.plan) i.cert g then n else 0) one_group ∙ ap (λ b. if b then 1 else 0) (sym is) in
     omega arith
 
+amount_any : (g : ℕ) (hs : List ℕ) → (if list_any (λ h. h == g) hs then 1 else 0) ≤ amount g hs
+amount_any g [] = omega arith
+amount_any g (h ∷ hs) =
+    let ih = amount_any g hs in
+    elim (cases_eq g h) [
+      | inl e ↦ (let once = one-same g h e in rw (eq-eqb h g (sym e)) (omega arith))
+      | inr n ↦ (let none = one-other g h n in rw (ne_eqb h g (λ m. n (sym m))) (omega arith))
+    ]
+
+-- no version falls from one operation to the next, and that of a group that it raises grows
+pub grows : (t : Table) (i : PendingItem) (v : List Component) (g : ℕ) → i.plan.vector ≡ next_vector t i v → version_of g v + (if raises t g i then 1 else 0) ≤ version_of g i.plan.vector
+grows t i v g e =
+    let next = ap (version_of g) e in
+    let all = version_raised g (raised_groups t i) (raised i.plan.user v) in
+    let first = version_of-raised i.plan.user g v in
+    let added = amount_any g (raised_groups t i) in
+    omega arith
+
 -- ---- order
 
 pub ascends_by : {A : Type 0} (f h : A → ℕ) (xs : List A) → ((x y : A) → In x xs → In y xs → f x < f y → h x < h y) → Ascends f xs → Ascends h xs
@@ -172,6 +190,27 @@ no_fall g ps h p q i j less =
           | inr k ↦ below_version g p.vector q.vector (and_parts (nat_lt (depth p) (depth q)) (is_below p.vector q.vector) k).1
         ]
 
+-- nor from one depth to another that isn't less
+pub never_falls : (g : ℕ) (ps : List Plan) → any_two in_order ps ≡ true → (p q : Plan) → In p ps → In q ps → depth p ≤ depth q → version_of g p.vector ≤ version_of g q.vector
+never_falls g ps h p q i j no_less =
+    elim (cases_lt (depth p) (depth q)) [
+      | inl less ↦ no_fall g ps h p q i j less
+      | inr no_more ↦ elim (two_of in_order ps h p q i j) [
+        | inl e ↦ (let same = ap (λ (p : Plan). version_of g p.vector) e in omega arith)
+        | inr either ↦ elim either [
+          | inl t ↦ absurd (differ p q t (omega arith))
+          | inr t ↦ absurd (differ q p t (omega arith))
+        ]
+      ]
+    ]
+  where
+    differ : (p q : Plan) → in_order p q ≡ true → depth p ≡ depth q → ⊥
+    differ p q t same =
+        elim (or_cases (nat_lt (depth p) (depth q) && is_below p.vector q.vector) (nat_lt (depth q) (depth p) && is_below q.vector p.vector) t) [
+          | inl k ↦ (let more = ltb-true (depth p) (depth q) (and_parts (nat_lt (depth p) (depth q)) (is_below p.vector q.vector) k).0 in omega arith)
+          | inr k ↦ (let more = ltb-true (depth q) (depth p) (and_parts (nat_lt (depth q) (depth p)) (is_below q.vector p.vector) k).0 in omega arith)
+        ]
+
 -- ---- records
 
 -- the version in a record, 0 without one
@@ -184,6 +223,14 @@ record_listed g (q ∷ rs) r e =
     elim (cases_Bool (q.group == g)) [
       | inl t ↦ (let k : Some q ≡ Some r = rw t at e in let m : r ≡ q = cc in inl m)
       | inr f ↦ (let k : record_of g rs ≡ Some r = rw f at e in inr (record_listed g rs r k))
+    ]
+
+pub record_group : (g : ℕ) (rs : List GroupRecord) (r : GroupRecord) → record_of g rs ≡ Some r → r.group ≡ g
+record_group g [] r e = absurd cc
+record_group g (q ∷ rs) r e =
+    elim (cases_Bool (q.group == g)) [
+      | inl t ↦ (let k : Some q ≡ Some r = rw t at e in let m : r ≡ q = cc in ap (λ (r : GroupRecord). r.group) m ∙ eqb-true q.group g t)
+      | inr f ↦ (let k : record_of g rs ≡ Some r = rw f at e in record_group g rs r k)
     ]
 
 -- the record is of greatest version, and one of these structures has it

@@ -12,4 +12,5 @@ pub mod UserParts
 pub mod GroupVersions
 pub mod GroupParts
 pub mod Worlds
+pub mod AfterNewest
 pub mod Examples

@@ -1,8 +1,12 @@
 //! Laws of accepted views, for the proofs of callers: functions that do nothing.
 
+ghost use Rattle.std.specs.Prelude.{◌≡◌, true};
 ghost use Rattle.agreement.specs.Runs.{EachRun};
 ghost use Rattle.agreement.specs.Lines.{Agree, AreNumbered, EndWithOwn, Grow};
 ghost use Rattle.agreement.specs.Worlds.{AllListed, AreWorlds, EachHonestRun, IsGuarded, JudgeAsWorld, LoseVoid};
+ghost use Rattle.agreement.specs.AfterNewest.{OwnComesAfter, lists_in};
+ghost use Rattle.client_tree.specs.View.{View};
+ghost use Rattle.reply_rules.specs.Rules.{group_records, vector};
 ghost use Rattle.update_cert.specs.Cert.{Cert};
 ghost use Rattle.update_cert.specs.Reading.{Reading};
 ghost use Rattle.update_cert.specs.World.{Tree};
@@ -32,4 +36,11 @@ pub fn views_are_worlds()
     ensures listed { EachHonestRun AllListed }
     // Along a line a part is changed only by its user, or by a member of its group.
     ensures guarded { (reads : Reading) (w : Tree) (c : Cert) → IsGuarded reads w c }
+{}
+
+/// The own operation comes after the newest record of each group that it raises, where the lists of a view keep the
+/// rules on vectors and on group records, whatever else they break.
+pub fn own_comes_after_newest()
+    ensures { (x : View) → vector x.table (lists_in x) ≡ true → group_records x.table (lists_in x) ≡ true
+        → OwnComesAfter x }
 {}
