@@ -26,7 +26,7 @@ use Rattle.client_releases.specs.declared.phase.Phase.{Phase}
 use Rattle.client_releases.specs.declared.phase.Phase.TheVariants as phase
 use Rattle.client_releases.proofs.Seen.{declared_with, failed_with, signed_with, with_signature}
 use Rattle.client_releases.proofs.Untouched.{none_tried, untouched}
-use Rattle.client_verify.specs.State.{AcceptedView, AreReplies, Checked, IsOfDeclared, Ready, State, declared, declared_text, failed, laying, next_cert, next_structure, on, released, signed_over, signed_structure, signed_text, view_of}
+use Rattle.client_verify.specs.State.{AcceptedView, Checked, IsOfDeclared, Ready, State, declared, declared_text, failed, laying, next_cert, next_structure, on, released, signed_over, signed_structure, signed_text, view_of}
 use Rattle.reply_check.specs.Good.{with_own}
 use Rattle.reply_check.specs.Verified.{AreOwn, IsSealed}
 use Rattle.reply_check.proofs.VerifiedLaws.{seals}
@@ -194,18 +194,14 @@ module _ (r new : Released) (s : State) (pinned : List ℕ) (blocks : List Block
       ∙ ap (λ (q : Structure). signed_with (released s) new.devices (signed_by s.seed s.id leaf q) (sent (released s) leaf unsigned)) next
       ∙ ap (λ (t : Bytes). signed_with (released s) new.devices (signed_structure s leaf y) (sent (released s) leaf t)) of_text
 
-  pub signed_of : (y : Ready) (leaf : LeafNumber) (z : Structure) (unsigned : Bytes) (taken : Option Ready) (shown : Option AcceptedView) → taken ≡ None → z ≡ next_structure s y → unsigned ≡ structure.spell z → IsKept leaf (structure_record (sent r leaf unsigned)) r.devices new.devices
+  pub signed_of : (y : Ready) (leaf : LeafNumber) (z : Structure) (unsigned : Bytes) (shown : Option AcceptedView) → z ≡ next_structure s y → unsigned ≡ structure.spell z → IsKept leaf (structure_record (sent r leaf unsigned)) r.devices new.devices
       → new ≡ signed_with r new.devices (signed_by r.seed r.id leaf z) (sent r leaf unsigned) → shown ≡ Some (view_of s leaf y)
-      → (k : LeafNumber) × IsKept k (structure_record (signed_text s k y)) s.devices new.devices × (over new pinned blocks None taken shown ≡ on new.devices (signed_over s k y))
-  signed_of y leaf z unsigned taken shown gone next spelled kept made seen_is = (
+      → (k : LeafNumber) × IsKept k (structure_record (signed_text s k y)) s.devices new.devices × (over new pinned blocks None None shown ≡ on new.devices (signed_over s k y))
+  signed_of y leaf z unsigned shown next spelled kept made seen_is = (
     leaf,
     seen (λ (o : Released) (t : Bytes). IsKept leaf (structure_record (sent o leaf t)) o.devices new.devices) r (released s) unsigned _ (ap released is) (spelled ∙ ap structure.spell next) kept,
-    over_is new _ pinned s.pinned blocks s.blocks None taken None shown (Some (view_of s leaf y)) (made ∙ signed_is y leaf z unsigned next spelled) (ap (λ (o : State). o.pinned) is) (ap (λ (o : State). o.blocks) is) gone seen_is,
+    over_is new _ pinned s.pinned blocks s.blocks None None None shown (Some (view_of s leaf y)) (made ∙ signed_is y leaf z unsigned next spelled) (ap (λ (o : State). o.pinned) is) (ap (λ (o : State). o.blocks) is) refl seen_is,
   )
-
-  pub signed_failed : (taken : Option Ready) → taken ≡ None → new ≡ failed_with r new.devices → over new pinned blocks None taken view ≡ on new.devices (failed s)
-  signed_failed taken gone made =
-      over_is new (failed_with (released s) new.devices) pinned s.pinned blocks s.blocks None taken None view s.view (made ∙ ap (λ (o : Released). failed_with o new.devices) (ap released is)) (ap (λ (o : State). o.pinned) is) (ap (λ (o : State). o.blocks) is) gone (ap (λ (o : State). o.view) is)
 
 -- ---- what is signed is signed by the own key
 
@@ -254,9 +250,6 @@ fits_next s user number last changes of_user of_number of_last fits =
     (subst (λ (u : ℕ). cert.Fits (record { user = u; number = number; last = last; changes = changes })) of_user fits))
 
 -- ---- what is under way
-
-pub nothing_replied : (r : Released) (taken : Option Ready) → taken ≡ None → AreReplies r None taken
-nothing_replied r taken gone = record { of_checked = tt; of_accepted = subst (λ (o : Option Ready). IfSome o (λ y. IsOfDeclared r y.lists.own.plan)) (sym gone) tt }
 
 -- the own texts after a call that declared, or failed
 pub own_after : {T E : Type 0} (res : Result T E) (r new : Released) (key : List ℕ) (n : ℕ) (unsigned : Bytes) → key ≡ public_key_of r.seed r.id → length key ≡ 56

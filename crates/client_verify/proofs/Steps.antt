@@ -19,7 +19,7 @@ use Rattle.pending_list.specs.Reply.{Reply}
 use Rattle.reply_check.specs.declared.asked.Asked.{Asked}
 use Rattle.reply_check.specs.FirstBroken.{view_over}
 use Rattle.reply_check.specs.Good.{Good, view_of}
-use Rattle.client_verify.specs.State.{State, AcceptedView, Checked, Reading, Writing, asked_of, holding}
+use Rattle.client_verify.specs.State.{State, AcceptedView, Checked, Reading, Ready, Writing, asked_of, holding}
 use Rattle.reply_check.specs.AskedBlock.{block_breaks}
 use Rattle.client_verify.specs.Judged.{AsksOrAccepts, GoesOn, Handed, IsGood, Taken}
 use Rattle.client_verify.specs.Looked.{Given, Looked}
@@ -35,19 +35,19 @@ if_some {A} o a P is holds = subst (λ (x : Option A). IfSome x P) (sym is) hold
 
 -- ---- a reply goes on
 
--- whether a reply was under check before doesn't matter
-goes_anew : {A : Type 0} (s : State) (o : Option Checked) (x : Good) (r : Step A) (new : State) → AsksOrAccepts (record s { checked = o }) x r new → AsksOrAccepts s x r new
-goes_anew s o x (step.Need d) new goes = goes
-goes_anew s o x (step.Store texts) new goes = goes
-goes_anew s o x (step.Broken rule) new goes = absurd goes
+-- whether a reply was under check or accepted before doesn't matter
+goes_anew : {A : Type 0} (s : State) (o : Option Checked) (q : Option Ready) (x : Good) (r : Step A) (new : State) → AsksOrAccepts (record s { checked = o; accepted = q }) x r new → AsksOrAccepts s x r new
+goes_anew s o q x (step.Need d) new goes = goes
+goes_anew s o q x (step.Store texts) new goes = goes
+goes_anew s o q x (step.Broken rule) new goes = absurd goes
 
 -- what goes on from the state with a block more, where the reply under check was taken out, goes on from it
-pub goes_from : {A : Type 0} (v old : State) (o : Option Checked) (blocks : List Block) (text : List ℕ) (x y : Good) (r : Step A) (new : State) → v ≡ old → blocks ≡ keeping old.blocks text → x ≡ y
-    → AsksOrAccepts (record v { blocks = blocks; checked = o }) x r new → AsksOrAccepts (holding old text) y r new
-goes_from {A} v old o blocks text x y r new is kept same goes =
-    let of_old : AsksOrAccepts (record old { blocks = blocks; checked = o }) x r new = subst (λ (s : State). AsksOrAccepts {A = A} (record s { blocks = blocks; checked = o }) x r new) is goes in
-    let of_kept : AsksOrAccepts (record old { blocks = keeping old.blocks text; checked = o }) x r new = subst (λ (b : List Block). AsksOrAccepts {A = A} (record old { blocks = b; checked = o }) x r new) kept of_old in
-    goes_anew (holding old text) o y r new (subst (λ (z : Good). AsksOrAccepts {A = A} (record old { blocks = keeping old.blocks text; checked = o }) z r new) same of_kept)
+pub goes_from : {A : Type 0} (v old : State) (o : Option Checked) (q : Option Ready) (blocks : List Block) (text : List ℕ) (x y : Good) (r : Step A) (new : State) → v ≡ old → blocks ≡ keeping old.blocks text → x ≡ y
+    → AsksOrAccepts (record v { blocks = blocks; checked = o; accepted = q }) x r new → AsksOrAccepts (holding old text) y r new
+goes_from {A} v old o q blocks text x y r new is kept same goes =
+    let of_old : AsksOrAccepts (record old { blocks = blocks; checked = o; accepted = q }) x r new = subst (λ (s : State). AsksOrAccepts {A = A} (record s { blocks = blocks; checked = o; accepted = q }) x r new) is goes in
+    let of_kept : AsksOrAccepts (record old { blocks = keeping old.blocks text; checked = o; accepted = q }) x r new = subst (λ (b : List Block). AsksOrAccepts {A = A} (record old { blocks = b; checked = o; accepted = q }) x r new) kept of_old in
+    goes_anew (holding old text) o q y r new (subst (λ (z : Good). AsksOrAccepts {A = A} (record old { blocks = keeping old.blocks text; checked = o; accepted = q }) z r new) same of_kept)
 
 -- a block is asked for that tells what the operation makes
 pub goes_need : (A : Type 0) (s new : State) (x : Good) (a : Asked) (st : Step A) → st ≡ step.Need a.digest → new ≡ record s { checked = Some (Writing x a); accepted = None }

@@ -1,4 +1,5 @@
 pub mod State
+pub mod Progress
 pub mod Judged
 pub mod Looked
 pub mod Laid

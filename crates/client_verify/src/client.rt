@@ -4,7 +4,7 @@ ghost use Rattle.std.specs.Prelude.{◌↔◌, ◌≡◌, ◌≢◌, ◌≤◌, 
 ghost use Rattle.std.specs.Prelude.{false, true};
 ghost use Rattle.std.specs.Option.{option_map};
 
-use crate::view::{AcceptedView, Checked, Ready};
+use crate::view::{AcceptedView, Progress};
 use client_releases::{ClientError, Parts, Phase, Releases};
 use client_tree::{Held, first_blocks};
 use layout::{Memory, User, let_go};
@@ -28,8 +28,7 @@ pub struct Client<L: Device, J: Device, A: Allocator> {
     // journal tells.
     pub(crate) is_own: bool,
     pub(crate) blocks: Held<A>,
-    pub(crate) checked: Option<Checked<A>>,
-    pub(crate) accepted: Option<Ready<A>>,
+    pub(crate) progress: Progress<A>,
     pub(crate) view: Option<AcceptedView<A>>,
 }
 
@@ -37,6 +36,7 @@ impl<L: Device, J: Device, A: Allocator> Model for Client<L, J, A> {
     ghost use Rattle.std.specs.Prelude.{◌≡◌, true};
     ghost use Rattle.lms_sign.specs.Keys.{public_key_of};
     ghost use Rattle.client_verify.specs.State.{AreReplies, State};
+    ghost use Rattle.client_verify.specs.Progress.{accepted_of, checked_of};
     ghost use Rattle.reply_check.specs.Verified.{AreOwn};
 
     ghost Value = { State };
@@ -52,12 +52,12 @@ impl<L: Device, J: Device, A: Allocator> Model for Client<L, J, A> {
       phase = c.releases.phase;
       text = c.releases.text;
       blocks = c.blocks;
-      checked = c.checked;
-      accepted = c.accepted;
+      checked = checked_of c.progress;
+      accepted = accepted_of c.progress;
       view = c.view;
     } };
 
-    ghost invariant = { λ c. AreReplies c.releases c.checked c.accepted
+    ghost invariant = { λ c. AreReplies c.releases (checked_of c.progress) (accepted_of c.progress)
         × (c.is_own ≡ true → AreOwn (public_key_of c.releases.seed c.releases.id) c.releases.last c.releases.text) };
 }
 
@@ -150,8 +150,7 @@ impl<L: Device, J: Device, A: Allocator + Copy> Client<L, J, A> {
                     releases,
                     is_own,
                     blocks,
-                    checked: None,
-                    accepted: None,
+                    progress: Progress::None,
                     view: None,
                 })
             }
@@ -173,13 +172,11 @@ impl<L: Device, J: Device, A: Allocator + Copy> Client<L, J, A> {
             releases,
             is_own: _,
             blocks,
-            checked,
-            accepted,
+            progress,
             view,
         } = self;
         let_go(blocks);
-        let_go(checked);
-        let_go(accepted);
+        let_go(progress);
         let_go(view);
         releases.close()
     }
@@ -192,8 +189,7 @@ impl<L: Device, J: Device, A: Allocator + Copy> Client<L, J, A> {
     {
         self.releases.stands();
         self.blocks.stands();
-        let _checked = &self.checked;
-        let _accepted = &self.accepted;
+        let _progress = &self.progress;
     }
 
     /// The device of the ledger, to be looked at.
@@ -237,14 +233,14 @@ impl<L: Device, J: Device, A: Allocator + Copy> Client<L, J, A> {
     pub fn wants(&self) -> bool
         ensures { IsTrue result ↔ IsSome self.now.checked }
     {
-        self.checked.is_some()
+        matches!(self.progress, Progress::Checking(_))
     }
 
     /// Whether a reply was accepted whose structure isn't signed yet.
     pub fn ready(&self) -> bool
         ensures { IsTrue result ↔ IsSome self.now.accepted }
     {
-        self.accepted.is_some()
+        matches!(self.progress, Progress::Accepted(_))
     }
 
     /// Whether there is an accepted view.

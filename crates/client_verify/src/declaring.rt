@@ -11,6 +11,7 @@ ghost use Rattle.client_verify.specs.State.{declared, declared_text, failed, lay
 
 use crate::client::Client;
 use crate::laid::copies;
+use crate::view::Progress;
 use client_releases::{ClientError, Phase, Unsigned};
 use layout::{Memory, Version, put_in};
 use leaf_ledger::Device;
@@ -129,8 +130,7 @@ impl<L: Device, J: Device, A: Allocator + Copy> Client<L, J, A> {
             Ok(prepared) => prepared,
             Err(error) => return Err(error),
         };
-        put_in(&mut self.checked, None);
-        put_in(&mut self.accepted, None);
+        put_in(&mut self.progress, Progress::None);
         self.releases.declare(number, unsigned)
     }
 }

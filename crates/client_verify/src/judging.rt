@@ -21,7 +21,7 @@ ghost use Rattle.client_verify.specs.Standing.{HoldsOneMore, IsLacking, OnlyJudg
 use crate::client::Client;
 use crate::keeping::keep;
 use crate::step::Step;
-use crate::view::{Checked, Ready, Stage};
+use crate::view::{Checked, Progress, Ready, Stage};
 use client_releases::{ClientError, Phase};
 use layout::{Digest, Memory, let_go, put_in};
 use leaf_ledger::Device;
@@ -38,13 +38,12 @@ impl<L: Device, J: Device, A: Allocator + Copy> Client<L, J, A> {
     fn judged_last(&self) -> Option<&Good<A>>
         ensures { option_map listed (option_copied result) ≡ judged_last self.now }
     {
-        if let Some(ready) = &self.accepted {
-            return Some(&ready.good);
+        let in_view = self.view.as_ref().map(|view| &view.good);
+        match &self.progress {
+            Progress::None => in_view,
+            Progress::Checking(checked) => checked.good().or(in_view),
+            Progress::Accepted(ready) => Some(&ready.good),
         }
-        if let Some(good) = self.checked.as_ref().and_then(|checked| checked.good()) {
-            return Some(good);
-        }
-        self.view.as_ref().map(|view| &view.good)
     }
 
     /// The own key, where it is known that it signed the last structure and the last text.
@@ -78,8 +77,7 @@ impl<L: Device, J: Device, A: Allocator + Copy> Client<L, J, A> {
         ensures state { self.new ≡ record self.old { checked = Some (checked_in stage); accepted = None } }
         ensures step { result ≡ Step.Need digest }
     {
-        put_in(&mut self.checked, Some(Checked { stage }));
-        put_in(&mut self.accepted, None);
+        put_in(&mut self.progress, Progress::Checking(Checked { stage }));
         Step::Need(digest)
     }
 
@@ -107,8 +105,7 @@ impl<L: Device, J: Device, A: Allocator + Copy> Client<L, J, A> {
                     records,
                     lost,
                 };
-                put_in(&mut self.checked, None);
-                put_in(&mut self.accepted, Some(ready));
+                put_in(&mut self.progress, Progress::Accepted(ready));
                 Step::Store(texts)
             }
         }
@@ -178,7 +175,7 @@ impl<L: Device, J: Device, A: Allocator + Copy> Client<L, J, A> {
             (λ x. IsReached (held (keeping self.now.blocks text.now)) self.now.pinned x reached))) }
     {
         let known = self.known();
-        let Some(checked) = &self.checked else {
+        let Progress::Checking(checked) = &self.progress else {
             unreachable!()
         };
         let Stage::Reading(reply, _) = &checked.stage else {
@@ -203,9 +200,7 @@ impl<L: Device, J: Device, A: Allocator + Copy> Client<L, J, A> {
             let_go(reached);
             return Err(ClientError::Memory);
         };
-        let Some(checked) = self.checked.take() else {
-            unreachable!()
-        };
+        let checked = self.progress.take_checked();
         let Stage::Reading(reply, _) = checked.stage else {
             unreachable!()
         };
@@ -231,7 +226,7 @@ impl<L: Device, J: Device, A: Allocator + Copy> Client<L, J, A> {
         ensures only_memory { IfErr result (λ e. e ≡ ClientError.Memory) }
         ensures err { OnErr result (self.new ≡ self.old) }
     {
-        let Some(checked) = &self.checked else {
+        let Progress::Checking(checked) = &self.progress else {
             unreachable!()
         };
         let Stage::Writing(good, _) = &checked.stage else {
@@ -240,9 +235,7 @@ impl<L: Device, J: Device, A: Allocator + Copy> Client<L, J, A> {
         let written = write_with(self.alloc, &self.pinned, good, &self.blocks, digest, text)?;
         let text = Vec::from_slice(self.alloc, text)?;
         self.blocks.keep_as(digest, text)?;
-        let Some(checked) = self.checked.take() else {
-            unreachable!()
-        };
+        let checked = self.progress.take_checked();
         let Stage::Writing(good, _) = checked.stage else {
             unreachable!()
         };
@@ -281,7 +274,7 @@ impl<L: Device, J: Device, A: Allocator + Copy> Client<L, J, A> {
         ensures only_memory { IfErr result (λ e. e ≡ ClientError.Memory) }
         ensures err { OnErr result (self.new ≡ self.old) }
     {
-        let Some(checked) = &self.checked else {
+        let Progress::Checking(checked) = &self.progress else {
             unreachable!()
         };
         let asked = checked.asked();

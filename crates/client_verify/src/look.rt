@@ -19,7 +19,8 @@ pub enum Look<A: Allocator> {
     None,
     /// Of this kind and size is what stands there.
     Kind(SeenKind),
-    /// Nothing stands at this i-number, which is the least of those that were asked about, or something at each of them.
+    /// Nothing stands at this i-number, which is the least of those that were asked about, or something at each of
+    /// them.
     Free(Option<INumber>),
     /// The block that was handed in breaks this rule.
     Broken(Rule),

@@ -69,8 +69,8 @@ impl<L: Device, J: Device, A: Allocator + Copy> Client<L, J, A> {
     }
 
     /// The least i-number of a principal, from the first to the last, at which nothing stands in the accepted view, if
-    /// there is one, or the block that is wanted to tell it: the root of the part, or what opens the part at an i-number
-    /// of the range. A look that was under way is over. Only want of memory is an error.
+    /// there is one, or the block that is wanted to tell it: the root of the part, or what opens the part at an
+    /// i-number of the range. A look that was under way is over. Only want of memory is an error.
     pub fn free(
         &mut self,
         principal: Principal,

@@ -12,7 +12,7 @@ ghost use Rattle.client_verify.specs.State.{committed, failed, next_structure, o
 
 use crate::client::Client;
 use crate::structure::{Draft, draft_over};
-use crate::view::AcceptedView;
+use crate::view::{AcceptedView, Progress};
 use client_releases::{ClientError, Phase};
 use layout::{Memory, let_go, put_in};
 use leaf_ledger::Device;
@@ -35,7 +35,7 @@ impl<L: Device, J: Device, A: Allocator + Copy> Client<L, J, A> {
         ensures room { IfOk result (λ d. vec_len d.1 < vec_capacity d.1) }
         ensures ascending { IfOk result (λ d. Ascends nat_cmp user_of None d.1.items) }
     {
-        let Some(ready) = &self.accepted else {
+        let Progress::Accepted(ready) = &self.progress else {
             unreachable!()
         };
         let copies = ready.good.lists().copies(self.alloc)?;
@@ -85,10 +85,7 @@ impl<L: Device, J: Device, A: Allocator + Copy> Client<L, J, A> {
             Ok(drawn) => drawn,
             Err(_) => return Err(ClientError::Memory),
         };
-        let Some(ready) = self.accepted.take() else {
-            unreachable!()
-        };
-        put_in(&mut self.checked, None);
+        let ready = self.progress.take_accepted();
         let Draft {
             structure,
             shown,

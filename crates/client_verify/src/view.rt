@@ -6,6 +6,7 @@ use pending_list::Signed;
 use reply_check::{Admitted, Asked, Good};
 use std::alloc::Allocator;
 use std::marker::Model;
+use std::mem;
 use version_order::{GroupRecord, Structure};
 
 /// How far a reply under check is.
@@ -88,6 +89,46 @@ impl<A: Allocator> Model for Ready<A> {
       records = r.records.items;
       lost = r.lost.items;
     } };
+}
+
+/// How far the client is with the reply to its operation.
+#[derive(Drop)]
+pub(crate) enum Progress<A: Allocator> {
+    /// None is under check, and none was accepted that isn't signed.
+    None,
+    /// One is under check, of which a block is asked for.
+    Checking(Checked<A>),
+    /// One was accepted, whose structure isn't signed yet.
+    Accepted(Ready<A>),
+}
+
+impl<A: Allocator> Progress<A> {
+    ghost use Rattle.std.specs.Prelude.{◌≡◌, IsSome, Some};
+    ghost use Rattle.client_verify.specs.Progress.{accepted_of, checked_of};
+
+    /// Takes out the reply under check.
+    pub(crate) fn take_checked(&mut self) -> Checked<A>
+        requires { IsSome (checked_of self.old) }
+        ensures taken { checked_of self.old ≡ Some result }
+        ensures none { self.new ≡ Progress.None }
+    {
+        match mem::replace(self, Progress::None) {
+            Progress::Checking(checked) => checked,
+            Progress::None | Progress::Accepted(_) => unreachable!(),
+        }
+    }
+
+    /// Takes out the accepted reply.
+    pub(crate) fn take_accepted(&mut self) -> Ready<A>
+        requires { IsSome (accepted_of self.old) }
+        ensures taken { accepted_of self.old ≡ Some result }
+        ensures none { self.new ≡ Progress.None }
+    {
+        match mem::replace(self, Progress::None) {
+            Progress::Accepted(ready) => ready,
+            Progress::None | Progress::Checking(_) => unreachable!(),
+        }
+    }
 }
 
 /// A look that is under way: the question, and the block that is asked for.

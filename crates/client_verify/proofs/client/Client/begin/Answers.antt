@@ -9,6 +9,7 @@ use Rattle.client_releases.specs.declared.error.ClientError.TheVariants as error
 use Rattle.client_releases.specs.declared.phase.Phase.TheVariants as phase
 use Rattle.client_releases.specs.Releasing.{AnyMoment, IsTried, OneHasRisen, cert_record}
 use Rattle.client_releases.specs.Told.{Released, sent}
+use Rattle.client_verify.specs.Progress.{accepted_of, checked_of}
 use Rattle.client_verify.specs.State.{State, declared_text, next_cert, released}
 use Rattle.client_verify.proofs.Releasing.{at_device, begun, begun_failed, but_device, err_at, never_else, ok_either, only_device, own_after, refused_moments, refused_tried, same_error, seen, stands_in}
 use Rattle.client_verify.proofs.client.Client.begin.Goals as goal
@@ -47,7 +48,7 @@ invariant_of-self g c =
     let is = c.self-2.view_is ∙ c.in-Ok.ensures.laying in
     let same : c.self.inside.releases ≡ r = ap released c.self.view_is ∙ sym (ap released is) in
     let key = c.as_bytes-size.ensures.same ∙ c.key.ensures ∙ ap (λ (o : Released). public_key_of o.seed o.id) same in
-    rw (c.put_in.ensures, c.put_in-2.ensures) (record { of_checked = tt; of_accepted = tt }, λ own. own_after c.declare.result r new c.as_bytes-size.result.now c.in-Ok.prepared.0 c.in-Ok.prepared.1 key c.as_bytes-size.ensures.size c.declare.ensures.declared c.declare.ensures.err (c.self-2.invariant.1 own))
+    rw c.put_in.ensures (record { of_checked = tt; of_accepted = tt }, λ own. own_after c.declare.result r new c.as_bytes-size.result.now c.in-Ok.prepared.0 c.in-Ok.prepared.1 key c.as_bytes-size.ensures.size c.declare.ensures.declared c.declare.ensures.err (c.self-2.invariant.1 own))
 
 pub returns-clause-declared : goal.returns-clause-declared
 returns-clause-declared g c =
@@ -56,8 +57,8 @@ returns-clause-declared g c =
     let new = c.declare.new.self in
     let laid = map vec_items c.args.laid.now in
     let is = c.self-2.view_is ∙ c.in-Ok.ensures.laying in
-    rw (c.put_in.ensures, c.put_in-2.ensures) (on_ok_weaker c.declare.result
-    (λ d. begun r new s c.self-2.inside.pinned c.self-2.inside.blocks c.self-2.inside.checked c.self-2.inside.accepted c.self-2.inside.view laid is c.args.changes.now c.in-Ok.prepared.1 c.in-Ok.prepared.0 d.0 c.in-Ok.ensures.text c.in-Ok.ensures.number d.1 d.2) c.declare.ensures.declared)
+    rw c.put_in.ensures (on_ok_weaker c.declare.result
+    (λ d. begun r new s c.self-2.inside.pinned c.self-2.inside.blocks (checked_of c.self-2.inside.progress) (accepted_of c.self-2.inside.progress) c.self-2.inside.view laid is c.args.changes.now c.in-Ok.prepared.1 c.in-Ok.prepared.0 d.0 c.in-Ok.ensures.text c.in-Ok.ensures.number d.1 d.2) c.declare.ensures.declared)
 
 pub returns-clause-any_moment : goal.returns-clause-any_moment
 returns-clause-any_moment g c =
@@ -101,7 +102,7 @@ returns-clause-fails g c fault =
     let new = c.declare.new.self in
     let laid = map vec_items c.args.laid.now in
     let is = c.self-2.view_is ∙ c.in-Ok.ensures.laying in
-    rw (c.put_in.ensures, c.put_in-2.ensures) (begun_failed r new s c.self-2.inside.pinned c.self-2.inside.blocks c.self-2.inside.checked c.self-2.inside.accepted c.self-2.inside.view laid is (err_at c.declare.result error.Device c.declare.ensures.err fault))
+    rw c.put_in.ensures (begun_failed r new s c.self-2.inside.pinned c.self-2.inside.blocks (checked_of c.self-2.inside.progress) (accepted_of c.self-2.inside.progress) c.self-2.inside.view laid is (err_at c.declare.result error.Device c.declare.ensures.err fault))
 
 pub returns-clause-fits : goal.returns-clause-fits
 returns-clause-fits g c = ok_either c.declare.result c.in-Ok.ensures.fits

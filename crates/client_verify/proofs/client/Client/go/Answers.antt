@@ -22,4 +22,4 @@ returns-in-Parts g c =
     let own = w.0 in
     let groups = w.1 in
     let is = w.2 in
-    rw (c.put_in.ensures, c.put_in-in-Parts.ensures) (own, groups, made.lost.items, ready_is _ old x x made.handle own.handle made.records.items (map (record_over x.lists.own.plan) groups) made.lost.items c.self.view_is refl is.0 is.1, w.3, w.4, is.2)
+    rw c.put_in.ensures (own, groups, made.lost.items, ready_is _ old x x made.handle own.handle made.records.items (map (record_over x.lists.own.plan) groups) made.lost.items c.self.view_is refl is.0 is.1, w.3, w.4, is.2)

@@ -8,7 +8,7 @@ use Rattle.client_verify.proofs.client.Client.reach_on.Goals as goal
 pub returns : goal.returns
 returns g c =
     let s = c.args.self.now in
-    let k = c.in-Some.checked in
+    let k = c.in-Checking.checked in
     let r = c.in-Reading.reply in
     let a = c.in-Reading.field-1 in
     let there : s.checked ≡ Some k = search rules in

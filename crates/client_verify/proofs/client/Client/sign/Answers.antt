@@ -4,10 +4,11 @@ use Rattle.leaf_ledger.specs.Ledger.{IsLeastFree, LeafNumber}
 use Rattle.version_order.specs.Structure.{structure}
 use Rattle.client_releases.specs.Releasing.{AnyMoment, IsTried, OneHasRisen, structure_record}
 use Rattle.client_releases.specs.Told.{Released, sent}
+use Rattle.client_verify.specs.Progress.{accepted_of, checked_of}
 use Rattle.client_verify.specs.State.{Ready, State, next_structure, released, signed_text}
 use Rattle.client_verify.proofs.Handing.{if_at}
 use Rattle.client_verify.proofs.Steps.{if_some}
-use Rattle.client_verify.proofs.Releasing.{always, no_full, not_full_error, nothing_replied, own_failed, own_signed, refused_moments, refused_tried, seen, shown_is, signed_of, stands_ready, view_is}
+use Rattle.client_verify.proofs.Releasing.{always, no_full, not_full_error, own_failed, own_signed, refused_moments, refused_tried, seen, shown_is, signed_of, stands_ready, view_is}
 use Rattle.client_verify.proofs.client.Client.sign.Goals as goal
 
 pub returns-then-not-has_free_leaf-clause-tried : goal.returns-then-not-has_free_leaf-clause-tried
@@ -18,7 +19,7 @@ returns-in-Err-clause-any_moment g c =
     let s = c.args.self.now in
     let r = c.self.inside.releases in
     let some = subst (λ (o : Option Ready). IsSome o) (sym (ap (λ (q : State). q.accepted) c.self.view_is)) c.requires in
-    let stands = stands_ready r c.self.inside.accepted c.stands.ensures c.self.invariant.0.of_accepted some in
+    let stands = stands_ready r (accepted_of c.self.inside.progress) c.stands.ensures c.self.invariant.0.of_accepted some in
     always s.accepted _ (λ y leaf least. refused_moments r s s (ap released c.self.view_is) stands refl (λ k. structure_record (signed_text s k y)) leaf)
 
 pub returns-in-Err-clause-tried : goal.returns-in-Err-clause-tried
@@ -30,14 +31,14 @@ returns-in-Err-clause-no_leaf g c = (λ is. absurd (cc is), λ full. absurd (no_
 pub invariant_of-self : goal.invariant_of-self
 invariant_of-self g c =
     let d = c.in-Ok-sign.ensures.signed in
-    rw c.put_in.ensures (
-      nothing_replied c.sign.new.self c.take.new.self c.take.ensures.after,
+    rw c.take_accepted-ready.ensures.none (
+      record { of_checked = tt; of_accepted = tt },
       λ _. own_signed c.self.inside.releases c.as_bytes-size.result.now (c.as_bytes-size.ensures.same ∙ c.key.ensures) c.as_bytes-size.ensures.size d.0 d.1.least.below c.sign.new.self c.in-Ok.drawn.0.structure c.in-Ok.drawn.0.text d.2,
     )
 
 pub invariant_of-self-in-Err-sign : goal.invariant_of-self-in-Err-sign
-invariant_of-self-in-Err-sign g c = rw c.put_in.ensures (
-  nothing_replied c.sign.new.self c.take.new.self c.take.ensures.after,
+invariant_of-self-in-Err-sign g c = rw c.take_accepted-ready.ensures.none (
+  record { of_checked = tt; of_accepted = tt },
   λ own. own_failed c.self.inside.releases c.sign.new.self c.in-Err-sign.ensures.err (c.self.invariant.1 own),
 )
 
@@ -46,24 +47,24 @@ returns-in-Ok-sign-clause-signed g c =
     let s = c.args.self.now in
     let r = c.self.inside.releases in
     let new = c.sign.new.self in
-    let y = c.in-Some.ready in
-    let inner : c.self.inside.accepted ≡ Some y = sym c.take.ensures.value ∙ c.in-Some.is in
+    let y = c.take_accepted-ready.result in
+    let inner : accepted_of c.self.inside.progress ≡ Some y = c.take_accepted-ready.ensures.taken in
     let there : s.accepted ≡ Some y = ap (λ (q : State). q.accepted) (sym c.self.view_is) ∙ inner in
     let next = if_at s.accepted y _ there c.in-Ok.ensures.structure in
     let copied = if_at s.accepted y _ there c.in-Ok.ensures.structures in
     let d = c.in-Ok-sign.ensures.signed in
-    let of_shown = shown_is r new s c.self.inside.pinned c.self.inside.blocks c.self.inside.checked c.self.inside.accepted c.self.inside.view c.self.view_is y d.0 c.in-Ok.drawn.0.structure c.in-Ok.drawn.0.shown c.in-Ok-sign.signature (sent r d.0 c.in-Ok.drawn.0.text) next c.in-Ok.ensures.shown c.in-Ok-sign.ensures.signature d.2 in
-    let shown = view_is r new s c.self.inside.pinned c.self.inside.blocks c.self.inside.checked c.self.inside.accepted c.self.inside.view c.self.view_is y d.0 c.ready.inside.good.lists c.ready.inside.good.table _ c.with_own.result.items c.in-Ok.drawn.1.items c.ready.inside.lost.items
+    let of_shown = shown_is r new s c.self.inside.pinned c.self.inside.blocks (checked_of c.self.inside.progress) (accepted_of c.self.inside.progress) c.self.inside.view c.self.view_is y d.0 c.in-Ok.drawn.0.structure c.in-Ok.drawn.0.shown c.in-Ok-sign.signature (sent r d.0 c.in-Ok.drawn.0.text) next c.in-Ok.ensures.shown c.in-Ok-sign.ensures.signature d.2 in
+    let shown = view_is r new s c.self.inside.pinned c.self.inside.blocks (checked_of c.self.inside.progress) (accepted_of c.self.inside.progress) c.self.inside.view c.self.view_is y d.0 c.ready.inside.good.lists c.ready.inside.good.table _ c.with_own.result.items c.in-Ok.drawn.1.items c.ready.inside.lost.items
     (ap (λ (q : Ready). q.lists) c.ready.view_is) (ap (λ (q : Ready). q.table) c.ready.view_is) (ap (λ (q : Ready). q.lost) c.ready.view_is) of_shown c.with_own.ensures copied in
-    rw (c.put_in.ensures, c.put_in-in-Ok-sign.ensures) (if_some s.accepted y _ there (signed_of r new s c.self.inside.pinned c.self.inside.blocks c.self.inside.checked c.self.inside.accepted c.self.inside.view c.self.view_is y d.0 c.in-Ok.drawn.0.structure c.in-Ok.drawn.0.text c.take.new.self _ c.take.ensures.after next c.in-Ok.ensures.text d.1 d.2 shown))
+    rw (c.take_accepted-ready.ensures.none, c.put_in.ensures) (if_some s.accepted y _ there (signed_of r new s c.self.inside.pinned c.self.inside.blocks (checked_of c.self.inside.progress) (accepted_of c.self.inside.progress) c.self.inside.view c.self.view_is y d.0 c.in-Ok.drawn.0.structure c.in-Ok.drawn.0.text _ next c.in-Ok.ensures.text d.1 d.2 shown))
 
 pub returns-in-Ok-sign-clause-any_moment : goal.returns-in-Ok-sign-clause-any_moment
 returns-in-Ok-sign-clause-any_moment g c =
     let s = c.args.self.now in
     let r = c.self.inside.releases in
     let new = c.sign.new.self in
-    let y = c.in-Some.ready in
-    let inner : c.self.inside.accepted ≡ Some y = sym c.take.ensures.value ∙ c.in-Some.is in
+    let y = c.take_accepted-ready.result in
+    let inner : accepted_of c.self.inside.progress ≡ Some y = c.take_accepted-ready.ensures.taken in
     let there : s.accepted ≡ Some y = ap (λ (q : State). q.accepted) (sym c.self.view_is) ∙ inner in
     let next = if_at s.accepted y _ there c.in-Ok.ensures.structure in
     let spelled : c.in-Ok.drawn.0.text ≡ structure.spell (next_structure s y) = c.in-Ok.ensures.text ∙ ap structure.spell next in
@@ -78,8 +79,8 @@ returns-in-Ok-sign-clause-fits g c =
     let s = c.args.self.now in
     let r = c.self.inside.releases in
     let new = c.sign.new.self in
-    let y = c.in-Some.ready in
-    let inner : c.self.inside.accepted ≡ Some y = sym c.take.ensures.value ∙ c.in-Some.is in
+    let y = c.take_accepted-ready.result in
+    let inner : accepted_of c.self.inside.progress ≡ Some y = c.take_accepted-ready.ensures.taken in
     let there : s.accepted ≡ Some y = ap (λ (q : State). q.accepted) (sym c.self.view_is) ∙ inner in
     let next = if_at s.accepted y _ there c.in-Ok.ensures.structure in
     if_some s.accepted y _ there (subst structure.Fits next c.in-Ok.ensures.fits)
@@ -89,8 +90,8 @@ returns-in-Err-sign-clause-any_moment g c =
     let s = c.args.self.now in
     let r = c.self.inside.releases in
     let new = c.sign.new.self in
-    let y = c.in-Some.ready in
-    let inner : c.self.inside.accepted ≡ Some y = sym c.take.ensures.value ∙ c.in-Some.is in
+    let y = c.take_accepted-ready.result in
+    let inner : accepted_of c.self.inside.progress ≡ Some y = c.take_accepted-ready.ensures.taken in
     let there : s.accepted ≡ Some y = ap (λ (q : State). q.accepted) (sym c.self.view_is) ∙ inner in
     let next = if_at s.accepted y _ there c.in-Ok.ensures.structure in
     let spelled : c.in-Ok.drawn.0.text ≡ structure.spell (next_structure s y) = c.in-Ok.ensures.text ∙ ap structure.spell next in
@@ -102,8 +103,8 @@ returns-in-Err-sign-clause-tried g c =
     let s = c.args.self.now in
     let r = c.self.inside.releases in
     let new = c.sign.new.self in
-    let y = c.in-Some.ready in
-    let inner : c.self.inside.accepted ≡ Some y = sym c.take.ensures.value ∙ c.in-Some.is in
+    let y = c.take_accepted-ready.result in
+    let inner : accepted_of c.self.inside.progress ≡ Some y = c.take_accepted-ready.ensures.taken in
     let there : s.accepted ≡ Some y = ap (λ (q : State). q.accepted) (sym c.self.view_is) ∙ inner in
     let next = if_at s.accepted y _ there c.in-Ok.ensures.structure in
     let spelled : c.in-Ok.drawn.0.text ≡ structure.spell (next_structure s y) = c.in-Ok.ensures.text ∙ ap structure.spell next in

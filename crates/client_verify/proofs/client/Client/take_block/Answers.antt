@@ -3,6 +3,7 @@ use Rattle.std.specs.Option.{option_copied}
 use Rattle.std.proofs.lemmas.Result.{IfOk-from_err, IfOk-weaker}
 use Rattle.reply_rules.specs.declared.rule.Rule.TheVariants as rule
 use Rattle.client_tree.specs.Held.{held}
+use Rattle.client_verify.specs.Progress.{checked_of}
 use Rattle.client_verify.specs.State.{State, asked_of}
 use Rattle.reply_check.specs.AskedBlock.{block_breaks}
 use Rattle.client_verify.specs.Judged.{IsReading, IsWriting}
@@ -13,16 +14,16 @@ use Rattle.client_verify.proofs.client.Client.take_block.Goals as goal
 pub returns-in_err-text-clause-handed : goal.returns-in_err-text-clause-handed
 returns-in_err-text-clause-handed g c =
     let old = c.args.self.now in
-    let k = c.in-Some.checked in
-    let inner : c.self.inside.checked ≡ Some k = search rules in
+    let k = c.in-Checking.checked in
+    let inner : checked_of c.self.inside.progress ≡ Some k = ap checked_of c.in-Checking.is in
     let there : old.checked ≡ Some k = ap (λ (s : State). s.checked) (sym c.self.view_is) ∙ inner in
     if_some old.checked k _ there (IfOk-from_err c.from_residual.result _ c.from_residual.ensures.0)
 
 pub returns-in_err-text-clause-told : goal.returns-in_err-text-clause-told
 returns-in_err-text-clause-told g c =
     let old = c.args.self.now in
-    let k = c.in-Some.checked in
-    let inner : c.self.inside.checked ≡ Some k = search rules in
+    let k = c.in-Checking.checked in
+    let inner : checked_of c.self.inside.progress ≡ Some k = ap checked_of c.in-Checking.is in
     let there : old.checked ≡ Some k = ap (λ (s : State). s.checked) (sym c.self.view_is) ∙ inner in
     let ok = λ (is : block_breaks (held old.blocks) (asked_of k) (option_copied c.args.block) ≡ Some rule.Block). c.in_err-text.ensures.told (breaks_before _ old c.asked-asked.result (asked_of k) (option_copied c.args.block) (Some rule.Block) c.self.view_is c.asked-asked.ensures is) in
     if_some old.checked k _ there (λ is. let h = ok is in absurd cc)
@@ -30,26 +31,26 @@ returns-in_err-text-clause-told g c =
 pub read_on-requires-clause-reading : goal.read_on-requires-clause-reading
 read_on-requires-clause-reading g c =
     let old = c.args.self.now in
-    let k = c.in-Some.checked in
-    let inner : c.self.inside.checked ≡ Some k = search rules in
+    let k = c.in-Checking.checked in
+    let inner : checked_of c.self.inside.progress ≡ Some k = ap checked_of c.in-Checking.is in
     let there : old.checked ≡ Some k = ap (λ (s : State). s.checked) (sym c.self.view_is) ∙ inner in
     some_one old.checked k IsReading there (c.is_reading-reads.ensures.reading c.if-reads.true)
 
 pub write_on-requires-clause-writing : goal.write_on-requires-clause-writing
 write_on-requires-clause-writing g c =
     let old = c.args.self.now in
-    let k = c.in-Some.checked in
-    let inner : c.self.inside.checked ≡ Some k = search rules in
+    let k = c.in-Checking.checked in
+    let inner : checked_of c.self.inside.progress ≡ Some k = ap checked_of c.in-Checking.is in
     let there : old.checked ≡ Some k = ap (λ (s : State). s.checked) (sym c.self.view_is) ∙ inner in
     some_one old.checked k IsWriting there (c.is_reading-reads.ensures.writing c.if-reads.false)
 
 pub returns-then-reads-clause-handed : goal.returns-then-reads-clause-handed
 returns-then-reads-clause-handed g c =
     let old = c.args.self.now in
-    let k = c.in-Some.checked in
+    let k = c.in-Checking.checked in
     let block = option_copied c.args.block in
     let text = c.in-Ok.text.now in
-    let inner : c.self.inside.checked ≡ Some k = search rules in
+    let inner : checked_of c.self.inside.progress ≡ Some k = ap checked_of c.in-Checking.is in
     let there : old.checked ≡ Some k = ap (λ (s : State). s.checked) (sym c.self.view_is) ∙ inner in
     let inner_none : block_breaks (held c.self.inside.blocks) c.asked-asked.result block ≡ None = search rules in
     let none = breaks_after _ old c.asked-asked.result (asked_of k) block None c.self.view_is c.asked-asked.ensures inner_none in
@@ -59,10 +60,10 @@ returns-then-reads-clause-handed g c =
 pub returns-else-reads-clause-handed : goal.returns-else-reads-clause-handed
 returns-else-reads-clause-handed g c =
     let old = c.args.self.now in
-    let k = c.in-Some.checked in
+    let k = c.in-Checking.checked in
     let block = option_copied c.args.block in
     let text = c.in-Ok.text.now in
-    let inner : c.self.inside.checked ≡ Some k = search rules in
+    let inner : checked_of c.self.inside.progress ≡ Some k = ap checked_of c.in-Checking.is in
     let there : old.checked ≡ Some k = ap (λ (s : State). s.checked) (sym c.self.view_is) ∙ inner in
     let inner_none : block_breaks (held c.self.inside.blocks) c.asked-asked.result block ≡ None = search rules in
     let none = breaks_after _ old c.asked-asked.result (asked_of k) block None c.self.view_is c.asked-asked.ensures inner_none in
@@ -72,9 +73,9 @@ returns-else-reads-clause-handed g c =
 pub returns-then-reads-clause-told : goal.returns-then-reads-clause-told
 returns-then-reads-clause-told g c =
     let old = c.args.self.now in
-    let k = c.in-Some.checked in
+    let k = c.in-Checking.checked in
     let block = option_copied c.args.block in
-    let inner : c.self.inside.checked ≡ Some k = search rules in
+    let inner : checked_of c.self.inside.progress ≡ Some k = ap checked_of c.in-Checking.is in
     let there : old.checked ≡ Some k = ap (λ (s : State). s.checked) (sym c.self.view_is) ∙ inner in
     let inner_none : block_breaks (held c.self.inside.blocks) c.asked-asked.result block ≡ None = search rules in
     let none = breaks_after _ old c.asked-asked.result (asked_of k) block None c.self.view_is c.asked-asked.ensures inner_none in
@@ -83,9 +84,9 @@ returns-then-reads-clause-told g c =
 pub returns-else-reads-clause-told : goal.returns-else-reads-clause-told
 returns-else-reads-clause-told g c =
     let old = c.args.self.now in
-    let k = c.in-Some.checked in
+    let k = c.in-Checking.checked in
     let block = option_copied c.args.block in
-    let inner : c.self.inside.checked ≡ Some k = search rules in
+    let inner : checked_of c.self.inside.progress ≡ Some k = ap checked_of c.in-Checking.is in
     let there : old.checked ≡ Some k = ap (λ (s : State). s.checked) (sym c.self.view_is) ∙ inner in
     let inner_none : block_breaks (held c.self.inside.blocks) c.asked-asked.result block ≡ None = search rules in
     let none = breaks_after _ old c.asked-asked.result (asked_of k) block None c.self.view_is c.asked-asked.ensures inner_none in
