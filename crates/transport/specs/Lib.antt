@@ -1,0 +1,5 @@
+pub mod Asked
+pub mod Connecting
+pub mod ConnectingLaws
+pub mod Framing
+pub mod Receiving

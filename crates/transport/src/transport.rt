@@ -1,0 +1,92 @@
+//! Transports.
+
+ghost use Rattle.std.specs.Prelude.{◌≡◌};
+
+use std::alloc::Allocator;
+use std::marker::Model;
+use thiserror::Error;
+use wire::RequestKind;
+
+/// Why no reply came.
+#[derive(Clone, Copy, Debug, PartialEq, Eq, Error)]
+pub enum TransportError {
+    /// The transport failed.
+    #[error("the transport failed")]
+    Fault,
+    /// What came is no frame, or the request fits into none.
+    #[error("what came is no frame")]
+    NoFrame,
+    /// Memory ran out.
+    #[error("out of memory")]
+    Memory,
+}
+
+/// What is asked of the server: its kind, and what goes with it.
+#[derive(Drop)]
+pub struct Request<'a> {
+    kind: RequestKind,
+    payload: &'a [u8],
+}
+
+impl<'a> Model for Request<'a> {
+    ghost use Rattle.transport.specs.Asked.{Asked};
+
+    ghost Value = { Asked };
+
+    ghost view = { λ r. record { kind = r.kind; payload = r.payload.now } };
+}
+
+impl<'a> Request<'a> {
+    /// A request of this kind: a signed certificate or structure, a block, or the 32 bytes of a digest goes with it.
+    pub fn new(kind: RequestKind, payload: &'a [u8]) -> Request<'a>
+        ensures { result ≡ record { kind = kind; payload = payload.now } }
+    {
+        Request { kind, payload }
+    }
+
+    /// Its kind.
+    pub fn kind(&self) -> RequestKind
+        ensures { result ≡ self.now.kind }
+    {
+        self.kind
+    }
+
+    /// What goes with it.
+    pub fn payload(&self) -> &[u8]
+        ensures { result.now ≡ self.now.payload }
+    {
+        self.payload
+    }
+}
+
+/// What carries a request to the server, and the body of its reply back. Nothing is promised of what comes.
+pub trait Transport<A: Allocator> {
+    ghost use Rattle.std.specs.Prelude.{◌≡◌, ◌≤◌, ℕ, Result, Err};
+    ghost use Rattle.layout.specs.Types.{Bytes};
+    ghost use Rattle.leaf_ledger.specs.Device.{HasRisen};
+    ghost use Rattle.transport.specs.Asked.{Asked, came};
+    ghost use Rattle.transport.specs.declared.transport.TransportError.{TransportError};
+    ghost use Rattle.transport.specs.declared.transport.TransportError.TheVariants.{Fault};
+
+    /// From this transport, this request with its answer may lead to that one.
+    ghost answers: { Self → Asked → Result Bytes TransportError → Self → Type 0 };
+
+    /// How often it has failed, up to 2 ^ 64 - 1.
+    ghost fault_count: { Self → ℕ };
+
+    /// Sends a request, and gives the body of the frame that comes back.
+    fn exchange(&mut self, request: &Request<'_>) -> Result<Vec<u8, A>, TransportError>
+        ensures { answers self.old request.now (came result) self.new };
+
+    /// How often it has failed. It counts up to the greatest number, and stays there.
+    fn faults(&self) -> u64
+        ensures { result ≡ fault_count self.now };
+
+    /// No exchange takes a fault back.
+    ghost later: { (t : Self) (r : Asked) (x : Result Bytes TransportError) (u : Self) → answers t r x u
+        → fault_count t ≤ fault_count u };
+
+    /// One that fails is counted.
+    ghost rose: { (t : Self) (r : Asked) (u : Self) → answers t r (Err Fault) u
+        → HasRisen (fault_count t) (fault_count u) };
+}
