@@ -1,3 +1,4 @@
 pub mod Paths
 pub mod Answers
 pub mod Asked
+pub mod Names

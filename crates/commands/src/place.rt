@@ -1,8 +1,10 @@
 //! Where a command changes something, and what it comes to there.
 
-ghost use Rattle.std.specs.Prelude.{◌≡◌, []};
+ghost use Rattle.std.specs.Prelude.{◌≡◌, [], true};
 ghost use Rattle.layout.specs.Types.{Bytes};
 ghost use Rattle.update_cert.specs.World.{Content, File, Directory};
+ghost use Rattle.directory.specs.Name.{is_name};
+ghost use Rattle.commands.specs.Names.{IsNamed, IsNamedCourse, PutsNothing};
 ghost use Rattle.commands.specs.Asked.{place_held, outcome_of, puts, makes, removes, links, unlinks, makes_named};
 
 use crate::answer::Refusal;
@@ -96,7 +98,9 @@ pub enum Course<'a> {
 
 /// What is made at a name that a directory lacks, with the free i-number.
 fn make_named<'a>(directory: Target, name: &'a str, free: Option<INumber>) -> Course<'a>
-    ensures { (new : Content) → outcome_of new result ≡ makes_named directory name.now new free }
+    ensures makes { (new : Content) → outcome_of new result ≡ makes_named directory name.now new free }
+    ensures named { is_name name.now ≡ true → IsNamedCourse result }
+    ensures puts_nothing { PutsNothing result }
 {
     match free {
         None => Course::Refuse(Refusal::NoNumber),
@@ -110,7 +114,9 @@ fn make_named<'a>(directory: Target, name: &'a str, free: Option<INumber>) -> Co
 
 /// What a name comes to that is taken from a directory, with what it stands for.
 fn unlink<'a>(directory: Target, name: &'a str, target: Target) -> Course<'a>
-    ensures { (new : Content) → outcome_of new result ≡ unlinks directory name.now target }
+    ensures unlinks { (new : Content) → outcome_of new result ≡ unlinks directory name.now target }
+    ensures named { is_name name.now ≡ true → IsNamedCourse result }
+    ensures puts_nothing { PutsNothing result }
 {
     if target.principal == directory.principal {
         Course::UnlinkAndRemove {
@@ -126,7 +132,8 @@ fn unlink<'a>(directory: Target, name: &'a str, target: Target) -> Course<'a>
 impl<'a> Place<'a> {
     /// What a file comes to that is put here, where it is new at the free i-number.
     pub fn put(&self, free: Option<INumber>) -> Course<'a>
-        ensures { (bytes : Bytes) → outcome_of (File bytes) result ≡ puts bytes (place_held self.now) free }
+        ensures puts { (bytes : Bytes) → outcome_of (File bytes) result ≡ puts bytes (place_held self.now) free }
+        ensures named { IsNamed self.now → IsNamedCourse result }
     {
         match self {
             Place::At(target, Stands::Nothing) => Course::Make(*target),
@@ -143,7 +150,9 @@ impl<'a> Place<'a> {
 
     /// What an empty directory comes to that is made here, at the free i-number where it gets a name.
     pub fn make(&self, free: Option<INumber>) -> Course<'a>
-        ensures { outcome_of (Directory []) result ≡ makes (place_held self.now) free }
+        ensures makes { outcome_of (Directory []) result ≡ makes (place_held self.now) free }
+        ensures named { IsNamed self.now → IsNamedCourse result }
+        ensures puts_nothing { PutsNothing result }
     {
         match self {
             Place::At(target, Stands::Nothing) => Course::Make(*target),
@@ -154,7 +163,9 @@ impl<'a> Place<'a> {
 
     /// What it comes to that what stands here is removed, with its name.
     pub fn remove(&self) -> Course<'a>
-        ensures { (new : Content) → outcome_of new result ≡ removes (place_held self.now) }
+        ensures removes { (new : Content) → outcome_of new result ≡ removes (place_held self.now) }
+        ensures named { IsNamed self.now → IsNamedCourse result }
+        ensures puts_nothing { PutsNothing result }
     {
         match self {
             Place::At(_, Stands::Nothing) | Place::New { .. } => Course::Refuse(Refusal::NoPath),
@@ -180,7 +191,9 @@ impl<'a> Place<'a> {
 
     /// What it comes to that this place becomes a name for a target.
     pub fn link(&self, target: Target) -> Course<'a>
-        ensures { (new : Content) → outcome_of new result ≡ links target (place_held self.now) }
+        ensures links { (new : Content) → outcome_of new result ≡ links target (place_held self.now) }
+        ensures named { IsNamed self.now → IsNamedCourse result }
+        ensures puts_nothing { PutsNothing result }
     {
         match self {
             Place::At(_, Stands::Nothing) => Course::Refuse(Refusal::NoPath),
