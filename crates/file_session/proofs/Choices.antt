@@ -1,0 +1,101 @@
+-- What a command comes to, from looks.
+use Rattle.std.proofs.Common.{◌≡◌, [], ◌∷◌, Option, Some, None, Result, Ok, Err, IfOk, append-nil, ap, sym, subst, ◌∙◌}
+use Rattle.std.specs.Prelude.{IfErr}
+use Rattle.std.specs.Borrow.{Bor}
+use Rattle.std.specs.Option.{option_map_or}
+use Rattle.layout.specs.Types.{Bytes, Group, Key, User}
+use Rattle.directory.specs.declared.target.Target.{Target}
+use Rattle.update_cert.specs.Change.{AddUser, AddMember, DropMember, of_table}
+use Rattle.update_cert.specs.World.{Tree}
+use Rattle.client_verify.specs.State.{State}
+use Rattle.commands.specs.Asked.{Outcome, Writes, at_end, at_place, links, lists, makes, outcome, puts, reads, refuses, removes}
+use Rattle.commands.specs.Paths.{path_of, place_of}
+use Rattle.commands.specs.declared.command.Command.{Command}
+use Rattle.commands.specs.declared.command.Command.TheVariants as command
+use Rattle.commands.specs.declared.answer.Refusal.TheVariants as refusal
+use Rattle.file_session.specs.declared.planning.Plan.{Plan}
+use Rattle.file_session.specs.declared.stop.Stop.{Stop}
+use Rattle.file_session.specs.declared.stop.Stop.TheVariants as stop
+use Rattle.file_session.specs.Order.{Ready, ready_or}
+use Rattle.file_session.specs.Parts.{CanBegin, IsPlanOf, Planned}
+use Rattle.file_session.specs.Went.{Answering, At, Looked, looks, point}
+use Rattle.file_session.proofs.Looks.{looked_so}
+use Rattle.file_session.proofs.Runs.{lacks, went_as, went_then}
+
+if_same : {A : Type 0} (r : Result (Plan A) Stop) (x y o : Outcome) → y ≡ x → IfOk r (λ plan. x ≡ o) → IfOk r (λ plan. y ≡ o)
+if_same r x y o same h = subst (λ (z : Outcome). IfOk r (λ plan. z ≡ o)) (sym same) h
+
+-- ---- each command
+
+pub of_ls : (u : User) (c : Command) (path : Bor Bytes) (tree : Tree) → c ≡ command.Ls path → outcome u c tree ≡ at_end tree lists (path_of path.now)
+unfolding outcome
+of_ls u c path tree is = ap (λ (x : Command). outcome u x tree) is
+
+pub of_cat : (u : User) (c : Command) (path : Bor Bytes) (tree : Tree) → c ≡ command.Cat path → outcome u c tree ≡ at_end tree reads (path_of path.now)
+unfolding outcome
+of_cat u c path tree is = ap (λ (x : Command). outcome u x tree) is
+
+pub of_put : (u : User) (c : Command) (path content : Bor Bytes) (tree : Tree) → c ≡ command.Put path content → outcome u c tree ≡ at_place u tree (puts content.now) (path_of path.now)
+unfolding outcome
+of_put u c path content tree is = ap (λ (x : Command). outcome u x tree) is
+
+pub of_mkdir : (u : User) (c : Command) (path : Bor Bytes) (tree : Tree) → c ≡ command.Mkdir path → outcome u c tree ≡ at_place u tree makes (path_of path.now)
+unfolding outcome
+of_mkdir u c path tree is = ap (λ (x : Command). outcome u x tree) is
+
+pub of_rm : (u : User) (c : Command) (path : Bor Bytes) (tree : Tree) → c ≡ command.Rm path → outcome u c tree ≡ at_place u tree (λ place _. removes place) (path_of path.now)
+unfolding outcome
+of_rm u c path tree is = ap (λ (x : Command). outcome u x tree) is
+
+abbrev by_target : User → Tree → Bor Bytes → Option Target → Outcome
+by_target u tree path o = option_map_or (λ t. at_place u tree (λ place _. links t place) (path_of path.now)) o (refuses refusal.NoPath)
+
+of_link_at : (u : User) (c : Command) (path target : Bor Bytes) (tree : Tree) (o : Option Target) → c ≡ command.Link path target → o ≡ place_of target.now → outcome u c tree ≡ by_target u tree path o
+unfolding outcome
+of_link_at u c path target tree o is found = ap (λ (x : Command). outcome u x tree) is ∙ ap (by_target u tree path) (sym found)
+
+pub of_link : (u : User) (c : Command) (path target : Bor Bytes) (tree : Tree) (o : Option Target) (t : Target) → c ≡ command.Link path target → o ≡ place_of target.now → o ≡ Some t → outcome u c tree ≡ at_place u tree (λ place _. links t place) (path_of path.now)
+of_link u c path target tree o t is found some = of_link_at u c path target tree o is found ∙ ap (by_target u tree path) some
+
+pub of_link_not : (u : User) (c : Command) (path target : Bor Bytes) (tree : Tree) (o : Option Target) → c ≡ command.Link path target → o ≡ place_of target.now → o ≡ None → outcome u c tree ≡ refuses refusal.NoPath
+of_link_not u c path target tree o is found none = of_link_at u c path target tree o is found ∙ ap (by_target u tree path) none
+
+pub of_add_user : (u who : User) (c : Command) (key : Key) (tree : Tree) → c ≡ command.AddUser who key → outcome u c tree ≡ Writes (of_table (AddUser who key) ∷ [])
+unfolding outcome
+of_add_user u who c key tree is = ap (λ (x : Command). outcome u x tree) is
+
+pub of_add_member : (u who : User) (group : Group) (c : Command) (tree : Tree) → c ≡ command.AddMember group who → outcome u c tree ≡ Writes (of_table (AddMember group who) ∷ [])
+unfolding outcome
+of_add_member u who group c tree is = ap (λ (x : Command). outcome u x tree) is
+
+pub of_drop_member : (u who : User) (group : Group) (c : Command) (tree : Tree) → c ≡ command.DropMember group who → outcome u c tree ≡ Writes (of_table (DropMember group who) ∷ [])
+unfolding outcome
+of_drop_member u who group c tree is = ap (λ (x : Command). outcome u x tree) is
+
+module _ {T : Type 0} {answers : Answering T} where
+  -- a look was stopped
+  pub planned_not : {A : Type 0} {a b : At T} (comes : Tree → Outcome) (e : Stop) → Looked answers a b (λ tree. Unit {0}) → Planned {A = A} answers a b comes (Err e)
+  planned_not comes e h = record { outcome = refuses refusal.NoPath; looked = looked_so _ h (λ tree is. tt); is_plan = tt; can_begin = tt }
+
+  -- this follows from the looks
+  pub planned_now : {A : Type 0} {a b : At T} (comes : Tree → Outcome) (o : Outcome) (p : Plan A) → Looked answers a b (λ tree. comes tree ≡ o) → IsPlanOf o p → CanBegin p → Planned answers a b comes (Ok p)
+  planned_now comes o p h is can = record { outcome = o; looked = looked_so _ h (λ tree is. is); is_plan = is; can_begin = can }
+
+  -- unless memory runs out
+  pub planned_by : {A : Type 0} {a : At T} {m : State} {t : T} (comes : Tree → Outcome) (o : Outcome) (r : Result (Plan A) Stop) → Looked answers a (point m t (Ready [])) (λ tree. comes tree ≡ o) → IfOk r (IsPlanOf o) → IfOk r CanBegin → IfErr r (λ e. e ≡ stop.Memory) → Planned answers a (point m t (ready_or r)) comes r
+  planned_by comes o (Ok p) h is can none = planned_now comes o p h is can
+  planned_by {m = m} {t = t} comes o (Err e) h is can memory = record {
+    outcome = o;
+    looked = record { seen = h.seen; went = went_as (went_then h.went (lacks m t e memory)) (append-nil (looks h.seen)); tells = λ tree agrees. tt };
+    is_plan = tt;
+    can_begin = tt;
+  }
+
+  -- what comes of it is the same by another name
+  pub planned_as : {A : Type 0} {a b : At T} {r : Result (Plan A) Stop} (comes other : Tree → Outcome) → ((tree : Tree) → other tree ≡ comes tree) → Planned answers a b comes r → Planned answers a b other r
+  planned_as {r = r} comes other same p = record {
+    outcome = p.outcome;
+    looked = looked_so _ p.looked (λ tree is. if_same r (comes tree) (other tree) p.outcome (same tree) is);
+    is_plan = p.is_plan;
+    can_begin = p.can_begin;
+  }

@@ -1,0 +1,11 @@
+pub mod Runs
+pub mod Looks
+pub mod Turns
+pub mod Operations
+pub mod Given
+pub mod Few
+pub mod Steps
+pub mod Walks
+pub mod Plans
+pub mod Choices
+pub mod Sessions

@@ -1,0 +1,95 @@
+-- Runs, one move after another.
+use Rattle.std.proofs.Common.{◌≡◌, ℕ, List, [], ◌∷◌, ◌++◌, Option, Result, refl, sym, ap, ◌∙◌, subst, append_assoc, append-nil}
+use Rattle.layout.specs.Types.{Bytes, Digest}
+use Rattle.update_cert.specs.Change.{Change}
+use Rattle.client_tree.specs.declared.questions.Question.{Question}
+use Rattle.wire.specs.declared.kinds.Status.{Status}
+use Rattle.client_releases.specs.declared.error.ClientError.{ClientError}
+use Rattle.client_verify.specs.State.{State}
+use Rattle.client_steps.specs.Steps.{Asks, Sees}
+use Rattle.file_session.specs.declared.stop.Stop.{Stop}
+use Rattle.file_session.specs.declared.stop.Stop.TheVariants as stop
+use Rattle.transport.specs.declared.transport.TransportError.{TransportError}
+use Rattle.file_session.specs.Replies.{payload_in, block_in, status_in}
+use Rattle.file_session.specs.Calls.{Begins, Hears, Takes, Signs, Commits, Looks, Gives, Leads}
+use Rattle.file_session.specs.Order.{Move, Calls, Sends, Lacks, Ready, Update, Hear, Fetch, Take, Store, Commit, Tell, FetchAt, GiveAt, Over}
+use Rattle.file_session.specs.Order.{laying, declaring, hearing, checking, taking, storing, committing, telling, committed, looking, giving}
+use Rattle.file_session.specs.Order.{put as put_of, update, get, commit}
+use Rattle.file_session.specs.Went.{Answering, At, point, IsMove, Moves, Event, Begun, Saw, looks, signs, seen_by, signed_by, events_of, events, Went, Seen}
+
+pub events_join : (ms ns : List Move) → events (ms ++ ns) ≡ events ms ++ events ns
+events_join [] ns = refl
+events_join (m ∷ ms) ns = ap (λ l. events_of m ++ l) (events_join ms ns) ∙ sym (append_assoc (events_of m) (events ms) (events ns))
+
+pub looks_join : (s t : List Seen) → looks s ++ looks t ≡ looks (s ++ t)
+looks_join [] t = refl
+looks_join (x ∷ s) t = ap (λ l. Saw x ∷ l) (looks_join s t)
+
+pub moves_join : {T : Type 0} (answers : Answering T) (a b c : At T) (ms ns : List Move) → Moves answers a ms b → Moves answers b ns c → Moves answers a (ms ++ ns) c
+moves_join {T} answers a b c [] ns h k = subst (λ (x : At T). Moves answers x ns c) h k
+moves_join answers a b c (m ∷ ms) ns (mid, one, more) k = (mid, one, moves_join answers mid b c ms ns more k)
+
+module _ {T : Type 0} {answers : Answering T} where
+  pub went_then : {a b c : At T} {s t : List Event} → Went answers a b s → Went answers b c t → Went answers a c (s ++ t)
+  went_then {a} {b} {c} h k = record {
+    moves = h.moves ++ k.moves;
+    run = moves_join answers a b c h.moves k.moves h.run k.run;
+    told = events_join h.moves k.moves ∙ (λ i. h.told i ++ k.told i);
+  }
+
+  pub went_one : (a : At T) (m : Move) (b : At T) → IsMove answers a m b → Went answers a b (events_of m)
+  went_one a m b h = record { moves = m ∷ []; run = (b, h, refl); told = append-nil (events_of m) }
+
+  pub went_none : (a : At T) → Went answers a a []
+  went_none a = record { moves = []; run = refl; told = refl }
+
+  pub went_as : {a b : At T} {s t : List Event} → Went answers a b s → s ≡ t → Went answers a b t
+  went_as h e = record { moves = h.moves; run = h.run; told = h.told ∙ e }
+
+  -- ---- each move
+
+  pub begun : (m m' : State) (t : T) (changes : List (Change Digest)) (texts : List Bytes) (x : Result Bytes ClientError) → Leads m (Begins changes texts x) m' → Went answers (point m t (Ready texts)) (point m' t (declaring x)) (Begun changes texts ∷ [])
+  begun m m' t changes texts x h = went_one (point m t (Ready texts)) (Calls (Begins changes texts x)) (point m' t (declaring x)) (h, refl, (refl, refl))
+
+  pub laid : (m m' : State) (t t' : T) (before : List Bytes) (text : Bytes) (r : Result Bytes Stop) → m' ≡ m → ((x : Result Bytes TransportError) × answers t (put_of text) x t' × (r ≡ payload_in x)) → Went answers (point m t (Ready before)) (point m' t' (laying before text r)) []
+  laid m m' t t' before text r same (x, h, is) = went_one (point m t (Ready before)) (Sends (put_of text) x) (point m' t' (laying before text r)) (h, same, (refl, ap (laying before text) is))
+
+  pub updated : (m m' : State) (t t' : T) (text : Bytes) (r : Result Bytes Stop) → m' ≡ m → ((x : Result Bytes TransportError) × answers t (update text) x t' × (r ≡ payload_in x)) → Went answers (point m t (Update text)) (point m' t' (hearing r)) []
+  updated m m' t t' text r same (x, h, is) = went_one (point m t (Update text)) (Sends (update text) x) (point m' t' (hearing r)) (h, same, (refl, ap hearing is))
+
+  pub heard : (m m' : State) (t : T) (text : Bytes) (x : Result Asks ClientError) → Leads m (Hears text x) m' → Went answers (point m t (Hear text)) (point m' t (checking x)) []
+  heard m m' t text x h = went_one (point m t (Hear text)) (Calls (Hears text x)) (point m' t (checking x)) (h, refl, (refl, refl))
+
+  pub fetched : (m m' : State) (t t' : T) (digest : Digest) (r : Result (Option Bytes) Stop) → m' ≡ m → ((x : Result Bytes TransportError) × answers t (get digest) x t' × (r ≡ block_in x)) → Went answers (point m t (Fetch digest)) (point m' t' (taking r)) []
+  fetched m m' t t' digest r same (x, h, is) = went_one (point m t (Fetch digest)) (Sends (get digest) x) (point m' t' (taking r)) (h, same, (refl, ap taking is))
+
+  pub took : (m m' : State) (t : T) (block : Option Bytes) (x : Result Asks ClientError) → Leads m (Takes block x) m' → Went answers (point m t (Take block)) (point m' t (checking x)) []
+  took m m' t block x h = went_one (point m t (Take block)) (Calls (Takes block x)) (point m' t (checking x)) (h, refl, (refl, refl))
+
+  pub put : (m m' : State) (t t' : T) (text : Bytes) (texts : List Bytes) (r : Result Bytes Stop) → m' ≡ m → ((x : Result Bytes TransportError) × answers t (put_of text) x t' × (r ≡ payload_in x)) → Went answers (point m t (Store (text ∷ texts))) (point m' t' (storing texts r)) []
+  put m m' t t' text texts r same (x, h, is) = went_one (point m t (Store (text ∷ texts))) (Sends (put_of text) x) (point m' t' (storing texts r)) (h, same, (refl, ap (storing texts) is))
+
+  pub signed : (m m' : State) (t : T) (x : Result Bytes ClientError) (lost : List ℕ) → Leads m (Signs x lost) m' → Went answers (point m t (Store [])) (point m' t (committing x)) (signs (signed_by x lost))
+  signed m m' t x lost h = went_one (point m t (Store [])) (Calls (Signs x lost)) (point m' t (committing x)) (h, refl, refl)
+
+  pub sent : (m m' : State) (t t' : T) (text : Bytes) (r : Result Status Stop) → m' ≡ m → ((x : Result Bytes TransportError) × answers t (commit text) x t' × (r ≡ status_in x)) → Went answers (point m t (Commit text)) (point m' t' (telling r)) []
+  sent m m' t t' text r same (x, h, is) = went_one (point m t (Commit text)) (Sends (commit text) x) (point m' t' (telling r)) (h, same, (refl, ap telling is))
+
+  pub told : (m m' : State) (t : T) (status : Status) → Leads m (Commits status) m' → Went answers (point m t (Tell status)) (point m' t (committed status)) []
+  told m m' t status h = went_one (point m t (Tell status)) (Calls (Commits status)) (point m' t (committed status)) (h, refl, (refl, refl))
+
+  pub looked : (m m' : State) (t : T) (q : Question) (x : Result Sees ClientError) → Leads m (Looks q x) m' → Went answers (point m t (Ready [])) (point m' t (looking q x)) (looks (seen_by q x))
+  looked m m' t q x h = went_one (point m t (Ready [])) (Calls (Looks q x)) (point m' t (looking q x)) (h, refl, (refl, refl))
+
+  pub fetched_at : (m m' : State) (t t' : T) (q : Question) (digest : Digest) (r : Result (Option Bytes) Stop) → m' ≡ m → ((x : Result Bytes TransportError) × answers t (get digest) x t' × (r ≡ block_in x)) → Went answers (point m t (FetchAt q digest)) (point m' t' (giving q r)) []
+  fetched_at m m' t t' q digest r same (x, h, is) = went_one (point m t (FetchAt q digest)) (Sends (get digest) x) (point m' t' (giving q r)) (h, same, (refl, ap (giving q) is))
+
+  pub gave : (m m' : State) (t : T) (q : Question) (block : Option Bytes) (x : Result Sees ClientError) → Leads m (Gives q block x) m' → Went answers (point m t (GiveAt q block)) (point m' t (looking q x)) (looks (seen_by q x))
+  gave m m' t q block x h = went_one (point m t (GiveAt q block)) (Calls (Gives q block x)) (point m' t (looking q x)) (h, refl, (refl, refl, refl))
+
+  -- memory runs out where nothing is under way, or before a commit
+  pub lacks : (m : State) (t : T) (e : Stop) → e ≡ stop.Memory → Went answers (point m t (Ready [])) (point m t (Over e)) []
+  lacks m t e is = went_one (point m t (Ready [])) Lacks (point m t (Over e)) (refl, refl, ap Over is)
+
+  pub lacks_before : (m : State) (t : T) (text : Bytes) (e : Stop) → e ≡ stop.Memory → Went answers (point m t (Commit text)) (point m t (Over e)) []
+  lacks_before m t text e is = went_one (point m t (Commit text)) Lacks (point m t (Over e)) (refl, refl, ap Over is)

@@ -1,0 +1,48 @@
+use Rattle.std.proofs.Common.{[], ◌∷◌, refl}
+use Rattle.update_cert.specs.Change.{AddUser, AddMember, DropMember, of_table}
+use Rattle.commands.specs.Asked.{Writes}
+use Rattle.file_session.proofs.Choices.{of_add_member, of_add_user, of_cat, of_drop_member, of_link, of_link_not, of_ls, of_mkdir, of_put, of_rm, planned_as, planned_by, planned_now}
+use Rattle.file_session.proofs.Looks.{quiet}
+use Rattle.file_session.proofs.Runs.{went_none}
+use Rattle.file_session.proofs.conversation.Conversation.plan.Goals as goal
+
+pub returns-in-Ls-clause-planned : goal.returns-in-Ls-clause-planned
+returns-in-Ls-clause-planned g c = planned_as _ _ (λ tree. of_ls c.args.user _ c.in-Ls.path tree c.in-Ls.is) c.list.ensures.planned
+
+pub returns-in-Cat-clause-planned : goal.returns-in-Cat-clause-planned
+returns-in-Cat-clause-planned g c = planned_as _ _ (λ tree. of_cat c.args.user _ c.in-Cat.path tree c.in-Cat.is) c.read.ensures.planned
+
+pub returns-in-Put-clause-planned : goal.returns-in-Put-clause-planned
+returns-in-Put-clause-planned g c = planned_as _ _ (λ tree. of_put c.args.user _ c.in-Put.path c.in-Put.content tree c.in-Put.is) c.put.ensures.planned
+
+pub returns-in-Mkdir-clause-planned : goal.returns-in-Mkdir-clause-planned
+returns-in-Mkdir-clause-planned g c = planned_as _ _ (λ tree. of_mkdir c.args.user _ c.in-Mkdir.path tree c.in-Mkdir.is) c.make.ensures.planned
+
+pub returns-in-Rm-clause-planned : goal.returns-in-Rm-clause-planned
+returns-in-Rm-clause-planned g c = planned_as _ _ (λ tree. of_rm c.args.user _ c.in-Rm.path tree c.in-Rm.is) (c.remove.ensures.planned c.args.user)
+
+pub returns-in-Some-clause-planned : goal.returns-in-Some-clause-planned
+returns-in-Some-clause-planned g c =
+    planned_as _ _ (λ tree. of_link c.args.user _ c.in-Link.path c.in-Link.target tree _ c.in-Some.target c.in-Link.is c.place_of.ensures c.in-Some.is) (c.link.ensures.planned c.args.user)
+
+pub returns-in-None-clause-planned : goal.returns-in-None-clause-planned
+returns-in-None-clause-planned g c =
+    planned_now _ _ _ (quiet _ (went_none _) (λ tree. of_link_not c.args.user _ c.in-Link.path c.in-Link.target tree _ c.in-Link.is c.place_of.ensures c.in-None.is)) c.refused.ensures.plan c.refused.ensures.can_begin
+
+pub returns-in-AddUser-clause-planned : goal.returns-in-AddUser-clause-planned
+returns-in-AddUser-clause-planned g c =
+    let e = c.plan_of_table.ensures in
+    planned_by _ (Writes (of_table (AddUser c.in-AddUser.user c.in-AddUser.key) ∷ [])) c.plan_of_table.result (quiet _ (went_none _) (λ tree. of_add_user c.args.user c.in-AddUser.user _ c.in-AddUser.key tree c.in-AddUser.is))
+    (e.plan (of_table (AddUser c.in-AddUser.user c.in-AddUser.key)) refl refl) e.can_begin e.memory
+
+pub returns-in-AddMember-clause-planned : goal.returns-in-AddMember-clause-planned
+returns-in-AddMember-clause-planned g c =
+    let e = c.plan_of_table-in-AddMember.ensures in
+    planned_by _ (Writes (of_table (AddMember c.in-AddMember.group c.in-AddMember.user) ∷ [])) c.plan_of_table-in-AddMember.result (quiet _ (went_none _) (λ tree. of_add_member c.args.user c.in-AddMember.user c.in-AddMember.group _ tree c.in-AddMember.is))
+    (e.plan (of_table (AddMember c.in-AddMember.group c.in-AddMember.user)) refl refl) e.can_begin e.memory
+
+pub returns-in-DropMember-clause-planned : goal.returns-in-DropMember-clause-planned
+returns-in-DropMember-clause-planned g c =
+    let e = c.plan_of_table-in-DropMember.ensures in
+    planned_by _ (Writes (of_table (DropMember c.in-DropMember.group c.in-DropMember.user) ∷ [])) c.plan_of_table-in-DropMember.result (quiet _ (went_none _) (λ tree. of_drop_member c.args.user c.in-DropMember.user c.in-DropMember.group _ tree c.in-DropMember.is))
+    (e.plan (of_table (DropMember c.in-DropMember.group c.in-DropMember.user)) refl refl) e.can_begin e.memory

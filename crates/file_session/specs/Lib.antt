@@ -1,0 +1,9 @@
+pub mod Replies
+pub mod Declaring
+pub mod Calls
+pub mod Order
+pub mod Went
+pub mod Given
+pub mod Waits
+pub mod Sessions
+pub mod Parts

@@ -1,0 +1,166 @@
+-- The order of an operation: what has to come next in a session, and what may come of each move.
+use Rattle.std.specs.Prelude.{◌≡◌, ℕ, List, [], ◌∷◌, ◌++◌, map, Option, Result, Ok, Err}
+use Rattle.std.specs.Vec.{vec_items}
+use Rattle.std.specs.declared.vec.Vec.{Vec}
+use Rattle.layout.specs.Types.{Bytes, Digest}
+use Rattle.client_tree.specs.declared.questions.Question.{Question}
+use Rattle.wire.specs.declared.kinds.RequestKind.TheVariants as kind
+use Rattle.wire.specs.declared.kinds.Status.{Status}
+use Rattle.wire.specs.declared.kinds.Status.TheVariants as status
+use Rattle.client_releases.specs.declared.error.ClientError.{ClientError}
+use Rattle.client_releases.specs.declared.error.ClientError.TheVariants as error
+use Rattle.client_releases.specs.declared.phase.Phase.{Phase}
+use Rattle.client_releases.specs.declared.phase.Phase.TheVariants as phase
+use Rattle.client_verify.specs.declared.look.Look.TheVariants as look
+use Rattle.client_verify.specs.declared.step.Step.TheVariants as step
+use Rattle.client_steps.specs.Steps.{Asks, Sees}
+use Rattle.file_session.specs.declared.stop.Stop.{Stop}
+use Rattle.file_session.specs.declared.stop.Stop.TheVariants as stop
+use Rattle.transport.specs.declared.transport.TransportError.{TransportError}
+use Rattle.transport.specs.Asked.{Asked}
+use Rattle.file_session.specs.Replies.{payload_in, block_in, status_in}
+use Rattle.file_session.specs.Calls.{Call, Begins, Hears, Takes, Signs, Commits, Looks, Gives}
+
+-- a call of the client, an exchange, or that the session itself is refused memory
+pub data Move : Type 0 where
+  Calls : Call → Move
+  Sends : Asked → Result Bytes TransportError → Move
+  Lacks : Move
+
+-- ---- what has to come next
+
+pub data Next : Type 0 where
+  -- nothing is under way: an operation may begin for which these texts were stored, or a look where there are none
+  Ready : List Bytes → Next
+  -- the certificate is to be sent, and its reply handed in
+  Update : Bytes → Next
+  Hear : Bytes → Next
+  -- the block is to be asked for, and handed in
+  Fetch : Digest → Next
+  Take : Option Bytes → Next
+  -- these texts are to be stored, and then the structure signed
+  Store : List Bytes → Next
+  -- the structure is to be sent, and the status handed in
+  Commit : Bytes → Next
+  Tell : Status → Next
+  -- the block is to be asked for by a look, and handed in
+  FetchAt : Question → Digest → Next
+  GiveAt : Question → Option Bytes → Next
+  -- the client, the server or the transport refused, and nothing comes any more
+  Over : Stop → Next
+
+abbrev pub laying : List Bytes → Bytes → Result Bytes Stop → Next
+laying laid text (Ok digest) = Ready (laid ++ text ∷ [])
+laying laid text (Err e) = Over e
+
+abbrev pub declaring : Result Bytes ClientError → Next
+declaring (Ok text) = Update text
+declaring (Err e) = Over (stop.Client e)
+
+abbrev pub hearing : Result Bytes Stop → Next
+hearing (Ok text) = Hear text
+hearing (Err e) = Over e
+
+-- texts in memory
+abbrev pub texts_of : {A : Type 0} → Vec (Vec ℕ A) A → List Bytes
+texts_of texts = map vec_items texts.items
+
+abbrev pub checking : Result Asks ClientError → Next
+checking (Ok (step.Need digest)) = Fetch digest
+checking (Ok (step.Store texts)) = Store (texts_of texts)
+checking (Ok (step.Broken rule)) = Over (stop.Broken rule)
+checking (Err e) = Over (stop.Client e)
+
+abbrev pub taking : Result (Option Bytes) Stop → Next
+taking (Ok block) = Take block
+taking (Err e) = Over e
+
+abbrev pub storing : List Bytes → Result Bytes Stop → Next
+storing texts (Ok digest) = Store texts
+storing texts (Err e) = Over e
+
+abbrev pub committing : Result Bytes ClientError → Next
+committing (Ok text) = Commit text
+committing (Err e) = Over (stop.Client e)
+
+abbrev pub telling : Result Status Stop → Next
+telling (Ok told) = Tell told
+telling (Err e) = Over e
+
+abbrev pub committed : Status → Next
+committed status.Ok = Ready []
+committed other = Over (stop.Declined other)
+
+abbrev pub looking : Question → Result Sees ClientError → Next
+looking q (Ok (look.Need digest)) = FetchAt q digest
+looking q (Ok (look.Broken rule)) = Over (stop.Broken rule)
+looking q (Ok told) = Ready []
+looking q (Err e) = Over (stop.Client e)
+
+abbrev pub giving : Question → Result (Option Bytes) Stop → Next
+giving q (Ok block) = GiveAt q block
+giving q (Err e) = Over e
+
+abbrev pub put : Bytes → Asked
+put text = record { kind = kind.Put; payload = text }
+
+abbrev pub update : Bytes → Asked
+update text = record { kind = kind.Update; payload = text }
+
+abbrev pub get : Digest → Asked
+get digest = record { kind = kind.Get; payload = digest }
+
+abbrev pub commit : Bytes → Asked
+commit text = record { kind = kind.Commit; payload = text }
+
+-- what may be asked where an operation may begin: that a text be stored
+abbrev pub FollowsStored : List Bytes → Asked → Result Bytes TransportError → Next → Type 0
+FollowsStored laid r x next = (r ≡ put r.payload) × (next ≡ laying laid r.payload (payload_in x))
+
+-- From what has to come next, this move, and what has to come then. The session itself needs memory where it plans an
+-- operation, and for the numbers of the changes that a view loses, before that is committed.
+abbrev pub Follows : Next → Move → Next → Type 0
+Follows (Over e) move next = ⊥
+Follows (Ready laid) (Sends r x) next = FollowsStored laid r x next
+Follows (Ready laid) (Calls (Begins changes texts x)) next = (texts ≡ laid) × (next ≡ declaring x)
+Follows (Ready laid) (Calls (Looks q x)) next = (laid ≡ []) × (next ≡ looking q x)
+Follows (Ready []) Lacks next = next ≡ Over stop.Memory
+Follows (Update text) (Sends r x) next = (r ≡ update text) × (next ≡ hearing (payload_in x))
+Follows (Hear text) (Calls (Hears reply x)) next = (reply ≡ text) × (next ≡ checking x)
+Follows (Fetch digest) (Sends r x) next = (r ≡ get digest) × (next ≡ taking (block_in x))
+Follows (Take block) (Calls (Takes handed x)) next = (handed ≡ block) × (next ≡ checking x)
+Follows (Store (text ∷ texts)) (Sends r x) next = (r ≡ put text) × (next ≡ storing texts (payload_in x))
+Follows (Store []) (Calls (Signs x lost)) next = next ≡ committing x
+Follows (Commit text) (Sends r x) next = (r ≡ commit text) × (next ≡ telling (status_in x))
+Follows (Commit text) Lacks next = next ≡ Over stop.Memory
+Follows (Tell told) (Calls (Commits handed)) next = (handed ≡ told) × (next ≡ committed told)
+Follows (FetchAt q digest) (Sends r x) next = (r ≡ get digest) × (next ≡ giving q (block_in x))
+Follows (GiveAt q block) (Calls (Gives p handed x)) next = (p ≡ q) × (handed ≡ block) × (next ≡ looking q x)
+Follows now move next = ⊥
+
+-- ---- where a session begins and ends
+
+-- what was declared or signed before is finished first, and a client that failed does nothing
+abbrev pub resuming : Phase → Bytes → Next
+resuming phase.Idle text = Ready []
+resuming phase.Declared text = Update text
+resuming phase.Signed text = Commit text
+resuming phase.Failed text = Over (stop.Client error.Device)
+
+abbrev pub ready_or : {X : Type 0} → Result X Stop → Next
+ready_or (Ok x) = Ready []
+ready_or (Err e) = Over e
+
+-- texts that were stored for an operation
+abbrev pub laid_or : {X : Type 0} → List Bytes → Result X Stop → Next
+laid_or laid (Ok x) = Ready laid
+laid_or laid (Err e) = Over e
+
+-- texts that are to be stored, and where they were
+abbrev pub stores_or : {A : Type 0} → Result (Vec (Vec ℕ A) A) Stop → Next
+stores_or (Ok texts) = Store (texts_of texts)
+stores_or (Err e) = Over e
+
+abbrev pub stored_or : Result (Unit {0}) Stop → Next
+stored_or (Ok x) = Store []
+stored_or (Err e) = Over e

@@ -1,0 +1,121 @@
+-- What a session promises.
+use Rattle.std.specs.Prelude.{◌≡◌, ◌⊎◌, ℕ, List, [], ◌∷◌, ◌++◌, Option, Some, None, Result, Ok, Err}
+use Rattle.layout.specs.Types.{Bytes, Digest, User, Version}
+use Rattle.update_cert.specs.Change.{Change}
+use Rattle.update_cert.specs.World.{Content, Tree}
+use Rattle.client_releases.specs.declared.error.ClientError.{ClientError}
+use Rattle.client_releases.specs.declared.error.ClientError.TheVariants as error
+use Rattle.client_releases.specs.declared.phase.Phase.{Phase}
+use Rattle.client_releases.specs.declared.phase.Phase.TheVariants as phase
+use Rattle.client_verify.specs.State.{State}
+use Rattle.commands.specs.Answers.{Answer, Broken, Declined, Refused}
+use Rattle.commands.specs.Asked.{Tells, Writes, outcome, told_of_lost}
+use Rattle.commands.specs.declared.answer.Refusal.{Refusal}
+use Rattle.commands.specs.declared.answer.Refusal.TheVariants as refusal
+use Rattle.commands.specs.declared.command.Command.{Command}
+use Rattle.file_session.specs.declared.stop.Stop.{Stop}
+use Rattle.file_session.specs.declared.stop.Stop.TheVariants as stop
+use Rattle.file_session.specs.Declaring.{all_declared, all_texts}
+use Rattle.file_session.specs.Given.{IsGiven}
+use Rattle.file_session.specs.Order.{Move, ready_or, resuming}
+use Rattle.file_session.specs.Went.{Agrees, Answering, Event, Begun, Seen, Signed, events, looks, Moves, point, signs}
+
+-- ---- what was finished first
+
+-- a declared operation that was finished: its number, and the numbers of its changes that had no effect
+pub record Resumed : Type 0 where
+  pub number : Version
+  pub lost : List ℕ
+
+-- It was declared, and finished with these void changes; or none was declared.
+abbrev pub IsFinished : State → List (List ℕ) → Option Resumed → Type 0
+IsFinished s signed None = (signed ≡ []) × (s.phase ≡ phase.Declared → ⊥)
+IsFinished s signed (Some r) = (s.phase ≡ phase.Declared) × (r.number ≡ s.number) × (signed ≡ r.lost ∷ [])
+
+abbrev pub IsStopped : {X : Type 0} → Result X Stop → Type 0
+IsStopped (Ok x) = ⊥
+IsStopped (Err e) = Unit {0}
+
+-- Where the command's own operations were reached, it was finished before them; else something stopped the session.
+abbrev pub IsResumed : {X : Type 0} → State → List (List ℕ) → List Event → Result X Stop → Option Resumed → Type 0
+IsResumed s signed [] result resumed = IsStopped result × (resumed ≡ None)
+IsResumed s signed (e ∷ es) result resumed = IsFinished s signed resumed
+
+-- ---- the write
+
+-- what tells of an operation: with its view signed and committed, the changes that it lost
+abbrev pub IsWritten : List Event → Result Answer Stop → Type 0
+IsWritten es (Ok answer) = (lost : List ℕ) × (es ≡ Signed lost ∷ []) × (answer ≡ told_of_lost lost)
+IsWritten es (Err e) = (signed : List (List ℕ)) × (es ≡ signs signed)
+
+-- these changes are what the command asks for in each tree that agrees with the looks
+pub record IsAsked (u : User) (c : Command) (seen : List Seen) (changes : List (Change Digest)) (laid : List Bytes)
+    : Type 0 where
+  pub wanted : List (Change Content)
+  pub asked : (tree : Tree) → Agrees tree seen → outcome u c tree ≡ Writes wanted
+  pub changes_are : changes ≡ all_declared wanted
+  pub laid_are : laid ≡ all_texts wanted
+
+-- After these looks: the answer is the one that is told in each tree that agrees with them; or the operation that is
+-- asked for was begun, for which its texts were stored; or something stopped the session.
+abbrev pub IsDone : User → Command → List Seen → List Event → Result Answer Stop → Type 0
+IsDone u c seen [] (Ok answer) = (tree : Tree) → Agrees tree seen → outcome u c tree ≡ Tells answer
+IsDone u c seen [] (Err e) = Unit {0}
+IsDone u c seen (Begun changes laid ∷ es) result = IsAsked u c seen changes laid × IsWritten es result
+IsDone u c seen other result = ⊥
+
+-- first a look, an operation without changes; then looks in its view; then the write that they ask for, if they do
+pub record IsCarriedOut (u : User) (c : Command) (es : List Event) (result : Result Answer Stop) : Type 0 where
+  pub signed : List (List ℕ)
+  pub seen : List Seen
+  pub written : List Event
+  pub order : es ≡ Begun [] [] ∷ (signs signed ++ (looks seen ++ written))
+  -- the look was stopped, or it has its view
+  pub done : ((seen ≡ []) × (written ≡ []) × IsStopped result)
+      ⊎ ((lost : List ℕ) × (signed ≡ lost ∷ []) × IsDone u c seen written result)
+
+abbrev pub IsCommand : User → Command → List Event → Result Answer Stop → Type 0
+IsCommand u c [] result = Unit {0}
+IsCommand u c (e ∷ es) result = IsCarriedOut u c (e ∷ es) result
+
+-- ---- what is told
+
+abbrev pub refused_by : ClientError → Refusal
+refused_by error.Memory = refusal.Memory
+refused_by error.NoLeaf = refusal.NoLeaf
+refused_by error.Device = refusal.Device
+refused_by error.NoNumber = refusal.NoNumber
+refused_by error.Foreign = refusal.Foreign
+refused_by error.Damaged = refusal.Damaged
+
+-- of what stopped a session
+abbrev pub stopped_by : Stop → Answer
+stopped_by (stop.Client e) = Refused (refused_by e)
+stopped_by (stop.Broken rule) = Broken rule
+stopped_by (stop.Declined status) = Declined status
+stopped_by stop.Cut = Refused refusal.Cut
+stopped_by stop.Memory = Refused refusal.Memory
+
+abbrev pub answered : Result Answer Stop → Answer
+answered (Ok answer) = answer
+answered (Err e) = stopped_by e
+
+-- What stopped the session is what the last move gave; a client that has failed does nothing.
+abbrev pub IsGivenFrom : {X : Type 0} → Phase → List Move → Result X Stop → Type 0
+IsGivenFrom phase.Failed moves result = moves ≡ []
+IsGivenFrom other moves result = IsGiven moves result
+
+-- ---- a session
+
+-- A session carries out a command: by moves of its client and its transport, in the order of operations, what was
+-- declared or signed before is finished first, and then the command is carried out.
+pub record Ran {T : Type 0} (answers : Answering T) (s : State) (t : T) (u : User) (c : Command) (new : State) (t' : T)
+    (resumed : Option Resumed) (result : Result Answer Stop) : Type 0 where
+  pub moves : List Move
+  pub signed : List (List ℕ)
+  pub es : List Event
+  pub run : Moves answers (point s t (resuming s.phase s.text)) moves (point new t' (ready_or result))
+  pub order : events moves ≡ signs signed ++ es
+  pub finished : IsResumed s signed es result resumed
+  pub carried : IsCommand u c es result
+  pub given : IsGivenFrom s.phase moves result

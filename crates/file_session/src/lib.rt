@@ -1,0 +1,23 @@
+//! Sessions: a command of a user, carried out over a client of a server that nobody trusts, and any transport to it.
+#![tactic(auto)]
+
+mod calls;
+mod choosing;
+mod conversation;
+mod exchanging;
+mod finishing;
+mod judging;
+mod looking;
+mod operation;
+mod planning;
+mod resumed;
+mod session;
+mod site;
+mod stop;
+mod texts;
+mod turn;
+mod walking;
+
+pub use resumed::Resumed;
+pub use session::Session;
+pub use stop::Stop;

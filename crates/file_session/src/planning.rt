@@ -1,0 +1,225 @@
+//! The changes of an operation, and the texts that are stored for it.
+
+ghost use Rattle.std.specs.Prelude.{◌≡◌, ◌∷◌, [], IfErr, IfOk, Some, true};
+ghost use Rattle.directory.specs.Name.{is_name};
+ghost use Rattle.update_cert.specs.Change.{Change as AnyChange, of_table, table_action_of};
+ghost use Rattle.update_cert.specs.World.{Content, File};
+ghost use Rattle.client_verify.specs.Laid.{is_laid};
+ghost use Rattle.commands.specs.Answers.{Refused};
+ghost use Rattle.commands.specs.Asked.{Outcome, Tells, Writes, makes_named, outcome_of};
+ghost use Rattle.commands.specs.Names.{IsNamedCourse};
+ghost use Rattle.file_session.specs.Declaring.{declared, texts_for};
+ghost use Rattle.file_session.specs.Parts.{CanBegin, IsOf, IsPlanOf, IsSmall, bytes_of, content_of, makes_at, puts_at};
+ghost use Rattle.file_session.specs.Parts.{unlinks_and_removes};
+
+use crate::stop::Stop;
+use crate::texts::{New, Prepared, at, link, prepare, unlink};
+use commands::{Answer, Course, Refusal};
+use directory::Target;
+use layout::{INumber, Memory};
+use std::alloc::Allocator;
+use update_cert::{Action, Change, TableChange};
+
+/// The changes of an operation, and the texts that are stored for it.
+#[derive(Drop)]
+pub(crate) struct Operation<A: Allocator> {
+    /// The changes.
+    pub(crate) changes: Vec<Change<A>, A>,
+    /// The texts.
+    pub(crate) texts: Vec<Vec<u8, A>, A>,
+}
+
+/// What a command comes to.
+#[derive(Drop)]
+pub(crate) enum Plan<A: Allocator> {
+    /// An answer at once.
+    Tells(Answer<A>),
+    /// An operation.
+    Writes(Operation<A>),
+}
+
+/// A refusal.
+pub(crate) fn refused<A: Allocator>(why: Refusal) -> Plan<A>
+    ensures plan { IsPlanOf (Tells (Refused why)) result }
+    ensures can_begin { CanBegin result }
+{
+    Plan::Tells(Answer::Refused(why))
+}
+
+/// An operation of this change, for which nothing is stored.
+fn one<A: Allocator + Copy>(alloc: A, change: Change<A>) -> Result<Plan<A>, Memory>
+    requires { is_laid [] change.action ≡ true }
+    ensures can_begin { IfOk result CanBegin }
+    ensures plan { (wanted : AnyChange Content) → declared wanted ≡ change → texts_for wanted.action ≡ []
+        → IfOk result (IsPlanOf (Writes (wanted ∷ []))) }
+{
+    let mut changes = Vec::new(alloc);
+    changes.push(change)?;
+    Ok(Plan::Writes(Operation {
+        changes,
+        texts: Vec::new(alloc),
+    }))
+}
+
+/// A change of the table of principals.
+fn of_table<A: Allocator + Copy>(alloc: A, change: TableChange) -> Result<Plan<A>, Memory>
+    ensures can_begin { IfOk result CanBegin }
+    ensures plan { (wanted : AnyChange Content) → declared wanted ≡ of_table (table_action_of change)
+        → texts_for wanted.action ≡ [] → IfOk result (IsPlanOf (Writes (wanted ∷ []))) }
+{
+    one(alloc, Change::of_table(change))
+}
+
+/// What is put in the place of a file.
+fn put<A: Allocator + Copy>(alloc: A, bytes: &[u8], target: Target) -> Result<Plan<A>, Memory>
+    requires { IsSmall bytes.now }
+    ensures plan { IfOk result (IsPlanOf (puts_at target (File bytes.now))) }
+    ensures can_begin { IfOk result CanBegin }
+{
+    let Prepared { named, texts } = prepare(alloc, New::File(bytes))?;
+    let mut changes = Vec::new(alloc);
+    changes.push(at(target, Action::Put(named)))?;
+    Ok(Plan::Writes(Operation { changes, texts }))
+}
+
+/// What is made at an i-number, without a name.
+fn make<A: Allocator + Copy>(alloc: A, new: New<'_>, target: Target) -> Result<Plan<A>, Memory>
+    requires { IsSmall (bytes_of new) }
+    ensures plan { IfOk result (IsPlanOf (makes_at target (content_of new.entry))) }
+    ensures can_begin { IfOk result CanBegin }
+{
+    let Prepared { named, texts } = prepare(alloc, new)?;
+    let mut changes = Vec::new(alloc);
+    changes.push(at(target, Action::Make(named)))?;
+    Ok(Plan::Writes(Operation { changes, texts }))
+}
+
+/// What is made at an i-number of the directory's principal, and linked there.
+fn make_named<A: Allocator + Copy>(
+    alloc: A,
+    new: New<'_>,
+    directory: Target,
+    name: &str,
+    i_number: INumber,
+) -> Result<Plan<A>, Memory>
+    requires small { IsSmall (bytes_of new) }
+    requires name { is_name name.now ≡ true }
+    ensures plan { IfOk result (IsPlanOf (makes_named directory name.now (content_of new.entry) (Some i_number))) }
+    ensures can_begin { IfOk result CanBegin }
+{
+    let Prepared { named, texts } = prepare(alloc, new)?;
+    let target = Target {
+        principal: directory.principal,
+        i_number,
+    };
+    let mut changes = Vec::new(alloc);
+    changes.push(at(target, Action::Make(named)))?;
+    changes.push(link(alloc, directory, name, target)?)?;
+    Ok(Plan::Writes(Operation { changes, texts }))
+}
+
+/// What a name stands for is taken away with it.
+fn unlink_and_remove<A: Allocator + Copy>(
+    alloc: A,
+    directory: Target,
+    name: &str,
+    target: Target,
+) -> Result<Plan<A>, Memory>
+    requires { is_name name.now ≡ true }
+    ensures plan { IfOk result (IsPlanOf (unlinks_and_removes directory name.now target)) }
+    ensures can_begin { IfOk result CanBegin }
+{
+    let mut changes = Vec::new(alloc);
+    changes.push(unlink(alloc, directory, name)?)?;
+    changes.push(at(target, Action::Remove))?;
+    Ok(Plan::Writes(Operation {
+        changes,
+        texts: Vec::new(alloc),
+    }))
+}
+
+/// What a course comes to, with this as what is put or made.
+fn plan_course<A: Allocator + Copy>(
+    alloc: A,
+    new: New<'_>,
+    course: &Course<'_>,
+) -> Result<Plan<A>, Memory>
+    requires small { IsSmall (bytes_of new) }
+    requires named { IsNamedCourse course.now }
+    requires file { IsOf new course.now }
+    ensures plan { IfOk result (IsPlanOf (outcome_of (content_of new.entry) course.now)) }
+    ensures can_begin { IfOk result CanBegin }
+{
+    match course {
+        Course::Refuse(why) => Ok(refused(*why)),
+        Course::Put(target) => match new {
+            New::File(bytes) => put(alloc, bytes, *target),
+            New::Directory => unreachable!(),
+        },
+        Course::Make(target) => make(alloc, new, *target),
+        Course::MakeNamed {
+            directory,
+            name,
+            i_number,
+        } => make_named(alloc, new, *directory, name, *i_number),
+        Course::Remove(target) => one(alloc, at(*target, Action::Remove)),
+        Course::Unlink { directory, name } => {
+            let change = unlink(alloc, *directory, name)?;
+            one(alloc, change)
+        }
+        Course::UnlinkAndRemove {
+            directory,
+            name,
+            target,
+        } => unlink_and_remove(alloc, *directory, name, *target),
+        Course::Link {
+            directory,
+            name,
+            target,
+        } => {
+            let change = link(alloc, *directory, name, *target)?;
+            one(alloc, change)
+        }
+    }
+}
+
+/// What is planned, if memory doesn't run out.
+fn or_stop<A: Allocator>(planned: Result<Plan<A>, Memory>) -> Result<Plan<A>, Stop>
+    ensures plan { (outcome : Outcome) → IfOk planned (IsPlanOf outcome) → IfOk result (IsPlanOf outcome) }
+    ensures can_begin { IfOk planned CanBegin → IfOk result CanBegin }
+    ensures memory { IfErr result (λ e. e ≡ Stop.Memory) }
+{
+    match planned {
+        Ok(plan) => Ok(plan),
+        Err(Memory) => Err(Stop::Memory),
+    }
+}
+
+/// What a course comes to, if memory doesn't run out.
+pub(crate) fn plan_of<A: Allocator + Copy>(
+    alloc: A,
+    new: New<'_>,
+    course: &Course<'_>,
+) -> Result<Plan<A>, Stop>
+    requires small { IsSmall (bytes_of new) }
+    requires named { IsNamedCourse course.now }
+    requires file { IsOf new course.now }
+    ensures plan { IfOk result (IsPlanOf (outcome_of (content_of new.entry) course.now)) }
+    ensures can_begin { IfOk result CanBegin }
+    ensures memory { IfErr result (λ e. e ≡ Stop.Memory) }
+{
+    or_stop(plan_course(alloc, new, course))
+}
+
+/// An operation of this change of the table of principals, if memory doesn't run out.
+pub(crate) fn plan_of_table<A: Allocator + Copy>(
+    alloc: A,
+    change: TableChange,
+) -> Result<Plan<A>, Stop>
+    ensures can_begin { IfOk result CanBegin }
+    ensures plan { (wanted : AnyChange Content) → declared wanted ≡ of_table (table_action_of change)
+        → texts_for wanted.action ≡ [] → IfOk result (IsPlanOf (Writes (wanted ∷ []))) }
+    ensures memory { IfErr result (λ e. e ≡ Stop.Memory) }
+{
+    or_stop(of_table(alloc, change))
+}
