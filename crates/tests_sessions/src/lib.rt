@@ -1,0 +1,24 @@
+//! Tests of sessions: commands by their words, over a server in memory; what a server that lies comes to; how many
+//! exchanges a command has; and a session that is stopped at each of them.
+#![tactic(auto)]
+
+#[cfg(test)]
+mod answers_of_servers;
+#[cfg(test)]
+mod by_words;
+#[cfg(test)]
+mod costs;
+#[cfg(test)]
+mod files;
+#[cfg(test)]
+mod here;
+#[cfg(test)]
+mod limits;
+#[cfg(test)]
+mod memory;
+#[cfg(test)]
+mod stopped;
+#[cfg(test)]
+mod town;
+#[cfg(test)]
+mod words;

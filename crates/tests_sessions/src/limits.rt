@@ -1,0 +1,43 @@
+//! The largest file that is put, and one byte more.
+
+use crate::files::blocks_of;
+use crate::here::Here;
+use crate::town::{Town, town_of_one};
+use crate::words::{ends, run_of_0};
+use tests_aids::texts::joined;
+use tests_aids::{Aided, check, check_text, given};
+
+/// So many blocks of 4,096 bytes has the largest file.
+const MOST: u16 = 1024;
+
+/// What user 0's ledger and its journal hold.
+fn devices_of_0(rt: &impl Aided, town: &Town) -> Vec<u8> {
+    let home = town.home(rt, 0);
+    joined(rt, &[home.ledger.text(), home.journal.text()])
+}
+
+#[test]
+fn the_largest_file_is_put(rt: HostRuntime) {
+    let rt = (rt, Here);
+    let mut town = town_of_one(&rt);
+    let file = blocks_of(&rt, MOST);
+    let outcome = run_of_0(&rt, &mut town, "put /f FILE", &file);
+    ends(&rt, &outcome, "put", 0, "done|");
+}
+
+#[test]
+fn a_larger_file_is_refused_at_once(rt: HostRuntime) {
+    let rt = (rt, Here);
+    let mut town = town_of_one(&rt);
+    let outcome = run_of_0(&rt, &mut town, "put /f FILE", b"hello");
+    ends(&rt, &outcome, "put", 0, "done|");
+    let before = devices_of_0(&rt, &town);
+    let mut file = blocks_of(&rt, MOST);
+    given(&rt, file.push(0), "memory");
+    let outcome = run_of_0(&rt, &mut town, "put /f FILE", &file);
+    ends(&rt, &outcome, "put", 4, "too large|");
+    check(&rt, outcome.sent.is_empty(), "nothing was sent");
+    check_text(&rt, &devices_of_0(&rt, &town), &before);
+    let outcome = run_of_0(&rt, &mut town, "put //f FILE", &file);
+    ends(&rt, &outcome, "put", 4, "no path|");
+}

@@ -1,0 +1,194 @@
+//! A server, and three users whose devices keep what their clients wrote. Each command is carried out by a process of
+//! its own: a client that is opened over what the user's devices kept.
+
+use crate::memory::{MemoryServer, Trouble};
+use commands::{Answer, Command};
+use consistency_server::{MemoryLog, Ordered};
+use file_session::{Resumed, Session};
+use layout::User;
+use leaf_ledger::MemoryDevice;
+use lms_sign::PublicKey;
+use std::alloc::Global;
+use tests_aids::texts::{joined, key_of};
+use tests_aids::{Aided, found, given};
+use tests_client_aids::clients::{Kept, MemoryClient, nothing_yet, open_over};
+use tests_client_aids::crashes::closed;
+use transport::Transport;
+use wire::RequestKind;
+
+/// A session of a user.
+type MemorySession<T> = Session<MemoryDevice<Global>, MemoryDevice<Global>, T, Global>;
+
+/// A server, and what the users 0 to 2 keep, where no process of theirs has it.
+#[derive(Drop)]
+pub(crate) struct Town {
+    pinned: PublicKey,
+    server: Option<MemoryServer>,
+    homes: [Option<Kept>; 3],
+}
+
+/// What a process ends with.
+#[derive(Drop)]
+pub(crate) struct Outcome {
+    /// What it prints of an operation that it finished first.
+    pub(crate) resumed: Vec<u8>,
+    /// What it prints of the answer.
+    pub(crate) printed: Vec<u8>,
+    /// Its status.
+    pub(crate) status: u8,
+    /// The kinds of the requests that it sent, where the server is in memory.
+    pub(crate) sent: Vec<RequestKind>,
+}
+
+/// A server at the beginning.
+fn server_of(rt: &impl Aided, pinned: PublicKey) -> MemoryServer {
+    let ordered = Ordered::genesis(rt.alloc(), pinned);
+    let log = given(rt, MemoryLog::new(rt.alloc()), "memory");
+    MemoryServer::new(rt.alloc(), ordered, log)
+}
+
+/// What a user keeps before its first process: a key, whose seed is its number.
+fn home(rt: &impl Aided, user: u8) -> Kept {
+    nothing_yet(rt, key_of(rt, user))
+}
+
+/// User 0 alone, before its first process.
+pub(crate) fn town_of_one(rt: &impl Aided) -> Town {
+    let zero = home(rt, 0);
+    let pinned = zero.key.public();
+    Town {
+        pinned,
+        server: Some(server_of(rt, pinned)),
+        homes: [Some(zero), None, None],
+    }
+}
+
+/// Users 0 to 2 before their first processes, of whom the server knows user 0.
+pub(crate) fn town_of_three(rt: &impl Aided) -> Town {
+    let mut town = town_of_one(rt);
+    town.come_home(1, home(rt, 1));
+    town.come_home(2, home(rt, 2));
+    town
+}
+
+/// What is printed of an operation that was finished first.
+fn resumed_text(rt: &impl Aided, resumed: Option<&Resumed<Global>>) -> Vec<u8> {
+    let Some(resumed) = resumed else {
+        return Vec::new(rt.alloc());
+    };
+    let number = resumed.number();
+    let line = given(rt, format!(in rt.alloc(); "resumed {number}"), "memory");
+    let mut text = joined(rt, &[line.as_bytes()]);
+    if !resumed.lost().is_empty() {
+        given(rt, text.extend_from_slice(b" lost"), "memory");
+    }
+    for change in resumed.lost() {
+        let change = given(rt, format!(in rt.alloc(); " {change}"), "memory");
+        given(rt, text.extend_from_slice(change.as_bytes()), "memory");
+    }
+    joined(rt, &[&text, b"\n"])
+}
+
+/// What is printed of an answer.
+fn answer_text(rt: &impl Aided, answer: &Answer<Global>) -> Vec<u8> {
+    let mut text: Vec<u8> = Vec::new(rt.alloc());
+    match answer.write(&mut text) {
+        Ok(()) => text,
+        Err(_) => rt.fail("it isn't written"),
+    }
+}
+
+/// Carries a command out: what is printed of it, and its status.
+fn carry_out<T: Transport<Global>>(
+    rt: &impl Aided,
+    session: &mut MemorySession<T>,
+    command: &Command<'_>,
+) -> (Vec<u8>, u8) {
+    let answer = session.run(command);
+    (answer_text(rt, &answer), answer.status())
+}
+
+/// A process that carries a command out over this client and transport: what it ends with.
+fn process<T: Transport<Global>>(
+    rt: &impl Aided,
+    client: MemoryClient,
+    transport: T,
+    command: &Command<'_>,
+) -> (Outcome, MemoryClient, T) {
+    let mut session = Session::new(rt.alloc(), client, transport);
+    let (printed, status) = carry_out(rt, &mut session, command);
+    let resumed = resumed_text(rt, session.resumed());
+    let (client, transport) = session.close();
+    let outcome = Outcome {
+        resumed,
+        printed,
+        status,
+        sent: Vec::new(rt.alloc()),
+    };
+    (outcome, client, transport)
+}
+
+impl Town {
+    /// The server, while no process has it.
+    pub(crate) fn server(&mut self, rt: &impl Aided) -> &mut MemoryServer {
+        found(rt, self.server.as_mut(), "the server")
+    }
+
+    /// From now on this is wrong with the server.
+    pub(crate) fn set(&mut self, rt: &impl Aided, trouble: Trouble) {
+        self.server(rt).set(trouble);
+    }
+
+    /// How often the way to the server failed.
+    pub(crate) fn faults(&mut self, rt: &impl Aided) -> u64 {
+        self.server(rt).faults()
+    }
+
+    /// What a user keeps, while no process of its has it.
+    pub(crate) fn home(&self, rt: &impl Aided, user: usize) -> &Kept {
+        match self.homes.get(user) {
+            Some(Some(kept)) => kept,
+            _ => rt.fail("none of these users"),
+        }
+    }
+
+    /// Takes what a user keeps, for a process.
+    fn leave_home(&mut self, rt: &impl Aided, user: usize) -> Kept {
+        match self.homes.get_mut(user) {
+            Some(home) => found(rt, home.take(), "what the user keeps"),
+            None => rt.fail("none of these users"),
+        }
+    }
+
+    /// Puts back what a user keeps.
+    fn come_home(&mut self, user: usize, kept: Kept) {
+        if let Some(home) = self.homes.get_mut(user) {
+            *home = Some(kept);
+        }
+    }
+
+    /// A process of a user carries a command out over this transport: what it ends with.
+    pub(crate) fn run_over<T: Transport<Global>>(
+        &mut self,
+        rt: &impl Aided,
+        user: User,
+        command: &Command<'_>,
+        transport: T,
+    ) -> (Outcome, T) {
+        let place = usize::from(user.get());
+        let kept = self.leave_home(rt, place);
+        let client = open_over(rt, user, self.pinned, kept);
+        let (outcome, client, transport) = process(rt, client, transport, command);
+        self.come_home(place, closed(client));
+        (outcome, transport)
+    }
+
+    /// A process of a user carries a command out over the server in memory: what it ends with.
+    pub(crate) fn run(&mut self, rt: &impl Aided, user: User, command: &Command<'_>) -> Outcome {
+        let server = found(rt, self.server.take(), "the server");
+        let (mut outcome, mut server) = self.run_over(rt, user, command, server);
+        outcome.sent = server.take_sent();
+        self.server = Some(server);
+        outcome
+    }
+}
