@@ -1,25 +1,25 @@
-mod Lowering
-mod Replies
-mod Quiet
-mod Mirrors
-mod Once
-mod Holds
-mod Judging
-mod Moves
-mod Genuine
-mod Views
-mod Among
-mod Listings
-mod OwnKeys
-mod FirstChunk
-mod Stored
-mod KnownViews
-mod TrueTables
-mod Agreed
-mod Same
-mod OneMore
-mod NotTaken
-mod Telling
-mod Taking
-mod ScriptKeys
-mod Ended
+pub mod Lowering
+pub mod Replies
+pub mod Quiet
+pub mod Mirrors
+pub mod Once
+pub mod Holds
+pub mod Judging
+pub mod Moves
+pub mod Genuine
+pub mod Views
+pub mod Among
+pub mod Listings
+pub mod OwnKeys
+pub mod FirstChunk
+pub mod Stored
+pub mod KnownViews
+pub mod TrueTables
+pub mod Agreed
+pub mod Same
+pub mod OneMore
+pub mod NotTaken
+pub mod Telling
+pub mod Taking
+pub mod ScriptKeys
+pub mod Ended

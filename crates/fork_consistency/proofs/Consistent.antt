@@ -1,0 +1,82 @@
+-- Runs are fork consistent.
+use Rattle.std.proofs.Common.{Bool, List, Result, Ok, Err, IfOk}
+use Rattle.agreement.proofs.Worlds.{guarded}
+use Rattle.client_runs.specs.Agreeing.{Premises}
+use Rattle.client_runs.specs.Carried.{AreCarriedOut, RunPremises, script_keys}
+use Rattle.client_runs.specs.Released.{views}
+use Rattle.client_runs.specs.Runs.{Event, IsRun, Keys}
+use Rattle.client_runs.specs.declared.world.Answer.{Answer}
+use Rattle.client_runs.specs.declared.world.WorldStep.{WorldStep}
+use Rattle.client_runs.proofs.Agreed.{agreed, all_released, are_accepted, ended, growing, numbered}
+use Rattle.client_runs.proofs.ScriptKeys.{pinned_fits}
+use Rattle.fork_consistency.specs.ForkConsistent.{AreForkConsistent, IsForkConsistent, StandWhereStolen, StolenPremises}
+use Rattle.fork_consistency.specs.OwnParts.{OthersAreHonest}
+use Rattle.fork_consistency.proofs.OwnParts.{own_keys_stand, own_parts, super_of}
+use Rattle.fork_consistency.proofs.Signed.{are_signed}
+use Rattle.layout.specs.Types.{User}
+use Rattle.fork_consistency.proofs.Growing.{only_grow}
+use Rattle.fork_consistency.proofs.OneWorld.{one_world}
+use Rattle.fork_consistency.proofs.RunWorlds.{are_worlds_in, can_be_read, can_read}
+use Rattle.fork_consistency.proofs.Shown.{show_worlds}
+use Rattle.fork_consistency.proofs.ByCertificates.{by_certificates, super_honest}
+
+pub consistent : (keys : Keys) (run : List Event) → IsRun keys run → Premises keys run → AreForkConsistent keys run
+consistent keys run is p = record {
+  accepted = are_accepted keys run is p;
+  numbered = numbered keys run is p;
+  ended = ended keys run is p;
+  released = all_released keys run is p;
+  growing = only_grow (views run) (are_accepted keys run is p) (growing keys run is p);
+  agreed = agreed keys run is p;
+  worlds = are_worlds_in keys run is p;
+  shown = show_worlds keys run is p;
+  readings = can_be_read keys run is p;
+  one_world = one_world keys run is p;
+  guarded = guarded;
+  tables = by_certificates keys run is (super_honest keys run p);
+}
+
+-- the premises, with the one that is so of the keys of scripts
+all_premises : (run : List Event) → RunPremises run → Premises script_keys run
+all_premises run p = record {
+  no_forgery = p.no_forgery;
+  no_collision = p.no_collision;
+  true_keys = record { pinned = pinned_fits; added = p.added };
+}
+
+-- where keys are stolen
+stands : (stolen : User → Bool) (keys : Keys) (run : List Event) → IsRun keys run → OthersAreHonest stolen keys run → StandWhereStolen stolen keys run
+stands stolen keys run is others = record {
+  tables = by_certificates keys run is (super_of stolen keys run is others);
+  keys_are = own_keys_stand stolen keys run is others;
+  parts = own_parts stolen keys run is others;
+  signed = are_signed keys run is;
+  readings = can_read keys run;
+}
+
+stolen_premises : (stolen : User → Bool) (run : List Event) → StolenPremises stolen run → OthersAreHonest stolen script_keys run
+stolen_premises stolen run p = record {
+  super = p.super;
+  no_forgery = p.no_forgery;
+  no_collision = p.no_collision;
+  pinned = pinned_fits;
+  added = p.added;
+}
+
+-- steps that were carried out
+pub carried : {A : Type 0} (steps : List (WorldStep A)) (answers : List (Answer A)) → AreCarriedOut steps answers → IsForkConsistent steps answers
+carried steps answers c = record {
+  events = c.events;
+  is_run = c.is_run;
+  kept = c.kept;
+  leaves = c.leaves;
+  certificates = c.certificates;
+  structures = c.structures;
+  consistent = λ p. consistent script_keys c.events c.is_run (all_premises c.events p);
+  stolen = λ set p. stands set script_keys c.events c.is_run (stolen_premises set c.events p);
+}
+
+-- so is what a call answers with them
+pub carried_ok : {A W E : Type 0} (steps : List (WorldStep A)) (answers_of : W → List (Answer A)) (r : Result W E) → IfOk r (λ w. AreCarriedOut steps (answers_of w)) → IfOk r (λ w. IsForkConsistent steps (answers_of w))
+carried_ok steps answers_of (Ok w) is = carried steps (answers_of w) is
+carried_ok steps answers_of (Err e) is = tt

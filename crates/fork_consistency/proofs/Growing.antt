@@ -1,0 +1,89 @@
+-- The line of each earlier view of a user is a beginning of that of a later one.
+use Rattle.std.proofs.Common.{◌≡◌, ℕ, zero, suc, ◌+◌, ◌-◌, ◌≤◌, ◌==◌, List, [], ◌∷◌, ◌++◌, append_assoc, find, Option, Some, None, refl, sym, ap, ◌∙◌, subst, inl, inr, option_map, arith}
+use Rattle.std.specs.Option.{option_map_or}
+use Rattle.std.proofs.lemmas.Bool.{eqb-true}
+use Rattle.version_order.specs.Plan.{Plan}
+use Rattle.version_order.specs.Structure.{Structure}
+use Rattle.update_cert.specs.Cert.{Cert}
+use Rattle.pending_list.specs.declared.signed.Signed.{Signed}
+use Rattle.reply_rules.specs.Lists.{Lists, structure_of}
+use Rattle.reply_rules.specs.Lists as reply_lists
+use Rattle.agreement.specs.Lines.{Grow, IsBeginning, line, line_at}
+use Rattle.agreement.specs.Runs.{Accepted, IsRun as AreAccepted, View, last_signed, number_of, user_of}
+use Rattle.agreement.proofs.Members.{In, contains_in, in-right, in_contains}
+use Rattle.agreement.proofs.Runs.{signed_plan}
+use Rattle.fork_consistency.proofs.Lists.{found_in}
+use Rattle.fork_consistency.specs.ForkConsistent.{OnlyGrow}
+use Rattle.fork_consistency.proofs.Acting.{next_number}
+
+-- what a view met when it was accepted, and that those before it are of the run
+record IsAfter (run : List View) (y : View) : Type 0 where
+  pub older : List View
+  pub accepted : Accepted older y
+  pub within : (w : View) → In w older → In w run
+
+is_after : (run : List View) → AreAccepted run → (y : View) → In y run → IsAfter run y
+is_after [] v y i = absurd i
+is_after (x ∷ older) v y (inl e) = record { older = older; accepted = subst (Accepted older) (sym e) v.0; within = λ w i. inr i }
+is_after (x ∷ older) v y (inr i) = let a = is_after older v.1 y i in record { older = a.older; accepted = a.accepted; within = λ w j. inr (a.within w j) }
+
+module _ (run : List View) (v : AreAccepted run) (growing : Grow run) where
+  number_next : (y : View) → In y run → number_of y ≡ reply_lists.number_of (user_of y) y.lists + 1
+  number_next y i =
+      let a = is_after run v y i in
+      next_number y.table y.lists a.accepted.rules y.lists.own (in-right y.lists.own y.lists.others (y.lists.own ∷ []) (inl refl))
+
+  -- the user's view before one that isn't the first
+  record HasBefore (y : View) : Type 0 where
+    pub view : View
+    pub there : In view run
+    pub user : user_of view ≡ user_of y
+    pub number : number_of y ≡ number_of view + 1
+
+  before : (y : View) → In y run → 2 ≤ number_of y → HasBefore y
+  before y i later =
+      let a = is_after run v y i in
+      go a.older a.within (structure_of (user_of y) y.lists) a.accepted.own_last (number_next y i)
+    where
+      go : (older : List View) → ((w : View) → In w older → In w run) → (o : Option (Signed Structure)) → option_map (λ z. z.value) o ≡ last_signed (user_of y) older → number_of y ≡ option_map_or (λ z. z.value.plan.number) o 0 + 1 → HasBefore y
+      go older within None same number = absurd (omega (arith, number, later))
+      go older within (Some z) same number = found (find (λ x. user_of x == user_of y) older) refl same
+        where
+          found : (f : Option View) → find (λ x. user_of x == user_of y) older ≡ f → Some z.value ≡ option_map (λ x. x.signed) f → HasBefore y
+          found None at is = absurd (cc is)
+          found (Some w) at is =
+              let value : z.value ≡ w.signed = cc is in
+              let f = found_in (λ (x : View). user_of x == user_of y) older w at in
+              let there = within w f.0 in
+              let plan = signed_plan run v w there in
+              record {
+                view = w;
+                there = there;
+                user = eqb-true (user_of w) (user_of y) f.1;
+                number = number ∙ ap (λ (s : Structure). s.plan.number + 1) value ∙ ap (λ (p : Plan). p.number + 1) plan;
+              }
+
+  same_line : (x y : View) → user_of x ≡ user_of y → number_of x ≡ number_of y → line run x ≡ line run y
+  same_line x y user number = ap (λ (u : ℕ). line_at run u (number_of x)) user ∙ ap (λ (n : ℕ). line_at run (user_of y) n) number
+
+  joined : (a b c : List Cert) → IsBeginning a b → IsBeginning b c → IsBeginning a c
+  joined a b c first second = (first.0 ++ second.0, second.1 ∙ ap (λ (l : List Cert). l ++ second.0) first.1 ∙ append_assoc a first.0 second.0)
+
+  positive : (x : View) → In x run → 1 ≤ number_of x
+  positive x i = let n = number_next x i in omega (arith, n)
+
+  along : (n : ℕ) (x y : View) → In x run → In y run → user_of x ≡ user_of y → number_of y ≡ number_of x + n → IsBeginning (line run x) (line run y)
+  along zero x y i j user number = ([], same_line y x (sym user) (number ∙ omega arith) ∙ nothing (line run x))
+    where
+      nothing : (l : List Cert) → l ≡ l ++ []
+      nothing [] = refl
+      nothing (c ∷ cs) = ap (λ (l : List Cert). c ∷ l) (nothing cs)
+  along (suc n) x y i j user number =
+      let low = positive x i in
+      let b = before y j (omega (arith, low, number)) in
+      let step : number_of b.view ≡ number_of x + n = omega (arith, b.number, number) in
+      joined (line run x) (line run b.view) (line run y) (along n x b.view i b.there (user ∙ sym b.user) step)
+      (growing b.view y (in_contains b.view run b.there) (in_contains y run j) (sym b.user) b.number)
+
+  pub only_grow : OnlyGrow run
+  only_grow x y has_x has_y user low = along (number_of y - number_of x) x y (contains_in x run has_x) (contains_in y run has_y) user (omega (arith, low))

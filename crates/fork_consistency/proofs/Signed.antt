@@ -1,0 +1,88 @@
+-- Accepted views are signed, by the rules on signatures and on records.
+use Rattle.std.proofs.Common.{◌≡◌, Bool, true, false, ◌==◌, ◌&&◌, ◌||◌, not, List, [], ◌∷◌, Option, Some, None, IsSomeAnd, inl, inr, if◌then◌else◌}
+use Rattle.std.specs.List.{list_all}
+use Rattle.std.specs.Option.{option_map_or}
+use Rattle.std.proofs.lemmas.Bool.{and_parts}
+use Rattle.layout.specs.Types.{Bytes, Key, User}
+use Rattle.lms_sign.specs.Signature.{valid}
+use Rattle.principals.specs.Table.{Table, is_member, key_of}
+use Rattle.version_order.specs.declared.structure.GroupRecord.{GroupRecord}
+use Rattle.version_order.specs.Structure.{Structure, structure}
+use Rattle.update_cert.specs.Cert.{cert}
+use Rattle.pending_list.specs.declared.signed.Signed.{Signed}
+use Rattle.pending_list.specs.Groups.{groups}
+use Rattle.reply_rules.specs.declared.rule.Rule.{Rule}
+use Rattle.reply_rules.specs.declared.rule.Rule.TheVariants as rule
+use Rattle.reply_rules.specs.Broken.{broken, later_rules}
+use Rattle.reply_rules.specs.Lists.{Lists, items}
+use Rattle.reply_rules.specs.Rules.{entries, group_complete, group_records, link, numbers, of_member, record_holds, records_hold, records_once, table_within, unknown_user, vector, version_within}
+use Rattle.reply_check.specs.FirstBroken.{verifies}
+use Rattle.agreement.specs.Runs.{View}
+use Rattle.agreement.proofs.Members.{In, contains_in, in-append, to_all}
+use Rattle.agreement.proofs.Tests.{all_in, first_holds}
+use Rattle.client_runs.specs.Released.{accepted_by, tried_view, views}
+use Rattle.client_runs.specs.Runs.{Event, IsRun, Keys, client_of, owner, public_key}
+use Rattle.client_runs.proofs.Holds.{IsTriedOver, known_in}
+use Rattle.client_runs.proofs.Judging.{cert_by_super, cert_verified, structure_by_super, structure_verified, unbroken, unbroken_by}
+use Rattle.client_runs.proofs.Moves.{holds_at}
+use Rattle.client_runs.proofs.Replies.{of_lists}
+use Rattle.client_runs.proofs.Views.{over_here}
+use Rattle.fork_consistency.specs.Signed.{AreSigned, IsSigned, IsSignedBy}
+
+-- what the rules try of a signature
+signed_by : (pinned : Key) (t : Table) (u : User) (text signature : Bytes) → verifies t u text signature ≡ true → (not (u == 0) || valid pinned text signature) ≡ true → IsSignedBy pinned t u text signature
+signed_by pinned t u text signature by_table by_super = go (u == 0) by_table by_super
+  where
+    listed : (k : Option Key) → option_map_or (λ k. valid k text signature) k false ≡ true → IsSomeAnd k (λ k. valid k text signature ≡ true)
+    listed None e = absurd (cc e)
+    listed (Some k) e = e
+
+    go : (b : Bool) → (b || option_map_or (λ k. valid k text signature) (key_of u t) false) ≡ true → (not b || valid pinned text signature) ≡ true → IsSomeAnd (if b then Some pinned else key_of u t) (λ k. valid k text signature ≡ true)
+    go true e f = f
+    go false e f = listed (key_of u t) e
+
+-- what they try of records
+of_members : (t : Table) (x : Lists) → broken t x ≡ None → (z : Signed Structure) (r : GroupRecord) → In z x.structures → In r z.value.groups → is_member t r.group z.value.plan.user r.table ≡ true
+unfolding group_records
+of_members t x unbroken z r i j =
+    let one = first_holds rule.UnknownUser (unknown_user t x) (later_rules t x) unbroken in
+    let four : List (Rule × Bool) = (rule.GroupRecord, group_records t x) ∷ [] in
+    let three : List (Rule × Bool) = (rule.Link, link x) ∷ four in
+    let two : List (Rule × Bool) = (rule.Entries, entries x) ∷ three in
+    let a = first_holds rule.Numbers (numbers x) ((rule.Vector, vector t x) ∷ two) one.1 in
+    let b = first_holds rule.Vector (vector t x) two a.1 in
+    let c = first_holds rule.Entries (entries x) three b.1 in
+    let d = first_holds rule.Link (link x) four c.1 in
+    let e = first_holds rule.GroupRecord (records_hold t x && (records_once x.structures && list_all (group_complete t x) groups)) [] d.1 in
+    let hold = (and_parts (records_hold t x) (records_once x.structures && list_all (group_complete t x) groups) e.0).0 in
+    let of_z = all_in (λ (y : Signed Structure). list_all (record_holds t y.value.plan) y.value.groups) x.structures hold z i in
+    let of_r = all_in (record_holds t z.value.plan) z.value.groups of_z r j in
+    let rest = (and_parts (version_within z.value.plan r) (table_within z.value.plan r && of_member t z.value.plan r) of_r).1 in
+    (and_parts (table_within z.value.plan r) (of_member t z.value.plan r) rest).1
+
+module _ (keys : Keys) where
+  view_is : (older : List Event) (is : IsRun keys older) (u : User) (x : View) → IsTriedOver (owner keys u) (holds_at keys u older is).story older x → IsSigned (public_key keys 0) x
+  view_is older is u x over =
+      let r = of_lists x.lists in
+      let rules = unbroken (known_in (owner keys u) (holds_at keys u older is).story) r over.good.judged.unbroken in
+      let by = unbroken_by x.table x.lists over.good.by_table in
+      record {
+        structures = λ z has.
+            let i = contains_in z x.lists.structures has in
+            signed_by (public_key keys 0) x.table z.value.plan.user (structure.spell z.value) z.signature (structure_verified x.table x.lists by.structures z i) (structure_by_super (public_key keys 0) r rules.by_super z i);
+        certificates = λ k has.
+            let i = contains_in k (items x.lists) has in
+            signed_by (public_key keys 0) x.table k.cert.user (cert.spell k.cert) k.signature (cert_verified x.table x.lists by.certs k i) (cert_by_super (public_key keys 0) r rules.by_super k i);
+        records = λ z g has_z has_g. of_members x.table x.lists by.rules z g (contains_in z x.lists.structures has_z) (contains_in g z.value.groups has_g);
+      }
+
+  each_signed : (run : List Event) → IsRun keys run → (x : View) → In x (views run) → IsSigned (public_key keys 0) x
+  each_signed [] is x i = absurd i
+  each_signed (e ∷ older) is x i =
+      elim (in-append x (accepted_by e.call (client_of e.user older) e.after (tried_view e.user older)) (views older) i) [
+        | inl here ↦ view_is older is.2 e.user x (over_here keys e older is x here)
+        | inr there ↦ each_signed older is.2 x there
+      ]
+
+  pub are_signed : (run : List Event) → IsRun keys run → AreSigned keys run
+  are_signed run is = to_all (IsSigned (public_key keys 0)) (views run) (each_signed run is)

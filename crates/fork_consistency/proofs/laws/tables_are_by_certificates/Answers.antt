@@ -1,0 +1,14 @@
+use Rattle.fork_consistency.proofs.ByCertificates.{by_certificates, have_texts, own_keys, sign_tables}
+use Rattle.fork_consistency.proofs.laws.tables_are_by_certificates.Goals as goal
+
+pub returns-clause-tables : goal.returns-clause-tables
+returns-clause-tables c = by_certificates
+
+pub returns-clause-texts : goal.returns-clause-texts
+returns-clause-texts c = have_texts
+
+pub returns-clause-signed : goal.returns-clause-signed
+returns-clause-signed c = sign_tables
+
+pub returns-clause-keys : goal.returns-clause-keys
+returns-clause-keys c = own_keys

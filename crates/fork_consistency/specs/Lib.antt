@@ -1,0 +1,7 @@
+pub mod ByCertificates
+pub mod Handles
+pub mod Worlds
+pub mod Shown
+pub mod ForkConsistent
+pub mod OwnParts
+pub mod Signed

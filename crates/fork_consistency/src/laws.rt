@@ -1,0 +1,70 @@
+//! Laws of whole runs, for the proofs of callers: functions that do nothing.
+
+ghost use Rattle.std.specs.List.{All};
+ghost use Rattle.client_runs.specs.Released.{views};
+ghost use Rattle.fork_consistency.specs.ByCertificates.{AreByCertificates, HaveTexts, ListOwnKeys};
+ghost use Rattle.fork_consistency.specs.ByCertificates.{EachHonestSuper, EachTrueRun};
+ghost use Rattle.fork_consistency.specs.ForkConsistent.{AreForkConsistent};
+ghost use Rattle.fork_consistency.specs.Handles.{AllAreWhole, FirstAreWhole, SignsItsTable};
+ghost use Rattle.fork_consistency.specs.OwnParts.{EachRunOfOthers, OwnKeysStand, OwnPartsStand};
+ghost use Rattle.fork_consistency.specs.Shown.{ShowWorlds};
+ghost use Rattle.fork_consistency.specs.Signed.{AreSigned, EachRunAtAll};
+ghost use Rattle.fork_consistency.specs.Worlds.{AreWorldsIn, CanBeRead, OneWorld};
+
+/// In each accepted view of a run the table of principals is that of the beginning, changed by the certificates that
+/// user 0's client released, in order, up to some number: as long as no signature of user 0's is forged, no digest
+/// collides and user 0's key has the form of a key, whoever else's keys the server has.
+pub fn tables_are_by_certificates()
+    ensures tables { EachHonestSuper AreByCertificates }
+    // So it has a text,
+    ensures texts { EachHonestSuper HaveTexts }
+    // and the handle that user 0 signs names it.
+    ensures signed { EachHonestSuper (λ keys run. All (SignsItsTable keys run) (views run)) }
+    // Where user 0's client added each user with the user's own key, it lists no others.
+    ensures keys { EachTrueRun ListOwnKeys }
+{}
+
+/// The i-table that a handle names is among the texts of the run, as long as no digest collides, no signature is forged,
+/// and user 0's client added each user with the user's own key.
+pub fn handles_are_whole()
+    // So is the i-table of each principal at the beginning,
+    ensures first { EachTrueRun FirstAreWhole }
+    // and that of each handle in a structure that was signed over an accepted view.
+    ensures signed { EachTrueRun AllAreWhole }
+{}
+
+/// An accepted view of a run is the world of its line, as each reading tells it that the run's texts allow, as long as
+/// no digest collides, no signature is forged, and user 0's client added each user with the user's own key.
+pub fn views_of_runs_are_worlds()
+    ensures worlds { EachTrueRun AreWorldsIn }
+    // There is such a reading,
+    ensures readings { EachTrueRun CanBeRead }
+    // and all of them give one world to a line.
+    ensures one { EachTrueRun OneWorld }
+    // So what looks answer is, and what a client tells of its view.
+    ensures shown { EachTrueRun ShowWorlds }
+{}
+
+/// Every run of all users' clients is fork consistent, as long as no digest collides, no signature is forged, user 0's
+/// client added each user with the user's own key, and user 0's key has the form of a key. Of servers nothing is
+/// assumed.
+pub fn runs_are_fork_consistent()
+    ensures { EachTrueRun AreForkConsistent }
+{}
+
+/// Where the server has the keys of some users, never of user 0: in each accepted view the part of each other user is
+/// that of the world of this user's own certificates, up to some number, as long as no signature of these others is
+/// forged, no digest collides, and user 0's client added each of them with the user's own key.
+pub fn own_parts_stand()
+    ensures parts { EachRunOfOthers OwnPartsStand }
+    // There is a reading by which they are told.
+    ensures readings { EachRunAtAll CanBeRead }
+    // Each of them that the table lists has its own key.
+    ensures keys { EachRunOfOthers OwnKeysStand }
+{}
+
+/// Whoever has whose keys: in each accepted view each structure and each pending certificate is signed under its user's
+/// key by the view's table, and the record of each group is of a user who was a member at its table version.
+pub fn views_are_signed()
+    ensures { EachRunAtAll AreSigned }
+{}
