@@ -2,8 +2,9 @@
 //! crash leaves.
 
 use crate::here::Here;
-use client_runs::{Act, Answer, WorldStep, run};
+use client_runs::{Act, Answer, WorldStep};
 use client_verify::{ClientError, Phase};
+use fork_consistency::run;
 use layout::{User, let_go};
 use std::alloc::Global;
 use tests_aids::{Aided, Host};

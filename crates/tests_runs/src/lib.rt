@@ -1,4 +1,4 @@
-//! Tests of whole runs: what clients answer that stand alone, `client_runs::run` answers to the same steps, over
+//! Tests of whole runs: what clients answer that stand alone, `fork_consistency::run` answers to the same steps, over
 //! crashes and over devices that fail, too; what scripts print, byte for byte; and a small world in every order of its
 //! steps.
 #![tactic(auto)]

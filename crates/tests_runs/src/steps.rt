@@ -2,9 +2,10 @@
 //! answer, for `run` to answer the same.
 
 use crate::answers::{Told, accepted, is_told, look_told, opened, step_told};
-use client_runs::{Act, WorldStep, run};
+use client_runs::{Act, WorldStep};
 use client_tree::Held;
 use client_verify::{Look, Rule, Step};
+use fork_consistency::run;
 use layout::{Digest, User, let_go};
 use lms_sign::PublicKey;
 use std::alloc::Global;
