@@ -6,7 +6,7 @@ ghost use Rattle.std.specs.BTreeMap.{Updates, IsUnchanged, get};
 ghost use Rattle.std.specs.Cmp.Lexicographic.{slice_cmp};
 ghost use Rattle.std.specs.Ordering.{nat_cmp};
 ghost use Rattle.layout.specs.Hash.{hash};
-ghost use Rattle.block_store.specs.Blocks.{IsOwn, IsOf};
+ghost use Rattle.block_store.specs.Blocks.{IsOwn, IsOf, IsStoredAt};
 ghost use Rattle.block_store.specs.declared.error.StoreError.TheVariants as store_error;
 
 use crate::block::{Block, Own};
@@ -106,9 +106,10 @@ impl<A: Allocator + Copy> Store<A> {
 
     /// The bytes of the block of a number. None where no block has it.
     pub fn get_at(&self, index: usize) -> Option<&[u8]>
-        ensures { IfSome result (λ block. length block.now ≤ BLOCK_LIMIT) }
+        ensures stored { IfSome result (λ block. IsStoredAt self.now index block.now) }
     {
-        Some(self.blocks.get(index)?.text())
+        let pass = self.pass_at(index)?;
+        Some(self.get_by_pass(&pass))
     }
 
     /// A law: two passes of one number are of one block. The call does nothing.

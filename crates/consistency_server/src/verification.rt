@@ -1,6 +1,6 @@
 //! Verifications of signatures, made before the one order is locked.
 
-ghost use Rattle.std.specs.Prelude.{◌≡◌, ◌++◌, IfSome};
+ghost use Rattle.std.specs.Prelude.{◌≡◌, ◌++◌, ◌-◌, IfSome, length};
 ghost use Rattle.lms_sign.specs.Signature.{valid};
 
 use lms_sign::{PublicKey, SIGNATURE_SIZE, verify};
@@ -38,6 +38,7 @@ impl<'a> Verification<'a> {
     pub fn new(key: PublicKey, text: &'a [u8]) -> Verification<'a>
         ensures key { result.key ≡ key }
         ensures text { result.unsigned ++ result.signature ≡ text.now }
+        ensures size { length result.unsigned ≡ length text.now - SIGNATURE_SIZE }
         ensures valid { result.is_valid ≡ valid result.key result.unsigned result.signature }
     {
         let (unsigned, signature) = text.split_at(text.len().saturating_sub(SIGNATURE_SIZE));
