@@ -271,7 +271,7 @@ impl<L: Device, J: Device, A: Allocator> Releases<L, J, A> {
     }
 
     /// What is true of it at all times, for the proofs of callers: it does nothing.
-    pub fn stands(&self)
+    pub fn type_invariant(&self)
         ensures { IsReleased self.now }
     {
         let _phase = &self.phase;

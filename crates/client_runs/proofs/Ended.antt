@@ -2,8 +2,6 @@
 use Rattle.std.proofs.Common.{◌≡◌, ◌≢◌, ℕ, zero, suc, ◌<◌, ◌≤◌, ◌+◌, take, List, [], ◌∷◌, ◌++◌, length, get_or, set, Bool, true, false, ◌==◌, refl, sym, ap, subst, ◌∙◌}
 use Rattle.std.proofs.lemmas.Bool.{eqb-true, eqb-false}
 use Rattle.std.proofs.lemmas.List.{get_or-set_other, get_or-set_same, get_or_read, length-set, take_all, take_more}
-use Rattle.agreement.specs.Lines.{Agree, AreNumbered, EndWithOwn, Grow}
-use Rattle.agreement.specs.Runs.{IsRun as AreAccepted}
 use Rattle.layout.specs.Types.{Bytes, Key, User}
 use Rattle.lms_sign.specs.Keys.{public_key_of}
 use Rattle.client_runs.specs.declared.slot.Slot.{Slot}
@@ -12,28 +10,15 @@ use Rattle.client_runs.specs.declared.world.Act.{Act}
 use Rattle.client_runs.specs.declared.world.Answer.{Answer}
 use Rattle.client_runs.specs.declared.world.WorldStep.{WorldStep}
 use Rattle.client_steps.specs.Steps.{Client, Owner, first}
-use Rattle.client_runs.specs.Runs.{Event, IsRun, Keys, client_of, owner, public_key}
-use Rattle.client_runs.specs.Released.{views}
+use Rattle.client_runs.specs.Runs.{Event, client_of, owner, public_key}
 use Rattle.client_runs.specs.UsedOnce.{CertificatesOnce, EachClient, LeavesOnce, StructuresOnce}
-use Rattle.client_runs.specs.Agreeing.{AreReleased, EachRun, Premises}
-use Rattle.client_runs.specs.Carried.{AreCarriedOut, ComesOf, Keep, RunPremises, script_keys}
+use Rattle.client_runs.specs.Carried.{AreCarriedOut, ComesOf, Keep, script_keys}
 use Rattle.client_runs.specs.Slots.{AreOwn, IsOf, client_at, client_in}
 use Rattle.client_runs.proofs.OneMore.{StandsSoFar, more}
-use Rattle.client_runs.proofs.ScriptKeys.{pinned_fits}
 
 -- ---- the end of a run
 
--- the premises, with the one that is so of the keys of scripts
-all_premises : (run : List Event) → RunPremises run → Premises script_keys run
-all_premises run p = record {
-  no_forgery = p.no_forgery;
-  no_collision = p.no_collision;
-  true_keys = record { pinned = pinned_fits; added = p.added };
-}
-
-module _ (leaves : EachClient LeavesOnce) (certificates : EachClient CertificatesOnce) (structures : EachClient StructuresOnce)
-    (accepted : EachRun (λ run. AreAccepted (views run))) (numbered : EachRun (λ run. AreNumbered (views run))) (ended : EachRun (λ run. EndWithOwn (views run)))
-    (released : EachRun AreReleased) (growing : EachRun (λ run. Grow (views run))) (agreed : EachRun (λ run. Agree (views run))) where
+module _ (leaves : EachClient LeavesOnce) (certificates : EachClient CertificatesOnce) (structures : EachClient StructuresOnce) where
   pub carried_out : {A : Type 0} (steps : List (WorldStep A)) (answers : List (Answer A)) (slots : List (Slot A)) → StandsSoFar steps answers slots → AreCarriedOut steps answers
   carried_out steps answers slots s = record {
     events = s.events;
@@ -42,14 +27,6 @@ module _ (leaves : EachClient LeavesOnce) (certificates : EachClient Certificate
     leaves = λ u. leaves script_keys s.events u s.is_run;
     certificates = λ u. certificates script_keys s.events u s.is_run;
     structures = λ u. structures script_keys s.events u s.is_run;
-    agreed = λ p. record {
-      accepted = accepted script_keys s.events s.is_run (all_premises s.events p);
-      numbered = numbered script_keys s.events s.is_run (all_premises s.events p);
-      ended = ended script_keys s.events s.is_run (all_premises s.events p);
-      released = released script_keys s.events s.is_run (all_premises s.events p);
-      growing = growing script_keys s.events s.is_run (all_premises s.events p);
-      agreed = agreed script_keys s.events s.is_run (all_premises s.events p);
-    };
   }
 
 -- before the first step nothing happened

@@ -89,6 +89,18 @@ module _ {A : Type 0} (o : Owner) (old new : State) (t : Act A) where
       same_step (act.Look p i) (answer.Sees r) (Open new) is
       (record { call = Looks (question.At p i) (on_ok seen r); is_call = refl; told = tt; step = b; sound = sound })
 
+  pub kinds : (p : Principal) (i : INumber) (r : Result (Look A) ClientError) → t ≡ act.Kind p i
+      → HasLooked old (question.Kind p i) (on_ok seen r) new → IsSound (Open new) → ComesOf o (Open old) t (answer.Sees r) (Open new)
+  kinds p i r is b sound =
+      same_step (act.Kind p i) (answer.Sees r) (Open new) is
+      (record { call = Looks (question.Kind p i) (on_ok seen r); is_call = refl; told = tt; step = b; sound = sound })
+
+  pub frees : (p : Principal) (first last : INumber) (r : Result (Look A) ClientError) → t ≡ act.Free p first last
+      → HasLooked old (question.Free p first last) (on_ok seen r) new → IsSound (Open new) → ComesOf o (Open old) t (answer.Sees r) (Open new)
+  frees p first last r is b sound =
+      same_step (act.Free p first last) (answer.Sees r) (Open new) is
+      (record { call = Looks (question.Free p first last) (on_ok seen r); is_call = refl; told = tt; step = b; sound = sound })
+
   pub gives : (block : Option (Vec ℕ A)) (r : Result (Look A) ClientError) → t ≡ act.Give block
       → HasGiven old (option_map vec_items block) (on_ok seen r) new → IsSound (Open new) → ComesOf o (Open old) t (answer.Sees r) (Open new)
   gives block r is b sound =

@@ -1,17 +1,13 @@
 -- Steps that were carried out: they are a run.
 use Rattle.std.specs.Prelude.{◌≡◌, List, [], ◌∷◌, Option, Some, replicate, reverse}
 use Rattle.layout.specs.Types.{User}
-use Rattle.agreement.specs.Lines.{Agree, AreNumbered, EndWithOwn, Grow}
-use Rattle.agreement.specs.Runs.{IsRun as AreAccepted}
 use Rattle.client_runs.specs.declared.world.Act.{Act}
 use Rattle.client_runs.specs.declared.world.Answer.{Answer}
 use Rattle.client_runs.specs.declared.world.Answer.TheVariants as answer
 use Rattle.client_runs.specs.declared.world.WorldStep.{WorldStep}
 use Rattle.client_steps.specs.Steps.{Call, Client, IsSound, IsStep, Owner}
 use Rattle.client_runs.specs.Runs.{Event, IsRun, Keys, client_of}
-use Rattle.client_runs.specs.Released.{views}
 use Rattle.client_runs.specs.UsedOnce.{CertificatesOnce, LeavesOnce, StructuresOnce}
-use Rattle.client_runs.specs.Agreeing.{AddsOwnKeys, AreReleased, NoCollision, NoForgery}
 use Rattle.client_runs.specs.Told.{IsTold, call_of}
 use Rattle.client_runs.specs.NotTaken.{CantBeTaken}
 
@@ -34,24 +30,7 @@ Keep (step ∷ steps) (answer.NotTaken ∷ answers) events = CantBeTaken (client
 Keep (step ∷ steps) (answer ∷ answers) (e ∷ events) = IsEventOf step answer e × Keep steps answers events
 Keep steps answers events = ⊥
 
--- The premises under which accepted views agree. That user 0's key has the form of a key is none of them: of these keys
--- it is proved.
-pub record RunPremises (run : List Event) : Type 0 where
-  pub no_forgery : NoForgery script_keys run
-  pub no_collision : NoCollision script_keys run
-  pub added : AddsOwnKeys script_keys run
-
--- what holds of accepted views, under the premises
-pub record AreInAgreement (run : List Event) : Type 0 where
-  pub accepted : AreAccepted (views run)
-  pub numbered : AreNumbered (views run)
-  pub ended : EndWithOwn (views run)
-  pub released : AreReleased run
-  pub growing : Grow (views run)
-  pub agreed : Agree (views run)
-
--- The steps with their answers are a run of clients with these keys; so what its clients release is used once, and,
--- under the premises, its accepted views agree.
+-- The steps with their answers are a run of clients with these keys; so what its clients release is used once.
 pub record AreCarriedOut {A : Type 0} (steps : List (WorldStep A)) (answers : List (Answer A)) : Type 0 where
   pub events : List Event
   pub is_run : IsRun script_keys events
@@ -59,7 +38,6 @@ pub record AreCarriedOut {A : Type 0} (steps : List (WorldStep A)) (answers : Li
   pub leaves : (u : User) → LeavesOnce u events
   pub certificates : (u : User) → CertificatesOnce u events
   pub structures : (u : User) → StructuresOnce u events
-  pub agreed : RunPremises events → AreInAgreement events
 
 -- ---- one step
 

@@ -1,7 +1,6 @@
 pub mod Runs
 pub mod Released
 pub mod UsedOnce
-pub mod Agreeing
 pub mod Told
 pub mod NotTaken
 pub mod Carried

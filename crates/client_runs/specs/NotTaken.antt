@@ -1,4 +1,5 @@
 -- When a step can't be taken, by the client as it is and what it is told to do.
+use Rattle.std.specs.Prelude.{◌⊎◌, ◌<◌}
 use Rattle.layout.specs.Types.{Bytes}
 use Rattle.leaf_ledger.specs.Device.{History, MayLeave}
 use Rattle.client_verify.specs.State.{State}
@@ -34,6 +35,8 @@ CantFromOpen s (act.Block block) = CantTake s
 CantFromOpen s act.Sign = CantSign s
 CantFromOpen s (act.Committed status) = CantCommit s
 CantFromOpen s (act.Look p i) = CantLook s
+CantFromOpen s (act.Kind p i) = CantLook s
+CantFromOpen s (act.Free p first last) = CantLook s ⊎ (last < first)
 CantFromOpen s (act.Give block) = CantGive s
 CantFromOpen s (act.Crash ledger journal) = NoneLeaves (Open s) ledger.items journal.items
 

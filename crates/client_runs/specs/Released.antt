@@ -86,6 +86,13 @@ abbrev pub views : List Event → List View
 views [] = []
 views (e ∷ older) = accepted_by e.call (client_of e.user older) e.after (tried_view e.user older) ++ views older
 
+-- ---- steps that memory refused
+
+-- what was refused for want of memory counts nowhere: such a step is one that wasn't taken
+abbrev pub unless_memory : {A B : Type 0} → Result A ClientError → List B → List B
+unless_memory (Err error.Memory) texts = []
+unless_memory answer texts = texts
+
 -- ---- texts that are shown with a signature
 
 pub record Shown : Type 0 where
@@ -104,7 +111,7 @@ shown_in r = map shown_structure r.structures ++ map shown_cert r.pending
 
 -- those of the reply that a call is handed, if it is one
 abbrev pub shown_by : Call → List Shown
-shown_by (Hears text answer) = option_map_or shown_in (reply_in text) []
+shown_by (Hears text answer) = unless_memory answer (option_map_or shown_in (reply_in text) [])
 shown_by call = []
 
 abbrev pub shown : List Event → List Shown
@@ -128,10 +135,10 @@ stored_texts answer = []
 
 -- certificates, plans and structures of replies, blocks that were laid out, handed in or are to be stored
 abbrev pub hashed_by : Call → List Bytes
-hashed_by (Begins changes laid answer) = laid
-hashed_by (Hears text answer) = option_map_or reply_texts (reply_in text) [] ++ stored_texts answer
-hashed_by (Takes block answer) = option_to_list block ++ stored_texts answer
-hashed_by (Gives block answer) = option_to_list block
+hashed_by (Begins changes laid answer) = unless_memory answer laid
+hashed_by (Hears text answer) = unless_memory answer (option_map_or reply_texts (reply_in text) [] ++ stored_texts answer)
+hashed_by (Takes block answer) = unless_memory answer (option_to_list block ++ stored_texts answer)
+hashed_by (Gives block answer) = unless_memory answer (option_to_list block)
 hashed_by call = []
 
 -- and released texts, without their signatures

@@ -8,7 +8,7 @@ ghost use Rattle.client_runs.specs.Slots.{StaysOpen, Tells};
 use crate::armed::MemoryClient;
 use crate::signing::sign_and_tell;
 use crate::world::{Act, Answer};
-use client_steps::{begin, commit, give, hear, look, take};
+use client_steps::{begin, commit, free, give, hear, kind, look, take};
 use layout::{INumber, Memory, Principal};
 use std::alloc::Allocator;
 use update_cert::Change;
@@ -94,6 +94,38 @@ fn looks<A: Allocator + Copy>(
     }
 }
 
+/// It asks of what kind is what stands at an i-number.
+fn kinds<A: Allocator + Copy>(
+    client: &mut MemoryClient<A>,
+    principal: Principal,
+    i_number: INumber,
+) -> Answer<A>
+    ensures { Tells client.old (Act.Kind principal i_number) result client.new }
+{
+    match kind(client, principal, i_number) {
+        Some(answer) => Answer::Sees(answer),
+        None => Answer::NotTaken,
+    }
+}
+
+/// It asks for the least i-number of a range at which nothing stands.
+fn frees<A: Allocator + Copy>(
+    client: &mut MemoryClient<A>,
+    principal: Principal,
+    first: INumber,
+    last: INumber,
+) -> Answer<A>
+    ensures { Tells client.old (Act.Free principal first last) result client.new }
+{
+    if last.get() < first.get() {
+        return Answer::NotTaken;
+    }
+    match free(client, principal, first, last) {
+        Some(answer) => Answer::Sees(answer),
+        None => Answer::NotTaken,
+    }
+}
+
 /// It takes a block that a look asks for.
 fn gives<A: Allocator + Copy>(client: &mut MemoryClient<A>, block: &Option<Vec<u8, A>>) -> Answer<A>
     ensures { Tells client.old (Act.Give block.now) result client.new }
@@ -120,6 +152,8 @@ pub(crate) fn call<A: Allocator + Copy>(
         Act::Sign => signs(alloc, client),
         Act::Committed(status) => Ok(commits(client, *status)),
         Act::Look(principal, i_number) => Ok(looks(client, *principal, *i_number)),
+        Act::Kind(principal, i_number) => Ok(kinds(client, *principal, *i_number)),
+        Act::Free(principal, first, last) => Ok(frees(client, *principal, *first, *last)),
         Act::Give(block) => Ok(gives(client, block)),
         Act::Open => Ok(Answer::NotTaken),
         Act::Close => unreachable!(),

@@ -6,7 +6,7 @@ ghost use Rattle.client_runs.specs.Carried.{AreCarriedOut, ComesOf, script_keys}
 ghost use Rattle.client_runs.specs.Slots.{AreReady, client_at};
 ghost use Rattle.client_steps.specs.Steps.{first};
 
-use crate::laws::{each_is_used_once, runs_agree};
+use crate::laws::each_is_used_once;
 use crate::slot::{Orders, Slot, key_of, step};
 use crate::world::{Answer, World, WorldStep};
 use layout::{Memory, User, put_in};
@@ -90,7 +90,6 @@ pub fn run<A: Allocator + Copy>(alloc: A, steps: &[WorldStep<A>]) -> Result<Worl
     ensures { IfOk result (λ world. AreCarriedOut steps.now world.answers.items) }
 {
     each_is_used_once();
-    runs_agree();
     let mut clients = Clients::new(alloc)?;
     let mut answers = Vec::new(alloc);
     for todo in steps {

@@ -1,5 +1,5 @@
 //! Runs of all clients of all users, with failed device calls, crashes and restarts: what a client releases it releases
-//! once, and accepted views agree. Laws for callers, and `run`, which carries out the steps of such a run.
+//! once. A law for callers, and `run`, which carries out the steps of such a run.
 #![tactic(auto)]
 
 mod answering;
@@ -11,5 +11,5 @@ mod slot;
 mod world;
 
 pub use carrying::run;
-pub use laws::{each_is_used_once, runs_agree};
+pub use laws::each_is_used_once;
 pub use world::{Accepted, Act, Answer, World, WorldStep};

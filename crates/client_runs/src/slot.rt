@@ -12,7 +12,7 @@ ghost use Rattle.client_runs.specs.NotTaken.{MayLeaveBoth};
 use crate::answering::call;
 use crate::armed::{ArmedDevice, MemoryClient, Order};
 use crate::world::{Act, Answer};
-use client_steps::stands;
+use client_steps::type_invariant;
 use client_verify::{Client, Parts, Phase};
 use layout::{Memory, User, beside, let_go};
 use lms_sign::{PrivateKey, PublicKey};
@@ -97,7 +97,7 @@ fn open<A: Allocator + Copy>(
     } = parts;
     match Client::open(alloc, user, key, pinned, ledger, journal) {
         Ok(client) => {
-            stands(&client);
+            type_invariant(&client);
             let phase = client.phase();
             let text = resent(alloc, &client);
             let (client, text) = beside(client, text)?;
@@ -235,7 +235,7 @@ fn open_step<A: Allocator + Copy>(
         _ => {
             let mut client = client;
             let answer = call(alloc, &mut client, act);
-            stands(&client);
+            type_invariant(&client);
             let (client, answer) = beside(client, answer)?;
             Ok((Slot::Open(client), answer))
         }

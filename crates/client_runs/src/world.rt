@@ -28,6 +28,11 @@ pub enum Act<A: Allocator> {
     Committed(Status),
     /// It looks at an i-number of a principal.
     Look(Principal, INumber),
+    /// It asks of what kind and size is what stands at an i-number of a principal.
+    Kind(Principal, INumber),
+    /// It asks for the least i-number of a principal, from the first to the last, at which nothing stands. Where the
+    /// first is above the last it can't.
+    Free(Principal, INumber, INumber),
     /// It takes the block that the look asks for, or its absence.
     Give(Option<Vec<u8, A>>),
     /// A crash leaves these bytes on the device of the ledger and these on that of the journal, where one may. It

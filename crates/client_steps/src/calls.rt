@@ -175,8 +175,8 @@ pub fn give<L: Device, J: Device, A: Allocator + Copy>(
 }
 
 /// What is true of an open client at all times. For the proofs of callers: it does nothing.
-pub fn stands<L: Device, J: Device, A: Allocator + Copy>(client: &Client<L, J, A>)
+pub fn type_invariant<L: Device, J: Device, A: Allocator + Copy>(client: &Client<L, J, A>)
     ensures { IsSound (Open client.now) }
 {
-    client.stands();
+    client.type_invariant();
 }

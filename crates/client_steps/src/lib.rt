@@ -4,4 +4,4 @@
 
 mod calls;
 
-pub use calls::{begin, commit, free, give, hear, kind, look, sign, stands, take};
+pub use calls::{begin, commit, free, give, hear, kind, look, sign, take, type_invariant};

@@ -117,7 +117,7 @@ impl<A: Allocator> Held<A> {
     }
 
     /// What is true of them at all times. For the proofs of callers: it does nothing.
-    pub fn stands(&self)
+    pub fn type_invariant(&self)
         ensures { AreHeld self.now }
     {
         let _blocks = &self.blocks;

@@ -49,7 +49,7 @@ pub enum Answer<A: Allocator> {
 fn kind_of_table<A: Allocator + Copy>(alloc: A, table: &Table<A>) -> Result<SeenKind, Memory>
     ensures { IfOk result (λ kind. kind ≡ kinds.File (length (table_format.spell table.now))) }
 {
-    table.text_fits();
+    table.type_invariant();
     let text = table.text(alloc)?;
     Ok(SeenKind::File(text.len() as u32))
 }

@@ -71,7 +71,7 @@ fn lay_principals<A: Allocator + Copy>(alloc: A, users: &Table<A>) -> Result<Lai
     ensures inode { IfOk result (λ laid. laid.inode.items ≡ inode.spell (inode_of (table_format.spell users.now))) }
     ensures blocks { IfOk result (λ laid. map vec_items laid.blocks.items ≡ blocks_of (table_format.spell users.now)) }
 {
-    users.text_fits();
+    users.type_invariant();
     let text = users.text(alloc)?;
     match lay_file(alloc, &text) {
         Ok(laid) => Ok(laid),

@@ -182,13 +182,13 @@ impl<L: Device, J: Device, A: Allocator + Copy> Client<L, J, A> {
     }
 
     /// What is true of it at all times. For the proofs of callers: it does nothing.
-    pub fn stands(&self)
+    pub fn type_invariant(&self)
         ensures released { IsReleased (released self.now) }
         ensures replies { AreReplies (released self.now) self.now.checked self.now.accepted }
         ensures held { AreHeld self.now.blocks }
     {
-        self.releases.stands();
-        self.blocks.stands();
+        self.releases.type_invariant();
+        self.blocks.type_invariant();
         let _progress = &self.progress;
     }
 

@@ -124,7 +124,7 @@ impl<L: Device, J: Device, A: Allocator + Copy> Client<L, J, A> {
         ensures only { IfErr result (λ e. (e ≢ ClientError.Foreign) × (e ≢ ClientError.Damaged)) }
         ensures err { IfErr result (λ e. e ≢ ClientError.Device → self.new ≡ self.old) }
     {
-        self.releases.stands();
+        self.releases.type_invariant();
         let _size = self.releases.key().as_bytes();
         let (number, unsigned) = match self.prepare(changes, laid) {
             Ok(prepared) => prepared,

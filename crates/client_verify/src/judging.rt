@@ -121,7 +121,7 @@ impl<L: Device, J: Device, A: Allocator + Copy> Client<L, J, A> {
         ensures unbroken { reply_breaks (known self.now) text.now ≡ None }
         ensures read { reply_in text.now ≡ Some reply.now }
     {
-        self.releases.stands();
+        self.releases.type_invariant();
         let _certificate = reply.split().0.cert();
         let _bytes = text;
     }

@@ -76,7 +76,7 @@ impl<L: Device, J: Device, A: Allocator + Copy> Client<L, J, A> {
             × (e ≢ ClientError.Damaged)) }
         ensures err { IfErr result (λ e. e ≢ ClientError.Device → self.new ≡ self.old) }
     {
-        self.releases.stands();
+        self.releases.type_invariant();
         let _size = self.releases.key().as_bytes();
         if !self.releases.has_free_leaf() {
             return Err(ClientError::NoLeaf);

@@ -1,12 +1,14 @@
 -- What a command asks for, and what is told of it, where it is known what is read at each i-number: at the place of the
 -- table of principals, a file of its text.
-use Rattle.std.specs.Prelude.{max, ℕ, zero, suc, ◌+◌, ◌-◌, ◌*◌, ◌==◌, ◌&&◌, Bool, true, false, not, List, [], ◌∷◌, length, Option, Some, None, is_some, nat_lt, if◌then◌else◌}
+use Rattle.std.specs.Prelude.{max, ℕ, zero, suc, ◌+◌, ◌-◌, ◌*◌, ◌==◌, ◌&&◌, Bool, true, false, not, if◌then◌else◌}
+use Rattle.std.specs.Prelude.{List, [], ◌∷◌, length, Option, Some, None, is_some, nat_lt}
 use Rattle.std.specs.Option.{option_and_then, option_map_or}
 use Rattle.layout.specs.Types.{Bytes, INumber, Principal, User}
 use Rattle.itable.specs.declared.inode.TheConstants.{FILE_SIZE}
 use Rattle.directory.specs.Directory.{target_of}
 use Rattle.directory.specs.declared.target.Target.{Target}
-use Rattle.update_cert.specs.Change.{Action, Make, Put, Remove, Link, Unlink, AddUser, AddMember, DropMember, Change, of_table}
+use Rattle.update_cert.specs.Change.{Action, Make, Put, Remove, Link, Unlink, AddUser, AddMember, DropMember, Change}
+use Rattle.update_cert.specs.Change.{of_table}
 use Rattle.update_cert.specs.World.{Content, File, Directory, Principals, Tree, entries_of}
 use Rattle.commands.specs.Paths.{Path, path_of, place_of}
 use Rattle.commands.specs.Answers.{Answer, Done, Shown, Listing, Lost, Refused}

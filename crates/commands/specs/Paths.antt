@@ -1,6 +1,7 @@
 -- Paths: `/a/b` leads from the root directory through names, and `@p:i/a/b` from what stands at the i-number of a
 -- principal.
-use Rattle.std.specs.Prelude.{ℕ, ◌==◌, ◌&&◌, Bool, true, false, List, [], ◌∷◌, length, Option, Some, None, nat_le, nat_lt, codes, if◌then◌else◌}
+use Rattle.std.specs.Prelude.{ℕ, ◌==◌, ◌&&◌, Bool, true, false, nat_le, nat_lt, codes, if◌then◌else◌}
+use Rattle.std.specs.Prelude.{List, [], ◌∷◌, length, Option, Some, None}
 use Rattle.std.specs.Borrow.{Bor}
 use Rattle.std.specs.List.{list_all, slice_split, before_first, after_first}
 use Rattle.std.specs.Char.{is_ascii_digit}

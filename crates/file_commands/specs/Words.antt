@@ -13,8 +13,8 @@ abbrev pub valued : Rule → Rule
 valued rule = record rule { value_names = 1 }
 
 -- a required option
-abbrev pub named : Text → Rule
-named id = valued (record (placed id) { long = Some id })
+abbrev pub option : Text → Rule
+option id = valued (record (placed id) { long = Some id })
 
 -- its value is a number from `low` to `high`
 abbrev pub numbered : ℕ → ℕ → Rule → Rule
@@ -52,8 +52,8 @@ member_app name = with_rule (with_rule (new_app name) (of_group (placed (codes "
 
 abbrev pub options_app : App
 options_app =
-    with_rule (with_rule (with_rule (new_app (codes "sundr")) (named (codes "dir"))) (named (codes "server")))
-    (of_user (named (codes "user")))
+    with_rule (with_rule (with_rule (new_app (codes "sundr")) (option (codes "dir"))) (option (codes "server")))
+    (of_user (option (codes "user")))
 
 -- a command is required
 abbrev pub requires_command : App → App

@@ -3,61 +3,19 @@
 use crate::{Line, LineError, Wanted};
 use clap::error::ErrorKind;
 use commands::Command;
-use std::alloc::Global;
+use std::alloc::{AllocError, Global};
 
-static KEY: [&str; 8] = [
-    "sundr", "--dir", "d", "--server", "a:1", "--user", "7", "key",
-];
+/// The words before a command of user 7.
+static OPTIONS: [&str; 7] = ["sundr", "--dir", "d", "--server", "a:1", "--user", "7"];
 
-static LS: [&str; 9] = [
-    "sundr", "--dir", "d", "--server", "a:1", "--user", "7", "ls", "/p",
-];
-
-static CAT: [&str; 9] = [
-    "sundr", "--user", "7", "--dir", "d", "--server", "a:1", "cat", "/p",
-];
-
-static PUT: [&str; 10] = [
-    "sundr", "--dir", "d", "--server", "a:1", "--user", "7", "put", "/p", "f",
-];
-
-static MKDIR: [&str; 9] = [
-    "sundr", "--dir", "d", "--server", "a:1", "--user", "7", "mkdir", "/p",
-];
-
-static RM: [&str; 9] = [
-    "sundr", "--dir", "d", "--server", "a:1", "--user", "7", "rm", "/p",
-];
-
-static LINK: [&str; 10] = [
-    "sundr", "--dir", "d", "--server", "a:1", "--user", "7", "link", "/p", "@1:2",
-];
-
-static ADD_MEMBER: [&str; 10] = [
-    "sundr",
-    "--dir",
-    "d",
-    "--server",
-    "a:1",
-    "--user",
-    "7",
-    "addmember",
-    "64",
-    "63",
-];
-
-static DROP_MEMBER: [&str; 10] = [
-    "sundr",
-    "--dir",
-    "d",
-    "--server",
-    "a:1",
-    "--user",
-    "7",
-    "dropmember",
-    "95",
-    "0",
-];
+/// The words of user 7 that end with these.
+fn words_of<'a>(alloc: Global, command: &[&'a str]) -> Result<Vec<&'a str>, AllocError> {
+    let mut words: Vec<&'a str> = Vec::new(alloc);
+    for word in OPTIONS.iter().chain(&*command) {
+        words.push(*word)?;
+    }
+    Ok(words)
+}
 
 /// Whether the words before the command are read.
 fn is_of_user_7(line: &Line<'_>) -> bool {
@@ -91,10 +49,13 @@ fn is_line(line: &Line<'_>, command: u8) -> bool {
     is_of_user_7(line) && command_read(&line.wanted) == command
 }
 
-/// Whether the words are such a line.
-fn reads(alloc: Global, words: &[&str], command: u8) -> bool {
-    match &Line::read(alloc, words) {
-        Ok(line) => is_line(line, command),
+/// Whether the words of user 7 that end with these want the command of this number.
+fn reads(alloc: Global, command: &[&str], number: u8) -> bool {
+    let Ok(words) = words_of(alloc, command) else {
+        return false;
+    };
+    match &Line::read(alloc, words.as_slice()) {
+        Ok(line) => is_line(line, number),
         Err(_) => false,
     }
 }
@@ -102,14 +63,19 @@ fn reads(alloc: Global, words: &[&str], command: u8) -> bool {
 #[test]
 fn lines_of_paths(rt: HostRuntime) {
     let alloc = rt.alloc();
-    assert!(rt; reads(alloc, &KEY, 1) && reads(alloc, &LS, 2) && reads(alloc, &CAT, 3));
-    assert!(rt; reads(alloc, &PUT, 4) && reads(alloc, &MKDIR, 5) && reads(alloc, &RM, 6));
-    assert!(rt; reads(alloc, &LINK, 7));
+    assert!(rt; reads(alloc, &["key"], 1));
+    assert!(rt; reads(alloc, &["ls", "/p"], 2) && reads(alloc, &["cat", "/p"], 3));
+    assert!(rt; reads(alloc, &["put", "/p", "f"], 4) && reads(alloc, &["mkdir", "/p"], 5));
+    assert!(rt; reads(alloc, &["rm", "/p"], 6) && reads(alloc, &["link", "/p", "@1:2"], 7));
 }
 
-/// Whether the words make user 63 a member of group 64, or user 0 a member of group 95 no more.
-fn reads_member(alloc: Global, words: &[&str]) -> bool {
-    match &Line::read(alloc, words) {
+/// Whether the words of user 7 that end with these make user 63 a member of group 64, or user 0 a member of group 95 no
+/// more.
+fn reads_member(alloc: Global, command: &[&str]) -> bool {
+    let Ok(words) = words_of(alloc, command) else {
+        return false;
+    };
+    match &Line::read(alloc, words.as_slice()) {
         Ok(line) => match &line.wanted {
             Wanted::Run(Command::AddMember { group, user }) => {
                 group.get() == 64 && user.get() == 63
@@ -125,34 +91,20 @@ fn reads_member(alloc: Global, words: &[&str]) -> bool {
 
 #[test]
 fn lines_of_members(rt: HostRuntime) {
-    assert!(rt; reads_member(rt.alloc(), &ADD_MEMBER));
-    assert!(rt; reads_member(rt.alloc(), &DROP_MEMBER));
+    assert!(rt; reads_member(rt.alloc(), &["addmember", "64", "63"]));
+    assert!(rt; reads_member(rt.alloc(), &["dropmember", "95", "0"]));
 }
 
 /// A key's 112 digits: the form, and bytes of which none is another.
 const DIGITS: &str = "0000000600000003000102030405060708090a0b0c0d0e0f\
     101112131415161718191a1b1c1d1e1f202122232425262728292a2b2C2D2E2F";
 
-static ADD_USER: [&str; 10] = [
-    "sundr", "--dir", "d", "--server", "a:1", "--user", "7", "adduser", "5", DIGITS,
-];
-
-static SHORT_KEY: [&str; 10] = [
-    "sundr",
-    "--dir",
-    "d",
-    "--server",
-    "a:1",
-    "--user",
-    "7",
-    "adduser",
-    "5",
-    "0000000600000003",
-];
-
-/// Whether the words list user 5 with this key.
-fn reads_key(alloc: Global, words: &[&str]) -> bool {
-    match &Line::read(alloc, words) {
+/// Whether the words of user 7 that end with these list user 5 with this key.
+fn reads_key(alloc: Global, command: &[&str]) -> bool {
+    let Ok(words) = words_of(alloc, command) else {
+        return false;
+    };
+    match &Line::read(alloc, words.as_slice()) {
         Ok(line) => match &line.wanted {
             Wanted::Run(Command::AddUser { user, key }) => {
                 let bytes = key.as_bytes();
@@ -164,37 +116,25 @@ fn reads_key(alloc: Global, words: &[&str]) -> bool {
     }
 }
 
+/// Whether the words of user 7 that end with these have a bad key.
+fn has_bad_key(alloc: Global, command: &[&str]) -> bool {
+    let Ok(words) = words_of(alloc, command) else {
+        return false;
+    };
+    matches!(&Line::read(alloc, words.as_slice()), Err(LineError::Key))
+}
+
 #[test]
 fn lines_of_keys(rt: HostRuntime) {
-    assert!(rt; reads_key(rt.alloc(), &ADD_USER));
-    let short = Line::read(rt.alloc(), SHORT_KEY.as_slice());
-    assert!(rt; matches!(&short, Err(LineError::Key)));
+    assert!(rt; reads_key(rt.alloc(), &["adduser", "5", DIGITS]));
+    assert!(rt; has_bad_key(rt.alloc(), &["adduser", "5", &DIGITS[..16]]));
 }
 
 static NO_USER: [&str; 9] = [
     "sundr", "--dir", "d", "--server", "a:1", "--user", "64", "ls", "/p",
 ];
 
-static NO_GROUP: [&str; 10] = [
-    "sundr",
-    "--dir",
-    "d",
-    "--server",
-    "a:1",
-    "--user",
-    "7",
-    "addmember",
-    "63",
-    "1",
-];
-
-static NO_COMMAND: [&str; 7] = ["sundr", "--dir", "d", "--server", "a:1", "--user", "7"];
-
 static NO_SERVER: [&str; 6] = ["sundr", "--dir", "d", "--user", "7", "key"];
-
-static NO_FILE: [&str; 9] = [
-    "sundr", "--dir", "d", "--server", "a:1", "--user", "7", "put", "/p",
-];
 
 static HELP: [&str; 3] = ["sundr", "put", "--help"];
 
@@ -208,14 +148,22 @@ fn has_fault(alloc: Global, words: &[&str], kind: ErrorKind) -> bool {
     }
 }
 
+/// Whether clap finds a fault of this kind in the words of user 7 that end with these.
+fn has_fault_behind(alloc: Global, command: &[&str], kind: ErrorKind) -> bool {
+    match &words_of(alloc, command) {
+        Ok(words) => has_fault(alloc, words.as_slice(), kind),
+        Err(_) => false,
+    }
+}
+
 #[test]
 fn refuses_lines(rt: HostRuntime) {
     let alloc = rt.alloc();
     assert!(rt; has_fault(alloc, &NO_USER, ErrorKind::ValueValidation));
-    assert!(rt; has_fault(alloc, &NO_GROUP, ErrorKind::ValueValidation));
-    assert!(rt; has_fault(alloc, &NO_COMMAND, ErrorKind::MissingSubcommand));
+    assert!(rt; has_fault_behind(alloc, &["addmember", "63", "1"], ErrorKind::ValueValidation));
+    assert!(rt; has_fault_behind(alloc, &[], ErrorKind::MissingSubcommand));
     assert!(rt; has_fault(alloc, &NO_SERVER, ErrorKind::MissingRequiredArgument));
-    assert!(rt; has_fault(alloc, &NO_FILE, ErrorKind::MissingRequiredArgument));
+    assert!(rt; has_fault_behind(alloc, &["put", "/p"], ErrorKind::MissingRequiredArgument));
 }
 
 #[test]

@@ -2,12 +2,59 @@
 
 ghost use Rattle.std.specs.Prelude.{◌≡◌, false, codes, IfOk};
 ghost use Rattle.clap.specs.Words.{app_of, rule_of};
-ghost use Rattle.file_commands.specs.Words.{placed, valued, named, of_user, of_group, key_app};
-ghost use Rattle.file_commands.specs.Words.{path_app, put_app, link_app};
-ghost use Rattle.file_commands.specs.Words.{adduser_app, member_app, options_app, requires_command, sundr_app};
+ghost use Rattle.file_commands.specs.Words.{adduser_app, key_app, link_app, member_app, of_group, of_user, option};
+ghost use Rattle.file_commands.specs.Words.{options_app, path_app, placed, put_app, requires_command, sundr_app};
+ghost use Rattle.file_commands.specs.Words.{valued};
 
 use clap::{Arg, ArgAction, Command, value_parser};
 use std::alloc::{AllocError, Global};
+
+/// What help says of a command: what it does, and an example of its words.
+#[derive(Clone, Copy)]
+struct Help {
+    about: &'static str,
+    example: &'static str,
+}
+
+const LS: Help = Help {
+    about: "Prints a line `NAME p:i` for each entry of a directory, in order of the names' bytes",
+    example: "Example: sundr --dir alice --server localhost:7440 --user 1 ls /docs",
+};
+
+const CAT: Help = Help {
+    about: "Prints the bytes of a file",
+    example: "Example: sundr --dir alice --server localhost:7440 --user 1 cat /docs/plan",
+};
+
+const PUT: Help = Help {
+    about: "Writes the bytes of FILE at PATH: over the file there, or as a new one",
+    example: "Example: sundr --dir alice --server localhost:7440 --user 1 put /docs/plan plan.txt",
+};
+
+const MKDIR: Help = Help {
+    about: "Makes an empty directory, of the principal of the directory in which it gets its name",
+    example: "Example: sundr --dir alice --server localhost:7440 --user 1 mkdir /alice/docs",
+};
+
+const RM: Help = Help {
+    about: "Takes away a name, and the file or empty directory of the same principal that it stands for",
+    example: "Example: sundr --dir alice --server localhost:7440 --user 1 rm /docs/plan",
+};
+
+const LINK: Help = Help {
+    about: "Gives what stands at i-number i of principal p the name PATH",
+    example: "Example: sundr --dir root --server localhost:7440 --user 0 link /alice @1:1",
+};
+
+const ADD_MEMBER: Help = Help {
+    about: "Makes user U a member of group G; for user 0 alone",
+    example: "Example: sundr --dir root --server localhost:7440 --user 0 addmember 64 1",
+};
+
+const DROP_MEMBER: Help = Help {
+    about: "Makes user U a member of group G no more; for user 0 alone",
+    example: "Example: sundr --dir root --server localhost:7440 --user 0 dropmember 64 1",
+};
 
 /// A required value, by its place.
 fn placed<'a>(alloc: Global, name: &'a str, help: &'a str) -> Arg<'a>
@@ -29,8 +76,8 @@ fn valued<'a>(arg: Arg<'a>, value: &'a str) -> Arg<'a>
 }
 
 /// A required option.
-fn named<'a>(alloc: Global, name: &'a str, value: &'a str, help: &'a str) -> Arg<'a>
-    ensures rule { rule_of result ≡ named name.entry.now }
+fn option<'a>(alloc: Global, name: &'a str, value: &'a str, help: &'a str) -> Arg<'a>
+    ensures rule { rule_of result ≡ option name.entry.now }
     ensures local { result.global ≡ false }
 {
     valued(placed(alloc, name, help).long(name), value)
@@ -79,30 +126,19 @@ fn key_command<'a>(alloc: Global) -> Command<'a>
 }
 
 /// A command that takes a path alone.
-fn path_command<'a>(
-    alloc: Global,
-    name: &'a str,
-    about: &'a str,
-    example: &'a str,
-) -> Result<Command<'a>, AllocError>
+fn path_command<'a>(alloc: Global, name: &'a str, help: Help) -> Result<Command<'a>, AllocError>
     ensures { IfOk result (λ c. app_of c ≡ path_app name.entry.now) }
 {
     Command::new(alloc, name)
-        .about(about)
-        .after_help(example)
+        .about(help.about)
+        .after_help(help.example)
         .arg(path(alloc))
 }
 
 fn put_command<'a>(alloc: Global) -> Result<Command<'a>, AllocError>
     ensures { IfOk result (λ c. app_of c ≡ put_app) }
 {
-    path_command(
-        alloc,
-        "put",
-        "Writes the bytes of FILE at PATH: over the file there, or as a new one",
-        "Example: sundr --dir alice --server localhost:7440 --user 1 put /docs/plan plan.txt",
-    )?
-    .arg(placed(
+    path_command(alloc, "put", PUT)?.arg(placed(
         alloc,
         "FILE",
         "A file of this system, of at most 4,194,304 bytes",
@@ -112,13 +148,7 @@ fn put_command<'a>(alloc: Global) -> Result<Command<'a>, AllocError>
 fn link_command<'a>(alloc: Global) -> Result<Command<'a>, AllocError>
     ensures { IfOk result (λ c. app_of c ≡ link_app) }
 {
-    path_command(
-        alloc,
-        "link",
-        "Gives what stands at i-number i of principal p the name PATH",
-        "Example: sundr --dir root --server localhost:7440 --user 0 link /alice @1:1",
-    )?
-    .arg(placed(alloc, "TARGET", "`@p:i`"))
+    path_command(alloc, "link", LINK)?.arg(placed(alloc, "TARGET", "`@p:i`"))
 }
 
 fn adduser_command<'a>(alloc: Global) -> Result<Command<'a>, AllocError>
@@ -138,85 +168,14 @@ fn adduser_command<'a>(alloc: Global) -> Result<Command<'a>, AllocError>
 }
 
 /// A command that takes a group and a user.
-fn member_command<'a>(
-    alloc: Global,
-    name: &'a str,
-    about: &'a str,
-    example: &'a str,
-) -> Result<Command<'a>, AllocError>
+fn member_command<'a>(alloc: Global, name: &'a str, help: Help) -> Result<Command<'a>, AllocError>
     ensures { IfOk result (λ c. app_of c ≡ member_app name.entry.now) }
 {
     Command::new(alloc, name)
-        .about(about)
-        .after_help(example)
+        .about(help.about)
+        .after_help(help.example)
         .arg(of_group(placed(alloc, "G", "A group, 64 to 95")))?
         .arg(user(alloc))
-}
-
-fn ls_command<'a>(alloc: Global) -> Result<Command<'a>, AllocError>
-    ensures { IfOk result (λ c. app_of c ≡ path_app (codes "ls")) }
-{
-    path_command(
-        alloc,
-        "ls",
-        "Prints a line `NAME p:i` for each entry of a directory, in order of the names' bytes",
-        "Example: sundr --dir alice --server localhost:7440 --user 1 ls /docs",
-    )
-}
-
-fn cat_command<'a>(alloc: Global) -> Result<Command<'a>, AllocError>
-    ensures { IfOk result (λ c. app_of c ≡ path_app (codes "cat")) }
-{
-    path_command(
-        alloc,
-        "cat",
-        "Prints the bytes of a file",
-        "Example: sundr --dir alice --server localhost:7440 --user 1 cat /docs/plan",
-    )
-}
-
-fn mkdir_command<'a>(alloc: Global) -> Result<Command<'a>, AllocError>
-    ensures { IfOk result (λ c. app_of c ≡ path_app (codes "mkdir")) }
-{
-    path_command(
-        alloc,
-        "mkdir",
-        "Makes an empty directory, of the principal of the directory in which it gets its name",
-        "Example: sundr --dir alice --server localhost:7440 --user 1 mkdir /alice/docs",
-    )
-}
-
-fn rm_command<'a>(alloc: Global) -> Result<Command<'a>, AllocError>
-    ensures { IfOk result (λ c. app_of c ≡ path_app (codes "rm")) }
-{
-    path_command(
-        alloc,
-        "rm",
-        "Takes away a name, and the file or empty directory of the same principal that it stands for",
-        "Example: sundr --dir alice --server localhost:7440 --user 1 rm /docs/plan",
-    )
-}
-
-fn addmember_command<'a>(alloc: Global) -> Result<Command<'a>, AllocError>
-    ensures { IfOk result (λ c. app_of c ≡ member_app (codes "addmember")) }
-{
-    member_command(
-        alloc,
-        "addmember",
-        "Makes user U a member of group G; for user 0 alone",
-        "Example: sundr --dir root --server localhost:7440 --user 0 addmember 64 1",
-    )
-}
-
-fn dropmember_command<'a>(alloc: Global) -> Result<Command<'a>, AllocError>
-    ensures { IfOk result (λ c. app_of c ≡ member_app (codes "dropmember")) }
-{
-    member_command(
-        alloc,
-        "dropmember",
-        "Makes user U a member of group G no more; for user 0 alone",
-        "Example: sundr --dir root --server localhost:7440 --user 0 dropmember 64 1",
-    )
 }
 
 /// The options before the command.
@@ -224,14 +183,14 @@ fn options<'a>(alloc: Global) -> Result<Command<'a>, AllocError>
     ensures { IfOk result (λ c. app_of c ≡ options_app) }
 {
     Command::new(alloc, "sundr")
-        .arg(named(
+        .arg(option(
             alloc,
             "dir",
             "DIR",
             "The directory with seed, super.pub, ledger and journal",
         ))?
-        .arg(named(alloc, "server", "ADDR", "The server's address"))?
-        .arg(of_user(named(alloc, "user", "U", "The own number, 0 to 63")))
+        .arg(option(alloc, "server", "ADDR", "The server's address"))?
+        .arg(of_user(option(alloc, "user", "U", "The own number, 0 to 63")))
 }
 
 /// The options, after which a command is required.
@@ -248,13 +207,13 @@ pub(crate) fn command<'a>(alloc: Global) -> Result<Command<'a>, AllocError>
 {
     program(alloc)?
         .subcommand(key_command(alloc))?
-        .subcommand(ls_command(alloc)?)?
-        .subcommand(cat_command(alloc)?)?
+        .subcommand(path_command(alloc, "ls", LS)?)?
+        .subcommand(path_command(alloc, "cat", CAT)?)?
         .subcommand(put_command(alloc)?)?
-        .subcommand(mkdir_command(alloc)?)?
-        .subcommand(rm_command(alloc)?)?
+        .subcommand(path_command(alloc, "mkdir", MKDIR)?)?
+        .subcommand(path_command(alloc, "rm", RM)?)?
         .subcommand(link_command(alloc)?)?
         .subcommand(adduser_command(alloc)?)?
-        .subcommand(addmember_command(alloc)?)?
-        .subcommand(dropmember_command(alloc)?)
+        .subcommand(member_command(alloc, "addmember", ADD_MEMBER)?)?
+        .subcommand(member_command(alloc, "dropmember", DROP_MEMBER)?)
 }

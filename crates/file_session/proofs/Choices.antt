@@ -1,6 +1,6 @@
 -- What a command comes to, from looks.
-use Rattle.std.proofs.Common.{◌≡◌, [], ◌∷◌, Option, Some, None, Result, Ok, Err, IfOk, append-nil, ap, sym, subst, ◌∙◌}
-use Rattle.std.specs.Prelude.{IfErr}
+use Rattle.std.proofs.Common.{◌≡◌, [], ◌∷◌, Option, Some, None, Result, Ok, Err, IfOk, inl, inr, ap, sym, ◌∙◌}
+use Rattle.std.specs.Prelude.{IfErr, OnErr}
 use Rattle.std.specs.Borrow.{Bor}
 use Rattle.std.specs.Option.{option_map_or}
 use Rattle.layout.specs.Types.{Bytes, Group, Key, User}
@@ -8,7 +8,7 @@ use Rattle.directory.specs.declared.target.Target.{Target}
 use Rattle.update_cert.specs.Change.{AddUser, AddMember, DropMember, of_table}
 use Rattle.update_cert.specs.World.{Tree}
 use Rattle.client_verify.specs.State.{State}
-use Rattle.commands.specs.Asked.{Outcome, Writes, at_end, at_place, links, lists, makes, outcome, puts, reads, refuses, removes}
+use Rattle.commands.specs.Asked.{Outcome, Tells, Writes, at_end, at_place, links, lists, makes, outcome, puts, reads, refuses, removes}
 use Rattle.commands.specs.Paths.{path_of, place_of}
 use Rattle.commands.specs.declared.command.Command.{Command}
 use Rattle.commands.specs.declared.command.Command.TheVariants as command
@@ -17,13 +17,14 @@ use Rattle.file_session.specs.declared.planning.Plan.{Plan}
 use Rattle.file_session.specs.declared.stop.Stop.{Stop}
 use Rattle.file_session.specs.declared.stop.Stop.TheVariants as stop
 use Rattle.file_session.specs.Order.{Ready, ready_or}
-use Rattle.file_session.specs.Parts.{CanBegin, IsPlanOf, Planned}
-use Rattle.file_session.specs.Went.{Answering, At, Looked, looks, point}
+use Rattle.file_session.specs.Parts.{CanBegin, IsChange, IsPlanOf, LookedFor, Planned}
+use Rattle.file_session.specs.Went.{Answering, At, Looked, point}
 use Rattle.file_session.proofs.Looks.{looked_so}
-use Rattle.file_session.proofs.Runs.{lacks, went_as, went_then}
+use Rattle.file_session.proofs.Runs.{lacks_plan, went_then}
 
-if_same : {A : Type 0} (r : Result (Plan A) Stop) (x y o : Outcome) → y ≡ x → IfOk r (λ plan. x ≡ o) → IfOk r (λ plan. y ≡ o)
-if_same r x y o same h = subst (λ (z : Outcome). IfOk r (λ plan. z ≡ o)) (sym same) h
+pub on_err : {X E : Type 0} (r : Result X E) {P : Type 0} → P → OnErr r P
+on_err (Ok x) h = tt
+on_err (Err e) h = h
 
 -- ---- each command
 
@@ -72,30 +73,36 @@ pub of_drop_member : (u who : User) (group : Group) (c : Command) (tree : Tree) 
 unfolding outcome
 of_drop_member u who group c tree is = ap (λ (x : Command). outcome u x tree) is
 
+looked_as : {T X : Type 0} (answers : Answering T) (a b : At T) (r : Result X Stop) (comes other : Tree → Outcome) (o : Outcome) → ((tree : Tree) → other tree ≡ comes tree) → LookedFor answers a b comes o r → LookedFor answers a b other o r
+looked_as answers a b (Ok x) comes other o same h = looked_so _ h (λ tree is. same tree ∙ is)
+looked_as answers a b (Err e) comes other o same (inl h) = inl h
+looked_as answers a b (Err e) comes other o same (inr h) = inr (record { seen = h.seen; went = h.went; wanted = h.wanted; asked = λ tree agrees. same tree ∙ h.asked tree agrees })
+
 module _ {T : Type 0} {answers : Answering T} where
   -- a look was stopped
   pub planned_not : {A : Type 0} {a b : At T} (comes : Tree → Outcome) (e : Stop) → Looked answers a b (λ tree. Unit {0}) → Planned {A = A} answers a b comes (Err e)
-  planned_not comes e h = record { outcome = refuses refusal.NoPath; looked = looked_so _ h (λ tree is. tt); is_plan = tt; can_begin = tt }
+  planned_not comes e h = record { outcome = refuses refusal.NoPath; looked = inl h; is_plan = tt; can_begin = tt }
 
   -- this follows from the looks
   pub planned_now : {A : Type 0} {a b : At T} (comes : Tree → Outcome) (o : Outcome) (p : Plan A) → Looked answers a b (λ tree. comes tree ≡ o) → IsPlanOf o p → CanBegin p → Planned answers a b comes (Ok p)
-  planned_now comes o p h is can = record { outcome = o; looked = looked_so _ h (λ tree is. is); is_plan = is; can_begin = can }
+  planned_now comes o p h is can = record { outcome = o; looked = h; is_plan = is; can_begin = can }
 
   -- unless memory runs out
-  pub planned_by : {A : Type 0} {a : At T} {m : State} {t : T} (comes : Tree → Outcome) (o : Outcome) (r : Result (Plan A) Stop) → Looked answers a (point m t (Ready [])) (λ tree. comes tree ≡ o) → IfOk r (IsPlanOf o) → IfOk r CanBegin → IfErr r (λ e. e ≡ stop.Memory) → Planned answers a (point m t (ready_or r)) comes r
-  planned_by comes o (Ok p) h is can none = planned_now comes o p h is can
-  planned_by {m = m} {t = t} comes o (Err e) h is can memory = record {
-    outcome = o;
-    looked = record { seen = h.seen; went = went_as (went_then h.went (lacks m t e memory)) (append-nil (looks h.seen)); tells = λ tree agrees. tt };
+  pub planned_by : {A : Type 0} {a : At T} {m : State} {t : T} (comes : Tree → Outcome) (o : Outcome) (r : Result (Plan A) Stop) → Looked answers a (point m t (Ready [])) (λ tree. comes tree ≡ o) → IfOk r (IsPlanOf o) → IfOk r CanBegin → IfErr r (λ e. e ≡ stop.Memory) → OnErr r (IsChange o) → Planned answers a (point m t (ready_or r)) comes r
+  planned_by comes o (Ok p) h is can none change = planned_now comes o p h is can
+  planned_by comes (Tells told) (Err e) h is can memory change = absurd change
+  planned_by {m = m} {t = t} comes (Writes wanted) (Err e) h is can memory change = record {
+    outcome = Writes wanted;
+    looked = inr (record { seen = h.seen; went = went_then h.went (lacks_plan m t e memory); wanted = wanted; asked = h.tells });
     is_plan = tt;
     can_begin = tt;
   }
 
   -- what comes of it is the same by another name
   pub planned_as : {A : Type 0} {a b : At T} {r : Result (Plan A) Stop} (comes other : Tree → Outcome) → ((tree : Tree) → other tree ≡ comes tree) → Planned answers a b comes r → Planned answers a b other r
-  planned_as {r = r} comes other same p = record {
+  planned_as {a = a} {b = b} {r = r} comes other same p = record {
     outcome = p.outcome;
-    looked = looked_so _ p.looked (λ tree is. if_same r (comes tree) (other tree) p.outcome (same tree) is);
+    looked = looked_as answers a b r comes other p.outcome same p.looked;
     is_plan = p.is_plan;
     can_begin = p.can_begin;
   }

@@ -18,7 +18,7 @@ use Rattle.transport.specs.declared.transport.TransportError.{TransportError}
 use Rattle.transport.specs.declared.transport.TransportError.TheVariants as fault
 use Rattle.file_session.specs.Replies.{payload_by, payload_in, reply_in, block_by, block_in, status_in, then, or_cut}
 use Rattle.file_session.specs.Calls.{Begins, Hears, Takes, Signs, Commits, Looks, Gives}
-use Rattle.file_session.specs.Order.{Move, Calls, Sends, Lacks, Next, Ready, Update, Hear, Fetch, Take, Store, Commit, Tell, FetchAt, GiveAt, Over, Follows}
+use Rattle.file_session.specs.Order.{Move, Calls, Sends, LacksPlan, LacksNumbers, Next, Ready, Update, Hear, Fetch, Take, Store, CommitNew, Commit, Tell, FetchAt, GiveAt, Over, Follows}
 use Rattle.file_session.specs.Order.{laying, declaring, hearing, checking, taking, storing, committing, telling, committed, looking, giving, ready_or, resuming}
 use Rattle.file_session.specs.Went.{Answering, At, IsMove, Moves}
 use Rattle.file_session.specs.Sessions.{IsGivenFrom}
@@ -92,8 +92,8 @@ by_commit other e h = same (stop.Declined other) e h
 
 pub gave_by : (now : Next) (m : Move) (e : Stop) → Follows now m (Over e) → Gave m e
 gave_by (Over d) m e h = absurd h
-gave_by (Ready []) Lacks e h = same stop.Memory e h
-gave_by (Commit text) Lacks e h = same stop.Memory e h
+gave_by (Ready []) LacksPlan e h = same stop.Memory e h
+gave_by (CommitNew text) LacksNumbers e h = same stop.Memory e h
 gave_by (Ready laid) (Sends r x) e h = by_payload (laying laid r.payload) x e (λ n k. cc) (λ d. refl) h.1
 gave_by (Ready laid) (Calls (Begins changes texts x)) e h = by_text declaring x e (λ n k. cc) (λ d. refl) h.1
 gave_by (Ready laid) (Calls (Looks q x)) e h = by_look q x e h.1
@@ -103,6 +103,7 @@ gave_by (Fetch digest) (Sends r x) e h = by_block taking x e (λ n k. cc) (λ d.
 gave_by (Take block) (Calls (Takes handed x)) e h = by_step x e h.1
 gave_by (Store (text ∷ texts)) (Sends r x) e h = by_payload (storing texts) x e (λ n k. cc) (λ d. refl) h.1
 gave_by (Store []) (Calls (Signs x lost)) e h = by_text committing x e (λ n k. cc) (λ d. refl) h
+gave_by (CommitNew text) (Sends r x) e h = by_status x e h.1
 gave_by (Commit text) (Sends r x) e h = by_status x e h.1
 gave_by (Tell told) (Calls (Commits handed)) e h = subst (λ (s : Status). e ≡ stop.Declined s) (sym h.0) (by_commit told e h.1)
 gave_by (FetchAt q digest) (Sends r x) e h = by_block (giving q) x e (λ n k. cc) (λ d. refl) h.1
@@ -123,6 +124,7 @@ on_before (Hear text) m next h = tt
 on_before (Fetch digest) m next h = tt
 on_before (Take block) m next h = tt
 on_before (Store texts) m next h = tt
+on_before (CommitNew text) m next h = tt
 on_before (Commit text) m next h = tt
 on_before (Tell told) m next h = tt
 on_before (FetchAt q digest) m next h = tt
@@ -131,10 +133,11 @@ on_before (GiveAt q block) m next h = tt
 not_over : (now : Next) (e : Stop) → now ≡ Over e → IsOn now → ⊥
 not_over now e is on = subst IsOn is on
 
-follows_in : {T : Type 0} (answers : Answering T) (a : At T) (m : Move) (b : At T) → IsMove answers a m b → Follows a.next m b.next
+pub follows_in : {T : Type 0} (answers : Answering T) (a : At T) (m : Move) (b : At T) → IsMove answers a m b → Follows a.next m b.next
 follows_in answers a (Calls call) b h = h.2
 follows_in answers a (Sends r x) b h = h.2
-follows_in answers a Lacks b h = h.2
+follows_in answers a LacksPlan b h = h.2
+follows_in answers a LacksNumbers b h = h.2
 
 pub last_gave : {T : Type 0} (answers : Answering T) (a b : At T) (ms : List Move) (e : Stop) → IsOn a.next → Moves answers a ms b → b.next ≡ Over e → IsLast ms e
 last_gave answers a b [] e on h is = absurd (not_over a.next e (ap (λ x. x.next) (sym h) ∙ is) on)

@@ -8,4 +8,5 @@ pub mod Steps
 pub mod Walks
 pub mod Plans
 pub mod Choices
+pub mod Once
 pub mod Sessions

@@ -9,7 +9,7 @@ use Rattle.update_cert.specs.World.{File}
 use Rattle.client_tree.specs.Genesis.{inode_digest, root_inode}
 use Rattle.client_verify.specs.Laid.{are_laid, is_file_laid, is_laid}
 use Rattle.client_verify.proofs.LaidLaws.{laid_anywhere}
-use Rattle.file_session.specs.Declaring.{named, texts_of_content}
+use Rattle.file_session.specs.Declaring.{content_digest, texts_of_content}
 use Rattle.file_session.specs.Parts.{IsSmall, bytes_of, content_of}
 use Rattle.file_session.specs.declared.texts.New.{New}
 use Rattle.file_session.specs.declared.texts.New.TheVariants as new
@@ -22,10 +22,10 @@ or_true true = refl
 or_true false = refl
 
 -- a file that was laid out alone
-pub file_is_laid : (bytes : Bytes) → IsSmall bytes → is_file_laid (texts_of_content (File bytes)) (named (File bytes)) ≡ true
+pub file_is_laid : (bytes : Bytes) → IsSmall bytes → is_file_laid (texts_of_content (File bytes)) (content_digest (File bytes)) ≡ true
 file_is_laid bytes small = laid_anywhere bytes small (texts_of_content (File bytes)) (0, omega arith, refl) (λ block (k, low, at). (suc k, omega arith, at))
 
-pub made_is_laid : (x : New) → IsSmall (bytes_of x) → is_laid (texts_of_content (content_of x)) (Make (named (content_of x))) ≡ true
+pub made_is_laid : (x : New) → IsSmall (bytes_of x) → is_laid (texts_of_content (content_of x)) (Make (content_digest (content_of x))) ≡ true
 made_is_laid (new.File bytes) small = rw (file_is_laid bytes.now small) refl
 made_is_laid new.Directory small = rw (same_bytes (inode_digest root_inode)) (or_true (is_file_laid [] (inode_digest root_inode)))
 

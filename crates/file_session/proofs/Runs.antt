@@ -1,5 +1,5 @@
 -- Runs, one move after another.
-use Rattle.std.proofs.Common.{◌≡◌, ℕ, List, [], ◌∷◌, ◌++◌, Option, Result, refl, sym, ap, ◌∙◌, subst, append_assoc, append-nil}
+use Rattle.std.proofs.Common.{◌≡◌, ℕ, List, [], ◌∷◌, ◌++◌, Option, Result, Ok, Err, refl, sym, ap, ◌∙◌, subst, append_assoc, append-nil}
 use Rattle.layout.specs.Types.{Bytes, Digest}
 use Rattle.update_cert.specs.Change.{Change}
 use Rattle.client_tree.specs.declared.questions.Question.{Question}
@@ -12,10 +12,10 @@ use Rattle.file_session.specs.declared.stop.Stop.TheVariants as stop
 use Rattle.transport.specs.declared.transport.TransportError.{TransportError}
 use Rattle.file_session.specs.Replies.{payload_in, block_in, status_in}
 use Rattle.file_session.specs.Calls.{Begins, Hears, Takes, Signs, Commits, Looks, Gives, Leads}
-use Rattle.file_session.specs.Order.{Move, Calls, Sends, Lacks, Ready, Update, Hear, Fetch, Take, Store, Commit, Tell, FetchAt, GiveAt, Over}
-use Rattle.file_session.specs.Order.{laying, declaring, hearing, checking, taking, storing, committing, telling, committed, looking, giving}
+use Rattle.file_session.specs.Order.{Move, Calls, Sends, LacksPlan, LacksNumbers, Ready, Update, Hear, Fetch, Take, Store, CommitNew, Commit, Tell, FetchAt, GiveAt, Over}
+use Rattle.file_session.specs.Order.{laying, declaring, hearing, checking, taking, storing, committing, telling, committed, looking, giving, ready_or}
 use Rattle.file_session.specs.Order.{put as put_of, update, get, commit}
-use Rattle.file_session.specs.Went.{Answering, At, point, IsMove, Moves, Event, Begun, Saw, looks, signs, seen_by, signed_by, events_of, events, Went, Seen}
+use Rattle.file_session.specs.Went.{Answering, At, point, IsMove, Moves, Event, Begun, Saw, Unplanned, looks, signs, seen_by, signed_by, events_of, events, Went, Seen}
 
 pub events_join : (ms ns : List Move) → events (ms ++ ns) ≡ events ms ++ events ns
 events_join [] ns = refl
@@ -28,6 +28,16 @@ looks_join (x ∷ s) t = ap (λ l. Saw x ∷ l) (looks_join s t)
 pub moves_join : {T : Type 0} (answers : Answering T) (a b c : At T) (ms ns : List Move) → Moves answers a ms b → Moves answers b ns c → Moves answers a (ms ++ ns) c
 moves_join {T} answers a b c [] ns h k = subst (λ (x : At T). Moves answers x ns c) h k
 moves_join answers a b c (m ∷ ms) ns (mid, one, more) k = (mid, one, moves_join answers mid b c ms ns more k)
+
+first_new : {T : Type 0} (answers : Answering T) (m : State) (t : T) (text : Bytes) (move : Move) (b : At T) → IsMove answers (point m t (Commit text)) move b → IsMove answers (point m t (CommitNew text)) move b
+first_new answers m t text (Calls call) b h = absurd h.2
+first_new answers m t text (Sends r x) b h = h
+first_new answers m t text LacksPlan b h = absurd h.2
+first_new answers m t text LacksNumbers b h = absurd h.2
+
+no_commit : {X : Type 0} (text : Bytes) (r : Result X Stop) → ready_or r ≡ Commit text → ⊥
+no_commit text (Ok x) is = absurd cc
+no_commit text (Err e) is = absurd cc
 
 module _ {T : Type 0} {answers : Answering T} where
   pub went_then : {a b c : At T} {s t : List Event} → Went answers a b s → Went answers b c t → Went answers a c (s ++ t)
@@ -87,9 +97,17 @@ module _ {T : Type 0} {answers : Answering T} where
   pub gave : (m m' : State) (t : T) (q : Question) (block : Option Bytes) (x : Result Sees ClientError) → Leads m (Gives q block x) m' → Went answers (point m t (GiveAt q block)) (point m' t (looking q x)) (looks (seen_by q x))
   gave m m' t q block x h = went_one (point m t (GiveAt q block)) (Calls (Gives q block x)) (point m' t (looking q x)) (h, refl, (refl, refl, refl))
 
-  -- memory runs out where nothing is under way, or before a commit
-  pub lacks : (m : State) (t : T) (e : Stop) → e ≡ stop.Memory → Went answers (point m t (Ready [])) (point m t (Over e)) []
-  lacks m t e is = went_one (point m t (Ready [])) Lacks (point m t (Over e)) (refl, refl, ap Over is)
+  -- memory runs out for an operation that is planned, or before a new structure is sent
+  pub lacks_plan : (m : State) (t : T) (e : Stop) → e ≡ stop.Memory → Went answers (point m t (Ready [])) (point m t (Over e)) (Unplanned ∷ [])
+  lacks_plan m t e is = went_one (point m t (Ready [])) LacksPlan (point m t (Over e)) (refl, refl, ap Over is)
 
-  pub lacks_before : (m : State) (t : T) (text : Bytes) (e : Stop) → e ≡ stop.Memory → Went answers (point m t (Commit text)) (point m t (Over e)) []
-  lacks_before m t text e is = went_one (point m t (Commit text)) Lacks (point m t (Over e)) (refl, refl, ap Over is)
+  pub lacks_numbers : (m : State) (t : T) (text : Bytes) (e : Stop) → e ≡ stop.Memory → Went answers (point m t (CommitNew text)) (point m t (Over e)) []
+  lacks_numbers m t text e is = went_one (point m t (CommitNew text)) LacksNumbers (point m t (Over e)) (refl, refl, ap Over is)
+
+  -- a new structure is sent as one that was signed before
+  pub commits_new : {X : Type 0} {es : List Event} (m m' : State) (t t' : T) (text : Bytes) (r : Result X Stop) → Went answers (point m t (Commit text)) (point m' t' (ready_or r)) es → Went answers (point m t (CommitNew text)) (point m' t' (ready_or r)) es
+  commits_new {X} m m' t t' text r h = record { moves = h.moves; run = as_new h.moves h.run; told = h.told }
+    where
+      as_new : (ms : List Move) → Moves answers (point m t (Commit text)) ms (point m' t' (ready_or r)) → Moves answers (point m t (CommitNew text)) ms (point m' t' (ready_or r))
+      as_new [] is = absurd (no_commit text r (ap (λ x. x.next) is))
+      as_new (move ∷ ms) (mid, one, more) = (mid, first_new answers m t text move mid one, more)

@@ -1,6 +1,5 @@
 -- Sessions, from their parts.
-use Rattle.std.proofs.Common.{◌≡◌, inl, inr, ℕ, List, [], ◌∷◌, ◌++◌, Option, None, Result, Ok, Err, refl, sym, ap, ◌∙◌, subst, map, append-nil}
-use Rattle.std.specs.Prelude.{IfOk}
+use Rattle.std.proofs.Common.{◌≡◌, ◌⊎◌, inl, inr, ℕ, List, [], ◌∷◌, ◌++◌, Option, None, Result, Ok, Err, refl, sym, ap, ◌∙◌, subst, map, append-nil}
 use Rattle.std.specs.Vec.{vec_items}
 use Rattle.std.specs.declared.vec.Vec.{Vec}
 use Rattle.client_steps.specs.Anywhere.{on_ok}
@@ -15,10 +14,11 @@ use Rattle.file_session.specs.declared.planning.Plan.TheVariants as plan
 use Rattle.file_session.specs.declared.planning.Operation.{Operation}
 use Rattle.file_session.specs.declared.stop.Stop.{Stop}
 use Rattle.file_session.specs.Order.{Next, Ready, Over, ready_or, resuming}
-use Rattle.file_session.specs.Parts.{Carried, IsPlanOf, IsWrite, Planned, Wrote}
-use Rattle.file_session.specs.Sessions.{IsAsked, IsCarriedOut, IsDone, IsFinished, Ran, Resumed}
-use Rattle.file_session.specs.Went.{Agrees, Answering, At, point, Event, Begun, Saw, Seen, Signed, looks, signs, Went, Finished, Operated}
+use Rattle.file_session.specs.Parts.{CantPlan, Carried, IsEnded, IsPlanOf, IsWrite, Planned, Wrote}
+use Rattle.file_session.specs.Sessions.{IsAsked, IsCarriedOut, IsDone, IsFinished, IsUncommitted, IsUnfinished, Ran, Resumed}
+use Rattle.file_session.specs.Went.{Agrees, Answering, At, point, Event, Begun, Saw, Seen, Signed, Unplanned, Looked, looks, signs, Went, Finished, Operated}
 use Rattle.file_session.proofs.Given.{given_from}
+use Rattle.file_session.proofs.Once.{asked_once}
 use Rattle.file_session.proofs.Runs.{went_as, went_then}
 
 tells_are : {A : Type 0} (o : Outcome) (x : _) → IsPlanOf {A = A} o (plan.Tells x) → o ≡ Tells (answer_of x)
@@ -35,21 +35,22 @@ abbrev pub told_by : Result (List ℕ) Stop → Result Answer Stop
 told_by (Ok lost) = Ok (told_of_lost lost)
 told_by (Err e) = Err e
 
-done_by : {u : User} {command : Command} {seen : List Seen} (changes : List (Change Digest)) (laid : List Bytes) (es : List Event) (r : Result (List ℕ) Stop) → IsAsked u command seen changes laid → IsWrite changes laid es r → IsDone u command seen es (told_by r)
-done_by changes laid [] (Ok lost) asked is = absurd is
-done_by changes laid [] (Err e) asked is = tt
-done_by {u} {command} {seen} changes laid (Begun begun texts ∷ es) (Ok lost) asked is =
+done_by : {u : User} {command : Command} {seen : List Seen} (new : State) (changes : List (Change Digest)) (laid : List Bytes) (es : List Event) (r : Result (List ℕ) Stop) → IsAsked u command seen changes laid → IsWrite changes laid es r new → IsDone u command seen es (told_by r) new
+done_by new changes laid [] (Ok lost) asked is = absurd is
+done_by new changes laid [] (Err e) asked is = tt
+done_by {u} {command} {seen} new changes laid (Begun begun texts ∷ es) (Ok lost) asked is =
     (subst (λ (p : List (Change Digest) × List Bytes). IsAsked u command seen p.0 p.1) (both (sym is.0) (sym is.1)) asked, (lost, is.2, refl))
   where
     both : changes ≡ begun → laid ≡ texts → ◌≡◌ {A = List (Change Digest) × List Bytes} (changes, laid) (begun, texts)
     both one other = λ i. (one i, other i)
-done_by {u} {command} {seen} changes laid (Begun begun texts ∷ es) (Err e) asked is =
+done_by {u} {command} {seen} new changes laid (Begun begun texts ∷ es) (Err e) asked is =
     (subst (λ (p : List (Change Digest) × List Bytes). IsAsked u command seen p.0 p.1) (both (sym is.0) (sym is.1)) asked, is.2)
   where
     both : changes ≡ begun → laid ≡ texts → ◌≡◌ {A = List (Change Digest) × List Bytes} (changes, laid) (begun, texts)
     both one other = λ i. (one i, other i)
-done_by changes laid (Saw s ∷ es) r asked is = absurd is
-done_by changes laid (Signed lost ∷ es) r asked is = absurd is
+done_by new changes laid (Saw s ∷ es) r asked is = absurd is
+done_by new changes laid (Signed lost ∷ es) r asked is = absurd is
+done_by new changes laid (Unplanned ∷ es) r asked is = absurd is
 
 pub ready_same : {X Y : Type 0} (f : X → Y) (r : Result X Stop) → ready_or r ≡ ready_or (on_ok f r)
 ready_same f (Ok x) = refl
@@ -61,43 +62,47 @@ module _ {T : Type 0} {answers : Answering T} where
   wrote {changes = changes} {laid = laid} lost h k = record { es = Begun changes laid ∷ signs k.signed; went = went_then h k.went; written = (refl, refl, ap signs k.lost) }
 
   -- or the operation was refused
-  pub wrote_not : {a b : At T} {m : State} {t : T} {changes : List (Change Digest)} {laid : List Bytes} {e : Stop} {P : List (List ℕ) → Type 0} → Went answers a (point m t (Ready laid)) [] → Operated answers (point m t (Ready laid)) b changes laid P → Wrote answers a b changes laid (Err e)
-  wrote_not {changes = changes} {laid = laid} h k = record { es = Begun changes laid ∷ signs k.signed; went = went_then h k.went; written = (refl, refl, (k.signed, refl)) }
+  pub wrote_not : {a b : At T} {m : State} {t : T} {changes : List (Change Digest)} {laid : List Bytes} {e : Stop} → Went answers a (point m t (Ready laid)) [] → Operated answers (point m t (Ready laid)) b changes laid (λ signed. IsUncommitted signed b.client) → Wrote answers a b changes laid (Err e)
+  wrote_not {changes = changes} {laid = laid} h k = record { es = Begun changes laid ∷ signs k.signed; went = went_then h k.went; written = (refl, refl, (k.signed, refl, k.lost)) }
 
   -- whichever came of it
-  pub wrote_by : {A : Type 0} {a b : At T} {m : State} {t : T} {changes : List (Change Digest)} {laid : List Bytes} (r : Result (Vec ℕ A) Stop) → Went answers a (point m t (Ready laid)) [] → Operated answers (point m t (Ready laid)) b changes laid (λ signed. IfOk r (λ lost. signed ≡ lost.items ∷ [])) → Wrote answers a b changes laid (on_ok vec_items r)
+  pub wrote_by : {A : Type 0} {a b : At T} {m : State} {t : T} {changes : List (Change Digest)} {laid : List Bytes} (r : Result (Vec ℕ A) Stop) → Went answers a (point m t (Ready laid)) [] → Operated answers (point m t (Ready laid)) b changes laid (IsEnded r b.client) → Wrote answers a b changes laid (on_ok vec_items r)
   wrote_by (Ok lost) h k = wrote lost.items h k
   wrote_by (Err e) h k = wrote_not h k
 
   -- ---- a command
 
   -- the look was stopped
-  pub carried_not : {a b : At T} (u : User) (c : Command) (e : Stop) {P : List (List ℕ) → Type 0} → Operated answers a b [] [] P → Carried answers a b u c (Err e)
+  pub carried_not : {a b : At T} (u : User) (c : Command) (e : Stop) → Operated answers a b [] [] (λ signed. IsUncommitted signed b.client) → Carried answers a b u c (Err e)
   carried_not u c e k = record {
     es = Begun [] [] ∷ signs k.signed;
     went = k.went;
-    carried = record { signed = k.signed; seen = []; written = []; order = ap (λ es. Begun [] [] ∷ es) (sym (append-nil (signs k.signed))); done = inl (refl, refl, tt) };
+    carried = record { signed = k.signed; seen = []; written = []; order = ap (λ es. Begun [] [] ∷ es) (sym (append-nil (signs k.signed))); done = inl (refl, refl, tt, k.lost) };
   }
 
   -- the look has its view, and these are the looks in it, and what is done after them
   after_looks : {a b c : At T} {u : User} {command : Command} {result : Result Answer Stop} (k : Operated answers a b [] [] (λ signed. (lost : List ℕ) × (signed ≡ lost ∷ []))) (seen : List Seen) (written : List Event)
-      → Went answers b c (looks seen ++ written) → IsDone u command seen written result → Carried answers a c u command result
+      → Went answers b c (looks seen ++ written) → IsDone u command seen written result c.client → Carried answers a c u command result
   after_looks k seen written went done = record {
     es = Begun [] [] ∷ (signs k.signed ++ (looks seen ++ written));
     went = went_then k.went went;
     carried = record { signed = k.signed; seen = seen; written = written; order = refl; done = inr (k.lost.0, k.lost.1, done) };
   }
 
-  -- a look in it was stopped
+  -- a look in it was stopped, or memory was refused for the operation that is asked for
+  by_look : {a b c : At T} {u : User} {command : Command} (e : Stop) → Operated answers a b [] [] (λ signed. (lost : List ℕ) × (signed ≡ lost ∷ [])) → (Looked answers b c (λ tree. Unit {0}) ⊎ CantPlan answers b c (outcome u command)) → Carried answers a c u command (Err e)
+  by_look e k (inl p) = after_looks k p.seen [] (went_as p.went (sym (append-nil (looks p.seen)))) tt
+  by_look e k (inr p) = after_looks k p.seen (Unplanned ∷ []) p.went (p.wanted, p.asked)
+
   pub looked_not : {A : Type 0} {a b c : At T} {u : User} {command : Command} (e : Stop) → Operated answers a b [] [] (λ signed. (lost : List ℕ) × (signed ≡ lost ∷ [])) → Planned {A = A} answers b c (outcome u command) (Err e) → Carried answers a c u command (Err e)
-  looked_not e k p = after_looks k p.looked.seen [] (went_as p.looked.went (sym (append-nil (looks p.looked.seen)))) tt
+  looked_not e k p = by_look e k p.looked
 
   -- an answer at once
   pub tells : {A : Type 0} {a b c : At T} {u : User} {command : Command} (x : _) → Operated answers a b [] [] (λ signed. (lost : List ℕ) × (signed ≡ lost ∷ [])) → Planned {A = A} answers b c (outcome u command) (Ok (plan.Tells x)) → Carried answers a c u command (Ok (answer_of x))
   tells x k p = after_looks k p.looked.seen [] (went_as p.looked.went (sym (append-nil (looks p.looked.seen)))) (λ tree agrees. p.looked.tells tree agrees ∙ tells_are p.outcome x p.is_plan)
 
   pub writes : {A : Type 0} {a b c d : At T} {u : User} {command : Command} (op : Operation A) (r : Result (List ℕ) Stop) → Operated answers a b [] [] (λ signed. (lost : List ℕ) × (signed ≡ lost ∷ [])) → Planned {A = A} answers b c (outcome u command) (Ok (plan.Writes op)) → Wrote answers c d op.changes.items (map vec_items op.texts.items) r → Carried answers a d u command (told_by r)
-  writes op r k p w = after_looks k p.looked.seen w.es (went_then p.looked.went w.went) (done_by op.changes.items (map vec_items op.texts.items) w.es r (asks op p.outcome p.looked.seen p.looked.tells p.is_plan) w.written)
+  writes {d = d} op r k p w = after_looks k p.looked.seen w.es (went_then p.looked.went w.went) (done_by d.client op.changes.items (map vec_items op.texts.items) w.es r (asks op p.outcome p.looked.seen p.looked.tells p.is_plan) w.written)
 
   -- by another name
   pub writes_as : {A : Type 0} {a b c d : At T} {u : User} {command : Command} (op : Operation A) (changes : List (Change Digest)) (laid : List Bytes) (r : Result (List ℕ) Stop) → Operated answers a b [] [] (λ signed. (lost : List ℕ) × (signed ≡ lost ∷ [])) → Planned {A = A} answers b c (outcome u command) (Ok (plan.Writes op)) → changes ≡ op.changes.items → laid ≡ map vec_items op.texts.items → Wrote answers c d changes laid r → Carried answers a d u command (told_by r)
@@ -110,16 +115,17 @@ module _ {T : Type 0} {answers : Answering T} where
   -- ---- a session
 
   -- what was to be finished first was stopped
-  pub ran_not : (s new : State) (t t' : T) (u : User) (c : Command) (resumed : Option Resumed) (e : Stop) {P : List (List ℕ) → Type 0} → resumed ≡ None → Finished answers (point s t (resuming s.phase s.text)) (point new t' (Over e)) P → Ran answers s t u c new t' resumed (Err e)
-  ran_not s new t t' u c resumed e none h = record {
+  pub ran_not : (s new : State) (t t' : T) (u : User) (c : Command) (resumed : Option Resumed) (e : Stop) {P : List (List ℕ) → Type 0} → resumed ≡ None → IsUnfinished new → Finished answers (point s t (resuming s.phase s.text)) (point new t' (Over e)) P → Ran answers s t u c new t' resumed (Err e)
+  ran_not s new t t' u c resumed e none unfinished h = record {
     moves = h.went.moves;
     signed = h.signed;
     es = [];
     run = h.went.run;
     order = h.went.told ∙ sym (append-nil (signs h.signed));
-    finished = (tt, none);
+    finished = (tt, none, unfinished);
     carried = tt;
     given = given_from answers (point s t (resuming s.phase s.text)) (point new t' (Over e)) s.phase s.text h.went.moves (Err e) refl refl h.went.run;
+    once = asked_once answers (point s t (resuming s.phase s.text)) (point new t' (Over e)) h.went.moves h.went.run;
   }
 
   -- it was finished, and the command carried out
@@ -134,6 +140,7 @@ module _ {T : Type 0} {answers : Answering T} where
         run = both.run;
         order = both.told ∙ ap (λ es. signs h.signed ++ es) o.order;
         finished = h.lost;
-        carried = subst (λ es. IsCarriedOut u c es r) o.order o;
+        carried = subst (λ es. IsCarriedOut u c es r new) o.order o;
         given = given_from answers (point s t (resuming s.phase s.text)) (point new t' (ready_or r)) s.phase s.text both.moves r refl refl both.run;
+        once = asked_once answers (point s t (resuming s.phase s.text)) (point new t' (ready_or r)) both.moves both.run;
       }

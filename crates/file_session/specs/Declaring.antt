@@ -10,15 +10,15 @@ use Rattle.update_cert.specs.World.{Content, File, Directory, Principals}
 use Rattle.client_tree.specs.Genesis.{inode_digest, root_inode}
 
 -- the digest of the i-node of what is made or put: of a file, or of the empty directory
-abbrev pub named : Content → Digest
-named (File bytes) = hash (inode.spell (inode_of bytes))
-named (Directory entries) = inode_digest root_inode
-named (Principals table) = []
+abbrev pub content_digest : Content → Digest
+content_digest (File bytes) = hash (inode.spell (inode_of bytes))
+content_digest (Directory entries) = inode_digest root_inode
+content_digest (Principals table) = []
 
 -- an action, with that digest in the place of a content
 abbrev pub declared_action : Action Content → Action Digest
-declared_action (Make new) = Make (named new)
-declared_action (Put new) = Put (named new)
+declared_action (Make new) = Make (content_digest new)
+declared_action (Put new) = Put (content_digest new)
 declared_action Remove = Remove
 declared_action (Link entry) = Link entry
 declared_action (Unlink name) = Unlink name

@@ -12,7 +12,7 @@ use Rattle.file_session.specs.declared.stop.Stop.TheVariants as stop
 use Rattle.transport.specs.declared.transport.TransportError.{TransportError}
 use Rattle.transport.specs.declared.transport.TransportError.TheVariants as fault
 use Rattle.file_session.specs.Calls.{Begins, Hears, Takes, Signs, Commits, Looks, Gives}
-use Rattle.file_session.specs.Order.{Move, Calls, Sends, Lacks}
+use Rattle.file_session.specs.Order.{Move, Calls, Sends, LacksPlan, LacksNumbers}
 
 abbrev pub GaveText : Result Bytes ClientError → Stop → Type 0
 GaveText (Ok text) e = ⊥
@@ -51,7 +51,8 @@ Gave (Calls (Commits told)) e = e ≡ stop.Declined told
 Gave (Calls (Looks q x)) e = GaveLook x e
 Gave (Calls (Gives q block x)) e = GaveLook x e
 Gave (Sends r x) e = GaveAnswer x e
-Gave Lacks e = e ≡ stop.Memory
+Gave LacksPlan e = e ≡ stop.Memory
+Gave LacksNumbers e = e ≡ stop.Memory
 
 -- it is what the last of these moves gave
 pub record IsLast (ms : List Move) (e : Stop) : Type 0 where

@@ -21,11 +21,13 @@ use Rattle.transport.specs.Asked.{Asked}
 use Rattle.file_session.specs.Replies.{payload_in, block_in, status_in}
 use Rattle.file_session.specs.Calls.{Call, Begins, Hears, Takes, Signs, Commits, Looks, Gives}
 
--- a call of the client, an exchange, or that the session itself is refused memory
+-- a call of the client, an exchange, or that the session itself is refused memory: for the operation that it plans, or
+-- for the numbers of the changes that a view loses
 pub data Move : Type 0 where
   Calls : Call → Move
   Sends : Asked → Result Bytes TransportError → Move
-  Lacks : Move
+  LacksPlan : Move
+  LacksNumbers : Move
 
 -- ---- what has to come next
 
@@ -40,7 +42,9 @@ pub data Next : Type 0 where
   Take : Option Bytes → Next
   -- these texts are to be stored, and then the structure signed
   Store : List Bytes → Next
-  -- the structure is to be sent, and the status handed in
+  -- the structure is to be sent, and the status handed in; of one that was signed just now the numbers of the changes
+  -- that its view loses are copied first
+  CommitNew : Bytes → Next
   Commit : Bytes → Next
   Tell : Status → Next
   -- the block is to be asked for by a look, and handed in
@@ -80,7 +84,7 @@ storing texts (Ok digest) = Store texts
 storing texts (Err e) = Over e
 
 abbrev pub committing : Result Bytes ClientError → Next
-committing (Ok text) = Commit text
+committing (Ok text) = CommitNew text
 committing (Err e) = Over (stop.Client e)
 
 abbrev pub telling : Result Status Stop → Next
@@ -117,22 +121,22 @@ commit text = record { kind = kind.Commit; payload = text }
 abbrev pub FollowsStored : List Bytes → Asked → Result Bytes TransportError → Next → Type 0
 FollowsStored laid r x next = (r ≡ put r.payload) × (next ≡ laying laid r.payload (payload_in x))
 
--- From what has to come next, this move, and what has to come then. The session itself needs memory where it plans an
--- operation, and for the numbers of the changes that a view loses, before that is committed.
+-- From what has to come next, this move, and what has to come then.
 abbrev pub Follows : Next → Move → Next → Type 0
 Follows (Over e) move next = ⊥
 Follows (Ready laid) (Sends r x) next = FollowsStored laid r x next
 Follows (Ready laid) (Calls (Begins changes texts x)) next = (texts ≡ laid) × (next ≡ declaring x)
 Follows (Ready laid) (Calls (Looks q x)) next = (laid ≡ []) × (next ≡ looking q x)
-Follows (Ready []) Lacks next = next ≡ Over stop.Memory
+Follows (Ready []) LacksPlan next = next ≡ Over stop.Memory
 Follows (Update text) (Sends r x) next = (r ≡ update text) × (next ≡ hearing (payload_in x))
 Follows (Hear text) (Calls (Hears reply x)) next = (reply ≡ text) × (next ≡ checking x)
 Follows (Fetch digest) (Sends r x) next = (r ≡ get digest) × (next ≡ taking (block_in x))
 Follows (Take block) (Calls (Takes handed x)) next = (handed ≡ block) × (next ≡ checking x)
 Follows (Store (text ∷ texts)) (Sends r x) next = (r ≡ put text) × (next ≡ storing texts (payload_in x))
 Follows (Store []) (Calls (Signs x lost)) next = next ≡ committing x
+Follows (CommitNew text) (Sends r x) next = (r ≡ commit text) × (next ≡ telling (status_in x))
+Follows (CommitNew text) LacksNumbers next = next ≡ Over stop.Memory
 Follows (Commit text) (Sends r x) next = (r ≡ commit text) × (next ≡ telling (status_in x))
-Follows (Commit text) Lacks next = next ≡ Over stop.Memory
 Follows (Tell told) (Calls (Commits handed)) next = (handed ≡ told) × (next ≡ committed told)
 Follows (FetchAt q digest) (Sends r x) next = (r ≡ get digest) × (next ≡ giving q (block_in x))
 Follows (GiveAt q block) (Calls (Gives p handed x)) next = (p ≡ q) × (handed ≡ block) × (next ≡ looking q x)

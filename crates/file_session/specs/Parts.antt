@@ -1,12 +1,15 @@
 -- Nobody has to believe this file: an aid of private contracts.
 -- Parts of a session: the write of an operation, and what a command comes to.
-use Rattle.std.specs.Prelude.{◌≡◌, ◌≤◌, true, ℕ, length, List, [], ◌∷◌, Option, Some, None, Result, Ok, Err, IfOk, map}
+use Rattle.std.specs.Prelude.{◌≡◌, ◌≤◌, ◌⊎◌, true, ℕ, length, map, List, [], ◌∷◌, ◌++◌}
+use Rattle.std.specs.Prelude.{Option, Some, None, Result, Ok, Err, IfOk}
 use Rattle.std.specs.Vec.{vec_items}
+use Rattle.std.specs.declared.vec.Vec.{Vec}
 use Rattle.layout.specs.Types.{Bytes, Digest, User}
 use Rattle.update_cert.specs.Change.{Change, Make, Put, Remove, Unlink}
 use Rattle.update_cert.specs.World.{Content, File, Directory, Tree}
 use Rattle.update_cert.specs.declared.cert.TheConstants.{MOST_CHANGES}
 use Rattle.client_verify.specs.Laid.{are_laid}
+use Rattle.client_verify.specs.State.{State}
 use Rattle.itable.specs.declared.inode.TheConstants.{FILE_SIZE}
 use Rattle.directory.specs.Directory.{Entry}
 use Rattle.directory.specs.Name.{is_name}
@@ -26,28 +29,40 @@ use Rattle.file_session.specs.declared.texts.New.{New as NewContent}
 use Rattle.file_session.specs.declared.texts.New.TheVariants as new
 use Rattle.file_session.specs.declared.stop.Stop.{Stop}
 use Rattle.file_session.specs.Declaring.{all_declared, all_texts}
-use Rattle.file_session.specs.Sessions.{IsCarriedOut}
-use Rattle.file_session.specs.Went.{Answering, At as Point, Event, Begun, Saw, Signed, signs, Went, Looked}
+use Rattle.file_session.specs.Sessions.{IsCarriedOut, IsUncommitted}
+use Rattle.file_session.specs.Went.{Answering, At as Point, Event, Begun, Saw, Signed, Unplanned, looks, signs, Went}
+use Rattle.file_session.specs.Went.{Agrees, Looked, Seen}
 
 -- ---- the write
 
+-- an operation lost these changes, and is committed; or something stopped it before its commit
+abbrev pub IsEnded : {A : Type 0} → Result (Vec ℕ A) Stop → State → List (List ℕ) → Type 0
+IsEnded (Ok lost) new signed = signed ≡ lost.items ∷ []
+IsEnded (Err e) new signed = IsUncommitted signed new
+
+-- the same of a look, of which nothing is told
+abbrev pub IsLookEnded : {X : Type 0} → Result X Stop → State → List (List ℕ) → Type 0
+IsLookEnded (Ok x) new signed = (lost : List ℕ) × (signed ≡ lost ∷ [])
+IsLookEnded (Err e) new signed = IsUncommitted signed new
+
 -- at most an operation of these changes was begun, which lost these changes where nothing was refused
-abbrev pub IsWrite : List (Change Digest) → List Bytes → List Event → Result (List ℕ) Stop → Type 0
-IsWrite changes laid [] (Ok lost) = ⊥
-IsWrite changes laid [] (Err e) = Unit {0}
-IsWrite changes laid (Begun begun texts ∷ es) (Ok lost) =
+abbrev pub IsWrite : List (Change Digest) → List Bytes → List Event → Result (List ℕ) Stop → State → Type 0
+IsWrite changes laid [] (Ok lost) new = ⊥
+IsWrite changes laid [] (Err e) new = Unit {0}
+IsWrite changes laid (Begun begun texts ∷ es) (Ok lost) new =
     (begun ≡ changes) × (texts ≡ laid) × (es ≡ Signed lost ∷ [])
-IsWrite changes laid (Begun begun texts ∷ es) (Err e) =
-    (begun ≡ changes) × (texts ≡ laid) × ((signed : List (List ℕ)) × (es ≡ signs signed))
-IsWrite changes laid (Saw s ∷ es) result = ⊥
-IsWrite changes laid (Signed lost ∷ es) result = ⊥
+IsWrite changes laid (Begun begun texts ∷ es) (Err e) new =
+    (begun ≡ changes) × (texts ≡ laid) × ((signed : List (List ℕ)) × (es ≡ signs signed) × IsUncommitted signed new)
+IsWrite changes laid (Saw s ∷ es) result new = ⊥
+IsWrite changes laid (Signed lost ∷ es) result new = ⊥
+IsWrite changes laid (Unplanned ∷ es) result new = ⊥
 
 -- the texts were stored, and then an operation of the changes made
-pub record Wrote {T : Type 0} (answers : Answering T) (a b : Point T) (changes : List (Change Digest)) (laid : List Bytes)
-    (result : Result (List ℕ) Stop) : Type 0 where
+pub record Wrote {T : Type 0} (answers : Answering T) (a b : Point T) (changes : List (Change Digest))
+    (laid : List Bytes) (result : Result (List ℕ) Stop) : Type 0 where
   pub es : List Event
   pub went : Went answers a b es
-  pub written : IsWrite changes laid es result
+  pub written : IsWrite changes laid es result b.client
 
 -- ---- what stands somewhere
 
@@ -143,11 +158,29 @@ abbrev pub IsOf : NewContent → Course → Type 0
 IsOf (new.File bytes) course = Unit {0}
 IsOf new.Directory course = PutsNothing course
 
--- by looks, from which it follows what comes of a command
+-- changes are asked for
+abbrev pub IsChange : Outcome → Type 0
+IsChange (Tells answer) = ⊥
+IsChange (Writes wanted) = Unit {0}
+
+-- by looks, from which it follows that changes are asked for, and memory was refused for them
+pub record CantPlan {T : Type 0} (answers : Answering T) (a b : Point T) (comes : Tree → Outcome) : Type 0 where
+  pub seen : List Seen
+  pub went : Went answers a b (looks seen ++ Unplanned ∷ [])
+  pub wanted : List (Change Content)
+  pub asked : (tree : Tree) → Agrees tree seen → comes tree ≡ Writes wanted
+
+-- by looks, from which it follows what comes of a command; or one of them was stopped
+abbrev pub LookedFor : {T X : Type 0} → Answering T → Point T → Point T → (Tree → Outcome) → Outcome → Result X Stop
+    → Type 0
+LookedFor answers a b comes outcome (Ok x) = Looked answers a b (λ tree. comes tree ≡ outcome)
+LookedFor answers a b comes outcome (Err e) = Looked answers a b (λ tree. Unit {0}) ⊎ CantPlan answers a b comes
+
+-- what comes of a command was looked for, and planned
 pub record Planned {T A : Type 0} (answers : Answering T) (a b : Point T) (comes : Tree → Outcome)
     (result : Result (Plan A) Stop) : Type 0 where
   pub outcome : Outcome
-  pub looked : Looked answers a b (λ tree. IfOk result (λ plan. comes tree ≡ outcome))
+  pub looked : LookedFor answers a b comes outcome result
   pub is_plan : IfOk result (IsPlanOf outcome)
   pub can_begin : IfOk result CanBegin
 
@@ -156,4 +189,4 @@ pub record Carried {T : Type 0} (answers : Answering T) (a b : Point T) (u : Use
     (result : Result Answer Stop) : Type 0 where
   pub es : List Event
   pub went : Went answers a b es
-  pub carried : IsCarriedOut u c es result
+  pub carried : IsCarriedOut u c es result b.client

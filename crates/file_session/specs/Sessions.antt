@@ -1,8 +1,10 @@
 -- What a session promises.
-use Rattle.std.specs.Prelude.{◌≡◌, ◌⊎◌, ℕ, List, [], ◌∷◌, ◌++◌, Option, Some, None, Result, Ok, Err}
+use Rattle.std.specs.Prelude.{◌≡◌, ◌⊎◌, ◌≤◌, ◌+◌, ℕ, List, [], ◌∷◌, ◌++◌, length, Option, Some, None, Result, Ok, Err}
 use Rattle.layout.specs.Types.{Bytes, Digest, User, Version}
 use Rattle.update_cert.specs.Change.{Change}
 use Rattle.update_cert.specs.World.{Content, Tree}
+use Rattle.wire.specs.declared.kinds.RequestKind.{RequestKind}
+use Rattle.wire.specs.declared.kinds.RequestKind.TheVariants as kind
 use Rattle.client_releases.specs.declared.error.ClientError.{ClientError}
 use Rattle.client_releases.specs.declared.error.ClientError.TheVariants as error
 use Rattle.client_releases.specs.declared.phase.Phase.{Phase}
@@ -17,8 +19,9 @@ use Rattle.file_session.specs.declared.stop.Stop.{Stop}
 use Rattle.file_session.specs.declared.stop.Stop.TheVariants as stop
 use Rattle.file_session.specs.Declaring.{all_declared, all_texts}
 use Rattle.file_session.specs.Given.{IsGiven}
-use Rattle.file_session.specs.Order.{Move, ready_or, resuming}
-use Rattle.file_session.specs.Went.{Agrees, Answering, Event, Begun, Seen, Signed, events, looks, Moves, point, signs}
+use Rattle.file_session.specs.Order.{Move, Sends, ready_or, resuming}
+use Rattle.file_session.specs.Went.{Agrees, Answering, Event, Begun, Seen, Signed, Unplanned, events, looks, Moves}
+use Rattle.file_session.specs.Went.{point, signs}
 
 -- ---- what was finished first
 
@@ -36,47 +39,65 @@ abbrev pub IsStopped : {X : Type 0} → Result X Stop → Type 0
 IsStopped (Ok x) = ⊥
 IsStopped (Err e) = Unit {0}
 
--- Where the command's own operations were reached, it was finished before them; else something stopped the session.
-abbrev pub IsResumed : {X : Type 0} → State → List (List ℕ) → List Event → Result X Stop → Option Resumed → Type 0
-IsResumed s signed [] result resumed = IsStopped result × (resumed ≡ None)
-IsResumed s signed (e ∷ es) result resumed = IsFinished s signed resumed
+-- an operation is declared or signed, or the client failed
+abbrev pub IsUnfinished : State → Type 0
+IsUnfinished s = s.phase ≡ phase.Idle → ⊥
+
+-- Where the command's own operations were reached, it was finished before them; else something stopped the session
+-- while it finished this, and it isn't finished yet.
+abbrev pub IsResumed : {X : Type 0} → State → List (List ℕ) → List Event → Result X Stop → Option Resumed → State
+    → Type 0
+IsResumed s signed [] result resumed new = IsStopped result × (resumed ≡ None) × IsUnfinished new
+IsResumed s signed (e ∷ es) result resumed new = IsFinished s signed resumed
 
 -- ---- the write
 
--- what tells of an operation: with its view signed and committed, the changes that it lost
-abbrev pub IsWritten : List Event → Result Answer Stop → Type 0
-IsWritten es (Ok answer) = (lost : List ℕ) × (es ≡ Signed lost ∷ []) × (answer ≡ told_of_lost lost)
-IsWritten es (Err e) = (signed : List (List ℕ)) × (es ≡ signs signed)
+-- what was signed isn't committed
+abbrev pub IsUncommitted : List (List ℕ) → State → Type 0
+IsUncommitted [] s = Unit {0}
+IsUncommitted (lost ∷ signed) s = IsUnfinished s
 
--- these changes are what the command asks for in each tree that agrees with the looks
+-- What tells of an operation: with its view signed and committed, the changes that it lost. Nothing stops it once it is
+-- committed.
+abbrev pub IsWritten : List Event → Result Answer Stop → State → Type 0
+IsWritten es (Ok answer) new = (lost : List ℕ) × (es ≡ Signed lost ∷ []) × (answer ≡ told_of_lost lost)
+IsWritten es (Err e) new = (signed : List (List ℕ)) × (es ≡ signs signed) × IsUncommitted signed new
+
+-- the command asks for these changes in each tree that agrees with the looks
+abbrev pub Asks : User → Command → List Seen → List (Change Content) → Type 0
+Asks u c seen wanted = (tree : Tree) → Agrees tree seen → outcome u c tree ≡ Writes wanted
+
+-- these changes and texts are what the command asks for
 pub record IsAsked (u : User) (c : Command) (seen : List Seen) (changes : List (Change Digest)) (laid : List Bytes)
     : Type 0 where
   pub wanted : List (Change Content)
-  pub asked : (tree : Tree) → Agrees tree seen → outcome u c tree ≡ Writes wanted
+  pub asked : Asks u c seen wanted
   pub changes_are : changes ≡ all_declared wanted
   pub laid_are : laid ≡ all_texts wanted
 
 -- After these looks: the answer is the one that is told in each tree that agrees with them; or the operation that is
--- asked for was begun, for which its texts were stored; or something stopped the session.
-abbrev pub IsDone : User → Command → List Seen → List Event → Result Answer Stop → Type 0
-IsDone u c seen [] (Ok answer) = (tree : Tree) → Agrees tree seen → outcome u c tree ≡ Tells answer
-IsDone u c seen [] (Err e) = Unit {0}
-IsDone u c seen (Begun changes laid ∷ es) result = IsAsked u c seen changes laid × IsWritten es result
-IsDone u c seen other result = ⊥
+-- asked for was begun, for which its texts were stored, or memory was refused for it; or something stopped the session.
+abbrev pub IsDone : User → Command → List Seen → List Event → Result Answer Stop → State → Type 0
+IsDone u c seen [] (Ok answer) new = (tree : Tree) → Agrees tree seen → outcome u c tree ≡ Tells answer
+IsDone u c seen [] (Err e) new = Unit {0}
+IsDone u c seen (Begun changes laid ∷ es) result new = IsAsked u c seen changes laid × IsWritten es result new
+IsDone u c seen (Unplanned ∷ []) (Err e) new = (wanted : List (Change Content)) × Asks u c seen wanted
+IsDone u c seen other result new = ⊥
 
 -- first a look, an operation without changes; then looks in its view; then the write that they ask for, if they do
-pub record IsCarriedOut (u : User) (c : Command) (es : List Event) (result : Result Answer Stop) : Type 0 where
+pub record IsCarriedOut (u : User) (c : Command) (es : List Event) (result : Result Answer Stop) (new : State)
+    : Type 0 where
   pub signed : List (List ℕ)
   pub seen : List Seen
   pub written : List Event
   pub order : es ≡ Begun [] [] ∷ (signs signed ++ (looks seen ++ written))
-  -- the look was stopped, or it has its view
-  pub done : ((seen ≡ []) × (written ≡ []) × IsStopped result)
-      ⊎ ((lost : List ℕ) × (signed ≡ lost ∷ []) × IsDone u c seen written result)
+  -- the look was stopped before its commit, or it has its view
+  pub done : ((seen ≡ []) × (written ≡ []) × IsStopped result × IsUncommitted signed new)
+      ⊎ ((lost : List ℕ) × (signed ≡ lost ∷ []) × IsDone u c seen written result new)
 
-abbrev pub IsCommand : User → Command → List Event → Result Answer Stop → Type 0
-IsCommand u c [] result = Unit {0}
-IsCommand u c (e ∷ es) result = IsCarriedOut u c (e ∷ es) result
+abbrev pub IsCommand : User → Command → List Event → Result Answer Stop → State → Type 0
+IsCommand u c [] result new = Unit {0}
+IsCommand u c (e ∷ es) result new = IsCarriedOut u c (e ∷ es) result new
 
 -- ---- what is told
 
@@ -105,6 +126,24 @@ abbrev pub IsGivenFrom : {X : Type 0} → Phase → List Move → Result X Stop 
 IsGivenFrom phase.Failed moves result = moves ≡ []
 IsGivenFrom other moves result = IsGiven moves result
 
+-- ---- how many blocks are asked for
+
+abbrev pub one_of_kind : RequestKind → ℕ
+one_of_kind kind.Get = 1
+one_of_kind other = 0
+
+abbrev pub one_of_move : Move → ℕ
+one_of_move (Sends r x) = one_of_kind r.kind
+one_of_move other = 0
+
+abbrev pub blocks_asked : List Move → ℕ
+blocks_asked [] = 0
+blocks_asked (m ∷ ms) = one_of_move m + blocks_asked ms
+
+-- each block that was asked for is one more that is held then, but for the last one, which may be refused
+abbrev pub AreAskedOnce : State → List Move → State → Type 0
+AreAskedOnce s moves new = length s.blocks + blocks_asked moves ≤ length new.blocks + 1
+
 -- ---- a session
 
 -- A session carries out a command: by moves of its client and its transport, in the order of operations, what was
@@ -116,6 +155,7 @@ pub record Ran {T : Type 0} (answers : Answering T) (s : State) (t : T) (u : Use
   pub es : List Event
   pub run : Moves answers (point s t (resuming s.phase s.text)) moves (point new t' (ready_or result))
   pub order : events moves ≡ signs signed ++ es
-  pub finished : IsResumed s signed es result resumed
-  pub carried : IsCommand u c es result
+  pub finished : IsResumed s signed es result resumed new
+  pub carried : IsCommand u c es result new
   pub given : IsGivenFrom s.phase moves result
+  pub once : AreAskedOnce s moves new

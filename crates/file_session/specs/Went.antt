@@ -13,7 +13,7 @@ use Rattle.client_steps.specs.Steps.{Sees}
 use Rattle.transport.specs.declared.transport.TransportError.{TransportError}
 use Rattle.transport.specs.Asked.{Asked}
 use Rattle.file_session.specs.Calls.{Begins, Signs, Looks, Gives, Leads}
-use Rattle.file_session.specs.Order.{Next, Follows, Move, Calls, Sends, Lacks}
+use Rattle.file_session.specs.Order.{Next, Follows, Move, Calls, Sends, LacksPlan}
 
 -- what a transport may answer: from this one, this request with its answer may lead to that one
 abbrev pub Answering : Type 0 → Type 1
@@ -34,8 +34,8 @@ IsMove answers a (Calls call) b =
     Leads a.client call b.client × (b.transport ≡ a.transport) × Follows a.next (Calls call) b.next
 IsMove answers a (Sends r x) b =
     answers a.transport r x b.transport × (b.client ≡ a.client) × Follows a.next (Sends r x) b.next
-IsMove answers a Lacks b =
-    (b.client ≡ a.client) × (b.transport ≡ a.transport) × Follows a.next Lacks b.next
+IsMove answers a lacks b =
+    (b.client ≡ a.client) × (b.transport ≡ a.transport) × Follows a.next lacks b.next
 
 -- these moves, one after another
 abbrev pub Moves : {T : Type 0} → Answering T → At T → List Move → At T → Type 0
@@ -49,7 +49,7 @@ pub record Seen : Type 0 where
   pub question : Question
   pub answer : Sees
 
--- In this tree this is the answer to the question: what stands at an i-number, of what kind and size it is, or the least
+-- In this tree it is the answer to the question: what stands at an i-number, of what kind and size it is, or the least
 -- i-number of a range at which nothing stands.
 abbrev pub IsSeenIn : Tree → Question → Sees → Type 0
 IsSeenIn tree (question.At p i) (look.File bytes) = tree p i ≡ Some (File bytes.items)
@@ -66,12 +66,13 @@ Agrees tree (s ∷ seen) = IsSeenIn tree s.question s.answer × Agrees tree seen
 
 -- ---- what moves tell
 
--- an operation of these changes was begun, for which these texts were laid out; a look was answered; or a view was signed
--- that loses the changes of these numbers
+-- an operation of these changes was begun, for which these texts were laid out; a look was answered; a view was signed
+-- that loses the changes of these numbers; or memory was refused for the operation that was planned
 pub data Event : Type 0 where
   Begun : List (Change Digest) → List Bytes → Event
   Saw : Seen → Event
   Signed : List ℕ → Event
+  Unplanned : Event
 
 abbrev pub looks : List Seen → List Event
 looks [] = []
@@ -96,6 +97,7 @@ events_of (Calls (Begins changes laid x)) = Begun changes laid ∷ []
 events_of (Calls (Signs x lost)) = signs (signed_by x lost)
 events_of (Calls (Looks q x)) = looks (seen_by q x)
 events_of (Calls (Gives q block x)) = looks (seen_by q x)
+events_of LacksPlan = Unplanned ∷ []
 events_of other = []
 
 abbrev pub events : List Move → List Event

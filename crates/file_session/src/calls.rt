@@ -8,6 +8,7 @@ ghost use Rattle.client_tree.specs.declared.questions.Question.{Question as Aski
 ghost use Rattle.client_verify.specs.Laid.{are_laid};
 ghost use Rattle.client_steps.specs.Anywhere.{asked, on_ok, seen};
 ghost use Rattle.file_session.specs.Calls.{Begins, Commits, Gives, Hears, Leads, Looks, Signs, Takes, lost_of};
+ghost use Rattle.file_session.specs.Sessions.{IsUnfinished};
 ghost use Rattle.file_session.specs.Waits.{AsksFewer, AsksFewerAt, Awaits, AwaitsAt, IsRange, WaitsAt, WaitsForBlock};
 
 use client_tree::Question;
@@ -42,6 +43,7 @@ pub(crate) fn hear<L: Device, J: Device, A: Allocator + Copy>(
     requires { client.old.phase ≡ Phase.Declared }
     ensures leads { Leads client.old (Hears text.now (on_ok asked result)) client.new }
     ensures awaits { IfOk result (λ step. Awaits step client.new) }
+    ensures phase { client.new.phase ≡ client.old.phase }
 {
     are_bytes(text);
     client.on_reply(text)
@@ -66,10 +68,11 @@ pub(crate) fn take<L: Device, J: Device, A: Allocator + Copy>(
     ensures leads { Leads client.old (Takes (option_copied block.entry) (on_ok asked result)) client.new }
     ensures awaits { IfOk result (λ step. Awaits step client.new) }
     ensures fewer { IfOk result (λ step. AsksFewer step client.old client.new) }
+    ensures phase { client.new.phase ≡ client.old.phase }
 {
     is_bytes(block);
     let step = client.on_block(block);
-    client.stands();
+    client.type_invariant();
     step
 }
 
@@ -82,7 +85,9 @@ pub(crate) fn sign<L: Device, J: Device, A: Allocator + Copy>(
     ensures signed { OnOk result (client.new.phase ≡ Phase.Signed) }
     ensures view { OnOk result (IsSome client.new.view) }
     ensures text { IfOk result (λ text. text.items ≡ client.new.text) }
+    ensures unfinished { IsUnfinished client.new }
 {
+    client.type_invariant();
     client.sign()
 }
 
@@ -94,6 +99,7 @@ pub(crate) fn tell<L: Device, J: Device, A: Allocator + Copy>(
     requires { client.old.phase ≡ Phase.Signed }
     ensures leads { Leads client.old (Commits status) client.new }
     ensures idle { status ≡ Status.Ok → client.new.phase ≡ Phase.Idle }
+    ensures unfinished { (status ≡ Status.Ok → ⊥) → IsUnfinished client.new }
     ensures view { client.new.view ≡ client.old.view }
 {
     client.on_committed(status)
@@ -133,6 +139,6 @@ pub(crate) fn give<L: Device, J: Device, A: Allocator + Copy>(
 {
     is_bytes(block);
     let look = client.give(block);
-    client.stands();
+    client.type_invariant();
     look
 }

@@ -16,7 +16,7 @@ ghost use Rattle.file_session.specs.Parts.{CanBegin, IsPlanOf, IsSmall, Planned,
 ghost use Rattle.file_session.specs.Went.{IsSeenIn, Looked, point};
 
 use crate::conversation::Conversation;
-use crate::planning::{Plan, plan_of_table, refused};
+use crate::planning::{Plan, or_stop, plan_of_table, refused};
 use crate::site::{Site, link_at, make_at, put_at, remove_at};
 use crate::stop::Stop;
 use client_tree::Question;
@@ -138,7 +138,7 @@ impl<L: Device, J: Device, T: Transport<A>, A: Allocator + Copy> Conversation<L,
             return Ok(refused(Refusal::NoPath));
         };
         let free = self.free_at(user, &site)?;
-        put_at(self.alloc, path, &site, content, free)
+        or_stop(put_at(self.alloc, path, &site, content, free))
     }
 
     /// An empty directory is made at the place of a path.
@@ -153,7 +153,7 @@ impl<L: Device, J: Device, T: Transport<A>, A: Allocator + Copy> Conversation<L,
             return Ok(refused(Refusal::NoPath));
         };
         let free = self.free_at(user, &site)?;
-        make_at(self.alloc, path, &site, free)
+        or_stop(make_at(self.alloc, path, &site, free))
     }
 
     /// What stands at the place of a path is removed.
@@ -168,7 +168,7 @@ impl<L: Device, J: Device, T: Transport<A>, A: Allocator + Copy> Conversation<L,
         let Some(site) = self.site(path)? else {
             return Ok(refused(Refusal::NoPath));
         };
-        remove_at(self.alloc, path, &site)
+        or_stop(remove_at(self.alloc, path, &site))
     }
 
     /// The place of a path becomes a name for a target.
@@ -183,7 +183,7 @@ impl<L: Device, J: Device, T: Transport<A>, A: Allocator + Copy> Conversation<L,
         let Some(site) = self.site(path)? else {
             return Ok(refused(Refusal::NoPath));
         };
-        link_at(self.alloc, path, &site, target)
+        or_stop(link_at(self.alloc, path, &site, target))
     }
 
     /// What a command comes to in the accepted view.
@@ -205,13 +205,13 @@ impl<L: Device, J: Device, T: Transport<A>, A: Allocator + Copy> Conversation<L,
                 None => Ok(refused(Refusal::NoPath)),
             },
             Command::AddUser { user, key } => {
-                plan_of_table(self.alloc, TableChange::AddUser(*user, *key))
+                or_stop(plan_of_table(self.alloc, TableChange::AddUser(*user, *key)))
             }
             Command::AddMember { group, user } => {
-                plan_of_table(self.alloc, TableChange::AddMember(*group, *user))
+                or_stop(plan_of_table(self.alloc, TableChange::AddMember(*group, *user)))
             }
             Command::DropMember { group, user } => {
-                plan_of_table(self.alloc, TableChange::DropMember(*group, *user))
+                or_stop(plan_of_table(self.alloc, TableChange::DropMember(*group, *user)))
             }
         }
     }

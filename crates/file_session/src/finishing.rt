@@ -1,8 +1,10 @@
 //! What was declared or signed is finished: the certificate is sent, its reply judged, the structure signed and sent.
 
-ghost use Rattle.std.specs.Prelude.{◌≡◌, [], ◌∷◌, IfErr, IfOk, IsSome, OnOk};
+ghost use Rattle.std.specs.Prelude.{◌≡◌, [], IfErr, IfOk, IsSome, OnErr, OnOk};
 ghost use Rattle.file_session.specs.Calls.{lost_of};
 ghost use Rattle.file_session.specs.Order.{Commit, Store, Update, ready_or};
+ghost use Rattle.file_session.specs.Parts.{IsEnded};
+ghost use Rattle.file_session.specs.Sessions.{IsUnfinished};
 ghost use Rattle.file_session.specs.Went.{Finished, Went, point};
 
 use crate::calls::{hear, sign, tell};
@@ -22,6 +24,7 @@ impl<L: Device, J: Device, T: Transport<A>, A: Allocator + Copy> Conversation<L,
         ensures went { Went T.answers (point self.old.client self.old.transport (Commit self.old.client.text))
             (point self.new.client self.new.transport (ready_or result)) [] }
         ensures idle { OnOk result (self.new.client.phase ≡ Phase.Idle) }
+        ensures unfinished { OnErr result (IsUnfinished self.new.client) }
         ensures view { self.new.client.view ≡ self.old.client.view }
     {
         let status = commit(&mut self.transport, self.client.signed())?;
@@ -44,14 +47,14 @@ impl<L: Device, J: Device, T: Transport<A>, A: Allocator + Copy> Conversation<L,
         }
     }
 
-    /// Signs over the accepted reply, and commits: the numbers of the changes that its view loses. They are copied before
-    /// anything is committed, so that no operation that took place is told of as refused.
+    /// Signs over the accepted reply, and commits: the numbers of the changes that its view loses. They are copied
+    /// before anything is committed, so that no operation that took place is told of as refused.
     fn finish_checked(&mut self) -> Result<Vec<u8, A>, Stop>
         requires { IsSome self.old.client.accepted }
         ensures finished { Finished T.answers (point self.old.client self.old.transport (Store []))
-            (point self.new.client self.new.transport (ready_or result))
-            (λ signed. IfOk result (λ lost. signed ≡ lost.items ∷ [])) }
+            (point self.new.client self.new.transport (ready_or result)) (IsEnded result self.new.client) }
         ensures idle { OnOk result (self.new.client.phase ≡ Phase.Idle) }
+        ensures unfinished { OnErr result (IsUnfinished self.new.client) }
         ensures view { OnOk result (IsSome self.new.client.view) }
     {
         match sign(&mut self.client) {
@@ -68,9 +71,9 @@ impl<L: Device, J: Device, T: Transport<A>, A: Allocator + Copy> Conversation<L,
     pub(crate) fn finish_declared(&mut self) -> Result<Vec<u8, A>, Stop>
         requires { self.old.client.phase ≡ Phase.Declared }
         ensures finished { Finished T.answers (point self.old.client self.old.transport (Update self.old.client.text))
-            (point self.new.client self.new.transport (ready_or result))
-            (λ signed. IfOk result (λ lost. signed ≡ lost.items ∷ [])) }
+            (point self.new.client self.new.transport (ready_or result)) (IsEnded result self.new.client) }
         ensures idle { OnOk result (self.new.client.phase ≡ Phase.Idle) }
+        ensures unfinished { OnErr result (IsUnfinished self.new.client) }
         ensures view { OnOk result (IsSome self.new.client.view) }
     {
         let reply = send(

@@ -3,7 +3,7 @@
 ghost use Rattle.std.specs.Prelude.{◌≡◌, [], IfOk, IsSome, OnOk, map};
 ghost use Rattle.std.specs.Vec.{vec_items};
 ghost use Rattle.client_steps.specs.Anywhere.{asked, on_ok};
-ghost use Rattle.file_session.specs.Order.{Fetch, Store, checking, stored_or, stores_or};
+ghost use Rattle.file_session.specs.Order.{Fetch, Ready, Store, checking, laid_or, stored_or, stores_or};
 ghost use Rattle.file_session.specs.Waits.{Awaits, AwaitsTurn, TurnsFewer, WaitsForBlock, judging};
 ghost use Rattle.file_session.specs.Went.{Went, point};
 
@@ -26,6 +26,7 @@ impl<L: Device, J: Device, T: Transport<A>, A: Allocator + Copy> Conversation<L,
             (point self.new.client self.new.transport (judging result)) [] }
         ensures awaits { IfOk result (λ turn. AwaitsTurn turn self.new.client) }
         ensures fewer { IfOk result (λ turn. TurnsFewer turn self.old.client self.new.client) }
+        ensures phase { self.new.client.phase ≡ self.old.client.phase }
     {
         let block = fetch(&mut self.transport, &digest)?;
         turn_of_step(take(&mut self.client, text_of(&block)))
@@ -40,6 +41,7 @@ impl<L: Device, J: Device, T: Transport<A>, A: Allocator + Copy> Conversation<L,
         ensures went { Went T.answers (point self.old.client self.old.transport (checking (on_ok asked first)))
             (point self.new.client self.new.transport (stores_or result)) [] }
         ensures ready { OnOk result (IsSome self.new.client.accepted) }
+        ensures phase { self.new.client.phase ≡ self.old.client.phase }
     {
         match turn_of_step(first) {
             Ok(Turn::Asks(digest)) => self.check_on(digest),
@@ -54,6 +56,7 @@ impl<L: Device, J: Device, T: Transport<A>, A: Allocator + Copy> Conversation<L,
         ensures went { Went T.answers (point self.old.client self.old.transport (Fetch first))
             (point self.new.client self.new.transport (stores_or result)) [] }
         ensures ready { OnOk result (IsSome self.new.client.accepted) }
+        ensures phase { self.new.client.phase ≡ self.old.client.phase }
     {
         let mut digest = first;
         'blocks: loop {
@@ -64,10 +67,12 @@ impl<L: Device, J: Device, T: Transport<A>, A: Allocator + Copy> Conversation<L,
         }
     }
 
-    /// Stores these texts.
+    /// Stores these texts: those that a reply handed out, or those of an operation that is to be declared.
     pub(crate) fn store(&mut self, texts: &[Vec<u8, A>]) -> Result<(), Stop>
-        ensures went { Went T.answers (point self.old.client self.old.transport (Store (map vec_items texts.now)))
+        ensures handed_out { Went T.answers (point self.old.client self.old.transport (Store (map vec_items texts.now)))
             (point self.new.client self.new.transport (stored_or result)) [] }
+        ensures laid_out { Went T.answers (point self.old.client self.old.transport (Ready []))
+            (point self.new.client self.new.transport (laid_or (map vec_items texts.now) result)) [] }
         ensures same { self.new.client ≡ self.old.client }
     {
         for text in texts {

@@ -1,17 +1,16 @@
 //! An operation of a session: its texts are stored, its changes declared, and it is finished.
 
-ghost use Rattle.std.specs.Prelude.{◌≡◌, ◌≤◌, [], ◌∷◌, IfOk, IsSome, OnOk, length, map, true};
+ghost use Rattle.std.specs.Prelude.{◌≡◌, ◌≤◌, [], IfOk, IsSome, OnErr, OnOk, length, map, true};
 ghost use Rattle.std.specs.Vec.{vec_items};
 ghost use Rattle.client_verify.specs.Laid.{are_laid};
 ghost use Rattle.client_steps.specs.Anywhere.{on_ok};
-ghost use Rattle.file_session.specs.Order.{Ready, laid_or, ready_or, resuming};
-ghost use Rattle.file_session.specs.Sessions.{IsFinished};
-ghost use Rattle.file_session.specs.Parts.{Wrote};
-ghost use Rattle.file_session.specs.Went.{Finished, Operated, Went, point};
+ghost use Rattle.file_session.specs.Order.{Ready, ready_or, resuming};
+ghost use Rattle.file_session.specs.Sessions.{IsFinished, IsUnfinished};
+ghost use Rattle.file_session.specs.Parts.{IsEnded, Wrote};
+ghost use Rattle.file_session.specs.Went.{Finished, Operated, point};
 
 use crate::calls::begin;
 use crate::conversation::Conversation;
-use crate::exchanging::send;
 use crate::resumed::Resumed;
 use crate::stop::Stop;
 use client_verify::{ClientError, Phase};
@@ -19,7 +18,6 @@ use leaf_ledger::Device;
 use std::alloc::Allocator;
 use transport::Transport;
 use update_cert::{Change, MOST_CHANGES};
-use wire::RequestKind;
 
 impl<L: Device, J: Device, T: Transport<A>, A: Allocator + Copy> Conversation<L, J, T, A> {
     /// An operation of these changes, for which these texts were stored: the numbers of those that had no effect.
@@ -34,7 +32,7 @@ impl<L: Device, J: Device, T: Transport<A>, A: Allocator + Copy> Conversation<L,
         ensures operated { Operated T.answers
             (point self.old.client self.old.transport (Ready (map vec_items laid.now)))
             (point self.new.client self.new.transport (ready_or result)) changes.now (map vec_items laid.now)
-            (λ signed. IfOk result (λ lost. signed ≡ lost.items ∷ [])) }
+            (IsEnded result self.new.client) }
         ensures idle { OnOk result (self.new.client.phase ≡ Phase.Idle) }
         ensures view { OnOk result (IsSome self.new.client.view) }
     {
@@ -42,18 +40,6 @@ impl<L: Device, J: Device, T: Transport<A>, A: Allocator + Copy> Conversation<L,
             Ok(_text) => self.finish_declared(),
             Err(error) => Err(Stop::Client(error)),
         }
-    }
-
-    /// Stores these texts for an operation.
-    fn lay(&mut self, laid: &[Vec<u8, A>]) -> Result<(), Stop>
-        ensures went { Went T.answers (point self.old.client self.old.transport (Ready []))
-            (point self.new.client self.new.transport (laid_or (map vec_items laid.now) result)) [] }
-        ensures same { self.new.client ≡ self.old.client }
-    {
-        for text in laid {
-            let _digest = send(&mut self.transport, RequestKind::Put, text)?;
-        }
-        Ok(())
     }
 
     /// An operation of these changes, whose texts are stored first: the numbers of those that had no effect.
@@ -69,7 +55,7 @@ impl<L: Device, J: Device, T: Transport<A>, A: Allocator + Copy> Conversation<L,
             (point self.new.client self.new.transport (ready_or result)) changes.now (map vec_items laid.now)
             (on_ok vec_items result) }
     {
-        self.lay(laid)?;
+        self.store(laid)?;
         self.operate(changes, laid)
     }
 
@@ -80,6 +66,7 @@ impl<L: Device, J: Device, T: Transport<A>, A: Allocator + Copy> Conversation<L,
             (point self.new.client self.new.transport (ready_or result))
             (λ signed. IfOk result (λ resumed. IsFinished self.old.client signed resumed)) }
         ensures idle { OnOk result (self.new.client.phase ≡ Phase.Idle) }
+        ensures unfinished { OnErr result (IsUnfinished self.new.client) }
     {
         match self.client.phase() {
             Phase::Idle => Ok(None),

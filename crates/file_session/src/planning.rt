@@ -1,6 +1,6 @@
 //! The changes of an operation, and the texts that are stored for it.
 
-ghost use Rattle.std.specs.Prelude.{◌≡◌, ◌∷◌, [], IfErr, IfOk, Some, true};
+ghost use Rattle.std.specs.Prelude.{◌≡◌, ◌∷◌, [], IfErr, IfOk, OnErr, Some, true};
 ghost use Rattle.directory.specs.Name.{is_name};
 ghost use Rattle.update_cert.specs.Change.{Change as AnyChange, of_table, table_action_of};
 ghost use Rattle.update_cert.specs.World.{Content, File};
@@ -9,8 +9,8 @@ ghost use Rattle.commands.specs.Answers.{Refused};
 ghost use Rattle.commands.specs.Asked.{Outcome, Tells, Writes, makes_named, outcome_of};
 ghost use Rattle.commands.specs.Names.{IsNamedCourse};
 ghost use Rattle.file_session.specs.Declaring.{declared, texts_for};
-ghost use Rattle.file_session.specs.Parts.{CanBegin, IsOf, IsPlanOf, IsSmall, bytes_of, content_of, makes_at, puts_at};
-ghost use Rattle.file_session.specs.Parts.{unlinks_and_removes};
+ghost use Rattle.file_session.specs.Parts.{CanBegin, IsChange, IsOf, IsPlanOf, IsSmall, bytes_of, content_of, makes_at};
+ghost use Rattle.file_session.specs.Parts.{puts_at, unlinks_and_removes};
 
 use crate::stop::Stop;
 use crate::texts::{New, Prepared, at, link, prepare, unlink};
@@ -61,8 +61,11 @@ fn one<A: Allocator + Copy>(alloc: A, change: Change<A>) -> Result<Plan<A>, Memo
     }))
 }
 
-/// A change of the table of principals.
-fn of_table<A: Allocator + Copy>(alloc: A, change: TableChange) -> Result<Plan<A>, Memory>
+/// An operation of this change of the table of principals.
+pub(crate) fn plan_of_table<A: Allocator + Copy>(
+    alloc: A,
+    change: TableChange,
+) -> Result<Plan<A>, Memory>
     ensures can_begin { IfOk result CanBegin }
     ensures plan { (wanted : AnyChange Content) → declared wanted ≡ of_table (table_action_of change)
         → texts_for wanted.action ≡ [] → IfOk result (IsPlanOf (Writes (wanted ∷ []))) }
@@ -76,9 +79,9 @@ fn put<A: Allocator + Copy>(alloc: A, bytes: &[u8], target: Target) -> Result<Pl
     ensures plan { IfOk result (IsPlanOf (puts_at target (File bytes.now))) }
     ensures can_begin { IfOk result CanBegin }
 {
-    let Prepared { named, texts } = prepare(alloc, New::File(bytes))?;
+    let Prepared { inode, texts } = prepare(alloc, New::File(bytes))?;
     let mut changes = Vec::new(alloc);
-    changes.push(at(target, Action::Put(named)))?;
+    changes.push(at(target, Action::Put(inode)))?;
     Ok(Plan::Writes(Operation { changes, texts }))
 }
 
@@ -88,9 +91,9 @@ fn make<A: Allocator + Copy>(alloc: A, new: New<'_>, target: Target) -> Result<P
     ensures plan { IfOk result (IsPlanOf (makes_at target (content_of new.entry))) }
     ensures can_begin { IfOk result CanBegin }
 {
-    let Prepared { named, texts } = prepare(alloc, new)?;
+    let Prepared { inode, texts } = prepare(alloc, new)?;
     let mut changes = Vec::new(alloc);
-    changes.push(at(target, Action::Make(named)))?;
+    changes.push(at(target, Action::Make(inode)))?;
     Ok(Plan::Writes(Operation { changes, texts }))
 }
 
@@ -107,13 +110,13 @@ fn make_named<A: Allocator + Copy>(
     ensures plan { IfOk result (IsPlanOf (makes_named directory name.now (content_of new.entry) (Some i_number))) }
     ensures can_begin { IfOk result CanBegin }
 {
-    let Prepared { named, texts } = prepare(alloc, new)?;
+    let Prepared { inode, texts } = prepare(alloc, new)?;
     let target = Target {
         principal: directory.principal,
         i_number,
     };
     let mut changes = Vec::new(alloc);
-    changes.push(at(target, Action::Make(named)))?;
+    changes.push(at(target, Action::Make(inode)))?;
     changes.push(link(alloc, directory, name, target)?)?;
     Ok(Plan::Writes(Operation { changes, texts }))
 }
@@ -139,7 +142,7 @@ fn unlink_and_remove<A: Allocator + Copy>(
 }
 
 /// What a course comes to, with this as what is put or made.
-fn plan_course<A: Allocator + Copy>(
+pub(crate) fn plan_of<A: Allocator + Copy>(
     alloc: A,
     new: New<'_>,
     course: &Course<'_>,
@@ -149,6 +152,7 @@ fn plan_course<A: Allocator + Copy>(
     requires file { IsOf new course.now }
     ensures plan { IfOk result (IsPlanOf (outcome_of (content_of new.entry) course.now)) }
     ensures can_begin { IfOk result CanBegin }
+    ensures changes { OnErr result (IsChange (outcome_of (content_of new.entry) course.now)) }
 {
     match course {
         Course::Refuse(why) => Ok(refused(*why)),
@@ -184,42 +188,14 @@ fn plan_course<A: Allocator + Copy>(
 }
 
 /// What is planned, if memory doesn't run out.
-fn or_stop<A: Allocator>(planned: Result<Plan<A>, Memory>) -> Result<Plan<A>, Stop>
+pub(crate) fn or_stop<A: Allocator>(planned: Result<Plan<A>, Memory>) -> Result<Plan<A>, Stop>
     ensures plan { (outcome : Outcome) → IfOk planned (IsPlanOf outcome) → IfOk result (IsPlanOf outcome) }
     ensures can_begin { IfOk planned CanBegin → IfOk result CanBegin }
+    ensures changes { (outcome : Outcome) → OnErr planned (IsChange outcome) → OnErr result (IsChange outcome) }
     ensures memory { IfErr result (λ e. e ≡ Stop.Memory) }
 {
     match planned {
         Ok(plan) => Ok(plan),
         Err(Memory) => Err(Stop::Memory),
     }
-}
-
-/// What a course comes to, if memory doesn't run out.
-pub(crate) fn plan_of<A: Allocator + Copy>(
-    alloc: A,
-    new: New<'_>,
-    course: &Course<'_>,
-) -> Result<Plan<A>, Stop>
-    requires small { IsSmall (bytes_of new) }
-    requires named { IsNamedCourse course.now }
-    requires file { IsOf new course.now }
-    ensures plan { IfOk result (IsPlanOf (outcome_of (content_of new.entry) course.now)) }
-    ensures can_begin { IfOk result CanBegin }
-    ensures memory { IfErr result (λ e. e ≡ Stop.Memory) }
-{
-    or_stop(plan_course(alloc, new, course))
-}
-
-/// An operation of this change of the table of principals, if memory doesn't run out.
-pub(crate) fn plan_of_table<A: Allocator + Copy>(
-    alloc: A,
-    change: TableChange,
-) -> Result<Plan<A>, Stop>
-    ensures can_begin { IfOk result CanBegin }
-    ensures plan { (wanted : AnyChange Content) → declared wanted ≡ of_table (table_action_of change)
-        → texts_for wanted.action ≡ [] → IfOk result (IsPlanOf (Writes (wanted ∷ []))) }
-    ensures memory { IfErr result (λ e. e ≡ Stop.Memory) }
-{
-    or_stop(of_table(alloc, change))
 }

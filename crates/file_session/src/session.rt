@@ -1,13 +1,13 @@
 //! Sessions.
 
-ghost use Rattle.std.specs.Prelude.{◌≡◌, ◌∷◌, [], ℕ, false, IfSome, IsSome, List, None, OnOk, Result};
+ghost use Rattle.std.specs.Prelude.{◌≡◌, [], false, IfSome, IsSome, None, OnOk, Result};
 ghost use Rattle.std.specs.Option.{option_copied};
 ghost use Rattle.client_releases.specs.declared.phase.Phase.TheVariants as phase;
 ghost use Rattle.client_steps.specs.Anywhere.{on_ok};
 ghost use Rattle.commands.specs.Answers.{Answer as AnswerOf, Refused, answer_of};
 ghost use Rattle.commands.specs.Asked.{early, has_path, is_too_large, told_of_lost};
 ghost use Rattle.file_session.specs.Order.{Ready, ready_or};
-ghost use Rattle.file_session.specs.Parts.{Carried};
+ghost use Rattle.file_session.specs.Parts.{Carried, IsLookEnded};
 ghost use Rattle.file_session.specs.Sessions.{Ran, answered, refused_by, stopped_by};
 ghost use Rattle.file_session.specs.declared.stop.Stop.{Stop as Stopped};
 ghost use Rattle.file_session.specs.Went.{Operated, point};
@@ -112,7 +112,7 @@ impl<L: Device, J: Device, T: Transport<A>, A: Allocator + Copy> Conversation<L,
         requires { self.old.client.phase ≡ phase.Idle }
         ensures operated { Operated T.answers (point self.old.client self.old.transport (Ready []))
             (point self.new.client self.new.transport (ready_or result)) [] []
-            (λ signed. OnOk result ((lost : List ℕ) × (signed ≡ lost ∷ []))) }
+            (IsLookEnded result self.new.client) }
         ensures idle { OnOk result (self.new.client.phase ≡ phase.Idle) }
         ensures view { OnOk result (IsSome self.new.client.view) }
     {

@@ -1,17 +1,17 @@
 //! Where a command changes something, and what it plans there.
 
-ghost use Rattle.std.specs.Prelude.{◌≡◌, IfErr, IfOk};
+ghost use Rattle.std.specs.Prelude.{◌≡◌, IfOk, OnErr};
 ghost use Rattle.commands.specs.Asked.{links, makes, place_held, puts, removes};
 ghost use Rattle.commands.specs.Names.{IsNamed};
 ghost use Rattle.commands.specs.Paths.{path_of};
-ghost use Rattle.file_session.specs.Parts.{CanBegin, HasName, IsPlanOf, IsSmall, last_name, last_of, place_of_site};
+ghost use Rattle.file_session.specs.Parts.{CanBegin, HasName, IsChange, IsPlanOf, IsSmall, last_name, last_of};
+ghost use Rattle.file_session.specs.Parts.{place_of_site};
 
 use crate::planning::{Plan, plan_of};
-use crate::stop::Stop;
 use crate::texts::New;
 use commands::{Names, Place, Stands, path_of};
 use directory::Target;
-use layout::INumber;
+use layout::{INumber, Memory};
 use std::alloc::Allocator;
 
 /// Where a command changes something: a place, but for its name, which is the last one of the command's path.
@@ -76,13 +76,14 @@ pub(crate) fn put_at<A: Allocator + Copy>(
     site: &Site,
     content: &[u8],
     free: Option<INumber>,
-) -> Result<Plan<A>, Stop>
+) -> Result<Plan<A>, Memory>
     requires small { IsSmall content.now }
     requires named { HasName (last_name (path_of path.now)) site.now }
     ensures plan { IfOk result (IsPlanOf
         (puts content.now (place_of_site (last_name (path_of path.now)) site.now) free)) }
     ensures can_begin { IfOk result CanBegin }
-    ensures memory { IfErr result (λ e. e ≡ Stop.Memory) }
+    ensures changes { OnErr result (IsChange
+        (puts content.now (place_of_site (last_name (path_of path.now)) site.now) free)) }
 {
     let place = place(path, site);
     let course = place.put(free);
@@ -95,11 +96,11 @@ pub(crate) fn make_at<A: Allocator + Copy>(
     path: &str,
     site: &Site,
     free: Option<INumber>,
-) -> Result<Plan<A>, Stop>
+) -> Result<Plan<A>, Memory>
     requires { HasName (last_name (path_of path.now)) site.now }
     ensures plan { IfOk result (IsPlanOf (makes (place_of_site (last_name (path_of path.now)) site.now) free)) }
     ensures can_begin { IfOk result CanBegin }
-    ensures memory { IfErr result (λ e. e ≡ Stop.Memory) }
+    ensures changes { OnErr result (IsChange (makes (place_of_site (last_name (path_of path.now)) site.now) free)) }
 {
     let place = place(path, site);
     let course = place.make(free);
@@ -111,11 +112,11 @@ pub(crate) fn remove_at<A: Allocator + Copy>(
     alloc: A,
     path: &str,
     site: &Site,
-) -> Result<Plan<A>, Stop>
+) -> Result<Plan<A>, Memory>
     requires { HasName (last_name (path_of path.now)) site.now }
     ensures plan { IfOk result (IsPlanOf (removes (place_of_site (last_name (path_of path.now)) site.now))) }
     ensures can_begin { IfOk result CanBegin }
-    ensures memory { IfErr result (λ e. e ≡ Stop.Memory) }
+    ensures changes { OnErr result (IsChange (removes (place_of_site (last_name (path_of path.now)) site.now))) }
 {
     let place = place(path, site);
     let course = place.remove();
@@ -128,11 +129,12 @@ pub(crate) fn link_at<A: Allocator + Copy>(
     path: &str,
     site: &Site,
     target: Target,
-) -> Result<Plan<A>, Stop>
+) -> Result<Plan<A>, Memory>
     requires { HasName (last_name (path_of path.now)) site.now }
     ensures plan { IfOk result (IsPlanOf (links target (place_of_site (last_name (path_of path.now)) site.now))) }
     ensures can_begin { IfOk result CanBegin }
-    ensures memory { IfErr result (λ e. e ≡ Stop.Memory) }
+    ensures changes { OnErr result
+        (IsChange (links target (place_of_site (last_name (path_of path.now)) site.now))) }
 {
     let place = place(path, site);
     let course = place.link(target);

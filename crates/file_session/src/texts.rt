@@ -4,7 +4,7 @@ ghost use Rattle.std.specs.Prelude.{◌≡◌, ◌∷◌, IfOk, map, true};
 ghost use Rattle.std.specs.Vec.{vec_items};
 ghost use Rattle.directory.specs.Name.{is_name};
 ghost use Rattle.update_cert.specs.World.{File};
-ghost use Rattle.file_session.specs.Declaring.{named, texts_of_content};
+ghost use Rattle.file_session.specs.Declaring.{content_digest, texts_of_content};
 ghost use Rattle.file_session.specs.Parts.{IsSmall, bytes_of, content_of};
 ghost use Rattle.update_cert.specs.Change.{Link as links, Unlink as unlinks, action_of};
 
@@ -28,7 +28,7 @@ pub(crate) enum New<'a> {
 #[derive(Drop)]
 pub(crate) struct Prepared<A: Allocator> {
     /// The digest of its i-node.
-    pub(crate) named: Digest,
+    pub(crate) inode: Digest,
     /// The texts that are stored for it.
     pub(crate) texts: Vec<Vec<u8, A>, A>,
 }
@@ -47,27 +47,28 @@ fn together<A: Allocator + Copy>(alloc: A, laid: Laid<A>) -> Result<Vec<Vec<u8, 
 /// A file of these bytes, laid out.
 fn prepare_file<A: Allocator + Copy>(alloc: A, bytes: &[u8]) -> Result<Prepared<A>, Memory>
     requires { IsSmall bytes.now }
-    ensures named { IfOk result (λ new. new.named ≡ named (File bytes.now)) }
+    ensures inode { IfOk result (λ new. new.inode ≡ content_digest (File bytes.now)) }
     ensures texts { IfOk result (λ new. map vec_items new.texts.items ≡ texts_of_content (File bytes.now)) }
 {
     let Ok(laid) = lay_file(alloc, bytes) else {
         return Err(Memory);
     };
-    let named = digest(&laid.inode);
+    let inode = digest(&laid.inode);
     let texts = together(alloc, laid)?;
-    Ok(Prepared { named, texts })
+    Ok(Prepared { inode, texts })
 }
 
 /// What is put or made, laid out.
 pub(crate) fn prepare<A: Allocator + Copy>(alloc: A, new: New<'_>) -> Result<Prepared<A>, Memory>
     requires { IsSmall (bytes_of new) }
-    ensures named { IfOk result (λ prepared. prepared.named ≡ named (content_of new.entry)) }
-    ensures texts { IfOk result (λ prepared. map vec_items prepared.texts.items ≡ texts_of_content (content_of new.entry)) }
+    ensures inode { IfOk result (λ prepared. prepared.inode ≡ content_digest (content_of new.entry)) }
+    ensures texts { IfOk result
+        (λ prepared. map vec_items prepared.texts.items ≡ texts_of_content (content_of new.entry)) }
 {
     match new {
         New::File(bytes) => prepare_file(alloc, bytes),
         New::Directory => Ok(Prepared {
-            named: root_digest(alloc)?,
+            inode: root_digest(alloc)?,
             texts: Vec::new(alloc),
         }),
     }

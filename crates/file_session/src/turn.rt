@@ -6,8 +6,8 @@ ghost use Rattle.client_tree.specs.declared.questions.Question.{Question as Aski
 ghost use Rattle.client_verify.specs.State.{State};
 ghost use Rattle.client_steps.specs.Anywhere.{asked, on_ok, seen};
 ghost use Rattle.file_session.specs.Order.{checking, looking};
-ghost use Rattle.file_session.specs.Waits.{AwaitsTurn, AwaitsTurnAt, Awaits, AwaitsAt, AsksFewer, AsksFewerAt, TurnsFewer};
-ghost use Rattle.file_session.specs.Waits.{IsTold, judging, questioning};
+ghost use Rattle.file_session.specs.Waits.{AsksFewer, AsksFewerAt, Awaits, AwaitsAt, AwaitsTurn, AwaitsTurnAt, IsTold};
+ghost use Rattle.file_session.specs.Waits.{TurnsFewer, judging, questioning};
 ghost use Rattle.client_verify.specs.declared.look.Look.TheVariants as look_kinds;
 ghost use Rattle.client_verify.specs.declared.step.Step.TheVariants as step_kinds;
 ghost use Rattle.file_session.specs.Waits.{IsSettled, IsSettledAt};

@@ -11,7 +11,8 @@ ghost use Rattle.directory.specs.Name.{is_name};
 ghost use Rattle.commands.specs.Asked.{content_at, entry_at, place_from, place_in, stands_of};
 ghost use Rattle.commands.specs.Asked.{walk as walk_in};
 ghost use Rattle.file_session.specs.Order.{Ready, ready_or};
-ghost use Rattle.file_session.specs.Parts.{HasName, directory_in, end_in, file_in, last_name, last_of, place_at, place_of_site};
+ghost use Rattle.file_session.specs.Parts.{HasName, directory_in, end_in, file_in, last_name, last_of, place_at};
+ghost use Rattle.file_session.specs.Parts.{place_of_site};
 ghost use Rattle.commands.specs.Paths.{path_of};
 ghost use Rattle.file_session.specs.Went.{IsSeenIn, Looked, point};
 

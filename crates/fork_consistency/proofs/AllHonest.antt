@@ -35,8 +35,8 @@ use Rattle.agreement.specs.Runs.{View, user_of}
 use Rattle.agreement.specs.Worlds.{IsHonest, NameFirst, Names, view_in}
 use Rattle.agreement.proofs.Members.{In, contains_in, in-map, in_contains, map-in, of_all}
 use Rattle.agreement.proofs.Tests.{any_in}
-use Rattle.client_runs.proofs.Among.{agrees_within, among_all_kept, among_none, are_within}
-use Rattle.client_runs.proofs.Judging.{value_of}
+use Rattle.fork_consistency.proofs.Among.{agrees_within, among_all_kept, among_none, are_within}
+use Rattle.fork_consistency.proofs.Judging.{value_of}
 use Rattle.fork_consistency.specs.Handles.{NamesTableAmong, NamesWhole, told_by_texts}
 use Rattle.fork_consistency.proofs.AllWhole.{part_before}
 use Rattle.fork_consistency.proofs.Firsts.{first_told}

@@ -28,7 +28,7 @@ use Rattle.client_verify.specs.State.{groups as groups_of, with_records}
 use Rattle.agreement.specs.Runs.{Accepted, View, reply_of, structures, user_of, IsRun as AreAccepted}
 use Rattle.agreement.proofs.Formed.{cert_fits, cert_user}
 use Rattle.agreement.proofs.Members.{In, contains_in, in-append, in-filter, in-map, in-right, map-in, of_all, to_all}
-use Rattle.client_runs.proofs.Judging.{value_of}
+use Rattle.fork_consistency.proofs.Judging.{value_of}
 use Rattle.fork_consistency.proofs.Lists.{found_in}
 use Rattle.fork_consistency.specs.Handles.{IsWhole, NamesWhole}
 use Rattle.fork_consistency.proofs.Acting.{ordered}

@@ -22,12 +22,12 @@ use Rattle.release_runs.specs.Steps as low
 use Rattle.release_runs.proofs.Once.{came}
 use Rattle.release_runs.proofs.Stories.{OfCert, OfStructure, Release, cert_of, message, text as release_text}
 use Rattle.release_runs.proofs.Texts.{cert_read, no_cert}
-use Rattle.client_runs.specs.Agreeing.{HasReleased}
+use Rattle.fork_consistency.specs.Premises.{HasReleased}
 use Rattle.client_runs.specs.Released.{released}
 use Rattle.client_runs.specs.Runs.{Event, IsRun, Keys, owner}
-use Rattle.client_runs.proofs.Genuine.{message_of}
+use Rattle.fork_consistency.proofs.Genuine.{message_of}
 use Rattle.client_runs.proofs.Lowering.{low_owner}
-use Rattle.client_runs.proofs.Moves.{holds_at}
+use Rattle.fork_consistency.proofs.Moves.{holds_at}
 use Rattle.client_runs.proofs.Once.{certificates_once}
 use Rattle.fork_consistency.proofs.Lists.{filter_map-in, filter_map-last, found_in, found_some, in-filter_map, next_number}
 use Rattle.fork_consistency.specs.ByCertificates.{HasAllUpTo, certificate, certificates, certificates_up_to, tables_after}

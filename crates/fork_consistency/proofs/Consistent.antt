@@ -1,28 +1,28 @@
 -- Runs are fork consistent.
 use Rattle.std.proofs.Common.{Bool, List, Result, Ok, Err, IfOk}
-use Rattle.agreement.proofs.Worlds.{guarded}
-use Rattle.client_runs.specs.Agreeing.{Premises}
-use Rattle.client_runs.specs.Carried.{AreCarriedOut, RunPremises, script_keys}
+use Rattle.fork_consistency.specs.Premises.{Premises}
+use Rattle.client_runs.specs.Carried.{AreCarriedOut, script_keys}
 use Rattle.client_runs.specs.Released.{views}
 use Rattle.client_runs.specs.Runs.{Event, IsRun, Keys}
 use Rattle.client_runs.specs.declared.world.Answer.{Answer}
 use Rattle.client_runs.specs.declared.world.WorldStep.{WorldStep}
-use Rattle.client_runs.proofs.Agreed.{agreed, all_released, are_accepted, ended, growing, numbered}
-use Rattle.client_runs.proofs.ScriptKeys.{pinned_fits}
-use Rattle.fork_consistency.specs.ForkConsistent.{AreForkConsistent, IsForkConsistent, StandWhereStolen, StolenPremises}
+use Rattle.fork_consistency.proofs.Agreed.{agreed, all_released, are_accepted, ended, growing, numbered}
+use Rattle.fork_consistency.proofs.ScriptKeys.{pinned_fits}
+use Rattle.fork_consistency.specs.ForkConsistent.{AreForkConsistent, IsForkConsistent, RunPremises, StandWhereStolen, StolenPremises}
 use Rattle.fork_consistency.specs.OwnParts.{OthersAreHonest}
 use Rattle.fork_consistency.proofs.OwnParts.{own_keys_stand, own_parts, super_of}
 use Rattle.fork_consistency.proofs.Signed.{are_signed}
 use Rattle.layout.specs.Types.{User}
 use Rattle.fork_consistency.proofs.Growing.{only_grow}
-use Rattle.fork_consistency.proofs.OneWorld.{one_world}
+use Rattle.fork_consistency.proofs.OneWorld.{one_part, one_world}
 use Rattle.fork_consistency.proofs.RunWorlds.{are_worlds_in, can_be_read, can_read}
-use Rattle.fork_consistency.proofs.Shown.{show_worlds}
+use Rattle.fork_consistency.proofs.Shown.{show_trees, show_worlds}
 use Rattle.fork_consistency.proofs.ByCertificates.{by_certificates, super_honest}
 
 pub consistent : (keys : Keys) (run : List Event) → IsRun keys run → Premises keys run → AreForkConsistent keys run
 consistent keys run is p = record {
   accepted = are_accepted keys run is p;
+  signed = are_signed keys run is;
   numbered = numbered keys run is p;
   ended = ended keys run is p;
   released = all_released keys run is p;
@@ -32,7 +32,6 @@ consistent keys run is p = record {
   shown = show_worlds keys run is p;
   readings = can_be_read keys run is p;
   one_world = one_world keys run is p;
-  guarded = guarded;
   tables = by_certificates keys run is (super_honest keys run p);
 }
 
@@ -45,13 +44,15 @@ all_premises run p = record {
 }
 
 -- where keys are stolen
-stands : (stolen : User → Bool) (keys : Keys) (run : List Event) → IsRun keys run → OthersAreHonest stolen keys run → StandWhereStolen stolen keys run
+pub stands : (stolen : User → Bool) (keys : Keys) (run : List Event) → IsRun keys run → OthersAreHonest stolen keys run → StandWhereStolen stolen keys run
 stands stolen keys run is others = record {
-  tables = by_certificates keys run is (super_of stolen keys run is others);
+  tables = by_certificates keys run is (super_of stolen keys run others);
   keys_are = own_keys_stand stolen keys run is others;
   parts = own_parts stolen keys run is others;
-  signed = are_signed keys run is;
   readings = can_read keys run;
+  one_part = one_part keys run is others.no_collision others.pinned;
+  shown = show_trees keys run is others.no_collision;
+  signed = are_signed keys run is;
 }
 
 stolen_premises : (stolen : User → Bool) (run : List Event) → StolenPremises stolen run → OthersAreHonest stolen script_keys run

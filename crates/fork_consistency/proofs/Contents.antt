@@ -25,7 +25,7 @@ use Rattle.tree_parts.proofs.Contents.{file_is}
 use Rattle.client_verify.specs.Laid.{are_blocks_laid, has_text, is_file_laid, is_whole_file}
 use Rattle.agreement.proofs.Members.{In}
 use Rattle.agreement.proofs.Tests.{any_in}
-use Rattle.client_runs.proofs.Among.{found}
+use Rattle.fork_consistency.proofs.Among.{found}
 use Rattle.fork_consistency.specs.Handles.{told_by_texts}
 
 -- ---- what reading an i-node tells, whatever the bytes are

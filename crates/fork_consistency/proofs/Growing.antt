@@ -1,7 +1,8 @@
 -- The line of each earlier view of a user is a beginning of that of a later one.
-use Rattle.std.proofs.Common.{◌≡◌, ℕ, zero, suc, ◌+◌, ◌-◌, ◌≤◌, ◌==◌, List, [], ◌∷◌, ◌++◌, append_assoc, find, Option, Some, None, refl, sym, ap, ◌∙◌, subst, inl, inr, option_map, arith}
+use Rattle.std.proofs.Common.{◌≡◌, ℕ, zero, suc, ◌+◌, ◌-◌, ◌≤◌, Bool, true, false, ◌==◌, List, [], ◌∷◌, ◌++◌, append_assoc, find, Option, Some, None, refl, sym, ap, ◌∙◌, subst, inl, inr, option_map, if◌then◌else◌, arith}
 use Rattle.std.specs.Option.{option_map_or}
-use Rattle.std.proofs.lemmas.Bool.{eqb-true}
+use Rattle.std.proofs.lemmas.Bool.{eq-eqb, eqb-true}
+use Rattle.layout.specs.Types.{User}
 use Rattle.version_order.specs.Plan.{Plan}
 use Rattle.version_order.specs.Structure.{Structure}
 use Rattle.update_cert.specs.Cert.{Cert}
@@ -85,5 +86,73 @@ module _ (run : List View) (v : AreAccepted run) (growing : Grow run) where
       joined (line run x) (line run b.view) (line run y) (along n x b.view i b.there (user ∙ sym b.user) step)
       (growing b.view y (in_contains b.view run b.there) (in_contains y run j) (sym b.user) b.number)
 
-  pub only_grow : OnlyGrow run
-  only_grow x y has_x has_y user low = along (number_of y - number_of x) x y (contains_in x run has_x) (contains_in y run has_y) user (omega (arith, low))
+  -- the line of a user's view is a beginning of that of each one of the user's with a number that isn't smaller
+  pub by_number : (x y : View) → In x run → In y run → user_of x ≡ user_of y → number_of x ≤ number_of y → IsBeginning (line run x) (line run y)
+  by_number x y i j user low = along (number_of y - number_of x) x y i j user (omega (arith, low))
+
+-- ---- numbers rise
+
+-- a user's view that is accepted after these has the number after that of the user's last one
+next_after : (older : List View) (y w : View) → Accepted older y → AreAccepted older → find (λ x. user_of x == user_of y) older ≡ Some w → number_of y ≡ number_of w + 1
+next_after older y w accepted v at =
+    go (structure_of (user_of y) y.lists) accepted.own_last (next_number y.table y.lists accepted.rules y.lists.own (in-right y.lists.own y.lists.others (y.lists.own ∷ []) (inl refl)))
+  where
+    go : (o : Option (Signed Structure)) → option_map (λ z. z.value) o ≡ last_signed (user_of y) older → number_of y ≡ option_map_or (λ z. z.value.plan.number) o 0 + 1 → number_of y ≡ number_of w + 1
+    go None same number = let none : None ≡ Some w.signed = same ∙ ap (option_map (λ (x : View). x.signed)) at in absurd (cc none)
+    go (Some z) same number =
+        let both : Some z.value ≡ Some w.signed = same ∙ ap (option_map (λ (x : View). x.signed)) at in
+        let value : z.value ≡ w.signed = cc both in
+        let f = found_in (λ (x : View). user_of x == user_of y) older w at in
+        let plan = signed_plan older v w f.0 in
+        number ∙ ap (λ (s : Structure). s.plan.number + 1) value ∙ ap (λ (p : Plan). p.number + 1) plan
+
+-- a user's last view, whose number none of the user's is above
+record IsLast (u : User) (run : List View) (x : View) : Type 0 where
+  pub last : View
+  pub is_last : find (λ y. user_of y == u) run ≡ Some last
+  pub greatest : number_of x ≤ number_of last
+
+-- one view more
+one_later : (older : List View) (y : View) → Accepted older y → AreAccepted older → (u : User) (x : View) → user_of x ≡ u → (In x older → IsLast u older x) → (b : Bool) → (user_of y == u) ≡ b → In x (y ∷ older) → IsLast u (y ∷ older) x
+one_later older y accepted v u x user ih true is i =
+    elim i [
+      | inl same ↦ record { last = y; is_last = here; greatest = subst (λ (z : View). number_of x ≤ number_of z) same (omega arith) }
+      | inr j ↦ (
+          let l = ih j in
+          let at = ap (λ (w : User). find (λ z. user_of z == w) older) (eqb-true (user_of y) u is) ∙ l.is_last in
+          let next = next_after older y l.last accepted v at in
+          record { last = y; is_last = here; greatest = omega (arith, next, l.greatest) })
+    ]
+  where
+    here : find (λ z. user_of z == u) (y ∷ older) ≡ Some y
+    here = ap (λ (c : Bool). if c then Some y else find (λ z. user_of z == u) older) is
+one_later older y accepted v u x user ih false is i =
+    elim i [
+      | inl same ↦ absurd (cc (sym is ∙ eq-eqb (user_of y) u (ap user_of (sym same) ∙ user)))
+      | inr j ↦ (
+          let l = ih j in
+          record { last = l.last; is_last = ap (λ (c : Bool). if c then Some y else find (λ z. user_of z == u) older) is ∙ l.is_last; greatest = l.greatest })
+    ]
+
+last_of : (run : List View) → AreAccepted run → (u : User) (x : View) → user_of x ≡ u → In x run → IsLast u run x
+last_of [] v u x user i = absurd i
+last_of (y ∷ older) v u x user i = one_later older y v.0 v.1 u x user (last_of older v.1 u x user) (user_of y == u) refl i
+
+-- a later view of a user has a greater number
+rises : (older : List View) (y : View) → Accepted older y → AreAccepted older → (x : View) → In x older → user_of x ≡ user_of y → number_of x ≤ number_of y
+rises older y accepted v x i user =
+    let l = last_of older v (user_of y) x user i in
+    let next = next_after older y l.last accepted v l.is_last in
+    omega (arith, next, l.greatest)
+
+-- what stands in the end of a run is a run
+after_later : (later rest : List View) → AreAccepted (later ++ rest) → AreAccepted rest
+after_later [] rest v = v
+after_later (x ∷ later) rest v = after_later later rest v.1
+
+pub only_grow : (run : List View) → AreAccepted run → Grow run → OnlyGrow run
+only_grow run v growing later older x y at has user =
+    let rest : AreAccepted (y ∷ older) = after_later later (y ∷ older) (subst AreAccepted at v) in
+    let i = contains_in x older has in
+    let within : (z : View) → In z (y ∷ older) → In z run = λ z j. subst (λ (vs : List View). In z vs) (sym at) (in-right z later (y ∷ older) j) in
+    by_number run v growing x y (within x (inr i)) (within y (inl refl)) user (rises older y rest.0 rest.1 x i user)

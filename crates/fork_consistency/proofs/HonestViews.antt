@@ -27,7 +27,7 @@ use Rattle.client_tree.specs.View.{View, actor_of, after_items, comes_after, han
 use Rattle.agreement.specs.Worlds.{Names}
 use Rattle.agreement.proofs.Members.{In, flat_map-in, in-left, to_all}
 use Rattle.agreement.proofs.Tests.{all_in}
-use Rattle.client_runs.proofs.Among.{AreAmong, agrees_within, all_held, are_within}
+use Rattle.fork_consistency.proofs.Among.{AreAmong, agrees_within, all_held, are_within}
 use Rattle.fork_consistency.proofs.Lists.{neither}
 use Rattle.fork_consistency.specs.Handles.{IsWhole, told_by_texts}
 use Rattle.fork_consistency.proofs.SignedTable.{held_in}

@@ -23,7 +23,7 @@ use Rattle.client_verify.specs.declared.step.Step.TheVariants.{Need, Store, Brok
 use Rattle.client_verify.specs.declared.view.Looking.{Looking}
 use Rattle.reply_check.specs.FirstBroken.{reply_in, view_over}
 use Rattle.reply_check.specs.Good.{Good}
-use Rattle.client_verify.specs.State.{AcceptedView, Checked, Reading, Ready, State, Writing, committed, holding, on, signed_over, signed_text}
+use Rattle.client_verify.specs.State.{AcceptedView, Checked, Reading, Ready, State, Writing, committed, holding, on, signed_over, signed_structure, signed_text}
 use Rattle.client_verify.specs.Judged.{AsksOrAccepts, GoesOn, Handed, Judged, Taken}
 use Rattle.client_verify.specs.Looked.{Given, Looked}
 use Rattle.agreement.specs.Runs.{View, user_of}
@@ -31,16 +31,16 @@ use Rattle.agreement.proofs.Members.{In, in-right}
 use Rattle.client_steps.specs.Steps.{Asks, Begins, Call, Client, Closed, Closes, Commits, Crashes, Gives, HasBegun, HasGiven, HasHeard, HasLooked, HasSigned, HasTaken, Hears, IsStep, Looks, Open, Opens, Owner, Sees, Signs, Takes}
 use Rattle.client_runs.specs.Released.{accepted_by, hashed_at, tried_view, view_over as over, views}
 use Rattle.client_runs.specs.Runs.{Event, IsRun, Keys, client_of, owner, public_key}
-use Rattle.client_runs.proofs.Among.{agrees_within, are_within}
-use Rattle.client_runs.proofs.Views.{over_here}
+use Rattle.fork_consistency.proofs.Among.{agrees_within, are_within}
+use Rattle.fork_consistency.proofs.Views.{over_here}
 use Rattle.fork_consistency.specs.Handles.{told_by_texts}
-use Rattle.fork_consistency.specs.Shown.{last_view}
+use Rattle.fork_consistency.specs.Shown.{AreWithOwn, last_view}
 use Rattle.fork_consistency.proofs.Origins.{AreIn, IsReady, IsTold, KnowsClient, known_at}
 
 -- ---- calls that keep the view
 
 abbrev SameView : AcceptedView → AcceptedView → Type 0
-SameView v w = (v.lists ≡ w.lists) × (v.table ≡ w.table) × (v.lost ≡ w.lost)
+SameView v w = (v.lists ≡ w.lists) × (v.table ≡ w.table) × (v.lost ≡ w.lost) × (v.structures ≡ w.structures)
 
 -- the view is the one before, whatever is looked for in it
 abbrev Keeps : Option AcceptedView → Option AcceptedView → Type 0
@@ -49,7 +49,7 @@ Keeps before (Some v) = IsSomeAnd before (SameView v)
 
 keeps_same : (o : Option AcceptedView) → Keeps o o
 keeps_same None = tt
-keeps_same (Some v) = (refl, refl, refl)
+keeps_same (Some v) = (refl, refl, refl, refl)
 
 module _ (s new : State) where
   same : new.view ≡ s.view → Keeps s.view new.view
@@ -102,12 +102,12 @@ module _ (s new : State) where
     of_view w kept is = subst (Keeps s.view) (sym is) (subst (λ (o : Option AcceptedView). IsSomeAnd o (SameView w)) (sym at) kept)
 
     looked : (t : State) (q : Question) (answer : Sees) → Looked t v q answer new → Keeps s.view new.view
-    looked t q (look.Need digest) h = of_view (record v { looking = Some (record { question = q; asked = h.0 }) }) (refl, refl, refl) (ap (λ (n : State). n.view) h.2)
-    looked t q (look.File bytes) h = of_view (record v { looking = None }) (refl, refl, refl) (ap (λ (n : State). n.view) h.0)
-    looked t q (look.Dir entries) h = of_view (record v { looking = None }) (refl, refl, refl) (ap (λ (n : State). n.view) h.0)
-    looked t q look.None h = of_view (record v { looking = None }) (refl, refl, refl) (ap (λ (n : State). n.view) h.0)
-    looked t q (look.Kind kind) h = of_view (record v { looking = None }) (refl, refl, refl) (ap (λ (n : State). n.view) h.0)
-    looked t q (look.Free found) h = of_view (record v { looking = None }) (refl, refl, refl) (ap (λ (n : State). n.view) h.0)
+    looked t q (look.Need digest) h = of_view (record v { looking = Some (record { question = q; asked = h.0 }) }) (refl, refl, refl, refl) (ap (λ (n : State). n.view) h.2)
+    looked t q (look.File bytes) h = of_view (record v { looking = None }) (refl, refl, refl, refl) (ap (λ (n : State). n.view) h.0)
+    looked t q (look.Dir entries) h = of_view (record v { looking = None }) (refl, refl, refl, refl) (ap (λ (n : State). n.view) h.0)
+    looked t q look.None h = of_view (record v { looking = None }) (refl, refl, refl, refl) (ap (λ (n : State). n.view) h.0)
+    looked t q (look.Kind kind) h = of_view (record v { looking = None }) (refl, refl, refl, refl) (ap (λ (n : State). n.view) h.0)
+    looked t q (look.Free found) h = of_view (record v { looking = None }) (refl, refl, refl, refl) (ap (λ (n : State). n.view) h.0)
     looked t q (look.Broken rule) h = absurd h
 
     block_looked : (l : Looking) (block : Option Bytes) (answer : Sees) → IsSomeAnd block (λ text. Looked (holding s text) v l.question answer new) → Keeps s.view new.view
@@ -190,6 +190,7 @@ module _ (texts : List Bytes) (apart : NoneCollide texts texts) (key : Key) wher
     pub table : v.table ≡ x.table
     pub told : IsTold texts apart key x.lists x.table
     pub lost : (reads : Reads) → Agrees (told_by_texts texts) reads → v.lost ≡ lost_of reads told.users (view_over key x.table x.lists)
+    pub structures : AreWithOwn x v.structures
 
   abbrev pub HasLastView : Option View → Client → Type 0
   HasLastView last (Closed p) = Unit {0}
@@ -205,6 +206,7 @@ module _ (texts : List Bytes) (apart : NoneCollide texts texts) (key : Key) wher
         table = same.1 ∙ has.table;
         told = has.told;
         lost = λ reads agrees. same.2 ∙ has.lost reads agrees;
+        structures = (has.structures.0, has.structures.1, same.3 ∙ has.structures.2);
       }
 
       go : (o n : Option AcceptedView) → Keeps o n → IfSome o (λ v. IsSomeAnd last (IsOf v)) → IfSome n (λ v. IsSomeAnd last (IsOf v))
@@ -221,6 +223,7 @@ module _ (texts : List Bytes) (apart : NoneCollide texts texts) (key : Key) wher
         table = refl;
         told = made.told;
         lost = λ reads agrees. made.lost_are made.told.users made.told.pending reads (agrees_within made.blocks (told_by_texts texts) (are_within texts apart made.blocks made.among) reads agrees);
+        structures = (signed_structure s leaf y, refl, refl);
       })
 
   -- the last view after a step that accepts these

@@ -1,3 +1,11 @@
+mod Holds
+mod Judging
+mod Moves
+mod Genuine
+mod Views
+mod Among
+mod Listings
+mod ScriptKeys
 mod Lists
 mod Chunks
 mod TableTexts
@@ -11,6 +19,8 @@ mod Certificates
 mod Origins
 mod Tables
 mod ByCertificates
+mod ListedKeys
+mod Agreed
 mod AllWhole
 mod AllHonest
 mod RunWorlds

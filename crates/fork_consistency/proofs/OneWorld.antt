@@ -1,18 +1,21 @@
 -- All readings of a run give one world to each line of an accepted view: each content that a released certificate names was
 -- laid out, among the texts of the run.
-use Rattle.std.proofs.Common.{◌≡◌, ◌<◌, true, ◌||◌, List, [], ◌∷◌, Some, refl, sym, ap, ◌∙◌, subst, inl, inr}
-use Rattle.std.specs.List.{All, flat_map, list_all}
+use Rattle.std.proofs.Common.{◌≡◌, ◌<◌, true, ◌==◌, ◌||◌, List, [], ◌∷◌, Option, Some, None, refl, sym, ap, ◌∙◌, subst, inl, inr, option_map}
+use Rattle.std.specs.List.{All, flat_map, list_all, range_with_len}
 use Rattle.std.specs.Str.{bytes_eq}
 use Rattle.std.proofs.lemmas.Bool.{and_parts, or_cases}
 use Rattle.std.proofs.lemmas.Slice.Eq.{bytes_eq-Decides}
-use Rattle.layout.specs.Types.{Bytes, Digest, INumber, Key, Principal}
+use Rattle.layout.specs.Types.{Bytes, Digest, INumber, Key, Principal, User}
+use Rattle.principals.specs.TableText.{key as key_form}
 use Rattle.itable.specs.File.{NoneCollide}
 use Rattle.update_cert.specs.Change.{Action, Make, Put, Remove, Link, Unlink, AddUser, AddMember, DropMember, Change}
 use Rattle.update_cert.specs.Cert.{Cert, cert}
 use Rattle.update_cert.specs.Reading.{Reading, read_action, read_change, read_changes}
 use Rattle.update_cert.specs.World.{Content, Directory, Tree, after, genesis}
 use Rattle.tree_parts.specs.Blocks.{Agrees}
+use Rattle.pending_list.specs.declared.signed.Signed.{Signed}
 use Rattle.pending_list.specs.Reply.{PendingItem}
+use Rattle.client_releases.specs.Told.{cert_in}
 use Rattle.client_tree.specs.Genesis.{first_blocks, first_texts, inode_digest, root_inode}
 use Rattle.client_verify.specs.Laid.{are_laid, is_file_laid, is_laid}
 use Rattle.client_verify.proofs.GenesisLaws.{has_genesis}
@@ -23,16 +26,19 @@ use Rattle.agreement.proofs.Lines as lines
 use Rattle.agreement.proofs.Members.{In, in-left, in-map, in-right, of_all, to_all}
 use Rattle.agreement.proofs.Formed.{cert_fits}
 use Rattle.agreement.proofs.Runs.{accepted_in}
-use Rattle.client_runs.specs.Agreeing.{HasReleased, Premises}
-use Rattle.client_runs.specs.Released.{hashed, hashed_at, views}
+use Rattle.fork_consistency.specs.Premises.{HasReleased, NoCollision, Premises}
+use Rattle.client_runs.specs.Released.{hashed, hashed_at, released, views}
 use Rattle.client_runs.specs.Runs.{Event, IsRun, Keys, public_key}
-use Rattle.client_runs.proofs.Agreed.{all_released, are_accepted}
+use Rattle.fork_consistency.proofs.Agreed.{all_released, are_accepted}
+use Rattle.fork_consistency.specs.ByCertificates.{certificate, certificates, certificates_up_to}
 use Rattle.fork_consistency.specs.Handles.{told_by_texts}
+use Rattle.fork_consistency.specs.OwnParts.{OnePart}
 use Rattle.fork_consistency.specs.Worlds.{IsReadingOf, OneWorld}
 use Rattle.fork_consistency.proofs.AllHonest.{apart_first, first_agrees}
 use Rattle.fork_consistency.proofs.Begun.{IsBegun, each_begun}
 use Rattle.fork_consistency.proofs.Certificates.{text_of}
 use Rattle.fork_consistency.proofs.Contents.{file_laid}
+use Rattle.fork_consistency.proofs.Lists.{found_in, in-filter_map}
 
 module _ (texts : List Bytes) (apart : NoneCollide texts texts) (a b : Reading) (of_a : Agrees (told_by_texts texts) a) (of_b : Agrees (told_by_texts texts) b)
     (root_a : a.content (inode_digest root_inode) ≡ Directory []) (root_b : b.content (inode_digest root_inode) ≡ Directory []) where
@@ -79,7 +85,7 @@ module _ (texts : List Bytes) (apart : NoneCollide texts texts) (a b : Reading) 
       ap (λ (changes : List (Change Content)). world_from a (after (actor_in w c) changes w) cs) (same_changes c (each c (inl refl)))
       ∙ same_world cs (after (actor_in w c) (read_changes b c.changes) w) (λ d i. each d (inr i))
 
-module _ (keys : Keys) (run : List Event) (is : IsRun keys run) (premises : Premises keys run) where
+module _ (keys : Keys) (run : List Event) (is : IsRun keys run) (apart : NoCollision keys run) (pinned : key_form.Fits (public_key keys 0)) where
   abbrev key : Key
   key = public_key keys 0
 
@@ -93,15 +99,38 @@ module _ (keys : Keys) (run : List Event) (is : IsRun keys run) (premises : Prem
   root_of : (reads : Reading) → IsReadingOf keys run reads → reads.content (inode_digest root_inode) ≡ Directory []
   root_of reads agrees =
       let same : Some (reads.content (inode_digest root_inode)) ≡ Some (Directory []) =
-      has_genesis key (first_blocks key) refl (apart_first texts premises.no_collision key premises.true_keys.pinned inside reads agrees) reads (first_agrees texts premises.no_collision key premises.true_keys.pinned inside reads agrees) 0 2 refl in
+      has_genesis key (first_blocks key) refl (apart_first texts apart key pinned inside reads agrees) reads (first_agrees texts apart key pinned inside reads agrees) 0 2 refl in
       cc same
 
+  -- readings give one world to certificates that were begun
+  pub one_of : (l : List Cert) → ((c : Cert) → In c l → IsBegun texts c) → (a b : Reading) → IsReadingOf keys run a → IsReadingOf keys run b → (p : Principal) (n : INumber) → world a key l p n ≡ world b key l p n
+  one_of l each a b of_a of_b p n =
+      ap (λ (w : Tree). w p n) (same_world texts apart a b of_a of_b (root_of a of_a) (root_of b of_b) l (genesis key) each)
+
+  -- what a user's client released was begun
+  of_user : (u : User) (a : Bytes) (o : Option (Signed Cert)) (c : Cert) → In a (released u run) → cert_in u a ≡ o → option_map (λ (s : Signed Cert). s.value) o ≡ Some c → IsBegun texts c
+  of_user u a None c i at same = absurd (cc same)
+  of_user u a (Some s) c i at same =
+      let one : s.value ≡ c = cc same in
+      subst (IsBegun texts) one (each_begun texts keys u run is (λ y k. in-left y (flat_map hashed_at run) (first_texts key) k) a s i at)
+
+  pub one_part : OnePart keys run
+  one_part u n a b of_a of_b p i low = one_of (certificates_up_to n u run) each a b of_a of_b p i
+    where
+      each : (c : Cert) → In c (certificates_up_to n u run) → IsBegun texts c
+      each c j =
+          let (k, l, at) = in-filter_map (certificate u run) (range_with_len 1 n) c j in
+          let m = found_in (λ (d : Cert). d.number == k) (certificates u run) c at in
+          let (text, q, is_cert) = in-filter_map (λ (t : Bytes). option_map (λ (s : Signed Cert). s.value) (cert_in u t)) (released u run) c m.0 in
+          of_user u text (cert_in u text) c q refl is_cert
+
+module _ (keys : Keys) (run : List Event) (is : IsRun keys run) (premises : Premises keys run) where
   -- each certificate of a line was begun
-  begun : (x : View) → In x (views run) → (c : Cert) → In c (line (views run) x) → cert.Fits c → IsBegun texts c
+  begun : (x : View) → In x (views run) → (c : Cert) → In c (line (views run) x) → cert.Fits c → IsBegun (hashed keys run) c
   begun x i c j fits =
       let has = of_all (λ (d : Cert). HasReleased d.user run (cert.spell d)) (line (views run) x) (of_all (λ (y : View). All (λ (d : Cert). HasReleased d.user run (cert.spell d)) (line (views run) y)) (views run) (all_released keys run is premises) x i) c j in
       let t = text_of keys run is c.user c fits refl has in
-      subst (IsBegun texts) t.value (each_begun texts keys c.user run is (λ y k. in-left y (flat_map hashed_at run) (first_texts key) k) t.text t.one t.there t.read)
+      subst (IsBegun (hashed keys run)) t.value (each_begun (hashed keys run) keys c.user run is (λ y k. in-left y (flat_map hashed_at run) (first_texts (public_key keys 0)) k) t.text t.one t.there t.read)
 
   abbrev vs : List View
   vs = views run
@@ -115,6 +144,5 @@ module _ (keys : Keys) (run : List Event) (is : IsRun keys run) (premises : Prem
 
   pub one_world : OneWorld keys run
   one_world a b of_a of_b =
-      to_all (λ x. (p : Principal) (n : INumber) → p < 96 → world a key (line vs x) p n ≡ world b key (line vs x) p n) vs
-      (λ x i p n low. ap (λ (w : Tree). w p n)
-      (same_world texts premises.no_collision a b of_a of_b (root_of a of_a) (root_of b of_b) (line vs x) (genesis key) (λ c j. begun x i c j (line_fits x c j))))
+      to_all (λ x. (p : Principal) (n : INumber) → p < 96 → world a (public_key keys 0) (line vs x) p n ≡ world b (public_key keys 0) (line vs x) p n) vs
+      (λ x i p n low. one_of keys run is premises.no_collision premises.true_keys.pinned (line vs x) (λ c j. begun x i c j (line_fits x c j)) a b of_a of_b p n)

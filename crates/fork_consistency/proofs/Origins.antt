@@ -41,12 +41,12 @@ use Rattle.agreement.specs.Worlds.{NamesTable}
 use Rattle.agreement.proofs.Members.{In, flat_map-in, in-append, in-left, in-right}
 use Rattle.client_steps.specs.Steps.{Asks, Begins, Call, Client, Closed, Closes, Commits, Crashes, Gives, HasBegun, HasGiven, HasHeard, HasLooked, HasSigned, HasTaken, Hears, IsStep, Looks, Open, Opens, Owner, Sees, Signs, Takes}
 use Rattle.client_runs.specs.Runs.{Event, IsRun, Keys, client_of, owner, public_key}
-use Rattle.client_runs.specs.Released.{accepted_by, hashed_at, hashed_by, in_hand, released, reply_texts, stored_texts, tried_by, tried_view, views, where_signed, view_over as over}
-use Rattle.client_runs.proofs.Among.{AreAmong, agrees_within, among_all_kept, among_kept, among_none, are_within}
-use Rattle.client_runs.proofs.Holds.{Holds}
-use Rattle.client_runs.proofs.Judging.{own_last_is, unbroken, value_of}
+use Rattle.client_runs.specs.Released.{accepted_by, hashed_at, hashed_by, in_hand, released, reply_texts, stored_texts, tried_by, tried_view, unless_memory, views, where_signed, view_over as over}
+use Rattle.fork_consistency.proofs.Among.{AreAmong, agrees_within, among_all_kept, among_kept, among_none, are_within}
+use Rattle.fork_consistency.proofs.Holds.{Holds}
+use Rattle.fork_consistency.proofs.Judging.{own_last_is, unbroken, value_of}
 use Rattle.client_runs.proofs.Lowering.{low_owner, of_declared}
-use Rattle.client_runs.proofs.Moves.{holds_at, signed_of}
+use Rattle.fork_consistency.proofs.Moves.{holds_at, signed_of}
 use Rattle.client_runs.proofs.Replies.{IsGoodBy, of_lists}
 use Rattle.release_runs.specs.Steps as low
 use Rattle.release_runs.proofs.Stories.{IsStory, OfCert, OfStructure, Release, last_in}
@@ -226,32 +226,38 @@ module _ (texts : List Bytes) (apart : NoneCollide texts texts) (key : Key) wher
     same : new ≡ s → Knows new
     same is = subst (λ (n : State). Knows n) (sym is) k
 
-    begins : (changes : List (Change Digest)) (laid : List Bytes) (answer : Result Bytes ClientError) → AreIn laid → HasBegun s changes laid answer new → Knows new
-    begins changes laid answer inside b = go answer b
+    begins : (changes : List (Change Digest)) (laid : List Bytes) (answer : Result Bytes ClientError) → AreIn (unless_memory answer laid) → HasBegun s changes laid answer new → Knows new
+    begins changes laid answer inside b = go answer inside b
       where
-        laid_too : AreAmong texts (held (keeping_all s.blocks laid))
-        laid_too = among_all_kept texts s.blocks laid inside k.among
+        laid_too : AreIn laid → AreAmong texts (held (keeping_all s.blocks laid))
+        laid_too all = among_all_kept texts s.blocks laid all k.among
 
-        go : (a : Result Bytes ClientError) → HasBegun s changes laid a new → Knows new
-        go (Ok text) h = subst (λ (n : State). Knows n) (sym h.declared.2) (record { pinned = k.pinned; among = laid_too; checked = tt; accepted = tt })
-        go (Err error.Device) h = subst (λ (n : State). Knows n) (sym (h.fails refl)) (record { pinned = k.pinned; among = laid_too; checked = tt; accepted = tt })
-        go (Err error.Memory) h = same (h.err (λ d. cc d))
-        go (Err error.NoLeaf) h = same (h.err (λ d. cc d))
-        go (Err error.NoNumber) h = same (h.err (λ d. cc d))
-        go (Err error.Foreign) h = same (h.err (λ d. cc d))
-        go (Err error.Damaged) h = same (h.err (λ d. cc d))
+        go : (a : Result Bytes ClientError) → AreIn (unless_memory a laid) → HasBegun s changes laid a new → Knows new
+        go (Ok text) all h = subst (λ (n : State). Knows n) (sym h.declared.2) (record { pinned = k.pinned; among = laid_too all; checked = tt; accepted = tt })
+        go (Err error.Device) all h = subst (λ (n : State). Knows n) (sym (h.fails refl)) (record { pinned = k.pinned; among = laid_too all; checked = tt; accepted = tt })
+        go (Err error.Memory) all h = same (h.err (λ d. cc d))
+        go (Err error.NoLeaf) all h = same (h.err (λ d. cc d))
+        go (Err error.NoNumber) all h = same (h.err (λ d. cc d))
+        go (Err error.Foreign) all h = same (h.err (λ d. cc d))
+        go (Err error.Damaged) all h = same (h.err (λ d. cc d))
 
-    hears : (text : Bytes) (answer : Result Asks ClientError) → AreIn (stored_texts answer) → HasHeard s text answer new → Knows new
-    hears text (Ok step) inside h = judged s text step new k inside h.judged
+    hears : (text : Bytes) (answer : Result Asks ClientError) → AreIn (hashed_by (Hears text answer)) → HasHeard s text answer new → Knows new
+    hears text (Ok step) inside h = judged s text step new k (λ t i. inside t (in-right t (option_map_or reply_texts (reply_in text) []) (stored_texts (Ok step)) i)) h.judged
     hears text (Err e) inside h = same h.err
 
-    takes : (block : Option Bytes) (answer : Result Asks ClientError) → AreIn (option_to_list block) → AreIn (stored_texts answer) → HasTaken s block answer new → Knows new
-    takes block (Err e) here inside h = same h.err
-    takes block (Ok step) here inside h = go s.checked h.wants h.handed k.checked
+    takes : (block : Option Bytes) (answer : Result Asks ClientError) → AreIn (hashed_by (Takes block answer)) → HasTaken s block answer new → Knows new
+    takes block (Err e) inside h = same h.err
+    takes block (Ok step) inside h = go s.checked h.wants h.handed k.checked
       where
+        here : AreIn (option_to_list block)
+        here t i = inside t (in-left t (option_to_list block) (stored_texts (Ok step)) i)
+
+        stored : AreIn (stored_texts (Ok step))
+        stored t i = inside t (in-right t (option_to_list block) (stored_texts (Ok step)) i)
+
         go : (c : Option Checked) → IsSome c → IfSome c (λ c. Handed s c block step new) → IfSome c IsUnder → Knows new
         go None some h u = absurd (cc some)
-        go (Some c) some h u = handed s c block step new k u here inside h
+        go (Some c) some h u = handed s c block step new k u here stored h
 
     signs : (answer : Result Bytes ClientError) → HasSigned s answer new → Knows new
     signs (Ok text) h = go s.accepted h.ready h.signed
@@ -278,7 +284,7 @@ module _ (texts : List Bytes) (apart : NoneCollide texts texts) (key : Key) wher
         go None some h = absurd (cc some)
         go (Some v) some h = looked s v q answer new k h
 
-    gives : (block : Option Bytes) (answer : Result Sees ClientError) → AreIn (option_to_list block) → HasGiven s block answer new → Knows new
+    gives : (block : Option Bytes) (answer : Result Sees ClientError) → AreIn (hashed_by (Gives block answer)) → HasGiven s block answer new → Knows new
     gives block (Err e) here h = same h.err
     gives block (Ok answer) here h = go s.view h.looks h.given
       where
@@ -312,9 +318,8 @@ module _ (texts : List Bytes) (apart : NoneCollide texts texts) (key : Key) wher
   step o own first (Open s) Closes (Closed p) inside is k = tt
   step o own first (Open s) Crashes (Closed p) inside is k = tt
   step o own first (Open s) (Begins changes laid answer) (Open new) inside is k = begins s new k changes laid answer inside is
-  step o own first (Open s) (Hears text answer) (Open new) inside is k = hears s new k text answer (λ t i. inside t (in-right t (option_map_or reply_texts (reply_in text) []) (stored_texts answer) i)) is
-  step o own first (Open s) (Takes block answer) (Open new) inside is k =
-      takes s new k block answer (λ t i. inside t (in-left t (option_to_list block) (stored_texts answer) i)) (λ t i. inside t (in-right t (option_to_list block) (stored_texts answer) i)) is
+  step o own first (Open s) (Hears text answer) (Open new) inside is k = hears s new k text answer inside is
+  step o own first (Open s) (Takes block answer) (Open new) inside is k = takes s new k block answer inside is
   step o own first (Open s) (Signs answer) (Open new) inside is k = signs s new k answer is
   step o own first (Open s) (Commits st) (Open new) inside is k = commits s new k st is.state
   step o own first (Open s) (Looks q answer) (Open new) inside is k = looks s new k q answer is

@@ -1,26 +1,20 @@
 -- The part of a user whose key isn't stolen is by the user's own certificates, in each accepted view.
-use Rattle.std.proofs.Common.{◌≡◌, ◌≢◌, ℕ, zero, suc, ◌+◌, ◌<◌, Bool, true, false, ◌==◌, ◌&&◌, ◌||◌, not, List, [], ◌∷◌, filter, find, map, Option, Some, None, IsSome, IfSome, refl, sym, ap, ◌∙◌, subst, inl, inr, if◌then◌else◌, option_map, arith}
+use Rattle.std.proofs.Common.{◌≡◌, ◌≢◌, ℕ, ◌+◌, ◌<◌, Bool, true, false, ◌==◌, ◌&&◌, ◌||◌, not, List, [], ◌∷◌, filter, map, Option, Some, None, refl, sym, ap, ◌∙◌, subst, inl, inr, if◌then◌else◌, option_map, arith}
 use Rattle.std.specs.Prelude.{◌⊎◌, nat_lt}
 use Rattle.std.specs.List.{All, flat_map}
 use Rattle.std.specs.Option.{option_map_or}
-use Rattle.std.specs.Ordering.{nat_cmp}
 use Rattle.std.proofs.lemmas.Bool.{cases_eq, eqb-true, lt-ltb}
-use Rattle.std.proofs.lemmas.Cmp.{nat_cmp_total}
-use Rattle.std.proofs.lemmas.List.Elements.{All-cons, All-head, All-nil, All-tail, All-weaker}
-use Rattle.layout.specs.AscendingLaws.{all_with_row}
-use Rattle.layout.specs.Types.{Bytes, Digest, Handle, Key, Principal, User, Version}
+use Rattle.std.proofs.lemmas.List.Elements.{All-head, All-weaker}
+use Rattle.layout.specs.Types.{Bytes, Handle, Key, Principal, User}
 use Rattle.lms_sign.specs.Signature.{valid}
 use Rattle.itable.specs.File.{NoneCollide}
-use Rattle.principals.specs.declared.table.Listing.{Listing}
-use Rattle.principals.specs.Table.{Table, genesis as first_users, key_of, user_of as listed_user}
+use Rattle.principals.specs.Table.{Table, key_of}
 use Rattle.principals.specs.TableText.{key as key_form}
 use Rattle.version_order.specs.declared.structure.GroupRecord.{GroupRecord}
 use Rattle.version_order.specs.Plan.{Plan}
 use Rattle.version_order.specs.Structure.{Structure, structure}
-use Rattle.update_cert.specs.Change.{Action, Make, Put, Remove, Link, Unlink, AddUser, AddMember, DropMember, Change}
 use Rattle.update_cert.specs.Cert.{Cert, cert}
 use Rattle.update_cert.specs.Reading.{Reading, after_read}
-use Rattle.update_cert.specs.Tables.{table_after, table_after_change, table_becomes, table_effect}
 use Rattle.update_cert.specs.World.{Principals, Tree, genesis, is_table}
 use Rattle.tree_parts.specs.Blocks.{Agrees}
 use Rattle.pending_list.specs.declared.signed.Signed.{Signed}
@@ -38,24 +32,25 @@ use Rattle.agreement.specs.Runs.{View}
 use Rattle.agreement.specs.Worlds.{Names, actor_in, view_in, world}
 use Rattle.agreement.proofs.Formed.{cert_fits}
 use Rattle.agreement.proofs.Members.{In, in-append, in-filter, in-left, in-map, in-right, map-in, of_all, to_all}
-use Rattle.client_runs.specs.Agreeing.{HasReleased, IsGenuine}
-use Rattle.client_runs.specs.Released.{Shown, accepted_by, hashed, hashed_at, released, shown, shown_by, shown_cert, shown_structure, tried_view, views}
+use Rattle.fork_consistency.specs.Premises.{HasReleased, IsGenuine, NoneForgedOf}
+use Rattle.client_runs.specs.Released.{Shown, accepted_by, hashed, hashed_at, shown, shown_by, shown_cert, shown_structure, tried_view, views}
 use Rattle.client_runs.specs.Runs.{Event, IsRun, Keys, client_of, owner, public_key}
 use Rattle.client_runs.specs.UsedOnce.{LeavesOnce}
-use Rattle.client_runs.proofs.Genuine.{IsReleasedText, released_later, released_structure}
-use Rattle.client_runs.proofs.Holds.{IsTriedOver, known_in, signed_in}
-use Rattle.client_runs.proofs.Judging.{IsUnbroken, IsUnbrokenBy, cert_by_super, cert_verified, structure_by_super, structure_fits, structure_verified, unbroken, unbroken_by}
-use Rattle.client_runs.proofs.Moves.{holds_at}
+use Rattle.fork_consistency.proofs.Genuine.{IsReleasedText, released_later, released_structure}
+use Rattle.fork_consistency.proofs.Holds.{IsTriedOver, known_in, signed_in}
+use Rattle.fork_consistency.proofs.Judging.{IsUnbroken, IsUnbrokenBy, cert_by_super, cert_verified, structure_by_super, structure_fits, structure_verified, unbroken, unbroken_by}
+use Rattle.fork_consistency.proofs.Moves.{holds_at}
 use Rattle.client_runs.proofs.Once.{leaves_once}
 use Rattle.client_runs.proofs.Replies.{of_lists}
-use Rattle.client_runs.proofs.Views.{in_views, over_here}
-use Rattle.fork_consistency.specs.ByCertificates.{HasAllUpTo, NoneForgedIn, SuperIsHonest, certificate, certificates_up_to, tables_after}
+use Rattle.fork_consistency.proofs.Views.{in_views, over_here}
+use Rattle.fork_consistency.specs.ByCertificates.{HasAllUpTo, ListOwnKeysOf, SuperIsHonest, certificate, certificates_up_to}
 use Rattle.fork_consistency.specs.Handles.{IsWhole, told_by_texts}
-use Rattle.fork_consistency.specs.OwnParts.{GivesOwnKeyOutside, IsOwnPart, IsTrueOutside, NoneForgedOutside, OthersAreHonest, OwnKeysStand, OwnPartsStand}
+use Rattle.fork_consistency.specs.OwnParts.{IsOutside, IsOwnPart, OthersAreHonest, OwnPartsStand}
 use Rattle.fork_consistency.proofs.Acting.{at_most_one, filter_none, next_number, none_before, once_front, ordered}
 use Rattle.fork_consistency.proofs.AllHonest.{first_names}
-use Rattle.fork_consistency.proofs.ByCertificates.{view}
-use Rattle.fork_consistency.proofs.Certificates.{IsReleased, all_before, all_more, found, none_first, one_more, released_cert, tables_more}
+use Rattle.fork_consistency.proofs.ByCertificates.{fewer_forged}
+use Rattle.fork_consistency.proofs.ListedKeys.{list_own_keys, own_key_listed}
+use Rattle.fork_consistency.proofs.Certificates.{all_more, found, none_first, one_more}
 use Rattle.fork_consistency.proofs.Firsts.{first_whole}
 use Rattle.fork_consistency.proofs.HonestViews.{part_names}
 use Rattle.fork_consistency.proofs.Lists.{found_in}
@@ -63,107 +58,15 @@ use Rattle.fork_consistency.proofs.Origins.{IsKnown, IsMade, all_known}
 use Rattle.fork_consistency.proofs.OwnChanges.{foreign_after, no_items, one_item, own_after, world_more}
 use Rattle.fork_consistency.proofs.Whole.{part_whole}
 
--- ---- keys of users outside the set
+-- ---- user 0
 
-module _ (stolen : User → Bool) (own_key : User → Key) where
-  -- a listing outside the set has the user's own key
-  abbrev IsOutside : Listing → Type 0
-  IsOutside l = stolen l.user ≡ false → l.key ≡ own_key l.user
-
-  abbrev AddsOutside : Action Digest → Type 0
-  AddsOutside (AddUser u k) = stolen u ≡ false → k ≡ own_key u
-  AddsOutside other = Unit {0}
-
-  becomes : (n : Version) (a : Action Digest) (t : Table) → AddsOutside a → All IsOutside t.users → All IsOutside (table_becomes n a t).users
-  becomes n (AddUser u k) t own all = all_with_row nat_cmp listed_user nat_cmp_total IsOutside t.users (record { user = u; since = n; key = k }) own all
-  becomes n (AddMember g u) t own all = all
-  becomes n (DropMember g u) t own all = all
-  becomes n (Make new) t own all = all
-  becomes n (Put new) t own all = all
-  becomes n Remove t own all = all
-  becomes n (Link entry) t own all = all
-  becomes n (Unlink name) t own all = all
-
-  one_change : (u n : ℕ) (c : Change Digest) (t : Table) → AddsOutside c.action → All IsOutside t.users → All IsOutside (table_after_change u n c t).users
-  one_change u n c t own all = go (table_effect u c t)
-    where
-      go : (b : Bool) → All IsOutside (if b then table_becomes n c.action t else t).users
-      go true = becomes n c.action t own all
-      go false = all
-
-  after_outside : (u n : ℕ) (cs : List (Change Digest)) (t : Table) → All (λ c. AddsOutside c.action) cs → All IsOutside t.users → All IsOutside (table_after u n cs t).users
-  unfolding table_after
-  after_outside u n [] t own all = all
-  after_outside u n (c ∷ cs) t own all =
-      after_outside u n cs (table_after_change u n c t) (All-tail (λ (d : Change Digest). AddsOutside d.action) c cs own) (one_change u n c t (All-head (λ (d : Change Digest). AddsOutside d.action) c cs own) all)
-
-  key_in : (ls : List Listing) (u : User) (k : Key) → stolen u ≡ false → All IsOutside ls → option_map (λ (l : Listing). l.key) (find (λ (l : Listing). l.user == u) ls) ≡ Some k → k ≡ own_key u
-  key_in [] u k out all is = absurd (cc is)
-  key_in (l ∷ ls) u k out all is = go (l.user == u) refl is (key_in ls u k out (All-tail IsOutside l ls all))
-    where
-      go : (b : Bool) → (l.user == u) ≡ b → option_map (λ (x : Listing). x.key) (if b then Some l else find (λ (x : Listing). x.user == u) ls) ≡ Some k
-          → (option_map (λ (x : Listing). x.key) (find (λ (x : Listing). x.user == u) ls) ≡ Some k → k ≡ own_key u) → k ≡ own_key u
-      go true same at ih =
-          let one : l.key ≡ k = cc at in
-          let user = eqb-true l.user u same in
-          sym one ∙ All-head IsOutside l ls all (ap stolen user ∙ out) ∙ ap own_key user
-      go false other at ih = ih at
-
-gives : (stolen : User → Bool) (keys : Keys) (a : Action Digest) → GivesOwnKeyOutside stolen keys a → AddsOutside stolen (public_key keys) a
-gives stolen keys (AddUser u k) own = own
-gives stolen keys (Make new) own = tt
-gives stolen keys (Put new) own = tt
-gives stolen keys Remove own = tt
-gives stolen keys (Link entry) own = tt
-gives stolen keys (Unlink name) own = tt
-gives stolen keys (AddMember g u) own = tt
-gives stolen keys (DropMember g u) own = tt
-
-module _ (stolen : User → Bool) (keys : Keys) (run : List Event) (is : IsRun keys run) (others : OthersAreHonest stolen keys run) where
-  abbrev own_keys : User → Key
-  own_keys = public_key keys
-
-  cert_gives : (k : ℕ) (c : Cert) → (of : IsReleased keys run is 0 c k) → All (λ (d : Change Digest). AddsOutside stolen own_keys d.action) c.changes
-  cert_gives k c of =
-      let text = of.text in
-      let given = of_all (IsTrueOutside stolen keys) (released 0 run) others.added text.text text.there in
-      let own = subst (λ (o : Option (Signed Cert)). IfSome o (λ y. All (λ (z : Change Digest). GivesOwnKeyOutside stolen keys z.action) y.value.changes)) text.read given in
-      subst (λ (x : Cert). All (λ (d : Change Digest). AddsOutside stolen own_keys d.action) x.changes) text.value
-      (All-weaker (λ (z : Change Digest). GivesOwnKeyOutside stolen keys z.action) (λ (z : Change Digest). AddsOutside stolen own_keys z.action) (λ z g. gives stolen keys z.action g) text.one.value.changes own)
-
-  abbrev table_at : ℕ → Table
-  table_at n = tables_after (certificates_up_to n 0 run) (first_users (own_keys 0))
-
-  lists_outside : (n : ℕ) → HasAllUpTo n 0 run → All (IsOutside stolen own_keys) (table_at n).users
-  lists_outside zero all = All-cons (IsOutside stolen own_keys) (record { user = 0; since = 0; key = own_keys 0 }) [] (λ out. refl) (All-nil (IsOutside stolen own_keys))
-  lists_outside (suc n) all =
-      let one : suc n ≡ n + 1 = omega arith in
-      subst (λ (k : ℕ). All (IsOutside stolen own_keys) (table_at k).users) (sym one) (step (lists_outside n) (all_before 0 run n (subst (λ (k : ℕ). HasAllUpTo k 0 run) one all)))
-    where
-      step : (HasAllUpTo n 0 run → All (IsOutside stolen own_keys) (table_at n).users) → HasAllUpTo n 0 run × IsSome (certificate 0 run (n + 1)) → All (IsOutside stolen own_keys) (table_at (n + 1)).users
-      step before has = go (certificate 0 run (n + 1)) refl has.1
-        where
-          go : (o : Option Cert) → certificate 0 run (n + 1) ≡ o → IsSome o → All (IsOutside stolen own_keys) (table_at (n + 1)).users
-          go None at some = absurd (cc some)
-          go (Some c) at some =
-              let of = released_cert keys run is 0 (n + 1) c at in
-              let made = after_outside stolen own_keys c.user c.number c.changes (table_at n) (cert_gives (n + 1) c of) (before has.0) in
-              subst (λ (t : Table). All (IsOutside stolen own_keys) t.users)
-              (sym (ap (λ (cs : List Cert). tables_after cs (first_users (own_keys 0))) (one_more 0 run n c at) ∙ tables_more (certificates_up_to n 0 run) c (first_users (own_keys 0)))) made
-
-  super_forged : (part : List Event) → NoneForgedOutside stolen keys run part → NoneForgedIn keys run part
-  super_forged [] none = tt
-  super_forged (e ∷ older) none =
-      (All-weaker (λ (t : Shown). stolen t.user ≡ false → IsGenuine keys run older t) (λ (t : Shown). t.user ≡ 0 → IsGenuine keys run older t) (λ t g zero. g (ap stolen zero ∙ others.super)) (shown_by e.call) none.0, super_forged older none.1)
-
-  abbrev honest : SuperIsHonest keys run
-  honest = record { no_forgery = super_forged run others.no_forgery; no_collision = others.no_collision; pinned = others.pinned }
-
-  -- a view lists no key but the own one of a user outside the set
-  pub own_key_listed : (x : View) → In x (views run) → (u : User) (k : Key) → stolen u ≡ false → key_of u x.table ≡ Some k → k ≡ own_keys u
-  own_key_listed x i u k out at =
-      let w = view keys run is honest x i in
-      key_in stolen own_keys x.table.users u k out (subst (λ (t : Table). All (IsOutside stolen own_keys) t.users) (sym w.at.is) (lists_outside w.number w.at.released)) at
+-- what user 0 signed is genuine, since its key isn't stolen
+pub super_of : (stolen : User → Bool) (keys : Keys) (run : List Event) → OthersAreHonest stolen keys run → SuperIsHonest keys run
+super_of stolen keys run others = record {
+  no_forgery = fewer_forged (IsOutside stolen) (λ u. u ≡ 0) (λ u zero. ap stolen zero ∙ others.super) keys run run others.no_forgery;
+  no_collision = others.no_collision;
+  pinned = others.pinned;
+}
 
 -- ---- what the user signed
 
@@ -450,7 +353,7 @@ module _ (keys : Keys) (whole : List Event) (is_whole : IsRun keys whole) (pinne
 
 -- ---- the law
 
-user_genuine : (stolen : User → Bool) (u : User) → stolen u ≡ false → (keys : Keys) (whole : List Event) → ((w : User) → LeavesOnce w whole) → (run : List Event) → NoneForgedOutside stolen keys whole run → UserGenuine u keys run
+user_genuine : (stolen : User → Bool) (u : User) → stolen u ≡ false → (keys : Keys) (whole : List Event) → ((w : User) → LeavesOnce w whole) → (run : List Event) → NoneForgedOf (IsOutside stolen) keys whole run → UserGenuine u keys run
 user_genuine stolen u out keys whole once [] none = tt
 user_genuine stolen u out keys whole once (e ∷ older) none =
     (All-weaker (λ (t : Shown). stolen t.user ≡ false → IsGenuine keys whole older t) (λ (t : Shown). t.user ≡ u → IsReleasedText keys older t) (λ t g same. g (ap stolen same ∙ out) (once t.user)) (shown_by e.call) none.0, user_genuine stolen u out keys whole once older none.1)
@@ -462,14 +365,8 @@ own_parts stolen keys run is others =
     let first = λ (t : Bytes) (j : In t (first_texts (public_key keys 0))). in-right t (flat_map hashed_at run) (first_texts (public_key keys 0)) j in
     let v =
     all_views keys run is others.pinned u low (hashed keys run) others.no_collision first run is (user_genuine stolen u out keys run (λ w. leaves_once keys run w is) run others.no_forgery) (λ text has. has)
-    (λ t j. in-left t (flat_map hashed_at run) (first_texts (public_key keys 0)) j) (λ y j k at. own_key_listed stolen keys run is others y j u k out at) x i in
+    (λ t j. in-left t (flat_map hashed_at run) (first_texts (public_key keys 0)) j) (λ y j k at. own_key_listed (IsOutside stolen) keys run is (super_of stolen keys run others) others.added y j u k out at) x i in
     record { number = v.number; released = v.released; part = v.part }))
 
-pub own_keys_stand : (stolen : User → Bool) (keys : Keys) (run : List Event) → IsRun keys run → OthersAreHonest stolen keys run → OwnKeysStand stolen keys run
-own_keys_stand stolen keys run is others =
-    to_all (λ x. (u : User) (k : Key) → stolen u ≡ false → key_of u x.table ≡ Some k → k ≡ public_key keys u) (views run)
-    (λ x i u k out at. own_key_listed stolen keys run is others x i u k out at)
-
--- what user 0 signed is genuine, since its key isn't stolen
-pub super_of : (stolen : User → Bool) (keys : Keys) (run : List Event) → IsRun keys run → OthersAreHonest stolen keys run → SuperIsHonest keys run
-super_of stolen keys run is others = honest stolen keys run is others
+pub own_keys_stand : (stolen : User → Bool) (keys : Keys) (run : List Event) → IsRun keys run → OthersAreHonest stolen keys run → ListOwnKeysOf (IsOutside stolen) keys run
+own_keys_stand stolen keys run is others = list_own_keys (IsOutside stolen) keys run is (super_of stolen keys run others) others.added

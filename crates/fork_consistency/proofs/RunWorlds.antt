@@ -15,11 +15,11 @@ use Rattle.agreement.specs.Runs.{View}
 use Rattle.agreement.specs.Worlds.{IsHonest, NameFirst, view_in, world}
 use Rattle.agreement.proofs.Formed.{same_spelled}
 use Rattle.agreement.proofs.Members.{In, in-left, in-right, in_contains, to_all}
-use Rattle.agreement.proofs.Worlds.{all_listed, are_worlds, judge_as_world, lose_void}
-use Rattle.client_runs.specs.Agreeing.{Premises}
+use Rattle.agreement.proofs.Worlds.{all_listed, are_worlds, guarded as any_guarded, judge_as_world, lose_void}
+use Rattle.fork_consistency.specs.Premises.{Premises}
 use Rattle.client_runs.specs.Released.{hashed, hashed_at, views}
 use Rattle.client_runs.specs.Runs.{Event, IsRun, Keys, public_key}
-use Rattle.client_runs.proofs.Agreed.{apart, are_accepted}
+use Rattle.fork_consistency.proofs.Agreed.{apart, are_accepted}
 use Rattle.fork_consistency.specs.ByCertificates.{SuperIsHonest}
 use Rattle.fork_consistency.specs.Handles.{AllAreWhole, FirstAreWhole, NamesWhole, told_by_texts}
 use Rattle.fork_consistency.specs.Worlds.{HasUsers, AreWorldsBy, AreWorldsIn, CanBeRead, IsReadingOf, IsUsersOf, LosesVoid, TableIsWorlds, TreeIsWorld}
@@ -111,6 +111,7 @@ module _ (keys : Keys) (run : List Event) (is : IsRun keys run) (premises : Prem
     worlds_by = record {
       users = users;
       listed = all_listed reads key vs first_named (are_accepted keys run is premises) (apart keys run is premises) honest_view;
+      guarded = λ x i before c after e. any_guarded reads (world reads key before) c;
       trees = trees;
       tables = tables;
       losses = losses;

@@ -22,11 +22,11 @@ use Rattle.agreement.proofs.Members.{In, contains_in, in-append, to_all}
 use Rattle.agreement.proofs.Tests.{all_in, first_holds}
 use Rattle.client_runs.specs.Released.{accepted_by, tried_view, views}
 use Rattle.client_runs.specs.Runs.{Event, IsRun, Keys, client_of, owner, public_key}
-use Rattle.client_runs.proofs.Holds.{IsTriedOver, known_in}
-use Rattle.client_runs.proofs.Judging.{cert_by_super, cert_verified, structure_by_super, structure_verified, unbroken, unbroken_by}
-use Rattle.client_runs.proofs.Moves.{holds_at}
+use Rattle.fork_consistency.proofs.Holds.{IsTriedOver, known_in}
+use Rattle.fork_consistency.proofs.Judging.{cert_by_super, cert_verified, structure_by_super, structure_verified, unbroken, unbroken_by}
+use Rattle.fork_consistency.proofs.Moves.{holds_at}
 use Rattle.client_runs.proofs.Replies.{of_lists}
-use Rattle.client_runs.proofs.Views.{over_here}
+use Rattle.fork_consistency.proofs.Views.{over_here}
 use Rattle.fork_consistency.specs.Signed.{AreSigned, IsSigned, IsSignedBy}
 
 -- what the rules try of a signature

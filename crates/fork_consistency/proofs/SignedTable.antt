@@ -23,7 +23,7 @@ use Rattle.client_tree.specs.Tree.{IsStored, Stored, file_of_principals, has_pri
 use Rattle.client_tree.specs.View.{View, handle_of}
 use Rattle.agreement.proofs.Members.{In, in-left, in-right}
 use Rattle.agreement.proofs.Tests.{all_in}
-use Rattle.client_runs.proofs.Among.{AreAmong, all_held}
+use Rattle.fork_consistency.proofs.Among.{AreAmong, all_held}
 use Rattle.fork_consistency.specs.Handles.{IsWhole, NamesTableAmong, told_by_texts}
 use Rattle.fork_consistency.proofs.Whole.{told_after}
 
@@ -42,7 +42,7 @@ module _ (texts : List Bytes) (apart : NoneCollide texts texts) where
   joined_held (b ∷ bs) inside = rw (all_held texts apart b (inside b (inl refl))) (ap (option_map (λ (rest : Bytes). b ++ rest)) (joined_held bs (λ t i. inside t (inr i))))
 
   -- the table whose i-node's digest is told at its place, where the texts of its file are among these
-  table_named : (handle : Handle) (t : Table) → length (table.spell t) ≤ 4194304 → inode_told (told_by_texts texts) 0 handle 1 ≡ Some (Some (principals_digest t)) → ((y : Bytes) → In y (file_of_principals t) → In y texts) → NamesTableAmong texts handle t
+  pub table_named : (handle : Handle) (t : Table) → length (table.spell t) ≤ 4194304 → inode_told (told_by_texts texts) 0 handle 1 ≡ Some (Some (principals_digest t)) → ((y : Bytes) → In y (file_of_principals t) → In y texts) → NamesTableAmong texts handle t
   table_named handle t few told inside = λ reads agrees.
       let bytes = table.spell t in
       let n : Inode = inode_of bytes in

@@ -27,7 +27,7 @@ use Rattle.update_cert.specs.Change.{Action, Make, Put, Remove, Link, Unlink, Ad
 use Rattle.update_cert.specs.Tables.{alters, table_after, table_after_change, table_becomes, table_effect}
 use Rattle.update_cert.proofs.EffectLaws.{at_table}
 use Rattle.update_cert.proofs.TableLaws.{none_after}
-use Rattle.client_runs.proofs.Listings.{first_users, fits_added, positive, with_first}
+use Rattle.fork_consistency.proofs.Listings.{first_users, fits_added, positive, with_first}
 
 abbrev made : List Listing → List Row → Table
 made us rows = record { users = us; rows = rows }

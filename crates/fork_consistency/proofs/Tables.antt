@@ -7,9 +7,11 @@ use Rattle.std.specs.Option.{option_map_or}
 use Rattle.std.proofs.lemmas.Bool.{eq-eqb, eqb-true}
 use Rattle.std.proofs.lemmas.List.Elements.{All-head, All-nil, All-weaker}
 use Rattle.layout.specs.Laws.{in_range}
+use Rattle.layout.specs.Hash.{hash}
 use Rattle.layout.specs.Types.{Bytes, Handle, Key, Principal, User}
 use Rattle.lms_sign.specs.Signature.{valid}
-use Rattle.itable.specs.File.{NoneCollide}
+use Rattle.itable.specs.File.{NoneCollide, inode_of}
+use Rattle.itable.specs.Inode.{inode}
 use Rattle.principals.specs.declared.table.Row.{Row}
 use Rattle.principals.specs.Table.{Table, genesis}
 use Rattle.principals.specs.TableText.{NoneAfter, key as key_form, table}
@@ -39,26 +41,24 @@ use Rattle.client_verify.proofs.GenesisLaws.{length-table_text}
 use Rattle.agreement.specs.Runs.{View}
 use Rattle.agreement.proofs.Formed.{cert_fits, same_spelled}
 use Rattle.agreement.proofs.Members.{In, in-append, in-filter, in-left, in-map, in-right, map-in, of_all}
-use Rattle.client_runs.specs.Agreeing.{HasReleased}
+use Rattle.fork_consistency.specs.Premises.{HasReleased}
 use Rattle.client_runs.specs.Released.{Shown, accepted_by, hashed_at, shown, shown_by, shown_cert, shown_structure, tried_view, views}
 use Rattle.client_runs.specs.Runs.{Event, IsRun, Keys, client_of, owner, public_key}
-use Rattle.client_runs.proofs.Genuine.{IsReleasedText, released_later, released_structure}
-use Rattle.client_runs.proofs.Holds.{IsTriedOver, known_in, signed_in}
-use Rattle.client_runs.proofs.Judging.{IsUnbroken, cert_by_super, structure_by_super, structure_fits, unbroken, unbroken_by}
-use Rattle.client_runs.proofs.Listings.{text_size}
-use Rattle.client_runs.proofs.Moves.{holds_at}
-use Rattle.client_runs.proofs.OwnKeys.{first_text}
+use Rattle.fork_consistency.proofs.Genuine.{IsReleasedText, released_later, released_structure}
+use Rattle.fork_consistency.proofs.Holds.{IsTriedOver, known_in, signed_in}
+use Rattle.fork_consistency.proofs.Judging.{IsUnbroken, cert_by_super, structure_by_super, structure_fits, unbroken, unbroken_by}
+use Rattle.fork_consistency.proofs.Listings.{text_size}
+use Rattle.fork_consistency.proofs.Moves.{holds_at}
 use Rattle.client_runs.proofs.Replies.{of_lists}
-use Rattle.client_runs.proofs.Stored.{first_named}
-use Rattle.client_runs.proofs.Views.{in_views, over_here}
+use Rattle.fork_consistency.proofs.Views.{in_views, over_here}
 use Rattle.fork_consistency.proofs.Lists.{found_in}
 use Rattle.fork_consistency.specs.ByCertificates.{HasAllUpTo, certificate, certificates_up_to, tables_after}
 use Rattle.fork_consistency.specs.Handles.{IsWhole, NamesTableAmong, told_by_texts}
 use Rattle.fork_consistency.proofs.Acting.{at_most_one, certs, certs_last, filter_none, next_number, none_before, once_front, ordered, others_leave, super_comes, untouched_leave, view_stands}
 use Rattle.fork_consistency.proofs.Certificates.{all_more, found, none_first, one_more, tables_more}
-use Rattle.fork_consistency.proofs.Firsts.{first_whole}
+use Rattle.fork_consistency.proofs.Firsts.{first_file_in, first_text, first_told, first_whole}
 use Rattle.fork_consistency.proofs.Origins.{IsKnown, IsMade, IsTold, all_known}
-use Rattle.fork_consistency.proofs.SignedTable.{signs_table}
+use Rattle.fork_consistency.proofs.SignedTable.{signs_table, table_named}
 use Rattle.fork_consistency.proofs.TableTexts.{after_fits, first_fits}
 use Rattle.fork_consistency.proofs.Whole.{part_whole}
 
@@ -135,7 +135,10 @@ module _ (keys : Keys) (whole : List Event) (is_whole : IsRun keys whole) (pinne
       pub named : NamesTableAmong texts handle users
 
     pub first_table_named : NamesTableAmong texts (first_handle 0 key) (genesis key)
-    first_table_named = λ reads agrees. first_named texts apart key (length-table_text key pinned.0.0) first reads agrees ∙ ap (λ (b : Bytes). Some (File b)) (sym (first_text key))
+    first_table_named =
+        table_named texts apart (first_handle 0 key) (genesis key) (small 0 (genesis key) first_at)
+        (first_told key texts apart first 0 (omega arith) 1 ∙ ap (λ (b : Bytes). Some (Some (hash (inode.spell (inode_of b))))) (sym (first_text key)))
+        (first_file_in key (length-table_text key pinned.0.0) texts first)
 
     first_handle_at : IsHandleAt 0 (first_handle 0 key)
     first_handle_at = record {

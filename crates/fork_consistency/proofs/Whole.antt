@@ -33,7 +33,7 @@ use Rattle.tree_parts.specs.Slots.{changed_texts}
 use Rattle.client_tree.specs.Tree.{IsStored, IsUntouched, Stored, principals_texts}
 use Rattle.client_tree.specs.View.{View, handle_of}
 use Rattle.agreement.proofs.Members.{In, contains_in, in-left, in-right, in_contains}
-use Rattle.client_runs.proofs.Among.{AreAmong, all_held, are_within, told_within}
+use Rattle.fork_consistency.proofs.Among.{AreAmong, all_held, are_within, told_within}
 use Rattle.fork_consistency.proofs.Lists.{filter_map-in, in_range_list}
 use Rattle.fork_consistency.specs.Handles.{HasChunk, IsWhole, told_by_texts}
 use Rattle.fork_consistency.proofs.Chunks.{chunk_fits, kept_ascend, kept_pairs, none_far, same_in_chunk, some_is, text_is}

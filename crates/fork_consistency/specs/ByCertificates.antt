@@ -9,8 +9,8 @@ use Rattle.principals.specs.TableText.{key as key_form, table}
 use Rattle.update_cert.specs.Cert.{Cert}
 use Rattle.update_cert.specs.Tables.{table_after}
 use Rattle.client_releases.specs.Told.{cert_in}
-use Rattle.client_runs.specs.Agreeing.{IsGenuine, NoCollision, Premises}
-use Rattle.client_runs.specs.Released.{released, shown_by, views}
+use Rattle.fork_consistency.specs.Premises.{NoCollision, NoneForgedOf}
+use Rattle.client_runs.specs.Released.{released, views}
 use Rattle.client_runs.specs.Runs.{Event, IsRun, Keys, public_key}
 
 -- ---- certificates of a user
@@ -46,26 +46,16 @@ pub record IsByCertificates (key : Key) (run : List Event) (t : Table) : Type 0 
 
 -- ---- runs
 
--- what verifies under user 0's key was released by user 0's client, at an earlier step
-abbrev pub NoneForgedIn : Keys → List Event → List Event → Type 0
-NoneForgedIn keys whole [] = Unit {0}
-NoneForgedIn keys whole (e ∷ older) =
-    All (λ t. t.user ≡ 0 → IsGenuine keys whole older t) (shown_by e.call) × NoneForgedIn keys whole older
-
 -- No signature of user 0's is forged, and no digest collides; user 0's key has the form of a key. The keys of other
 -- users may be anybody's.
 pub record SuperIsHonest (keys : Keys) (run : List Event) : Type 0 where
-  pub no_forgery : NoneForgedIn keys run run
+  pub no_forgery : NoneForgedOf (λ u. u ≡ 0) keys run run
   pub no_collision : NoCollision keys run
   pub pinned : key_form.Fits (public_key keys 0)
 
 -- what holds of each run in which that is so
 abbrev pub EachHonestSuper : (Keys → List Event → Type 0) → Type 0
 EachHonestSuper holds = (keys : Keys) (run : List Event) → IsRun keys run → SuperIsHonest keys run → holds keys run
-
--- and of each run in which the keys of all users are true
-abbrev pub EachTrueRun : (Keys → List Event → Type 0) → Type 0
-EachTrueRun holds = (keys : Keys) (run : List Event) → IsRun keys run → Premises keys run → holds keys run
 
 -- the tables of accepted views are by certificates
 abbrev pub AreByCertificates : Keys → List Event → Type 0
@@ -75,6 +65,7 @@ AreByCertificates keys run = All (λ x. IsByCertificates (public_key keys 0) run
 abbrev pub HaveTexts : Keys → List Event → Type 0
 HaveTexts keys run = All (λ x. table.Fits x.table) (views run)
 
--- they list no key but a user's own
-abbrev pub ListOwnKeys : Keys → List Event → Type 0
-ListOwnKeys keys run = All (λ x. (u : User) (k : Key) → key_of u x.table ≡ Some k → k ≡ public_key keys u) (views run)
+-- they list none of these users with a key but the user's own
+abbrev pub ListOwnKeysOf : (User → Type 0) → Keys → List Event → Type 0
+ListOwnKeysOf some keys run =
+    All (λ x. (u : User) (k : Key) → some u → key_of u x.table ≡ Some k → k ≡ public_key keys u) (views run)

@@ -1,3 +1,4 @@
+pub mod Premises
 pub mod ByCertificates
 pub mod Handles
 pub mod Worlds

@@ -1,7 +1,7 @@
 -- Views are worlds: what an accepted view of a run tells, by any reading that the run's texts allow, is the world of
 -- the view's line.
 use Rattle.std.specs.Prelude.{◌≡◌, ◌<◌, List, [], ◌∷◌, ◌++◌}
-use Rattle.std.specs.List.{All}
+use Rattle.std.specs.List.{All, Contains}
 use Rattle.layout.specs.Types.{INumber, Key, Principal}
 use Rattle.principals.specs.Table.{Table}
 use Rattle.principals.specs.TableText.{table}
@@ -11,7 +11,7 @@ use Rattle.tree_parts.specs.Blocks.{Agrees}
 use Rattle.client_tree.specs.View.{handle_of, lost, tree}
 use Rattle.agreement.specs.Lines.{line}
 use Rattle.agreement.specs.Runs.{View}
-use Rattle.agreement.specs.Worlds.{AllListed, JudgeAsWorld, NamesTable, actor_in, table_in, view_in, world}
+use Rattle.agreement.specs.Worlds.{AllListed, IsGuarded, JudgeAsWorld, NamesTable, actor_in, table_in, view_in, world}
 use Rattle.client_runs.specs.Released.{hashed, views}
 use Rattle.client_runs.specs.Runs.{Event, Keys, public_key}
 use Rattle.fork_consistency.specs.Handles.{told_by_texts}
@@ -52,12 +52,20 @@ LosesVoid reads key accepted x =
     ≡ void_read reads (actor_in (world reads key before) x.lists.own.cert) x.lists.own.cert.changes
     (world reads key before)
 
+-- along each line an operation changes only its user's part, and those of groups of which the user is a member in the
+-- world before it
+abbrev pub AllGuarded : Reading → Key → List View → Type 0
+AllGuarded reads key accepted =
+    (x : View) → Contains accepted x → (before : List Cert) (c : Cert) (after : List Cert)
+    → line accepted x ≡ before ++ c ∷ after → IsGuarded reads (world reads key before) c
+
 -- The accepted views of a run are the worlds of their lines, as this reading tells it.
 pub record AreWorldsBy (keys : Keys) (run : List Event) (reads : Reading) : Type 0 where
   -- user 0's handle names a table of principals
   pub users : All (HasUsers reads (public_key keys 0)) (views run)
   -- each operation's user is listed in the world before it
   pub listed : AllListed reads (public_key keys 0) (views run)
+  pub guarded : AllGuarded reads (public_key keys 0) (views run)
   pub trees : All (TreeIsWorld reads (public_key keys 0) (views run)) (views run)
   pub tables : All (TableIsWorlds reads (public_key keys 0) (views run)) (views run)
   pub losses : All (LosesVoid reads (public_key keys 0) (views run)) (views run)

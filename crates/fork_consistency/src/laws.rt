@@ -2,12 +2,13 @@
 
 ghost use Rattle.std.specs.List.{All};
 ghost use Rattle.client_runs.specs.Released.{views};
-ghost use Rattle.fork_consistency.specs.ByCertificates.{AreByCertificates, HaveTexts, ListOwnKeys};
-ghost use Rattle.fork_consistency.specs.ByCertificates.{EachHonestSuper, EachTrueRun};
-ghost use Rattle.fork_consistency.specs.ForkConsistent.{AreForkConsistent};
+ghost use Rattle.fork_consistency.specs.ByCertificates.{AreByCertificates, EachHonestSuper, HaveTexts};
+ghost use Rattle.fork_consistency.specs.ByCertificates.{ListOwnKeysOf};
+ghost use Rattle.fork_consistency.specs.ForkConsistent.{AreForkConsistent, StandWhereStolen};
 ghost use Rattle.fork_consistency.specs.Handles.{AllAreWhole, FirstAreWhole, SignsItsTable};
-ghost use Rattle.fork_consistency.specs.OwnParts.{EachRunOfOthers, OwnKeysStand, OwnPartsStand};
-ghost use Rattle.fork_consistency.specs.Shown.{ShowWorlds};
+ghost use Rattle.fork_consistency.specs.OwnParts.{EachRunOfOthers};
+ghost use Rattle.fork_consistency.specs.Shown.{ShowTrees, ShowWorlds};
+ghost use Rattle.fork_consistency.specs.Premises.{AddsOwnKeys, EachRun, EachRunApart, everybody};
 ghost use Rattle.fork_consistency.specs.Signed.{AreSigned, EachRunAtAll};
 ghost use Rattle.fork_consistency.specs.Worlds.{AreWorldsIn, CanBeRead, OneWorld};
 
@@ -21,46 +22,49 @@ pub fn tables_are_by_certificates()
     // and the handle that user 0 signs names it.
     ensures signed { EachHonestSuper (λ keys run. All (SignsItsTable keys run) (views run)) }
     // Where user 0's client added each user with the user's own key, it lists no others.
-    ensures keys { EachTrueRun ListOwnKeys }
+    ensures keys { EachHonestSuper (λ keys run. AddsOwnKeys keys run → ListOwnKeysOf everybody keys run) }
 {}
 
-/// The i-table that a handle names is among the texts of the run, as long as no digest collides, no signature is forged,
-/// and user 0's client added each user with the user's own key.
+/// The i-table that a handle names is among the texts of the run, as long as no digest collides, no signature is
+/// forged, and user 0's client added each user with the user's own key.
 pub fn handles_are_whole()
     // So is the i-table of each principal at the beginning,
-    ensures first { EachTrueRun FirstAreWhole }
+    ensures first { EachRun FirstAreWhole }
     // and that of each handle in a structure that was signed over an accepted view.
-    ensures signed { EachTrueRun AllAreWhole }
+    ensures signed { EachRun AllAreWhole }
 {}
 
 /// An accepted view of a run is the world of its line, as each reading tells it that the run's texts allow, as long as
 /// no digest collides, no signature is forged, and user 0's client added each user with the user's own key.
 pub fn views_of_runs_are_worlds()
-    ensures worlds { EachTrueRun AreWorldsIn }
+    ensures worlds { EachRun AreWorldsIn }
     // There is such a reading,
-    ensures readings { EachTrueRun CanBeRead }
+    ensures readings { EachRun CanBeRead }
     // and all of them give one world to a line.
-    ensures one { EachTrueRun OneWorld }
+    ensures one { EachRun OneWorld }
     // So what looks answer is, and what a client tells of its view.
-    ensures shown { EachTrueRun ShowWorlds }
+    ensures shown { EachRun ShowWorlds }
 {}
 
 /// Every run of all users' clients is fork consistent, as long as no digest collides, no signature is forged, user 0's
 /// client added each user with the user's own key, and user 0's key has the form of a key. Of servers nothing is
 /// assumed.
 pub fn runs_are_fork_consistent()
-    ensures { EachTrueRun AreForkConsistent }
+    ensures { EachRun AreForkConsistent }
 {}
 
 /// Where the server has the keys of some users, never of user 0: in each accepted view the part of each other user is
 /// that of the world of this user's own certificates, up to some number, as long as no signature of these others is
-/// forged, no digest collides, and user 0's client added each of them with the user's own key.
+/// forged, no digest collides, and user 0's client added each of them with the user's own key. With what else holds of
+/// such a view.
 pub fn own_parts_stand()
-    ensures parts { EachRunOfOthers OwnPartsStand }
-    // There is a reading by which they are told.
-    ensures readings { EachRunAtAll CanBeRead }
-    // Each of them that the table lists has its own key.
-    ensures keys { EachRunOfOthers OwnKeysStand }
+    ensures { EachRunOfOthers StandWhereStolen }
+{}
+
+/// Whoever has whose keys, as long as no digest collides: each accepted view of a run has a tree, and what its client
+/// is told of it, by looks and by what it tells itself, is so in that tree. So all that is told of one view agrees.
+pub fn looks_tell_of_one_tree()
+    ensures { EachRunApart ShowTrees }
 {}
 
 /// Whoever has whose keys: in each accepted view each structure and each pending certificate is signed under its user's

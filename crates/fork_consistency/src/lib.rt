@@ -8,7 +8,7 @@ mod laws;
 mod running;
 
 pub use laws::{
-    handles_are_whole, own_parts_stand, runs_are_fork_consistent, tables_are_by_certificates,
-    views_are_signed, views_of_runs_are_worlds,
+    handles_are_whole, looks_tell_of_one_tree, own_parts_stand, runs_are_fork_consistent,
+    tables_are_by_certificates, views_are_signed, views_of_runs_are_worlds,
 };
 pub use running::run;

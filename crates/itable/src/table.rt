@@ -191,7 +191,7 @@ impl<A: Allocator> ITable<A> {
     }
 
     /// The laws of a chunk's text.
-    fn chunk_holds(&self, number: ChunkNumber)
+    fn chunk_invariant(&self, number: ChunkNumber)
         ensures absent { (text_of_chunk self.now number ≡ None) ↔ IsBare number self.now }
         ensures reads { IfSome (text_of_chunk self.now number)
             (λ text. whole chunk text ≡ Ok (chunk_of number self.now)) }
@@ -203,7 +203,7 @@ impl<A: Allocator> ITable<A> {
     }
 
     /// The laws of the root's text and its digest.
-    fn root_holds(&self)
+    fn root_invariant(&self)
         ensures reads { whole root (root.spell (root_of self.now)) ≡ Ok (root_of self.now) }
         ensures lists { (n : ℕ) → n < 64 → chunk_at (root_of self.now) n ≡ listing_of self.now n }
         ensures few { length (listings_of self.now) ≤ 64 }
@@ -267,7 +267,7 @@ impl<A: Allocator + Copy> ITable<A> {
         ensures reads { IfSome (text_of_chunk self.now number)
             (λ text. whole chunk text ≡ Ok (chunk_of number self.now)) }
     {
-        self.chunk_holds(number);
+        self.chunk_invariant(number);
         let pairs = run_of(&self.pairs, number);
         if pairs.is_empty() {
             return Ok(None);
@@ -318,7 +318,7 @@ impl<A: Allocator + Copy> ITable<A> {
         ensures lists { (n : ℕ) → n < 64 → chunk_at (root_of self.old) n ≡ listing_of self.old n }
         ensures same { self.new ≡ self.old }
     {
-        self.root_holds();
+        self.root_invariant();
         let chunks = self.listings(alloc)?;
         spelled_root(alloc, self.principal, &chunks)
     }
@@ -332,7 +332,7 @@ impl<A: Allocator + Copy> ITable<A> {
         ensures knows { IsKnownByHandle self.old }
         ensures same { self.new ≡ self.old }
     {
-        self.root_holds();
+        self.root_invariant();
         let text = self.root_text(alloc)?;
         Ok(digest(&text))
     }

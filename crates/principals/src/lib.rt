@@ -10,4 +10,4 @@ mod table;
 pub use error::TableError;
 pub use laws::{membership, open_rows};
 pub use reading::read_key;
-pub use table::{Listing, Row, TABLE_SIZE, Table, key_fits};
+pub use table::{Listing, Row, TABLE_SIZE, Table, key_invariant};

@@ -69,7 +69,7 @@ impl<A: Allocator> Model for Table<A> {
 }
 
 /// That a key fits a text, for the contract of what holds it: it does nothing.
-pub fn key_fits(key: &PublicKey)
+pub fn key_invariant(key: &PublicKey)
     ensures { key_format.Fits key.now }
 {
     are_bytes(key.as_bytes());
@@ -147,7 +147,7 @@ impl<A: Allocator + Copy> Table<A> {
         ensures same { result ≡ genesis key }
         ensures fits { table_format.Fits (genesis key) }
     {
-        key_fits(&key);
+        key_invariant(&key);
         Table {
             superuser: Listing {
                 user: User::superuser(),
@@ -247,7 +247,7 @@ impl<A: Allocator> Table<A> {
     }
 
     /// That its text isn't longer than `TABLE_SIZE`: it does nothing.
-    pub fn text_fits(&self)
+    pub fn type_invariant(&self)
         ensures { length (table_format.spell self.now) ≤ TABLE_SIZE }
     {
         // It is as its type keeps it.
@@ -296,7 +296,7 @@ impl<A: Allocator> Table<A> {
         let place = room_for(&self.superuser, &self.others, user)?;
         let since = number.get();
         let _user = user.get();
-        key_fits(&key);
+        key_invariant(&key);
         self.others.insert(place, Listing { user, since, key })?;
         Ok(())
     }

@@ -70,8 +70,8 @@ struct Keys {
 /// What is printed of a line.
 #[derive(Drop)]
 enum Outcome {
-    /// The own public key.
-    Key(PublicKey),
+    /// The own public key in hexadecimal digits.
+    Key(String),
     /// What came of a command.
     Answer(Answer<Global>),
 }
@@ -175,7 +175,8 @@ fn read_content(rt: &HostRuntime, path: &str) -> Result<Vec<u8>, Hindrance> {
     }
 }
 
-/// Locks the ledger's file, unless the system can't: while the handle is open, no other process is given the lock.
+/// Locks the ledger's file, unless the system knows no locks: while the handle is open, no other process is given the
+/// lock.
 fn lock_ledger(rt: &HostRuntime, folder: &str) -> Result<File, Hindrance> {
     let path = path_in(rt.alloc(), folder, "ledger")?;
     let file = OpenOptions::new()
@@ -185,8 +186,9 @@ fn lock_ledger(rt: &HostRuntime, folder: &str) -> Result<File, Hindrance> {
         .open(rt, &path)
         .map_err(|fault| device_hindrance(&fault))?;
     match file.try_lock() {
-        Ok(()) | Err(TryLockError::Error(_)) => Ok(file),
-        Err(TryLockError::WouldBlock) => Err(Hindrance::Refused(Refusal::Device)),
+        Ok(()) => Ok(file),
+        Err(TryLockError::Error(fault)) if fault.kind() == ErrorKind::Unsupported => Ok(file),
+        Err(_) => Err(Hindrance::Refused(Refusal::Device)),
     }
 }
 
@@ -258,15 +260,15 @@ fn carry_out<H: Net<Stream = TcpStream> + Threads + Sync>(
     Ok(answer)
 }
 
-/// The own public key.
+/// The own public key in hexadecimal digits.
 fn own_key<H: Threads + Sync>(
     rt: &HostRuntime,
     host: &H,
     line: &Line<'_>,
-) -> Result<PublicKey, Hindrance> {
+) -> Result<String, Hindrance> {
     let (seed, id) = read_seed(rt, line.dir)?;
     let key = drawn_key(host, rt.alloc(), seed, id)?;
-    Ok(key.public())
+    Ok(hex::encode(rt.alloc(), *key.public().as_bytes())?)
 }
 
 /// Puts the content of a file of the system.
@@ -314,8 +316,7 @@ fn obey<H: Net<Stream = TcpStream> + Threads + Sync>(
 /// Prints what came of a line: the status to end with.
 fn print(rt: &HostRuntime, outcome: &Result<Outcome, Hindrance>) -> anyhow::Result<u8> {
     match outcome {
-        Ok(Outcome::Key(key)) => {
-            let digits = hex::encode(rt.alloc(), *key.as_bytes())?;
+        Ok(Outcome::Key(digits)) => {
             println!(rt; "{digits}")?;
             Ok(0)
         }

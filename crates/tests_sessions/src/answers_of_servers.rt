@@ -1,9 +1,9 @@
-//! What a command ends with whose server declines, answers with what breaks a rule, or with what is no reply, and over
-//! a way that fails; and that the next process goes on.
+//! What a command ends with whose server declines, answers with what breaks a rule, or with what is no reply, over a
+//! way that fails, or where memory runs out; that it sends nothing after that; and that the next process goes on.
 
 use crate::here::Here;
 use crate::memory::Trouble;
-use crate::town::{Town, town_of_one};
+use crate::town::{Outcome, Town, town_of_one};
 use crate::words::{ends, run_of_0};
 use tests_aids::{Aided, check, check_text};
 use wire::RequestKind;
@@ -38,15 +38,24 @@ fn leaves_it_declared(kind: RequestKind) -> bool {
     }
 }
 
-/// The command ends so, by no fault of the way; and the next one finds what stood there before, and finishes what was
-/// declared.
+/// A process sent nothing after its first request of a kind.
+fn ends_at(rt: &impl Aided, outcome: &Outcome, kind: RequestKind) {
+    let first = outcome.sent.iter().position(|sent| *sent == kind);
+    check(
+        rt,
+        first == outcome.sent.len().checked_sub(1),
+        "nothing more is sent",
+    );
+}
+
+/// The command ends so, and sends nothing after the request that is answered so; and the next one finds what stood
+/// there before, and finishes what was declared.
 fn is_told(rt: &impl Aided, town: &mut Town, lie: &Lie) {
     let (kind, body, status, printed) = *lie;
-    let faults = town.faults(rt);
     town.set(rt, Trouble::Lies(kind, body));
     let outcome = run_of_0(rt, town, "put /f FILE", b"again");
     ends(rt, &outcome, "put", status, printed);
-    check(rt, town.faults(rt) == faults, "the way didn't fail");
+    ends_at(rt, &outcome, kind);
     town.set(rt, Trouble::Nothing);
     let outcome = run_of_0(rt, town, "cat /f", b"");
     let finished = !outcome.resumed.is_empty();
@@ -65,16 +74,77 @@ fn each_lie_is_told(rt: HostRuntime) {
     }
 }
 
+/// With this trouble, user 0's process ends so after so many requests.
+fn is_stopped(
+    rt: &impl Aided,
+    town: &mut Town,
+    words: &str,
+    trouble: Trouble,
+    (status, printed): (u8, &str),
+    requests: usize,
+) {
+    town.set(rt, trouble);
+    let outcome = run_of_0(rt, town, words, b"");
+    ends(rt, &outcome, words, status, printed);
+    check(rt, outcome.sent.len() == requests, "nothing more is sent");
+    town.set(rt, Trouble::Nothing);
+}
+
 #[test]
-fn a_way_that_fails_is_told_and_counted(rt: HostRuntime) {
+fn a_way_that_fails_is_told(rt: HostRuntime) {
     let rt = (rt, Here);
     let mut town = town_of_one(&rt);
-    town.set(&rt, Trouble::Lost(0));
-    let outcome = run_of_0(&rt, &mut town, "ls /", b"");
-    ends(&rt, &outcome, "ls", 4, "cut|");
-    check(&rt, town.faults(&rt) == 1, "one fault");
-    town.set(&rt, Trouble::Nothing);
+    is_stopped(&rt, &mut town, "ls /", Trouble::Lost(0), (4, "cut|"), 1);
     let outcome = run_of_0(&rt, &mut town, "ls /", b"");
     ends(&rt, &outcome, "ls", 0, "resumed 1|");
-    check(&rt, town.faults(&rt) == 1, "no other fault");
+}
+
+/// What a process of user 0 sends before the first block of a look: what was committed last again, the certificate, the
+/// root of the i-table and its chunk, and the structure.
+const BEFORE_A_LOOK: usize = 5;
+
+/// Each block of a look is refused where another comes, or none: the i-node and the block of the root directory, and
+/// those of the file. The next process finds the file.
+#[test]
+fn blocks_of_a_look_are_checked(rt: HostRuntime) {
+    let rt = (rt, Here);
+    let mut town = town_of_one(&rt);
+    let outcome = run_of_0(&rt, &mut town, "put /f FILE", b"hello");
+    ends(&rt, &outcome, "put", 0, "done|");
+    for block in 0..4 {
+        let at = BEFORE_A_LOOK + block;
+        for body in [b"\0another".as_slice(), &[8]] {
+            let trouble = Trouble::LiesAt(at, body);
+            is_stopped(
+                &rt,
+                &mut town,
+                "cat /f",
+                trouble,
+                (2, "broken 6 Block|"),
+                at + 1,
+            );
+        }
+    }
+    let outcome = run_of_0(&rt, &mut town, "cat /f", b"");
+    check_text(&rt, &outcome.printed, b"hello");
+}
+
+/// Memory runs out at each exchange of a process in turn: the certificate, two blocks, the structure and two blocks.
+#[test]
+fn want_of_memory_is_told(rt: HostRuntime) {
+    let rt = (rt, Here);
+    let mut town = town_of_one(&rt);
+    let outcome = run_of_0(&rt, &mut town, "put /f FILE", b"hello");
+    ends(&rt, &outcome, "put", 0, "done|");
+    for exchange in 0..7 {
+        let trouble = Trouble::NoMemory(exchange);
+        is_stopped(
+            &rt,
+            &mut town,
+            "ls /",
+            trouble,
+            (4, "memory|"),
+            exchange + 1,
+        );
+    }
 }

@@ -17,6 +17,10 @@ mod limits;
 #[cfg(test)]
 mod memory;
 #[cfg(test)]
+mod over_tcp;
+#[cfg(test)]
+mod refusals;
+#[cfg(test)]
 mod stopped;
 #[cfg(test)]
 mod town;

@@ -18,6 +18,10 @@ pub(crate) enum Trouble {
     Nothing,
     /// Each request of this kind is answered with this body, and isn't carried out.
     Lies(RequestKind, &'static [u8]),
+    /// The request that comes after so many is answered with this body, and isn't carried out.
+    LiesAt(usize, &'static [u8]),
+    /// For the request that comes after so many memory runs out.
+    NoMemory(usize),
     /// After so many exchanges each one fails, and its request is lost.
     Lost(usize),
     /// After so many exchanges each one fails, and its request is carried out.
@@ -91,18 +95,20 @@ impl Honest {
 }
 
 impl Trouble {
-    /// What is answered to a request of this kind in the place of the truth.
-    fn lie(self, kind: RequestKind) -> Option<&'static [u8]> {
+    /// What is answered to a request of this kind that comes after so many in the place of the truth.
+    fn lie(self, kind: RequestKind, sent: usize) -> Option<&'static [u8]> {
         match self {
             Trouble::Lies(of, body) if of == kind => Some(body),
+            Trouble::LiesAt(at, body) if at == sent => Some(body),
             _ => None,
         }
     }
 
-    /// Whether a request is lost that comes after so many.
+    /// Whether a request isn't answered that comes after so many.
     fn loses(self, sent: usize) -> bool {
         match self {
             Trouble::Lost(most) => sent >= most,
+            Trouble::NoMemory(at) => sent == at,
             _ => false,
         }
     }
@@ -153,7 +159,7 @@ impl MemoryServer {
 impl Honest {
     /// What is answered to a request that comes after so many, if something is.
     fn answer(&mut self, trouble: Trouble, sent: usize, request: &Request<'_>) -> Option<Vec<u8>> {
-        if let Some(lie) = trouble.lie(request.kind()) {
+        if let Some(lie) = trouble.lie(request.kind(), sent) {
             return Vec::from_slice(self.alloc, lie).ok();
         }
         if trouble.loses(sent) {

@@ -7,33 +7,31 @@ use crate::town::{Outcome, Town, town_of_one, town_of_three};
 use crate::words::{all_end, ends, keys_of, run_of_0, run_words};
 use std::alloc::Global;
 use tests_aids::{Aided, check, check_text, given};
-use wire::RequestKind;
 
-/// How many of these requests are certificates. A process that finishes nothing first sends one for each of its
-/// operations.
-fn certificates(sent: &[RequestKind]) -> u32 {
-    let mut count: u32 = 0;
-    for kind in sent {
-        if *kind == RequestKind::Update {
-            count = count.saturating_add(1);
-        }
-    }
-    count
-}
+/// How far a process is when it has one of its exchanges: how many operations it has declared, and whether the last of
+/// them isn't signed yet.
+type Stage = (u32, bool);
 
-/// Whether an operation is declared and not signed where these were the requests: the last certificate was sent after
-/// the last structure.
-fn is_declared(sent: &[RequestKind]) -> bool {
-    let mut declared = false;
-    for kind in sent {
-        match kind {
-            RequestKind::Update => declared = true,
-            RequestKind::Commit => declared = false,
-            RequestKind::Put | RequestKind::Get => {}
-        }
-    }
-    declared
-}
+/// What was committed last goes out again. Then comes the look: its certificate, and two blocks; its structure; two
+/// blocks of the root directory, and the two texts of the file, which are stored. Then comes the operation that puts the file:
+/// its certificate, and the four texts of the own part, which are stored; its structure.
+static STAGES: [Stage; EXCHANGES] = [
+    (0, false),
+    (1, true),
+    (1, true),
+    (1, true),
+    (1, false),
+    (1, false),
+    (1, false),
+    (1, false),
+    (1, false),
+    (2, true),
+    (2, true),
+    (2, true),
+    (2, true),
+    (2, true),
+    (2, false),
+];
 
 /// What is said of an operation of this number where one was declared.
 fn resumed(rt: &impl Aided, declared: bool, number: u32) -> String {
@@ -64,13 +62,14 @@ fn stands(rt: &impl Aided, town: &mut Town, number: usize) {
     ends(rt, &outcome, "cat", 0, "text");
 }
 
-/// After so many operations, a process that puts the file of this number has such trouble; the next ones go on. Gives
-/// how many operations there are then.
+/// After so many operations, a process that puts the file of this number has such trouble at this stage; the next ones
+/// go on. Gives how many operations there are then.
 fn goes_on(
     rt: &impl Aided,
     town: &mut Town,
     operations: u32,
     number: usize,
+    (begun, declared): Stage,
     trouble: Trouble,
 ) -> u32 {
     let put = words(rt, "put", number, " FILE");
@@ -78,9 +77,8 @@ fn goes_on(
     let outcome = run_of_0(rt, town, &put, b"text");
     ends(rt, &outcome, "put", 4, "cut|");
     town.set(rt, Trouble::Nothing);
-    let begun = certificates(&outcome.sent);
     let operations = operations.saturating_add(begun);
-    let said = resumed(rt, is_declared(&outcome.sent), operations);
+    let said = resumed(rt, declared, operations);
     let outcome = run_of_0(rt, town, "ls /", b"");
     check_text(rt, &outcome.resumed, said.as_bytes());
     check(rt, outcome.status == 0, "a listing");
@@ -125,8 +123,9 @@ fn stopped_before_each_exchange(rt: HostRuntime) {
     let rt = (rt, Here);
     let mut town = settled(&rt);
     let mut operations = 3;
-    for number in 0..EXCHANGES {
-        operations = goes_on(&rt, &mut town, operations, number, Trouble::Lost(number));
+    for (number, stage) in STAGES.iter().enumerate() {
+        let trouble = Trouble::Lost(number);
+        operations = goes_on(&rt, &mut town, operations, number, *stage, trouble);
     }
 }
 
@@ -135,14 +134,9 @@ fn stopped_after_each_request(rt: HostRuntime) {
     let rt = (rt, Here);
     let mut town = settled(&rt);
     let mut operations = 3;
-    for number in 0..EXCHANGES {
-        operations = goes_on(
-            &rt,
-            &mut town,
-            operations,
-            number,
-            Trouble::CarriedOut(number),
-        );
+    for (number, stage) in STAGES.iter().enumerate() {
+        let trouble = Trouble::CarriedOut(number);
+        operations = goes_on(&rt, &mut town, operations, number, *stage, trouble);
     }
 }
 
@@ -161,11 +155,6 @@ fn what_was_lost_is_told_later(rt: HostRuntime) {
     town.set(&rt, Trouble::Lost(BEFORE_REMOVAL));
     let outcome = run_words(&rt, &mut town, &digits, "1", "rm /f", b"");
     ends(&rt, &outcome, "rm", 4, "cut|");
-    check(
-        &rt,
-        certificates(&outcome.sent) == 2,
-        "the removal is declared",
-    );
     town.set(&rt, Trouble::Nothing);
     let after = "1 ls / -> 0 resumed 2 lost 1 2|f 0:3|\n1 ls / -> 0 f 0:3|\n";
     all_end(&rt, &mut town, &digits, after);

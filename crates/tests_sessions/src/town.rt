@@ -22,7 +22,7 @@ type MemorySession<T> = Session<MemoryDevice<Global>, MemoryDevice<Global>, T, G
 /// A server, and what the users 0 to 2 keep, where no process of theirs has it.
 #[derive(Drop)]
 pub(crate) struct Town {
-    pinned: PublicKey,
+    pub(crate) pinned: PublicKey,
     server: Option<MemoryServer>,
     homes: [Option<Kept>; 3],
 }
@@ -129,19 +129,22 @@ fn process<T: Transport<Global>>(
 }
 
 impl Town {
-    /// The server, while no process has it.
-    pub(crate) fn server(&mut self, rt: &impl Aided) -> &mut MemoryServer {
-        found(rt, self.server.as_mut(), "the server")
-    }
-
     /// From now on this is wrong with the server.
     pub(crate) fn set(&mut self, rt: &impl Aided, trouble: Trouble) {
-        self.server(rt).set(trouble);
+        found(rt, self.server.as_mut(), "the server").set(trouble);
     }
 
-    /// How often the way to the server failed.
-    pub(crate) fn faults(&mut self, rt: &impl Aided) -> u64 {
-        self.server(rt).faults()
+    /// Takes the server, for a process.
+    pub(crate) fn leave_server(&mut self, rt: &impl Aided) -> MemoryServer {
+        found(rt, self.server.take(), "the server")
+    }
+
+    /// Puts the server back after a process, and adds to what that ended with what it sent.
+    pub(crate) fn come_back(&mut self, outcome: Outcome, server: MemoryServer) -> Outcome {
+        let (mut outcome, mut server) = (outcome, server);
+        outcome.sent = server.take_sent();
+        self.server = Some(server);
+        outcome
     }
 
     /// What a user keeps, while no process of its has it.
@@ -153,7 +156,7 @@ impl Town {
     }
 
     /// Takes what a user keeps, for a process.
-    fn leave_home(&mut self, rt: &impl Aided, user: usize) -> Kept {
+    pub(crate) fn leave_home(&mut self, rt: &impl Aided, user: usize) -> Kept {
         match self.homes.get_mut(user) {
             Some(home) => found(rt, home.take(), "what the user keeps"),
             None => rt.fail("none of these users"),
@@ -161,7 +164,7 @@ impl Town {
     }
 
     /// Puts back what a user keeps.
-    fn come_home(&mut self, user: usize, kept: Kept) {
+    pub(crate) fn come_home(&mut self, user: usize, kept: Kept) {
         if let Some(home) = self.homes.get_mut(user) {
             *home = Some(kept);
         }
@@ -181,14 +184,5 @@ impl Town {
         let (outcome, client, transport) = process(rt, client, transport, command);
         self.come_home(place, closed(client));
         (outcome, transport)
-    }
-
-    /// A process of a user carries a command out over the server in memory: what it ends with.
-    pub(crate) fn run(&mut self, rt: &impl Aided, user: User, command: &Command<'_>) -> Outcome {
-        let server = found(rt, self.server.take(), "the server");
-        let (mut outcome, mut server) = self.run_over(rt, user, command, server);
-        outcome.sent = server.take_sent();
-        self.server = Some(server);
-        outcome
     }
 }

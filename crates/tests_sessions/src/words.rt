@@ -6,6 +6,7 @@ use file_commands::{Line, Wanted};
 use layout::User;
 use std::alloc::Global;
 use tests_aids::{Aided, found, given};
+use transport::Transport;
 
 /// What stands in a row between a command and what it ends with.
 const ARROW: &str = " -> ";
@@ -60,7 +61,7 @@ impl Digits {
 }
 
 /// The words of a command line of a user.
-pub(crate) fn words_of<'a>(
+fn words_of<'a>(
     rt: &impl Aided,
     digits: &'a Digits,
     user: &'a str,
@@ -78,27 +79,50 @@ pub(crate) fn words_of<'a>(
     line
 }
 
-/// A user's process puts this content at a path.
-fn put<'a>(
+/// A user's process puts this content at a path, over this transport.
+fn put<'a, T: Transport<Global>>(
     rt: &impl Aided,
     town: &mut Town,
     user: User,
-    path: &'a str,
-    content: &'a [u8],
-) -> Outcome {
-    town.run(rt, user, &Command::Put { path, content })
+    (path, content): (&'a str, &'a [u8]),
+    transport: T,
+) -> (Outcome, T) {
+    town.run_over(rt, user, &Command::Put { path, content }, transport)
 }
 
-/// A user's process carries a line out, with this as the content of the file that it puts.
-fn run_line<'a>(rt: &impl Aided, town: &mut Town, line: &Line<'a>, content: &'a [u8]) -> Outcome {
+/// A user's process carries a line out over this transport, with this as the content of the file that it puts.
+fn run_line<'a, T: Transport<Global>>(
+    rt: &impl Aided,
+    town: &mut Town,
+    line: &Line<'a>,
+    content: &'a [u8],
+    transport: T,
+) -> (Outcome, T) {
     match &line.wanted {
-        Wanted::Run(command) => town.run(rt, line.user, command),
-        Wanted::Put { path, file: _ } => put(rt, town, line.user, path, content),
+        Wanted::Run(command) => town.run_over(rt, line.user, command, transport),
+        Wanted::Put { path, file: _ } => put(rt, town, line.user, (path, content), transport),
         Wanted::Key => rt.fail("no server is asked for a key"),
     }
 }
 
-/// A user's process carries out what these words say, with this as the content of the file that it puts.
+/// A user's process carries out what these words say over this transport, with this as the content of the file that it
+/// puts.
+pub(crate) fn run_words_over<'a, T: Transport<Global>>(
+    rt: &impl Aided,
+    town: &mut Town,
+    digits: &'a Digits,
+    (user, words): (&'a str, &'a str),
+    content: &'a [u8],
+    transport: T,
+) -> (Outcome, T) {
+    let line = words_of(rt, digits, user, words);
+    match &Line::read(rt.alloc(), &line) {
+        Ok(line) => run_line(rt, town, line, content, transport),
+        Err(error) => rt.fail(format_args!("{words}: {error}")),
+    }
+}
+
+/// A user's process does so over the server in memory.
 pub(crate) fn run_words<'a>(
     rt: &impl Aided,
     town: &mut Town,
@@ -107,11 +131,9 @@ pub(crate) fn run_words<'a>(
     words: &'a str,
     content: &'a [u8],
 ) -> Outcome {
-    let line = words_of(rt, digits, user, words);
-    match &Line::read(rt.alloc(), &line) {
-        Ok(line) => run_line(rt, town, line, content),
-        Err(error) => rt.fail(format_args!("{words}: {error}")),
-    }
+    let server = town.leave_server(rt);
+    let (outcome, server) = run_words_over(rt, town, digits, (user, words), content, server);
+    town.come_back(outcome, server)
 }
 
 /// User 0's process does the same.

@@ -11,7 +11,7 @@ use layout::{
     Digest, Group, INumber, Memory, Principal, ReadError, Reader, RowFormat, Text, User, Writer,
 };
 use lms_sign::PublicKey;
-use principals::{key_fits, read_key};
+use principals::{key_invariant, read_key};
 use std::alloc::Allocator;
 use std::marker::Model;
 
@@ -189,7 +189,7 @@ impl TableChange {
         match self {
             TableChange::AddUser(user, key) => {
                 let _number = user.get();
-                key_fits(key);
+                key_invariant(key);
             }
             TableChange::AddMember(group, user) | TableChange::DropMember(group, user) => {
                 let _numbers = (group.get(), user.get());

@@ -21,7 +21,6 @@ loop-todo-preserved g c =
 pub returns : goal.returns
 returns g c =
     let once = c.each_is_used_once.ensures in
-    let agree = c.runs_agree.ensures in
-    carried_out once.leaves once.certificates once.structures agree.accepted agree.numbered agree.ended agree.released agree.growing agree.agreed
+    carried_out once.leaves once.certificates once.structures
     c.args.steps.now c.loop-todo.answers.items c.loop-todo.clients.slots.items
     (all_steps c.args.steps.now c.loop-todo.todo-index c.loop-todo.answers.items c.loop-todo.clients.slots.items c.loop-todo-test.false c.loop-todo.invariant.stands)

@@ -12,7 +12,7 @@ returns-in_ok-client-in-Ok-clause-step g c =
     let e = c.in-Ok.ensures in
     rw c.in_ok-client-in-Ok.ensures.same (taking.opens o p c.in-Ok.client c.phase-phase.result c.in_ok-client-in-Ok.text
     (taking.is_opened o p c.in-Ok.client c.args.pinned key.seed key.id c.requires.pinned c.requires.own.0 c.requires.own.1 e.state e.whose e.told e.moments e.used e.own e.later)
-    c.stands.ensures c.phase-phase.ensures (rw c.in_ok-client-in-Ok.ensures.ok at c.resent-text.ensures))
+    c.type_invariant.ensures c.phase-phase.ensures (rw c.in_ok-client-in-Ok.ensures.ok at c.resent-text.ensures))
 
 pub returns-in-Err-clause-step : goal.returns-in-Err-clause-step
 returns-in-Err-clause-step g c =

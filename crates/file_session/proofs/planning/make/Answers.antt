@@ -10,6 +10,6 @@ use Rattle.file_session.proofs.planning.make.Goals as goal
 pub returns-clause-can_begin : goal.returns-clause-can_begin
 returns-clause-can_begin g c =
     let laid = texts_of_content (content_of c.args.new) in
-    let named = c.in_ok-named.ensures.named in
-    let is = ap (λ (ch : Change Digest). is_laid laid ch.action) c.at.ensures ∙ ap (λ (d : Digest). is_laid laid (Make d)) named ∙ made_is_laid c.args.new c.requires in
-    begins_one laid _ _ _ c.at.result c.in_ok-named.ensures.texts c.new-changes.ensures.items c.in_ok-push.ensures.items is
+    let digest = c.in_ok-inode.ensures.inode in
+    let is = ap (λ (ch : Change Digest). is_laid laid ch.action) c.at.ensures ∙ ap (λ (d : Digest). is_laid laid (Make d)) digest ∙ made_is_laid c.args.new c.requires in
+    begins_one laid _ _ _ c.at.result c.in_ok-inode.ensures.texts c.new-changes.ensures.items c.in_ok-push.ensures.items is

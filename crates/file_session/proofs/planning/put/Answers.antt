@@ -11,6 +11,6 @@ pub returns-clause-can_begin : goal.returns-clause-can_begin
 returns-clause-can_begin g c =
     let bytes = c.args.bytes.now in
     let laid = texts_of_content (File bytes) in
-    let named = c.in_ok-named.ensures.named in
-    let is = ap (λ (ch : Change Digest). is_laid laid ch.action) c.at.ensures ∙ ap (λ (d : Digest). is_laid laid (Put d)) named ∙ file_is_laid bytes c.requires in
-    begins_one laid _ _ _ c.at.result c.in_ok-named.ensures.texts c.new-changes.ensures.items c.in_ok-push.ensures.items is
+    let digest = c.in_ok-inode.ensures.inode in
+    let is = ap (λ (ch : Change Digest). is_laid laid ch.action) c.at.ensures ∙ ap (λ (d : Digest). is_laid laid (Put d)) digest ∙ file_is_laid bytes c.requires in
+    begins_one laid _ _ _ c.at.result c.in_ok-inode.ensures.texts c.new-changes.ensures.items c.in_ok-push.ensures.items is

@@ -17,7 +17,7 @@ use Rattle.client_verify.proofs.client.Client.begin.Goals as goal
 pub returns-in-Err-clause-any_moment : goal.returns-in-Err-clause-any_moment
 returns-in-Err-clause-any_moment g c leaf least =
     let s = c.args.self.now in
-    let stands = stands_in c.self.inside.releases phase.Idle c.stands.ensures (ap (λ (q : State). q.phase) c.self.view_is ∙ c.requires.idle) (λ two. cc two) in
+    let stands = stands_in c.self.inside.releases phase.Idle c.type_invariant.ensures (ap (λ (q : State). q.phase) c.self.view_is ∙ c.requires.idle) (λ two. cc two) in
     refused_moments c.self.inside.releases s c.prepare.new.self (ap released c.self.view_is) stands c.in-Err.ensures.err (λ k. cert_record (declared_text s k c.args.changes.now)) leaf
 
 pub returns-in-Err-clause-tried : goal.returns-in-Err-clause-tried

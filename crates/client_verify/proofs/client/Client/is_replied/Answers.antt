@@ -8,5 +8,5 @@ use Rattle.client_verify.proofs.client.Client.is_replied.Goals as goal
 pub returns-clause-own : goal.returns-clause-own
 returns-clause-own g c =
     let old = c.args.self.now in
-    of_declared (known old) (released old) c.args.text.now c.args.reply.now refl c.requires.declared (subst IsReleased (ap released c.self.view_is) c.stands.ensures) c.requires.unbroken c.requires.read
+    of_declared (known old) (released old) c.args.text.now c.args.reply.now refl c.requires.declared (subst IsReleased (ap released c.self.view_is) c.type_invariant.ensures) c.requires.unbroken c.requires.read
     (own_fits (lists_of c.args.reply.now) c.split.result.0.now c.split.result.1.now c.split.ensures c.cert-certificate.ensures.fits)

@@ -19,7 +19,7 @@ returns-in-Err-clause-any_moment g c =
     let s = c.args.self.now in
     let r = c.self.inside.releases in
     let some = subst (λ (o : Option Ready). IsSome o) (sym (ap (λ (q : State). q.accepted) c.self.view_is)) c.requires in
-    let stands = stands_ready r (accepted_of c.self.inside.progress) c.stands.ensures c.self.invariant.0.of_accepted some in
+    let stands = stands_ready r (accepted_of c.self.inside.progress) c.type_invariant.ensures c.self.invariant.0.of_accepted some in
     always s.accepted _ (λ y leaf least. refused_moments r s s (ap released c.self.view_is) stands refl (λ k. structure_record (signed_text s k y)) leaf)
 
 pub returns-in-Err-clause-tried : goal.returns-in-Err-clause-tried

@@ -19,9 +19,9 @@ pub returns-in_err-store-clause-finished : goal.returns-in_err-store-clause-fini
 returns-in_err-store-clause-finished g c =
     let p = err_from_is_err_and c.from_residual-in_err-store.result c.from_residual-in_err-store.ensures.1 in
     rw (p.1, p.2) (ends_before _ (stores _ _ _ _ _ (ap (map vec_items) c.deref.ensures.value)
-    (went_then (went_then (updates _ _ _ _ _ _ c.declared.ensures c.in_ok-reply.ensures) (hears _ _ _ _ _ _ c.text.ensures c.hear-first.ensures.leads)) c.in_ok-texts.ensures.went) c.in_err-store.ensures.went) tt)
+    (went_then (went_then (updates _ _ _ _ _ _ c.declared.ensures c.in_ok-reply.ensures) (hears _ _ _ _ _ _ c.text.ensures c.hear-first.ensures.leads)) c.in_ok-texts.ensures.went) c.in_err-store.ensures.handed_out) tt)
 
 pub returns-clause-finished : goal.returns-clause-finished
 returns-clause-finished g c =
     goes_on (stores _ _ _ _ _ (ap (map vec_items) c.deref.ensures.value)
-    (went_then (went_then (updates _ _ _ _ _ _ c.declared.ensures c.in_ok-reply.ensures) (hears _ _ _ _ _ _ c.text.ensures c.hear-first.ensures.leads)) c.in_ok-texts.ensures.went) c.in_ok-store.ensures.went) c.finish_checked.ensures.finished
+    (went_then (went_then (updates _ _ _ _ _ _ c.declared.ensures c.in_ok-reply.ensures) (hears _ _ _ _ _ _ c.text.ensures c.hear-first.ensures.leads)) c.in_ok-texts.ensures.went) c.in_ok-store.ensures.handed_out) c.finish_checked.ensures.finished

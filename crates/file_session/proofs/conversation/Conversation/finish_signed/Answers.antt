@@ -20,5 +20,6 @@ returns-in_default g c =
     record {
       went = went_to (committed_not _ c.in_default.not-Ok) (went_then (sends _ _ _ _ _ _ c.signed.ensures c.in_ok-status.ensures) (told _ _ _ _ c.tell.ensures.leads));
       idle = tt;
+      unfinished = c.tell.ensures.unfinished c.in_default.not-Ok;
       view = c.tell.ensures.view;
     }

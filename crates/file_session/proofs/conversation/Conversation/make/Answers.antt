@@ -22,5 +22,6 @@ returns-in_err-free-clause-planned g c =
 pub returns-clause-planned : goal.returns-clause-planned
 returns-clause-planned g c =
     let e = c.make_at.ensures in
-    planned_by _ _ c.make_at.result (looked_next _ c.in_ok-site.ensures.looked c.in_ok-free.ensures.looked (λ tree is free.
-    at_a_free_place c.args.user tree (makes) _ _ c.in_ok-site.field-0 c.in-Some.site c.in_ok-free.free c.in-Some.is is (free _))) e.plan e.can_begin e.memory
+    let s = c.or_stop.ensures in
+    planned_by _ _ c.or_stop.result (looked_next _ c.in_ok-site.ensures.looked c.in_ok-free.ensures.looked (λ tree is free.
+    at_a_free_place c.args.user tree (makes) _ _ c.in_ok-site.field-0 c.in-Some.site c.in_ok-free.free c.in-Some.is is (free _))) (s.plan _ e.plan) (s.can_begin e.can_begin) s.memory (s.changes _ e.changes)

@@ -1,7 +1,7 @@
 use Rattle.std.proofs.Common.{[], ◌∷◌, refl}
 use Rattle.update_cert.specs.Change.{AddUser, AddMember, DropMember, of_table}
 use Rattle.commands.specs.Asked.{Writes}
-use Rattle.file_session.proofs.Choices.{of_add_member, of_add_user, of_cat, of_drop_member, of_link, of_link_not, of_ls, of_mkdir, of_put, of_rm, planned_as, planned_by, planned_now}
+use Rattle.file_session.proofs.Choices.{of_add_member, of_add_user, of_cat, of_drop_member, of_link, of_link_not, of_ls, of_mkdir, of_put, of_rm, on_err, planned_as, planned_by, planned_now}
 use Rattle.file_session.proofs.Looks.{quiet}
 use Rattle.file_session.proofs.Runs.{went_none}
 use Rattle.file_session.proofs.conversation.Conversation.plan.Goals as goal
@@ -32,17 +32,20 @@ returns-in-None-clause-planned g c =
 pub returns-in-AddUser-clause-planned : goal.returns-in-AddUser-clause-planned
 returns-in-AddUser-clause-planned g c =
     let e = c.plan_of_table.ensures in
-    planned_by _ (Writes (of_table (AddUser c.in-AddUser.user c.in-AddUser.key) ∷ [])) c.plan_of_table.result (quiet _ (went_none _) (λ tree. of_add_user c.args.user c.in-AddUser.user _ c.in-AddUser.key tree c.in-AddUser.is))
-    (e.plan (of_table (AddUser c.in-AddUser.user c.in-AddUser.key)) refl refl) e.can_begin e.memory
+    let s = c.or_stop.ensures in
+    planned_by _ (Writes (of_table (AddUser c.in-AddUser.user c.in-AddUser.key) ∷ [])) c.or_stop.result (quiet _ (went_none _) (λ tree. of_add_user c.args.user c.in-AddUser.user _ c.in-AddUser.key tree c.in-AddUser.is))
+    (s.plan (Writes ((of_table (AddUser c.in-AddUser.user c.in-AddUser.key)) ∷ [])) (e.plan (of_table (AddUser c.in-AddUser.user c.in-AddUser.key)) refl refl)) (s.can_begin e.can_begin) s.memory (on_err _ tt)
 
 pub returns-in-AddMember-clause-planned : goal.returns-in-AddMember-clause-planned
 returns-in-AddMember-clause-planned g c =
     let e = c.plan_of_table-in-AddMember.ensures in
-    planned_by _ (Writes (of_table (AddMember c.in-AddMember.group c.in-AddMember.user) ∷ [])) c.plan_of_table-in-AddMember.result (quiet _ (went_none _) (λ tree. of_add_member c.args.user c.in-AddMember.user c.in-AddMember.group _ tree c.in-AddMember.is))
-    (e.plan (of_table (AddMember c.in-AddMember.group c.in-AddMember.user)) refl refl) e.can_begin e.memory
+    let s = c.or_stop-in-AddMember.ensures in
+    planned_by _ (Writes (of_table (AddMember c.in-AddMember.group c.in-AddMember.user) ∷ [])) c.or_stop-in-AddMember.result (quiet _ (went_none _) (λ tree. of_add_member c.args.user c.in-AddMember.user c.in-AddMember.group _ tree c.in-AddMember.is))
+    (s.plan (Writes ((of_table (AddMember c.in-AddMember.group c.in-AddMember.user)) ∷ [])) (e.plan (of_table (AddMember c.in-AddMember.group c.in-AddMember.user)) refl refl)) (s.can_begin e.can_begin) s.memory (on_err _ tt)
 
 pub returns-in-DropMember-clause-planned : goal.returns-in-DropMember-clause-planned
 returns-in-DropMember-clause-planned g c =
     let e = c.plan_of_table-in-DropMember.ensures in
-    planned_by _ (Writes (of_table (DropMember c.in-DropMember.group c.in-DropMember.user) ∷ [])) c.plan_of_table-in-DropMember.result (quiet _ (went_none _) (λ tree. of_drop_member c.args.user c.in-DropMember.user c.in-DropMember.group _ tree c.in-DropMember.is))
-    (e.plan (of_table (DropMember c.in-DropMember.group c.in-DropMember.user)) refl refl) e.can_begin e.memory
+    let s = c.or_stop-in-DropMember.ensures in
+    planned_by _ (Writes (of_table (DropMember c.in-DropMember.group c.in-DropMember.user) ∷ [])) c.or_stop-in-DropMember.result (quiet _ (went_none _) (λ tree. of_drop_member c.args.user c.in-DropMember.user c.in-DropMember.group _ tree c.in-DropMember.is))
+    (s.plan (Writes ((of_table (DropMember c.in-DropMember.group c.in-DropMember.user)) ∷ [])) (e.plan (of_table (DropMember c.in-DropMember.group c.in-DropMember.user)) refl refl)) (s.can_begin e.can_begin) s.memory (on_err _ tt)

@@ -17,5 +17,6 @@ returns-in_default-clause-planned g c = λ user.
 pub returns-clause-planned : goal.returns-clause-planned
 returns-clause-planned g c = λ user.
     let e = c.remove_at.ensures in
-    planned_by _ _ c.remove_at.result (looked_so _ c.in_ok-site.ensures.looked (λ tree is.
-    at_a_place user tree (λ place _. removes place) _ _ c.in_ok-site.field-0 c.in-Some.site c.in-Some.is is)) e.plan e.can_begin e.memory
+    let s = c.or_stop.ensures in
+    planned_by _ _ c.or_stop.result (looked_so _ c.in_ok-site.ensures.looked (λ tree is.
+    at_a_place user tree (λ place _. removes place) _ _ c.in_ok-site.field-0 c.in-Some.site c.in-Some.is is)) (s.plan _ e.plan) (s.can_begin e.can_begin) s.memory (s.changes _ e.changes)

@@ -7,7 +7,7 @@ use Rattle.file_session.proofs.session.Session.go.Goals as goal
 pub returns-in_err-self-clause-ran : goal.returns-in_err-self-clause-ran
 returns-in_err-self-clause-ran g c =
     let p = err_from_is_err_and c.from_residual.result c.from_residual.ensures.1 in
-    rw (p.1, p.2) (ran_not _ _ _ _ _ _ _ _ c.requires.none c.in_err-self.ensures.finished)
+    rw (p.1, p.2) (ran_not _ _ _ _ _ _ _ _ c.requires.none c.in_err-self.ensures.unfinished c.in_err-self.ensures.finished)
 
 pub returns-clause-ran : goal.returns-clause-ran
 returns-clause-ran g c = ran _ _ _ _ _ _ _ _ _ (on_ok answer_of c.carry_out.result) c.in_ok-self.ensures.finished (carried_to (ready_same answer_of c.carry_out.result) c.carry_out.ensures)

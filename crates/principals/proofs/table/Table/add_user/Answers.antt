@@ -17,7 +17,7 @@ invariant_of-self-2 g c =
     let free = rw c.deref.ensures.value at c.in_ok-place.ensures.room in
     let new : c.insert.new.self.items ≡ with_row nat_cmp user_of c.self.inside.others.items l = (rw c.get-since.ensures.same at c.in_ok-insert.ensures.items) ∙ free.inserts l refl in
     rw new (record {
-      listed = fits_added c.self.inside.superuser c.self.inside.others.items l c.self.invariant.listed (c.get-user.ensures.fits, c.get-since.ensures.fits, c.key_fits.ensures) c.in_ok-place.ensures.other;
+      listed = fits_added c.self.inside.superuser c.self.inside.others.items l c.self.invariant.listed (c.get-user.ensures.fits, c.get-since.ensures.fits, c.key_invariant.ensures) c.in_ok-place.ensures.other;
       few = c.self.invariant.few;
       marked = c.self.invariant.marked;
     })
@@ -37,5 +37,5 @@ returns-clause-fits g c =
     let l : Listing = record { user = c.args.user; since = c.args.number; key = c.args.key } in
     let free = rw c.deref.ensures.value at c.in_ok-place.ensures.room in
     let new : c.insert.new.self.items ≡ with_row nat_cmp user_of os l = (rw c.get-since.ensures.same at c.in_ok-insert.ensures.items) ∙ free.inserts l refl in
-    let listed = fits_added s os l c.self.invariant.listed (c.get-user.ensures.fits, c.get-since.ensures.fits, c.key_fits.ensures) c.in_ok-place.ensures.other in
+    let listed = fits_added s os l c.self.invariant.listed (c.get-user.ensures.fits, c.get-since.ensures.fits, c.key_invariant.ensures) c.in_ok-place.ensures.other in
     rw (← c.self.view_is, new) (λ fits. user_fits s os c.self.inside.rows.items l fits listed)

@@ -6,10 +6,10 @@ use Rattle.principals.proofs.table.Table.genesis.Goals as goal
 pub invariant_of-result : goal.invariant_of-result
 invariant_of-result g c =
     rw (c.new.ensures.items, c.new-2.ensures.items, c.superuser.ensures) (record {
-      listed = first_users c.args.key c.key_fits.ensures;
+      listed = first_users c.args.key c.key_invariant.ensures;
       few = omega arith;
       marked = no_marks c.no_marks.result c.no_marks.ensures;
     })
 
 pub returns-clause-fits : goal.returns-clause-fits
-returns-clause-fits g c = first_fits c.args.key c.key_fits.ensures
+returns-clause-fits g c = first_fits c.args.key c.key_invariant.ensures

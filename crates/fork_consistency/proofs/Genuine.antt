@@ -17,11 +17,11 @@ use Rattle.release_runs.proofs.Stories.{IsStory, OfCert, OfStructure, Release, c
 use Rattle.release_runs.proofs.Texts.{no_cert, unsigned_of}
 use Rattle.client_runs.specs.Runs.{Event, IsRun, Keys, owner, public_key}
 use Rattle.client_runs.specs.Released.{Shown, released, released_by, shown, shown_by}
-use Rattle.client_runs.specs.Agreeing.{HasReleased, IsGenuine, NoForgery, NoForgeryIn}
+use Rattle.fork_consistency.specs.Premises.{HasReleased, IsGenuine, NoForgery, NoneForgedOf, everybody}
 use Rattle.client_runs.specs.UsedOnce.{LeavesOnce}
-use Rattle.client_runs.proofs.Holds.{structures}
+use Rattle.fork_consistency.proofs.Holds.{structures}
 use Rattle.client_runs.proofs.Lowering.{low_owner}
-use Rattle.client_runs.proofs.Moves.{holds_at, signed_of}
+use Rattle.fork_consistency.proofs.Moves.{holds_at, signed_of}
 use Rattle.client_runs.proofs.Once.{leaves_once}
 
 pub released_later : (e : Event) (older : List Event) (u : User) (text : Bytes) → HasReleased u older text → HasReleased u (e ∷ older) text
@@ -49,10 +49,10 @@ AllGenuine keys (e ∷ older) = All (IsReleasedText keys older) (shown_by e.call
 
 -- no leaf carries two texts, so that what the premise says under this condition holds
 module _ (keys : Keys) (whole : List Event) (once : (u : User) → LeavesOnce u whole) where
-  each_genuine : (run : List Event) → NoForgeryIn keys whole run → AllGenuine keys run
+  each_genuine : (run : List Event) → NoneForgedOf everybody keys whole run → AllGenuine keys run
   each_genuine [] none = tt
   each_genuine (e ∷ older) none =
-      (to_all (IsReleasedText keys older) (shown_by e.call) (λ t j. of_all (IsGenuine keys whole older) (shown_by e.call) none.0 t j (once t.user)), each_genuine older none.1)
+      (to_all (IsReleasedText keys older) (shown_by e.call) (λ t j. of_all (λ (x : Shown). everybody x.user → IsGenuine keys whole older x) (shown_by e.call) none.0 t j tt (once t.user)), each_genuine older none.1)
 
 pub all_genuine : (keys : Keys) (run : List Event) → IsRun keys run → NoForgery keys run → AllGenuine keys run
 all_genuine keys run is none = each_genuine keys run (λ u. leaves_once keys run u is) run none

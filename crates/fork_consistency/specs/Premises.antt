@@ -1,5 +1,5 @@
--- The accepted views of a run agree, where no signature is forged, no digest collides, and user 0's client added each
--- user with the user's own key.
+-- The premises of fork consistency, which speak of the texts of one run alone: no signature is forged, no digest
+-- collides, and user 0's client added each user with the user's own key.
 use Rattle.std.specs.Prelude.{◌≡◌, List, [], ◌∷◌, IfSome, true, map}
 use Rattle.std.specs.List.{All, Contains}
 use Rattle.layout.specs.Types.{Bytes, Digest, User}
@@ -27,29 +27,38 @@ abbrev pub IsGenuine : Keys → List Event → List Event → Shown → Type 0
 IsGenuine keys whole older t =
     LeavesOnce t.user whole → valid (public_key keys t.user) t.text t.signature ≡ true → HasReleased t.user older t.text
 
--- so does each text that is shown, at an earlier step
-abbrev pub NoForgeryIn : Keys → List Event → List Event → Type 0
-NoForgeryIn keys whole [] = Unit {0}
-NoForgeryIn keys whole (e ∷ older) = All (IsGenuine keys whole older) (shown_by e.call) × NoForgeryIn keys whole older
+-- all users
+abbrev pub everybody : User → Type 0
+everybody u = Unit {0}
+
+-- each text that is shown as one of these users' is genuine, at an earlier step: none of their signatures is forged
+abbrev pub NoneForgedOf : (User → Type 0) → Keys → List Event → List Event → Type 0
+NoneForgedOf some keys whole [] = Unit {0}
+NoneForgedOf some keys whole (e ∷ older) = All (λ t. some t.user → IsGenuine keys whole older t) (shown_by e.call)
+    × NoneForgedOf some keys whole older
 
 abbrev pub NoForgery : Keys → List Event → Type 0
-NoForgery keys run = NoForgeryIn keys run run
+NoForgery keys run = NoneForgedOf everybody keys run run
 
 abbrev pub NoCollision : Keys → List Event → Type 0
 NoCollision keys run = NoneCollide (hashed keys run) (hashed keys run)
 
--- an action that adds a user gives the user's own key
-abbrev pub GivesOwnKey : Keys → Action Digest → Type 0
-GivesOwnKey keys (AddUser u key) = key ≡ public_key keys u
-GivesOwnKey keys other = Unit {0}
+-- an action that adds one of these users gives the user's own key
+abbrev pub GivesOwnKeyOf : (User → Type 0) → Keys → Action Digest → Type 0
+GivesOwnKeyOf some keys (AddUser u key) = some u → key ≡ public_key keys u
+GivesOwnKeyOf some keys other = Unit {0}
 
--- so does each change of this text, if it is a certificate of user 0's
-abbrev pub IsTrueText : Keys → Bytes → Type 0
-IsTrueText keys text = IfSome (cert_in 0 text) (λ c. All (λ change. GivesOwnKey keys change.action) c.value.changes)
+-- each change of this text does so, if it is a certificate of user 0's
+abbrev pub TextAddsOwnKeysOf : (User → Type 0) → Keys → Bytes → Type 0
+TextAddsOwnKeysOf some keys text =
+    IfSome (cert_in 0 text) (λ c. All (λ change. GivesOwnKeyOf some keys change.action) c.value.changes)
 
--- each user that user 0's client added, in a certificate that it released, has its own key
+-- each of these users that user 0's client added, in a certificate that it released, has its own key
+abbrev pub AddsOwnKeysOf : (User → Type 0) → Keys → List Event → Type 0
+AddsOwnKeysOf some keys run = All (TextAddsOwnKeysOf some keys) (released 0 run)
+
 abbrev pub AddsOwnKeys : Keys → List Event → Type 0
-AddsOwnKeys keys run = All (IsTrueText keys) (released 0 run)
+AddsOwnKeys keys run = AddsOwnKeysOf everybody keys run
 
 -- that is so, and user 0's key, which every client knows, has the form of a key
 pub record KeysTrue (keys : Keys) (run : List Event) : Type 0 where
@@ -62,8 +71,12 @@ pub record Premises (keys : Keys) (run : List Event) : Type 0 where
   pub true_keys : KeysTrue keys run
 
 -- what holds of each run that meets them
-abbrev pub EachRun : (List Event → Type 0) → Type 0
-EachRun holds = (keys : Keys) (run : List Event) → IsRun keys run → Premises keys run → holds run
+abbrev pub EachRun : (Keys → List Event → Type 0) → Type 0
+EachRun holds = (keys : Keys) (run : List Event) → IsRun keys run → Premises keys run → holds keys run
+
+-- and of each run in which no digest collides, whoever has whose keys
+abbrev pub EachRunApart : (Keys → List Event → Type 0) → Type 0
+EachRunApart holds = (keys : Keys) (run : List Event) → IsRun keys run → NoCollision keys run → holds keys run
 
 -- ---- lines
 

@@ -1,7 +1,7 @@
 use Rattle.std.proofs.Common.{subst}
 use Rattle.itable.specs.ITable.{IsTable}
 use Rattle.itable.proofs.ChunkLaws.{no_text, chunk_reads, few_pairs}
-use Rattle.itable.proofs.table.ITable.chunk_holds.Goals as goal
+use Rattle.itable.proofs.table.ITable.chunk_invariant.Goals as goal
 
 pub returns : goal.returns
 returns g c =

@@ -3,7 +3,7 @@ use Rattle.principals.specs.Table.{Table}
 use Rattle.principals.specs.TableText.{table}
 use Rattle.principals.specs.declared.table.TheConstants.{TABLE_SIZE}
 use Rattle.principals.proofs.SizeLaws.{text_size}
-use Rattle.principals.proofs.table.Table.text_fits.Goals as goal
+use Rattle.principals.proofs.table.Table.type_invariant.Goals as goal
 
 pub returns : goal.returns
 returns g c =

@@ -3,7 +3,7 @@ use Rattle.itable.specs.ITable.{IsTable, handle_of}
 use Rattle.itable.proofs.RootLaws.{root_reads, lists, few_listings}
 use Rattle.itable.proofs.TableLaws.{same_table}
 use Rattle.itable.proofs.HandleLaws.{known_by_handle}
-use Rattle.itable.proofs.table.ITable.root_holds.Goals as goal
+use Rattle.itable.proofs.table.ITable.root_invariant.Goals as goal
 
 pub returns : goal.returns
 returns g c =

@@ -1,8 +1,9 @@
 -- The accepted views of a run agree.
-use Rattle.std.proofs.Common.{◌≡◌, List, [], ◌∷◌, ◌++◌, map, IfSome, refl, sym, ap, ◌∙◌, subst, inl, inr, option_map}
+use Rattle.std.proofs.Common.{◌≡◌, List, [], ◌∷◌, ◌++◌, map, Some, IfSome, refl, sym, ap, ◌∙◌, subst, inl, inr, option_map}
 use Rattle.std.specs.Prelude.{◌⊎◌}
 use Rattle.std.specs.List.{All, Contains, flat_map}
-use Rattle.layout.specs.Types.{Bytes, User}
+use Rattle.layout.specs.Types.{Bytes, Key, User}
+use Rattle.principals.specs.Table.{key_of}
 use Rattle.version_order.specs.Plan.{Plan, plan}
 use Rattle.version_order.specs.Structure.{Structure, structure}
 use Rattle.update_cert.specs.Cert.{Cert, cert}
@@ -18,15 +19,16 @@ use Rattle.release_runs.specs.Steps as low
 use Rattle.release_runs.proofs.Stories.{IsStory, OfCert, OfStructure, Release, last_in}
 use Rattle.client_runs.specs.Runs.{Event, IsRun, Keys, client_of, owner, public_key}
 use Rattle.client_runs.specs.Released.{accepted_by, hashed, hashed_at, pending_texts, reply_texts, shown_cert, shown_structure, structure_texts, tried_view, views}
-use Rattle.client_runs.specs.Agreeing.{AreReleased, HasReleased, Premises}
-use Rattle.client_runs.proofs.Genuine.{AllGenuine, all_genuine, genuine, released_later, released_structure}
-use Rattle.client_runs.proofs.Holds.{IsTriedOver, known_in, signed_in}
-use Rattle.client_runs.proofs.Judging.{cert_by_super, cert_verified, own_last_is, structure_by_super, structure_fits, structure_verified, unbroken, unbroken_by, value_of, verified}
+use Rattle.fork_consistency.specs.Premises.{AreReleased, HasReleased, Premises, everybody}
+use Rattle.fork_consistency.proofs.Genuine.{AllGenuine, all_genuine, genuine, released_later, released_structure}
+use Rattle.fork_consistency.proofs.Holds.{IsTriedOver, known_in, signed_in}
+use Rattle.fork_consistency.proofs.Judging.{cert_by_super, cert_verified, own_last_is, structure_by_super, structure_fits, structure_verified, unbroken, unbroken_by, value_of, verified}
 use Rattle.client_runs.proofs.Lowering.{low_owner}
-use Rattle.client_runs.proofs.Moves.{holds_at}
+use Rattle.fork_consistency.proofs.Moves.{holds_at}
 use Rattle.client_runs.proofs.Replies.{of_lists}
-use Rattle.client_runs.proofs.TrueTables.{IsTrueTable, true_tables}
-use Rattle.client_runs.proofs.Views.{first_in, first_of, in_views, last_view, one_at_most, over_here}
+use Rattle.fork_consistency.proofs.ByCertificates.{super_honest}
+use Rattle.fork_consistency.proofs.ListedKeys.{own_key_listed}
+use Rattle.fork_consistency.proofs.Views.{first_in, first_of, in_views, last_view, one_at_most, over_here}
 
 last_fits : (o : low.Owner) (story : List Release) → IsStory o story → IfSome (last_in o story) (λ z. structure.Fits z.value)
 last_fits o [] is = tt
@@ -66,6 +68,10 @@ view_text x t i =
           let (s, k, e) = in-map (λ (i : PendingItem). cert.spell i.cert) (items x.lists) t j in
           in-right t (flat_map structure_texts x.lists.structures) (flat_map pending_texts (items x.lists)) (flat_map-in pending_texts (items x.lists) s t k (inl e)))
     ]
+
+-- the view's table lists no key but a user's own
+abbrev IsTrueTable : Keys → View → Type 0
+IsTrueTable keys x = (u : User) (k : Key) → key_of u x.table ≡ Some k → k ≡ public_key keys u
 
 module _ (keys : Keys) where
   -- ---- an accepted view
@@ -164,7 +170,7 @@ module _ (keys : Keys) (run : List Event) (is : IsRun keys run) (premises : Prem
   all_released_texts = all_genuine keys run is premises.no_forgery
 
   all_true : (x : View) → In x (views run) → IsTrueTable keys x
-  all_true = true_tables keys run is all_released_texts premises.no_collision premises.true_keys
+  all_true x i u k at = own_key_listed everybody keys run is (super_honest keys run premises) premises.true_keys.added x i u k tt at
 
   pub are_accepted : AreAccepted (views run)
   are_accepted = accepted keys run is all_released_texts all_true

@@ -14,10 +14,10 @@ use Rattle.client_verify.specs.State.{Ready}
 use Rattle.client_steps.specs.Steps.{Call, Client, Closed, IsSound, IsStep, Open, Opens, Owner, Signs}
 use Rattle.client_runs.specs.Runs.{Event, IsRun, Keys, client_of, owner}
 use Rattle.client_runs.specs.Released.{accepted_by, in_hand, released, tried_view, view_over, views, where_signed}
-use Rattle.client_runs.proofs.Holds.{Holds, IsTriedOver, Tries, is_over, signed_in, structures}
-use Rattle.client_runs.proofs.Judging.{value_of}
+use Rattle.fork_consistency.proofs.Holds.{Holds, IsTriedOver, Tries, is_over, signed_in, structures}
+use Rattle.fork_consistency.proofs.Judging.{value_of}
 use Rattle.client_runs.proofs.Lowering.{with_ready}
-use Rattle.client_runs.proofs.Moves.{holds_at, signed_of}
+use Rattle.fork_consistency.proofs.Moves.{holds_at, signed_of}
 
 -- ---- over which views
 

@@ -20,7 +20,7 @@ use Rattle.client_verify.specs.Judged.{Handed}
 use Rattle.client_steps.specs.Steps.{Asks, Begins, Call, Client, Closed, Closes, Commits, Crashes, Gives, HasHeard, HasTaken, Hears, IsHandedBack, IsLeft, IsRefused, IsSound, IsStep, Looks, Open, Opens, Owner, Parts, Signs, Takes, first}
 use Rattle.client_runs.specs.Runs.{Event, IsRun, Keys, client_of, owner}
 use Rattle.client_runs.specs.Released.{accepted_by, released as released_in, released_by, reply_texts, shown_in, stored_texts, tried_by, tried_view}
-use Rattle.client_runs.proofs.Holds.{Holds, HoldsAfter, begin_fails, begins, closes, commits, event, later, opens, sign_fails_here, signed_in, signs_ok, stays}
+use Rattle.fork_consistency.proofs.Holds.{Holds, HoldsAfter, begin_fails, begins, closes, commits, event, later, opens, sign_fails_here, signed_in, signs_ok, stays}
 use Rattle.client_runs.proofs.Lowering.{low_client, low_left, low_owner, low_parts, with_ready}
 use Rattle.client_runs.proofs.Quiet.{gives, hears, looks, takes}
 use Rattle.client_runs.proofs.Replies.{AreSound, StaysSound, IsUnder, Kept, handed_on, judged_on, kept_sound, sound_later}

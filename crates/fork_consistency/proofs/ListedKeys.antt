@@ -1,0 +1,122 @@
+-- The tables of accepted views list the own keys of those users whom user 0's client added so.
+use Rattle.std.proofs.Common.{◌≡◌, ℕ, zero, suc, ◌+◌, Bool, true, false, ◌==◌, List, [], ◌∷◌, find, Option, Some, None, IsSome, IfSome, refl, sym, ap, ◌∙◌, subst, if◌then◌else◌, option_map, arith}
+use Rattle.std.specs.List.{All}
+use Rattle.std.specs.Ordering.{nat_cmp}
+use Rattle.std.proofs.lemmas.Bool.{eqb-true}
+use Rattle.std.proofs.lemmas.Cmp.{nat_cmp_total}
+use Rattle.std.proofs.lemmas.List.Elements.{All-cons, All-head, All-nil, All-tail, All-weaker}
+use Rattle.layout.specs.AscendingLaws.{all_with_row}
+use Rattle.layout.specs.Types.{Digest, Key, User, Version}
+use Rattle.principals.specs.declared.table.Listing.{Listing}
+use Rattle.principals.specs.Table.{Table, genesis as first_users, key_of, user_of as listed_user}
+use Rattle.update_cert.specs.Change.{Action, Make, Put, Remove, Link, Unlink, AddUser, AddMember, DropMember, Change}
+use Rattle.update_cert.specs.Cert.{Cert}
+use Rattle.update_cert.specs.Tables.{table_after, table_after_change, table_becomes, table_effect}
+use Rattle.pending_list.specs.declared.signed.Signed.{Signed}
+use Rattle.agreement.specs.Runs.{View}
+use Rattle.agreement.proofs.Members.{In, of_all, to_all}
+use Rattle.client_runs.specs.Released.{released, views}
+use Rattle.client_runs.specs.Runs.{Event, IsRun, Keys, public_key}
+use Rattle.fork_consistency.specs.Premises.{AddsOwnKeysOf, GivesOwnKeyOf, TextAddsOwnKeysOf}
+use Rattle.fork_consistency.specs.ByCertificates.{HasAllUpTo, ListOwnKeysOf, SuperIsHonest, certificate, certificates_up_to, tables_after}
+use Rattle.fork_consistency.proofs.ByCertificates.{view}
+use Rattle.fork_consistency.proofs.Certificates.{IsReleased, all_before, one_more, released_cert, tables_more}
+
+-- ---- listings
+
+module _ (some : User → Type 0) (own_key : User → Key) where
+  -- a listing of one of these users has the user's own key
+  abbrev IsOwn : Listing → Type 0
+  IsOwn l = some l.user → l.key ≡ own_key l.user
+
+  abbrev AddsOwn : Action Digest → Type 0
+  AddsOwn (AddUser u k) = some u → k ≡ own_key u
+  AddsOwn other = Unit {0}
+
+  becomes : (n : Version) (a : Action Digest) (t : Table) → AddsOwn a → All IsOwn t.users → All IsOwn (table_becomes n a t).users
+  becomes n (AddUser u k) t own all = all_with_row nat_cmp listed_user nat_cmp_total IsOwn t.users (record { user = u; since = n; key = k }) own all
+  becomes n (AddMember g u) t own all = all
+  becomes n (DropMember g u) t own all = all
+  becomes n (Make new) t own all = all
+  becomes n (Put new) t own all = all
+  becomes n Remove t own all = all
+  becomes n (Link entry) t own all = all
+  becomes n (Unlink name) t own all = all
+
+  one_change : (u n : ℕ) (c : Change Digest) (t : Table) → AddsOwn c.action → All IsOwn t.users → All IsOwn (table_after_change u n c t).users
+  one_change u n c t own all = go (table_effect u c t)
+    where
+      go : (b : Bool) → All IsOwn (if b then table_becomes n c.action t else t).users
+      go true = becomes n c.action t own all
+      go false = all
+
+  after_own : (u n : ℕ) (cs : List (Change Digest)) (t : Table) → All (λ c. AddsOwn c.action) cs → All IsOwn t.users → All IsOwn (table_after u n cs t).users
+  unfolding table_after
+  after_own u n [] t own all = all
+  after_own u n (c ∷ cs) t own all =
+      after_own u n cs (table_after_change u n c t) (All-tail (λ (d : Change Digest). AddsOwn d.action) c cs own) (one_change u n c t (All-head (λ (d : Change Digest). AddsOwn d.action) c cs own) all)
+
+  key_in : (ls : List Listing) (u : User) (k : Key) → some u → All IsOwn ls → option_map (λ (l : Listing). l.key) (find (λ (l : Listing). l.user == u) ls) ≡ Some k → k ≡ own_key u
+  key_in [] u k out all is = absurd (cc is)
+  key_in (l ∷ ls) u k out all is = go (l.user == u) refl is (key_in ls u k out (All-tail IsOwn l ls all))
+    where
+      go : (b : Bool) → (l.user == u) ≡ b → option_map (λ (x : Listing). x.key) (if b then Some l else find (λ (x : Listing). x.user == u) ls) ≡ Some k
+          → (option_map (λ (x : Listing). x.key) (find (λ (x : Listing). x.user == u) ls) ≡ Some k → k ≡ own_key u) → k ≡ own_key u
+      go true same at ih =
+          let one : l.key ≡ k = cc at in
+          let user = eqb-true l.user u same in
+          sym one ∙ All-head IsOwn l ls all (subst some (sym user) out) ∙ ap own_key user
+      go false other at ih = ih at
+
+gives : (some : User → Type 0) (keys : Keys) (a : Action Digest) → GivesOwnKeyOf some keys a → AddsOwn some (public_key keys) a
+gives some keys (AddUser u k) own = own
+gives some keys (Make new) own = tt
+gives some keys (Put new) own = tt
+gives some keys Remove own = tt
+gives some keys (Link entry) own = tt
+gives some keys (Unlink name) own = tt
+gives some keys (AddMember g u) own = tt
+gives some keys (DropMember g u) own = tt
+
+module _ (some : User → Type 0) (keys : Keys) (run : List Event) (is : IsRun keys run) (honest : SuperIsHonest keys run) (added : AddsOwnKeysOf some keys run) where
+  abbrev own_keys : User → Key
+  own_keys = public_key keys
+
+  cert_gives : (k : ℕ) (c : Cert) → (of : IsReleased keys run is 0 c k) → All (λ (d : Change Digest). AddsOwn some own_keys d.action) c.changes
+  cert_gives k c of =
+      let text = of.text in
+      let given = of_all (TextAddsOwnKeysOf some keys) (released 0 run) added text.text text.there in
+      let own = subst (λ (o : Option (Signed Cert)). IfSome o (λ y. All (λ (z : Change Digest). GivesOwnKeyOf some keys z.action) y.value.changes)) text.read given in
+      subst (λ (x : Cert). All (λ (d : Change Digest). AddsOwn some own_keys d.action) x.changes) text.value
+      (All-weaker (λ (z : Change Digest). GivesOwnKeyOf some keys z.action) (λ (z : Change Digest). AddsOwn some own_keys z.action) (λ z g. gives some keys z.action g) text.one.value.changes own)
+
+  abbrev table_at : ℕ → Table
+  table_at n = tables_after (certificates_up_to n 0 run) (first_users (own_keys 0))
+
+  lists_own : (n : ℕ) → HasAllUpTo n 0 run → All (IsOwn some own_keys) (table_at n).users
+  lists_own zero all = All-cons (IsOwn some own_keys) (record { user = 0; since = 0; key = own_keys 0 }) [] (λ out. refl) (All-nil (IsOwn some own_keys))
+  lists_own (suc n) all =
+      let one : suc n ≡ n + 1 = omega arith in
+      subst (λ (k : ℕ). All (IsOwn some own_keys) (table_at k).users) (sym one) (step (lists_own n) (all_before 0 run n (subst (λ (k : ℕ). HasAllUpTo k 0 run) one all)))
+    where
+      step : (HasAllUpTo n 0 run → All (IsOwn some own_keys) (table_at n).users) → HasAllUpTo n 0 run × IsSome (certificate 0 run (n + 1)) → All (IsOwn some own_keys) (table_at (n + 1)).users
+      step before has = go (certificate 0 run (n + 1)) refl has.1
+        where
+          go : (o : Option Cert) → certificate 0 run (n + 1) ≡ o → IsSome o → All (IsOwn some own_keys) (table_at (n + 1)).users
+          go None at none = absurd (cc none)
+          go (Some c) at there =
+              let of = released_cert keys run is 0 (n + 1) c at in
+              let made = after_own some own_keys c.user c.number c.changes (table_at n) (cert_gives (n + 1) c of) (before has.0) in
+              subst (λ (t : Table). All (IsOwn some own_keys) t.users)
+              (sym (ap (λ (cs : List Cert). tables_after cs (first_users (own_keys 0))) (one_more 0 run n c at) ∙ tables_more (certificates_up_to n 0 run) c (first_users (own_keys 0)))) made
+
+  -- a view lists none of these users with a key but the own one
+  pub own_key_listed : (x : View) → In x (views run) → (u : User) (k : Key) → some u → key_of u x.table ≡ Some k → k ≡ own_keys u
+  own_key_listed x i u k out at =
+      let w = view keys run is honest x i in
+      key_in some own_keys x.table.users u k out (subst (λ (t : Table). All (IsOwn some own_keys) t.users) (sym w.at.is) (lists_own w.number w.at.released)) at
+
+  pub list_own_keys : ListOwnKeysOf some keys run
+  list_own_keys =
+      to_all (λ x. (u : User) (k : Key) → some u → key_of u x.table ≡ Some k → k ≡ public_key keys u) (views run)
+      (λ x i u k one at. own_key_listed x i u k one at)

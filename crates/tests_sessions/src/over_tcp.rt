@@ -1,0 +1,144 @@
+//! Commands over TCP: the server's workers and the users' processes are threads of one test, and each process has a
+//! connection of its own.
+
+use crate::files::blocks_of;
+use crate::here::Here;
+use crate::town::{Outcome, Town, town_of_one, town_of_three};
+use crate::words::{Digits, ends, keys_of, run_words_over};
+use block_store::Store;
+use connection::Socket;
+use layout::let_go;
+use lms_sign::PublicKey;
+use server_workers::{Accepted, OpenGate, serve};
+use std::alloc::Global;
+use std::net::{Net, SocketAddr, TcpListener, TcpStream};
+use std::process::Abort;
+use std::sync::Wait;
+use std::thread;
+use std::thread::Threads;
+use std::time::Clock;
+use tests_aids::given;
+use tests_client_aids::clients::first_key;
+use transport::Framed;
+
+/// A user, the words of a command, the content of the file that it puts, and the status and the text of its end.
+type Row = (&'static str, &'static str, &'static str, u8, &'static str);
+
+/// User 1 owns no file in user 0's directory.
+static ROWS: [Row; 7] = [
+    ("0", "put /f FILE", "hello", 0, "done|"),
+    ("0", "put /empty FILE", "", 0, "done|"),
+    ("0", "cat /empty", "", 0, ""),
+    ("0", "adduser 1 KEY1", "", 0, "done|"),
+    ("1", "rm /f", "", 1, "lost 1 2|"),
+    ("1", "cat /f", "", 0, "hello"),
+    ("1", "ls /", "", 0, "empty 0:4|f 0:3|"),
+];
+
+/// As many processes come as there are rows.
+const PROCESSES: u32 = 7;
+
+/// A connection to the server.
+fn connected<R: Alloc<A = Global> + Abort + Net<Listener = TcpListener, Stream = TcpStream>>(
+    rt: &R,
+    address: SocketAddr,
+) -> Framed<Socket, Global> {
+    let stream = TcpStream::connect(rt, address).expect(rt, "a stream");
+    stream.set_nodelay(true).expect(rt, "no delay");
+    let socket = Socket::new(stream).expect(rt, "a socket");
+    Framed::new(rt.alloc(), socket).expect(rt, "memory")
+}
+
+/// A user's process carries out what these words say over a connection of its own.
+fn run_there<R: Alloc<A = Global> + Abort + Net<Listener = TcpListener, Stream = TcpStream>>(
+    rt: &R,
+    address: SocketAddr,
+    town: &mut Town,
+    digits: &Digits,
+    command: (&str, &str),
+    content: &[u8],
+) -> Outcome {
+    let host = &(rt, Here);
+    let framed = connected(rt, address);
+    let (outcome, framed) = run_words_over(host, town, digits, command, content, framed);
+    let_go(framed);
+    outcome
+}
+
+/// Each row ends as stands in it.
+fn rows<R: Alloc<A = Global> + Abort + Net<Listener = TcpListener, Stream = TcpStream>>(
+    rt: &R,
+    address: SocketAddr,
+) {
+    let host = &(rt, Here);
+    let mut town = town_of_three(host);
+    let digits = keys_of(host, &town);
+    for (user, words, content, status, printed) in &ROWS {
+        let content = content.as_bytes();
+        let outcome = run_there(rt, address, &mut town, &digits, (user, words), content);
+        ends(host, &outcome, words, *status, printed);
+    }
+}
+
+/// The largest file is put, and one with a byte more is refused.
+fn large_files<R: Alloc<A = Global> + Abort + Net<Listener = TcpListener, Stream = TcpStream>>(
+    rt: &R,
+    address: SocketAddr,
+) {
+    let host = &(rt, Here);
+    let mut town = town_of_one(host);
+    let digits = Digits::none(host);
+    let mut file = blocks_of(host, 1024);
+    let put = ("0", "put /large FILE");
+    let outcome = run_there(rt, address, &mut town, &digits, put, &file);
+    ends(host, &outcome, "put", 0, "done|");
+    given(host, file.push(0), "memory");
+    let outcome = run_there(rt, address, &mut town, &digits, put, &file);
+    ends(host, &outcome, "put", 4, "too large|");
+}
+
+/// Serves so many processes: whether all that was placed and committed was logged.
+fn serves<R: Alloc<A = Global> + Abort + Clock + Threads + Wait + Sync>(
+    rt: &R,
+    listener: &TcpListener,
+    most: u32,
+    pinned: PublicKey,
+) -> bool {
+    let alloc = rt.alloc();
+    let store = Store::new(alloc).expect(rt, "memory");
+    let log = Vec::new(alloc);
+    let mut fault = None;
+    let connections = Accepted::new(rt, listener, most, &mut fault);
+    let served = serve(rt, alloc, &OpenGate, connections, most, &store, pinned, log);
+    let served = served.expect(rt, "memory");
+    let flushed = served.flushed;
+    let_go(served);
+    let_go(store);
+    flushed
+}
+
+#[test]
+fn commands_over_tcp(rt: HostRuntime) {
+    let pinned = first_key(&(&rt, Here));
+    let listener = TcpListener::bind(&rt, "127.0.0.1:0").expect(&rt, "a port");
+    let address = listener.local_addr().expect(&rt, "its address");
+    let (flushed, ()) = thread::join(
+        &rt,
+        || serves(&rt, &listener, PROCESSES, pinned),
+        || rows(&rt, address),
+    );
+    assert!(rt; flushed, "the log is written");
+}
+
+#[test]
+fn large_files_over_tcp(rt: HostRuntime) {
+    let pinned = first_key(&(&rt, Here));
+    let listener = TcpListener::bind(&rt, "127.0.0.1:0").expect(&rt, "a port");
+    let address = listener.local_addr().expect(&rt, "its address");
+    let (flushed, ()) = thread::join(
+        &rt,
+        || serves(&rt, &listener, 2, pinned),
+        || large_files(&rt, address),
+    );
+    assert!(rt; flushed, "the log is written");
+}
