@@ -1,6 +1,5 @@
 //! Clients at a server that can lie, call by call, with all texts of theirs that are hashed.
 
-use crate::hashed::{add_copies, add_reply, add_signed, first_texts, text_of};
 use client_verify::{Rule, Step};
 use hostile_server::Hostile;
 use layout::put_in;
@@ -9,6 +8,7 @@ use std::alloc::Global;
 use tests_aids::{Host, given};
 use tests_client_aids::changes::Planned;
 use tests_client_aids::clients::{MemoryClient, declare_changes, end, hand, sign, step_on};
+use tests_hashed::{add_copies, add_reply, add_signed, first_texts, text_of};
 use wire::Status;
 
 /// How many blocks are handed in at most for one reply.

@@ -7,12 +7,13 @@
 use crate::course::{Course, new_course};
 use crate::here::Here;
 use client_verify::Rule;
-use layout::{Group, User, digest, let_go};
+use layout::{Group, User, let_go};
 use lms_sign::PublicKey;
 use tests_aids::numbers::{i_number, principal};
 use tests_aids::{Host, check, found, given};
 use tests_client_aids::changes::{Planned, lay, listing_both, making, nothing, plan_change};
 use tests_client_aids::three::{Three, three_clients};
+use tests_hashed::{by_digest, share_a_name};
 use update_cert::{Action, Change, TableChange};
 
 /// The group, and the place of its file.
@@ -20,20 +21,10 @@ const GROUP: u8 = 64;
 
 const PLACE: u16 = 64;
 
-/// None of the others has the digest of this text, but where it is the same text.
-fn stands_alone(rt: &impl Host, text: &[u8], others: &[Vec<u8>]) {
-    let own = digest(text);
-    for other in others {
-        let is_well = digest(other) != own || other.as_slice() == text;
-        check(rt, is_well, "two texts of one digest");
-    }
-}
-
 /// No two different texts have one digest.
 fn share_no_digest(rt: &impl Host, texts: &[Vec<u8>]) {
-    for text in texts {
-        stands_alone(rt, text, texts);
-    }
+    let is_well = !share_a_name(&by_digest(rt, texts));
+    check(rt, is_well, "two texts of one digest");
 }
 
 /// Plans a change of the table of principals.

@@ -5,8 +5,6 @@
 #[cfg(test)]
 mod course;
 #[cfg(test)]
-mod hashed;
-#[cfg(test)]
 mod hashed_texts;
 #[cfg(test)]
 mod here;

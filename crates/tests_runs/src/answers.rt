@@ -2,7 +2,7 @@
 
 use client_runs::Answer;
 use client_verify::{ClientError, Look, Phase, Rule, Step};
-use layout::{Digest, User};
+use layout::{Digest, Text, User};
 use pending_list::Signed;
 use principals::Table;
 use std::alloc::Global;
@@ -36,8 +36,8 @@ pub(crate) enum Told {
     Store(Vec<Vec<u8>>),
     /// This rule is broken.
     Broken(Rule),
-    /// A file of these bytes.
-    File(Vec<u8>),
+    /// What is seen, spelled: see `seen_text`.
+    Sees(Vec<u8>),
 }
 
 /// The text that an opened client has to send again.
@@ -71,12 +71,24 @@ pub(crate) fn step_told(rt: &impl Host, step: &Step<Global>) -> Told {
     }
 }
 
-/// What a client answered that looks at a file.
+/// What is seen: a word, and after it the bytes of a file or the text of a directory.
+fn seen_text(rt: &impl Host, look: &Look<Global>) -> Vec<u8> {
+    match look {
+        Look::File(bytes) => joined(rt, &[b"file ", bytes]),
+        Look::Dir(directory) => {
+            let text = directory.text(rt.alloc()).expect(rt, "memory");
+            joined(rt, &[b"directory ", &text])
+        }
+        Look::None => joined(rt, &[b"nothing"]),
+        _ => joined(rt, &[b"no look"]),
+    }
+}
+
+/// What a client answered that looks.
 pub(crate) fn look_told(rt: &impl Host, look: &Look<Global>) -> Told {
     match look {
         Look::Need(digest) => Told::Need(*digest),
-        Look::File(bytes) => Told::File(joined(rt, &[bytes])),
-        _ => panic!(rt; "no file"),
+        _ => Told::Sees(seen_text(rt, look)),
     }
 }
 
@@ -204,10 +216,10 @@ fn is_broken(answer: &Answer<Global>, wanted: Rule) -> bool {
     }
 }
 
-/// Whether the answer is a file of these bytes.
-fn is_file(answer: &Answer<Global>, wanted: &[u8]) -> bool {
+/// Whether the answer is that this is seen.
+fn is_seen(rt: &impl Host, answer: &Answer<Global>, wanted: &[u8]) -> bool {
     match answer {
-        Answer::Sees(Ok(Look::File(bytes))) => bytes.as_slice() == wanted,
+        Answer::Sees(Ok(look)) => seen_text(rt, look).as_slice() == wanted,
         _ => false,
     }
 }
@@ -226,6 +238,6 @@ pub(crate) fn is_told(rt: &impl Host, answer: &Answer<Global>, told: &Told) -> b
         Told::Need(digest) => is_need(answer, *digest),
         Told::Store(texts) => is_store(answer, texts),
         Told::Broken(rule) => is_broken(answer, *rule),
-        Told::File(bytes) => is_file(answer, bytes),
+        Told::Sees(text) => is_seen(rt, answer, text),
     }
 }

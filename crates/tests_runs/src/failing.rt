@@ -4,7 +4,7 @@
 use crate::answers::{Told, sent_again};
 use crate::here::Here;
 use crate::steps::{
-    Fails, Plan, Record, accepts, begins_before, crashes, ends, is_carried_out, new_record, opens,
+    Fails, Record, accepts, begins_before, crashes, ends, is_carried_out, new_record, opens,
     restarts, signs_before,
 };
 use client_runs::Act;
@@ -12,6 +12,7 @@ use client_verify::Phase;
 use layout::{User, let_go};
 use tests_aids::Host;
 use tests_aids::texts::{first_reply, joined, key_of, listed, reply_to, shown};
+use tests_client_aids::changes::nothing;
 use tests_client_aids::clients::{MemoryClient, begun_without_changes, is_in, nothing_yet, signed};
 use tests_client_aids::crashes::{Left, has_failed};
 
@@ -144,7 +145,7 @@ fn signs_after_each(
 /// It makes a second operation after this structure, while devices are to fail after the calls of each step.
 fn operates_before(rt: &impl Host, record: &mut Record, client: &mut MemoryClient, last: &[u8]) {
     ends(rt, record, client);
-    let update = begins_before(rt, record, client, Plan::Nothing, AFTER_LEDGER);
+    let update = begins_before(rt, record, client, nothing(rt), AFTER_LEDGER);
     let structures = listed(rt, &shown(rt, last));
     accepts(rt, record, client, &reply_to(rt, &structures, 2, &update));
     let _structure = signs_before(rt, record, client, AFTER_JOURNAL);

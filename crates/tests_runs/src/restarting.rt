@@ -2,12 +2,13 @@
 
 use crate::here::Here;
 use crate::steps::{
-    Plan, Record, accepts, begins, ends, is_carried_out, new_record, opens, restarts, signs,
+    Record, accepts, begins, ends, is_carried_out, new_record, opens, restarts, signs,
 };
 use client_verify::Phase;
 use layout::{User, let_go};
 use tests_aids::Host;
 use tests_aids::texts::{first_reply, key_of};
+use tests_client_aids::changes::nothing;
 use tests_client_aids::clients::{MemoryClient, is_in, nothing_yet};
 use tests_client_aids::crashes::Left;
 
@@ -30,7 +31,7 @@ fn restarts_before_a_reply(
     zero: MemoryClient,
 ) -> (MemoryClient, Vec<u8>) {
     let mut zero = restarts_in(rt, record, zero, Phase::Idle);
-    let update = begins(rt, record, &mut zero, Plan::Nothing);
+    let update = begins(rt, record, &mut zero, nothing(rt));
     (restarts_in(rt, record, zero, Phase::Declared), update)
 }
 
@@ -55,7 +56,7 @@ fn restarts_after_a_commit(rt: &impl Host, record: &mut Record, zero: MemoryClie
     ends(rt, record, &mut zero);
     let mut zero = restarts_in(rt, record, zero, Phase::Signed);
     ends(rt, record, &mut zero);
-    let _update = begins(rt, record, &mut zero, Plan::Nothing);
+    let _update = begins(rt, record, &mut zero, nothing(rt));
     let zero = restarts_in(rt, record, zero, Phase::Declared);
     let_go(zero);
 }

@@ -1,23 +1,21 @@
 //! Three users, whose clients stand alone, and the same steps in a run. What they answer is told by hand where it
 //! matters: the files that are read, and the broken rule.
 
+use crate::forks::fork_of;
 use crate::here::Here;
 use crate::steps::{
-    OF_ONE, OF_TWO, Plan, Record, begins, finishes, is_carried_out, joins, judges, new_record,
-    operates, places, sees,
+    OF_ONE, OF_TWO, PLACE, Record, begins, finishes, is_carried_out, joins, judges, new_record,
+    operates, places, sees, writing,
 };
 use client_verify::Rule;
 use layout::let_go;
 use lms_sign::PublicKey;
 use tests_aids::Host;
-use tests_aids::texts::{list, only_pending, reply, shown};
+use tests_aids::texts::{list, only_pending, reply, shown, vector_of};
+use tests_client_aids::changes::{listing_both, nothing};
 use tests_client_aids::clients::MemoryClient;
-use tests_client_aids::servers::{Server, answers_commit, answers_update_so, server_of};
+use tests_client_aids::servers::{Server, server_of};
 use tests_client_aids::three::{Three, three_clients};
-use wire::Status;
-
-/// The vector of user 1's second operation after user 0's first.
-const SECOND_OF_ONE: &[u8] = b"\x02\0\0\0\0\x01\x01\0\0\0\x02";
 
 /// Three users, of whom user 0 has listed the others, and their server.
 #[derive(Drop)]
@@ -28,8 +26,7 @@ struct Scene {
     one: MemoryClient,
     two: MemoryClient,
     server: Server,
-    /// User 0's certificate and structure.
-    update: Vec<u8>,
+    /// User 0's structure.
     by_zero: Vec<u8>,
 }
 
@@ -48,9 +45,8 @@ fn new_scene(rt: &impl Host) -> Scene {
         joins(rt, &mut record, client);
     }
     let mut server = server_of(rt, pinned);
-    let update = begins(rt, &mut record, &mut zero, Plan::ListBoth(of_one, of_two));
-    let reply = answers_update_so(rt, &mut server, &update, Status::Ok);
-    let by_zero = finishes(rt, &mut record, &mut server, &mut zero, &reply);
+    let listing = listing_both(rt, of_one, of_two);
+    let by_zero = operates(rt, &mut record, &mut server, &mut zero, listing);
     Scene {
         pinned,
         record,
@@ -58,7 +54,6 @@ fn new_scene(rt: &impl Host) -> Scene {
         one,
         two,
         server,
-        update,
         by_zero,
     }
 }
@@ -72,9 +67,9 @@ impl Scene {
             server,
             ..
         } = self;
-        let _structure = operates(rt, record, server, zero, Plan::Nothing);
-        sees(rt, record, zero, 1, OF_ONE);
-        sees(rt, record, zero, 2, OF_TWO);
+        let _structure = operates(rt, record, server, zero, nothing(rt));
+        sees(rt, record, zero, 1, PLACE, OF_ONE);
+        sees(rt, record, zero, 2, PLACE, OF_TWO);
     }
 
     /// Users 1 and 2 declare that they make their files, and the server places both: the replies.
@@ -86,8 +81,8 @@ impl Scene {
             server,
             ..
         } = self;
-        let to_one = places(rt, record, server, one, Plan::Write(1));
-        let to_two = places(rt, record, server, two, Plan::Write(2));
+        let to_one = places(rt, record, server, one, writing(rt, 1));
+        let to_two = places(rt, record, server, two, writing(rt, 2));
         (to_one, to_two)
     }
 
@@ -107,14 +102,6 @@ impl Scene {
         };
     }
 
-    /// Another server, which shows user 0's operation, too.
-    fn another_server(&self, rt: &impl Host) -> Server {
-        let mut other = server_of(rt, self.pinned);
-        let _same = answers_update_so(rt, &mut other, &self.update, Status::Ok);
-        answers_commit(rt, &mut other, &self.by_zero, Status::Ok);
-        other
-    }
-
     /// User 1 operates at its server, and user 2 at this other one: their structures.
     fn both_operate_apart(&mut self, rt: &impl Host, other: &mut Server) -> (Vec<u8>, Vec<u8>) {
         let Scene {
@@ -124,16 +111,28 @@ impl Scene {
             server,
             ..
         } = self;
-        let by_one = operates(rt, record, server, one, Plan::Nothing);
-        let by_two = operates(rt, record, other, two, Plan::Nothing);
+        let by_one = operates(rt, record, server, one, nothing(rt));
+        let by_two = operates(rt, record, other, two, nothing(rt));
         (by_one, by_two)
     }
 
-    /// User 1 declares its second operation, and is shown these structures: the rule that is broken.
-    fn one_is_shown(&mut self, rt: &impl Host, structures: &[&[u8]]) -> Option<Rule> {
+    /// User 1 operates without a change: its structure, as a reply shows it.
+    fn one_operates(&mut self, rt: &impl Host) -> Vec<u8> {
+        let Scene {
+            record,
+            one,
+            server,
+            ..
+        } = self;
+        shown(rt, &operates(rt, record, server, one, nothing(rt)))
+    }
+
+    /// User 1 declares its operation of this number, and is shown these structures: the rule that is broken.
+    fn one_is_shown(&mut self, rt: &impl Host, number: u8, structures: &[&[u8]]) -> Option<Rule> {
         let Scene { record, one, .. } = self;
-        let update = begins(rt, record, one, Plan::Nothing);
-        let own = only_pending(rt, 2, &update, SECOND_OF_ONE);
+        let update = begins(rt, record, one, nothing(rt));
+        let vector = vector_of(rt, &[(0, 1), (1, number)]);
+        let own = only_pending(rt, u32::from(number), &update, &vector);
         let text = reply(rt, &list(rt, structures), &own);
         judges(rt, record, one, &text)
     }
@@ -160,13 +159,29 @@ fn two_write_while_one_reads(rt: HostRuntime) {
 fn forks_that_are_joined_in_a_run(rt: HostRuntime) {
     let rt = &(rt, Here);
     let mut scene = new_scene(rt);
-    let mut other = scene.another_server(rt);
+    let mut other = fork_of(rt, &scene.server, scene.pinned);
     let (by_one, by_two) = scene.both_operate_apart(rt, &mut other);
     let zero = shown(rt, &scene.by_zero);
     let (by_one, by_two) = (shown(rt, &by_one), shown(rt, &by_two));
-    let broken = scene.one_is_shown(rt, &[&zero, &by_one, &by_two]);
+    let broken = scene.one_is_shown(rt, 2, &[&zero, &by_one, &by_two]);
     assert!(rt; broken == Some(Rule::Numbers), "{broken:?}");
     is_carried_out(rt, &scene.record);
     let_go(other);
+    let_go(scene);
+}
+
+/// The last answer is that the rule on the own last structure is broken: user 1 is shown the one before the last two.
+#[test]
+fn an_older_structure_in_a_run(rt: HostRuntime) {
+    let rt = &(rt, Here);
+    let mut scene = new_scene(rt);
+    let older = scene.one_operates(rt);
+    for _ in 0..2 {
+        let_go(scene.one_operates(rt));
+    }
+    let zero = shown(rt, &scene.by_zero);
+    let broken = scene.one_is_shown(rt, 4, &[&zero, &older]);
+    assert!(rt; broken == Some(Rule::OwnLast), "{broken:?}");
+    is_carried_out(rt, &scene.record);
     let_go(scene);
 }

@@ -2,7 +2,7 @@
 //! answer, for `run` to answer the same.
 
 use crate::answers::{Told, accepted, is_told, look_told, opened, step_told};
-use client_runs::{Act, WorldStep};
+use client_runs::{Act, Answer, WorldStep};
 use client_tree::Held;
 use client_verify::{Look, Rule, Step};
 use fork_consistency::run;
@@ -12,7 +12,7 @@ use std::alloc::Global;
 use tests_aids::numbers::{i_number, principal};
 use tests_aids::texts::joined;
 use tests_aids::{Host, check};
-use tests_client_aids::changes::{Planned, listing_both, making, nothing};
+use tests_client_aids::changes::{Planned, making};
 use tests_client_aids::clients::{
     Kept, MemoryClient, begun, end, give, hand, look_at, open_over, sign, step_on,
 };
@@ -25,7 +25,7 @@ use wire::Status;
 const BOUND: usize = 100;
 
 /// The i-number at which each user makes its file.
-const PLACE: u16 = 5;
+pub(crate) const PLACE: u16 = 5;
 
 /// The files of users 1 and 2.
 pub(crate) const OF_ONE: &[u8] = b"of user 1";
@@ -104,15 +104,45 @@ impl Record {
     }
 }
 
-/// `run` answers each step as was told.
-pub(crate) fn is_carried_out(rt: &impl Host, record: &Record) {
-    let answers = run(rt.alloc(), &record.steps).expect(rt, "memory").answers;
-    check(rt, answers.len() == record.told.len(), "one answer a step");
-    for (place, answer) in answers.iter().enumerate() {
-        let told = record.told.get(place).expect(rt, "a step");
+/// Steps of a run, and the answer of `run` to each.
+#[derive(Drop)]
+pub(crate) struct Ran {
+    pub(crate) steps: Vec<WorldStep<Global>>,
+    pub(crate) answers: Vec<Answer<Global>>,
+}
+
+/// What `run` answers to these steps.
+fn answers_to(rt: &impl Host, steps: &[WorldStep<Global>]) -> Vec<Answer<Global>> {
+    let answers = run(rt.alloc(), steps).expect(rt, "memory").answers;
+    check(rt, answers.len() == steps.len(), "one answer a step");
+    answers
+}
+
+/// The steps, which `run` carries out, whatever it answers.
+pub(crate) fn carry_out(rt: &impl Host, steps: Vec<WorldStep<Global>>) -> Ran {
+    let answers = answers_to(rt, &steps);
+    Ran { steps, answers }
+}
+
+/// `run` answers each step as was told: the answers.
+fn answers_as_told(rt: &impl Host, record: &Record) -> Vec<Answer<Global>> {
+    let answers = answers_to(rt, &record.steps);
+    for (place, (answer, told)) in answers.iter().zip(&record.told).enumerate() {
         assert!(rt; is_told(rt, answer, told), "at {place}");
     }
-    let_go(answers);
+    answers
+}
+
+/// `run` answers each step as was told.
+pub(crate) fn is_carried_out(rt: &impl Host, record: &Record) {
+    let_go(answers_as_told(rt, record));
+}
+
+/// The steps, to each of which `run` answers as was told.
+pub(crate) fn ran_as_told(rt: &impl Host, record: Record) -> Ran {
+    let answers = answers_as_told(rt, &record);
+    let Record { steps, .. } = record;
+    Ran { steps, answers }
 }
 
 /// The client was opened.
@@ -154,29 +184,10 @@ pub(crate) fn restarts(
     opens(rt, record, user, kept)
 }
 
-/// What an operation is of.
-#[derive(Clone, Copy)]
-pub(crate) enum Plan {
-    /// No change.
-    Nothing,
-    /// Users 1 and 2 are listed with these keys.
-    ListBoth(PublicKey, PublicKey),
-    /// User 1 or 2 makes its file.
-    Write(u8),
-}
-
-/// The bytes of user 1's or 2's file.
-fn file_of(user: u8) -> &'static [u8] {
-    if user == 1 { OF_ONE } else { OF_TWO }
-}
-
-/// Its changes, and what is laid out for them.
-fn planned_of(rt: &impl Host, plan: Plan) -> Planned {
-    match plan {
-        Plan::Nothing => nothing(rt),
-        Plan::ListBoth(one, two) => listing_both(rt, one, two),
-        Plan::Write(owner) => making(rt, owner, PLACE, file_of(owner)),
-    }
+/// User 1 or 2 makes its file.
+pub(crate) fn writing(rt: &impl Host, owner: u8) -> Planned {
+    let file = if owner == 1 { OF_ONE } else { OF_TWO };
+    making(rt, owner, PLACE, file)
 }
 
 /// Stores copies of these texts.
@@ -192,10 +203,10 @@ pub(crate) fn begins_before(
     rt: &impl Host,
     record: &mut Record,
     client: &mut MemoryClient,
-    plan: Plan,
+    planned: Planned,
     fails: Fails,
 ) -> Vec<u8> {
-    let Planned { changes, laid } = planned_of(rt, plan);
+    let Planned { changes, laid } = planned;
     let update = begun(rt, client, &changes, &laid).expect(rt, "a certificate");
     store(rt, record, &laid);
     let told = Told::Begun(joined(rt, &[&update]));
@@ -209,9 +220,9 @@ pub(crate) fn begins(
     rt: &impl Host,
     record: &mut Record,
     client: &mut MemoryClient,
-    plan: Plan,
+    planned: Planned,
 ) -> Vec<u8> {
-    begins_before(rt, record, client, plan, Fails::Never)
+    begins_before(rt, record, client, planned, Fails::Never)
 }
 
 /// The client is handed a reply.
@@ -311,9 +322,9 @@ pub(crate) fn places(
     record: &mut Record,
     server: &mut Server,
     client: &mut MemoryClient,
-    plan: Plan,
+    planned: Planned,
 ) -> Vec<u8> {
-    let update = begins(rt, record, client, plan);
+    let update = begins(rt, record, client, planned);
     answers_update_so(rt, server, &update, Status::Ok)
 }
 
@@ -338,22 +349,23 @@ pub(crate) fn operates(
     record: &mut Record,
     server: &mut Server,
     client: &mut MemoryClient,
-    plan: Plan,
+    planned: Planned,
 ) -> Vec<u8> {
-    let reply = places(rt, record, server, client, plan);
+    let reply = places(rt, record, server, client, planned);
     finishes(rt, record, server, client, &reply)
 }
 
-/// The client begins to look at a user's file.
-fn looks(
+/// The client begins to look at an i-number of a principal.
+fn begins_to_look(
     rt: &impl Host,
     record: &mut Record,
     client: &mut MemoryClient,
     owner: u8,
+    number: u16,
 ) -> Look<Global> {
-    let look = look_at(rt, client, owner, PLACE);
+    let look = look_at(rt, client, owner, number);
     let told = look_told(rt, &look);
-    let act = Act::Look(principal(rt, owner), i_number(rt, PLACE));
+    let act = Act::Look(principal(rt, owner), i_number(rt, number));
     record.add(rt, client.user(), act, told);
     look
 }
@@ -372,24 +384,35 @@ fn gives(
     look
 }
 
-/// The client sees this file of a user's.
+/// The client looks at an i-number of a principal: what it sees.
+pub(crate) fn looks(
+    rt: &impl Host,
+    record: &mut Record,
+    client: &mut MemoryClient,
+    owner: u8,
+    number: u16,
+) -> Look<Global> {
+    let mut look = begins_to_look(rt, record, client, owner, number);
+    for _block in 0..BOUND {
+        match look {
+            Look::Need(digest) => look = gives(rt, record, client, digest),
+            _ => return look,
+        }
+    }
+    panic!(rt; "too many blocks")
+}
+
+/// The client sees this file there.
 pub(crate) fn sees(
     rt: &impl Host,
     record: &mut Record,
     client: &mut MemoryClient,
     owner: u8,
+    number: u16,
     bytes: &[u8],
 ) {
-    let mut look = looks(rt, record, client, owner);
-    for _block in 0..BOUND {
-        match look {
-            Look::Need(digest) => look = gives(rt, record, client, digest),
-            Look::File(file) => {
-                check(rt, file.as_slice() == bytes, "the bytes of a file");
-                return;
-            }
-            _ => panic!(rt; "no file"),
-        }
+    match looks(rt, record, client, owner, number) {
+        Look::File(file) => check(rt, file.as_slice() == bytes, "the bytes of a file"),
+        _ => panic!(rt; "no file"),
     }
-    panic!(rt; "too many blocks")
 }

@@ -1,0 +1,90 @@
+//! The tests of premises fail where a premise does.
+
+use crate::here::Here;
+use crate::planning::planned_of;
+use crate::premises::{
+    add_by_leaf, hashed_texts, keys_are_true, leaves_sign_once, none_collide, none_forged,
+};
+use crate::steps::{Ran, carry_out};
+use client_runs::{Act, WorldStep};
+use layout::{User, digest, let_go};
+use lms_sign::{PrivateKey, PublicKey};
+use std::alloc::Global;
+use tests_aids::tables::FORM;
+use tests_aids::texts::{key_of, listed, plan, reply, shown, signed, structure};
+use tests_aids::{Host, check, found, given};
+use tests_client_aids::changes::Planned;
+use tests_hashed::{add_named, by_digest, share_a_name};
+
+/// A reply that shows a structure of user 1's that its client never signed: the test does, with user 1's key.
+fn forged_reply(rt: &impl Host, key: &PrivateKey<Global>) -> Vec<u8> {
+    let plan = plan(rt, 1, 1, &[7; 32], b"\x01\x01\0\0\0\x01", b"\0");
+    let by_one = signed(rt, key, 0, &structure(rt, &plan, &[9; 32]));
+    reply(rt, &listed(rt, &shown(rt, &by_one)), b"\0")
+}
+
+/// Adds a step of user 0's client.
+fn add_step(rt: &impl Host, steps: &mut Vec<WorldStep<Global>>, act: Act<Global>) {
+    let step = WorldStep {
+        user: User::superuser(),
+        act,
+        ledger_fails: None,
+        journal_fails: None,
+    };
+    given(rt, steps.push(step), "memory");
+}
+
+/// User 0 adds user 1 with the second key, and is shown what user 1's client never signed.
+fn refuted(rt: &impl Host, key: &PrivateKey<Global>, added: PublicKey) -> Ran {
+    let Planned { changes, laid } = planned_of(rt, &[added, added], &[b"u\x01"]);
+    let mut steps = Vec::new(rt.alloc());
+    add_step(rt, &mut steps, Act::Open);
+    add_step(rt, &mut steps, Act::Begin(changes, laid));
+    add_step(rt, &mut steps, Act::Reply(forged_reply(rt, key)));
+    carry_out(rt, steps)
+}
+
+/// Two texts are named by one digest.
+fn collide(rt: &impl Host, ran: &Ran, pinned: PublicKey) {
+    let texts = hashed_texts(rt, ran, pinned);
+    let mut rows = by_digest(rt, &texts);
+    check(rt, !share_a_name(&rows), "no collision yet");
+    let first = found(rt, texts.first(), "a text");
+    add_named(rt, &mut rows, digest(first).as_bytes(), b"another text");
+    check(rt, share_a_name(&rows), "a collision");
+}
+
+/// Two texts are signed by one leaf of a user's.
+fn leaf_signs_twice(rt: &impl Host, key: &PrivateKey<Global>) {
+    let (zero, one) = (User::superuser(), found(rt, User::new(1), "a user"));
+    let mut rows = Vec::new(rt.alloc());
+    add_by_leaf(rt, &mut rows, one, &signed(rt, key, 5, b"one"));
+    add_by_leaf(rt, &mut rows, one, &signed(rt, key, 6, b"two"));
+    add_by_leaf(rt, &mut rows, zero, &signed(rt, key, 5, b"two"));
+    check(rt, !share_a_name(&rows), "one text a leaf");
+    add_by_leaf(rt, &mut rows, one, &signed(rt, key, 5, b"two"));
+    check(rt, share_a_name(&rows), "two texts of a leaf");
+}
+
+#[test]
+fn premises_that_fail(rt: HostRuntime) {
+    let rt = &(rt, Here);
+    let key = key_of(rt, 1);
+    let (own, other) = (
+        key.public(),
+        found(rt, PublicKey::from_bytes(*FORM), "a key"),
+    );
+    let ran = refuted(rt, &key, other);
+    check(rt, !none_forged(rt, &ran), "a forged signature");
+    check(rt, leaves_sign_once(rt, &ran), "one text a leaf in the run");
+    check(rt, none_collide(rt, &ran, own), "no collision");
+    check(rt, !keys_are_true(rt, &ran, &[own, own]), "another key");
+    check(
+        rt,
+        keys_are_true(rt, &ran, &[own, other]),
+        "the key that is listed",
+    );
+    collide(rt, &ran, own);
+    leaf_signs_twice(rt, &key);
+    let_go((ran, key));
+}
