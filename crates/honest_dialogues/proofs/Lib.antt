@@ -1,0 +1,9 @@
+pub mod OwnKeys
+pub mod Stages
+pub mod Calls
+pub mod Moves
+pub mod Accepting
+pub mod Dialogues
+pub mod GoingOn
+pub mod Signing
+pub mod Reading

@@ -1,0 +1,155 @@
+-- Dialogues of the clients of all users with one server: moves of any of them, in any order, the latest first. What a
+-- client sends comes to the server, whether or not the answer comes back, and it may be opened again between any two
+-- moves. The blocks of the tree, and the devices of the clients, are left out.
+use Rattle.std.specs.Prelude.{◌≡◌, ◌+◌, ◌==◌, List, [], ◌∷◌, ◌++◌, Option, Some, None, true, if◌then◌else◌}
+use Rattle.std.specs.List.{All}
+use Rattle.layout.specs.Format.{IsBytes}
+use Rattle.layout.specs.Types.{Bytes, Digest, Handle, Key, User}
+use Rattle.lms_sign.specs.Signature.{valid}
+use Rattle.principals.specs.Table.{Table}
+use Rattle.version_order.specs.Structure.{Structure, structure}
+use Rattle.update_cert.specs.Change.{Action, AddUser}
+use Rattle.update_cert.specs.Cert.{Cert, cert}
+use Rattle.pending_list.specs.declared.signed.Signed.{Signed}
+use Rattle.pending_list.specs.Signed.{signed}
+use Rattle.pending_list.specs.Reply.{digest_of_last}
+use Rattle.wire.specs.declared.kinds.Status.TheVariants as status
+use Rattle.reply_rules.specs.Lists.{Lists}
+use Rattle.reply_check.specs.FirstBroken.{lists_in}
+use Rattle.consistency_server.specs.Answers.{Call}
+use Rattle.consistency_server.specs.History.{answer_of, commit_of, update_of}
+use Rattle.agreement.specs.Runs.{View}
+use Rattle.honest_history.specs.Honest.{Names, Naming, SignsOver, number_in}
+use Rattle.honest_history.specs.Served.{IsTableOf, NamesFirst}
+
+-- the key under which each user's client signs; user 0's is known to all
+abbrev pub Keys : Type 0
+Keys = User → Key
+
+-- How far a user's client is: nothing is declared, and this structure was signed last; or this certificate is declared,
+-- and the lists of the reply that was heard are held; or this structure is signed, and to be committed.
+pub data Stage : Type 0 where
+  Idle : Option (Signed Structure) → Stage
+  Declared : Option (Signed Structure) → Signed Cert → Option Lists → Stage
+  Sealed : Signed Structure → Stage
+
+pub data Act : Type 0 where
+  -- an operation is declared
+  Declares : Act
+  -- UPDATE is sent, and the answer is lost; or the reply is heard
+  Updates : Act
+  Hears : Act
+  -- what was heard is forgotten, as when the client is opened again
+  Forgets : Act
+  -- the reply is accepted, and a structure signed over it
+  Accepts : View → Act
+  -- COMMIT is sent, and the answer is lost; or it is heard to be done
+  Commits : Act
+  Ends : Act
+  -- the client is opened again, and doesn't know that its structure was committed
+  Reopens : Act
+
+-- whose client moves, and how far it is then
+pub record Move : Type 0 where
+  pub user : User
+  pub act : Act
+  pub after : Stage
+
+-- how far a user's client is after these moves
+abbrev pub stage_of : User → List Move → Stage
+stage_of u [] = Idle None
+stage_of u (m ∷ older) = if m.user == u then m.after else stage_of u older
+
+-- ---- calls
+
+abbrev pub update_by : Signed Cert → Call
+update_by c = update_of ((signed cert).spell c)
+
+abbrev pub commit_by : Signed Structure → Call
+commit_by z = commit_of ((signed structure).spell z)
+
+-- the call that a move sends, if it sends one
+abbrev pub call_by : Act → Stage → List Call
+call_by Updates (Declared last c heard) = update_by c ∷ []
+call_by Hears (Declared last c heard) = update_by c ∷ []
+call_by Commits (Sealed z) = commit_by z ∷ []
+call_by Ends (Idle (Some z)) = commit_by z ∷ []
+call_by act stage = []
+
+-- all calls that the server got, the latest first
+abbrev pub calls : List Move → List Call
+calls [] = []
+calls (m ∷ older) = call_by m.act m.after ++ calls older
+
+-- ---- views
+
+abbrev pub view_by : Act → List View
+view_by (Accepts v) = v ∷ []
+view_by act = []
+
+-- all accepted views, the latest first
+abbrev pub views : List Move → List View
+views [] = []
+views (m ∷ older) = view_by m.act ++ views older
+
+-- ---- moves
+
+-- an action that adds a user gives the user's own key
+abbrev pub GivesOwnKey : Keys → Action Digest → Type 0
+GivesOwnKey keys (AddUser u key) = key ≡ keys u
+GivesOwnKey keys other = Unit {0}
+
+-- The certificate is a user's next one after this last structure; one of user 0's gives each user its own key.
+pub record IsNextCert (keys : Keys) (u : User) (last : Option (Signed Structure)) (c : Signed Cert) : Type 0 where
+  pub user : c.value.user ≡ u
+  pub number : c.value.number ≡ number_in last + 1
+  pub last_digest : c.value.last ≡ digest_of_last last
+  pub fits : (signed cert).Fits c
+  pub bytes : IsBytes ((signed cert).spell c)
+  pub is_signed : valid (keys u) (cert.spell c.value) c.signature ≡ true
+  pub true_keys : u ≡ 0 → All (λ change. GivesOwnKey keys change.action) c.value.changes
+
+-- what UPDATE with this certificate is answered after these calls has these lists
+pub record IsReply (keys : Keys) (history : List Call) (c : Signed Cert) (x : Lists) : Type 0 where
+  pub payload : Bytes
+  pub answered : answer_of (keys 0) history (update_by c) ≡ record { status = status.Ok; payload = payload }
+  pub lists : lists_in payload ≡ Some x
+
+-- The structure is signed over these lists as an honest client does, by the table of principals that user 0's handle
+-- names; and the view says so.
+pub record IsSealed (keys : Keys) (naming : Naming) (u : User) (last : Option (Signed Structure)) (x : Lists) (v : View)
+    (z : Signed Structure) : Type 0 where
+  pub lists : v.lists ≡ x
+  pub table : IsTableOf naming (keys 0) x v.table
+  pub view_signed : v.signed ≡ z.value
+  pub over : SignsOver naming v.table last x z.value
+  pub fits : (signed structure).Fits z
+  pub bytes : IsBytes ((signed structure).spell z)
+  pub is_signed : valid (keys u) (structure.spell z.value) z.signature ≡ true
+
+-- what a user's client may do after these calls, and how far it is then
+abbrev pub MayMove : Keys → Naming → List Call → User → Stage → Act → Stage → Type 0
+MayMove keys naming history u (Idle last) Declares (Declared same c None) = (same ≡ last) × IsNextCert keys u last c
+MayMove keys naming history u (Declared last c heard) Updates after = after ≡ Declared last c heard
+MayMove keys naming history u (Declared last c heard) Hears (Declared same d (Some x)) =
+    (same ≡ last) × (d ≡ c) × IsReply keys history c x
+MayMove keys naming history u (Declared last c heard) Forgets after = after ≡ Declared last c None
+MayMove keys naming history u (Declared last c (Some x)) (Accepts v) (Sealed z) = IsSealed keys naming u last x v z
+MayMove keys naming history u (Sealed z) Commits after = after ≡ Sealed z
+MayMove keys naming history u (Sealed z) Ends after =
+    (after ≡ Idle (Some z)) × ((answer_of (keys 0) history (commit_by z)).status ≡ status.Ok)
+MayMove keys naming history u (Idle (Some z)) Reopens after = after ≡ Sealed z
+MayMove keys naming history u stage act after = ⊥
+
+-- each move may come after those before it
+abbrev pub IsDialogue : Keys → Naming → List Move → Type 0
+IsDialogue keys naming [] = Unit {0}
+IsDialogue keys naming (m ∷ older) =
+    MayMove keys naming (calls older) m.user (stage_of m.user older) m.act m.after × IsDialogue keys naming older
+
+-- ---- premises
+
+-- The handle of the beginning names the table of the beginning, and no handle names two.
+pub record IsNaming (keys : Keys) (naming : Naming) : Type 0 where
+  pub first : NamesFirst naming (keys 0)
+  pub once : (h : Handle) (t u : Table) → Names naming h t → Names naming h u → t ≡ u

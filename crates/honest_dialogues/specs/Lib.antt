@@ -1,0 +1,5 @@
+pub mod Dialogue
+pub mod OneLine
+pub mod GoingOn
+pub mod Signing
+pub mod Reading

@@ -1,0 +1,67 @@
+-- What is promised of a dialogue: all calls are answered with success, no client finds a rule broken, and all accepted
+-- views stand in one line.
+-- The rules stand in docs/RULES.md.
+use Rattle.std.specs.Prelude.{◌≡◌, List, [], ◌∷◌, Option}
+use Rattle.std.specs.List.{Contains}
+use Rattle.layout.specs.Types.{Bytes, User}
+use Rattle.principals.specs.Table.{Table}
+use Rattle.version_order.specs.Structure.{Structure}
+use Rattle.update_cert.specs.Cert.{Cert, cert}
+use Rattle.pending_list.specs.declared.signed.Signed.{Signed}
+use Rattle.pending_list.specs.Signed.{signed}
+use Rattle.wire.specs.declared.kinds.Status.TheVariants as status
+use Rattle.reply_rules.specs.Lists.{Lists}
+use Rattle.reply_check.specs.FirstBroken.{Known}
+use Rattle.consistency_server.specs.Answers.{Call}
+use Rattle.consistency_server.specs.History.{answer_of, events}
+use Rattle.agreement.specs.Runs.{View}
+use Rattle.agreement.specs.Lines.{IsBeginning, line}
+use Rattle.honest_history.specs.Placed.{placed}
+use Rattle.honest_history.specs.Honest.{Naming}
+use Rattle.honest_history.specs.Served.{IsUnbroken}
+use Rattle.honest_history.specs.Answered.{IsUpdateStatus}
+use Rattle.honest_dialogues.specs.Dialogue.{Act, Commits, Declared, Ends, Hears, IsDialogue, IsNaming, Keys, Move, Sealed, Stage, Updates, calls, commit_by, stage_of, update_by, views}
+
+-- what a user's client knows that declared this certificate after this last structure
+abbrev pub known_to : Keys → User → Option (Signed Structure) → Signed Cert → Known
+known_to keys u last c = record { user = u; pinned = keys 0; last = last; declared = (signed cert).spell c }
+
+-- UPDATE is answered with a reply in which the client finds no rule broken; or its user isn't listed; or one of the
+-- versions that the operation raises can grow no further.
+pub record IsGoodUpdate (keys : Keys) (naming : Naming) (history : List Call) (u : User)
+    (last : Option (Signed Structure)) (c : Signed Cert) : Type 0 where
+  pub answered : IsUpdateStatus (keys 0) (events (keys 0) history) c.value
+      (answer_of (keys 0) history (update_by c)).status
+  pub unbroken : (payload : Bytes)
+      → answer_of (keys 0) history (update_by c) ≡ record { status = status.Ok; payload = payload }
+      → (x : Lists) × (t : Table) × IsUnbroken naming (known_to keys u last c) payload x t
+
+-- COMMIT is answered with success
+abbrev pub IsGoodCommit : Keys → List Call → Signed Structure → Type 0
+IsGoodCommit keys history z = (answer_of (keys 0) history (commit_by z)).status ≡ status.Ok
+
+-- what the server answers to a client that is so far, if it sends a call
+abbrev pub IsGoodAnswer : Keys → Naming → List Call → User → Stage → Act → Type 0
+IsGoodAnswer keys naming history u (Declared last c heard) Updates = IsGoodUpdate keys naming history u last c
+IsGoodAnswer keys naming history u (Declared last c heard) Hears = IsGoodUpdate keys naming history u last c
+IsGoodAnswer keys naming history u (Sealed z) Commits = IsGoodCommit keys history z
+IsGoodAnswer keys naming history u (Sealed z) Ends = IsGoodCommit keys history z
+IsGoodAnswer keys naming history u stage act = Unit {0}
+
+-- so is each answer
+abbrev pub AreGood : Keys → Naming → List Move → Type 0
+AreGood keys naming [] = Unit {0}
+AreGood keys naming (m ∷ older) =
+    IsGoodAnswer keys naming (calls older) m.user (stage_of m.user older) m.act × AreGood keys naming older
+
+-- All answers are good, and the line of each accepted view is a beginning of what the server placed.
+pub record IsOneLine (keys : Keys) (naming : Naming) (moves : List Move) : Type 0 where
+  pub answers : AreGood keys naming moves
+  pub lines : (x : View) → Contains (views moves) x
+      → IsBeginning (line (views moves) x) (placed (keys 0) (calls moves))
+
+-- so it is over each dialogue
+abbrev pub EachDialogueIsOneLine : Type 0
+EachDialogueIsOneLine =
+    (keys : Keys) (naming : Naming) (moves : List Move) → IsNaming keys naming → IsDialogue keys naming moves
+    → IsOneLine keys naming moves

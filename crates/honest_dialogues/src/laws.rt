@@ -1,0 +1,33 @@
+//! Laws of dialogues, for the proofs of callers: functions that do nothing.
+
+ghost use Rattle.honest_dialogues.specs.GoingOn.{EachOperationGoesThrough};
+ghost use Rattle.honest_dialogues.specs.OneLine.{EachDialogueIsOneLine};
+ghost use Rattle.honest_dialogues.specs.Reading.{EachReadTableIsNamed};
+ghost use Rattle.honest_dialogues.specs.Signing.{EachSignsOver};
+
+/// Over every dialogue of honest clients with one server, in any order of their moves, with lost answers and clients
+/// that are opened again, each UPDATE is answered with a reply in which its client finds no rule broken but those on
+/// blocks, or its user isn't listed or can go no further; each COMMIT is answered with success; and the line of each
+/// accepted view is a beginning of what the server placed. Of digests it is assumed that no handle of user 0's names
+/// two tables; of signatures nothing.
+pub fn clients_stand_in_one_line()
+    ensures { EachDialogueIsOneLine }
+{}
+
+/// After each such dialogue the next operation of a user goes through who has none, is listed, and isn't at the limit
+/// of a version: it is declared, its reply heard, and whatever structure an honest client signs over that committed.
+pub fn operations_go_through()
+    ensures { EachOperationGoesThrough }
+{}
+
+/// The structure that a client signs next over an accepted reply has the records of groups that an honest client gives
+/// it: a new one of each group that the operation raises, and those of its last structure for the others.
+pub fn next_structures_are_honest()
+    ensures { EachSignsOver }
+{}
+
+/// The table of principals that a client reads of a reply, on one that user 0's handle names, is that of the reply's
+/// lists: user 0's pending operation is the only one that counts.
+pub fn tables_read_are_named()
+    ensures { EachReadTableIsNamed }
+{}

@@ -1,0 +1,5 @@
+pub mod Placed
+pub mod Honest
+pub mod Served
+pub mod Answered
+pub mod OneLine
