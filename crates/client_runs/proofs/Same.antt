@@ -1,5 +1,5 @@
 -- No call of an open client changes its user's keys.
-use Rattle.std.proofs.Common.{◌≡◌, List, Option, Some, Ok, Err, Result, refl, ap, subst}
+use Rattle.std.proofs.Common.{◌≡◌, List, Option, Ok, Err, Result, refl, ap, subst}
 use Rattle.std.specs.Prelude.{IsErrOf}
 use Rattle.layout.specs.Types.{Bytes, Digest}
 use Rattle.update_cert.specs.Change.{Change}
@@ -10,7 +10,7 @@ use Rattle.client_releases.specs.declared.error.ClientError.{ClientError}
 use Rattle.client_releases.specs.declared.error.ClientError.TheVariants as error
 use Rattle.client_releases.specs.Releasing.{IsKept, structure_record}
 use Rattle.leaf_ledger.specs.Ledger.{LeafNumber}
-use Rattle.client_verify.specs.State.{Ready, State, on, released, signed_over, signed_text}
+use Rattle.client_verify.specs.State.{State, on, released, signed_over, signed_text}
 use Rattle.client_runs.specs.Slots.{AreSame}
 use Rattle.client_steps.specs.Steps.{Asks, Begins, Call, Closes, Commits, Crashes, FromOpen, Gives, HasBegun, HasCommitted, HasGiven, HasHeard, HasLooked, HasSigned, HasTaken, Hears, Looks, Open, Opens, Sees, Signs, Takes}
 use Rattle.client_runs.proofs.Lowering.{if_ready, with_ready}

@@ -128,6 +128,7 @@ same_key o old new t (answer.Signed r) h = unchanged.steps old new h.call h.step
 same_key o old new t answer.Committed h = unchanged.steps old new h.call h.step
 same_key o old new t (answer.Sees r) h = unchanged.steps old new h.call h.step
 same_key o old new t answer.Crashed h = unchanged.steps old new h.call h.step
+same_key o old new t (answer.Served status) h = unchanged.steps old new h.call h.step
 
 -- ---- crashes
 

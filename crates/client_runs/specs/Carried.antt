@@ -1,5 +1,5 @@
 -- Steps that were carried out: they are a run.
-use Rattle.std.specs.Prelude.{◌≡◌, List, [], ◌∷◌, Option, Some, replicate, reverse}
+use Rattle.std.specs.Prelude.{◌≡◌, List, [], ◌∷◌, Some, replicate, reverse}
 use Rattle.layout.specs.Types.{User}
 use Rattle.client_runs.specs.declared.world.Act.{Act}
 use Rattle.client_runs.specs.declared.world.Answer.{Answer}

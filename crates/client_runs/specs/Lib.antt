@@ -4,4 +4,5 @@ pub mod UsedOnce
 pub mod Told
 pub mod NotTaken
 pub mod Carried
+pub mod Clients
 pub mod Slots

@@ -1,8 +1,7 @@
 -- Users' clients in memory: for private contracts. Nobody has to believe this file.
-use Rattle.std.specs.Prelude.{◌≡◌, ℕ, List, length, slice_index_or}
-use Rattle.layout.specs.Types.{User}
+use Rattle.std.specs.Prelude.{◌≡◌, ℕ, List, length, map, slice_index_or}
+use Rattle.layout.specs.Types.{Key}
 use Rattle.client_verify.specs.State.{State}
-use Rattle.client_runs.specs.declared.carrying.Clients.{Clients}
 use Rattle.client_runs.specs.declared.slot.Slot.{Slot}
 use Rattle.client_runs.specs.declared.slot.Slot.TheVariants as slot
 use Rattle.client_runs.specs.declared.world.Act.{Act}
@@ -38,15 +37,15 @@ StaysOpen other = Unit {0}
 abbrev pub Tells : {A : Type 0} → State → Act A → Answer A → State → Type 0
 Tells old todo answer new = (o : Owner) → IsSound (Open new) → ComesOf o (Open old) todo answer (Open new)
 
--- each user's client
-abbrev pub client_at : {A : Type 0} → List (Slot A) → User → Client
-client_at slots u = client_in (slice_index_or slots u slot.Unmade)
+-- the clients of a table of slots
+abbrev pub clients_in : {A : Type 0} → List (Slot A) → List Client
+clients_in slots = map client_in slots
 
 abbrev pub AreOwn : {A : Type 0} → List (Slot A) → Type 0
 AreOwn slots = (u : ℕ) → IsOf (owner script_keys u) (slice_index_or slots u slot.Unmade)
 
 -- the clients of all users, each of its user, which know user 0's public key
-pub record AreReady {A : Type 0} (clients : Clients A) : Type 0 where
-  pub pinned : clients.pinned ≡ public_key script_keys 0
-  pub size : length clients.slots.items ≡ 64
-  pub own : AreOwn clients.slots.items
+pub record AreReady {A : Type 0} (pinned : Key) (slots : List (Slot A)) : Type 0 where
+  pub pinned_is : pinned ≡ public_key script_keys 0
+  pub size : length slots ≡ 64
+  pub own : AreOwn slots

@@ -1,5 +1,5 @@
 -- What a step and its answer say of a user's client: which call was made, and what is told of the client after it.
-use Rattle.std.specs.Prelude.{◌≡◌, List, [], Option, Some, None, Result, Ok, Err, IsSomeAnd, map}
+use Rattle.std.specs.Prelude.{◌≡◌, List, [], Option, Some, None, Ok, Err, IsSomeAnd, map}
 use Rattle.std.specs.Option.{option_map}
 use Rattle.std.specs.Vec.{vec_items}
 use Rattle.std.specs.declared.vec.Vec.{Vec}

@@ -1,28 +1,42 @@
 //! The clients of all users, step by step.
 
 ghost use Rattle.std.specs.Prelude.{◌≡◌, ◌≢◌, ℕ, IfOk, OnOk, length, slice_index_or};
+ghost use Rattle.std.specs.Option.{option_copied};
 ghost use Rattle.client_runs.specs.Runs.{owner, public_key};
 ghost use Rattle.client_runs.specs.Carried.{AreCarriedOut, ComesOf, script_keys};
-ghost use Rattle.client_runs.specs.Slots.{AreReady, client_at};
+ghost use Rattle.client_runs.specs.Clients.{certificate_of, client_at, structure_of};
 ghost use Rattle.client_steps.specs.Steps.{first};
 
 use crate::laws::each_is_used_once;
-use crate::slot::{Orders, Slot, key_of, step};
-use crate::world::{Answer, World, WorldStep};
+use crate::slot::{Orders, Slot, certificate, key_of, step, structure};
+use crate::world::{Act, Answer, World, WorldStep};
 use layout::{Memory, User, put_in};
 use lms_sign::PublicKey;
 use std::alloc::Allocator;
 use std::cell::Cell;
+use std::marker::Model;
 use std::mem;
 use std::rc::Rc;
 
-/// The clients of all users.
+/// The clients of all users, each with its key of the bytes of the user's number, on two devices in memory.
 #[derive(Drop)]
-pub(crate) struct Clients<A: Allocator + Copy> {
+pub struct Clients<A: Allocator + Copy> {
     alloc: A,
     pinned: PublicKey,
     orders: Orders<A>,
     slots: Vec<Slot<A>, A>,
+}
+
+impl<A: Allocator + Copy> Model for Clients<A> {
+    ghost use Rattle.std.specs.Prelude.{List};
+    ghost use Rattle.client_steps.specs.Steps.{Client};
+    ghost use Rattle.client_runs.specs.Slots.{AreReady, clients_in};
+
+    ghost Value = { List Client };
+
+    ghost view = { λ c. clients_in c.slots.items };
+
+    ghost invariant = { λ c. AreReady c.pinned c.slots.items };
 }
 
 /// A table of clients that were never named.
@@ -38,10 +52,9 @@ fn unmade<A: Allocator + Copy>(alloc: A) -> Result<Vec<Slot<A>, A>, Memory>
 }
 
 impl<A: Allocator + Copy> Clients<A> {
-    /// Before the first step.
-    fn new(alloc: A) -> Result<Clients<A>, Memory>
-        ensures ready { IfOk result (λ clients. AreReady clients) }
-        ensures first { IfOk result (λ clients. (u : ℕ) → client_at clients.slots.items u ≡ first) }
+    /// Before the first step: nothing stands on any device.
+    pub fn new(alloc: A) -> Result<Clients<A>, Memory>
+        ensures { IfOk result (λ clients. (u : ℕ) → client_at clients u ≡ first) }
     {
         let pinned = key_of(alloc, User::superuser())?.public();
         let orders = Orders {
@@ -56,27 +69,51 @@ impl<A: Allocator + Copy> Clients<A> {
         })
     }
 
-    /// Carries out a step.
-    fn carry_out(&mut self, todo: &WorldStep<A>) -> Result<Answer<A>, Memory>
-        requires { AreReady self.old }
-        ensures step { IfOk result (λ answer. ComesOf (owner script_keys todo.now.user)
-            (client_at self.old.slots.items todo.now.user)
-            todo.now.act answer (client_at self.new.slots.items todo.now.user)) }
-        ensures others { OnOk result ((u : ℕ) → u ≢ todo.now.user
-            → client_at self.new.slots.items u ≡ client_at self.old.slots.items u) }
-        ensures ready { OnOk result (AreReady self.new) }
+    /// User 0's public key, which each of them knows.
+    pub fn pinned(&self) -> PublicKey
+        ensures { result ≡ public_key script_keys 0 }
+    {
+        self.pinned
+    }
+
+    /// The signed certificate that a user's client has declared, if it sends one.
+    pub fn certificate(&self, user: User) -> Option<&[u8]>
+        ensures { option_copied result ≡ certificate_of (client_at self.now user) }
+    {
+        certificate(&self.slots[user.get() as usize])
+    }
+
+    /// The structure that a user's client has signed, if it sends one.
+    pub fn structure(&self, user: User) -> Option<&[u8]>
+        ensures { option_copied result ≡ structure_of (client_at self.now user) }
+    {
+        structure(&self.slots[user.get() as usize])
+    }
+
+    /// Has a user's client do something. Of the calls of its ledger's device in this step one fails after so many, if
+    /// it is to; and of those of its journal's. After want of memory that client is lost.
+    pub fn carry_out(
+        &mut self,
+        user: User,
+        act: &Act<A>,
+        ledger_fails: Option<u64>,
+        journal_fails: Option<u64>,
+    ) -> Result<Answer<A>, Memory>
+        ensures step { IfOk result (λ answer. ComesOf (owner script_keys user) (client_at self.old user) act.now answer
+            (client_at self.new user)) }
+        // The others are as before.
+        ensures others { OnOk result ((u : ℕ) → u ≢ user → client_at self.new u ≡ client_at self.old u) }
     {
         // A device that gets no order to fail is to fail never.
         self.orders
             .ledger
-            .set(Some(todo.ledger_fails.unwrap_or(u64::MAX)));
+            .set(Some(ledger_fails.unwrap_or(u64::MAX)));
         self.orders
             .journal
-            .set(Some(todo.journal_fails.unwrap_or(u64::MAX)));
-        let user = todo.user;
+            .set(Some(journal_fails.unwrap_or(u64::MAX)));
         let place = user.get() as usize;
         let slot = mem::replace(&mut self.slots[place], Slot::Unmade);
-        let (slot, answer) = step(self.alloc, user, self.pinned, &self.orders, slot, &todo.act)?;
+        let (slot, answer) = step(self.alloc, user, self.pinned, &self.orders, slot, act)?;
         put_in(&mut self.slots[place], slot);
         Ok(answer)
     }
@@ -93,7 +130,12 @@ pub fn run<A: Allocator + Copy>(alloc: A, steps: &[WorldStep<A>]) -> Result<Worl
     let mut clients = Clients::new(alloc)?;
     let mut answers = Vec::new(alloc);
     for todo in steps {
-        let answer = clients.carry_out(todo)?;
+        let answer = clients.carry_out(
+            todo.user,
+            &todo.act,
+            todo.ledger_fails,
+            todo.journal_fails,
+        )?;
         answers.push(answer)?;
     }
     Ok(World { answers })

@@ -1,5 +1,5 @@
 //! Runs of all clients of all users, with failed device calls, crashes and restarts: what a client releases it releases
-//! once. A law for callers, and `run`, which carries out the steps of such a run.
+//! once. A law for callers; `Clients`, which take the steps of such a run; and `run`, which carries them out.
 #![tactic(auto)]
 
 mod answering;
@@ -10,6 +10,6 @@ mod signing;
 mod slot;
 mod world;
 
-pub use carrying::run;
+pub use carrying::{Clients, run};
 pub use laws::each_is_used_once;
 pub use world::{Accepted, Act, Answer, World, WorldStep};

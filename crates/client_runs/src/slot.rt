@@ -1,10 +1,12 @@
 //! A user's client in memory, open or closed, and a step of it.
 
 ghost use Rattle.std.specs.Prelude.{◌≡◌, false, true, IfOk};
+ghost use Rattle.std.specs.Option.{option_copied};
 ghost use Rattle.leaf_ledger.specs.Device.{started};
 ghost use Rattle.client_steps.specs.Steps.{Open, Owner, first};
 ghost use Rattle.client_runs.specs.Runs.{owner, public_key};
 ghost use Rattle.client_runs.specs.Carried.{ComesOf, script_keys};
+ghost use Rattle.client_runs.specs.Clients.{certificate_in, certificate_of, structure_in, structure_of};
 ghost use Rattle.client_runs.specs.Slots.{IsOf, client_in};
 ghost use Rattle.client_runs.specs.Told.{resent as resent_in};
 ghost use Rattle.client_runs.specs.NotTaken.{MayLeaveBoth};
@@ -74,6 +76,46 @@ fn resent<A: Allocator + Copy>(alloc: A, client: &MemoryClient<A>) -> Result<Vec
         Phase::Declared => Ok(Vec::from_slice(alloc, client.declared())?),
         Phase::Signed => Ok(Vec::from_slice(alloc, client.signed())?),
         _ => Ok(Vec::new(alloc)),
+    }
+}
+
+/// The certificate that an open client has declared, while it is to be sent.
+fn declared_text<A: Allocator + Copy>(client: &MemoryClient<A>) -> Option<&[u8]>
+    ensures { option_copied result ≡ certificate_in client.now.phase client.now.text }
+{
+    match client.phase() {
+        Phase::Declared => Some(client.declared()),
+        _ => None,
+    }
+}
+
+/// The structure that an open client has signed, while it is to be sent.
+fn signed_text<A: Allocator + Copy>(client: &MemoryClient<A>) -> Option<&[u8]>
+    ensures { option_copied result ≡ structure_in client.now.phase client.now.text }
+{
+    match client.phase() {
+        Phase::Signed => Some(client.signed()),
+        _ => None,
+    }
+}
+
+/// The certificate that a client sends, if it has declared one.
+pub(crate) fn certificate<A: Allocator + Copy>(slot: &Slot<A>) -> Option<&[u8]>
+    ensures { option_copied result ≡ certificate_of (client_in slot.now) }
+{
+    match slot {
+        Slot::Open(client) => declared_text(client),
+        _ => None,
+    }
+}
+
+/// The structure that a client sends, if it has signed one.
+pub(crate) fn structure<A: Allocator + Copy>(slot: &Slot<A>) -> Option<&[u8]>
+    ensures { option_copied result ≡ structure_of (client_in slot.now) }
+{
+    match slot {
+        Slot::Open(client) => signed_text(client),
+        _ => None,
     }
 }
 

@@ -90,6 +90,9 @@ pub enum Answer<A: Allocator> {
     Sees(Result<Look<A>, ClientError>),
     /// The crash came, and the client is closed.
     Crashed,
+    /// The server answered so to what the client sent, and no reply of it was handed in. A step that asks no server is
+    /// never answered so.
+    Served(Status),
 }
 
 /// What came of the steps: one answer for each, in their order.

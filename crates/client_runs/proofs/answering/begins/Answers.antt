@@ -1,12 +1,5 @@
-use Rattle.std.proofs.Common.{List, map, refl, subst}
-use Rattle.std.specs.Vec.{vec_items}
-use Rattle.layout.specs.Types.{Bytes, Digest}
-use Rattle.update_cert.specs.Change.{Change}
+use Rattle.std.proofs.Common.{refl}
 use Rattle.client_runs.specs.declared.world.Act.TheVariants as act
-use Rattle.client_steps.specs.Steps.{HasBegun}
-use Rattle.client_steps.specs.Anywhere.{on_ok}
-use Rattle.client_runs.specs.Told.{texts_in}
-use Rattle.client_steps.specs.NotCalled.{CantBegin}
 use Rattle.client_runs.proofs.Taking as taking
 use Rattle.client_runs.proofs.answering.begins.Goals as goal
 

@@ -3,8 +3,7 @@ use Rattle.client_runs.proofs.carrying.run.Goals as goal
 
 pub loop-todo-init : goal.loop-todo-init
 loop-todo-init g c = record {
-  ready = c.in_ok-clients.ensures.ready;
-  stands = none_yet c.new-answers.result.items c.in_ok-clients.clients.slots.items c.new-answers.ensures.items c.in_ok-clients.ensures.first;
+  stands = none_yet c.new-answers.result.items c.in_ok-clients.clients c.new-answers.ensures.items c.in_ok-clients.ensures;
 }
 
 pub loop-todo-preserved : goal.loop-todo-preserved
@@ -12,9 +11,8 @@ loop-todo-preserved g c =
     let is = c.loop-todo.invariant in
     let e = c.in_ok-answer.ensures in
     record {
-      ready = e.ready;
       stands = step_more c.args.steps.now c.loop-todo.todo-index c.todo-item.result c.loop-todo-test.true c.todo-item.is
-          c.loop-todo.answers.items c.push.new.self.items c.in_ok-answer.answer c.loop-todo.clients.slots.items c.carry_out.new.self.slots.items
+          c.loop-todo.answers.items c.push.new.self.items c.in_ok-answer.answer c.loop-todo.clients c.carry_out.new.self
           c.in_ok-push.ensures.items e.others is.stands e.step;
     }
 
@@ -22,5 +20,5 @@ pub returns : goal.returns
 returns g c =
     let once = c.each_is_used_once.ensures in
     carried_out once.leaves once.certificates once.structures
-    c.args.steps.now c.loop-todo.answers.items c.loop-todo.clients.slots.items
-    (all_steps c.args.steps.now c.loop-todo.todo-index c.loop-todo.answers.items c.loop-todo.clients.slots.items c.loop-todo-test.false c.loop-todo.invariant.stands)
+    c.args.steps.now c.loop-todo.answers.items c.loop-todo.clients
+    (all_steps c.args.steps.now c.loop-todo.todo-index c.loop-todo.answers.items c.loop-todo.clients c.loop-todo-test.false c.loop-todo.invariant.stands)

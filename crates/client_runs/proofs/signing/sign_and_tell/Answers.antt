@@ -1,4 +1,4 @@
-use Rattle.std.proofs.Common.{Ok, Err, Vec, ap, subst, sym, ℕ}
+use Rattle.std.proofs.Common.{Ok, Vec, ap, subst, sym, ℕ}
 use Rattle.layout.specs.Types.{Bytes}
 use Rattle.client_steps.specs.Steps.{HasSigned}
 use Rattle.client_runs.proofs.signing.sign_and_tell.Goals as goal
