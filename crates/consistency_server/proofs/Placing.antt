@@ -1,49 +1,27 @@
--- Operations that are pending: which have a text, their entries, and the next one.
+-- Operations that are pending: their entries, and the next one.
 use Rattle.std.proofs.Common.{◌≡◌, ℕ, suc, ◌+◌, ◌<◌, Bool, true, false, cond, ◌&&◌, List, [], ◌∷◌, ◌++◌, Option, Some, None, Result, Ok, refl, sym, ap, subst, ◌∙◌, arith}
 use Rattle.std.specs.Prelude.{◌==◌, not, filter_map, nat_eq, is_some, IsNone, IfSome}
 use Rattle.std.specs.List.{All, cons_option}
 use Rattle.std.specs.Option.{option_map}
 use Rattle.std.specs.Str.{bytes_eq}
-use Rattle.std.proofs.lemmas.Bool.{eq-eqb, eqb-true, false≢true}
+use Rattle.std.proofs.lemmas.Bool.{eq-eqb, eqb-true}
 use Rattle.std.proofs.lemmas.List.{append-nil}
 use Rattle.layout.specs.declared.error.ReadError.{ReadError}
 use Rattle.lms_sign.specs.Signature.{valid}
 use Rattle.version_order.specs.declared.vector.Component.{Component}
 use Rattle.version_order.specs.declared.plan.Entry.{Entry}
 use Rattle.version_order.specs.Vector.{version_of, raised, raised_all, can_raise_all}
-use Rattle.version_order.specs.Plan.{Plan, plan, entry_of}
-use Rattle.version_order.specs.PlanLaws.{lawful_plan}
+use Rattle.version_order.specs.Plan.{Plan, entry_of}
 use Rattle.update_cert.specs.Cert.{Cert, cert, digest_of}
-use Rattle.update_cert.specs.CertLaws.{lawful_cert}
 use Rattle.pending_list.specs.declared.signed.Signed.{Signed}
-use Rattle.pending_list.specs.Signed.{signature, signed}
-use Rattle.pending_list.specs.SignedLaws.{lawful_signed}
-use Rattle.pending_list.specs.Reply.{PendingItem, pending_item, digest_of_last, reply}
+use Rattle.pending_list.specs.Reply.{PendingItem, digest_of_last, reply}
 use Rattle.principals.specs.Table.{Table, key_of}
 use Rattle.wire.specs.declared.kinds.Status.TheVariants as status
 use Rattle.consistency_server.specs.Event.{Placed, users_below}
 use Rattle.consistency_server.specs.State.{State, Placement, after_operation, next_groups, next_vector, pending_of, entries_of, next_plan, next_item, next_reply, next_placement}
-use Rattle.consistency_server.specs.Answers.{Refused, Happens, structure_of, cert_of, same_cert, is_next, at_limit, placing, verified_update, read_update, same_plan}
+use Rattle.consistency_server.specs.Answers.{Refused, Happens, structure_of, cert_of, is_next, at_limit, placing, verified_update, read_update}
 use Rattle.consistency_server.specs.Judged.{IsNext, table_or}
 use Rattle.consistency_server.proofs.Rows.{find_holds, no_users, more, keys_below}
-use Rattle.consistency_server.proofs.Texts.{other_text}
-
-pub not_same : (b : Bool) → true ≡ not b → b ≡ false
-not_same true e = absurd cc
-not_same false e = refl
-
--- ---- texts
-
--- a certificate of another user has another text
-pub other_cert : (c : Signed Cert) (w : Placement) → cert.Fits c.value → signature.Fits c.signature → pending_item.Fits w.item → nat_eq w.item.cert.user c.value.user ≡ false → same_cert c w ≡ false
-other_cert c w fits sign item other =
-    other_text (signed cert) (lawful_signed cert lawful_cert) c (cert_of w.item) (fits, sign) (item.0.0.1, item.0.1)
-    (λ is. false≢true (sym other ∙ eq-eqb w.item.cert.user c.value.user (ap (λ (d : Signed Cert). d.value.user) (sym is))))
-
--- and a plan of another user
-pub other_plan : (p : Plan) (w : Placement) → plan.Fits p → plan.Fits w.item.plan → nat_eq w.item.plan.user p.user ≡ false → same_plan p w ≡ false
-other_plan p w fits item other =
-    other_text plan lawful_plan p w.item.plan fits item (λ is. false≢true (sym other ∙ eq-eqb w.item.plan.user p.user (ap (λ (q : Plan). q.user) (sym is))))
 
 -- ---- entries
 

@@ -2,10 +2,12 @@
 #![tactic(auto)]
 
 mod call;
+mod item;
 mod log;
 mod payload;
 mod placement;
 mod refusal;
+mod reply_text;
 mod server;
 mod signed_text;
 mod signer;

@@ -4,25 +4,24 @@ ghost use Rattle.std.specs.Prelude.{◌≡◌, ◌==◌, ◌&&◌, ◌<◌, ◌+
 ghost use Rattle.std.specs.Prelude.{vec_capacity};
 ghost use Rattle.std.specs.List.{list_any};
 ghost use Rattle.std.specs.Option.{option_copied};
+ghost use Rattle.std.specs.Str.{bytes_eq};
 ghost use Rattle.version_order.specs.Plan.{plan as plan_format, entry_of};
 ghost use Rattle.update_cert.specs.Cert.{cert};
 ghost use Rattle.pending_list.specs.Signed.{signed};
 ghost use Rattle.consistency_server.specs.State.{pending_of, entries_of};
-ghost use Rattle.consistency_server.specs.Answers.{same_cert, same_plan};
+ghost use Rattle.consistency_server.specs.Answers.{cert_of, same_plan};
 
+use crate::item::SpelledItem;
 use crate::payload::Payload;
-use crate::signed_text::spells;
 use layout::{Memory, Text, User, Version};
-use pending_list::{HasItem, PendingItem, Signed};
 use std::alloc::Allocator;
 use std::marker::Model;
-use update_cert::Cert;
 use version_order::{Entries, Entry, Plan};
 
 /// An operation that is pending, and the text of its reply.
 #[derive(Drop)]
 pub(crate) struct Placement<A: Allocator> {
-    item: PendingItem<A>,
+    item: SpelledItem<A>,
     /// What later plans have of it.
     entry: Entry,
     reply: Payload<A>,
@@ -40,20 +39,18 @@ impl<A: Allocator> Model for Placement<A> {
     ghost invariant = { λ w. w.entry ≡ entry_of w.item.plan };
 }
 
-impl<A: Allocator> HasItem<A> for Placement<A> {
-    ghost item = { λ w. w.item };
-
-    fn item(&self) -> &PendingItem<A> {
-        &self.item
-    }
-}
-
 impl<A: Allocator> Placement<A> {
-    pub(crate) fn new(item: PendingItem<A>, entry: Entry, reply: Payload<A>) -> Placement<A>
+    pub(crate) fn new(item: SpelledItem<A>, entry: Entry, reply: Payload<A>) -> Placement<A>
         requires { entry ≡ entry_of item.plan }
         ensures { result ≡ record { item = item; reply = reply } }
     {
         Placement { item, entry, reply }
+    }
+
+    pub(crate) fn item(&self) -> &SpelledItem<A>
+        ensures { result.now ≡ self.now.item }
+    {
+        &self.item
     }
 
     /// Whose operation it is.
@@ -83,36 +80,6 @@ impl<A: Allocator> Placement<A> {
     }
 }
 
-impl<A: Allocator + Copy> Placement<A> {
-    /// Whether its certificate is this one, which the text spells.
-    pub(crate) fn has_cert(
-        &self,
-        alloc: A,
-        found: &Signed<Cert<A>>,
-        text: &[u8],
-    ) -> Result<bool, Memory>
-        requires { text.now ≡ (signed cert).spell found.now }
-        ensures { IfOk result (λ same. same ≡ same_cert found.now self.now) }
-    {
-        let _signature = found.signature.as_bytes();
-        if self.item.cert().user() != found.value.user() {
-            return Ok(false);
-        }
-        spells(alloc, text, self.item.signed_cert())
-    }
-
-    /// Whether its plan is this one, which the text spells.
-    pub(crate) fn has_plan(&self, alloc: A, plan: &Plan<A>, text: &[u8]) -> Result<bool, Memory>
-        requires { text.now ≡ plan_format.spell plan.now }
-        ensures { IfOk result (λ same. same ≡ same_plan plan.now self.now) }
-    {
-        if self.item.plan().user() != plan.user() {
-            return Ok(false);
-        }
-        spells(alloc, text, self.item.plan())
-    }
-}
-
 // ---- the list of those that are pending
 
 /// The operation of a user, if one is pending.
@@ -125,22 +92,26 @@ pub(crate) fn pending_of<A: Allocator>(
     pending.iter().find(|placement| placement.user() == user)
 }
 
-/// The operation that is pending with this certificate, which the text spells, if there is one.
-pub(crate) fn with_cert<'a, A: Allocator + Copy>(
-    alloc: A,
+/// The operation that is pending with the signed certificate that the text spells, if there is one.
+pub(crate) fn with_cert<'a, A: Allocator>(
     pending: &'a [Placement<A>],
-    found: &Signed<Cert<A>>,
     text: &[u8],
-) -> Result<Option<&'a Placement<A>>, Memory>
-    requires { text.now ≡ (signed cert).spell found.now }
-    ensures { IfOk result (λ placement. option_copied placement ≡ find (same_cert found.now) pending.now) }
+) -> Option<&'a Placement<A>>
+    ensures { option_copied result
+        ≡ find (λ w. bytes_eq text.now ((signed cert).spell (cert_of w.item))) pending.now }
 {
-    for placement in pending {
-        if placement.has_cert(alloc, found, text)? {
-            return Ok(Some(placement));
-        }
-    }
-    Ok(None)
+    pending
+        .iter()
+        .find(|placement| placement.item().has_cert(text))
+}
+
+/// Whether an operation is pending with the plan that the text spells.
+fn have_spelled_plan<A: Allocator>(pending: &[Placement<A>], text: &[u8]) -> bool
+    ensures { result ≡ list_any (λ w. bytes_eq text.now (plan_format.spell w.item.plan)) pending.now }
+{
+    pending
+        .iter()
+        .any(|placement| placement.item().has_plan(text))
 }
 
 /// Whether an operation of this plan is pending.
@@ -152,12 +123,7 @@ pub(crate) fn have_plan<A: Allocator + Copy>(
     ensures { IfOk result (λ have. have ≡ list_any (same_plan plan.now) pending.now) }
 {
     let text = plan.text(alloc)?;
-    for placement in pending {
-        if placement.has_plan(alloc, plan, &text)? {
-            return Ok(true);
-        }
-    }
-    Ok(false)
+    Ok(have_spelled_plan(pending, &text))
 }
 
 /// An entry for each of these, ascending by user.

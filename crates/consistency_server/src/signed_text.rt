@@ -1,7 +1,6 @@
 //! Signed texts: what they spell, and whether the signature is valid.
 
 ghost use Rattle.std.specs.Prelude.{◌≡◌, IfOk, IfSome};
-ghost use Rattle.std.specs.Str.{bytes_eq};
 ghost use Rattle.layout.specs.Format.{whole};
 ghost use Rattle.lms_sign.specs.Signature.{valid};
 ghost use Rattle.version_order.specs.Structure.{structure};
@@ -92,16 +91,4 @@ pub(crate) fn is_signed<A: Allocator + Copy, T: Text<A>>(
         return is_valid;
     }
     verify(key, unsigned, signature)
-}
-
-/// Whether the text spells this value.
-pub(crate) fn spells<A: Allocator + Copy, T: Text<A>>(
-    alloc: A,
-    text: &[u8],
-    value: &T,
-) -> Result<bool, Memory>
-    ensures { IfOk result (λ same. same ≡ bytes_eq text.now (T.format.spell value.now)) }
-{
-    let spelling = value.text(alloc)?;
-    Ok(text == spelling.as_slice())
 }

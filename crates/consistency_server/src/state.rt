@@ -21,16 +21,18 @@ ghost use Rattle.consistency_server.specs.History.{call_of};
 ghost use Rattle.consistency_server.specs.Judged.{JudgedAs, Admits, changed, reply_beside, table_or};
 
 use crate::call::{Call, CallKind};
+use crate::item::SpelledItem;
 use crate::log::Log;
 use crate::payload::Payload;
 use crate::placement::{Placement, entries_of, have_plan, pending_of, place, take_out, with_cert};
 use crate::refusal::Refusal;
-use crate::signed_text::{is_signed, read_cert, read_structure, spells, unsigned};
-use crate::structures::{put, structure_of};
+use crate::reply_text::reply_text;
+use crate::signed_text::{is_signed, read_cert, read_structure, unsigned};
+use crate::structures::{SpelledStructure, digest_of_last, put, structure_of};
 use crate::verification::Verification;
 use layout::{Digest, Memory, Principal, User, digest, let_go, put_in};
 use lms_sign::PublicKey;
-use pending_list::{PendingItem, Reply, Signed, digest_of_last, groups_at};
+use pending_list::{Signed, groups_at};
 use principals::Table;
 use std::alloc::Allocator;
 use std::marker::Model;
@@ -43,7 +45,7 @@ use wire::Status;
 pub(crate) struct State<A: Allocator> {
     table: Table<A>,
     vector: Vector<A>,
-    structures: Vec<Signed<Structure<A>>, A>,
+    structures: Vec<SpelledStructure<A>, A>,
     pending: Vec<Placement<A>, A>,
 }
 
@@ -70,7 +72,7 @@ pub(crate) enum NewEvent<A: Allocator> {
     /// An operation is placed: the table after it, if it may change the table; the vector after it; and the operation.
     Places(Option<Table<A>>, Vector<A>, Placement<A>),
     /// Its structure is committed.
-    Commits(Signed<Structure<A>>),
+    Commits(SpelledStructure<A>),
 }
 
 /// What an operation brings that is placed next: the table after it, if it may change the table; its vector; what later
@@ -106,23 +108,23 @@ fn keep<A: Allocator>(kept: &mut Table<A>, table: Option<Table<A>>)
 
 /// Puts a structure among the latest, where there is room, and takes its operation out.
 fn commit<A: Allocator>(
-    structures: &mut Vec<Signed<Structure<A>>, A>,
+    structures: &mut Vec<SpelledStructure<A>, A>,
     pending: &mut Vec<Placement<A>, A>,
-    structure: Signed<Structure<A>>,
+    structure: SpelledStructure<A>,
 )
     requires ascending { Ascends nat_cmp user_of None structures.old.items }
     requires room { vec_len structures.old < vec_capacity structures.old }
     ensures structures { structures.new.items ≡ with_row nat_cmp user_of structures.old.items structure }
     ensures pending { pending.new.items ≡ filter (λ w. not (commits structure w)) pending.old.items }
 {
-    let plan = structure.value.plan();
+    let plan = structure.plan();
     take_out(pending, plan.user(), plan.number());
     put(structures, structure).unwrap();
 }
 
 /// Makes room for an event, and puts its call into the log.
 fn log_with_room<A: Allocator, G: Log<Call<A>>>(
-    structures: &mut Vec<Signed<Structure<A>>, A>,
+    structures: &mut Vec<SpelledStructure<A>, A>,
     pending: &mut Vec<Placement<A>, A>,
     log: &mut G,
     call: Call<A>,
@@ -245,7 +247,7 @@ impl<A: Allocator + Copy> State<A> {
         requires { text.now ≡ (signed cert).spell found }
         ensures { IfOk result (λ judged. JudgedAs self.now judged (placing self.now found)) }
     {
-        match with_cert(alloc, &self.pending, &found, text)? {
+        match with_cert(&self.pending, text) {
             Some(placement) => Ok(Verdict::Repeated(placement.reply().copy(alloc)?)),
             None => self.judge_new(alloc, text, found),
         }
@@ -256,31 +258,35 @@ impl<A: Allocator + Copy> State<A> {
         requires { text.now ≡ (signed cert).spell found }
         ensures { IfOk result (λ judged. JudgedAs self.now judged (placing_beside None self.now found)) }
     {
-        if !self.is_next(alloc, &found.value)? {
+        if !self.is_next(&found.value) {
+            let_go(found);
             return Ok(Verdict::Refused(Status::WrongNumber));
         }
         let certificate = digest(unsigned::<A, Cert<A>>(&found, text));
         match self.plan(alloc, &found.value, certificate) {
-            Ok(plan) => self.judge_planned(alloc, found, plan),
-            Err(error) => match error {
-                PlanError::Limit => Ok(Verdict::Refused(Status::TooLarge)),
-                PlanError::Memory => Err(Memory),
-            },
+            Ok(plan) => self.judge_planned(alloc, text, found, plan),
+            Err(error) => {
+                let_go(found);
+                match error {
+                    PlanError::Limit => Ok(Verdict::Refused(Status::TooLarge)),
+                    PlanError::Memory => Err(Memory),
+                }
+            }
         }
     }
 
     /// Whether it is the user's next operation, where no other of the user's is pending, and names the user's last
     /// structure.
-    fn is_next(&self, alloc: A, cert: &Cert<A>) -> Result<bool, Memory>
-        ensures { IfOk result (λ next. next ≡ is_next self.now cert.now) }
+    fn is_next(&self, cert: &Cert<A>) -> bool
+        ensures { result ≡ is_next self.now cert.now }
     {
         let user = cert.user();
         let placed = self.vector.version_of(Principal::from(user));
         if cert.number().get() - 1 != placed || pending_of(&self.pending, user).is_some() {
-            return Ok(false);
+            return false;
         }
-        let last = digest_of_last(alloc, structure_of(&self.structures, user))?;
-        Ok(cert.last().as_bytes() == last.as_bytes())
+        let last = digest_of_last(structure_of(&self.structures, user));
+        cert.last().as_bytes() == last.as_bytes()
     }
 
     /// The plan of the next operation, whose certificate has this digest.
@@ -308,16 +314,18 @@ impl<A: Allocator + Copy> State<A> {
     fn judge_planned(
         &self,
         alloc: A,
+        text: &[u8],
         found: Signed<Cert<A>>,
         plan: Plan<A>,
     ) -> Result<Verdict<A>, Memory>
+        requires text { text.now ≡ (signed cert).spell found }
         requires free { pending_of found.value.user self.now.pending ≡ None }
         requires plan { plan ≡ next_plan self.now found.value }
         ensures { IfOk result (λ judged. JudgedAs self.now judged
             (Happens (Placed found) (reply.spell (next_reply self.now found)))) }
     {
         let _user = found.value.user();
-        let item = PendingItem::new(found, plan);
+        let item = SpelledItem::new(alloc, found, text, plan)?;
         match self.brought(alloc, &item) {
             Ok(brought) => {
                 let Brought {
@@ -338,7 +346,7 @@ impl<A: Allocator + Copy> State<A> {
     }
 
     /// What an operation brings that is placed next.
-    fn brought(&self, alloc: A, item: &PendingItem<A>) -> Result<Brought<A>, Memory>
+    fn brought(&self, alloc: A, item: &SpelledItem<A>) -> Result<Brought<A>, Memory>
         requires { pending_of item.now.cert.user self.now.pending ≡ None }
         ensures table { IfOk result
             (λ b. table_or b.table self.now.table ≡ after_operation item.now.cert self.now.table) }
@@ -349,7 +357,7 @@ impl<A: Allocator + Copy> State<A> {
     {
         let reply = self.reply_to(alloc, item)?;
         let payload = reply.copy(alloc)?;
-        let entry = item.plan().entry(alloc)?;
+        let entry = item.entry();
         let vector = item.plan().vector().copy(alloc)?;
         let table = table_after(alloc, &self.table, item.cert())?;
         Ok(Brought {
@@ -362,13 +370,12 @@ impl<A: Allocator + Copy> State<A> {
     }
 
     /// The text of the reply to an operation that is placed next.
-    fn reply_to(&self, alloc: A, item: &PendingItem<A>) -> Result<Payload<A>, Memory>
+    fn reply_to(&self, alloc: A, item: &SpelledItem<A>) -> Result<Payload<A>, Memory>
         requires { pending_of item.now.cert.user self.now.pending ≡ None }
         ensures { IfOk result (λ text. text ≡ reply.spell (reply_beside self.now item.now)) }
     {
         let _user = item.cert().user();
-        let text = Reply::text_of(alloc, &self.structures, &self.pending, item)?;
-        Ok(Payload::from_vec(text))
+        reply_text(alloc, &self.structures, &self.pending, item)
     }
 
     /// What a COMMIT leads to.
@@ -385,9 +392,11 @@ impl<A: Allocator + Copy> State<A> {
             return Ok(Verdict::Refused(Status::Form));
         };
         let Some(key) = self.table.key_of(found.value.plan().user()) else {
+            let_go(found);
             return Ok(Verdict::Refused(Status::UnknownUser));
         };
         if !is_signed::<A, Structure<A>>(&key, &found, text, known) {
+            let_go(found);
             return Ok(Verdict::Refused(Status::BadSignature));
         }
         self.judge_structure(alloc, text, found)
@@ -403,26 +412,30 @@ impl<A: Allocator + Copy> State<A> {
         requires { text.now ≡ (signed structure).spell found }
         ensures { IfOk result (λ judged. JudgedAs self.now judged (committing self.now found)) }
     {
-        match self.is_last(alloc, &found, text) {
-            Ok(false) => self.judge_other(alloc, found),
-            Ok(true) => {
-                let_go(found);
-                Ok(Verdict::Repeated(Payload::empty(alloc)))
-            }
-            Err(error) => {
-                let_go(found);
-                Err(error)
-            }
+        if self.is_last(&found, text) {
+            let_go(found);
+            return Ok(Verdict::Repeated(Payload::empty(alloc)));
         }
+        self.judge_other(alloc, text, found)
     }
 
     /// What a structure leads to that isn't its user's last one.
-    fn judge_other(&self, alloc: A, found: Signed<Structure<A>>) -> Result<Verdict<A>, Memory>
-        requires { option_map_or (same_structure found) (structure_of found.value.plan.user self.now) false ≡ false }
+    fn judge_other(
+        &self,
+        alloc: A,
+        text: &[u8],
+        found: Signed<Structure<A>>,
+    ) -> Result<Verdict<A>, Memory>
+        requires text { text.now ≡ (signed structure).spell found }
+        requires other { option_map_or (same_structure found) (structure_of found.value.plan.user self.now) false
+            ≡ false }
         ensures { IfOk result (λ judged. JudgedAs self.now judged (committing self.now found)) }
     {
         match have_plan(alloc, &self.pending, found.value.plan()) {
-            Ok(true) => Ok(Verdict::Happens(NewEvent::Commits(found), Payload::empty(alloc))),
+            Ok(true) => {
+                let structure = SpelledStructure::new(alloc, found, text)?;
+                Ok(Verdict::Happens(NewEvent::Commits(structure), Payload::empty(alloc)))
+            }
             Ok(false) => {
                 let_go(found);
                 Ok(Verdict::Refused(Status::NotPending))
@@ -435,14 +448,14 @@ impl<A: Allocator + Copy> State<A> {
     }
 
     /// Whether it is its user's last structure, where the text spells it.
-    fn is_last(&self, alloc: A, found: &Signed<Structure<A>>, text: &[u8]) -> Result<bool, Memory>
+    fn is_last(&self, found: &Signed<Structure<A>>, text: &[u8]) -> bool
         requires { text.now ≡ (signed structure).spell found.now }
-        ensures { IfOk result (λ same. same
-            ≡ option_map_or (same_structure found.now) (structure_of found.now.value.plan.user self.now) false) }
+        ensures { result
+            ≡ option_map_or (same_structure found.now) (structure_of found.now.value.plan.user self.now) false }
     {
         match structure_of(&self.structures, found.value.plan().user()) {
-            Some(last) => spells(alloc, text, last),
-            None => Ok(false),
+            Some(last) => last.is_spelled(text),
+            None => false,
         }
     }
 }

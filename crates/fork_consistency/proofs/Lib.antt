@@ -1,14 +1,14 @@
-mod Holds
-mod Judging
-mod Moves
-mod Genuine
+pub mod Holds
+pub mod Judging
+pub mod Moves
+pub mod Genuine
 mod Views
-mod Among
+pub mod Among
 mod Listings
-mod ScriptKeys
+pub mod ScriptKeys
 mod Lists
 mod Chunks
-mod TableTexts
+pub mod TableTexts
 mod Whole
 mod Firsts
 mod Acting
@@ -16,9 +16,9 @@ mod SignedTable
 mod HonestViews
 mod Contents
 mod Certificates
-mod Origins
-mod Tables
-mod ByCertificates
+pub mod Origins
+pub mod Tables
+pub mod ByCertificates
 mod ListedKeys
 mod Agreed
 mod AllWhole
@@ -29,7 +29,7 @@ mod Shown
 mod Begun
 mod OneWorld
 mod Growing
-mod Consistent
+pub mod Consistent
 mod OwnChanges
 mod OwnParts
 mod Signed

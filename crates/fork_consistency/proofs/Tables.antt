@@ -149,7 +149,7 @@ module _ (keys : Keys) (whole : List Event) (is_whole : IsRun keys whole) (pinne
     }
 
     -- tables that one handle names are the same
-    one_table : (handle : Handle) (a b : Table) → table.Fits a → table.Fits b → NamesTableAmong texts handle a → NamesTableAmong texts handle b → a ≡ b
+    pub one_table : (handle : Handle) (a b : Table) → table.Fits a → table.Fits b → NamesTableAmong texts handle a → NamesTableAmong texts handle b → a ≡ b
     one_table handle a b fits_a fits_b is_a is_b =
         let (reads, agrees) = some_reading (told_by_texts texts) in
         let same : Some (File (table.spell a)) ≡ Some (File (table.spell b)) = sym (is_a reads agrees) ∙ is_b reads agrees in

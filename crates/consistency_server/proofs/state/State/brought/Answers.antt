@@ -12,4 +12,4 @@ returns-clause-table g c =
     let after : table_or c.in_ok-table.table c.self.inside.table ≡ after_operation c.cert.result.now c.self.inside.table
     = table_made c.in_ok-table.table c.self.inside.table (after_operation c.cert.result.now c.self.inside.table) c.in_ok-table.ensures.changed c.in_ok-table.ensures.same in
     subst (λ (t : Table). table_or c.in_ok-table.table t ≡ after_operation c.args.item.now.cert t) kept
-    (after ∙ ap (λ (x : Cert). after_operation x c.self.inside.table) c.cert.ensures.same)
+    (after ∙ ap (λ (x : Cert). after_operation x c.self.inside.table) c.cert.ensures)

@@ -3,14 +3,12 @@ use Rattle.std.proofs.Common.{◌≡◌, ℕ, Bool, false, List, Option, Some, s
 use Rattle.std.specs.Prelude.{◌==◌, find}
 use Rattle.std.specs.Option.{option_copied, option_map_or}
 use Rattle.std.specs.Str.{bytes_eq}
-use Rattle.layout.specs.declared.error.Memory.{Memory}
 use Rattle.version_order.specs.Plan.{Plan}
 use Rattle.version_order.specs.Structure.{Structure, structure}
 use Rattle.pending_list.specs.declared.signed.Signed.{Signed}
 use Rattle.pending_list.specs.Signed.{signed}
 use Rattle.consistency_server.specs.State.{State}
 use Rattle.consistency_server.specs.Answers.{same_structure, structure_of}
-use Rattle.consistency_server.proofs.Texts.{with_ok}
 use Rattle.consistency_server.proofs.state.State.is_last.Goals as goal
 
 pub returns-in-Some : goal.returns-in-Some
@@ -26,5 +24,4 @@ returns-in-Some g c =
     ∙ ap (λ (u : ℕ). find (λ s. s.value.plan.user == u) state.structures) user in
     let text : bytes_eq c.args.text.now ((signed structure).spell last) ≡ option_map_or (same_structure found) (structure_of found.value.plan.user state) false
     = ap (λ (t : List ℕ). bytes_eq t ((signed structure).spell last)) c.requires ∙ ap (λ (o : Option (Signed Structure)). option_map_or (same_structure found) o false) is in
-    with_ok {X = Bool} {E = Memory} c.spells.result (λ same. same ≡ bytes_eq c.args.text.now ((signed structure).spell last))
-    (λ same. same ≡ option_map_or (same_structure found) (structure_of found.value.plan.user state) false) (λ same e. e ∙ text) c.spells.ensures
+    c.is_spelled.ensures ∙ text

@@ -27,5 +27,5 @@ returns g c =
     = c.structure_of.ensures ∙ ap (λ ss. structure_of user (record { table = state.table; vector = state.vector; structures = ss; pending = state.pending })) c.deref-2.ensures.value ∙ ap (structure_of user) c.self.view_is ∙ ap (λ u. structure_of u state) own in
     c.eq.ensures
     ∙ ap (λ b. bytes_eq b c.as_bytes-2.result.now) (c.as_bytes.ensures.same ∙ c.last.ensures)
-    ∙ ap (bytes_eq cert.last) (c.as_bytes-2.ensures.same ∙ c.in_ok-last.ensures.same ∙ ap digest_of_last last)
+    ∙ ap (bytes_eq cert.last) (c.as_bytes-2.ensures.same ∙ c.digest_of_last-last.ensures ∙ ap digest_of_last last)
     ∙ next_by state cert number free

@@ -12,8 +12,8 @@ returns-in-Ok g c =
     let state = c.args.self.now in
     let found = c.args.found in
     let brought = c.in-Ok.brought in
-    let item : c.new-item.result ≡ next_item state found = c.new-item.ensures ∙ ap (λ (p : Plan). record { cert = found.value; signature = found.signature; plan = p }) c.requires.plan in
-    let text : reply.spell (reply_beside state c.new-item.result) ≡ reply.spell (next_reply state found)
+    let item : c.in_ok-item.item ≡ next_item state found = c.in_ok-item.ensures ∙ ap (λ (p : Plan). record { cert = found.value; signature = found.signature; plan = p }) c.requires.plan in
+    let text : reply.spell (reply_beside state c.in_ok-item.item) ≡ reply.spell (next_reply state found)
     = ap (λ (i : PendingItem). reply.spell (reply_beside state i)) item in
     let table : table_or brought.table state.table ≡ after_operation found.value state.table
     = c.in-Ok.ensures.table ∙ ap (λ (i : PendingItem). after_operation i.cert state.table) item in
