@@ -26,7 +26,7 @@ use Rattle.consistency_server.specs.Event.{Event, Placed, Committed, committed, 
 use Rattle.consistency_server.specs.State.{Placement, State, next_item, next_placement, next_reply, pending_of, state_after}
 use Rattle.consistency_server.specs.Answers.{Call, Outcome, Refused, Repeated, Happens, answer, at_limit, committing, happened, is_next, is_pending, outcome_of, placing_beside, read_commit, read_update, same_cert, same_plan, same_structure, structure_of, verified_commit, verified_update}
 use Rattle.consistency_server.specs.History.{answer_of, commit_of, events, update_of}
-use Rattle.consistency_server.proofs.Texts.{same_value}
+use Rattle.agreement.proofs.Formed.{same_spelled}
 use Rattle.agreement.proofs.Members.{In, contains_in, in_contains, in-map}
 use Rattle.honest_history.specs.Honest.{AreHonest, IsHonest, Naming}
 use Rattle.honest_history.specs.Served.{IsHonestHistory}
@@ -143,7 +143,7 @@ module _ (naming : Naming) (pinned : Key) (es : List Event) (z : Signed Structur
   not_last h None e = refl
   not_last h (Some y) e = false_from_ne_true (same_structure z y) (λ t.
       let there = (find_some (λ (y : Signed Structure). y.value.plan.user == z.value.plan.user) (committed es) y e).0 in
-      let same : z ≡ y = same_value (signed structure) (lawful_signed structure lawful_structure) z y d.fits (f.of_structures y there) (bytes_true _ _ t) in
+      let same : z ≡ y = same_spelled (signed structure) (lawful_signed structure lawful_structure) z y d.fits (f.of_structures y there) (bytes_true _ _ t) in
       let own = next_item (state_after pinned h.earlier) h.cert in
       let opened = (honest_open pinned es z.value naming g h).1 in
       let plan : y.value.plan ≡ own.plan = ap (λ (y : Signed Structure). y.value.plan) (sym same) ∙ h.over.plan in

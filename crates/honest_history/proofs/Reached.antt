@@ -1,10 +1,10 @@
 -- All of it holds after each history in which honest clients signed what was committed.
-use Rattle.std.proofs.Common.{◌≡◌, ◌+◌, ◌<◌, List, [], ◌∷◌, ◌++◌, Option, Some, None, Bool, true, false, refl, sym, ap, ◌∙◌, subst, arith}
+use Rattle.std.proofs.Common.{◌≡◌, ◌+◌, ◌<◌, List, [], ◌∷◌, ◌++◌, Option, Some, None, true, false, refl, sym, ap, ◌∙◌, subst, arith}
 use Rattle.std.specs.Prelude.{◌==◌, ◌&&◌, is_some, not}
 use Rattle.std.specs.Int.{w8}
 use Rattle.std.specs.List.{All}
 use Rattle.std.specs.Str.{bytes_eq}
-use Rattle.std.proofs.lemmas.Bool.{eqb-true, and_parts}
+use Rattle.std.proofs.lemmas.Bool.{eqb-true, and_parts, not-false}
 use Rattle.std.proofs.lemmas.List.Elements.{All-head, All-tail}
 use Rattle.layout.specs.Format.{IsBytes, whole}
 use Rattle.layout.specs.Laws.{in_range}
@@ -55,6 +55,10 @@ honest_open pinned es z names g h =
     let made = next_placement (state_after pinned h.earlier) h.cert in
     pending_in pinned es g made.item (map-in item_of (pending_after pinned es) made (contains_in made (pending_after pinned es) h.pending))
 
+pub none_pending : (o : Option Placement) → not (is_some o) ≡ true → o ≡ None
+none_pending None e = refl
+none_pending (Some w) e = cc
+
 module _ (names : Naming) (pinned : Key) where
   pub can_commit : (es : List Event) (z : Signed Structure) → Good pinned es → Grown pinned es → IsStructureSigned (table_after pinned es) z → IsHonest names pinned es z.value → CanCommit pinned es z
   can_commit es z g grown sign honest =
@@ -88,14 +92,6 @@ module _ (names : Naming) (pinned : Key) where
 
   -- ---- calls
 
-  none_pending : (o : Option Placement) → not (is_some o) ≡ true → o ≡ None
-  none_pending None e = refl
-  none_pending (Some w) e = cc
-
-  not_false : (b : Bool) → not b ≡ false → b ≡ true
-  not_false true e = refl
-  not_false false e = cc
-
   pub can_place : (es : List Event) (text : Bytes) (c : Signed Cert) → IsBytes text → IsCert (state_after pinned es) text c → is_next (state_after pinned es) c.value ≡ true → at_limit (state_after pinned es) c.value ≡ false → CanPlace pinned es c × (signed cert).Fits c
   can_place es text c bytes is next limit =
       let fits = (read_whole cert lawful_cert text c bytes is.read).0 in
@@ -111,7 +107,7 @@ module _ (names : Naming) (pinned : Key) where
           number = eqb-true c.value.number (version_of c.value.user state.vector + 1) n.0;
           last = bytes_true c.value.last (digest_of_last (structure_of c.value.user state)) m.1 ∙ ap digest_of_last ((latests_after es).of_user c.value.user below);
           free = none_pending (pending_of c.value.user state.pending) m.0;
-          room = not_false (can_raise_all (c.value.user ∷ next_groups state.table state.vector c.value) state.vector) limit;
+          room = not-false (can_raise_all (c.value.user ∷ next_groups state.table state.vector c.value) state.vector) limit;
         },
         fits,
       )

@@ -20,12 +20,12 @@ use Rattle.consistency_server.specs.Event.{Event, Placed, Committed, last_of, st
 use Rattle.consistency_server.specs.State.{Placement, next_item, next_placement, next_reply, pending_after, state_after}
 use Rattle.consistency_server.specs.Answers.{Answer, Call, Outcome, answer, cert_of, happened, outcome_of, read_update, same_cert}
 use Rattle.consistency_server.specs.History.{answer_of, events, update_of}
-use Rattle.consistency_server.proofs.Texts.{same_value}
+use Rattle.agreement.proofs.Formed.{same_spelled}
 use Rattle.agreement.proofs.Members.{In, in-append, in-filter, in-middle, in_contains, map-in}
 use Rattle.honest_history.specs.Placed.{IsSince, lists_to, table_to}
 use Rattle.honest_history.specs.Honest.{Naming}
 use Rattle.honest_history.specs.Served.{IsHonestHistory, IsServed, IsUnbroken, NamesFirst, known_after}
-use Rattle.honest_history.proofs.Fitting.{fitted, next_reply_fits}
+use Rattle.honest_history.proofs.Fitting.{can_fit, fitted, next_reply_fits}
 use Rattle.honest_history.proofs.Good.{Good, item_of, items, pending_in}
 use Rattle.honest_history.proofs.Members.{bytes_true, find_some}
 use Rattle.honest_history.proofs.Named.{has_table, table_of_reply}
@@ -74,7 +74,7 @@ module _ (naming : Naming) (pinned : Key) (first : NamesFirst naming pinned) whe
       let now = (reached naming pinned (Placed c ∷ es) r).0 in
       let others : List PendingItem = map item_of (pending_after pinned es) in
       let own : PendingItem = next_item (state_after pinned es) c in
-      let read = whole_again reply lawful_reply (next_reply (state_after pinned es) c) (next_reply_fits pinned es c g r.0 r.1 (fitted pinned naming es r.2)) in
+      let read = whole_again reply lawful_reply (next_reply (state_after pinned es) c) (next_reply_fits pinned es c (can_fit pinned es c r.0 r.1) (fitted pinned naming es r.2)) in
       record {
         itself =
             breaks_spelled (known_to es c) (text_to es c) (next_reply (state_after pinned es) c) read
@@ -131,7 +131,7 @@ module _ (naming : Naming) (pinned : Key) (first : NamesFirst naming pinned) whe
         let (g, grown) = reached naming pinned es r in
         let (listed, opened) = pending_in pinned es g w.item (map-in item_of (pending_after pinned es) w there) in
         let w_fits = (fitted pinned naming es r).of_items w.item listed in
-        let of_w : c ≡ cert_of w.item = same_value (signed cert) (lawful_signed cert lawful_cert) c (cert_of w.item) fits (w_fits.of_cert, w_fits.of_signature) (bytes_true _ _ same) in
+        let of_w : c ≡ cert_of w.item = same_spelled (signed cert) (lawful_signed cert lawful_cert) c (cert_of w.item) fits (w_fits.of_cert, w_fits.of_signature) (bytes_true _ _ same) in
         let is : d ≡ c = sym (of_w ∙ ap (λ (v : Placement). cert_of v.item) made) in
         let since' : IsSince (Placed c ∷ earlier) es = subst (λ (d : Signed Cert). IsSince (Placed d ∷ earlier) es) is since in
         let made' : w ≡ next_placement (state_after pinned earlier) c = subst (λ (d : Signed Cert). w ≡ next_placement (state_after pinned earlier) d) is made in
