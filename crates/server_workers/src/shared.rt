@@ -17,13 +17,21 @@ use crate::reply::ReplyBody;
 use crate::tally::Tally;
 use block_store::{Store, StoreError};
 use consistency_server::{CallKind, Ordered, Verification, signer_of};
-use layout::Digest;
+use layout::{Digest, User};
 use lms_sign::PublicKey;
 use std::alloc::Allocator;
 use std::sync::atomic::{AtomicU64, Ordering};
 use std::sync::ledger::{Blank, Ledger};
 use std::sync::{Mutex, Wait};
 use wire::{RequestKind, Status, request_of};
+
+/// The key of the user by whom the last call of a connection was signed. Under the lock it is compared with the key that
+/// is listed then.
+#[derive(Clone, Copy)]
+pub(crate) struct SeenKey {
+    user: User,
+    key: PublicKey,
+}
 
 /// The one order of calls under its lock, the store of blocks, and the number of the last call at the gate.
 #[derive(Drop)]
@@ -74,6 +82,7 @@ impl<'a, A: Allocator + Copy, B: ServerName, L: Ledger, R: Wait> Shared<'a, A, B
         rt: &R,
         gate: &G,
         tally: &mut Tally<L>,
+        seen: &mut Option<SeenKey>,
         body: &[u8],
     ) -> ReplyBody<A>
         requires { 0 < tally.old.share.parts }
@@ -85,8 +94,8 @@ impl<'a, A: Allocator + Copy, B: ServerName, L: Ledger, R: Wait> Shared<'a, A, B
             return ReplyBody::bare(self.alloc, Status::Form);
         };
         match kind {
-            RequestKind::Update => self.call(rt, gate, tally, CallKind::Update, payload),
-            RequestKind::Commit => self.call(rt, gate, tally, CallKind::Commit, payload),
+            RequestKind::Update => self.call(rt, gate, tally, seen, CallKind::Update, payload),
+            RequestKind::Commit => self.call(rt, gate, tally, seen, CallKind::Commit, payload),
             RequestKind::Put => self.put(rt, payload),
             RequestKind::Get => self.get(rt, payload),
         }
@@ -99,6 +108,7 @@ impl<'a, A: Allocator + Copy, B: ServerName, L: Ledger, R: Wait> Shared<'a, A, B
         rt: &R,
         gate: &G,
         tally: &mut Tally<L>,
+        seen: &mut Option<SeenKey>,
         kind: CallKind,
         text: &[u8],
     ) -> ReplyBody<A>
@@ -112,7 +122,7 @@ impl<'a, A: Allocator + Copy, B: ServerName, L: Ledger, R: Wait> Shared<'a, A, B
                 .fetch_add(1, Ordering::SeqCst)
                 .wrapping_add(1),
         );
-        let verified = self.verification(rt, kind, text);
+        let verified = self.verification(rt, seen, kind, text);
         let answer = self
             .locked
             .lock(rt)
@@ -120,14 +130,33 @@ impl<'a, A: Allocator + Copy, B: ServerName, L: Ledger, R: Wait> Shared<'a, A, B
         ReplyBody::of(answer)
     }
 
-    /// The signature of a call's text, verified without the lock, which is taken for a look at the signer's key alone.
-    /// None where there is no such key, or memory runs out: what isn't known is found out under the lock.
-    fn verification<'t>(&self, rt: &R, kind: CallKind, text: &'t [u8]) -> Option<Verification<'t>> {
+    /// The signature of a call's text, verified without the lock. None where the signer has no key, or memory runs out:
+    /// what isn't known is found out under the lock.
+    fn verification<'t>(
+        &self,
+        rt: &R,
+        seen: &mut Option<SeenKey>,
+        kind: CallKind,
+        text: &'t [u8],
+    ) -> Option<Verification<'t>> {
         let Ok(Some(signer)) = signer_of(self.alloc, kind, text) else {
             return None;
         };
-        let key = self.locked.lock(rt).key_of(signer);
-        Some(Verification::new(key?, text))
+        let key = self.key_of(rt, seen, signer)?;
+        Some(Verification::new(key, text))
+    }
+
+    /// The signer's key: the one that was seen last where it is this user's, else the lock is taken for a look at it.
+    fn key_of(&self, rt: &R, seen: &mut Option<SeenKey>, signer: User) -> Option<PublicKey> {
+        if let Some(SeenKey { user, key }) = *seen
+            && user == signer
+        {
+            return Some(key);
+        }
+        let found = self.locked.lock(rt).key_of(signer);
+        let key = found?;
+        *seen = Some(SeenKey { user: signer, key });
+        Some(key)
     }
 
     /// Stores a block.

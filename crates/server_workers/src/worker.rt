@@ -13,7 +13,7 @@ use crate::call_queue::ServerName;
 use crate::ended::Ended;
 use crate::gate::Gate;
 use crate::reply::ReplyBody;
-use crate::shared::Shared;
+use crate::shared::{SeenKey, Shared};
 use crate::tally::{Tally, WorkerTally};
 use connection::{Connection, ConnectionFault};
 use layout::Memory;
@@ -90,6 +90,7 @@ fn step<A: Allocator + Copy, G: Gate, C: Connection, B: ServerName, L: Ledger, R
     shared: &Shared<'_, A, B, L, R>,
     gate: &G,
     tally: &mut Tally<L>,
+    seen: &mut Option<SeenKey>,
     frames: &mut Frames<A>,
     buffer: &mut [u8],
 ) -> Result<(), Ended>
@@ -104,7 +105,7 @@ fn step<A: Allocator + Copy, G: Gate, C: Connection, B: ServerName, L: Ledger, R
 {
     match frames.next_frame() {
         Ok(Some(request)) => {
-            let reply = shared.reply_to(rt, gate, tally, &request);
+            let reply = shared.reply_to(rt, gate, tally, seen, &request);
             answer(shared.alloc, connection, &reply)
         }
         Ok(None) => read_on(connection, frames, buffer),
@@ -134,6 +135,7 @@ pub fn converse<A: Allocator + Copy, G: Gate, C: Connection, B: ServerName, L: L
         return Ended::Memory;
     };
     let mut frames = Frames::new(shared.alloc);
+    let mut seen = None;
     for _ in rt.forever() {
         let stepped = step(
             rt,
@@ -141,6 +143,7 @@ pub fn converse<A: Allocator + Copy, G: Gate, C: Connection, B: ServerName, L: L
             shared,
             gate,
             tally,
+            &mut seen,
             &mut frames,
             &mut buffer,
         );
