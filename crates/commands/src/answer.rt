@@ -10,7 +10,8 @@ use std::fmt;
 use thiserror::Error;
 use wire::Status;
 
-/// Why nothing came of a command.
+/// Why a command was refused, or stopped on its way. Of one that was stopped an operation may be declared, or even be
+/// committed: the next command finishes what is left of it.
 #[derive(Clone, Copy, Debug, PartialEq, Eq, Error)]
 pub enum Refusal {
     /// The path is none, or leads to nothing, or to something of another kind.
@@ -80,6 +81,6 @@ pub enum Answer<A: Allocator> {
     Broken(Rule),
     /// The server answered with this status.
     Declined(Status),
-    /// Nothing came of it.
+    /// It was refused, or stopped on its way.
     Refused(Refusal),
 }

@@ -37,7 +37,7 @@ const MKDIR: Help = Help {
 };
 
 const RM: Help = Help {
-    about: "Takes away a name, and the file or empty directory of the same principal that it stands for",
+    about: "Removes a name with the file or empty directory of the same principal that it stands for; or one at `@p:i`",
     example: "Example: sundr --dir alice --server localhost:7440 --user 1 rm /docs/plan",
 };
 

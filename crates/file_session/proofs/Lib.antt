@@ -5,6 +5,7 @@ pub mod Operations
 pub mod Given
 pub mod Few
 pub mod Steps
+pub mod Last
 pub mod Walks
 pub mod Plans
 pub mod Choices

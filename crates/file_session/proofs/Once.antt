@@ -79,8 +79,8 @@ by_next (Fetch digest) (Sends r x) next h = let one = of_get r in let two = due_
 by_next (Take block) (Calls (Takes handed x)) next h = let one = due_is next (checking x) h.1 in let two = of_checking x in omega (arith, one, two)
 by_next (Store (text ∷ texts)) (Sends r x) next h = let none = no_get r (put text) h.0 refl in omega (arith, none)
 by_next (Store []) (Calls (Signs x lost)) next h = omega arith
-by_next (CommitNew text) (Sends r x) next h = let none = no_get r (commit text) h.0 refl in omega (arith, none)
-by_next (CommitNew text) LacksNumbers next h = omega arith
+by_next (CommitNew text lost) (Sends r x) next h = let none = no_get r (commit text) h.0 refl in omega (arith, none)
+by_next (CommitNew text (n ∷ lost)) LacksNumbers next h = omega arith
 by_next (Commit text) (Sends r x) next h = let none = no_get r (commit text) h.0 refl in omega (arith, none)
 by_next (Tell told) (Calls (Commits handed)) next h = omega arith
 by_next (FetchAt q digest) (Sends r x) next h = let one = of_get r in let two = due_is next (giving q (block_in x)) h.1 in let three = of_giving q (block_in x) in omega (arith, one, two, three)

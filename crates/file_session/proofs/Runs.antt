@@ -29,11 +29,11 @@ pub moves_join : {T : Type 0} (answers : Answering T) (a b c : At T) (ms ns : Li
 moves_join {T} answers a b c [] ns h k = subst (λ (x : At T). Moves answers x ns c) h k
 moves_join answers a b c (m ∷ ms) ns (mid, one, more) k = (mid, one, moves_join answers mid b c ms ns more k)
 
-first_new : {T : Type 0} (answers : Answering T) (m : State) (t : T) (text : Bytes) (move : Move) (b : At T) → IsMove answers (point m t (Commit text)) move b → IsMove answers (point m t (CommitNew text)) move b
-first_new answers m t text (Calls call) b h = absurd h.2
-first_new answers m t text (Sends r x) b h = h
-first_new answers m t text LacksPlan b h = absurd h.2
-first_new answers m t text LacksNumbers b h = absurd h.2
+first_new : {T : Type 0} (answers : Answering T) (m : State) (t : T) (text : Bytes) (lost : List ℕ) (move : Move) (b : At T) → IsMove answers (point m t (Commit text)) move b → IsMove answers (point m t (CommitNew text lost)) move b
+first_new answers m t text lost (Calls call) b h = absurd h.2
+first_new answers m t text lost (Sends r x) b h = h
+first_new answers m t text lost LacksPlan b h = absurd h.2
+first_new answers m t text lost LacksNumbers b h = absurd h.2
 
 no_commit : {X : Type 0} (text : Bytes) (r : Result X Stop) → ready_or r ≡ Commit text → ⊥
 no_commit text (Ok x) is = absurd cc
@@ -79,8 +79,8 @@ module _ {T : Type 0} {answers : Answering T} where
   pub put : (m m' : State) (t t' : T) (text : Bytes) (texts : List Bytes) (r : Result Bytes Stop) → m' ≡ m → ((x : Result Bytes TransportError) × answers t (put_of text) x t' × (r ≡ payload_in x)) → Went answers (point m t (Store (text ∷ texts))) (point m' t' (storing texts r)) []
   put m m' t t' text texts r same (x, h, is) = went_one (point m t (Store (text ∷ texts))) (Sends (put_of text) x) (point m' t' (storing texts r)) (h, same, (refl, ap (storing texts) is))
 
-  pub signed : (m m' : State) (t : T) (x : Result Bytes ClientError) (lost : List ℕ) → Leads m (Signs x lost) m' → Went answers (point m t (Store [])) (point m' t (committing x)) (signs (signed_by x lost))
-  signed m m' t x lost h = went_one (point m t (Store [])) (Calls (Signs x lost)) (point m' t (committing x)) (h, refl, refl)
+  pub signed : (m m' : State) (t : T) (x : Result Bytes ClientError) (lost : List ℕ) → Leads m (Signs x lost) m' → Went answers (point m t (Store [])) (point m' t (committing x lost)) (signs (signed_by x lost))
+  signed m m' t x lost h = went_one (point m t (Store [])) (Calls (Signs x lost)) (point m' t (committing x lost)) (h, refl, refl)
 
   pub sent : (m m' : State) (t t' : T) (text : Bytes) (r : Result Status Stop) → m' ≡ m → ((x : Result Bytes TransportError) × answers t (commit text) x t' × (r ≡ status_in x)) → Went answers (point m t (Commit text)) (point m' t' (telling r)) []
   sent m m' t t' text r same (x, h, is) = went_one (point m t (Commit text)) (Sends (commit text) x) (point m' t' (telling r)) (h, same, (refl, ap telling is))
@@ -97,17 +97,18 @@ module _ {T : Type 0} {answers : Answering T} where
   pub gave : (m m' : State) (t : T) (q : Question) (block : Option Bytes) (x : Result Sees ClientError) → Leads m (Gives q block x) m' → Went answers (point m t (GiveAt q block)) (point m' t (looking q x)) (looks (seen_by q x))
   gave m m' t q block x h = went_one (point m t (GiveAt q block)) (Calls (Gives q block x)) (point m' t (looking q x)) (h, refl, (refl, refl, refl))
 
-  -- memory runs out for an operation that is planned, or before a new structure is sent
+  -- memory runs out for an operation that is planned, or for the numbers of lost changes before a new structure is sent
   pub lacks_plan : (m : State) (t : T) (e : Stop) → e ≡ stop.Memory → Went answers (point m t (Ready [])) (point m t (Over e)) (Unplanned ∷ [])
   lacks_plan m t e is = went_one (point m t (Ready [])) LacksPlan (point m t (Over e)) (refl, refl, ap Over is)
 
-  pub lacks_numbers : (m : State) (t : T) (text : Bytes) (e : Stop) → e ≡ stop.Memory → Went answers (point m t (CommitNew text)) (point m t (Over e)) []
-  lacks_numbers m t text e is = went_one (point m t (CommitNew text)) LacksNumbers (point m t (Over e)) (refl, refl, ap Over is)
+  pub lacks_numbers : (m : State) (t : T) (text : Bytes) (lost : List ℕ) (e : Stop) → (lost ≡ [] → ⊥) → e ≡ stop.Memory → Went answers (point m t (CommitNew text lost)) (point m t (Over e)) []
+  lacks_numbers m t text [] e some is = absurd (some refl)
+  lacks_numbers m t text (n ∷ lost) e some is = went_one (point m t (CommitNew text (n ∷ lost))) LacksNumbers (point m t (Over e)) (refl, refl, ap Over is)
 
   -- a new structure is sent as one that was signed before
-  pub commits_new : {X : Type 0} {es : List Event} (m m' : State) (t t' : T) (text : Bytes) (r : Result X Stop) → Went answers (point m t (Commit text)) (point m' t' (ready_or r)) es → Went answers (point m t (CommitNew text)) (point m' t' (ready_or r)) es
-  commits_new {X} m m' t t' text r h = record { moves = h.moves; run = as_new h.moves h.run; told = h.told }
+  pub commits_new : {X : Type 0} {es : List Event} (m m' : State) (t t' : T) (text : Bytes) (lost : List ℕ) (r : Result X Stop) → Went answers (point m t (Commit text)) (point m' t' (ready_or r)) es → Went answers (point m t (CommitNew text lost)) (point m' t' (ready_or r)) es
+  commits_new {X} m m' t t' text lost r h = record { moves = h.moves; run = as_new h.moves h.run; told = h.told }
     where
-      as_new : (ms : List Move) → Moves answers (point m t (Commit text)) ms (point m' t' (ready_or r)) → Moves answers (point m t (CommitNew text)) ms (point m' t' (ready_or r))
+      as_new : (ms : List Move) → Moves answers (point m t (Commit text)) ms (point m' t' (ready_or r)) → Moves answers (point m t (CommitNew text lost)) ms (point m' t' (ready_or r))
       as_new [] is = absurd (no_commit text r (ap (λ x. x.next) is))
-      as_new (move ∷ ms) (mid, one, more) = (mid, first_new answers m t text move mid one, more)
+      as_new (move ∷ ms) (mid, one, more) = (mid, first_new answers m t text lost move mid one, more)

@@ -72,13 +72,22 @@ module _ {T : Type 0} {answers : Answering T} where
 
   -- ---- a command
 
-  -- the look was stopped
-  pub carried_not : {a b : At T} (u : User) (c : Command) (e : Stop) → Operated answers a b [] [] (λ signed. IsUncommitted signed b.client) → Carried answers a b u c (Err e)
-  carried_not u c e k = record {
-    es = Begun [] [] ∷ signs k.signed;
-    went = k.went;
-    carried = record { signed = k.signed; seen = []; written = []; order = ap (λ es. Begun [] [] ∷ es) (sym (append-nil (signs k.signed))); done = inl (refl, refl, tt, k.lost) };
+  -- the look was stopped, before or after it was signed
+  stopped_at : {a b : At T} (u : User) (c : Command) (e : Stop) (signed : List (List ℕ)) → Went answers a b (Begun [] [] ∷ signs signed) → IsUncommitted signed b.client → Carried answers a b u c (Err e)
+  stopped_at u c e [] went uncommitted = record {
+    es = Begun [] [] ∷ [];
+    went = went;
+    carried = record { signed = []; seen = []; written = []; order = refl; done = inl (refl, refl, refl, tt) };
   }
+  stopped_at u c e (lost ∷ []) went uncommitted = record {
+    es = Begun [] [] ∷ (Signed lost ∷ []);
+    went = went;
+    carried = record { signed = lost ∷ []; seen = []; written = []; order = refl; done = inr (lost, refl, tt) };
+  }
+  stopped_at u c e (lost ∷ (other ∷ signed)) went uncommitted = absurd uncommitted
+
+  pub carried_not : {a b : At T} (u : User) (c : Command) (e : Stop) → Operated answers a b [] [] (λ signed. IsUncommitted signed b.client) → Carried answers a b u c (Err e)
+  carried_not u c e k = stopped_at u c e k.signed k.went k.lost
 
   -- the look has its view, and these are the looks in it, and what is done after them
   after_looks : {a b c : At T} {u : User} {command : Command} {result : Result Answer Stop} (k : Operated answers a b [] [] (λ signed. (lost : List ℕ) × (signed ≡ lost ∷ []))) (seen : List Seen) (written : List Event)

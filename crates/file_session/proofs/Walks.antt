@@ -24,6 +24,7 @@ use Rattle.file_session.specs.declared.site.Site.TheVariants as site
 use Rattle.file_session.specs.declared.stop.Stop.{Stop}
 use Rattle.file_session.specs.Went.{IsSeenIn}
 use Rattle.file_session.specs.Parts.{HasName, directory_in, end_in, file_in, listing, reading, last_name, place_at, place_of_site, last_of as last_name_of}
+use Rattle.file_session.proofs.Last.{last_after, last_end}
 
 -- ---- what stands there
 
@@ -182,34 +183,6 @@ pub free_at_new : (r : Result (Option INumber) Stop) (u : User) (tree : Tree) (s
 free_at_new (Ok f) u tree s directory is h = λ name. h ∙ ap (λ (x : Site). free_at u tree (place_of_site name x)) (sym is)
 free_at_new (Err e) u tree s directory is h = tt
 
--- ---- the last name
-
--- the last of a name and those after it
-pub last_after : Bytes → List Bytes → Bytes
-last_after name [] = name
-last_after name (next ∷ names) = last_after next names
-
-last_is : (name : Bytes) (names : List Bytes) → last_name_of (name ∷ names) ≡ last_after name names
-unfolding last_after
-last_is name [] = refl
-last_is name (next ∷ names) = last_is next names
-
-pub last_from_none : (names : List Bytes) → last_name_of names ≡ last_after [] names
-unfolding last_after
-last_from_none [] = refl
-last_from_none (name ∷ names) = last_is name names
-
-pub last_from : (name : Bytes) (names left : List Bytes) → names ≡ name ∷ left → last_name_of names ≡ last_after name left
-last_from name names left is = ap last_name_of is ∙ last_is name left
-
-pub last_on : (here name : Bytes) (left rest all : List Bytes) → last_name_of all ≡ last_after here left → left ≡ name ∷ rest → last_name_of all ≡ last_after name rest
-unfolding last_after
-last_on here name left rest all before is = before ∙ ap (last_after here) is
-
-pub last_end : (here : Bytes) (left all : List Bytes) → last_name_of all ≡ last_after here left → left ≡ [] → here ≡ last_name_of all
-unfolding last_after
-last_end here left all before is = sym (before ∙ ap (last_after here) is)
-
 -- ---- the site of a path
 
 pub no_names : (tree : Tree) (start here : Target) (names left : List Bytes) (there : Stands) → here ≡ start → left ≡ names → left ≡ [] → there ≡ stands_of (content_at tree here) → Some (At here there) ≡ place_from tree start names
@@ -219,9 +192,6 @@ no_names tree start here names left there begins all none stands =
 
 pub first_name : (tree : Tree) (start here : Target) (names all left : List Bytes) (last : Bytes) → here ≡ start → all ≡ names → all ≡ last ∷ left → place_from tree start names ≡ place_from tree here (last ∷ left)
 first_name tree start here names all left last begins same is = ap (place_from tree start) (sym same ∙ is) ∙ ap (λ (t : Target). place_from tree t (last ∷ left)) (sym begins)
-
-pub last_first : (names all left : List Bytes) (last : Bytes) → all ≡ names → all ≡ last ∷ left → last_name_of names ≡ last_after last left
-last_first names all left last same is = last_from last names left (sym same ∙ is)
 
 abbrev pub Leads : Tree → Bytes → Option Place → Result (Option Site) Stop → Type 0
 Leads tree name place r = IfOk r (λ found. option_map (place_of_site name) found ≡ place)

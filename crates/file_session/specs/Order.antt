@@ -43,8 +43,8 @@ pub data Next : Type 0 where
   -- these texts are to be stored, and then the structure signed
   Store : List Bytes → Next
   -- the structure is to be sent, and the status handed in; of one that was signed just now the numbers of the changes
-  -- that its view loses are copied first
-  CommitNew : Bytes → Next
+  -- that its view loses are copied first, if there are any
+  CommitNew : Bytes → List ℕ → Next
   Commit : Bytes → Next
   Tell : Status → Next
   -- the block is to be asked for by a look, and handed in
@@ -83,9 +83,9 @@ abbrev pub storing : List Bytes → Result Bytes Stop → Next
 storing texts (Ok digest) = Store texts
 storing texts (Err e) = Over e
 
-abbrev pub committing : Result Bytes ClientError → Next
-committing (Ok text) = CommitNew text
-committing (Err e) = Over (stop.Client e)
+abbrev pub committing : Result Bytes ClientError → List ℕ → Next
+committing (Ok text) lost = CommitNew text lost
+committing (Err e) lost = Over (stop.Client e)
 
 abbrev pub telling : Result Status Stop → Next
 telling (Ok told) = Tell told
@@ -133,9 +133,9 @@ Follows (Hear text) (Calls (Hears reply x)) next = (reply ≡ text) × (next ≡
 Follows (Fetch digest) (Sends r x) next = (r ≡ get digest) × (next ≡ taking (block_in x))
 Follows (Take block) (Calls (Takes handed x)) next = (handed ≡ block) × (next ≡ checking x)
 Follows (Store (text ∷ texts)) (Sends r x) next = (r ≡ put text) × (next ≡ storing texts (payload_in x))
-Follows (Store []) (Calls (Signs x lost)) next = next ≡ committing x
-Follows (CommitNew text) (Sends r x) next = (r ≡ commit text) × (next ≡ telling (status_in x))
-Follows (CommitNew text) LacksNumbers next = next ≡ Over stop.Memory
+Follows (Store []) (Calls (Signs x lost)) next = next ≡ committing x lost
+Follows (CommitNew text lost) (Sends r x) next = (r ≡ commit text) × (next ≡ telling (status_in x))
+Follows (CommitNew text (n ∷ lost)) LacksNumbers next = next ≡ Over stop.Memory
 Follows (Commit text) (Sends r x) next = (r ≡ commit text) × (next ≡ telling (status_in x))
 Follows (Tell told) (Calls (Commits handed)) next = (handed ≡ told) × (next ≡ committed told)
 Follows (FetchAt q digest) (Sends r x) next = (r ≡ get digest) × (next ≡ giving q (block_in x))

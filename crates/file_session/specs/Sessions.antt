@@ -52,10 +52,11 @@ IsResumed s signed (e ∷ es) result resumed new = IsFinished s signed resumed
 
 -- ---- the write
 
--- what was signed isn't committed
+-- at most one structure was signed, and it isn't committed
 abbrev pub IsUncommitted : List (List ℕ) → State → Type 0
 IsUncommitted [] s = Unit {0}
-IsUncommitted (lost ∷ signed) s = IsUnfinished s
+IsUncommitted (lost ∷ []) s = IsUnfinished s
+IsUncommitted (lost ∷ (other ∷ signed)) s = ⊥
 
 -- What tells of an operation: with its view signed and committed, the changes that it lost. Nothing stops it once it is
 -- committed.
@@ -91,8 +92,8 @@ pub record IsCarriedOut (u : User) (c : Command) (es : List Event) (result : Res
   pub seen : List Seen
   pub written : List Event
   pub order : es ≡ Begun [] [] ∷ (signs signed ++ (looks seen ++ written))
-  -- the look was stopped before its commit, or it has its view
-  pub done : ((seen ≡ []) × (written ≡ []) × IsStopped result × IsUncommitted signed new)
+  -- the look was stopped before it had its view, or it has it
+  pub done : ((signed ≡ []) × (seen ≡ []) × (written ≡ []) × IsStopped result)
       ⊎ ((lost : List ℕ) × (signed ≡ lost ∷ []) × IsDone u c seen written result new)
 
 abbrev pub IsCommand : User → Command → List Event → Result Answer Stop → State → Type 0

@@ -35,20 +35,26 @@ impl<L: Device, J: Device, T: Transport<A>, A: Allocator + Copy> Conversation<L,
         }
     }
 
-    /// The numbers of the changes that the accepted view loses, in memory of their own.
+    /// The numbers of the changes that the accepted view loses, in memory of their own. Where there are none, none is
+    /// taken.
     fn lost(&self) -> Result<Vec<u8, A>, Stop>
         requires { IsSome self.now.client.view }
         ensures lost { IfOk result (λ lost. lost.items ≡ lost_of self.now.client) }
         ensures memory { IfErr result (λ e. e ≡ Stop.Memory) }
+        ensures some { OnErr result (lost_of self.now.client ≡ [] → ⊥) }
     {
-        match Vec::from_slice(self.alloc, self.client.lost()) {
+        let numbers = self.client.lost();
+        if numbers.is_empty() {
+            return Ok(Vec::new(self.alloc));
+        }
+        match Vec::from_slice(self.alloc, numbers) {
             Ok(numbers) => Ok(numbers),
             Err(_) => Err(Stop::Memory),
         }
     }
 
     /// Signs over the accepted reply, and commits: the numbers of the changes that its view loses. They are copied
-    /// before anything is committed, so that no operation that took place is told of as refused.
+    /// before the commit: where memory is refused for them, nothing is committed yet.
     fn finish_checked(&mut self) -> Result<Vec<u8, A>, Stop>
         requires { IsSome self.old.client.accepted }
         ensures finished { Finished T.answers (point self.old.client self.old.transport (Store []))

@@ -19,5 +19,5 @@ mod turn;
 mod walking;
 
 pub use resumed::Resumed;
-pub use session::Session;
+pub use session::{Session, refusal_of};
 pub use stop::Stop;

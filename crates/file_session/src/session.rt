@@ -31,8 +31,8 @@ pub struct Session<L: Device, J: Device, T, A: Allocator> {
     resumed: Option<Resumed<A>>,
 }
 
-/// How an error of a client is told.
-fn refused(error: ClientError) -> Refusal
+/// How an error of a client is told, also of one that isn't opened.
+pub fn refusal_of(error: ClientError) -> Refusal
     ensures { result ≡ refused_by error }
 {
     match error {
@@ -50,7 +50,7 @@ fn told<A: Allocator>(stop: Stop) -> Answer<A>
     ensures { answer_of result ≡ stopped_by stop }
 {
     match stop {
-        Stop::Client(error) => Answer::Refused(refused(error)),
+        Stop::Client(error) => Answer::Refused(refusal_of(error)),
         Stop::Broken(rule) => Answer::Broken(rule),
         Stop::Declined(status) => Answer::Declined(status),
         Stop::Cut => Answer::Refused(Refusal::Cut),

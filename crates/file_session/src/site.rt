@@ -26,7 +26,7 @@ pub(crate) enum Site {
 }
 
 /// The last of these names, or nothing where there is none.
-#[tactic(auto, using(crate::proofs::Walks::last_from_none, crate::proofs::Walks::last_on, crate::proofs::Walks::last_end))]
+#[tactic(auto, using(crate::proofs::Last::last_from_none, crate::proofs::Last::last_on, crate::proofs::Last::last_end))]
 fn last_of<'a>(names: Names<'a>) -> &'a str
     ensures { result.now ≡ last_of names.entry }
 {

@@ -1,12 +1,12 @@
 //! A client of a file system over a server that nobody trusts: it carries out one command, and prints what comes of it.
 #![tactic(auto)]
 
-use client_verify::{Client, ClientError};
+use client_verify::Client;
 use commands::{Answer, Command, Refusal};
 use connection::{ConnectionFault, Socket};
 use drawn_key::drawn_key;
 use file_commands::{Line, LineError, Wanted};
-use file_session::{Resumed, Session};
+use file_session::{Resumed, Session, refusal_of};
 use itable::FILE_SIZE;
 use layout::{Memory, let_go};
 use leaf_ledger::FileDevice;
@@ -102,18 +102,6 @@ fn device_hindrance(fault: &io::Error) -> Hindrance {
         ErrorKind::OutOfMemory => Hindrance::Refused(Refusal::Memory),
         _ => Hindrance::Refused(Refusal::Device),
     }
-}
-
-/// What is told of a client that isn't opened.
-fn client_hindrance(error: &ClientError) -> Hindrance {
-    Hindrance::Refused(match error {
-        ClientError::Memory => Refusal::Memory,
-        ClientError::NoLeaf => Refusal::NoLeaf,
-        ClientError::Device => Refusal::Device,
-        ClientError::NoNumber => Refusal::NoNumber,
-        ClientError::Foreign => Refusal::Foreign,
-        ClientError::Damaged => Refusal::Damaged,
-    })
 }
 
 /// The path of a file of a folder.
@@ -217,7 +205,7 @@ fn open_client<H: Threads + Sync>(
         Ok(client) => Ok(client),
         Err((error, parts)) => {
             let_go(parts);
-            Err(client_hindrance(&error))
+            Err(Hindrance::Refused(refusal_of(error)))
         }
     }
 }

@@ -2,7 +2,7 @@ use Rattle.std.proofs.Common.{◌≡◌, length}
 use denote.Text.{Utf8}
 use denote.Shadow.{shadow}
 use Rattle.file_session.specs.Parts.{last_of}
-use Rattle.file_session.proofs.Walks.{last_after}
+use Rattle.file_session.proofs.Last.{last_after}
 use Rattle.file_session.proofs.site.last_of.Given as goal
 
 abbrev pub invariant-loop-name : goal.invariant-loop-name

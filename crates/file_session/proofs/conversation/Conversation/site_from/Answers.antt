@@ -2,7 +2,8 @@ use Rattle.std.proofs.Common.{rules, refl, sym, ◌∙◌}
 use Rattle.std.proofs.lemmas.Result.{err_from_is_err_and}
 use Rattle.file_session.proofs.Looks.{looked_next, looked_so, quiet}
 use Rattle.file_session.proofs.Runs.{went_none}
-use Rattle.file_session.proofs.Walks.{first_name, last_first, last_on, named_end, no_names, place_off, place_on, site_end}
+use Rattle.file_session.proofs.Last.{last_first, last_on}
+use Rattle.file_session.proofs.Walks.{first_name, named_end, no_names, place_off, place_on, site_end}
 use Rattle.file_session.proofs.conversation.Conversation.site_from.Goals as goal
 
 pub returns-in_default-clause-looked : goal.returns-in_default-clause-looked

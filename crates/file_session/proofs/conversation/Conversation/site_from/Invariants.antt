@@ -7,7 +7,7 @@ use Rattle.commands.specs.Asked.{place_from}
 use Rattle.file_session.specs.Order.{Ready}
 use Rattle.file_session.specs.Parts.{last_of}
 use Rattle.file_session.specs.Went.{Looked, point}
-use Rattle.file_session.proofs.Walks.{last_after}
+use Rattle.file_session.proofs.Last.{last_after}
 use Rattle.file_session.proofs.conversation.Conversation.site_from.Given as goal
 
 abbrev pub invariant-loop-name : goal.invariant-loop-name
