@@ -1,0 +1,2 @@
+pub mod CheckedBlocks
+pub mod Moves
