@@ -17,6 +17,8 @@ mod pipe;
 #[cfg(test)]
 mod rows;
 mod signer;
+#[cfg(test)]
+mod silent;
 mod user;
 
 pub use caller::{CallError, Caller, Replied};
