@@ -14,6 +14,12 @@ mod forks;
 #[cfg(test)]
 mod here;
 #[cfg(test)]
+mod honest;
+#[cfg(test)]
+mod honest_devices;
+#[cfg(test)]
+mod honest_random;
+#[cfg(test)]
 mod instance;
 #[cfg(test)]
 mod lines;

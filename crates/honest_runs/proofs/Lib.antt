@@ -1,0 +1,7 @@
+pub mod Events
+pub mod Noting
+pub mod Telling
+pub mod Happening
+pub mod StepByStep
+pub mod Serving
+pub mod Keeping

@@ -1,0 +1,104 @@
+-- An honest run, step by step.
+use Rattle.std.proofs.Common.{◌≡◌, ◌≢◌, ℕ, ◌<◌, ◌≤◌, ◌+◌, take, get_or, length, Bool, true, false, ◌==◌, if◌then◌else◌, List, [], ◌∷◌, ◌++◌, Option, Some, None, option_and_then, reverse, refl, sym, ap, subst, ◌∙◌}
+use Rattle.std.specs.Prelude.{option_to_list}
+use Rattle.std.proofs.lemmas.Bool.{eqb-true, eqb-false}
+use Rattle.std.proofs.lemmas.List.{reverse-append, take_all, take_more}
+use Rattle.layout.specs.Types.{User}
+use Rattle.client_tree.specs.Held.{Block, keeping_all}
+use Rattle.client_steps.specs.Steps.{Client, StepTaken, first}
+use Rattle.client_runs.specs.declared.world.Answer.{Answer}
+use Rattle.client_runs.specs.Runs.{Event, client_of}
+use Rattle.client_runs.specs.Carried.{script_keys}
+use Rattle.client_runs.specs.Clients.{client_at}
+use Rattle.consistency_server.specs.Answers.{Call}
+use Rattle.honest_runs.specs.declared.step.HonestStep.{HonestStep}
+use Rattle.honest_runs.specs.declared.town.Town.{Town}
+use Rattle.honest_runs.specs.HonestRuns.{HonestEvent, IsHonestRun, IsHonestStep, carried_out, events, history, stored}
+use Rattle.honest_runs.specs.Served.{AreServed, IsEventOf, Keep}
+use Rattle.honest_runs.specs.Town.{Happens, client_after}
+use Rattle.honest_runs.proofs.Events.{events_with, with_exchange, with_step}
+
+-- The steps so far with their answers are an honest run, after which clients, server and store are those in memory.
+pub record StandsSoFar {A : Type 0} (steps : List (HonestStep A)) (answers : List (Answer A)) (town : Town A) : Type 0 where
+  pub run : List HonestEvent
+  pub is_run : IsHonestRun script_keys run
+  pub kept : Keep (reverse steps) (reverse answers) run
+  pub clients : (u : User) → client_of u (events run) ≡ client_at town.clients u
+  pub calls : history run ≡ town.server
+  pub blocks : stored run ≡ town.store
+
+pub none_yet : {A : Type 0} (answers : List (Answer A)) (town : Town A) → answers ≡ [] → ((u : ℕ) → client_at town.clients u ≡ first) → town.store ≡ [] → town.server ≡ []
+    → StandsSoFar [] answers town
+none_yet {A} answers town none firsts blocks calls =
+    let stands : StandsSoFar [] [] town = record { run = []; is_run = tt; kept = tt; clients = λ u. sym (firsts u); calls = sym calls; blocks = sym blocks } in
+    subst (λ (given : List (Answer A)). StandsSoFar [] given town) (sym none) stands
+
+pub served : {A : Type 0} (steps : List (HonestStep A)) (answers : List (Answer A)) (town : Town A) → StandsSoFar steps answers town → AreServed steps answers
+served steps answers town s = record { run = s.run; is_run = s.is_run; kept = s.kept }
+
+-- ---- one step more
+
+last_first : {X : Type 0} (xs : List X) (x : X) → reverse (xs ++ x ∷ []) ≡ x ∷ reverse xs
+last_first xs x = reverse-append xs (x ∷ [])
+
+module _ {A : Type 0} (t : HonestStep A) (old new : Town A) (others : (v : ℕ) → v ≢ t.user → client_at new.clients v ≡ client_at old.clients v) where
+  -- each user's client is the one in memory still
+  next_client : (s : Option StepTaken) (older : List Event) → client_at new.clients t.user ≡ client_after (client_at old.clients t.user) s
+      → ((u : User) → client_of u older ≡ client_at old.clients u) → (u : User) → client_of u (events_with t.user s older) ≡ client_at new.clients u
+  next_client None older after same u =
+      elim (u == t.user) as (λ b. (u == t.user) ≡ b → client_of u older ≡ client_at new.clients u) [
+        | true ↦ (λ eq. same u ∙ ap (λ (v : User). client_at old.clients v) (eqb-true u t.user eq) ∙ sym after ∙ ap (λ (v : User). client_at new.clients v) (sym (eqb-true u t.user eq)))
+        | false ↦ (λ eq. same u ∙ sym (others u (eqb-false u t.user eq)))
+      ] refl
+  next_client (Some s) older after same u = go (t.user == u) refl
+    where
+      go : (b : Bool) → (t.user == u) ≡ b → (if b then s.after else client_of u older) ≡ client_at new.clients u
+      go true eq = sym after ∙ ap (λ (v : User). client_at new.clients v) (eqb-true t.user u eq)
+      go false eq = same u ∙ sym (others u (λ w. eqb-false t.user u eq (sym w)))
+
+module _ {A : Type 0} (steps : List (HonestStep A)) (answers : List (Answer A)) (t : HonestStep A) (a : Answer A) (old new : Town A) (s : StandsSoFar steps answers old) (h : Happens t a old new) where
+  abbrev e : HonestEvent
+  e = h.event
+
+  -- the step by what there was then
+  step_then : IsHonestStep script_keys (client_of e.user (events s.run)) (history s.run) (stored s.run) e
+  step_then =
+      let same : client_at old.clients t.user ≡ client_of e.user (events s.run) = sym (s.clients t.user) ∙ ap (λ (u : User). client_of u (events s.run)) (sym h.is_event.user) in
+      subst (λ (b : List Block). IsHonestStep script_keys (client_of e.user (events s.run)) (history s.run) b e) (sym s.blocks)
+      (subst (λ (c : List Call). IsHonestStep script_keys (client_of e.user (events s.run)) c old.store e) (sym s.calls)
+      (subst (λ (c : Client). IsHonestStep script_keys c old.server old.store e) same h.is_step))
+
+  keep_more : Keep (reverse (steps ++ t ∷ [])) (reverse (answers ++ a ∷ [])) (e ∷ s.run)
+  keep_more =
+      let event : IsEventOf (client_of t.user (events s.run)) t a e = subst (λ (c : Client). IsEventOf c t a e) (sym (s.clients t.user)) h.is_event in
+      subst (λ (ss : List (HonestStep A)). Keep ss (reverse (answers ++ a ∷ [])) (e ∷ s.run)) (sym (last_first steps t))
+      (subst (λ (as' : List (Answer A)). Keep (t ∷ reverse steps) as' (e ∷ s.run)) (sym (last_first answers a)) (event, s.kept))
+
+  clients_then : (u : User) → client_of u (events (e ∷ s.run)) ≡ client_at new.clients u
+  clients_then u =
+      ap (λ (es : List Event). client_of u es) (with_step e s.run ∙ ap (λ (v : User). events_with v e.step (events s.run)) h.is_event.user)
+      ∙ next_client t old new h.others e.step (events s.run) h.client s.clients u
+
+  more : StandsSoFar (steps ++ t ∷ []) (answers ++ a ∷ []) new
+  more = record {
+    run = e ∷ s.run;
+    is_run = (step_then, s.is_run);
+    kept = keep_more;
+    clients = clients_then;
+    calls = with_exchange e s.run ∙ ap (λ (c : List Call). option_to_list (option_and_then carried_out e.exchange) ++ c) s.calls ∙ sym h.calls;
+    blocks = ap (λ (b : List Block). keeping_all b e.put) s.blocks ∙ sym h.stored;
+  }
+
+-- the first steps, with the next one, and the answers with its answer
+pub step_more : {A : Type 0} (xs : List (HonestStep A)) (i : ℕ) (t : HonestStep A) → i < length xs → t ≡ get_or xs i t
+    → (answers after : List (Answer A)) (a : Answer A) (old new : Town A) → after ≡ answers ++ a ∷ []
+    → StandsSoFar (take i xs) answers old → Happens t a old new → StandsSoFar (take (i + 1) xs) after new
+step_more {A} xs i t within is answers after a old new pushed stands happens =
+    let next : take (i + 1) xs ≡ take i xs ++ t ∷ [] = take_more xs i t within ∙ ap (λ (s : HonestStep A). take i xs ++ s ∷ []) (sym is) in
+    subst (λ (given : List (Answer A)). StandsSoFar (take (i + 1) xs) given new) (sym pushed)
+    (subst (λ (done : List (HonestStep A)). StandsSoFar done (answers ++ a ∷ []) new) (sym next) (more (take i xs) answers t a old new stands happens))
+
+-- the first steps are all of them
+pub all_steps : {A : Type 0} (xs : List (HonestStep A)) (i : ℕ) (answers : List (Answer A)) (town : Town A) → length xs ≤ i
+    → StandsSoFar (take i xs) answers town → StandsSoFar xs answers town
+all_steps {A} xs i answers town past stands = subst (λ (done : List (HonestStep A)). StandsSoFar done answers town) (take_all i xs past) stands

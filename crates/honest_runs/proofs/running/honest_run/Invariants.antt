@@ -1,0 +1,10 @@
+use Rattle.std.proofs.Common.{take}
+use Rattle.honest_runs.specs.Town.{AreNoted}
+use Rattle.honest_runs.proofs.StepByStep.{StandsSoFar}
+use Rattle.honest_runs.proofs.running.honest_run.Given as goal
+
+abbrev pub invariant-loop-step : goal.invariant-loop-step
+invariant-loop-step g l = record {
+  noted : AreNoted l.town.clients l.town.wanted.items;
+  stands : StandsSoFar (take l.step-index l.steps) l.answers.items l.town;
+}

@@ -1,0 +1,120 @@
+-- Honest runs: steps of the clients of all users in any order, the latest first, with one server and one store of
+-- blocks. What a client is handed is what the server answered it in that very step, or the stored block that it asks
+-- for; and what its operations need is stored before it sends or signs anything.
+use Rattle.std.specs.Prelude.{◌≡◌, ◌≢◌, true, false, List, [], ◌∷◌, Option, Some, None, IfSome, IsSomeAnd, filter_map, if◌then◌else◌, length}
+use Rattle.std.specs.Option.{option_and_then, option_map}
+use Rattle.layout.specs.Types.{Bytes, Digest, Key, User}
+use Rattle.tree_parts.specs.Blocks.{Blocks}
+use Rattle.client_tree.specs.Held.{Block, held, keeping_all}
+use Rattle.wire.specs.declared.kinds.Status.TheVariants as status
+use Rattle.client_verify.specs.State.{asked_of}
+use Rattle.client_steps.specs.Steps.{Begins, Call as ClientCall, Client, Closed, Commits, Gives, Hears, IsSound, IsStep, Open, StepTaken, Takes}
+use Rattle.client_runs.specs.Runs.{Event, IsRun, Keys, client_of, owner, public_key}
+use Rattle.client_runs.specs.Released.{stored_texts}
+use Rattle.client_runs.specs.Clients.{certificate_of, structure_of}
+use Rattle.consistency_server.specs.declared.call.CallKind.{CallKind}
+use Rattle.consistency_server.specs.declared.call.CallKind.TheVariants.{Update, Commit}
+use Rattle.consistency_server.specs.Answers.{Answer, Call}
+use Rattle.consistency_server.specs.History.{answer_of, is_carried_out, log_of, logged}
+
+-- a call of the server, and what it answered
+pub record Exchange : Type 0 where
+  pub call : Call
+  pub answer : Answer
+
+-- What happens in a step: which texts are put into the store, which call is made of the server, and what the user's
+-- client does.
+pub record HonestEvent : Type 0 where
+  pub user : User
+  pub put : List Bytes
+  pub exchange : Option Exchange
+  pub step : Option StepTaken
+
+-- ---- what there is after these steps
+
+-- the events of the clients
+abbrev pub event_of : HonestEvent → Option Event
+event_of h = option_map (λ s. record { user = h.user; call = s.call; after = s.after }) h.step
+
+abbrev pub events : List HonestEvent → List Event
+events run = filter_map event_of run
+
+-- the calls that the server carried out, the newest first
+abbrev pub carried_out : Exchange → Option Call
+carried_out x = if is_carried_out x.answer.status then Some x.call else None
+
+abbrev pub history : List HonestEvent → List Call
+history run = filter_map (λ h. option_and_then carried_out h.exchange) run
+
+-- the stored blocks
+abbrev pub stored : List HonestEvent → List Block
+stored [] = []
+stored (h ∷ older) = keeping_all (stored older) h.put
+
+-- ---- what may happen
+
+-- what a client sends: the certificate that it has declared, or the structure that it has signed
+abbrev pub sent_by : Client → CallKind → Option Bytes
+sent_by client Update = certificate_of client
+sent_by client Commit = structure_of client
+
+-- The server answers by its history, unless its log of 1,024 calls is full, to which this call would go, or memory runs
+-- out.
+pub record IsAnswered (pinned : Key) (history : List Call) (x : Exchange) : Type 0 where
+  pub carried_out : is_carried_out x.answer.status ≡ true → x.answer ≡ answer_of pinned history x.call
+  pub bare : is_carried_out x.answer.status ≡ false → x.answer.payload ≡ []
+  pub full : x.answer.status ≡ status.Busy → length (log_of pinned history) ≡ 1024
+  pub logged_it : x.answer.status ≡ status.Busy
+      → logged (record { pinned = pinned; history = history }) x.call ≢ []
+
+-- the block that a reply under check asks for, and the one that a look asks for
+abbrev pub wanted_by : Client → Option Digest
+wanted_by (Closed p) = None
+wanted_by (Open s) = option_map (λ k. (asked_of k).digest) s.checked
+
+abbrev pub looked_for_by : Client → Option Digest
+looked_for_by (Closed p) = None
+looked_for_by (Open s) = option_map (λ l. l.asked.digest) (option_and_then (λ v. v.looking) s.view)
+
+-- the store has this block of the digest that is asked for, or none
+abbrev pub IsFound : Blocks → Option Digest → Option Bytes → Type 0
+IsFound blocks asked block = IsSomeAnd asked (λ digest. blocks digest ≡ block)
+
+-- A client is handed what the server answered it in this step, and no reply but one of status 0; and of blocks what is
+-- stored.
+abbrev pub IsHandedIn : Client → Blocks → Option Exchange → ClientCall → Type 0
+IsHandedIn client blocks exchange (Hears text answer) =
+    IsSomeAnd exchange (λ x. x.answer ≡ record { status = status.Ok; payload = text })
+IsHandedIn client blocks exchange (Takes block answer) = IsFound blocks (wanted_by client) block
+IsHandedIn client blocks exchange (Commits given) = IsSomeAnd exchange (λ x. x.answer.status ≡ given)
+IsHandedIn client blocks exchange (Gives block answer) = IsFound blocks (looked_for_by client) block
+IsHandedIn client blocks exchange call = Unit {0}
+
+-- the texts that are put into the store with a call: what is laid out for an operation, and what the client hands out
+-- to be stored
+abbrev pub put_with : ClientCall → List Bytes
+put_with (Begins changes laid answer) = laid
+put_with (Hears text answer) = stored_texts answer
+put_with (Takes block answer) = stored_texts answer
+put_with call = []
+
+-- a step, where the user's client is this, the server carried out these calls, and these blocks are stored
+pub record IsHonestStep (keys : Keys) (client : Client) (calls : List Call) (blocks : List Block)
+    (h : HonestEvent) : Type 0 where
+  -- The client sends its own text, and the server answers it.
+  pub sent : IfSome h.exchange (λ x. sent_by client x.call.kind ≡ Some x.call.text)
+  pub answered : IfSome h.exchange (IsAnswered (public_key keys 0) calls)
+  -- What the client does is a step of it.
+  pub taken : IfSome h.step (λ s. IsStep (owner keys h.user) client s.call s.after × IsSound s.after)
+  pub handed_in : IfSome h.step (λ s. IsHandedIn client (held blocks) h.exchange s.call)
+  pub put : IfSome h.step (λ s. h.put ≡ put_with s.call)
+
+-- each is a step by what there was then
+abbrev pub IsHonestRun : Keys → List HonestEvent → Type 0
+IsHonestRun keys [] = Unit {0}
+IsHonestRun keys (h ∷ older) = IsHonestStep keys (client_of h.user (events older)) (history older) (stored older) h
+    × IsHonestRun keys older
+
+-- what its clients do is a run, of which the servers and stores of fork consistency might be any
+abbrev pub AreRuns : Type 0
+AreRuns = (keys : Keys) (run : List HonestEvent) → IsHonestRun keys run → IsRun keys (events run)

@@ -1,0 +1,3 @@
+pub mod HonestRuns
+pub mod Served
+pub mod Town

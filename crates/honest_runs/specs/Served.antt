@@ -1,0 +1,112 @@
+-- Honest steps that were carried out: they are an honest run.
+use Rattle.std.specs.Prelude.{◌≡◌, ℕ, List, [], ◌∷◌, Option, Some, None, MatchOption, reverse}
+use Rattle.std.specs.declared.vec.Vec.{Vec}
+use Rattle.layout.specs.Types.{Bytes}
+use Rattle.wire.specs.declared.kinds.Status.{Status}
+use Rattle.wire.specs.declared.kinds.Status.TheVariants as status
+use Rattle.client_steps.specs.Steps.{Client, StepTaken}
+use Rattle.client_runs.specs.declared.world.Act.{Act}
+use Rattle.client_runs.specs.declared.world.Act.TheVariants as act
+use Rattle.client_runs.specs.declared.world.Answer.{Answer}
+use Rattle.client_runs.specs.declared.world.Answer.TheVariants.{Committed, NotTaken, Served}
+use Rattle.client_runs.specs.Runs.{client_of}
+use Rattle.client_runs.specs.Told.{IsTold, call_of, texts_in}
+use Rattle.client_runs.specs.NotTaken.{CantBeTaken}
+use Rattle.client_runs.specs.Carried.{script_keys}
+use Rattle.consistency_server.specs.declared.call.CallKind.{CallKind}
+use Rattle.consistency_server.specs.declared.call.CallKind.TheVariants.{Update, Commit}
+use Rattle.honest_runs.specs.declared.step.Delivery.{Delivery}
+use Rattle.honest_runs.specs.declared.step.Delivery.TheVariants as delivery
+use Rattle.honest_runs.specs.declared.step.HonestAct.{HonestAct}
+use Rattle.honest_runs.specs.declared.step.HonestAct.TheVariants as honest
+use Rattle.honest_runs.specs.declared.step.HonestStep.{HonestStep}
+use Rattle.honest_runs.specs.HonestRuns.{HonestEvent, IsHonestRun, events, sent_by}
+
+-- ---- what a client does
+
+-- a client that is told to do this takes this step, and answers so; or it can't, and takes none
+abbrev pub Does : {A : Type 0} → Client → Act A → Option StepTaken → Answer A → Type 0
+Does client todo (Some s) answer = (call_of todo answer ≡ Some s.call) × IsTold todo answer s.after
+Does client todo None NotTaken = CantBeTaken client todo
+Does client todo None answer = ⊥
+
+-- nothing is done
+abbrev pub IsNotDone : {A : Type 0} → Option StepTaken → Answer A → Type 0
+IsNotDone step answer = (step ≡ None) × (answer ≡ NotTaken)
+
+-- A client does this alone. It hands nothing in to itself.
+abbrev pub DoesAlone : {A : Type 0} → Client → Act A → Option StepTaken → Answer A → Type 0
+DoesAlone client (act.Reply text) step answer = IsNotDone step answer
+DoesAlone client (act.Block block) step answer = IsNotDone step answer
+DoesAlone client (act.Committed status) step answer = IsNotDone step answer
+DoesAlone client (act.Give block) step answer = IsNotDone step answer
+DoesAlone client todo step answer = Does client todo step answer
+
+-- ---- what comes of a call of the server
+
+-- how the server answered is told, and nothing is handed in
+abbrev pub IsServed : {A : Type 0} → Status → Option StepTaken → Answer A → Type 0
+IsServed status step answer = (step ≡ None) × (answer ≡ Served status)
+
+-- a reply comes with status 0 alone
+abbrev pub HearsReply : {A : Type 0} → Client → Status → Option StepTaken → Answer A → Type 0
+HearsReply {A} client status.Ok step answer = (text : Vec ℕ A) × Does client (act.Reply text) step answer
+HearsReply client other step answer = IsServed other step answer
+
+-- the status of a structure is handed in, and told
+abbrev pub HearsStatus : {A : Type 0} → Client → Status → Option StepTaken → Answer A → Type 0
+HearsStatus {A} client status step answer = Does {A = A} client (act.Committed status) step Committed
+    × (answer ≡ Served status)
+
+-- what comes of an answer that is lost, or arrives
+abbrev pub IsDelivered : {A : Type 0} → Client → CallKind → Delivery → Status → Option StepTaken → Answer A → Type 0
+IsDelivered client kind delivery.Lost status step answer = IsServed status step answer
+IsDelivered client Update delivery.Arrives status step answer = HearsReply client status step answer
+IsDelivered client Commit delivery.Arrives status step answer = HearsStatus client status step answer
+
+-- the client makes such a call, if it has what it sends with it
+abbrev pub Calls : {A : Type 0} → Client → CallKind → Delivery → HonestEvent → Answer A → Type 0
+Calls client kind how h answer =
+    MatchOption h.exchange ((sent_by client kind ≡ None) × IsNotDone h.step answer)
+    (λ x. (x.call.kind ≡ kind) × IsDelivered client kind how x.answer.status h.step answer)
+
+-- ---- steps
+
+-- what comes of a step
+abbrev pub Comes : {A : Type 0} → Client → HonestAct A → HonestEvent → Answer A → Type 0
+Comes client (honest.Alone todo) h answer = (h.exchange ≡ None) × DoesAlone client todo h.step answer
+Comes client (honest.Update how) h answer = Calls client Update how h answer
+Comes client (honest.Commit how) h answer = Calls client Commit how h answer
+Comes {A} client honest.Block h answer = (h.exchange ≡ None)
+    × ((block : Option (Vec ℕ A)) × Does client (act.Block block) h.step answer)
+Comes {A} client honest.Give h answer = (h.exchange ≡ None)
+    × ((block : Option (Vec ℕ A)) × Does client (act.Give block) h.step answer)
+
+-- what is laid out for an operation, whether or not it can be begun
+abbrev pub laid_by : {A : Type 0} → Act A → List Bytes
+laid_by (act.Begin changes laid) = texts_in laid
+laid_by other = []
+
+abbrev pub laid_for : {A : Type 0} → HonestAct A → List Bytes
+laid_for (honest.Alone todo) = laid_by todo
+laid_for other = []
+
+-- what happens in a step that gives this answer
+pub record IsEventOf {A : Type 0} (client : Client) (step : HonestStep A) (answer : Answer A)
+    (h : HonestEvent) : Type 0 where
+  pub user : h.user ≡ step.user
+  pub comes : Comes client step.act h answer
+  pub laid : h.step ≡ None → h.put ≡ laid_for step.act
+
+-- these steps gave these answers, and this happened in them, the latest first
+abbrev pub Keep : {A : Type 0} → List (HonestStep A) → List (Answer A) → List HonestEvent → Type 0
+Keep [] [] [] = Unit {0}
+Keep (step ∷ steps) (answer ∷ answers) (h ∷ older) = IsEventOf (client_of step.user (events older)) step answer h
+    × Keep steps answers older
+Keep steps answers run = ⊥
+
+-- the steps with their answers are an honest run of clients with these keys
+pub record AreServed {A : Type 0} (steps : List (HonestStep A)) (answers : List (Answer A)) : Type 0 where
+  pub run : List HonestEvent
+  pub is_run : IsHonestRun script_keys run
+  pub kept : Keep (reverse steps) (reverse answers) run

@@ -1,0 +1,121 @@
+-- Clients, server and store in memory: for private contracts. Nobody has to believe this file.
+use Rattle.std.specs.Prelude.{◌≡◌, ◌≢◌, ℕ, Bool, true, false, List, [], ◌++◌, Option, Some, None, IfSome, Ok, length, option_and_then, option_to_list, slice_index_or}
+use Rattle.std.specs.declared.vec.Vec.{Vec}
+use Rattle.layout.specs.Types.{Bytes, User}
+use Rattle.client_tree.specs.Held.{keeping_all}
+use Rattle.wire.specs.declared.kinds.Status.{Status}
+use Rattle.wire.specs.declared.kinds.Status.TheVariants as status
+use Rattle.client_verify.specs.declared.look.Look.TheVariants as look
+use Rattle.client_verify.specs.declared.step.Step.TheVariants as step
+use Rattle.client_steps.specs.Steps.{Client, StepTaken}
+use Rattle.client_runs.specs.declared.world.Act.{Act}
+use Rattle.client_runs.specs.declared.world.Act.TheVariants as act
+use Rattle.client_runs.specs.declared.world.Answer.{Answer}
+use Rattle.client_runs.specs.declared.world.Answer.TheVariants.{Asks, Sees, Served}
+use Rattle.client_runs.specs.Runs.{owner, public_key}
+use Rattle.client_runs.specs.Told.{texts_in}
+use Rattle.client_runs.specs.Carried.{ComesOf, script_keys}
+use Rattle.client_runs.specs.Clients.{client_at}
+use Rattle.consistency_server.specs.declared.call.CallKind.{CallKind}
+use Rattle.consistency_server.specs.Answers.{Answer as ServerAnswer, Call}
+use Rattle.consistency_server.specs.History.{call_of}
+use Rattle.honest_runs.specs.declared.step.HonestStep.{HonestStep}
+use Rattle.honest_runs.specs.declared.town.Town.{Town}
+use Rattle.honest_runs.specs.declared.wanted.Wanted.{Wanted}
+use Rattle.honest_runs.specs.HonestRuns.{Exchange, HonestEvent, IsAnswered, IsHonestStep, carried_out, looked_for_by, sent_by, wanted_by}
+use Rattle.honest_runs.specs.Served.{IsEventOf}
+
+-- ---- what clients ask for
+
+abbrev pub nothing : Wanted
+nothing = record { reply = None; look = None }
+
+abbrev pub wanted_at : List Wanted → User → Wanted
+wanted_at wanted u = slice_index_or wanted u nothing
+
+-- what a client asks for after it answered so
+abbrev pub noting : {A : Type 0} → Wanted → Answer A → Wanted
+noting w (Asks (Ok (step.Need digest))) = record { reply = Some digest; look = w.look }
+noting w (Sees (Ok (look.Need digest))) = record { reply = w.reply; look = Some digest }
+noting w other = w
+
+-- what the client asks for is noted
+abbrev pub IsNoted : Client → Wanted → Type 0
+IsNoted client w = IfSome (wanted_by client) (λ d. w.reply ≡ Some d)
+    × IfSome (looked_for_by client) (λ d. w.look ≡ Some d)
+
+pub record AreNoted (clients : List Client) (wanted : List Wanted) : Type 0 where
+  pub size : length wanted ≡ 64
+  pub each : (u : User) → IsNoted (client_at clients u) (wanted_at wanted u)
+
+-- ---- what is stored
+
+-- what a client hands out to be stored
+abbrev pub handed_out : {A : Type 0} → Answer A → List Bytes
+handed_out (Asks (Ok (step.Store texts))) = texts_in texts
+handed_out other = []
+
+-- it hands something in
+abbrev pub hands_in : {A : Type 0} → Act A → Bool
+hands_in (act.Reply text) = true
+hands_in (act.Block block) = true
+hands_in (act.Committed status) = true
+hands_in (act.Give block) = true
+hands_in other = false
+
+-- ---- calls of the server
+
+abbrev pub exchange_of : CallKind → Bytes → ServerAnswer → Exchange
+exchange_of kind text a = record { call = call_of kind text; answer = a }
+
+-- a client's text was sent, and the server answered it
+pub record IsSent (kind : CallKind) (client : Client) (old : List Call) (a : ServerAnswer)
+    (new : List Call) : Type 0 where
+  pub text : Bytes
+  pub sent : sent_by client kind ≡ Some text
+  pub answered : IsAnswered (public_key script_keys 0) old (exchange_of kind text a)
+  pub history : new ≡ option_to_list (carried_out (exchange_of kind text a)) ++ old
+
+-- ---- what comes of a step
+
+-- what of the town is as before, and what was stored and noted, after a user's client answered so
+pub record IsTold {A : Type 0} (u : User) (answer : Answer A) (old new : Town A) : Type 0 where
+  pub others : (v : ℕ) → v ≢ u → client_at new.clients v ≡ client_at old.clients v
+  pub stored : new.store ≡ keeping_all old.store (handed_out answer)
+  pub noted : AreNoted new.clients new.wanted.items
+  pub server : new.server ≡ old.server
+
+-- what comes of a user's client that is told to do this
+abbrev pub ComesTo : {A : Type 0} → User → Act A → Answer A → Town A → Town A → Type 0
+ComesTo u todo answer old new =
+    ComesOf (owner script_keys u) (client_at old.clients u) todo answer (client_at new.clients u)
+
+-- what comes of an answer with this status: its payload is handed in as a reply, if it is one
+abbrev pub Hears : {A : Type 0} → User → Status → Bytes → Answer A → Town A → Town A → Type 0
+Hears {A} u status.Ok payload answer old new =
+    (text : Vec ℕ A) × (text.items ≡ payload) × ComesTo u (act.Reply text) answer old new
+Hears u other payload answer old new = (answer ≡ Served other)
+    × (client_at new.clients u ≡ client_at old.clients u)
+
+-- the status of a structure is handed in, and told
+pub record Acknowledges {A : Type 0} (u : User) (status : Status) (answer : Answer A) (old new : Town A) : Type 0 where
+  pub is : answer ≡ Served status
+  pub told : Answer A
+  pub comes : ComesTo u (act.Committed status) told old new
+  pub is_told : IsTold u told old new
+
+-- the client after a step of it, if it took one
+abbrev pub client_after : Client → Option StepTaken → Client
+client_after before None = before
+client_after before (Some s) = s.after
+
+-- what happens in a step, and what is there after it
+pub record Happens {A : Type 0} (todo : HonestStep A) (answer : Answer A) (old new : Town A) : Type 0 where
+  pub event : HonestEvent
+  pub is_step : IsHonestStep script_keys (client_at old.clients todo.user) old.server old.store event
+  pub is_event : IsEventOf (client_at old.clients todo.user) todo answer event
+  pub client : client_at new.clients todo.user ≡ client_after (client_at old.clients todo.user) event.step
+  pub others : (v : ℕ) → v ≢ todo.user → client_at new.clients v ≡ client_at old.clients v
+  pub calls : new.server ≡ option_to_list (option_and_then carried_out event.exchange) ++ old.server
+  pub stored : new.store ≡ keeping_all old.store event.put
+  pub noted : AreNoted new.clients new.wanted.items

@@ -1,0 +1,282 @@
+//! The clients of all users, the server and the store, and a step of them.
+
+ghost use Rattle.std.specs.Prelude.{◌≡◌, ℕ, [], IfOk, MatchOption, None, OnOk, map, option_and_then, option_map};
+ghost use Rattle.std.specs.Option.{option_copied};
+ghost use Rattle.std.specs.Vec.{vec_items};
+ghost use Rattle.client_tree.specs.Held.{held, keeping_all};
+ghost use Rattle.client_runs.specs.Clients.{client_at};
+ghost use Rattle.client_steps.specs.Steps.{first};
+ghost use Rattle.honest_runs.specs.HonestRuns.{sent_by};
+ghost use Rattle.honest_runs.specs.Town.{Acknowledges, AreNoted, ComesTo, Happens, Hears, IsSent, IsTold, handed_out};
+ghost use Rattle.honest_runs.specs.Town.{hands_in as hands_in_of};
+ghost use Rattle.honest_runs.specs.Served.{laid_by};
+
+use crate::server::Server;
+use crate::step::{Delivery, HonestAct, HonestStep};
+use crate::wanted::{Wanted, note, nothing_wanted};
+use client_runs::{Act, Answer, Clients};
+use client_tree::Held;
+use client_verify::Step;
+use consistency_server::{Answer as ServerAnswer, CallKind};
+use layout::{Digest, Memory, User, beside, let_go};
+use std::alloc::Allocator;
+use tree_parts::Blocks;
+use wire::Status;
+
+/// The clients of all users, which blocks they ask for, the store and the server.
+#[derive(Drop)]
+pub(crate) struct Town<A: Allocator + Copy> {
+    alloc: A,
+    clients: Clients<A>,
+    wanted: Vec<Wanted, A>,
+    store: Held<A>,
+    server: Server<A>,
+}
+
+// ---- the store
+
+/// Puts copies of these texts into the store.
+fn put_all<A: Allocator + Copy>(
+    alloc: A,
+    store: &mut Held<A>,
+    texts: &[Vec<u8, A>],
+) -> Result<(), Memory>
+    ensures { OnOk result (store.new ≡ keeping_all store.old (map vec_items texts.now)) }
+{
+    for text in texts {
+        store.keep(Vec::from_slice(alloc, text)?)?;
+    }
+    Ok(())
+}
+
+/// Puts what is laid out into the store.
+#[tactic(auto, unfolding(client_tree::specs::Held::keeping_all))]
+fn put_laid<A: Allocator + Copy>(alloc: A, store: &mut Held<A>, act: &Act<A>) -> Result<(), Memory>
+    ensures { OnOk result (store.new ≡ keeping_all store.old (laid_by act.now)) }
+{
+    match act {
+        Act::Begin(_, laid) => put_all(alloc, store, laid),
+        _ => Ok(()),
+    }
+}
+
+/// Puts what a client hands out to be stored into the store.
+#[tactic(auto, unfolding(client_tree::specs::Held::keeping_all))]
+fn put_handed_out<A: Allocator + Copy>(
+    alloc: A,
+    store: &mut Held<A>,
+    answer: &Answer<A>,
+) -> Result<(), Memory>
+    ensures { OnOk result (store.new ≡ keeping_all store.old (handed_out answer.now)) }
+{
+    match answer {
+        Answer::Asks(Ok(Step::Store(texts))) => put_all(alloc, store, texts),
+        _ => Ok(()),
+    }
+}
+
+/// The stored block of a digest, if one is asked for and stored.
+fn stored<A: Allocator + Copy>(
+    alloc: A,
+    store: &Held<A>,
+    wanted: Option<Digest>,
+) -> Result<Option<Vec<u8, A>>, Memory>
+    ensures { IfOk result (λ block. option_map vec_items block ≡ option_and_then (held store.now) wanted) }
+{
+    let Some(digest) = wanted else {
+        return Ok(None);
+    };
+    match store.get(digest) {
+        Some(text) => Ok(Some(Vec::from_slice(alloc, text)?)),
+        None => Ok(None),
+    }
+}
+
+// ---- the server
+
+/// The text that a user's client sends with such a call, if it has one.
+fn text_of<A: Allocator + Copy>(clients: &Clients<A>, kind: CallKind, user: User) -> Option<&[u8]>
+    ensures { option_copied result ≡ sent_by (client_at clients.now user) kind }
+{
+    match kind {
+        CallKind::Update => clients.certificate(user),
+        CallKind::Commit => clients.structure(user),
+    }
+}
+
+/// Sends what a user's client has to be sent with such a call, and gives the server's answer.
+fn ask<A: Allocator + Copy>(
+    clients: &Clients<A>,
+    server: &mut Server<A>,
+    kind: CallKind,
+    user: User,
+) -> Option<ServerAnswer<A>>
+    ensures { MatchOption result ((sent_by (client_at clients.now user) kind ≡ None) × (server.new ≡ server.old))
+        (λ answer. IsSent kind (client_at clients.now user) server.old answer server.new) }
+{
+    let text = text_of(clients, kind, user)?;
+    Some(server.answer(kind, text))
+}
+
+/// What is told of an answer that is lost: its status.
+fn served<A: Allocator>(answer: ServerAnswer<A>) -> Answer<A>
+    ensures { result ≡ Answer.Served answer.status }
+{
+    let told = Answer::Served(answer.status());
+    let_go(answer);
+    told
+}
+
+// ---- steps
+
+/// Whether it hands something in.
+fn hands_in<A: Allocator>(act: &Act<A>) -> bool
+    ensures { result ≡ hands_in_of act.now }
+{
+    matches!(
+        act,
+        Act::Reply(_) | Act::Block(_) | Act::Committed(_) | Act::Give(_)
+    )
+}
+
+impl<A: Allocator + Copy> Town<A> {
+    /// Before the first step: nothing stands on any device, and nothing is stored.
+    pub(crate) fn new(alloc: A) -> Result<Town<A>, Memory>
+        ensures clients { IfOk result (λ town. (u : ℕ) → client_at town.clients u ≡ first) }
+        ensures noted { IfOk result (λ town. AreNoted town.clients town.wanted.items) }
+        ensures stored { IfOk result (λ town. town.store ≡ []) }
+        ensures calls { IfOk result (λ town. town.server ≡ []) }
+    {
+        let clients = Clients::new(alloc)?;
+        let wanted = nothing_wanted(alloc)?;
+        let server = Server::new(alloc, clients.pinned())?;
+        Ok(Town {
+            alloc,
+            clients,
+            wanted,
+            store: Held::empty(alloc),
+            server,
+        })
+    }
+
+    /// Has the step's client do this, notes what it asks for, and stores what it hands out.
+    fn tell(&mut self, step: &HonestStep<A>, act: &Act<A>) -> Result<Answer<A>, Memory>
+        requires { AreNoted self.old.clients self.old.wanted.items }
+        ensures comes { IfOk result (λ answer. ComesTo step.now.user act.now answer self.old self.new) }
+        ensures told { IfOk result (λ answer. IsTold step.now.user answer self.old self.new) }
+    {
+        let answer = self
+            .clients
+            .carry_out(step.user, act, step.ledger_fails, step.journal_fails)?;
+        note(&mut self.wanted, step.user, &answer);
+        let put = put_handed_out(self.alloc, &mut self.store, &answer);
+        let (answer, _) = beside(answer, put)?;
+        Ok(answer)
+    }
+
+    /// The client does something alone.
+    fn alone(&mut self, step: &HonestStep<A>, act: &Act<A>) -> Result<Answer<A>, Memory>
+        requires noted { AreNoted self.old.clients self.old.wanted.items }
+        requires act { step.now.act ≡ HonestAct.Alone act.now }
+        ensures { IfOk result (λ answer. Happens step.now answer self.old self.new) }
+    {
+        if hands_in(act) {
+            return Ok(Answer::NotTaken);
+        }
+        put_laid(self.alloc, &mut self.store, act)?;
+        self.tell(step, act)
+    }
+
+    /// The reply of an answer is handed in, if it has one.
+    fn reply(&mut self, step: &HonestStep<A>, answer: ServerAnswer<A>) -> Result<Answer<A>, Memory>
+        requires { AreNoted self.old.clients self.old.wanted.items }
+        ensures comes { IfOk result (λ told. Hears step.now.user answer.status answer.payload told self.old self.new) }
+        ensures told { IfOk result (λ told. IsTold step.now.user told self.old self.new) }
+    {
+        match answer.status() {
+            Status::Ok => {
+                let act = Act::Reply(answer.into_payload());
+                self.tell(step, &act)
+            }
+            _ => Ok(served(answer)),
+        }
+    }
+
+    /// The certificate is sent, and the reply may arrive.
+    fn update(&mut self, step: &HonestStep<A>, delivery: Delivery) -> Result<Answer<A>, Memory>
+        requires noted { AreNoted self.old.clients self.old.wanted.items }
+        requires act { step.now.act ≡ HonestAct.Update delivery }
+        ensures { IfOk result (λ answer. Happens step.now answer self.old self.new) }
+    {
+        let Some(answer) = ask(&self.clients, &mut self.server, CallKind::Update, step.user) else {
+            return Ok(Answer::NotTaken);
+        };
+        match delivery {
+            Delivery::Lost => Ok(served(answer)),
+            Delivery::Arrives => self.reply(step, answer),
+        }
+    }
+
+    /// The block that the reply under check asks for is handed in, as the store has it.
+    fn block(&mut self, step: &HonestStep<A>) -> Result<Answer<A>, Memory>
+        requires noted { AreNoted self.old.clients self.old.wanted.items }
+        requires act { step.now.act ≡ HonestAct.Block }
+        ensures { IfOk result (λ answer. Happens step.now answer self.old self.new) }
+    {
+        let wanted = self.wanted[step.user.get() as usize].reply;
+        let act = Act::Block(stored(self.alloc, &self.store, wanted)?);
+        self.tell(step, &act)
+    }
+
+    /// The status of a structure is handed in.
+    fn acknowledge(&mut self, step: &HonestStep<A>, status: Status) -> Result<Answer<A>, Memory>
+        requires { AreNoted self.old.clients self.old.wanted.items }
+        ensures { IfOk result (λ answer. Acknowledges step.now.user status answer self.old self.new) }
+    {
+        let told = self.tell(step, &Act::Committed(status))?;
+        let_go(told);
+        Ok(Answer::Served(status))
+    }
+
+    /// The structure is sent, and the status may arrive.
+    fn commit(&mut self, step: &HonestStep<A>, delivery: Delivery) -> Result<Answer<A>, Memory>
+        requires noted { AreNoted self.old.clients self.old.wanted.items }
+        requires act { step.now.act ≡ HonestAct.Commit delivery }
+        ensures { IfOk result (λ answer. Happens step.now answer self.old self.new) }
+    {
+        let Some(answer) = ask(&self.clients, &mut self.server, CallKind::Commit, step.user) else {
+            return Ok(Answer::NotTaken);
+        };
+        let status = answer.status();
+        let_go(answer);
+        match delivery {
+            Delivery::Lost => Ok(Answer::Served(status)),
+            Delivery::Arrives => self.acknowledge(step, status),
+        }
+    }
+
+    /// The block that the look asks for is handed in, as the store has it.
+    fn give(&mut self, step: &HonestStep<A>) -> Result<Answer<A>, Memory>
+        requires noted { AreNoted self.old.clients self.old.wanted.items }
+        requires act { step.now.act ≡ HonestAct.Give }
+        ensures { IfOk result (λ answer. Happens step.now answer self.old self.new) }
+    {
+        let wanted = self.wanted[step.user.get() as usize].look;
+        let act = Act::Give(stored(self.alloc, &self.store, wanted)?);
+        self.tell(step, &act)
+    }
+
+    /// Carries out a step.
+    pub(crate) fn carry_out(&mut self, step: &HonestStep<A>) -> Result<Answer<A>, Memory>
+        requires { AreNoted self.old.clients self.old.wanted.items }
+        ensures { IfOk result (λ answer. Happens step.now answer self.old self.new) }
+    {
+        match &step.act {
+            HonestAct::Alone(act) => self.alone(step, act),
+            HonestAct::Update(delivery) => self.update(step, *delivery),
+            HonestAct::Block => self.block(step),
+            HonestAct::Commit(delivery) => self.commit(step, *delivery),
+            HonestAct::Give => self.give(step),
+        }
+    }
+}

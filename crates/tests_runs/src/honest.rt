@@ -1,0 +1,223 @@
+//! Honest runs: user 0's first operation, and two users' operations that are pending together while user 0 reads. What
+//! is accepted, read and answered is told by hand.
+
+use crate::here::Here;
+use crate::planning::user;
+use client_runs::{Accepted, Act, Answer};
+use client_verify::Look;
+use honest_runs::{Delivery, HonestAct, HonestStep, honest_run};
+use layout::let_go;
+use std::alloc::Global;
+use tests_aids::numbers::{i_number, principal};
+use tests_aids::texts::key_of;
+use tests_aids::{Aided, Host, check};
+use tests_client_aids::changes::{Planned, listing_both, making, nothing};
+use wire::Status;
+
+/// How many blocks each reply and each look is handed at most. Those that aren't asked for aren't taken.
+const BLOCKS: u8 = 10;
+
+/// The i-number at which each user makes its file.
+const PLACE: u16 = 5;
+
+const OF_ONE: &[u8] = b"of user 1";
+
+const OF_TWO: &[u8] = b"and of user 2";
+
+/// The beginning of user 0's first certificate: its tag, the user and the number.
+const FIRST_CERTIFICATE: &[u8] = b"SUC1\0\0\0\0\x01";
+
+/// The bodies of its frames, without their kind: 42 bytes and a signature, 87 bytes and a signature.
+const CERTIFICATE_SIZE: usize = 0x9f7 - 1;
+
+const STRUCTURE_SIZE: usize = 0xa24 - 1;
+
+/// Steps, to be carried out.
+#[derive(Drop)]
+pub(crate) struct Script {
+    pub(crate) steps: Vec<HonestStep<Global>>,
+}
+
+impl Script {
+    pub(crate) fn new(rt: &impl Host) -> Script {
+        Script {
+            steps: Vec::new(rt.alloc()),
+        }
+    }
+
+    /// A user's step in which the devices fail after so many calls.
+    pub(crate) fn add_failing(
+        &mut self,
+        rt: &impl Host,
+        number: u8,
+        act: HonestAct<Global>,
+        ledger_fails: Option<u64>,
+        journal_fails: Option<u64>,
+    ) {
+        let step = HonestStep {
+            user: user(rt, number),
+            act,
+            ledger_fails,
+            journal_fails,
+        };
+        self.steps.push(step).expect(rt, "memory");
+    }
+
+    /// A user's step.
+    pub(crate) fn add(&mut self, rt: &impl Host, number: u8, act: HonestAct<Global>) {
+        self.add_failing(rt, number, act, None, None);
+    }
+
+    /// What a user's client does alone.
+    pub(crate) fn alone(&mut self, rt: &impl Host, number: u8, act: Act<Global>) {
+        self.add(rt, number, HonestAct::Alone(act));
+    }
+
+    pub(crate) fn opens(&mut self, rt: &impl Host, number: u8) {
+        self.alone(rt, number, Act::Open);
+    }
+
+    /// The client is closed and opened again.
+    pub(crate) fn reopens(&mut self, rt: &impl Host, number: u8) {
+        self.alone(rt, number, Act::Close);
+        self.opens(rt, number);
+    }
+
+    /// A user declares an operation.
+    pub(crate) fn declares(&mut self, rt: &impl Host, number: u8, planned: Planned) {
+        let Planned { changes, laid } = planned;
+        self.alone(rt, number, Act::Begin(changes, laid));
+    }
+
+    /// A user declares an operation, and its reply arrives.
+    pub(crate) fn begins(&mut self, rt: &impl Host, number: u8, planned: Planned) {
+        self.declares(rt, number, planned);
+        self.add(rt, number, HonestAct::Update(Delivery::Arrives));
+    }
+
+    /// The reply under check is handed blocks.
+    pub(crate) fn judges(&mut self, rt: &impl Host, number: u8) {
+        for _ in 0..BLOCKS {
+            self.add(rt, number, HonestAct::Block);
+        }
+    }
+
+    /// A user checks the reply, signs and commits.
+    pub(crate) fn finishes(&mut self, rt: &impl Host, number: u8) {
+        self.judges(rt, number);
+        self.alone(rt, number, Act::Sign);
+        self.add(rt, number, HonestAct::Commit(Delivery::Arrives));
+    }
+
+    /// The look under way is handed blocks.
+    pub(crate) fn is_given(&mut self, rt: &impl Host, number: u8) {
+        for _ in 0..BLOCKS {
+            self.add(rt, number, HonestAct::Give);
+        }
+    }
+
+    /// User 0 looks at the file of another user's.
+    fn looks(&mut self, rt: &impl Host, owner: u8) {
+        let act = Act::Look(principal(rt, owner), i_number(rt, PLACE));
+        self.alone(rt, 0, act);
+        self.is_given(rt, 0);
+    }
+
+    /// User 0 operates without a change, and looks at both files.
+    fn reads_both(&mut self, rt: &impl Host) {
+        self.begins(rt, 0, nothing(rt));
+        self.finishes(rt, 0);
+        self.looks(rt, 1);
+        self.looks(rt, 2);
+    }
+
+    pub(crate) fn answers(&self, rt: &impl Host) -> Vec<Answer<Global>> {
+        let answers = honest_run(rt.alloc(), &self.steps)
+            .expect(rt, "memory")
+            .answers;
+        check(rt, answers.len() == self.steps.len(), "one answer a step");
+        answers
+    }
+}
+
+/// The accepted view of an answer, if it is one.
+pub(crate) fn accepted_in(answer: &Answer<Global>) -> Option<&Accepted<Global>> {
+    match answer {
+        Answer::Signed(Ok(accepted)) => Some(accepted),
+        _ => None,
+    }
+}
+
+/// The file of an answer, if it is one.
+fn file_in(answer: &Answer<Global>) -> Option<&[u8]> {
+    match answer {
+        Answer::Sees(Ok(Look::File(bytes))) => Some(bytes),
+        _ => None,
+    }
+}
+
+/// Whether a structure was committed, or an answer of status 0 got lost.
+pub(crate) fn is_committed(answer: &Answer<Global>) -> bool {
+    matches!(answer, Answer::Served(Status::Ok))
+}
+
+/// User 0's first operation, without a change.
+#[test]
+fn first_operation_of_an_honest_run(rt: HostRuntime) {
+    let rt = &(rt, Here);
+    let mut script = Script::new(rt);
+    script.opens(rt, 0);
+    script.begins(rt, 0, nothing(rt));
+    script.finishes(rt, 0);
+    let answers = script.answers(rt);
+    let begun = answers.get(1).expect(rt, "a step");
+    let Answer::Begun(Ok(certificate)) = begun else {
+        rt.fail("no certificate")
+    };
+    check(rt, certificate.len() == CERTIFICATE_SIZE, "its size");
+    check(
+        rt,
+        certificate.starts_with(FIRST_CERTIFICATE),
+        "whose it is",
+    );
+    let views = answers.iter().filter_map(accepted_in);
+    let mut views = views.map(|view| (view.text.len(), view.structures.len(), view.lost.len()));
+    check(rt, views.next() == Some((STRUCTURE_SIZE, 1, 0)), "the view");
+    check(rt, views.next().is_none(), "the only one");
+    let last = answers.last().expect(rt, "a step");
+    check(rt, is_committed(last), "committed");
+    let_go(answers);
+    let_go(script);
+}
+
+/// Users 1 and 2 have writes pending, which user 0 reads: once user 2 has committed, and once user 1 has, too.
+#[test]
+fn two_write_in_an_honest_run(rt: HostRuntime) {
+    let rt = &(rt, Here);
+    let mut script = Script::new(rt);
+    for user in 0..3 {
+        script.opens(rt, user);
+    }
+    let (one, two) = (key_of(rt, 1).public(), key_of(rt, 2).public());
+    script.begins(rt, 0, listing_both(rt, one, two));
+    script.finishes(rt, 0);
+    script.begins(rt, 1, making(rt, 1, PLACE, OF_ONE));
+    script.begins(rt, 2, making(rt, 2, PLACE, OF_TWO));
+    script.finishes(rt, 2);
+    script.reads_both(rt);
+    script.finishes(rt, 1);
+    script.reads_both(rt);
+    let answers = script.answers(rt);
+    let views = answers.iter().filter_map(accepted_in).count();
+    check(rt, views == 5, "all are accepted");
+    let commits = answers.iter().filter(|answer| is_committed(answer)).count();
+    check(rt, commits == 5, "and committed");
+    let mut files = answers.iter().filter_map(file_in);
+    for _ in 0..2 {
+        check(rt, files.next() == Some(OF_ONE), "user 1's file");
+        check(rt, files.next() == Some(OF_TWO), "user 2's file");
+    }
+    check(rt, files.next().is_none(), "no other file");
+    let_go(answers);
+    let_go(script);
+}
