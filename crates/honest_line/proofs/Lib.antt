@@ -1,0 +1,15 @@
+pub mod SpellsBytes
+pub mod SignatureBytes
+pub mod Spelled
+pub mod Sent
+pub mod Shown
+pub mod Genuine
+pub mod Naming
+pub mod Follows
+pub mod InHand
+pub mod OwnKeys
+pub mod Signing
+pub mod Stepping
+pub mod Simulated
+pub mod Promises
+pub mod Line

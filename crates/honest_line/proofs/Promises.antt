@@ -1,0 +1,351 @@
+-- What is promised of each step of an honest run.
+use Rattle.std.proofs.Common.{◌≡◌, ℕ, Bool, true, false, List, [], ◌∷◌, Option, Some, None, Result, Ok, Err, IfSome, IsSome, IsSomeAnd, refl, sym, ap, ◌∙◌, subst, inl, inr, if◌then◌else◌, option_to_list}
+use Rattle.std.specs.Prelude.{is_ok}
+use Rattle.std.specs.List.{All, flat_map}
+use Rattle.std.specs.Option.{option_and_then}
+use Rattle.std.specs.Result.{result_ok}
+use Rattle.std.proofs.lemmas.Bool.{true≢false}
+use Rattle.std.proofs.lemmas.List.Elements.{All-cons, All-nil}
+use Rattle.layout.specs.declared.error.ReadError.{ReadError}
+use Rattle.layout.specs.Format.{IsBytes, whole}
+use Rattle.layout.specs.Laws.{is_found}
+use Rattle.layout.specs.Types.{Bytes, Key, User}
+use Rattle.principals.specs.Table.{Table}
+use Rattle.tree_parts.specs.Blocks.{Blocks}
+use Rattle.pending_list.specs.declared.signed.Signed.{Signed}
+use Rattle.pending_list.specs.Reply.{Reply, reply}
+use Rattle.pending_list.specs.ReplyLaws.{lawful_reply}
+use Rattle.version_order.specs.Structure.{Structure}
+use Rattle.update_cert.specs.Cert.{Cert}
+use Rattle.reply_rules.specs.Lists.{Lists, lists_of}
+use Rattle.reply_rules.specs.Rules.{lists}
+use Rattle.reply_rules.specs.Broken.{least}
+use Rattle.reply_rules.specs.declared.rule.Rule.{Rule}
+use Rattle.reply_rules.specs.declared.rule.Rule.TheVariants as rule
+use Rattle.wire.specs.declared.kinds.Status.{Status}
+use Rattle.wire.specs.declared.kinds.Status.TheVariants as status
+use Rattle.client_tree.specs.Held.{Block, held}
+use Rattle.client_releases.specs.declared.phase.Phase.{Phase}
+use Rattle.client_releases.specs.declared.phase.Phase.TheVariants as phase
+use Rattle.client_verify.specs.declared.look.Look.TheVariants as look
+use Rattle.client_verify.specs.declared.step.Step.TheVariants as step
+use Rattle.reply_check.specs.AskedBlock.{block, block_breaks, content}
+use Rattle.reply_check.specs.declared.asked.Asked.{Asked}
+use Rattle.reply_check.specs.FirstBroken.{ByTable, IsFirstBroken, IsRead, Known, lists_break, lists_in, of_reply, reply_breaks}
+use Rattle.client_tree.specs.declared.questions.Question.{Question}
+use Rattle.client_verify.specs.declared.view.Looking.{Looking}
+use Rattle.client_verify.specs.State.{AcceptedView, Checked, IsOfDeclared, Reading, State, Writing, asked_of, blocks_with, known, lists_under, released}
+use Rattle.client_verify.specs.Looked.{Given, Looked}
+use Rattle.client_verify.specs.Judged.{Handed, unjudged}
+use Rattle.client_steps.specs.Steps.{Call, Client, Closed, Gives, HasGiven, HasHeard, HasLooked, HasTaken, Hears, IsSound, IsStep, Looks, Open, StepTaken, Takes}
+use Rattle.agreement.proofs.Members.{In, in-left}
+use Rattle.client_runs.specs.Clients.{certificate_in, structure_in}
+use Rattle.client_runs.specs.Released.{hashed_at, released as released_in, tried_view}
+use Rattle.client_runs.specs.Runs.{Event, Keys, client_of, owner, public_key}
+use Rattle.client_runs.proofs.Replies.{IsUnder, lists_back, of_lists}
+use Rattle.consistency_server.specs.declared.call.CallKind.{CallKind}
+use Rattle.consistency_server.specs.declared.call.CallKind.TheVariants.{Update, Commit}
+use Rattle.consistency_server.specs.Answers.{Answer, Call as ServerCall}
+use Rattle.consistency_server.specs.History.{answer_of, commit_of, is_carried_out, update_of}
+use Rattle.fork_consistency.proofs.Among.{AreAmong, agrees_within, among_kept, are_within}
+use Rattle.fork_consistency.proofs.Judging.{unbroken}
+use Rattle.fork_consistency.proofs.Origins.{IsTold}
+use Rattle.fork_consistency.specs.Handles.{told_by_texts}
+use Rattle.honest_history.specs.Honest.{Naming}
+use Rattle.honest_history.specs.Served.{IsTableOf}
+use Rattle.honest_dialogues.specs.Dialogue.{Commits, Declared, MayMove, Move, Sealed, Stage, Updates, calls, stage_of, update_by}
+use Rattle.honest_dialogues.specs.OneLine.{IsGoodAnswer, IsGoodCommit, IsGoodUpdate, known_to}
+use Rattle.honest_dialogues.proofs.Accepting.{one_table}
+use Rattle.honest_dialogues.proofs.Dialogues.{one_line}
+use Rattle.honest_runs.specs.HonestRuns.{Exchange, HonestEvent, IsAnswered, IsHandedIn, IsHonestRun, IsHonestStep, events, history, sent_by, stored}
+use Rattle.honest_runs.proofs.Events.{events_with, with_step}
+use Rattle.honest_line.specs.OneLine.{IsOnBlocks, IsUnbroken, MayAnswer}
+use Rattle.honest_line.proofs.Follows.{Follows, in_phase_at, signed_cert, signed_structure}
+use Rattle.honest_line.proofs.Simulated.{Grounds, KeepsTo, Simulates, keeps_with, knows, own, placed_table, simulates, table_read, table_then, unbroken_then, update_is}
+
+-- ---- rules on blocks
+
+-- of rules on blocks the first broken one is such
+on_blocks : (a b : Bool) (first : Rule) → least ((rule.Block, a) ∷ (rule.Content, b) ∷ []) ≡ Some first → IsOnBlocks first
+on_blocks false b first is = let same : rule.Block ≡ first = (let two : Some rule.Block ≡ Some first = is in cc two) in subst IsOnBlocks same tt
+on_blocks true false first is = let same : rule.Content ≡ first = (let two : Some rule.Content ≡ Some first = is in cc two) in subst IsOnBlocks same tt
+on_blocks true true first is = absurd (let two : None ≡ Some first = is in cc two)
+
+of_block : (blocks : Blocks) (a : Asked) (handed : Option Bytes) (first : Rule) → block_breaks blocks a handed ≡ Some first → IsOnBlocks first
+of_block blocks a handed first is = on_blocks (block blocks a handed) (content blocks a handed) first is
+
+-- ---- statuses
+
+late : (kind : CallKind) (st : Status) → is_carried_out st ≡ false → MayAnswer kind st
+late kind status.Busy is = tt
+late kind status.Memory is = tt
+late kind status.Ok is = absurd (true≢false is)
+late kind status.Form is = absurd (true≢false is)
+late kind status.UnknownUser is = absurd (true≢false is)
+late kind status.BadSignature is = absurd (true≢false is)
+late kind status.WrongNumber is = absurd (true≢false is)
+late kind status.NotPending is = absurd (true≢false is)
+late kind status.TooLarge is = absurd (true≢false is)
+late kind status.Absent is = absurd (true≢false is)
+
+-- ---- the lists of a reply
+
+-- a reply that breaks none of the rules on itself is in order
+pub record IsInOrder (x : Lists) : Type 0 where
+  pub ordered : lists (of_lists x) ≡ true
+  pub fits : reply.Fits (of_lists x)
+
+in_order : (k : Known) (text : Bytes) (x : Lists) → IsBytes text → reply_breaks k text ≡ None → lists_in text ≡ Some x → IsInOrder x
+unfolding reply_breaks
+in_order k text x bytes none are = go (whole reply text) refl none are
+  where
+    of : (r : Reply) → whole reply text ≡ Ok r → of_reply k r ≡ None → lists_of r ≡ Some x → IsInOrder x
+    of r is none are =
+        let back = lists_back r x are in
+        record {
+          ordered = ap lists back ∙ (unbroken k r none).in_order;
+          fits = subst reply.Fits (sym back) (is_found reply lawful_reply (λ v. v) text (Ok r) bytes is).0;
+        }
+
+    go : (read : Result Reply ReadError) → whole reply text ≡ read → (if is_ok read then option_and_then (of_reply k) (result_ok read) else Some rule.Form) ≡ None → option_and_then lists_of (result_ok read) ≡ Some x → IsInOrder x
+    go (Ok r) is none are = of r is none are
+    go (Err e) is none are = absurd (let two : Some rule.Form ≡ None = none in cc two)
+
+module _ (keys : Keys) (naming : Naming) (texts : List Bytes) (g : Grounds keys naming texts) where
+  abbrev pk : User → Key
+  pk = public_key keys
+
+  -- ---- tables
+
+  -- a table that is read from blocks among the texts
+  told : (blocks : Blocks) → AreAmong texts blocks → (x : Lists) (t : Table) (void : List ℕ) → IsRead blocks (pk 0) x t void → IsTold texts g.apart (pk 0) x t
+  told blocks among x t void read = record {
+    users = read.users;
+    fits = read.named.fits;
+    named = λ reads agrees. read.named.file reads (agrees_within blocks (told_by_texts texts) (are_within texts g.apart blocks among) reads agrees);
+    void = void;
+    pending = read.pending;
+  }
+
+  -- by it no rule is broken that isn't by the table that user 0's handle names
+  none_by_table : (blocks : Blocks) → AreAmong texts blocks → (x : Lists) → IsInOrder x → (t : Table) → IsTableOf naming (pk 0) x t → lists_break t x ≡ None → (rule : Rule) → ByTable blocks (pk 0) x (Some rule) → ⊥
+  none_by_table blocks among x order t is none rule by =
+      let read = table_read keys naming texts g x by.0 t is order.ordered order.fits (told blocks among x by.0 by.1 by.2) in
+      let same : by.0 ≡ t = one_table pk naming g.is_naming x by.0 t read is in
+      let two : Some rule ≡ None = sym by.3 ∙ ap (λ (u : Table). lists_break u x) same ∙ none in
+      cc two
+
+  module _ (sent : List ServerCall) (es : List Event) (s : Simulates keys naming texts g sent es) (k : KeepsTo keys naming texts es) (u : User) where
+    abbrev stage : Stage
+    stage = stage_of u s.moves
+
+    module _ (t : State) (is : client_of u es ≡ Open t) where
+      follows : Follows keys naming u (Open t) (released_in u es) (tried_view u es) stage
+      follows = subst (λ (c : Client). Follows keys naming u c (released_in u es) (tried_view u es) stage) is (s.follow u)
+
+      -- ---- answers
+
+      good_update : (last : Option (Signed Structure)) (c : Signed Cert) (heard : Option Lists) → stage ≡ Declared last c heard → IsGoodUpdate pk naming (calls s.moves) u last c
+      good_update last c heard at =
+          let m : Move = record { user = u; act = Updates; after = stage } in
+          let may : MayMove pk naming (calls s.moves) u stage Updates stage = subst (λ (b : Stage). MayMove pk naming (calls s.moves) u b Updates b) (sym at) refl in
+          subst (λ (b : Stage). IsGoodAnswer pk naming (calls s.moves) u b Updates) at (one_line pk naming g.is_naming (m ∷ s.moves) (may, s.is)).answers.0
+
+      good_commit : (z : Signed Structure) → stage ≡ Sealed z → IsGoodCommit pk (calls s.moves) z
+      good_commit z at =
+          let m : Move = record { user = u; act = Commits; after = stage } in
+          let may : MayMove pk naming (calls s.moves) u stage Commits stage = subst (λ (b : Stage). MayMove pk naming (calls s.moves) u b Commits b) (sym at) refl in
+          subst (λ (b : Stage). IsGoodAnswer pk naming (calls s.moves) u b Commits) at (one_line pk naming g.is_naming (m ∷ s.moves) (may, s.is)).answers.0
+
+      answer_is : (x : Exchange) → IsAnswered (pk 0) sent x → is_carried_out x.answer.status ≡ true → x.answer ≡ answer_of (pk 0) (calls s.moves) x.call
+      answer_is x answered carried = answered.carried_out carried ∙ ap (λ (cs : List ServerCall). answer_of (pk 0) cs x.call) (sym s.calls_are)
+
+      update_status : (f : Phase) → t.phase ≡ f → (sent_text : Bytes) → certificate_in f t.text ≡ Some sent_text → MayAnswer Update (answer_of (pk 0) (calls s.moves) (update_of sent_text)).status
+      update_status phase.Declared at sent_text by =
+          let d = in_phase_at keys naming u t stage phase.Declared at follows.own.in_phase in
+          let same : t.text ≡ sent_text = (let two : Some t.text ≡ Some sent_text = by in cc two) in
+          let good = good_update t.last (signed_cert keys naming u d.0 d.1) d.2 d.3 in
+          subst (λ (b : Bytes). MayAnswer Update (answer_of (pk 0) (calls s.moves) (update_of b)).status) (sym d.4 ∙ same) (elim good.answered [
+            | inl ok ↦ subst (MayAnswer Update) (sym ok) tt
+            | inr (inl unknown) ↦ subst (MayAnswer Update) (sym unknown.0) tt
+            | inr (inr large) ↦ subst (MayAnswer Update) (sym large.0) tt
+          ])
+      update_status phase.Idle at sent_text by = absurd (let two : None ≡ Some sent_text = by in cc two)
+      update_status phase.Signed at sent_text by = absurd (let two : None ≡ Some sent_text = by in cc two)
+      update_status phase.Failed at sent_text by = absurd (let two : None ≡ Some sent_text = by in cc two)
+
+      commit_status : (f : Phase) → t.phase ≡ f → (sent_text : Bytes) → structure_in f t.text ≡ Some sent_text → MayAnswer Commit (answer_of (pk 0) (calls s.moves) (commit_of sent_text)).status
+      commit_status phase.Signed at sent_text by =
+          let d = in_phase_at keys naming u t stage phase.Signed at follows.own.in_phase in
+          let same : t.text ≡ sent_text = (let two : Some t.text ≡ Some sent_text = by in cc two) in
+          subst (λ (b : Bytes). MayAnswer Commit (answer_of (pk 0) (calls s.moves) (commit_of b)).status) (sym d.4 ∙ same)
+          (subst (MayAnswer Commit) (sym (good_commit (signed_structure keys naming u d.0 d.1) d.2)) tt)
+      commit_status phase.Idle at sent_text by = absurd (let two : None ≡ Some sent_text = by in cc two)
+      commit_status phase.Declared at sent_text by = absurd (let two : None ≡ Some sent_text = by in cc two)
+      commit_status phase.Failed at sent_text by = absurd (let two : None ≡ Some sent_text = by in cc two)
+
+    carried_status : (client : Client) → client_of u es ≡ client → (kind : CallKind) (sent_text : Bytes) → sent_by client kind ≡ Some sent_text → MayAnswer kind (answer_of (pk 0) (calls s.moves) (record { kind = kind; text = sent_text })).status
+    carried_status (Closed p) is Update sent_text by = absurd (let two : None ≡ Some sent_text = by in cc two)
+    carried_status (Closed p) is Commit sent_text by = absurd (let two : None ≡ Some sent_text = by in cc two)
+    carried_status (Open t) is Update sent_text by = update_status t is t.phase refl sent_text by
+    carried_status (Open t) is Commit sent_text by = commit_status t is t.phase refl sent_text by
+
+    pub status_is : (x : Exchange) → sent_by (client_of u es) x.call.kind ≡ Some x.call.text → IsAnswered (pk 0) sent x → MayAnswer x.call.kind x.answer.status
+    status_is x sends answered = go (is_carried_out x.answer.status) refl
+      where
+        go : (b : Bool) → is_carried_out x.answer.status ≡ b → MayAnswer x.call.kind x.answer.status
+        go false is = late x.call.kind x.answer.status is
+        go true is =
+            let same : x.answer ≡ answer_of (pk 0) (calls s.moves) x.call = answered.carried_out is ∙ ap (λ (cs : List ServerCall). answer_of (pk 0) cs x.call) (sym s.calls_are) in
+            subst (λ (a : Answer). MayAnswer x.call.kind a.status) (sym same) (carried_status (client_of u es) refl x.call.kind x.call.text sends)
+
+    -- ---- refusals
+
+    -- a reply that was answered breaks none
+    hears_unbroken : (t new : State) → client_of u es ≡ Open t → (text : Bytes) (rule : Rule) → HasHeard t text (Ok (step.Broken rule)) new → (x : Exchange) → sent_by (Open t) x.call.kind ≡ Some x.call.text
+        → IsAnswered (pk 0) sent x → x.answer ≡ record { status = status.Ok; payload = text } → ⊥
+    hears_unbroken t new is text rule b x sends answered handed =
+        let f = follows t is in
+        let d = in_phase_at keys naming u t stage phase.Declared b.declared f.own.in_phase in
+        let c = signed_cert keys naming u d.0 d.1 in
+        let call_is : x.call ≡ update_by c = update_is t x sends b.declared ∙ ap update_of d.4 in
+        let same : x.answer ≡ answer_of (pk 0) (calls s.moves) x.call = answer_is t is x answered (ap (λ (a : Answer). is_carried_out a.status) handed) in
+        let good = (good_update t is t.last c d.2 d.3).unbroken text (ap (answer_of (pk 0) (calls s.moves)) (sym call_is) ∙ sym same ∙ handed) in
+        let y = good.0 in
+        let table = good.1 in
+        let unbroken = good.2 in
+        let known_is : known t ≡ known_to pk u t.last c =
+        ap (λ (v : User). let k : Known = record { user = v; pinned = t.pinned; last = t.last; declared = t.text } in k) f.low.own.user
+        ∙ ap (λ (p : Key). let k : Known = record { user = u; pinned = p; last = t.last; declared = t.text } in k) (knows keys naming texts g sent es s k u t is).pinned
+        ∙ ap (λ (b : Bytes). let k : Known = record { user = u; pinned = pk 0; last = t.last; declared = b } in k) d.4 in
+        let itself : reply_breaks (known t) text ≡ None = ap (λ (k : Known). reply_breaks k text) known_is ∙ unbroken.itself in
+        let first = subst (λ (o : Option Rule). IsFirstBroken o None (held t.blocks) t.pinned (lists_in text) rule) itself b.judged.0 in
+        let lists = subst (λ (o : Option Lists). IsSomeAnd o (λ y. ByTable (held t.blocks) t.pinned y (Some rule))) unbroken.lists first in
+        let by = subst (λ (p : Key). ByTable (held t.blocks) p y (Some rule)) (knows keys naming texts g sent es s k u t is).pinned lists in
+        none_by_table (held t.blocks) (knows keys naming texts g sent es s k u t is).among y (in_order (known t) text y b.bytes itself unbroken.lists) table unbroken.table unbroken.by_table rule by
+
+    -- nor do its lists once a block of it was handed in
+    module _ (t new : State) (is : client_of u es ≡ Open t) (handed : Option Bytes) (rule : Rule) (among : AreAmong texts (held (blocks_with t handed))) where
+      pinned_is : t.pinned ≡ pk 0
+      pinned_is = (knows keys naming texts g sent es s k u t is).pinned
+
+      by_lists : (r : Reply) (a : Asked) → t.checked ≡ Some (Reading r a) → (o : Option Lists) → lists_of r ≡ o → IsSomeAnd o (λ y. ByTable (held (blocks_with t handed)) t.pinned y (Some rule)) → ⊥
+      by_lists r a at None of by = absurd by
+      by_lists r a at (Some y) of by =
+          let judged = subst (λ (o : Option Checked). IfSome o (IsUnder es (record { user = t.user; pinned = t.pinned; last = t.last; declared = t.text }))) at (own keys naming texts g sent es s k u t is).own.replies.checked in
+          let back = lists_back r y of in
+          let order : IsInOrder y = record {
+            ordered = ap lists back ∙ (unbroken (record { user = t.user; pinned = t.pinned; last = t.last; declared = t.text }) r judged.unbroken).in_order;
+            fits = subst reply.Fits (sym back) judged.fits;
+          } in
+          let f = follows t is in
+          let declared : t.phase ≡ phase.Declared = checked_declared r a at y of in
+          let d = in_phase_at keys naming u t stage phase.Declared declared f.own.in_phase in
+          let c = signed_cert keys naming u d.0 d.1 in
+          let in_hand = subst (λ (o : Option Checked). IfSome o (λ k. IfSome (lists_under k) (λ x. d.2 ≡ Some x))) at d.5.checked in
+          let heard : d.2 ≡ Some y = subst (λ (o : Option Lists). IfSome o (λ x. d.2 ≡ Some x)) of in_hand in
+          let at_stage = d.3 ∙ ap (Declared t.last c) heard in
+          none_by_table (held (blocks_with t handed)) among y order (placed_table keys naming texts g sent es s u t.last c y at_stage) (table_then keys naming texts g sent es s u t.last c y at_stage)
+          (unbroken_then keys naming texts g sent es s u t.last c y at_stage) rule (subst (λ (p : Key). ByTable (held (blocks_with t handed)) p y (Some rule)) pinned_is by)
+        where
+          checked_declared : (r : Reply) (a : Asked) → t.checked ≡ Some (Reading r a) → (y : Lists) → lists_of r ≡ Some y → t.phase ≡ phase.Declared
+          checked_declared r a at y of =
+              let one = subst (λ (o : Option Checked). IfSome o (λ k. IsSomeAnd (lists_under k) (λ x. IsOfDeclared (released t) x.own.plan))) at (follows t is).own.always.1.of_checked in
+              (subst (λ (o : Option Lists). IsSomeAnd o (λ x. IsOfDeclared (released t) x.own.plan)) of one).is_declared
+
+      by_check : (c : Checked) → t.checked ≡ Some c → IsSomeAnd (unjudged c) (λ y. ByTable (held (blocks_with t handed)) t.pinned y (Some rule)) → ⊥
+      by_check (Reading r a) at by = by_lists r a at (lists_of r) refl by
+      by_check (Writing x a) at by = absurd by
+
+      first_of : (c : Checked) → t.checked ≡ Some c → (o : Option Rule) → block_breaks (held t.blocks) (asked_of c) handed ≡ o → IsFirstBroken None o (held (blocks_with t handed)) t.pinned (unjudged c) rule → IsOnBlocks rule
+      first_of c at (Some first) of is = subst IsOnBlocks is (of_block (held t.blocks) (asked_of c) handed first of)
+      first_of c at None of is = absurd (by_check c at is)
+
+      takes_on_blocks : HasTaken t handed (Ok (step.Broken rule)) new → IsOnBlocks rule
+      takes_on_blocks b = go t.checked refl b.wants b.handed
+        where
+          go : (o : Option Checked) → t.checked ≡ o → IsSome o → IfSome o (λ c. Handed {A = Unit {0}} t c handed (step.Broken rule) new) → IsOnBlocks rule
+          go None at some h = absurd (cc some)
+          go (Some c) at some h = first_of c at (block_breaks (held t.blocks) (asked_of c) handed) refl h.0
+
+    gives_on_blocks : (t new : State) (handed : Option Bytes) (rule : Rule) → HasGiven t handed (Ok (look.Broken rule)) new → IsOnBlocks rule
+    gives_on_blocks t new handed rule b = go t.view b.looks b.given
+      where
+        looking : (v : AcceptedView) (l : Option Looking) → IsSome l → IfSome l (λ x. Given {A = Unit {0}} t v x handed (look.Broken rule) new) → IsOnBlocks rule
+        looking v None some h = absurd (cc some)
+        looking v (Some l) some h = of_block (held t.blocks) l.asked handed rule h.0
+
+        go : (view : Option AcceptedView) → IsSomeAnd view (λ v. IsSome v.looking) → IfSome view (λ v. IfSome v.looking (λ l. Given {A = Unit {0}} t v l handed (look.Broken rule) new)) → IsOnBlocks rule
+        go None some h = absurd some
+        go (Some v) some h = looking v v.looking some h
+
+    looks_unbroken : (t new : State) (q : Question) (rule : Rule) → HasLooked t q (Ok (look.Broken rule)) new → ⊥
+    looks_unbroken t new q rule b = go t.view b.sees b.looked
+      where
+        go : (view : Option AcceptedView) → IsSome view → IfSome view (λ v. Looked {A = Unit {0}} t v q (look.Broken rule) new) → ⊥
+        go None some h = absurd (cc some)
+        go (Some v) some h = absurd h
+
+    with_block : (t : State) → client_of u es ≡ Open t → (handed : Option Bytes) → ((x : Bytes) → In x (option_to_list handed) → In x texts) → AreAmong texts (held (blocks_with t handed))
+    with_block t is None here = (knows keys naming texts g sent es s k u t is).among
+    with_block t is (Some x) here = among_kept texts t.blocks x (here x (inl refl)) (knows keys naming texts g sent es s k u t is).among
+
+  -- ---- a step
+
+  module _ (sent : List ServerCall) (es : List Event) (blocks : List Block) (s : Simulates keys naming texts g sent es) (h : HonestEvent) (is : IsHonestStep keys (client_of h.user es) sent blocks h) (k : KeepsTo keys naming texts es) where
+    pub statuses : IfSome h.exchange (λ x. MayAnswer x.call.kind x.answer.status)
+    statuses = go h.exchange is.sent is.answered
+      where
+        go : (o : Option Exchange) → IfSome o (λ x. sent_by (client_of h.user es) x.call.kind ≡ Some x.call.text) → IfSome o (IsAnswered (public_key keys 0) sent) → IfSome o (λ x. MayAnswer x.call.kind x.answer.status)
+        go None sends answered = tt
+        go (Some x) sends answered = status_is sent es s k h.user x sends answered
+
+    -- the texts of a step are among the texts
+    abbrev AreIn : Call → Client → Type 0
+    AreIn call after = (x : Bytes) → In x (hashed_at (record { user = h.user; call = call; after = after })) → In x texts
+
+    by_call : (before : Client) → client_of h.user es ≡ before → (call : Call) (after : Client) → IsStep (owner keys h.user) before call after → IsHandedIn before (held blocks) h.exchange call → AreIn call after → IsUnbroken call
+    by_call (Closed p) same (Hears text answer) after step handed inside = absurd step
+    by_call (Closed p) same (Takes block answer) after step handed inside = absurd step
+    by_call (Closed p) same (Looks q answer) after step handed inside = absurd step
+    by_call (Closed p) same (Gives block answer) after step handed inside = absurd step
+    by_call (Open t) same (Hears text answer) (Closed q) step handed inside = absurd step
+    by_call (Open t) same (Takes block answer) (Closed q) step handed inside = absurd step
+    by_call (Open t) same (Looks q answer) (Closed p) step handed inside = absurd step
+    by_call (Open t) same (Gives block answer) (Closed q) step handed inside = absurd step
+    by_call (Open t) same (Hears text (Ok (step.Broken rule))) (Open new) taken handed inside = go h.exchange is.sent is.answered handed
+      where
+        go : (o : Option Exchange) → IfSome o (λ x. sent_by (client_of h.user es) x.call.kind ≡ Some x.call.text) → IfSome o (IsAnswered (public_key keys 0) sent)
+            → IsSomeAnd o (λ x. x.answer ≡ record { status = status.Ok; payload = text }) → ⊥
+        go None sends answered some = absurd some
+        go (Some x) sends answered some =
+            hears_unbroken sent es s k h.user t new same text rule taken x (subst (λ (c : Client). sent_by c x.call.kind ≡ Some x.call.text) same sends) answered some
+    by_call (Open t) same (Takes block (Ok (step.Broken rule))) (Open new) taken handed inside =
+        takes_on_blocks sent es s k h.user t new same block rule
+        (with_block sent es s k h.user t same block (λ x i. inside x (in-left x _ _ (in-left x (option_to_list block) _ i)))) taken
+    by_call (Open t) same (Looks q (Ok (look.Broken rule))) (Open new) taken handed inside = looks_unbroken sent es s k h.user t new q rule taken
+    by_call (Open t) same (Gives block (Ok (look.Broken rule))) (Open new) taken handed inside = gives_on_blocks sent es s k h.user t new block rule taken
+    by_call before same call after taken handed inside = tt
+
+    pub unbroken_step : (AreHashedIn : (t : StepTaken) → h.step ≡ Some t → AreIn t.call t.after) → IfSome h.step (λ t. IsUnbroken t.call)
+    unbroken_step inside = go h.step refl is.taken is.handed_in
+      where
+        go : (o : Option StepTaken) → h.step ≡ o → IfSome o (λ t. IsStep (owner keys h.user) (client_of h.user es) t.call t.after × IsSound t.after) → IfSome o (λ t. IsHandedIn (client_of h.user es) (held blocks) h.exchange t.call) → IfSome o (λ t. IsUnbroken t.call)
+        go None at taken handed = tt
+        go (Some t) at taken handed = by_call (client_of h.user es) refl t.call t.after taken.0 handed (inside t at)
+
+  -- ---- runs
+
+  pub each : (run : List HonestEvent) → IsHonestRun keys run → KeepsTo keys naming texts (events run)
+      → All (λ h. IfSome h.step (λ t. IsUnbroken t.call)) run × All (λ h. IfSome h.exchange (λ x. MayAnswer x.call.kind x.answer.status)) run
+  each [] is k = (All-nil (λ (h : HonestEvent). IfSome h.step (λ t. IsUnbroken t.call)), All-nil (λ (h : HonestEvent). IfSome h.exchange (λ x. MayAnswer x.call.kind x.answer.status)))
+  each (h ∷ older) is k =
+      let now = subst (λ (es : List Event). KeepsTo keys naming texts es) (with_step h older) k in
+      let before = keeps_with keys naming texts g h.user h.step (events older) now in
+      let s = simulates keys naming texts g older is.1 before in
+      let rest = each older is.1 before in
+      let inside : (t : StepTaken) → h.step ≡ Some t → (x : Bytes) → In x (hashed_at (record { user = h.user; call = t.call; after = t.after })) → In x texts =
+      λ t at x i. (let kept = subst (λ (o : Option StepTaken). KeepsTo keys naming texts (events_with h.user o (events older))) at now in kept.hashed_in x (in-left x (hashed_at (record { user = h.user; call = t.call; after = t.after })) (flat_map hashed_at (events older)) i)) in (
+        All-cons (λ (h : HonestEvent). IfSome h.step (λ t. IsUnbroken t.call)) h older (unbroken_step (history older) (events older) (stored older) s h is.0 before inside) rest.0,
+        All-cons (λ (h : HonestEvent). IfSome h.exchange (λ x. MayAnswer x.call.kind x.answer.status)) h older (statuses (history older) (events older) (stored older) s h is.0 before) rest.1,
+      )

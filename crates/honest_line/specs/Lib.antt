@@ -1,0 +1,3 @@
+pub mod Genuine
+pub mod Naming
+pub mod OneLine

@@ -1,0 +1,18 @@
+//! Laws of honest runs, for the proofs of callers: functions that do nothing.
+
+ghost use Rattle.honest_line.specs.Genuine.{NothingIsForged};
+ghost use Rattle.honest_line.specs.OneLine.{EachHonestRun};
+
+/// With an honest server all clients stand in one line, in any order of their steps, over failed devices, lost answers,
+/// crashes and restarts, as long as no digest collides and user 0's client added each user with the user's own key: no
+/// reply is refused for what its lists, signatures or table say, the calls of listed users succeed, the line of each
+/// accepted view is a beginning of what the server placed, and what it shows is the world of that line. Of signatures
+/// nothing is assumed.
+pub fn honest_runs_are_on_one_line()
+    ensures { EachHonestRun }
+{}
+
+/// No signature is forged in an honest run: what a reply shows of a user was released before by the user's client.
+pub fn nothing_is_forged()
+    ensures { NothingIsForged }
+{}
