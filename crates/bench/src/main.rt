@@ -1,7 +1,8 @@
 //! How long things take, for people: `bench lms` keys, signatures and verifications, `bench itable` an i-table of
 //! 4,095 digests, `bench look` looks at files, `bench operations` the calls of an operation among 64 users, with how
-//! much of each is signing and verifying, `bench server` operations and blocks over TCP. `bench visit=ADDR` makes an
-//! operation at a server that runs. With no word it does nothing.
+//! much of each is signing and verifying, `bench server` operations and blocks over TCP, `bench session` files that are
+//! put and read by commands over TCP. `bench visit=ADDR` makes an operation at a server that runs. With no word it does
+//! nothing.
 #![tactic(auto)]
 
 mod blocks;
@@ -11,6 +12,7 @@ mod lms;
 mod looks;
 mod operations;
 mod server;
+mod session;
 mod time;
 mod world;
 
@@ -33,6 +35,7 @@ fn report<R: Host>(rt: &R, word: &str) -> Result<()> {
         "look" => looks::report(rt),
         "operations" => operations::report(rt),
         "server" => server::report(rt),
+        "session" => session::report(rt),
         _ => Ok(()),
     }
 }

@@ -3,9 +3,10 @@
 
 use crate::files::blocks_of;
 use crate::here::Here;
+use crate::operations::{Many, make_many};
 use crate::town::{Town, town_of_three};
 use crate::words::{Digits, keys_of, run_words};
-use tests_aids::{Aided, given};
+use tests_aids::{Aided, check, check_text, given};
 
 /// A commit again, then the look: the certificate, four blocks of the table of principals (the root of user 0's
 /// i-table, its chunk, the i-node and the block of the file), and the commit.
@@ -130,17 +131,17 @@ fn of_what_is_new(rt: HostRuntime) {
     );
 }
 
-/// What is replaced or removed isn't read, but for its i-node.
+/// What is replaced or removed isn't read, but for its i-node: the largest file costs no more than any other.
 #[test]
 fn of_what_is_old(rt: HostRuntime) {
     let rt = (rt, Here);
     let (mut town, digits) = settled(&rt);
-    let (large, small) = (blocks_of(&rt, 64), blocks_of(&rt, 1));
+    let (large, small) = (blocks_of(&rt, 1024), blocks_of(&rt, 1));
     costs_any(&rt, &mut town, &digits, "0", "put /f FILE", &large);
     let most = LOOK + ROOT + INODE + OPERATION + TABLE;
     let put = ("0", "put /f FILE");
     costs(&rt, &mut town, &digits, put, &small, most + INODE + 1);
-    costs(&rt, &mut town, &digits, put, &large, most + INODE + 64);
+    costs(&rt, &mut town, &digits, put, &large, most + INODE + 1024);
     costs(
         &rt,
         &mut town,
@@ -151,35 +152,56 @@ fn of_what_is_old(rt: HostRuntime) {
     );
 }
 
-/// So many new files are put into the root directory.
-fn fill(rt: &impl Aided, town: &mut Town, digits: &Digits, first: u8, end: u8) {
-    for number in first..end {
-        let words = given(rt, format!(in rt.alloc(); "put /e{number} FILE"), "memory");
-        costs_any(rt, town, digits, "0", &words, &[number]);
-    }
-}
+/// A new file of one block in a directory of one block.
+const NEW: usize = LOOK + ROOT + 1 + INODE + OPERATION + TABLE + DIRECTORY;
 
+/// How many blocks more a directory of 1,000 names of five bytes has than one of ten: each name takes nine bytes, so that
+/// it has three blocks of 4,096 bytes. In one block at most 818 names have room, since the shortest take five bytes.
+const MORE_BLOCKS: usize = 2;
+
+/// A directory is read and stored as a whole: its further blocks are asked for, and stored again. Nothing else is more in
+/// a directory of 1,000 names than in one of ten.
 #[test]
 fn of_a_long_directory(rt: HostRuntime) {
     let rt = (rt, Here);
     let (mut town, digits) = settled(&rt);
-    let most = LOOK + ROOT + 1 + INODE + OPERATION + TABLE + DIRECTORY;
-    fill(&rt, &mut town, &digits, 0, 9);
+    make_many(&rt, &mut town, Many::Names, 1000, (1, 9));
+    let put = ("0", "put /new FILE");
+    costs(&rt, &mut town, &digits, put, b"new", NEW);
+    make_many(&rt, &mut town, Many::Names, 1009, (61, 16));
+    make_many(&rt, &mut town, Many::Names, 1985, (1, 13));
+    let put = ("0", "put /newer FILE");
     costs(
         &rt,
         &mut town,
         &digits,
-        ("0", "put /new FILE"),
-        b"new",
-        most,
-    );
-    fill(&rt, &mut town, &digits, 9, 38);
-    costs(
-        &rt,
-        &mut town,
-        &digits,
-        ("0", "put /newer FILE"),
+        put,
         b"newer",
-        most,
+        NEW + 2 * MORE_BLOCKS,
     );
+    lists(&rt, &mut town, &digits, 1001);
+}
+
+/// The root directory has so many names.
+fn lists(rt: &impl Aided, town: &mut Town, digits: &Digits, names: usize) {
+    let outcome = run_words(rt, town, digits, "0", "ls /", b"");
+    let lines = outcome
+        .printed
+        .iter()
+        .filter(|byte| **byte == b'\n')
+        .count();
+    check(rt, lines == names, "so many names");
+}
+
+/// Where something stands at each i-number of a chunk of 64, the next chunk is asked for, too, and stored beside the
+/// one that has the directory.
+#[test]
+fn of_a_full_chunk(rt: HostRuntime) {
+    let rt = (rt, Here);
+    let (mut town, digits) = settled(&rt);
+    make_many(&rt, &mut town, Many::Files, 4, (4, 16));
+    let put = ("0", "put /new FILE");
+    costs(&rt, &mut town, &digits, put, b"new", NEW + 2);
+    let outcome = run_words(&rt, &mut town, &digits, "0", "ls /", b"");
+    check_text(&rt, &outcome.printed, b"first 0:3\nnew 0:68\n");
 }

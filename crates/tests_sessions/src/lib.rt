@@ -1,5 +1,6 @@
-//! Tests of sessions: commands by their words, over a server in memory; what a server that lies comes to; how many
-//! exchanges a command has; and a session that is stopped at each of them.
+//! Tests of sessions. Commands by their words, over a server in memory and over TCP; what a server that lies comes to,
+//! and what a client that refuses; how many exchanges a command has; a session that is stopped at each of them, or whose
+//! memory runs out.
 #![tactic(auto)]
 
 #[cfg(test)]
@@ -16,6 +17,8 @@ mod here;
 mod limits;
 #[cfg(test)]
 mod memory;
+#[cfg(test)]
+mod operations;
 #[cfg(test)]
 mod over_tcp;
 #[cfg(test)]

@@ -1,4 +1,4 @@
-//! The largest file that is put, and one byte more.
+//! The largest file that is put, and read back, and one byte more.
 
 use crate::files::blocks_of;
 use crate::here::Here;
@@ -17,12 +17,15 @@ fn devices_of_0(rt: &impl Aided, town: &Town) -> Vec<u8> {
 }
 
 #[test]
-fn the_largest_file_is_put(rt: HostRuntime) {
+fn the_largest_file_is_put_and_read(rt: HostRuntime) {
     let rt = (rt, Here);
     let mut town = town_of_one(&rt);
     let file = blocks_of(&rt, MOST);
     let outcome = run_of_0(&rt, &mut town, "put /f FILE", &file);
     ends(&rt, &outcome, "put", 0, "done|");
+    let outcome = run_of_0(&rt, &mut town, "cat /f", b"");
+    check(&rt, outcome.status == 0, "it is read");
+    check(&rt, outcome.printed == file, "the same bytes");
 }
 
 #[test]

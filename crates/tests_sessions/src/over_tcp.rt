@@ -1,4 +1,4 @@
-//! Commands over TCP: the server's workers and the users' processes are threads of one test, and each process has a
+//! Commands over TCP: the server's workers run beside the users' processes, which come one after another, each over a
 //! connection of its own.
 
 use crate::files::blocks_of;

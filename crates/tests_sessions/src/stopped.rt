@@ -13,8 +13,8 @@ use tests_aids::{Aided, check, check_text, given};
 type Stage = (u32, bool);
 
 /// What was committed last goes out again. Then comes the look: its certificate, and two blocks; its structure; two
-/// blocks of the root directory, and the two texts of the file, which are stored. Then comes the operation that puts the file:
-/// its certificate, and the four texts of the own part, which are stored; its structure.
+/// blocks of the root directory, and the two texts of the file, which are stored. Then comes the operation that puts the
+/// file: its certificate, and the four texts of the own part, which are stored; its structure.
 static STAGES: [Stage; EXCHANGES] = [
     (0, false),
     (1, true),

@@ -1,17 +1,19 @@
 //! A server, and three users whose devices keep what their clients wrote. Each command is carried out by a process of
-//! its own: a client that is opened over what the user's devices kept.
+//! its own: a client that is opened over what the user's devices kept. Where it isn't opened, that is told as `sundr`
+//! tells it.
 
 use crate::memory::{MemoryServer, Trouble};
+use client_verify::ClientError;
 use commands::{Answer, Command};
 use consistency_server::{MemoryLog, Ordered};
-use file_session::{Resumed, Session};
+use file_session::{Resumed, Session, refusal_of};
 use layout::User;
 use leaf_ledger::MemoryDevice;
 use lms_sign::PublicKey;
 use std::alloc::Global;
 use tests_aids::texts::{joined, key_of};
 use tests_aids::{Aided, found, given};
-use tests_client_aids::clients::{Kept, MemoryClient, nothing_yet, open_over};
+use tests_client_aids::clients::{Kept, MemoryClient, nothing_yet, opened};
 use tests_client_aids::crashes::closed;
 use transport::Transport;
 use wire::RequestKind;
@@ -108,6 +110,21 @@ fn carry_out<T: Transport<Global>>(
     (answer_text(rt, &answer), answer.status())
 }
 
+/// What a session ends a command with.
+fn ended<T: Transport<Global>>(
+    rt: &impl Aided,
+    session: &mut MemorySession<T>,
+    command: &Command<'_>,
+) -> Outcome {
+    let (printed, status) = carry_out(rt, session, command);
+    Outcome {
+        resumed: resumed_text(rt, session.resumed()),
+        printed,
+        status,
+        sent: Vec::new(rt.alloc()),
+    }
+}
+
 /// A process that carries a command out over this client and transport: what it ends with.
 fn process<T: Transport<Global>>(
     rt: &impl Aided,
@@ -116,16 +133,20 @@ fn process<T: Transport<Global>>(
     command: &Command<'_>,
 ) -> (Outcome, MemoryClient, T) {
     let mut session = Session::new(rt.alloc(), client, transport);
-    let (printed, status) = carry_out(rt, &mut session, command);
-    let resumed = resumed_text(rt, session.resumed());
+    let outcome = ended(rt, &mut session, command);
     let (client, transport) = session.close();
-    let outcome = Outcome {
-        resumed,
-        printed,
-        status,
-        sent: Vec::new(rt.alloc()),
-    };
     (outcome, client, transport)
+}
+
+/// What a process ends with whose client isn't opened.
+fn unopened(rt: &impl Aided, error: ClientError) -> Outcome {
+    let answer = Answer::Refused(refusal_of(error));
+    Outcome {
+        resumed: Vec::new(rt.alloc()),
+        printed: answer_text(rt, &answer),
+        status: answer.status(),
+        sent: Vec::new(rt.alloc()),
+    }
 }
 
 impl Town {
@@ -137,6 +158,13 @@ impl Town {
     /// Takes the server, for a process.
     pub(crate) fn leave_server(&mut self, rt: &impl Aided) -> MemoryServer {
         found(rt, self.server.take(), "the server")
+    }
+
+    /// Puts the server back, and forgets what it was sent meanwhile.
+    pub(crate) fn bring_back(&mut self, server: MemoryServer) {
+        let mut server = server;
+        let _sent = server.take_sent();
+        self.server = Some(server);
     }
 
     /// Puts the server back after a process, and adds to what that ended with what it sent.
@@ -180,9 +208,16 @@ impl Town {
     ) -> (Outcome, T) {
         let place = usize::from(user.get());
         let kept = self.leave_home(rt, place);
-        let client = open_over(rt, user, self.pinned, kept);
-        let (outcome, client, transport) = process(rt, client, transport, command);
-        self.come_home(place, closed(client));
-        (outcome, transport)
+        match opened(rt, user, self.pinned, kept) {
+            Ok(client) => {
+                let (outcome, client, transport) = process(rt, client, transport, command);
+                self.come_home(place, closed(client));
+                (outcome, transport)
+            }
+            Err((error, kept)) => {
+                self.come_home(place, kept);
+                (unopened(rt, error), transport)
+            }
+        }
     }
 }

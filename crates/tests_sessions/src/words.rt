@@ -152,11 +152,11 @@ fn run_row(rt: &impl Aided, town: &mut Town, digits: &Digits, command: &str) -> 
     run_words(rt, town, digits, user, words, content.as_bytes())
 }
 
-/// What a process printed, first what it says of an operation that it finished, with a bar for each end of a line.
-fn on_one_line(rt: &impl Aided, outcome: &Outcome) -> Vec<u8> {
+/// These texts, one after the other, with a bar for each end of a line.
+pub(crate) fn on_one_line(rt: &impl Aided, parts: &[&[u8]]) -> Vec<u8> {
     let mut text = Vec::new(rt.alloc());
-    for part in [&outcome.resumed, &outcome.printed] {
-        for byte in part {
+    for part in parts {
+        for byte in *part {
             let byte = if *byte == b'\n' { b'|' } else { *byte };
             given(rt, text.push(byte), "memory");
         }
@@ -164,9 +164,9 @@ fn on_one_line(rt: &impl Aided, outcome: &Outcome) -> Vec<u8> {
     text
 }
 
-/// A process printed this, and ended with this status.
+/// A process printed this, first what it says of an operation that it finished, and ended with this status.
 pub(crate) fn ends(rt: &impl Aided, outcome: &Outcome, row: &str, status: u8, printed: &str) {
-    let text = on_one_line(rt, outcome);
+    let text = on_one_line(rt, &[&outcome.resumed, &outcome.printed]);
     if outcome.status != status || text.as_slice() != printed.as_bytes() {
         let found = outcome.status;
         let text = std::str::from_utf8(&text).unwrap_or("no text");
