@@ -61,12 +61,12 @@ pub(crate) fn compress(clock: &impl Clock) -> Result<(f64, [u8; 32])> {
     Ok((seconds / f64::from(BLOCKS), digest))
 }
 
-/// The middle one of so many times.
-pub(crate) fn middle(times: Vec<Duration>) -> Result<Duration> {
-    let mut times = times;
-    times.sort_unstable();
-    match times.get(times.len() / 2) {
-        Some(time) => Ok(*time),
+/// The middle one of so many times or ratios.
+pub(crate) fn middle<T: Copy + Ord>(values: Vec<T>) -> Result<T> {
+    let mut values = values;
+    values.sort_unstable();
+    match values.get(values.len() / 2) {
+        Some(value) => Ok(*value),
         None => Err(anyhow!("nothing was timed")),
     }
 }

@@ -10,7 +10,7 @@ use Rattle.layout.specs.Types.{Bytes, Digest}
 use Rattle.tree_parts.specs.Blocks.{Blocks}
 use Rattle.client_tree.specs.Held.{AreHeld, Block, held}
 use Rattle.client_tree.proofs.HeldLaws.{hashed}
-use Rattle.checked_blocks.specs.CheckedBlocks.{AreChecked, ArePut, CheckedBlocks, KnowsPart, LetsGo, TakesUp, Texts, at_first, checked_blocks, holding, known_blocks, knowing, text_at, with_capacity, without_all}
+use Rattle.checked_blocks.specs.CheckedBlocks.{AreChecked, ArePut, CheckedBlocks, KnowsPart, LetsGo, TakesUp, Texts, at_first, checked_blocks, holding, known_blocks, knowing, text_at, with_capacity, with_capacity_later, without_all}
 
 -- ---- digests
 
@@ -90,6 +90,15 @@ pub holding-new : (k : CheckedBlocks) (text : Bytes) → known_blocks k (hash te
 unfolding holding
 holding-new k text none = rw none refl
 
+-- the blocks of the beginning stay
+first_of : (k : CheckedBlocks) (b : Bool) (more : Texts) → (cond b k (record k { held = more })).first ≡ k.first
+first_of k true more = refl
+first_of k false more = refl
+
+pub first-holding : (k : CheckedBlocks) (text : Bytes) → (holding k text).first ≡ k.first
+unfolding holding
+first-holding k text = first_of k (is_some (known_blocks k (hash text))) (k.held ++ (hash text, text) ∷ [])
+
 -- ---- each has its digest
 
 hashed_step : (K : Option Bytes) (d k : Digest) (text x : Bytes) (t : Bool) → hash text ≡ k → bytes_eq d k ≡ t → ((y : Bytes) → K ≡ Some y → hash y ≡ d) → option_or K (cond t (Some text) None) ≡ Some x → hash x ≡ d
@@ -138,6 +147,14 @@ unfolding known_blocks
 knows_part_cached k capacity d x =
     lift_step (held k.first d) (option_or (text_at k.held d) (text_at k.cached d)) (option_or (text_at k.held d) (text_at (take capacity k.cached) d)) x
     (lift_step (text_at k.held d) (text_at k.cached d) (text_at (take capacity k.cached) d) x (text_at-take d capacity k.cached x))
+
+-- nothing is forgotten before the held blocks are let go
+pub known-later : (k : CheckedBlocks) (capacity : ℕ) → known_blocks (with_capacity_later capacity k) ≡ known_blocks k
+unfolding known_blocks
+known-later k capacity = refl
+
+pub are_later : (k : CheckedBlocks) (capacity : ℕ) → AreChecked k → capacity ≤ 4096 → AreChecked (with_capacity_later capacity k)
+are_later k capacity are fits = record { hashed = λ d x found. are.hashed d x (sym (ap (λ (f : Blocks). f d) (known-later k capacity)) ∙ found); fits = fits }
 
 -- ---- looking up in turn
 
@@ -196,8 +213,9 @@ takes_more a b c one more = record {
 
 pub lets_go_after : (a b c : CheckedBlocks) → TakesUp a b → LetsGo b c → LetsGo a c
 lets_go_after a b c taken gone = record {
-  put = (gone.put.0, takes_more a b gone.put.0 taken gone.put.1, subst (λ (n : ℕ). ArePut n gone.put.0.held gone.put.0.cached c.cached) taken.capacity gone.put.2);
+  put = (gone.put.0, takes_more a b gone.put.0 taken gone.put.1, subst (λ (n : ℕ). ArePut n gone.put.0.held (take n gone.put.0.cached) c.cached) taken.capacity gone.put.2);
   known = λ d x found. sym (ap (λ (f : Blocks). f d) taken.known) ∙ gone.known d x found;
+  few = subst (λ (n : ℕ). length c.cached ≤ n) taken.capacity gone.few;
   held = gone.held;
   first = gone.first ∙ taken.first;
   capacity = gone.capacity ∙ taken.capacity;

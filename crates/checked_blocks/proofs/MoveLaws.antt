@@ -1,5 +1,5 @@
 -- What is known of blocks that go between the cache and the held ones.
-use Rattle.std.proofs.Common.{◌≡◌, ◌-◌, ◌⊎◌, ℕ, Bool, true, false, cond, List, [], ◌∷◌, ◌++◌, take, Contains, Option, Some, None, is_some, Result, Ok, Err, OnOk, OnErr, refl, sym, ap, subst, ◌∙◌, inl, inr, map, append-nil, append_assoc}
+use Rattle.std.proofs.Common.{◌≡◌, ◌-◌, ◌≤◌, ◌⊎◌, ℕ, length, Bool, true, false, cond, List, [], ◌∷◌, ◌++◌, take, Contains, Option, Some, None, is_some, Result, Ok, Err, OnOk, OnErr, refl, sym, ap, subst, ◌∙◌, inl, inr, map, append-nil, append_assoc}
 use Rattle.std.specs.Option.{option_map, option_map_or, option_or}
 use Rattle.std.specs.Str.{bytes_eq}
 use Rattle.std.specs.List.{IsDistinct}
@@ -15,9 +15,9 @@ use Rattle.indexmap.specs.IndexMap.{insert_entry}
 use Rattle.lru.specs.LruCache.{lru_cache}
 use Rattle.lru.proofs.Splits.{Contains-head, Contains-tail}
 use Rattle.lru.proofs.CallerLemmas.{Contains-lookup_entry, lookup-put_entries}
-use Rattle.checked_blocks.specs.CheckedBlocks.{AreChecked, ArePut, CheckedBlocks, IsPut, Keeps, KnowsPart, LetsGo, TakesUp, Texts, checked_blocks, holding, known_blocks, knowing, text_at, with_digest, without_all}
+use Rattle.checked_blocks.specs.CheckedBlocks.{AreChecked, ArePut, CheckedBlocks, IsPut, Keeps, KnowsPart, LetsGo, TakesUp, Texts, checked_blocks, holding, known_blocks, knowing, text_at, with_capacity, with_digest, without_all}
 use Rattle.checked_blocks.specs.Moves.{AreOfTexts, IsPart, Moved, with_last, within}
-use Rattle.checked_blocks.proofs.BlockLaws.{are_part, everywhere, holding-known, holding-new, itself, known-holding, lift_step, same_digest, takes_none, text_at-last, text_at-take, without_more}
+use Rattle.checked_blocks.proofs.BlockLaws.{are_part, everywhere, holding-known, holding-new, itself, known-holding, knows_part_cached, lift_step, same_digest, takes_none, text_at-last, text_at-take, without_more}
 
 -- ---- look-ups
 
@@ -260,21 +260,26 @@ known_part : (k : CheckedBlocks) (c' : Texts) (capacity : ℕ) → IsPart k.held
 unfolding known_blocks
 known_part k c' capacity part d x found = lift_step (held k.first d) (within k.held k.cached d) (within [] c' d) x (part d x) found
 
+-- the cache has no more than it may by then
+shrunk_part : (k : CheckedBlocks) (c' : Texts) → IsPart k.held (take k.capacity k.cached) c' → KnowsPart k (checked_blocks k.first [] c' k.capacity)
+shrunk_part k c' part d x found = knows_part_cached k k.capacity d x (known_part (with_capacity k.capacity k) c' k.capacity part d x found)
+
 -- all went into the cache
-pub lets_go : {X E : Type 0} (r : Result X E) (old mid : CheckedBlocks) (c' : Texts) (capacity : ℕ) → OnOk r (TakesUp old mid) → OnErr r (mid ≡ old)
-    → ArePut mid.capacity mid.held mid.cached c' → IsPart mid.held mid.cached c' → capacity ≡ mid.capacity → LetsGo old (checked_blocks mid.first [] c' capacity)
-lets_go r old mid c' capacity taken same put part is =
+pub lets_go : {X E : Type 0} (r : Result X E) (old mid : CheckedBlocks) (c' : Texts) → OnOk r (TakesUp old mid) → OnErr r (mid ≡ old)
+    → ArePut mid.capacity mid.held (take mid.capacity mid.cached) c' → IsPart mid.held (take mid.capacity mid.cached) c' → length c' ≤ mid.capacity → LetsGo old (checked_blocks mid.first [] c' mid.capacity)
+lets_go r old mid c' taken same put part few =
     let kept = taken_or_none r old mid taken same in
     record {
-      put = (mid, kept, subst (λ (n : ℕ). ArePut n mid.held mid.cached c') kept.capacity put);
-      known = λ d x found. sym (ap (λ (f : Blocks). f d) kept.known) ∙ known_part mid c' capacity part d x found;
+      put = (mid, kept, subst (λ (n : ℕ). ArePut n mid.held (take n mid.cached) c') kept.capacity put);
+      known = λ d x found. sym (ap (λ (f : Blocks). f d) kept.known) ∙ shrunk_part mid c' part d x found;
+      few = subst (λ (n : ℕ). length c' ≤ n) kept.capacity few;
       held = refl;
       first = kept.first;
-      capacity = is ∙ kept.capacity;
+      capacity = kept.capacity;
     }
 
-pub are_let_go : (k : CheckedBlocks) (c' : Texts) (capacity : ℕ) → AreChecked k → IsPart k.held k.cached c' → capacity ≡ k.capacity → AreChecked (checked_blocks k.first [] c' capacity)
-are_let_go k c' capacity are part is = are_part k (checked_blocks k.first [] c' capacity) are (known_part k c' capacity part) (rw is are.fits)
+pub are_let_go : (k : CheckedBlocks) (c' : Texts) → AreChecked k → IsPart k.held (take k.capacity k.cached) c' → AreChecked (checked_blocks k.first [] c' k.capacity)
+are_let_go k c' are part = are_part k (checked_blocks k.first [] c' k.capacity) are (shrunk_part k c' part) are.fits
 
 -- ---- keeping
 
@@ -323,21 +328,30 @@ keeps_known k texts c' capacity d x put found =
     either_step (held k.first d) (within k.held k.cached d) (within k.held c' d) x (Contains texts x × (hash x ≡ d))
     (either_step (text_at k.held d) (text_at k.cached d) (text_at c' d) x (Contains texts x × (hash x ≡ d)) (put d x)) found
 
-pub keeps : (k : CheckedBlocks) (texts : List Bytes) (c' : Texts) (capacity : ℕ) → ArePut k.capacity (map with_digest texts) k.cached c' → AreOfTexts texts k.cached c' → capacity ≡ k.capacity → Keeps k texts (checked_blocks k.first k.held c' capacity)
-keeps k texts c' capacity put of is = record {
+-- the texts are known that were, of a cache that has no more than it may, and these
+shrunk_kept : (k : CheckedBlocks) (texts : List Bytes) (c' : Texts) (d : Digest) (x : Bytes) → AreOfTexts texts (take k.capacity k.cached) c' → known_blocks (checked_blocks k.first k.held c' k.capacity) d ≡ Some x
+    → (known_blocks k d ≡ Some x) ⊎ (Contains texts x × (hash x ≡ d))
+shrunk_kept k texts c' d x of found = elim (keeps_known (with_capacity k.capacity k) texts c' k.capacity d x of found) [
+  | inl old ↦ inl (knows_part_cached k k.capacity d x old)
+  | inr new ↦ inr new
+]
+
+pub keeps : (k : CheckedBlocks) (texts : List Bytes) (c' : Texts) → ArePut k.capacity (map with_digest texts) (take k.capacity k.cached) c' → AreOfTexts texts (take k.capacity k.cached) c' → length c' ≤ k.capacity → Keeps k texts (checked_blocks k.first k.held c' k.capacity)
+keeps k texts c' put of few = record {
   put = put;
-  known = λ d x found. keeps_known k texts c' capacity d x of found;
+  few = few;
+  known = λ d x found. shrunk_kept k texts c' d x of found;
   held = refl;
   first = refl;
-  capacity = is;
+  capacity = refl;
 }
 
 hashed_either : (k : CheckedBlocks) (texts : List Bytes) (d : Digest) (x : Bytes) → AreChecked k → (known_blocks k d ≡ Some x) ⊎ (Contains texts x × (hash x ≡ d)) → hash x ≡ d
 hashed_either k texts d x are (inl old) = are.hashed d x old
 hashed_either k texts d x are (inr new) = new.1
 
-pub are_kept : (k : CheckedBlocks) (texts : List Bytes) (c' : Texts) (capacity : ℕ) → AreChecked k → AreOfTexts texts k.cached c' → capacity ≡ k.capacity → AreChecked (checked_blocks k.first k.held c' capacity)
-are_kept k texts c' capacity are put is = record {
-  hashed = λ d x found. hashed_either k texts d x are (keeps_known k texts c' capacity d x put found);
-  fits = rw is are.fits;
+pub are_kept : (k : CheckedBlocks) (texts : List Bytes) (c' : Texts) → AreChecked k → AreOfTexts texts (take k.capacity k.cached) c' → AreChecked (checked_blocks k.first k.held c' k.capacity)
+are_kept k texts c' are put = record {
+  hashed = λ d x found. hashed_either k texts d x are (shrunk_kept k texts c' d x put found);
+  fits = are.fits;
 }

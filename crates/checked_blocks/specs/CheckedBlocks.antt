@@ -1,5 +1,5 @@
 -- What a client knows of checked blocks: those of the beginning, those that are held, and others in a cache.
-use Rattle.std.specs.Prelude.{◌≡◌, ℕ, ◌≤◌, ◌⊎◌, List, [], ◌∷◌, ◌++◌, map, take, Option, Some, None, is_some, Contains, if◌then◌else◌}
+use Rattle.std.specs.Prelude.{◌≡◌, ℕ, ◌≤◌, ◌⊎◌, List, [], ◌∷◌, ◌++◌, length, map, take, Option, Some, None, is_some, Contains, if◌then◌else◌}
 use Rattle.std.specs.Map.{lookup, remove_entry}
 use Rattle.std.specs.Option.{option_or}
 use Rattle.std.specs.Str.{bytes_eq}
@@ -21,8 +21,8 @@ with_digest text = (hash text, text)
 abbrev pub text_at : Texts → Digest → Option Bytes
 text_at texts digest = lookup (bytes_eq digest) texts
 
--- the blocks of the beginning; those that are held, the newest last; those of the cache, the most recently used first,
--- and how many it may have
+-- the blocks of the beginning; those that are held, the newest last; those of the cache, the most recently used first;
+-- and how many the cache may have once no block is held
 pub record CheckedBlocks : Type 0 where
   pub first : List Block
   pub held : Texts
@@ -96,18 +96,21 @@ abbrev pub KnowsPart : CheckedBlocks → CheckedBlocks → Type 0
 KnowsPart old new =
     (digest : Digest) (text : Bytes) → known_blocks new digest ≡ Some text → known_blocks old digest ≡ Some text
 
--- no block is held any more: those that were, with any that were taken up before, go into the cache
+-- no block is held any more: those that were, with any that were taken up before, go into the cache, behind which the
+-- least recently used are left out
 pub record LetsGo (old new : CheckedBlocks) : Type 0 where
   pub put : (between : CheckedBlocks) × TakesUp old between
-      × ArePut old.capacity between.held between.cached new.cached
+      × ArePut old.capacity between.held (take old.capacity between.cached) new.cached
   pub known : KnowsPart old new
+  pub few : length new.cached ≤ old.capacity
   pub held : new.held ≡ []
   pub first : new.first ≡ old.first
   pub capacity : new.capacity ≡ old.capacity
 
 -- texts go into the cache: what is known then was known before, or is one of these under its digest
 pub record Keeps (old : CheckedBlocks) (texts : List Bytes) (new : CheckedBlocks) : Type 0 where
-  pub put : ArePut old.capacity (map with_digest texts) old.cached new.cached
+  pub put : ArePut old.capacity (map with_digest texts) (take old.capacity old.cached) new.cached
+  pub few : length new.cached ≤ old.capacity
   pub known : (digest : Digest) (text : Bytes) → known_blocks new digest ≡ Some text
       → (known_blocks old digest ≡ Some text) ⊎ (Contains texts text × (hash text ≡ digest))
   pub held : new.held ≡ old.held
@@ -117,3 +120,7 @@ pub record Keeps (old : CheckedBlocks) (texts : List Bytes) (new : CheckedBlocks
 -- the most recently used blocks of the cache, as many as fit
 abbrev pub with_capacity : ℕ → CheckedBlocks → CheckedBlocks
 with_capacity capacity k = record k { cached = take capacity k.cached; capacity = capacity }
+
+-- the same, once no block is held: until then the cache keeps what it has
+abbrev pub with_capacity_later : ℕ → CheckedBlocks → CheckedBlocks
+with_capacity_later capacity k = record k { capacity = capacity }

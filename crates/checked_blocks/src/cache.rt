@@ -1,6 +1,6 @@
 //! A cache of blocks by digest, and what goes from there among the held blocks and back.
 
-ghost use Rattle.std.specs.Prelude.{◌≡◌, ◌+◌, ◌<◌, ◌≤◌, [], if◌then◌else◌, map, vec_len};
+ghost use Rattle.std.specs.Prelude.{◌≡◌, ◌+◌, ◌<◌, ◌≤◌, [], if◌then◌else◌, length, map, vec_len};
 ghost use Rattle.std.specs.Vec.{vec_items};
 ghost use Rattle.indexmap.specs.IndexMap.{spare};
 ghost use Rattle.checked_blocks.specs.CheckedBlocks.{ArePut, IsPut, with_digest};
@@ -180,10 +180,13 @@ pub(crate) fn put_all_back<A: Allocator + Copy>(held: &mut HeldBlocks<A>, cache:
     ensures part { IsPart held.old.entries cache.old.entries cache.new.entries }
     ensures empty { held.new.entries ≡ [] }
     ensures capacity { cache.new.cap ≡ cache.old.cap }
+    ensures few { length cache.new.entries ≤ cache.old.cap }
 {
     let alloc = *cache.allocator();
     let left = mem::replace(held, IndexMap::new(alloc));
     put_back(cache, left);
+    // No more than it may have.
+    let _size = cache.len();
 }
 
 /// Puts texts into the cache, the last as the most recently used. One that memory refuses is left out.
@@ -192,8 +195,11 @@ pub(crate) fn put_texts<A: Allocator + Copy>(cache: &mut Cache<A>, texts: Vec<Ve
         cache.new.entries }
     ensures of_texts { AreOfTexts (map vec_items texts.items) cache.old.entries cache.new.entries }
     ensures capacity { cache.new.cap ≡ cache.old.cap }
+    ensures few { length cache.new.entries ≤ cache.old.cap }
 {
     for text in texts {
         put(cache, digest(&text), MarkedText::new(text));
     }
+    // No more than it may have.
+    let _size = cache.len();
 }

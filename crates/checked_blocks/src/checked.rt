@@ -6,6 +6,7 @@ ghost use Rattle.std.specs.Vec.{vec_items};
 ghost use Rattle.layout.specs.Hash.{hash};
 ghost use Rattle.checked_blocks.specs.CheckedBlocks.{AreChecked, Keeps, LetsGo, TakesUp, at_first, holding};
 ghost use Rattle.checked_blocks.specs.CheckedBlocks.{known_blocks, knowing, text_at, with_capacity};
+ghost use Rattle.checked_blocks.specs.CheckedBlocks.{with_capacity_later};
 
 use crate::cache::{
     Cache, HeldBlocks, digests_read, hold_and_move, move_all, put_all_back, put_texts,
@@ -34,18 +35,22 @@ pub struct CheckedBlocks<A: Allocator> {
     first: Held<A>,
     held: HeldBlocks<A>,
     cache: Cache<A>,
+    // How many blocks the cache may have once no block is held.
+    capacity: NonZeroUsize,
     // Whether a block of the cache may have been read since the last `take_up`.
     was_read: Cell<bool>,
 }
 
 impl<A: Allocator> Model for CheckedBlocks<A> {
+    ghost use Rattle.std.specs.NonZero.{non_zero_usize_get};
     ghost use Rattle.checked_blocks.specs.CheckedBlocks.{AreChecked, CheckedBlocks, checked_blocks};
 
     ghost Value = { CheckedBlocks };
 
-    ghost view = { λ k. checked_blocks k.first k.held.entries k.cache.entries k.cache.cap };
+    ghost view = { λ k. checked_blocks k.first k.held.entries k.cache.entries (non_zero_usize_get k.capacity) };
 
-    ghost invariant = { λ k. AreChecked (checked_blocks k.first k.held.entries k.cache.entries k.cache.cap) };
+    ghost invariant = { λ k. AreChecked (checked_blocks k.first k.held.entries k.cache.entries
+        (non_zero_usize_get k.capacity)) };
 }
 
 impl<A: Allocator> Blocks for CheckedBlocks<A> {
@@ -94,6 +99,7 @@ impl<A: Allocator + Copy> CheckedBlocks<A> {
             first,
             held: IndexMap::new(alloc),
             cache,
+            capacity,
             was_read: Cell::new(false),
         })
     }
@@ -108,18 +114,17 @@ impl<A: Allocator + Copy> CheckedBlocks<A> {
 
     /// How many blocks the cache has.
     pub fn cached_len(&self) -> usize
-        ensures len { result ≡ length self.now.cached }
-        ensures fits { result ≤ self.now.capacity }
+        ensures { result ≡ length self.now.cached }
     {
         self.cache.len()
     }
 
-    /// How many blocks the cache may have.
+    /// How many blocks the cache may have once no block is held.
     pub fn capacity(&self) -> usize
         ensures capacity { result ≡ self.now.capacity }
         ensures some { 0 < result }
     {
-        self.cache.cap().get()
+        self.capacity.get()
     }
 
     /// What is true of them at all times. For the proofs of callers: it does nothing.
@@ -192,6 +197,7 @@ impl<A: Allocator + Copy> CheckedBlocks<A> {
     {
         // Where memory refuses it, the blocks that were read since keep their places.
         let _refused = self.take_up();
+        self.cache.resize(self.capacity);
         put_all_back(&mut self.held, &mut self.cache);
     }
 
@@ -199,10 +205,12 @@ impl<A: Allocator + Copy> CheckedBlocks<A> {
     pub fn keep(&mut self, texts: Vec<Vec<u8, A>, A>)
         ensures { Keeps self.old (map vec_items texts.items) self.new }
     {
+        self.cache.resize(self.capacity);
         put_texts(&mut self.cache, texts);
     }
 
-    /// Changes how many blocks the cache may have: 1 to 4,096. The most recently used stay, as many as fit. It can't fail.
+    /// Changes how many blocks the cache may have: 1 to 4,096. The most recently used stay, as many as fit. It can't
+    /// fail.
     pub fn cache(&mut self, capacity: usize)
         requires some { 0 < capacity }
         requires fits { capacity ≤ MOST_CACHED }
@@ -211,6 +219,20 @@ impl<A: Allocator + Copy> CheckedBlocks<A> {
         let Some(capacity) = NonZeroUsize::new(capacity) else {
             unreachable!()
         };
+        self.capacity = capacity;
         self.cache.resize(capacity);
+    }
+
+    /// Changes how many blocks the cache may have from the moment on when the held ones are let go: 1 to 4,096. Nothing
+    /// is forgotten before. It can't fail.
+    pub fn cache_later(&mut self, capacity: usize)
+        requires some { 0 < capacity }
+        requires fits { capacity ≤ MOST_CACHED }
+        ensures { self.new ≡ with_capacity_later capacity self.old }
+    {
+        let Some(capacity) = NonZeroUsize::new(capacity) else {
+            unreachable!()
+        };
+        self.capacity = capacity;
     }
 }

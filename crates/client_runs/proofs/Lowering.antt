@@ -7,7 +7,7 @@ use Rattle.update_cert.specs.Change.{Change}
 use Rattle.client_releases.specs.declared.error.ClientError.TheVariants as error
 use Rattle.client_releases.specs.Releasing.{IsKept, IsTried, structure_record}
 use Rattle.release_runs.specs.Steps as low
-use Rattle.client_verify.specs.State.{IsOfDeclared, Ready, State, next_cert, next_structure, on, released, signed_over, signed_text}
+use Rattle.client_verify.specs.State.{IsOfDeclared, Ready, State, next_cert, next_structure, on, over, released, signed_over, signed_text}
 use Rattle.client_steps.specs.Steps.{Client, Closed, HasBegun, HasSigned, IsHandedBack, IsLeft, IsOpened, IsSound, Open, Owner, Parts}
 
 -- the owner, the devices and the client, as client_releases has them
@@ -59,7 +59,7 @@ module _ (s new : State) (y : Ready) (ready : s.accepted ≡ Some y) where
   pub low_signed : (text : Bytes) → IsSound (Open s) → HasSigned s (Ok text) new → low.HasSigned (released s) (next_structure s y) (Ok text) (released new)
   low_signed text before b =
       let declared = of_declared before in
-      let done = if_ready (λ r. (leaf : LeafNumber) × IsKept leaf (structure_record (signed_text s leaf r)) s.devices new.devices × (new ≡ on new.devices (signed_over s leaf r))) b.signed in
+      let done = if_ready (λ r. (leaf : LeafNumber) × IsKept leaf (structure_record (signed_text s leaf r)) s.devices new.devices × (new ≡ over new.blocks (on new.devices (signed_over s leaf r)))) b.signed in
       record {
         declared = declared.is_declared;
         fits = if_ready (λ r. structure.Fits (next_structure s r)) b.fits;

@@ -11,7 +11,7 @@ use Rattle.release_runs.specs.Steps as low
 use Rattle.release_runs.specs.Runs as low_run
 use Rattle.release_runs.specs.Released as low_released
 use Rattle.client_verify.specs.State.{State, next_cert, next_structure, released}
-use Rattle.client_steps.specs.Steps.{Begins, Call, Client, Closed, Closes, Commits, Crashes, Gives, HasBegun, HasCommitted, HasSigned, Hears, IsSound, IsStep, Looks, Open, Opens, Owner, Signs, Takes, first}
+use Rattle.client_steps.specs.Steps.{Begins, Caches, Call, Client, Closed, Closes, Commits, Crashes, Gives, HasBegun, HasCommitted, HasSigned, Hears, IsSound, IsStep, Looks, Open, Opens, Owner, Signs, Takes, first}
 use Rattle.client_runs.specs.Runs.{Event, IsRun, Keys, client_of, owner}
 use Rattle.client_runs.specs.Released.{released as released_in, released_by}
 use Rattle.client_runs.proofs.Lowering.{low_begin_failed, low_begun, low_client, low_handed_back, low_left, low_opened, low_owner, low_sign_failed, low_signed, with_ready}
@@ -110,6 +110,7 @@ module _ (o : Owner) where
   step texts (Open s) (Commits status) (Open new) m was is sound = commits texts s m new sound status is
   step texts (Open s) (Looks q answer) (Open new) m was is sound = quiet texts (Open s) m (Open new) (ap low.Open (ap (λ (k : Kept). k.0) (looks s q answer new is)))
   step texts (Open s) (Gives block answer) (Open new) m was is sound = quiet texts (Open s) m (Open new) (ap low.Open (ap (λ (k : Kept). k.0) (gives s block answer new is)))
+  step texts (Open s) (Caches capacity) (Open new) m was is sound = quiet texts (Open s) m (Open new) (ap low.Open (ap released is.state))
   step texts (Open s) call after m was is sound = absurd is
 
 -- ---- runs

@@ -41,6 +41,7 @@ module _ {A : Type 0} (t : WorldStep A) (before after : Client) where
   kept (answer.Signed r) h = inr (h, λ steps answers e events is k. (is, k))
   kept answer.Committed h = inr (h, λ steps answers e events is k. (is, k))
   kept (answer.Sees r) h = inr (h, λ steps answers e events is k. (is, k))
+  kept answer.Cached h = inr (h, λ steps answers e events is k. (is, k))
   kept answer.Crashed h = inr (h, λ steps answers e events is k. (is, k))
   kept (answer.Served status) h = inr (h, λ steps answers e events is k. (is, k))
 

@@ -21,6 +21,7 @@ use Rattle.reply_check.specs.FirstBroken.{Known, lists_break, of_reply, reply_br
 use Rattle.reply_check.specs.Good.{Good}
 use Rattle.reply_check.specs.declared.asked.Asked.{Asked}
 use Rattle.agreement.proofs.Members.{In, in-left, in-right, last_or_nil}
+use Rattle.checked_blocks.specs.CheckedBlocks.{CheckedBlocks}
 use Rattle.client_verify.specs.State.{Checked, Reading, Ready, State, Writing, holding, known, released}
 use Rattle.client_verify.specs.Judged.{AsksOrAccepts, GoesOn, Handed, Judged, Taken}
 use Rattle.client_runs.specs.Runs.{Event}
@@ -136,29 +137,29 @@ pub record StaysSound (run : List Event) (s new : State) : Type 0 where
   pub quiet : IsQuiet s new
   pub sound : AreSound run new
 
-writes : (run : List Event) (s : State) (good : Good) (a : Asked) → IsGoodBy run (known s) good.lists good.table → StaysSound run s (record s { checked = Some (Writing good a); accepted = None })
-writes run s good a g = record {
+writes : (run : List Event) (s : State) (b : CheckedBlocks) (good : Good) (a : Asked) → IsGoodBy run (known s) good.lists good.table → StaysSound run s (record s { blocks = b; checked = Some (Writing good a); accepted = None })
+writes run s b good a g = record {
   quiet = record { devices = refl; user = refl; seed = refl; id = refl; pinned = refl; number = refl; last = refl; text = refl; phase = refl };
   sound = record { checked = g; accepted = tt };
 }
 
-reads : (run : List Event) (s : State) (r : Reply) (a : Asked) → IsJudged run (known s) r → StaysSound run s (record s { checked = Some (Reading r a); accepted = None })
-reads run s r a j = record {
+reads : (run : List Event) (s : State) (b : CheckedBlocks) (r : Reply) (a : Asked) → IsJudged run (known s) r → StaysSound run s (record s { blocks = b; checked = Some (Reading r a); accepted = None })
+reads run s b r a j = record {
   quiet = record { devices = refl; user = refl; seed = refl; id = refl; pinned = refl; number = refl; last = refl; text = refl; phase = refl };
   sound = record { checked = j; accepted = tt };
 }
 
-accepts : (run : List Event) (s : State) (y : Ready) → IsGoodBy run (known s) y.lists y.table → StaysSound run s (record s { checked = None; accepted = Some y })
-accepts run s y g = record {
+accepts : (run : List Event) (s : State) (b : CheckedBlocks) (y : Ready) → IsGoodBy run (known s) y.lists y.table → StaysSound run s (record s { blocks = b; checked = None; accepted = Some y })
+accepts run s b y g = record {
   quiet = record { devices = refl; user = refl; seed = refl; id = refl; pinned = refl; number = refl; last = refl; text = refl; phase = refl };
   sound = record { checked = tt; accepted = g };
 }
 
 pub goes : {A : Type 0} (run : List Event) (s : State) (good : Good) (step : Step A) (new : State) → IsGoodBy run (known s) good.lists good.table → AsksOrAccepts s good step new → StaysSound run s new
-goes run s good (Need digest) new g h = subst (λ (n : State). StaysSound run s n) (sym h.2) (writes run s good h.0 g)
+goes run s good (Need digest) new g h = subst (λ (n : State). StaysSound run s n) (sym h.2) (writes run s new.blocks good h.0 g)
 goes run s good (Store texts) new g h =
     subst (λ (n : State). StaysSound run s n) (sym h.3)
-    (accepts run s (record { lists = good.lists; table = good.table; handle = h.0.handle; records = _; lost = h.2 }) g)
+    (accepts run s new.blocks (record { lists = good.lists; table = good.table; handle = h.0.handle; records = _; lost = h.2 }) g)
 goes run s good (Broken rule) new g h = absurd h
 
 good_from : (run : List Event) (s : State) (r : Reply) (x : Lists) (good : Good) → IsJudged run (known s) r → of_lists x ≡ r → good.lists ≡ x → lists_break good.table x ≡ None → IsGoodBy run (known s) good.lists good.table
@@ -167,7 +168,7 @@ good_from run s r x good j back is by =
     (record { judged = subst (λ (q : Reply). IsJudged run (known s) q) (sym back) j; by_table = by })
 
 pub taken : {A : Type 0} (run : List Event) (s : State) (r : Reply) (x : Lists) (step : Step A) (new : State) → IsJudged run (known s) r → of_lists x ≡ r → Taken s r x step new → StaysSound run s new
-taken run s r x (Need digest) new j back (inl h) = subst (λ (n : State). StaysSound run s n) (sym h.2) (reads run s r h.0 j)
+taken run s r x (Need digest) new j back (inl h) = subst (λ (n : State). StaysSound run s n) (sym h.2) (reads run s new.blocks r h.0 j)
 taken {A} run s r x (Need digest) new j back (inr h) = goes {A = A} run s h.0 (Need digest) new (good_from run s r x h.0 j back h.1.0 h.1.2) h.2
 taken run s r x (Store texts) new j back h = goes run s h.0 (Store texts) new (good_from run s r x h.0 j back h.1.0 h.1.2) h.2
 taken run s r x (Broken rule) new j back h = absurd h

@@ -1,5 +1,5 @@
 -- No call of an open client changes its user's keys.
-use Rattle.std.proofs.Common.{◌≡◌, List, Option, Ok, Err, Result, refl, ap, subst}
+use Rattle.std.proofs.Common.{◌≡◌, ℕ, List, Option, Ok, Err, Result, refl, ap, subst}
 use Rattle.std.specs.Prelude.{IsErrOf}
 use Rattle.layout.specs.Types.{Bytes, Digest}
 use Rattle.update_cert.specs.Change.{Change}
@@ -10,9 +10,9 @@ use Rattle.client_releases.specs.declared.error.ClientError.{ClientError}
 use Rattle.client_releases.specs.declared.error.ClientError.TheVariants as error
 use Rattle.client_releases.specs.Releasing.{IsKept, structure_record}
 use Rattle.leaf_ledger.specs.Ledger.{LeafNumber}
-use Rattle.client_verify.specs.State.{State, on, released, signed_over, signed_text}
+use Rattle.client_verify.specs.State.{State, on, over, released, signed_over, signed_text}
 use Rattle.client_runs.specs.Slots.{AreSame}
-use Rattle.client_steps.specs.Steps.{Asks, Begins, Call, Closes, Commits, Crashes, FromOpen, Gives, HasBegun, HasCommitted, HasGiven, HasHeard, HasLooked, HasSigned, HasTaken, Hears, Looks, Open, Opens, Sees, Signs, Takes}
+use Rattle.client_steps.specs.Steps.{Asks, Begins, Caches, Call, Closes, Commits, Crashes, FromOpen, Gives, HasBegun, HasCached, HasCommitted, HasGiven, HasHeard, HasLooked, HasSigned, HasTaken, Hears, Looks, Open, Opens, Sees, Signs, Takes}
 use Rattle.client_runs.proofs.Lowering.{if_ready, with_ready}
 use Rattle.client_runs.proofs.Quiet as quiet
 
@@ -55,7 +55,7 @@ module _ (s new : State) where
   pub signs : (answer : Result Bytes ClientError) → HasSigned s answer new → AreSame s new
   signs (Ok text) b =
       with_ready s (AreSame s new) b.ready
-      (λ y is. let done = if_ready s new y is (λ r. (leaf : LeafNumber) × IsKept leaf (structure_record (signed_text s leaf r)) s.devices new.devices × (new ≡ on new.devices (signed_over s leaf r))) b.signed in
+      (λ y is. let done = if_ready s new y is (λ r. (leaf : LeafNumber) × IsKept leaf (structure_record (signed_text s leaf r)) s.devices new.devices × (new ≡ over new.blocks (on new.devices (signed_over s leaf r)))) b.signed in
       (ap (λ (n : State). n.seed) done.2, ap (λ (n : State). n.id) done.2))
   signs (Err e) b = unless_device e (λ is. let left = b.fails (told_error e error.Device is) in (ap (λ (n : State). n.seed) left, ap (λ (n : State). n.id) left)) b.err
 
@@ -71,6 +71,9 @@ module _ (s new : State) where
   commits status.Absent b = stays b.state
   commits status.Memory b = stays b.state
 
+  pub caches : (capacity : ℕ) → HasCached s capacity new → AreSame s new
+  caches capacity b = (ap (λ (n : State). n.seed) b.state, ap (λ (n : State). n.id) b.state)
+
   -- so no step of one that stays open does
   pub steps : (call : Call) → FromOpen s call (Open new) → AreSame s new
   steps (Opens answer) b = absurd b
@@ -82,4 +85,5 @@ module _ (s new : State) where
   steps (Commits status) b = commits status b
   steps (Looks q answer) b = looks q answer b
   steps (Gives block answer) b = gives block answer b
+  steps (Caches capacity) b = caches capacity b
   steps Crashes b = absurd b

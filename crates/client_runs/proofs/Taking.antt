@@ -24,7 +24,7 @@ use Rattle.client_runs.specs.declared.world.Act.{Act}
 use Rattle.client_runs.specs.declared.world.Act.TheVariants as act
 use Rattle.client_runs.specs.declared.world.Answer.{Answer}
 use Rattle.client_runs.specs.declared.world.Answer.TheVariants as answer
-use Rattle.client_steps.specs.Steps.{Begins, Client, Closed, Closes, Commits, Gives, HasBegun, HasCommitted, HasGiven, HasHeard, HasLooked, HasSigned, HasTaken, Hears, IsHandedBack, IsOpened, IsRefused, IsSound, Looks, Open, Opens, Owner, Parts, Signs, Takes, journal_of, ledger_of, own_key}
+use Rattle.client_steps.specs.Steps.{Begins, Caches, Client, Closed, Closes, Commits, Gives, HasBegun, HasCached, HasCommitted, HasGiven, HasHeard, HasLooked, HasSigned, HasTaken, Hears, IsHandedBack, IsOpened, IsRefused, IsSound, Looks, Open, Opens, Owner, Parts, Signs, Takes, journal_of, ledger_of, own_key}
 use Rattle.client_runs.specs.Carried.{ComesOf}
 use Rattle.client_runs.specs.NotTaken.{CantFromOpen, MayLeaveBoth}
 use Rattle.client_runs.specs.Slots.{AreSame}
@@ -107,6 +107,11 @@ module _ {A : Type 0} (o : Owner) (old new : State) (t : Act A) where
       same_step (act.Give block) (answer.Sees r) (Open new) is
       (record { call = Gives (option_map vec_items block) (on_ok seen r); is_call = refl; told = tt; step = b; sound = sound })
 
+  pub caches : (capacity : ℕ) → t ≡ act.Cache capacity → HasCached old capacity new → IsSound (Open new) → ComesOf o (Open old) t answer.Cached (Open new)
+  caches capacity is b sound =
+      same_step (act.Cache capacity) answer.Cached (Open new) is
+      (record { call = Caches capacity; is_call = refl; told = tt; step = b; sound = sound })
+
   -- it stays as it was where the step can't be taken
   pub stays : (u : Act A) → t ≡ u → new ≡ old → CantFromOpen old u → ComesOf o (Open old) t answer.NotTaken (Open new)
   stays u is same cant = same_step u answer.NotTaken (Open new) is (open_stays o old new u same cant)
@@ -127,6 +132,7 @@ same_key o old new t (answer.Asks r) h = unchanged.steps old new h.call h.step
 same_key o old new t (answer.Signed r) h = unchanged.steps old new h.call h.step
 same_key o old new t answer.Committed h = unchanged.steps old new h.call h.step
 same_key o old new t (answer.Sees r) h = unchanged.steps old new h.call h.step
+same_key o old new t answer.Cached h = unchanged.steps old new h.call h.step
 same_key o old new t answer.Crashed h = unchanged.steps old new h.call h.step
 same_key o old new t (answer.Served status) h = unchanged.steps old new h.call h.step
 

@@ -4,7 +4,7 @@ use Rattle.layout.specs.Types.{Bytes}
 use Rattle.leaf_ledger.specs.Device.{History, MayLeave}
 use Rattle.client_verify.specs.State.{State}
 use Rattle.client_steps.specs.Steps.{Client, Closed, Open, journal_of, ledger_of}
-use Rattle.client_steps.specs.NotCalled.{CantBegin, CantCommit, CantGive, CantHear, CantLook, CantSign, CantTake}
+use Rattle.client_steps.specs.NotCalled.{CantBegin, CantCache, CantCommit, CantGive, CantHear, CantLook, CantSign, CantTake}
 use Rattle.client_runs.specs.declared.world.Act.{Act}
 use Rattle.client_runs.specs.declared.world.Act.TheVariants as act
 use Rattle.client_runs.specs.Told.{texts_in}
@@ -38,6 +38,7 @@ CantFromOpen s (act.Look p i) = CantLook s
 CantFromOpen s (act.Kind p i) = CantLook s
 CantFromOpen s (act.Free p first last) = CantLook s ⊎ (last < first)
 CantFromOpen s (act.Give block) = CantGive s
+CantFromOpen s (act.Cache capacity) = CantCache capacity
 CantFromOpen s (act.Crash ledger journal) = NoneLeaves (Open s) ledger.items journal.items
 
 -- the step can't be taken

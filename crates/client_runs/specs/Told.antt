@@ -9,7 +9,7 @@ use Rattle.client_tree.specs.declared.questions.Question.TheVariants as question
 use Rattle.client_releases.specs.declared.phase.Phase.{Phase}
 use Rattle.client_releases.specs.declared.phase.Phase.TheVariants as phase
 use Rattle.client_verify.specs.State.{AcceptedView}
-use Rattle.client_steps.specs.Steps.{Begins, Call, Client, Closed, Closes, Commits, Crashes, Gives, Hears, Looks, Open, Opens, Signs, Takes}
+use Rattle.client_steps.specs.Steps.{Begins, Caches, Call, Client, Closed, Closes, Commits, Crashes, Gives, Hears, Looks, Open, Opens, Signs, Takes}
 use Rattle.client_steps.specs.Anywhere.{asked, on_ok, seen}
 use Rattle.client_runs.specs.declared.world.Accepted.{Accepted}
 use Rattle.client_runs.specs.declared.world.Act.{Act}
@@ -37,6 +37,7 @@ call_of (act.Look p i) (answer.Sees r) = Some (Looks (question.At p i) (on_ok se
 call_of (act.Kind p i) (answer.Sees r) = Some (Looks (question.Kind p i) (on_ok seen r))
 call_of (act.Free p first last) (answer.Sees r) = Some (Looks (question.Free p first last) (on_ok seen r))
 call_of (act.Give block) (answer.Sees r) = Some (Gives (option_map vec_items block) (on_ok seen r))
+call_of (act.Cache capacity) answer.Cached = Some (Caches capacity)
 call_of (act.Crash ledger journal) answer.Crashed = Some Crashes
 call_of other answer = None
 

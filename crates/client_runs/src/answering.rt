@@ -8,7 +8,7 @@ ghost use Rattle.client_runs.specs.Slots.{StaysOpen, Tells};
 use crate::armed::MemoryClient;
 use crate::signing::sign_and_tell;
 use crate::world::{Act, Answer};
-use client_steps::{begin, commit, free, give, hear, kind, look, take};
+use client_steps::{begin, cache, commit, free, give, hear, kind, look, take};
 use layout::{INumber, Memory, Principal};
 use std::alloc::Allocator;
 use update_cert::Change;
@@ -136,6 +136,17 @@ fn gives<A: Allocator + Copy>(client: &mut MemoryClient<A>, block: &Option<Vec<u
     }
 }
 
+/// Its cache may have so many blocks.
+fn caches<A: Allocator + Copy>(client: &mut MemoryClient<A>, capacity: u16) -> Answer<A>
+    ensures { Tells client.old (Act.Cache capacity) result client.new }
+{
+    if cache(client, capacity as usize) {
+        Answer::Cached
+    } else {
+        Answer::NotTaken
+    }
+}
+
 /// A call of an open client, or its opening, which can't be.
 pub(crate) fn call<A: Allocator + Copy>(
     alloc: A,
@@ -155,6 +166,7 @@ pub(crate) fn call<A: Allocator + Copy>(
         Act::Kind(principal, i_number) => Ok(kinds(client, *principal, *i_number)),
         Act::Free(principal, first, last) => Ok(frees(client, *principal, *first, *last)),
         Act::Give(block) => Ok(gives(client, block)),
+        Act::Cache(capacity) => Ok(caches(client, *capacity)),
         Act::Open => Ok(Answer::NotTaken),
         Act::Close => unreachable!(),
         Act::Crash(_, _) => unreachable!(),

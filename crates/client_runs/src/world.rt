@@ -35,6 +35,8 @@ pub enum Act<A: Allocator> {
     Free(Principal, INumber, INumber),
     /// It takes the block that the look asks for, or its absence.
     Give(Option<Vec<u8, A>>),
+    /// Its cache may have so many blocks from now on: 1 to 4,096. Else it can't.
+    Cache(u16),
     /// A crash leaves these bytes on the device of the ledger and these on that of the journal, where one may. It
     /// closes an open client.
     Crash(Vec<u8, A>, Vec<u8, A>),
@@ -88,6 +90,8 @@ pub enum Answer<A: Allocator> {
     Committed,
     /// What the client sees, or asks for to see it.
     Sees(Result<Look<A>, ClientError>),
+    /// The client's cache may have as many blocks.
+    Cached,
     /// The crash came, and the client is closed.
     Crashed,
     /// The server answered so to what the client sent, and no reply of it was handed in. A step that asks no server is

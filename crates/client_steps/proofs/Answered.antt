@@ -1,5 +1,5 @@
 -- What `begin` and `sign` of a client ensure is what a step of it tells, wherever the answer lies in memory.
-use Rattle.std.proofs.Common.{◌≡◌, ◌≢◌, ℕ, ◌≤◌, List, Option, Some, Ok, Err, Result, IfOk, IfErr, OnOk, OnErr, true, length, ap}
+use Rattle.std.proofs.Common.{◌≡◌, ◌≢◌, ℕ, ◌≤◌, List, Option, Ok, Err, Result, IfOk, IfErr, OnOk, OnErr, true, length, ap}
 use Rattle.std.specs.Prelude.{◌↔◌, IfSome, IsErrOf, IsSome}
 use Rattle.std.specs.Vec.{vec_items}
 use Rattle.std.specs.declared.vec.Vec.{Vec}
@@ -15,7 +15,9 @@ use Rattle.client_releases.specs.declared.error.ClientError.TheVariants as error
 use Rattle.client_releases.specs.declared.phase.Phase.TheVariants as phase
 use Rattle.client_releases.specs.Releasing.{AnyMoment, IsKept, IsTried, OneHasRisen, cert_record, structure_record}
 use Rattle.client_verify.specs.Laid.{are_laid}
-use Rattle.client_verify.specs.State.{Ready, State, declared, declared_text, failed, laying, next_cert, next_structure, on, signed_over, signed_text}
+use Rattle.checked_blocks.specs.CheckedBlocks.{LetsGo}
+use Rattle.client_verify.specs.Holding.{LaysOut}
+use Rattle.client_verify.specs.State.{Ready, State, declared, declared_text, failed, next_cert, next_structure, on, over, signed_over, signed_text}
 use Rattle.client_steps.specs.Steps.{HasBegun, HasSigned}
 use Rattle.client_steps.specs.Anywhere.{on_ok}
 
@@ -40,7 +42,8 @@ module _ {A : Type 0} where
 module _ {A : Type 0} (s new : State) (changes : List (Change Digest)) (laid : List Bytes) where
   pub begun : (answer : Result (Vec ℕ A) ClientError)
       → s.phase ≡ phase.Idle → length changes ≤ MOST_CHANGES → are_laid laid changes ≡ true
-      → OnOk answer ((leaf : LeafNumber) × IsKept leaf (cert_record (declared_text s leaf changes)) s.devices new.devices × (new ≡ on new.devices (declared s leaf changes laid)))
+      → OnOk answer ((leaf : LeafNumber) × IsKept leaf (cert_record (declared_text s leaf changes)) s.devices new.devices × (new ≡ over new.blocks (on new.devices (declared s leaf changes))))
+      → OnOk answer (LaysOut s laid new.blocks)
       → IfOk answer (λ x. x.items ≡ new.text)
       → OnOk answer (cert.Fits (next_cert s changes))
       → ((leaf : LeafNumber) → IsLeastFree s.devices.ledger.file.now.text leaf → AnyMoment leaf (cert_record (declared_text s leaf changes)) s.devices new.devices)
@@ -48,17 +51,19 @@ module _ {A : Type 0} (s new : State) (changes : List (Change Digest)) (laid : L
       → (IsErrOf answer error.NoLeaf ↔ IsFull s.devices.ledger.file.now.text)
       → (IsErrOf answer error.NoNumber ↔ ((s.number ≡ last_version) × (IsFull s.devices.ledger.file.now.text → ⊥)))
       → (IsErrOf answer error.Device → OneHasRisen s.devices new.devices)
-      → (IsErrOf answer error.Device → new ≡ on new.devices (failed (laying laid s)))
+      → (IsErrOf answer error.Device → new ≡ over new.blocks (on new.devices (failed s)))
+      → (IsErrOf answer error.Device → LaysOut s laid new.blocks)
       → (IsErrOf answer error.Device → cert.Fits (next_cert s changes))
       → IfErr answer (λ e. (e ≢ error.Foreign) × (e ≢ error.Damaged))
       → IfErr answer (λ e. e ≢ error.Device → new ≡ s)
       → HasBegun s changes laid (on_ok vec_items answer) new
-  begun (Ok x) i few l d t f any tr nl nn r fl fd only e =
+  begun (Ok x) i few l d k t f any tr nl nn r fl kd fd only e =
       record {
         idle = i;
         few = few;
         were_laid = l;
         declared = d;
+        kept = k;
         text = t;
         fits = f;
         any_moment = any;
@@ -67,16 +72,18 @@ module _ {A : Type 0} (s new : State) (changes : List (Change Digest)) (laid : L
         no_number = told_errs (Ok x) error.NoNumber ((s.number ≡ last_version) × (IsFull s.devices.ledger.file.now.text → ⊥)) nn;
         rose = λ h. r (told_err (Ok x) error.Device h);
         fails = λ h. fl (told_err (Ok x) error.Device h);
+        kept_device = λ h. kd (told_err (Ok x) error.Device h);
         fits_device = λ h. fd (told_err (Ok x) error.Device h);
         only = only;
         err = e;
       }
-  begun (Err x) i few l d t f any tr nl nn r fl fd only e =
+  begun (Err x) i few l d k t f any tr nl nn r fl kd fd only e =
       record {
         idle = i;
         few = few;
         were_laid = l;
         declared = d;
+        kept = k;
         text = t;
         fits = f;
         any_moment = any;
@@ -85,6 +92,7 @@ module _ {A : Type 0} (s new : State) (changes : List (Change Digest)) (laid : L
         no_number = told_errs (Err x) error.NoNumber ((s.number ≡ last_version) × (IsFull s.devices.ledger.file.now.text → ⊥)) nn;
         rose = λ h. r (told_err (Err x) error.Device h);
         fails = λ h. fl (told_err (Err x) error.Device h);
+        kept_device = λ h. kd (told_err (Err x) error.Device h);
         fits_device = λ h. fd (told_err (Err x) error.Device h);
         only = only;
         err = e;
@@ -101,7 +109,8 @@ module _ {A : Type 0} (s new : State) where
 
   pub signed : (answer : Result (Vec ℕ A) ClientError)
       → IsSome s.accepted
-      → OnOk answer (IfSome s.accepted (λ r. (leaf : LeafNumber) × IsKept leaf (structure_record (signed_text s leaf r)) s.devices new.devices × (new ≡ on new.devices (signed_over s leaf r))))
+      → OnOk answer (IfSome s.accepted (λ r. (leaf : LeafNumber) × IsKept leaf (structure_record (signed_text s leaf r)) s.devices new.devices × (new ≡ over new.blocks (on new.devices (signed_over s leaf r)))))
+      → OnOk answer (LetsGo s.blocks new.blocks)
       → IfOk answer (λ x. x.items ≡ new.text)
       → OnOk answer (IfSome s.accepted (λ r. structure.Fits (next_structure s r)))
       → IfSome s.accepted (λ r. (leaf : LeafNumber) → IsLeastFree s.devices.ledger.file.now.text leaf → AnyMoment leaf (structure_record (signed_text s leaf r)) s.devices new.devices)
@@ -113,10 +122,11 @@ module _ {A : Type 0} (s new : State) where
       → IfErr answer (λ e. (e ≢ error.NoNumber) × (e ≢ error.Foreign) × (e ≢ error.Damaged))
       → IfErr answer (λ e. e ≢ error.Device → new ≡ s)
       → HasSigned s (on_ok vec_items answer) new
-  signed (Ok x) ready d t f any tr nl r fl fd only e =
+  signed (Ok x) ready d k t f any tr nl r fl fd only e =
       record {
         ready = ready;
         signed = d;
+        gone = k;
         text = t;
         fits = f;
         any_moment = any;
@@ -128,10 +138,11 @@ module _ {A : Type 0} (s new : State) where
         only = only;
         err = e;
       }
-  signed (Err x) ready d t f any tr nl r fl fd only e =
+  signed (Err x) ready d k t f any tr nl r fl fd only e =
       record {
         ready = ready;
         signed = d;
+        gone = k;
         text = t;
         fits = f;
         any_moment = any;

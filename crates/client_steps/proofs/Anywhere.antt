@@ -1,5 +1,5 @@
 -- What a client asks for, and what it sees, is told alike wherever it lies in memory.
-use Rattle.std.proofs.Common.{◌≡◌, List, [], ◌∷◌, map, Option, Some, None, Ok, Err, Result, IfOk, IsSomeAnd, refl, ap, ◌∙◌, inl, inr}
+use Rattle.std.proofs.Common.{◌≡◌, List, [], ◌∷◌, map, Option, Some, None, Ok, Err, Result, IfOk, IsSomeAnd, refl, ap, ◌∙◌}
 use Rattle.std.specs.Vec.{vec_items}
 use Rattle.std.specs.declared.vec.Vec.{Vec}
 use Rattle.layout.specs.Types.{Bytes}
@@ -8,7 +8,7 @@ use Rattle.reply_rules.specs.Lists.{Lists, lists_of}
 use Rattle.tree_parts.specs.Blocks.{Blocks}
 use Rattle.client_tree.specs.declared.questions.Question.{Question}
 use Rattle.client_tree.specs.declared.questions.Question.TheVariants as question
-use Rattle.client_tree.specs.Held.{held}
+use Rattle.checked_blocks.specs.CheckedBlocks.{known_blocks}
 use Rattle.client_tree.specs.View.{View}
 use Rattle.client_verify.specs.declared.look.Look.{Look}
 use Rattle.client_verify.specs.declared.look.Look.TheVariants as look
@@ -18,9 +18,10 @@ use Rattle.client_verify.specs.declared.view.Looking.{Looking}
 use Rattle.reply_check.specs.FirstBroken.{reply_in, view_over}
 use Rattle.reply_check.specs.Good.{Good}
 use Rattle.client_verify.specs.State.{AcceptedView, Checked, Reading, State, Writing, holding}
+use Rattle.client_verify.specs.Holding.{HoldsAfter, LookHoldsAfter}
 use Rattle.client_verify.specs.Judged.{AsksOrAccepts, GoesOn, Handed, Judged, Taken}
 use Rattle.client_verify.specs.Looked.{Answers, Given, Looked}
-use Rattle.client_steps.specs.Anywhere.{asked, bytes_anywhere, on_ok, seen, texts_anywhere}
+use Rattle.client_steps.specs.Anywhere.{asked, bytes_anywhere, on_ok, seen}
 
 -- ---- what is stored
 
@@ -89,11 +90,11 @@ answered blocks x q answer h = absurd h
 looked_step : {A : Type 0} (s : State) (v : AcceptedView) (q : Question) (answer : Look A) (new : State) → Looked s v q answer new → Looked s v q (seen answer) new
 looked_step s v q (look.Need digest) new h = h
 looked_step s v q (look.Broken rule) new h = h
-looked_step {A} s v q (look.File bytes) new h = (h.0, answered {A = A} (held s.blocks) (view_over s.pinned v.table v.lists) q (look.File bytes) h.1)
-looked_step {A} s v q (look.Dir entries) new h = (h.0, answered {A = A} (held s.blocks) (view_over s.pinned v.table v.lists) q (look.Dir entries) h.1)
-looked_step {A} s v q look.None new h = (h.0, answered {A = A} (held s.blocks) (view_over s.pinned v.table v.lists) q look.None h.1)
-looked_step {A} s v q (look.Kind kind) new h = (h.0, answered {A = A} (held s.blocks) (view_over s.pinned v.table v.lists) q (look.Kind kind) h.1)
-looked_step {A} s v q (look.Free found) new h = (h.0, answered {A = A} (held s.blocks) (view_over s.pinned v.table v.lists) q (look.Free found) h.1)
+looked_step {A} s v q (look.File bytes) new h = (h.0, answered {A = A} (known_blocks s.blocks) (view_over s.pinned v.table v.lists) q (look.File bytes) h.1)
+looked_step {A} s v q (look.Dir entries) new h = (h.0, answered {A = A} (known_blocks s.blocks) (view_over s.pinned v.table v.lists) q (look.Dir entries) h.1)
+looked_step {A} s v q look.None new h = (h.0, answered {A = A} (known_blocks s.blocks) (view_over s.pinned v.table v.lists) q look.None h.1)
+looked_step {A} s v q (look.Kind kind) new h = (h.0, answered {A = A} (known_blocks s.blocks) (view_over s.pinned v.table v.lists) q (look.Kind kind) h.1)
+looked_step {A} s v q (look.Free found) new h = (h.0, answered {A = A} (known_blocks s.blocks) (view_over s.pinned v.table v.lists) q (look.Free found) h.1)
 
 pub looked : {A E : Type 0} (s : State) (v : AcceptedView) (q : Question) (answer : Result (Look A) E) (new : State) → IfOk answer (λ x. Looked s v q x new) → IfOk (on_ok seen answer) (λ x. Looked s v q x new)
 looked s v q (Ok x) new h = looked_step s v q x new h
@@ -115,3 +116,27 @@ given_step s v l block (look.Broken rule) new h = h
 pub given : {A E : Type 0} (s : State) (v : AcceptedView) (l : Looking) (block : Option Bytes) (answer : Result (Look A) E) (new : State) → IfOk answer (λ x. Given s v l block x new) → IfOk (on_ok seen answer) (λ x. Given s v l block x new)
 given s v l block (Ok x) new h = given_step s v l block x new h
 given s v l block (Err e) new h = h
+
+-- ---- what is held
+
+holds_step : {A : Type 0} (old : State) (block : Option Bytes) (answer : Step A) (new : State) → HoldsAfter old block answer new → HoldsAfter old block (asked answer) new
+holds_step old block (step.Need digest) new h = h
+holds_step old block (step.Store texts) new h = h
+holds_step old block (step.Broken rule) new h = h
+
+pub holds : {A E : Type 0} (old : State) (block : Option Bytes) (answer : Result (Step A) E) (new : State) → IfOk answer (λ x. HoldsAfter old block x new) → IfOk (on_ok asked answer) (λ x. HoldsAfter old block x new)
+holds old block (Ok x) new h = holds_step old block x new h
+holds old block (Err e) new h = h
+
+look_holds_step : {A : Type 0} (old : State) (block : Option Bytes) (answer : Look A) (new : State) → LookHoldsAfter old block answer new → LookHoldsAfter old block (seen answer) new
+look_holds_step old block (look.Need digest) new h = h
+look_holds_step old block (look.File bytes) new h = h
+look_holds_step old block (look.Dir entries) new h = h
+look_holds_step old block look.None new h = h
+look_holds_step old block (look.Kind kind) new h = h
+look_holds_step old block (look.Free found) new h = h
+look_holds_step old block (look.Broken rule) new h = h
+
+pub look_holds : {A E : Type 0} (old : State) (block : Option Bytes) (answer : Result (Look A) E) (new : State) → IfOk answer (λ x. LookHoldsAfter old block x new) → IfOk (on_ok seen answer) (λ x. LookHoldsAfter old block x new)
+look_holds old block (Ok x) new h = look_holds_step old block x new h
+look_holds old block (Err e) new h = h

@@ -1,5 +1,5 @@
 -- Steps, and then others.
-use Rattle.std.proofs.Common.{◌≡◌, List, [], ◌∷◌, ◌++◌, subst}
+use Rattle.std.proofs.Common.{List, [], ◌∷◌, ◌++◌, subst}
 use Rattle.client_steps.specs.Steps.{AreSteps, Client, Owner, StepTaken}
 
 pub steps_join : (o : Owner) (a b c : Client) (earlier later : List StepTaken) → AreSteps o a earlier b → AreSteps o b later c → AreSteps o a (earlier ++ later) c

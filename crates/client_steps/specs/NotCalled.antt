@@ -1,8 +1,9 @@
 -- When a call of an open client can't be made, by the client as it is and what the call is handed.
-use Rattle.std.specs.Prelude.{◌≡◌, ◌≢◌, ◌⊎◌, ◌<◌, List, length, IsSome, IsSomeAnd, false}
+use Rattle.std.specs.Prelude.{◌≡◌, ◌≢◌, ◌⊎◌, ◌<◌, ℕ, List, length, IsSome, IsSomeAnd, false}
 use Rattle.layout.specs.Types.{Bytes, Digest}
 use Rattle.update_cert.specs.Change.{Change}
 use Rattle.update_cert.specs.declared.cert.TheConstants.{MOST_CHANGES}
+use Rattle.checked_blocks.specs.CheckedBlocks.{most_cached}
 use Rattle.client_releases.specs.declared.phase.Phase.TheVariants as phase
 use Rattle.client_verify.specs.Laid.{are_laid}
 use Rattle.client_verify.specs.State.{State}
@@ -34,3 +35,7 @@ CantLook s = IsSome s.view → ⊥
 -- no look is under way, which asks for a block
 abbrev pub CantGive : State → Type 0
 CantGive s = IsSomeAnd s.view (λ v. IsSome v.looking) → ⊥
+
+-- a cache may have 1 to 4,096 blocks
+abbrev pub CantCache : ℕ → Type 0
+CantCache capacity = (capacity ≡ 0) ⊎ (most_cached < capacity)

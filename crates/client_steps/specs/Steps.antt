@@ -2,10 +2,10 @@
 --
 -- A crash inside a call is a call whose device fails, and then a crash: whatever part of the call was done by then is
 -- one that a device may have done that fails there.
-use Rattle.std.specs.Prelude.{◌≡◌, ◌≢◌, ◌⊎◌, ◌↔◌, ℕ, ◌≤◌, List, [], ◌∷◌, length, Option, Some, IfOk, IfErr, IsErrOf, IfSome, IsSome, IsSomeAnd, OnOk, OnErr, Result, Ok, Err, true, IsOk}
+use Rattle.std.specs.Prelude.{◌≡◌, ◌≢◌, ◌⊎◌, ◌↔◌, ℕ, ◌<◌, ◌≤◌, List, [], ◌∷◌, length, Option, Some, None, IfOk, IfErr, IsErrOf, IfSome, IsSome, IsSomeAnd, OnOk, OnErr, Result, Ok, Err, true, IsOk}
 use Rattle.layout.specs.Format.{IsBytes}
 use Rattle.layout.specs.Ranges.{last_version}
-use Rattle.layout.specs.Types.{Bytes, Digest, Key, User}
+use Rattle.layout.specs.Types.{Bytes, Digest, Key, Principal, User}
 use Rattle.lms_sign.specs.Keys.{public_key_of}
 use Rattle.leaf_ledger.specs.Device.{HasRisen, History, MayLeave, started}
 use Rattle.leaf_ledger.specs.Ledger.{IsForeign, IsFull, IsLeastFree, LeafNumber, UsedAsBefore}
@@ -14,8 +14,9 @@ use Rattle.version_order.specs.Structure.{structure}
 use Rattle.update_cert.specs.Change.{Change}
 use Rattle.update_cert.specs.Cert.{cert}
 use Rattle.update_cert.specs.declared.cert.TheConstants.{MOST_CHANGES}
-use Rattle.client_tree.specs.Held.{held}
+use Rattle.checked_blocks.specs.CheckedBlocks.{LetsGo, known_blocks, most_cached}
 use Rattle.client_tree.specs.declared.questions.Question.{Question}
+use Rattle.client_tree.specs.declared.questions.Question.TheVariants as question
 use Rattle.reply_rules.specs.declared.rule.Rule.TheVariants as rule
 use Rattle.wire.specs.declared.kinds.Status.{Status}
 use Rattle.client_releases.specs.declared.error.ClientError.{ClientError}
@@ -26,8 +27,9 @@ use Rattle.client_releases.specs.Told.{IsReleased, IsToldBy, TellsOfOther}
 use Rattle.client_verify.specs.declared.look.Look.{Look}
 use Rattle.client_verify.specs.declared.step.Step.{Step}
 use Rattle.client_verify.specs.Laid.{are_laid}
-use Rattle.client_verify.specs.State.{AreReplies, State, asked_of, committed, declared, declared_text, failed, laying, next_cert, next_structure, on, opened, released, signed_over, signed_text}
+use Rattle.client_verify.specs.State.{AreReplies, State, asked_of, committed, declared, declared_text, failed, next_cert, next_structure, on, opened, over, released, signed_over, signed_text}
 use Rattle.reply_check.specs.AskedBlock.{block_breaks}
+use Rattle.client_verify.specs.Holding.{HoldsAfter, LaysOut, LookHoldsAfter, with_cache}
 use Rattle.client_verify.specs.Judged.{Handed, Judged}
 use Rattle.client_verify.specs.Looked.{Given, Looked}
 
@@ -93,6 +95,7 @@ pub data Call : Type 0 where
   Commits : Status → Call
   Looks : Question → Result Sees ClientError → Call
   Gives : Option Bytes → Result Sees ClientError → Call
+  Caches : ℕ → Call
   Crashes : Call
 
 -- ---- what each call may leave
@@ -134,7 +137,8 @@ pub record HasBegun (s : State) (changes : List (Change Digest)) (laid : List By
   pub were_laid : are_laid laid changes ≡ true
   pub declared : OnOk answer ((leaf : LeafNumber)
       × IsKept leaf (cert_record (declared_text s leaf changes)) s.devices new.devices
-      × (new ≡ on new.devices (declared s leaf changes laid)))
+      × (new ≡ over new.blocks (on new.devices (declared s leaf changes))))
+  pub kept : OnOk answer (LaysOut s laid new.blocks)
   pub text : IfOk answer (λ text. text ≡ new.text)
   pub fits : OnOk answer (cert.Fits (next_cert s changes))
   pub any_moment : (leaf : LeafNumber) → IsLeastFree s.devices.ledger.file.now.text leaf
@@ -144,7 +148,8 @@ pub record HasBegun (s : State) (changes : List (Change Digest)) (laid : List By
   pub no_number : IsErrOf answer error.NoNumber
       ↔ ((s.number ≡ last_version) × (IsFull s.devices.ledger.file.now.text → ⊥))
   pub rose : IsErrOf answer error.Device → OneHasRisen s.devices new.devices
-  pub fails : IsErrOf answer error.Device → new ≡ on new.devices (failed (laying laid s))
+  pub fails : IsErrOf answer error.Device → new ≡ over new.blocks (on new.devices (failed s))
+  pub kept_device : IsErrOf answer error.Device → LaysOut s laid new.blocks
   pub fits_device : IsErrOf answer error.Device → cert.Fits (next_cert s changes)
   pub only : IfErr answer (λ e. (e ≢ error.Foreign) × (e ≢ error.Damaged))
   pub err : IfErr answer (λ e. e ≢ error.Device → new ≡ s)
@@ -153,6 +158,7 @@ pub record HasHeard (s : State) (text : Bytes) (answer : Result Asks ClientError
   pub declared : s.phase ≡ phase.Declared
   pub bytes : IsBytes text
   pub judged : IfOk answer (λ step. Judged s text step new)
+  pub held : IfOk answer (λ step. HoldsAfter s None step new)
   pub only_memory : IfErr answer (λ e. e ≡ error.Memory)
   pub err : OnErr answer (new ≡ s)
 
@@ -160,7 +166,9 @@ pub record HasTaken (s : State) (block : Option Bytes) (answer : Result Asks Cli
   pub wants : IsSome s.checked
   pub bytes : IfSome block IsBytes
   pub handed : IfSome s.checked (λ k. IfOk answer (λ step. Handed s k block step new))
-  pub told : IfSome s.checked (λ k. block_breaks (held s.blocks) (asked_of k) block ≡ Some rule.Block → IsOk answer)
+  pub held : IfOk answer (λ step. HoldsAfter s block step new)
+  pub told : IfSome s.checked (λ k. block_breaks (known_blocks s.blocks) (asked_of k) block ≡ Some rule.Block
+      → IsOk answer)
   pub only_memory : IfErr answer (λ e. e ≡ error.Memory)
   pub err : OnErr answer (new ≡ s)
 
@@ -168,7 +176,8 @@ pub record HasSigned (s : State) (answer : Result Bytes ClientError) (new : Stat
   pub ready : IsSome s.accepted
   pub signed : OnOk answer (IfSome s.accepted (λ r. (leaf : LeafNumber)
       × IsKept leaf (structure_record (signed_text s leaf r)) s.devices new.devices
-      × (new ≡ on new.devices (signed_over s leaf r))))
+      × (new ≡ over new.blocks (on new.devices (signed_over s leaf r)))))
+  pub gone : OnOk answer (LetsGo s.blocks new.blocks)
   pub text : IfOk answer (λ text. text ≡ new.text)
   pub fits : OnOk answer (IfSome s.accepted (λ r. structure.Fits (next_structure s r)))
   pub any_moment : IfSome s.accepted (λ r. (leaf : LeafNumber) → IsLeastFree s.devices.ledger.file.now.text leaf
@@ -186,9 +195,17 @@ pub record HasCommitted (s : State) (status : Status) (new : State) : Type 0 whe
   pub signed : s.phase ≡ phase.Signed
   pub state : new ≡ committed status s
 
+-- whose part of the tree a question is about
+abbrev pub principal_of : Question → Principal
+principal_of (question.At p i) = p
+principal_of (question.Kind p i) = p
+principal_of (question.Free p first last) = p
+
 pub record HasLooked (s : State) (q : Question) (answer : Result Sees ClientError) (new : State) : Type 0 where
+  pub principal : principal_of q < 96
   pub sees : IsSome s.view
   pub looked : IfSome s.view (λ v. IfOk answer (λ look. Looked s v q look new))
+  pub held : IfOk answer (λ look. LookHoldsAfter s None look new)
   pub only_memory : IfErr answer (λ e. e ≡ error.Memory)
   pub err : OnErr answer (new ≡ s)
 
@@ -196,10 +213,16 @@ pub record HasGiven (s : State) (block : Option Bytes) (answer : Result Sees Cli
   pub looks : IsSomeAnd s.view (λ v. IsSome v.looking)
   pub bytes : IfSome block IsBytes
   pub given : IfSome s.view (λ v. IfSome v.looking (λ l. IfOk answer (λ look. Given s v l block look new)))
-  pub told : IfSome s.view (λ v. IfSome v.looking (λ l. block_breaks (held s.blocks) l.asked block ≡ Some rule.Block
-      → IsOk answer))
+  pub held : IfOk answer (λ look. LookHoldsAfter s block look new)
+  pub told : IfSome s.view (λ v. IfSome v.looking (λ l.
+      block_breaks (known_blocks s.blocks) l.asked block ≡ Some rule.Block → IsOk answer))
   pub only_memory : IfErr answer (λ e. e ≡ error.Memory)
   pub err : OnErr answer (new ≡ s)
+
+pub record HasCached (s : State) (capacity : ℕ) (new : State) : Type 0 where
+  pub some : 0 < capacity
+  pub fits : capacity ≤ most_cached
+  pub state : new ≡ with_cache capacity s
 
 -- what a crash leaves on both devices; whoever finds it counts its faults anew
 pub record IsLeft (before : Client) (p : Parts) : Type 0 where
@@ -230,6 +253,7 @@ FromOpen s (Signs answer) (Open new) = HasSigned s answer new
 FromOpen s (Commits status) (Open new) = HasCommitted s status new
 FromOpen s (Looks q answer) (Open new) = HasLooked s q answer new
 FromOpen s (Gives block answer) (Open new) = HasGiven s block answer new
+FromOpen s (Caches capacity) (Open new) = HasCached s capacity new
 FromOpen s call after = ⊥
 
 -- a step of this owner's client

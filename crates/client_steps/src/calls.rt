@@ -5,11 +5,14 @@ ghost use Rattle.std.specs.Option.{option_copied};
 ghost use Rattle.std.specs.Vec.{vec_items};
 ghost use Rattle.layout.specs.Format.{IsBytes};
 ghost use Rattle.client_tree.specs.declared.questions.Question.TheVariants.{At, Free, Kind};
-ghost use Rattle.client_steps.specs.Steps.{HasBegun, HasCommitted, HasGiven, HasHeard, HasLooked, HasSigned, HasTaken};
+ghost use Rattle.client_steps.specs.Steps.{HasBegun, HasCached, HasCommitted, HasGiven, HasHeard, HasLooked};
+ghost use Rattle.client_steps.specs.Steps.{HasSigned, HasTaken};
 ghost use Rattle.client_steps.specs.Steps.{IsSound, Open};
 ghost use Rattle.client_steps.specs.Anywhere.{asked, on_ok, seen};
-ghost use Rattle.client_steps.specs.NotCalled.{CantBegin, CantCommit, CantGive, CantHear, CantLook, CantSign, CantTake};
+ghost use Rattle.client_steps.specs.NotCalled.{CantBegin, CantCache, CantCommit, CantGive, CantHear, CantLook};
+ghost use Rattle.client_steps.specs.NotCalled.{CantSign, CantTake};
 
+use checked_blocks::MOST_CACHED;
 use client_verify::{Client, ClientError, Look, Phase, Step, are_laid};
 use layout::{INumber, Memory, Principal, are_bytes};
 use leaf_ledger::Device;
@@ -124,6 +127,8 @@ pub fn look<L: Device, J: Device, A: Allocator + Copy>(
     if !client.has_view() {
         return None;
     }
+    // For the proof: its number is below 96.
+    let _number = principal.get();
     Some(client.look(principal, i_number))
 }
 
@@ -139,6 +144,8 @@ pub fn kind<L: Device, J: Device, A: Allocator + Copy>(
     if !client.has_view() {
         return None;
     }
+    // For the proof: its number is below 96.
+    let _number = principal.get();
     Some(client.kind(principal, i_number))
 }
 
@@ -156,6 +163,8 @@ pub fn free<L: Device, J: Device, A: Allocator + Copy>(
     if !client.has_view() {
         return None;
     }
+    // For the proof: its number is below 96.
+    let _number = principal.get();
     Some(client.free(principal, first, last))
 }
 
@@ -172,6 +181,22 @@ pub fn give<L: Device, J: Device, A: Allocator + Copy>(
     }
     is_bytes(block);
     Some(client.give(block))
+}
+
+/// Changes how many blocks the client's cache may have, where that is 1 to 4,096: whether it is.
+pub fn cache<L: Device, J: Device, A: Allocator + Copy>(
+    client: &mut Client<L, J, A>,
+    capacity: usize,
+) -> bool
+    ensures cached { result ≡ true → HasCached client.old capacity client.new }
+    ensures same { result ≡ false → client.new ≡ client.old }
+    ensures not_cached { result ≡ false → CantCache capacity }
+{
+    if capacity == 0 || capacity > MOST_CACHED {
+        return false;
+    }
+    client.cache(capacity);
+    true
 }
 
 /// What is true of an open client at all times. For the proofs of callers: it does nothing.

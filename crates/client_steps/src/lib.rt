@@ -4,4 +4,4 @@
 
 mod calls;
 
-pub use calls::{begin, commit, free, give, hear, kind, look, sign, take, type_invariant};
+pub use calls::{begin, cache, commit, free, give, hear, kind, look, sign, take, type_invariant};

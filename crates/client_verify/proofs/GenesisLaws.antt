@@ -26,6 +26,8 @@ use Rattle.update_cert.specs.Reading.{Reading}
 use Rattle.tree_parts.specs.Blocks.{Agrees, Blocks, directory_over, file_over, if_of_size, joined, of_size}
 use Rattle.tree_parts.proofs.Contents.{directory_is, file_is, inode_held}
 use Rattle.client_tree.specs.Held.{Block, held, keeping, keeping_all}
+use Rattle.checked_blocks.specs.CheckedBlocks.{CheckedBlocks, at_first, known_blocks}
+use Rattle.checked_blocks.proofs.BlockLaws.{known-at_first}
 use Rattle.client_tree.proofs.HeldLaws.{with_new, with_none, with_old}
 use Rattle.client_tree.specs.Genesis.{inode_digest, common_texts, first_blocks, first_pairs, first_table, first_texts, root_inode, table_inode, table_text}
 
@@ -172,16 +174,16 @@ common : (key : List ℕ) → Contains (first_texts key) (table_text key) × Con
 unfolding common_texts
 common key = ((0, omega arith, refl), (1, omega arith, refl), (2, omega arith, refl), (3, omega arith, refl))
 
-pub has_table : (key : List ℕ) (blocks : List Block) → length key ≡ 56 → blocks ≡ first_blocks key → Apart key → (reads : Reading) → Agrees (held blocks) reads → option_map reads.content (digest_at (first_table 0 key) 1) ≡ Some (File (table_text key))
+pub has_table : (key : List ℕ) (blocks : CheckedBlocks) → length key ≡ 56 → blocks ≡ at_first (first_blocks key) → Apart key → (reads : Reading) → Agrees (known_blocks blocks) reads → option_map reads.content (digest_at (first_table 0 key) 1) ≡ Some (File (table_text key))
 has_table key blocks size is apart reads agrees =
-    let of_first : Agrees (held (first_blocks key)) reads = subst (λ (bs : List Block). Agrees (held bs) reads) is agrees in
+    let of_first : Agrees (held (first_blocks key)) reads = subst (λ (f : Blocks). Agrees f reads) (ap known_blocks is ∙ known-at_first (first_blocks key)) agrees in
     let there = held_at_first key apart in
     let texts = common key in
     sym (table_is (held (first_blocks key)) reads key (length-table_text key size) of_first (there (table_text key) texts.0) (there (inode.spell (table_inode key)) texts.1))
 
-pub has_genesis : (key : List ℕ) (blocks : List Block) → blocks ≡ first_blocks key → Apart key → (reads : Reading) → Agrees (held blocks) reads → (p i : ℕ) → is_table p i ≡ false → option_map reads.content (digest_at (first_table p key) i) ≡ genesis key p i
+pub has_genesis : (key : List ℕ) (blocks : CheckedBlocks) → blocks ≡ at_first (first_blocks key) → Apart key → (reads : Reading) → Agrees (known_blocks blocks) reads → (p i : ℕ) → is_table p i ≡ false → option_map reads.content (digest_at (first_table p key) i) ≡ genesis key p i
 has_genesis key blocks is apart reads agrees p i place =
-    let of_first : Agrees (held (first_blocks key)) reads = subst (λ (bs : List Block). Agrees (held bs) reads) is agrees in
+    let of_first : Agrees (held (first_blocks key)) reads = subst (λ (f : Blocks). Agrees f reads) (ap known_blocks is ∙ known-at_first (first_blocks key)) agrees in
     let there = held_at_first key apart in
     let texts = common key in
     let root = root_is (held (first_blocks key)) reads of_first (there (directory.spell []) texts.2) (there (inode.spell root_inode) texts.3) in

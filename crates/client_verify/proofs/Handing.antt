@@ -5,7 +5,7 @@ use Rattle.std.specs.Option.{option_and_then}
 use Rattle.reply_rules.specs.Lists.{Lists, lists_of}
 use Rattle.reply_rules.specs.declared.rule.Rule.{Rule}
 use Rattle.pending_list.specs.Reply.{Reply}
-use Rattle.client_tree.specs.Held.{Block, held, keeping}
+use Rattle.checked_blocks.specs.CheckedBlocks.{CheckedBlocks, holding as with_held, known_blocks}
 use Rattle.reply_check.specs.declared.asked.Asked.{Asked}
 use Rattle.client_verify.specs.declared.step.Step.{Step}
 use Rattle.client_verify.specs.declared.step.Step.TheVariants as step
@@ -42,47 +42,50 @@ abbrev pub TakenOf : {A : Type 0} → State → Reply → Step A → State → T
 TakenOf s r st new = IsSomeAnd (lists_of r) (λ x. Taken s r x st new)
 
 -- the lists of a reply, which break no rule by this table, and what their own operation makes
-abbrev pub BreaksNoneAndMakes : {A : Type 0} → List Block → List ℕ → Good → Written A → Lists → Type 0
-BreaksNoneAndMakes blocks key g w x = IsRead (held blocks) key x g.table g.void × (lists_break g.table x ≡ None) × IsWritten (held blocks) (view_over key g.table x) g.void w
+abbrev pub BreaksNoneAndMakes : {A : Type 0} → CheckedBlocks → List ℕ → Good → Written A → Lists → Type 0
+BreaksNoneAndMakes blocks key g w x = IsRead (known_blocks blocks) key x g.table g.void × (lists_break g.table x ≡ None) × IsWritten (known_blocks blocks) (view_over key g.table x) g.void w
 
 -- how far the reply comes by the blocks of the same state, and by the key that it knows
-pub reached_there : {A : Type 0} (inner old : State) (k : Known) (r : Reply) (f g : Reached A) → inner ≡ old → k ≡ known old → f ≡ g → IsSomeAnd (lists_of r) (λ x. IsReached (held inner.blocks) k.pinned x f)
-    → IsSomeAnd (lists_of r) (λ x. IsReached (held old.blocks) old.pinned x g)
+pub reached_there : {A : Type 0} (inner old : State) (k : Known) (r : Reply) (f g : Reached A) → inner ≡ old → k ≡ known old → f ≡ g → IsSomeAnd (lists_of r) (λ x. IsReached (known_blocks inner.blocks) k.pinned x f)
+    → IsSomeAnd (lists_of r) (λ x. IsReached (known_blocks old.blocks) old.pinned x g)
 reached_there {A} inner old k r f g same by is reaches =
-    let of_key : IsSomeAnd (lists_of r) (λ x. IsReached {A = A} (held inner.blocks) old.pinned x f) = subst (λ (l : Known). IsSomeAnd (lists_of r) (λ x. IsReached {A = A} (held inner.blocks) l.pinned x f)) by reaches in
-    let of_old : IsSomeAnd (lists_of r) (λ x. IsReached {A = A} (held old.blocks) old.pinned x f) = subst (λ (s : State). IsSomeAnd (lists_of r) (λ x. IsReached {A = A} (held s.blocks) old.pinned x f)) same of_key in
-    subst (λ (h : Reached A). IsSomeAnd (lists_of r) (λ x. IsReached {A = A} (held old.blocks) old.pinned x h)) is of_old
+    let of_key : IsSomeAnd (lists_of r) (λ x. IsReached {A = A} (known_blocks inner.blocks) old.pinned x f) = subst (λ (l : Known). IsSomeAnd (lists_of r) (λ x. IsReached {A = A} (known_blocks inner.blocks) l.pinned x f)) by reaches in
+    let of_old : IsSomeAnd (lists_of r) (λ x. IsReached {A = A} (known_blocks old.blocks) old.pinned x f) = subst (λ (s : State). IsSomeAnd (lists_of r) (λ x. IsReached {A = A} (known_blocks s.blocks) old.pinned x f)) same of_key in
+    subst (λ (h : Reached A). IsSomeAnd (lists_of r) (λ x. IsReached {A = A} (known_blocks old.blocks) old.pinned x h)) is of_old
 
 -- the same with one block more, for the reply under check
-pub reached_on : {A : Type 0} (inner old : State) (l : Known) (text : List ℕ) (k : Checked) (r : Reply) (a : Asked) (f : Reached A) → inner ≡ old → l ≡ known old → Reading r a ≡ k → IsSomeAnd (lists_of r) (λ x. IsReached (held (keeping inner.blocks text)) l.pinned x f)
-    → IsSomeAnd (unjudged k) (λ x. IsReached (held (keeping old.blocks text)) old.pinned x f)
+pub reached_on : {A : Type 0} (inner old : State) (l : Known) (text : List ℕ) (k : Checked) (r : Reply) (a : Asked) (f : Reached A) → inner ≡ old → l ≡ known old → Reading r a ≡ k → IsSomeAnd (lists_of r) (λ x. IsReached (known_blocks (with_held inner.blocks text)) l.pinned x f)
+    → IsSomeAnd (unjudged k) (λ x. IsReached (known_blocks (with_held old.blocks text)) old.pinned x f)
 reached_on {A} inner old l text k r a f same by is reaches =
     let there = reached_there (holding inner text) (holding old text) l r f f (ap (λ (s : State). holding s text) same) by refl reaches in
-    subst (λ (c : Checked). IsSomeAnd (unjudged c) (λ x. IsReached {A = A} (held (keeping old.blocks text)) old.pinned x f)) is there
+    subst (λ (c : Checked). IsSomeAnd (unjudged c) (λ x. IsReached {A = A} (known_blocks (with_held old.blocks text)) old.pinned x f)) is there
 
 -- and for the reply that was taken out
-pub reached_taken : {A : Type 0} (old : State) (text : List ℕ) (k : Checked) (r : Reply) (a : Asked) (f g : Reached A) → Reading r a ≡ k → f ≡ g → IsSomeAnd (unjudged k) (λ x. IsReached (held (keeping old.blocks text)) old.pinned x f)
-    → IsSomeAnd (lists_of r) (λ x. IsReached (held (keeping old.blocks text)) old.pinned x g)
+pub reached_taken : {A : Type 0} (old : State) (text : List ℕ) (k : Checked) (r : Reply) (a : Asked) (f g : Reached A) → Reading r a ≡ k → f ≡ g → IsSomeAnd (unjudged k) (λ x. IsReached (known_blocks (with_held old.blocks text)) old.pinned x f)
+    → IsSomeAnd (lists_of r) (λ x. IsReached (known_blocks (with_held old.blocks text)) old.pinned x g)
 reached_taken {A} old text k r a f g is same reaches =
-    let of_reply : IsSomeAnd (lists_of r) (λ x. IsReached {A = A} (held (keeping old.blocks text)) old.pinned x f) = subst (λ (c : Checked). IsSomeAnd (unjudged c) (λ x. IsReached {A = A} (held (keeping old.blocks text)) old.pinned x f)) (sym is) reaches in
-    subst (λ (h : Reached A). IsSomeAnd (lists_of r) (λ x. IsReached {A = A} (held (keeping old.blocks text)) old.pinned x h)) same of_reply
+    let of_reply : IsSomeAnd (lists_of r) (λ x. IsReached {A = A} (known_blocks (with_held old.blocks text)) old.pinned x f) = subst (λ (c : Checked). IsSomeAnd (unjudged c) (λ x. IsReached {A = A} (known_blocks (with_held old.blocks text)) old.pinned x f)) (sym is) reaches in
+    subst (λ (h : Reached A). IsSomeAnd (lists_of r) (λ x. IsReached {A = A} (known_blocks (with_held old.blocks text)) old.pinned x h)) same of_reply
 
 -- the lists break a rule by the table that is read with one block more
-pub reads_broken : {A : Type 0} (old : State) (text : List ℕ) (o : Option Checked) (f : Reached A) (rule : Rule) → f ≡ reached.Breaks rule → IfSome o (λ k. IsSomeAnd (unjudged k) (λ x. IsReached (held (keeping old.blocks text)) old.pinned x f))
-    → IfSome o (λ k. IsSomeAnd (unjudged k) (λ x. ByTable (held (keeping old.blocks text)) old.pinned x (Some rule)) × (old ≡ old))
+pub reads_broken : {A : Type 0} (old : State) (text : List ℕ) (o : Option Checked) (f : Reached A) (rule : Rule) → f ≡ reached.Breaks rule → IfSome o (λ k. IsSomeAnd (unjudged k) (λ x. IsReached (known_blocks (with_held old.blocks text)) old.pinned x f))
+    → IfSome o (λ k. IsSomeAnd (unjudged k) (λ x. ByTable (known_blocks (with_held old.blocks text)) old.pinned x (Some rule)) × (old ≡ old))
 reads_broken old text None f rule is reaches = tt
-reads_broken {A} old text (Some k) f rule is reaches = (subst (λ (h : Reached A). IsSomeAnd (unjudged k) (λ x. IsReached {A = A} (held (keeping old.blocks text)) old.pinned x h)) is reaches, refl)
+reads_broken {A} old text (Some k) f rule is reaches = (subst (λ (h : Reached A). IsSomeAnd (unjudged k) (λ x. IsReached {A = A} (known_blocks (with_held old.blocks text)) old.pinned x h)) is reaches, refl)
 
 -- a block of the table of principals is asked for
-pub taken_lacks : (A : Type 0) (s new : State) (r : Reply) (a : Asked) (st : Step A) → st ≡ step.Need a.digest → new ≡ record s { checked = Some (Reading r a); accepted = None }
-    → IsSomeAnd (lists_of r) (λ x. IsReached {A = A} (held s.blocks) s.pinned x (reached.Lacks a)) → TakenOf s r st new
+pub taken_lacks : (A : Type 0) (s new : State) (r : Reply) (a : Asked) (st : Step A) → st ≡ step.Need a.digest → new ≡ record s { blocks = new.blocks; checked = Some (Reading r a); accepted = None }
+    → IsSomeAnd (lists_of r) (λ x. IsReached {A = A} (known_blocks s.blocks) s.pinned x (reached.Lacks a)) → TakenOf s r st new
 taken_lacks A s new r a st is made reaches =
     subst (λ (y : Step A). TakenOf s r y new) (sym is)
-    (each_one (lists_of r) (λ x. IsReached {A = A} (held s.blocks) s.pinned x (reached.Lacks a)) (λ x. Taken {A = A} s r x (step.Need a.digest) new) (λ x lacks. taken_need A s new r x a made lacks) reaches)
+    (each_one (lists_of r) (λ x. IsReached {A = A} (known_blocks s.blocks) s.pinned x (reached.Lacks a)) (λ x. Taken {A = A} s r x (step.Need a.digest) new) (λ x lacks. taken_need A s new r x a made lacks) reaches)
 
 -- the lists break no rule by this table
-pub good_written : {A : Type 0} (blocks : List Block) (key : List ℕ) (r : Reply) (g : Good) (w : Written A) → lists_of r ≡ Some g.lists → IsSomeAnd (lists_of r) (BreaksNoneAndMakes blocks key g w) → IsWritten (held blocks) (view_of key g) g.void w
+pub good_written : {A : Type 0} (blocks : CheckedBlocks) (key : List ℕ) (r : Reply) (g : Good) (w : Written A) → lists_of r ≡ Some g.lists → IsSomeAnd (lists_of r) (BreaksNoneAndMakes blocks key g w) → IsWritten (known_blocks blocks) (view_of key g) g.void w
 good_written {A} blocks key r g w lists reaches = (at_one (lists_of r) g.lists (BreaksNoneAndMakes {A = A} blocks key g w) lists reaches).2
+
+pub good_unbroken : {A : Type 0} (blocks : CheckedBlocks) (key : List ℕ) (r : Reply) (g : Good) (w : Written A) → lists_of r ≡ Some g.lists → IsSomeAnd (lists_of r) (BreaksNoneAndMakes blocks key g w) → lists_break g.table g.lists ≡ None
+good_unbroken {A} blocks key r g w lists reaches = (at_one (lists_of r) g.lists (BreaksNoneAndMakes {A = A} blocks key g w) lists reaches).1
 
 pub taken_good : {A : Type 0} (s new : State) (r : Reply) (g : Good) (w : Written A) (st : Step A) → lists_of r ≡ Some g.lists → IsSomeAnd (lists_of r) (BreaksNoneAndMakes s.blocks s.pinned g w) → AsksOrAccepts s g st new → TakenOf s r st new
 taken_good {A} s new r g w st lists reaches goes =
@@ -97,12 +100,12 @@ judged_of old new text r (step.Store texts) none read taken = (none, some_one (r
 judged_of {A} old new text r (step.Broken rule) none read taken = absurd (never (lists_of r) (λ x. Taken {A = A} old r x (step.Broken rule) new) (λ x t. t) taken)
 
 -- the lists break a rule by the table that was read
-pub judged_breaks : (old : State) (text : List ℕ) (r : Reply) (rule : Rule) → reply_breaks (known old) text ≡ None → reply_in text ≡ Some r → IsSomeAnd (lists_of r) (λ x. ByTable (held old.blocks) old.pinned x (Some rule))
-    → IsFirstBroken (reply_breaks (known old) text) None (held old.blocks) old.pinned (lists_in text) rule
+pub judged_breaks : (old : State) (text : List ℕ) (r : Reply) (rule : Rule) → reply_breaks (known old) text ≡ None → reply_in text ≡ Some r → IsSomeAnd (lists_of r) (λ x. ByTable (known_blocks old.blocks) old.pinned x (Some rule))
+    → IsFirstBroken (reply_breaks (known old) text) None (known_blocks old.blocks) old.pinned (lists_in text) rule
 judged_breaks old text r rule none read breaks =
     let lists : lists_in text ≡ lists_of r = ap (option_and_then lists_of) read in
-    let of_lists : IsSomeAnd (lists_in text) (λ x. ByTable (held old.blocks) old.pinned x (Some rule)) = subst (λ (o : Option Lists). IsSomeAnd o (λ x. ByTable (held old.blocks) old.pinned x (Some rule))) (sym lists) breaks in
-    subst (λ (o : Option Rule). IsFirstBroken o None (held old.blocks) old.pinned (lists_in text) rule) (sym none) of_lists
+    let of_lists : IsSomeAnd (lists_in text) (λ x. ByTable (known_blocks old.blocks) old.pinned x (Some rule)) = subst (λ (o : Option Lists). IsSomeAnd o (λ x. ByTable (known_blocks old.blocks) old.pinned x (Some rule))) (sym lists) breaks in
+    subst (λ (o : Option Rule). IsFirstBroken o None (known_blocks old.blocks) old.pinned (lists_in text) rule) (sym none) of_lists
 
 -- ---- a block of the table was handed in
 
@@ -113,12 +116,11 @@ same_reply r other a b is = cc
 pub reading_same : (r other : Reply) (a b : Asked) (k : Checked) → Reading r a ≡ k → Reading other b ≡ k → r ≡ other
 reading_same r other a b k is also = same_reply r other a b (is ∙ sym also)
 
--- the state that asks for a block, with a block more, where the reply under check was taken out
-pub asked_is : (v old : State) (blocks : List Block) (text : List ℕ) (j k : Checked) → v ≡ old → blocks ≡ keeping old.blocks text → j ≡ k → record v { blocks = blocks; checked = Some j; accepted = None } ≡ record (holding old text) { checked = Some k; accepted = None }
-asked_is v old blocks text j k is kept same =
-    let of_blocks : record v { blocks = blocks; checked = Some j; accepted = None } ≡ record v { blocks = keeping old.blocks text; checked = Some j; accepted = None } = ap (λ (b : List Block). record v { blocks = b; checked = Some j; accepted = None }) kept in
-    let of_checked : record v { blocks = keeping old.blocks text; checked = Some j; accepted = None } ≡ record v { blocks = keeping old.blocks text; checked = Some k; accepted = None } = ap (λ (c : Checked). record v { blocks = keeping old.blocks text; checked = Some c; accepted = None }) same in
-    of_blocks ∙ of_checked ∙ ap (λ (s : State). record s { blocks = keeping old.blocks text; checked = Some k; accepted = None }) is
+-- the state that asks for a block, whichever blocks are held
+pub asked_is : (v old new : State) (blocks : CheckedBlocks) (j k : Checked) → v ≡ old → j ≡ k → new ≡ record v { blocks = blocks; checked = Some j; accepted = None } → new ≡ record old { blocks = new.blocks; checked = Some k; accepted = None }
+asked_is v old new blocks j k is same made =
+    let of_blocks : new.blocks ≡ blocks = ap (λ (n : State). n.blocks) made in
+    made ∙ rw (is, same, of_blocks) refl
 
 reading_on : {A : Type 0} (old new : State) (text : List ℕ) (r : Reply) (a : Asked) (st : Step A) → TakenOf (holding old text) r st new → ReadsOn old (Reading r a) text st new
 reading_on old new text r a (step.Need d) taken = taken
@@ -131,20 +133,20 @@ reads_taken {A} old new k text r a st is taken = subst (λ (c : Checked). ReadsO
 -- ---- a block is handed in
 
 -- which rule a block breaks that was handed in for the same one, in the same state
-pub breaks_before : (inner old : State) (a b : Asked) (block : Option (List ℕ)) (o : Option Rule) → inner ≡ old → a ≡ b → block_breaks (held old.blocks) b block ≡ o → block_breaks (held inner.blocks) a block ≡ o
+pub breaks_before : (inner old : State) (a b : Asked) (block : Option (List ℕ)) (o : Option Rule) → inner ≡ old → a ≡ b → block_breaks (known_blocks old.blocks) b block ≡ o → block_breaks (known_blocks inner.blocks) a block ≡ o
 breaks_before inner old a b block o same is breaks =
-    let of_asked : block_breaks (held old.blocks) a block ≡ o = subst (λ (c : Asked). block_breaks (held old.blocks) c block ≡ o) (sym is) breaks in
-    subst (λ (s : State). block_breaks (held s.blocks) a block ≡ o) (sym same) of_asked
+    let of_asked : block_breaks (known_blocks old.blocks) a block ≡ o = subst (λ (c : Asked). block_breaks (known_blocks old.blocks) c block ≡ o) (sym is) breaks in
+    subst (λ (s : State). block_breaks (known_blocks s.blocks) a block ≡ o) (sym same) of_asked
 
 -- and the other way about
-pub breaks_after : (inner old : State) (a b : Asked) (block : Option (List ℕ)) (o : Option Rule) → inner ≡ old → a ≡ b → block_breaks (held inner.blocks) a block ≡ o → block_breaks (held old.blocks) b block ≡ o
+pub breaks_after : (inner old : State) (a b : Asked) (block : Option (List ℕ)) (o : Option Rule) → inner ≡ old → a ≡ b → block_breaks (known_blocks inner.blocks) a block ≡ o → block_breaks (known_blocks old.blocks) b block ≡ o
 breaks_after inner old a b block o same is breaks =
-    let of_asked : block_breaks (held inner.blocks) b block ≡ o = subst (λ (c : Asked). block_breaks (held inner.blocks) c block ≡ o) is breaks in
-    subst (λ (s : State). block_breaks (held s.blocks) b block ≡ o) same of_asked
+    let of_asked : block_breaks (known_blocks inner.blocks) b block ≡ o = subst (λ (c : Asked). block_breaks (known_blocks inner.blocks) c block ≡ o) is breaks in
+    subst (λ (s : State). block_breaks (known_blocks s.blocks) b block ≡ o) same of_asked
 
-pub handed_reads : {A : Type 0} (old new : State) (k : Checked) (block : Option (List ℕ)) (text : List ℕ) (st : Step A) → block_breaks (held old.blocks) (asked_of k) block ≡ None → block ≡ Some text → ReadsOn old k text st new → Handed old k block st new
+pub handed_reads : {A : Type 0} (old new : State) (k : Checked) (block : Option (List ℕ)) (text : List ℕ) (st : Step A) → block_breaks (known_blocks old.blocks) (asked_of k) block ≡ None → block ≡ Some text → ReadsOn old k text st new → Handed old k block st new
 handed_reads old new k block text (step.Need d) none is reads = (none, some_one block text _ is reads)
 handed_reads old new k block text (step.Store texts) none is reads = (none, some_one block text _ is reads)
 handed_reads old new k block text (step.Broken rule) none is reads =
-    let of_block : IsFirstBroken None None (held (blocks_with old block)) old.pinned (unjudged k) rule = subst (λ (b : Option (List ℕ)). IsFirstBroken None None (held (blocks_with old b)) old.pinned (unjudged k) rule) (sym is) reads.0 in
-    (subst (λ (o : Option Rule). IsFirstBroken None o (held (blocks_with old block)) old.pinned (unjudged k) rule) (sym none) of_block, reads.1)
+    let of_block : IsFirstBroken None None (known_blocks (blocks_with old block)) old.pinned (unjudged k) rule = subst (λ (b : Option (List ℕ)). IsFirstBroken None None (known_blocks (blocks_with old b)) old.pinned (unjudged k) rule) (sym is) reads.0 in
+    (subst (λ (o : Option Rule). IsFirstBroken None o (known_blocks (blocks_with old block)) old.pinned (unjudged k) rule) (sym none) of_block, reads.1)

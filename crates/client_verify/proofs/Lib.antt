@@ -6,3 +6,4 @@ pub mod Handing
 pub mod Declared
 pub mod Releasing
 pub mod Standing
+pub mod Holds

@@ -17,7 +17,7 @@ use Rattle.pending_list.specs.declared.signed.Signed.{Signed}
 use Rattle.principals.specs.Table.{Table}
 use Rattle.reply_rules.specs.Lists.{Lists}
 use Rattle.pending_list.specs.Reply.{digest_of_last}
-use Rattle.client_tree.specs.Held.{Block, keeping_all}
+use Rattle.checked_blocks.specs.CheckedBlocks.{CheckedBlocks}
 use Rattle.client_releases.specs.Releasing.{AnyMoment, Devices, IsKept, IsTried, cert_record, structure_record}
 use Rattle.client_releases.specs.Told.{IsReleased, Released, Stands, sent, signed_by}
 use Rattle.client_releases.specs.declared.error.ClientError.{ClientError}
@@ -26,14 +26,14 @@ use Rattle.client_releases.specs.declared.phase.Phase.{Phase}
 use Rattle.client_releases.specs.declared.phase.Phase.TheVariants as phase
 use Rattle.client_releases.proofs.Seen.{declared_with, failed_with, signed_with, with_signature}
 use Rattle.client_releases.proofs.Untouched.{none_tried, untouched}
-use Rattle.client_verify.specs.State.{AcceptedView, Checked, IsOfDeclared, Ready, State, declared, declared_text, failed, laying, next_cert, next_structure, on, released, signed_over, signed_structure, signed_text, view_of}
+use Rattle.client_verify.specs.State.{AcceptedView, Checked, IsOfDeclared, Ready, State, declared, declared_text, failed, next_cert, next_structure, on, over, released, signed_over, signed_structure, signed_text, view_of}
 use Rattle.reply_check.specs.Good.{with_own}
 use Rattle.reply_check.specs.Verified.{AreOwn, IsSealed}
 use Rattle.reply_check.proofs.VerifiedLaws.{seals}
 
 -- a client over what it released
-abbrev pub over : Released → List ℕ → List Block → Option Checked → Option Ready → Option AcceptedView → State
-over r pinned blocks checked accepted view = record {
+abbrev pub client_over : Released → List ℕ → CheckedBlocks → Option Checked → Option Ready → Option AcceptedView → State
+client_over r pinned blocks checked accepted view = record {
   user = r.user;
   seed = r.seed;
   id = r.id;
@@ -146,32 +146,32 @@ refused_tried s new same record_by = subst (λ (n : State). IsTried record_by s.
 pub seen : (P : Released → Bytes → Type 0) (r s : Released) (unsigned text : Bytes) → r ≡ s → unsigned ≡ text → P r unsigned → P s text
 seen P r s unsigned text is same holds = subst (λ (o : Released). P o text) is (subst (λ (t : Bytes). P r t) same holds)
 
-over_is : (r s : Released) (pinned other : List ℕ) (blocks held : List Block) (checked : Option Checked) (accepted ready : Option Ready) (view shown : Option AcceptedView) → r ≡ s → pinned ≡ other → blocks ≡ held → accepted ≡ ready → view ≡ shown
-    → over r pinned blocks checked accepted view ≡ over s other held checked ready shown
+over_is : (r s : Released) (pinned other : List ℕ) (blocks held : CheckedBlocks) (checked : Option Checked) (accepted ready : Option Ready) (view shown : Option AcceptedView) → r ≡ s → pinned ≡ other → blocks ≡ held → accepted ≡ ready → view ≡ shown
+    → client_over r pinned blocks checked accepted view ≡ client_over s other held checked ready shown
 over_is r s pinned other blocks held checked accepted ready view shown is key same same_ready same_view = rw (is, key, same, same_ready, same_view) refl
 
 declared_is : (r s : Released) (d : Devices) (n m : ℕ) (unsigned text : Bytes) (leaf : LeafNumber) → r ≡ s → n ≡ m → unsigned ≡ text → declared_with r d n (sent r leaf unsigned) ≡ declared_with s d m (sent s leaf text)
 declared_is r s d n m unsigned text leaf is number same = rw (is, number, same) refl
 
--- a client after it declared: what it released before stands in the state before, which holds what was laid out
-module _ (r new : Released) (s : State) (pinned : List ℕ) (blocks : List Block) (checked : Option Checked) (accepted : Option Ready) (view : Option AcceptedView) (laid : List (List ℕ)) (is : over r pinned blocks checked accepted view ≡ laying laid s) where
+-- a client after it declared: what it released before stands in the state before, whatever it knows of blocks by then
+module _ (r new : Released) (s : State) (pinned : List ℕ) (blocks : CheckedBlocks) (checked : Option Checked) (accepted : Option Ready) (view : Option AcceptedView) (b : CheckedBlocks) (is : client_over r pinned blocks checked accepted view ≡ over b s) where
   pub of_released : r ≡ released s
   of_released = ap released is
 
   pub begun : (changes : List (Change Digest)) (unsigned : Bytes) (n : ℕ) (leaf : LeafNumber) → unsigned ≡ cert.spell (next_cert s changes) → n ≡ s.number + 1 → IsKept leaf (cert_record (sent r leaf unsigned)) r.devices new.devices → new ≡ declared_with r new.devices n (sent r leaf unsigned)
-      → (k : LeafNumber) × IsKept k (cert_record (declared_text s k changes)) s.devices new.devices × (over new pinned blocks None None view ≡ on new.devices (declared s k changes laid))
+      → (k : LeafNumber) × IsKept k (cert_record (declared_text s k changes)) s.devices new.devices × (client_over new pinned blocks None None view ≡ over blocks (on new.devices (declared s k changes)))
   begun changes unsigned n leaf text number kept made = (
     leaf,
     seen (λ (o : Released) (t : Bytes). IsKept leaf (cert_record (sent o leaf t)) o.devices new.devices) r (released s) unsigned _ of_released text kept,
-    over_is new _ pinned s.pinned blocks (keeping_all s.blocks laid) None None None view s.view (made ∙ declared_is r (released s) new.devices n (s.number + 1) unsigned _ leaf of_released number text) (ap (λ (o : State). o.pinned) is) (ap (λ (o : State). o.blocks) is) refl (ap (λ (o : State). o.view) is),
+    over_is new _ pinned s.pinned blocks blocks None None None view s.view (made ∙ declared_is r (released s) new.devices n (s.number + 1) unsigned _ leaf of_released number text) (ap (λ (o : State). o.pinned) is) refl refl (ap (λ (o : State). o.view) is),
   )
 
-  pub begun_failed : new ≡ failed_with r new.devices → over new pinned blocks None None view ≡ on new.devices (failed (laying laid s))
+  pub begun_failed : new ≡ failed_with r new.devices → client_over new pinned blocks None None view ≡ over blocks (on new.devices (failed s))
   begun_failed made =
-      over_is new (failed_with (released s) new.devices) pinned s.pinned blocks (keeping_all s.blocks laid) None None None view s.view (made ∙ ap (λ (o : Released). failed_with o new.devices) of_released) (ap (λ (o : State). o.pinned) is) (ap (λ (o : State). o.blocks) is) refl (ap (λ (o : State). o.view) is)
+      over_is new (failed_with (released s) new.devices) pinned s.pinned blocks blocks None None None view s.view (made ∙ ap (λ (o : Released). failed_with o new.devices) of_released) (ap (λ (o : State). o.pinned) is) refl refl (ap (λ (o : State). o.view) is)
 
 -- a client after it signed the structure over an accepted reply
-module _ (r new : Released) (s : State) (pinned : List ℕ) (blocks : List Block) (checked : Option Checked) (accepted : Option Ready) (view : Option AcceptedView) (is : over r pinned blocks checked accepted view ≡ s) where
+module _ (r new : Released) (s : State) (pinned : List ℕ) (blocks : CheckedBlocks) (checked : Option Checked) (accepted : Option Ready) (view : Option AcceptedView) (is : client_over r pinned blocks checked accepted view ≡ s) where
   pub view_is : (y : Ready) (leaf : LeafNumber) (lists : Lists) (table : Table) (shown : Signed Structure) (structures copies : List (Signed Structure)) (lost : List ℕ) → lists ≡ y.lists → table ≡ y.table → lost ≡ y.lost
       → shown ≡ signed_structure s leaf y → structures ≡ with_own shown copies → copies ≡ y.lists.structures
       → Some (record { lists = lists; table = table; structures = structures; lost = lost; looking = None }) ≡ Some (view_of s leaf y)
@@ -194,13 +194,13 @@ module _ (r new : Released) (s : State) (pinned : List ℕ) (blocks : List Block
       ∙ ap (λ (q : Structure). signed_with (released s) new.devices (signed_by s.seed s.id leaf q) (sent (released s) leaf unsigned)) next
       ∙ ap (λ (t : Bytes). signed_with (released s) new.devices (signed_structure s leaf y) (sent (released s) leaf t)) of_text
 
-  pub signed_of : (y : Ready) (leaf : LeafNumber) (z : Structure) (unsigned : Bytes) (shown : Option AcceptedView) → z ≡ next_structure s y → unsigned ≡ structure.spell z → IsKept leaf (structure_record (sent r leaf unsigned)) r.devices new.devices
+  pub signed_of : (after : CheckedBlocks) (y : Ready) (leaf : LeafNumber) (z : Structure) (unsigned : Bytes) (shown : Option AcceptedView) → z ≡ next_structure s y → unsigned ≡ structure.spell z → IsKept leaf (structure_record (sent r leaf unsigned)) r.devices new.devices
       → new ≡ signed_with r new.devices (signed_by r.seed r.id leaf z) (sent r leaf unsigned) → shown ≡ Some (view_of s leaf y)
-      → (k : LeafNumber) × IsKept k (structure_record (signed_text s k y)) s.devices new.devices × (over new pinned blocks None None shown ≡ on new.devices (signed_over s k y))
-  signed_of y leaf z unsigned shown next spelled kept made seen_is = (
+      → (k : LeafNumber) × IsKept k (structure_record (signed_text s k y)) s.devices new.devices × (client_over new pinned after None None shown ≡ over after (on new.devices (signed_over s k y)))
+  signed_of after y leaf z unsigned shown next spelled kept made seen_is = (
     leaf,
     seen (λ (o : Released) (t : Bytes). IsKept leaf (structure_record (sent o leaf t)) o.devices new.devices) r (released s) unsigned _ (ap released is) (spelled ∙ ap structure.spell next) kept,
-    over_is new _ pinned s.pinned blocks s.blocks None None None shown (Some (view_of s leaf y)) (made ∙ signed_is y leaf z unsigned next spelled) (ap (λ (o : State). o.pinned) is) (ap (λ (o : State). o.blocks) is) refl seen_is,
+    over_is new _ pinned s.pinned after after None None None shown (Some (view_of s leaf y)) (made ∙ signed_is y leaf z unsigned next spelled) (ap (λ (o : State). o.pinned) is) refl refl seen_is,
   )
 
 -- ---- what is signed is signed by the own key

@@ -15,7 +15,7 @@ use Rattle.client_verify.specs.declared.look.Look.TheVariants as look
 use Rattle.client_verify.specs.Told.{IsTold}
 use Rattle.client_verify.specs.Looked.{Answers, Looked}
 use Rattle.client_verify.specs.State.{AcceptedView, State}
-use Rattle.client_tree.specs.Held.{held}
+use Rattle.checked_blocks.specs.CheckedBlocks.{known_blocks}
 use Rattle.reply_check.specs.FirstBroken.{view_over}
 
 -- what is told is the answer to the question
@@ -54,13 +54,13 @@ asks_not (answer.Kind k) d told = told
 asks_not (answer.Free f) d told = told
 
 -- so the look is over
-pub looked_told : {A : Type 0} (s : State) (v : AcceptedView) (q : Question) (a : Answer A) (l : Look A) (new : State) → IsTold a l → new ≡ record s { view = Some (record v { looking = None }) } → IsAnsweredBy (held s.blocks) (view_over s.pinned v.table v.lists) q a → Looked s v q l new
+pub looked_told : {A : Type 0} (s : State) (v : AcceptedView) (q : Question) (a : Answer A) (l : Look A) (new : State) → IsTold a l → new ≡ record s { blocks = new.blocks; view = Some (record v { looking = None }) } → IsAnsweredBy (known_blocks s.blocks) (view_over s.pinned v.table v.lists) q a → Looked s v q l new
 looked_told s v q a (look.Need d) new told over is = absurd (asks_not a d told)
-looked_told s v q a (look.File bytes) new told over is = (over, answered (held s.blocks) (view_over s.pinned v.table v.lists) q a (look.File bytes) told is)
-looked_told s v q a (look.Dir entries) new told over is = (over, answered (held s.blocks) (view_over s.pinned v.table v.lists) q a (look.Dir entries) told is)
-looked_told s v q a look.None new told over is = (over, answered (held s.blocks) (view_over s.pinned v.table v.lists) q a look.None told is)
-looked_told s v q a (look.Kind k) new told over is = (over, answered (held s.blocks) (view_over s.pinned v.table v.lists) q a (look.Kind k) told is)
-looked_told s v q a (look.Free f) new told over is = (over, answered (held s.blocks) (view_over s.pinned v.table v.lists) q a (look.Free f) told is)
+looked_told s v q a (look.File bytes) new told over is = (over, answered (known_blocks s.blocks) (view_over s.pinned v.table v.lists) q a (look.File bytes) told is)
+looked_told s v q a (look.Dir entries) new told over is = (over, answered (known_blocks s.blocks) (view_over s.pinned v.table v.lists) q a (look.Dir entries) told is)
+looked_told s v q a look.None new told over is = (over, answered (known_blocks s.blocks) (view_over s.pinned v.table v.lists) q a look.None told is)
+looked_told s v q a (look.Kind k) new told over is = (over, answered (known_blocks s.blocks) (view_over s.pinned v.table v.lists) q a (look.Kind k) told is)
+looked_told s v q a (look.Free f) new told over is = (over, answered (known_blocks s.blocks) (view_over s.pinned v.table v.lists) q a (look.Free f) told is)
 looked_told s v q (answer.Sees x) (look.Broken r) new told over is = absurd told
 looked_told s v q (answer.Kind k) (look.Broken r) new told over is = absurd told
 looked_told s v q (answer.Free f) (look.Broken r) new told over is = absurd told

@@ -1,5 +1,6 @@
 pub mod State
 pub mod Progress
+pub mod Holding
 pub mod Judged
 pub mod Looked
 pub mod Laid

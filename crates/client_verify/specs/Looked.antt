@@ -1,10 +1,10 @@
--- What a client is told of its accepted view.
+-- What a client is told of its accepted view. What it knows of blocks then says Holding.antt.
 use Rattle.std.specs.Prelude.{◌≡◌, Option, Some, None, IsSomeAnd, true}
 use Rattle.layout.specs.Types.{Bytes}
 use Rattle.update_cert.specs.World.{File, Directory}
 use Rattle.tree_parts.specs.Blocks.{Blocks}
 use Rattle.tree_parts.specs.Spot.{lacks}
-use Rattle.client_tree.specs.Held.{held}
+use Rattle.checked_blocks.specs.CheckedBlocks.{known_blocks}
 use Rattle.client_tree.specs.Questions.{IsAskedBy, IsFreeIn, IsKindAt, IsSeenAt}
 use Rattle.client_tree.specs.View.{View}
 use Rattle.client_tree.specs.declared.questions.Question.{Question}
@@ -27,23 +27,27 @@ Answers blocks x (question.Kind p i) (look.Kind kind) = IsKindAt blocks x p i ki
 Answers blocks x (question.Free p first last) (look.Free found) = IsFreeIn blocks x p first last found
 Answers blocks x q other = ⊥
 
--- A question about the view: a block is asked for that is needed to tell it, of which no text is held that its spot
+-- A question about the view: a block is asked for that is needed to tell it, of which no text is known that its spot
 -- takes; or, once none is wanted any more, it is answered.
 abbrev pub Looked : {A : Type 0} → State → AcceptedView → Question → Look A → State → Type 0
 Looked s v q (look.Need digest) new =
     (a : Asked) × (a.digest ≡ digest)
-    × (new ≡ record s { view = Some (record v { looking = Some (record { question = q; asked = a }) }) })
-    × IsAskedBy (held s.blocks) (view_over s.pinned v.table v.lists) q digest a.spot
-    × (lacks (held s.blocks) digest a.spot ≡ true)
+    × (new ≡ record s {
+      blocks = new.blocks;
+      view = Some (record v { looking = Some (record { question = q; asked = a }) });
+    })
+    × IsAskedBy (known_blocks s.blocks) (view_over s.pinned v.table v.lists) q digest a.spot
+    × (lacks (known_blocks s.blocks) digest a.spot ≡ true)
 Looked s v q (look.Broken rule) new = ⊥
 Looked s v q answer new =
-    (new ≡ record s { view = Some (record v { looking = None }) })
-    × Answers (held s.blocks) (view_over s.pinned v.table v.lists) q answer
+    (new ≡ record s { blocks = new.blocks; view = Some (record v { looking = None }) })
+    × Answers (known_blocks s.blocks) (view_over s.pinned v.table v.lists) q answer
 
 -- The block that a look asks for, or its absence: Broken where it isn't that block, and then the client is as before;
 -- else it is held, and the look goes on.
 abbrev pub Given : {A : Type 0} → State → AcceptedView → Looking → Option Bytes → Look A → State → Type 0
-Given old v l block (look.Broken rule) new = (block_breaks (held old.blocks) l.asked block ≡ Some rule) × (new ≡ old)
+Given old v l block (look.Broken rule) new =
+    (block_breaks (known_blocks old.blocks) l.asked block ≡ Some rule) × (new ≡ old)
 Given old v l block answer new =
-    (block_breaks (held old.blocks) l.asked block ≡ None)
+    (block_breaks (known_blocks old.blocks) l.asked block ≡ None)
     × IsSomeAnd block (λ text. Looked (holding old text) v l.question answer new)

@@ -10,8 +10,8 @@ use Rattle.version_order.specs.Plan.{Plan}
 use Rattle.version_order.specs.Structure.{Structure, group_of, structure}
 use Rattle.update_cert.specs.Change.{Change}
 use Rattle.update_cert.specs.Cert.{Cert, cert}
-use Rattle.client_tree.specs.Held.{Block, keeping, keeping_all}
 use Rattle.client_tree.specs.Genesis.{first_blocks}
+use Rattle.checked_blocks.specs.CheckedBlocks.{CheckedBlocks, at_first, holding as with_held}
 use Rattle.principals.specs.Table.{Table}
 use Rattle.pending_list.specs.declared.signed.Signed.{Signed}
 use Rattle.pending_list.specs.Signed.{signed}
@@ -79,8 +79,9 @@ pub record State : Type 0 where
   pub last : Option (Signed Structure)
   pub phase : Phase
   pub text : Bytes
-  -- the blocks that are held: those of the beginning, those that were laid out, and those that were checked
-  pub blocks : List Block
+  -- what is known of blocks: those of the beginning, those that are held while a reply is under check or a look under
+  -- way, and in a cache others that were laid out or checked
+  pub blocks : CheckedBlocks
   -- the reply under check
   pub checked : Option Checked
   -- the accepted reply, which isn't signed yet
@@ -103,7 +104,7 @@ opened pinned r = record {
   last = r.last;
   phase = r.phase;
   text = r.text;
-  blocks = first_blocks pinned;
+  blocks = at_first (first_blocks pinned);
   checked = None;
   accepted = None;
   view = None;
@@ -127,6 +128,10 @@ released s =
 abbrev pub on : Devices → State → State
 on devices s = record s { devices = devices }
 
+-- the state with these blocks
+abbrev pub over : CheckedBlocks → State → State
+over blocks s = record s { blocks = blocks }
+
 -- the state once a device has failed: no reply is under check or accepted any more
 abbrev pub failed : State → State
 failed s = record s { phase = phase.Failed; checked = None; accepted = None }
@@ -141,13 +146,9 @@ next_cert s changes = record { user = s.user; number = s.number + 1; last = dige
 abbrev pub declared_text : State → LeafNumber → List (Change Digest) → Bytes
 declared_text s leaf changes = sent (released s) leaf (cert.spell (next_cert s changes))
 
--- the state with these blocks, which were laid out
-abbrev pub laying : List Bytes → State → State
-laying laid s = record s { blocks = keeping_all s.blocks laid }
-
--- the state after these changes are declared by this leaf, for which these blocks were laid out
-abbrev pub declared : State → LeafNumber → List (Change Digest) → List Bytes → State
-declared s leaf changes laid = record (laying laid s) {
+-- the state after these changes are declared by this leaf
+abbrev pub declared : State → LeafNumber → List (Change Digest) → State
+declared s leaf changes = record s {
   number = s.number + 1;
   phase = phase.Declared;
   text = declared_text s leaf changes;
@@ -157,13 +158,13 @@ declared s leaf changes laid = record (laying laid s) {
 
 -- ---- judging
 
--- the state with one block more
+-- the state in which this block is held, too
 abbrev pub holding : State → Bytes → State
-holding s block = record s { blocks = keeping s.blocks block }
+holding s block = over (with_held s.blocks block) s
 
--- the blocks with this one, if there is one
-abbrev pub blocks_with : State → Option Bytes → List Block
-blocks_with s block = option_map_or (keeping s.blocks) block s.blocks
+-- the blocks with this one held, if there is one
+abbrev pub blocks_with : State → Option Bytes → CheckedBlocks
+blocks_with s block = option_map_or (with_held s.blocks) block s.blocks
 
 -- ---- signing
 

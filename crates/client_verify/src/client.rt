@@ -2,11 +2,15 @@
 
 ghost use Rattle.std.specs.Prelude.{◌↔◌, ◌≡◌, ◌≢◌, ◌≤◌, ◌⊎◌, IfErr, IfOk, IsSome, IsSomeAnd, IsTrue, None, Some, []};
 ghost use Rattle.std.specs.Prelude.{false, true};
+ghost use Rattle.std.specs.Prelude.{◌<◌, ◌^◌, length};
 ghost use Rattle.std.specs.Option.{option_map};
+ghost use Rattle.client_tree.specs.Genesis.{first_blocks};
+ghost use Rattle.checked_blocks.specs.CheckedBlocks.{at_first};
 
 use crate::view::{AcceptedView, Progress};
+use checked_blocks::CheckedBlocks;
 use client_releases::{ClientError, Parts, Phase, Releases};
-use client_tree::{Held, first_blocks};
+use client_tree::first_blocks;
 use layout::{Memory, User, let_go};
 use leaf_ledger::Device;
 use lms_sign::{PrivateKey, PublicKey};
@@ -27,7 +31,7 @@ pub struct Client<L: Device, J: Device, A: Allocator> {
     // Whether it is known that the own key signed the last structure and the last text. It isn't of those that a
     // journal tells.
     pub(crate) is_own: bool,
-    pub(crate) blocks: Held<A>,
+    pub(crate) blocks: CheckedBlocks<A>,
     pub(crate) progress: Progress<A>,
     pub(crate) view: Option<AcceptedView<A>>,
 }
@@ -68,6 +72,17 @@ fn is_first<L: Device, J: Device, A: Allocator>(releases: &Releases<L, J, A>) ->
     releases.last().is_none() && releases.text().is_empty()
 }
 
+/// What is known of blocks before anything was checked: those of the beginning.
+fn known_at_first<A: Allocator + Copy>(
+    alloc: A,
+    pinned: &PublicKey,
+) -> Result<CheckedBlocks<A>, Memory>
+    ensures { IfOk result (λ blocks. blocks ≡ at_first (first_blocks pinned.now)) }
+{
+    let first = first_blocks(alloc, pinned.as_bytes())?;
+    CheckedBlocks::new(alloc, first)
+}
+
 impl<L: Device, J: Device, A: Allocator + Copy> Client<L, J, A> {
     ghost use Rattle.std.specs.Prelude.{ℕ, List};
     ghost use Rattle.itable.specs.File.{NoneCollide};
@@ -75,7 +90,7 @@ impl<L: Device, J: Device, A: Allocator + Copy> Client<L, J, A> {
     ghost use Rattle.update_cert.specs.Reading.{Reading};
     ghost use Rattle.itable.specs.ITable.{digest_at};
     ghost use Rattle.tree_parts.specs.Blocks.{Agrees};
-    ghost use Rattle.client_tree.specs.Held.{AreHeld, held};
+    ghost use Rattle.checked_blocks.specs.CheckedBlocks.{AreChecked, known_blocks};
     ghost use Rattle.client_tree.specs.Genesis.{first_table, first_texts, table_text};
     ghost use Rattle.lms_sign.specs.Keys.{public_key_of};
     ghost use Rattle.leaf_ledger.specs.Device.{HasRisen};
@@ -125,15 +140,16 @@ impl<L: Device, J: Device, A: Allocator + Copy> Client<L, J, A> {
         ensures key_err { IfErr result (λ e. e.1.key ≡ key) }
         // What the i-tables of the beginning have is the tree of the beginning, unless two texts of it have one digest.
         ensures genesis { IfOk result (λ client. NoneCollide (first_texts pinned) (first_texts pinned)
-            → (reads : Reading) → Agrees (held client.blocks) reads
+            → (reads : Reading) → Agrees (known_blocks client.blocks) reads
             → (p i : ℕ) → is_table p i ≡ false
             → option_map reads.content (digest_at (first_table p pinned) i) ≡ first_tree pinned p i) }
         // The table of principals lies in its text, a file.
         ensures table_file { IfOk result (λ client. NoneCollide (first_texts pinned) (first_texts pinned)
-            → (reads : Reading) → Agrees (held client.blocks) reads
+            → (reads : Reading) → Agrees (known_blocks client.blocks) reads
             → option_map reads.content (digest_at (first_table 0 pinned) 1) ≡ Some (File (table_text pinned))) }
     {
-        let Ok(blocks) = first_blocks(alloc, pinned.as_bytes()) else {
+        let _size = pinned.as_bytes();
+        let Ok(blocks) = known_at_first(alloc, &pinned) else {
             let parts = Parts {
                 key,
                 ledger,
@@ -185,11 +201,20 @@ impl<L: Device, J: Device, A: Allocator + Copy> Client<L, J, A> {
     pub fn type_invariant(&self)
         ensures released { IsReleased (released self.now) }
         ensures replies { AreReplies (released self.now) self.now.checked self.now.accepted }
-        ensures held { AreHeld self.now.blocks }
+        ensures checked { AreChecked self.now.blocks }
+        ensures few { length self.now.blocks.held < 2 ^ 63 }
     {
         self.releases.type_invariant();
         self.blocks.type_invariant();
+        let _held = self.blocks.held_len();
         let _progress = &self.progress;
+    }
+
+    /// What it knows of checked blocks, to be counted.
+    pub fn blocks(&self) -> &CheckedBlocks<A>
+        ensures { result.now ≡ self.now.blocks }
+    {
+        &self.blocks
     }
 
     /// The device of the ledger, to be looked at.

@@ -6,11 +6,11 @@ ghost use Rattle.layout.specs.Ranges.{last_version};
 ghost use Rattle.leaf_ledger.specs.Ledger.{IsFull, IsLeastFree, LeafNumber};
 ghost use Rattle.update_cert.specs.Cert.{cert};
 ghost use Rattle.client_releases.specs.Releasing.{AnyMoment, IsKept, IsTried, OneHasRisen, cert_record};
+ghost use Rattle.client_verify.specs.Holding.{LaysOut};
 ghost use Rattle.client_verify.specs.Laid.{are_laid};
-ghost use Rattle.client_verify.specs.State.{declared, declared_text, failed, laying, next_cert, on};
+ghost use Rattle.client_verify.specs.State.{declared, declared_text, failed, next_cert, on, over};
 
 use crate::client::Client;
-use crate::laid::copies;
 use crate::view::Progress;
 use client_releases::{ClientError, Phase, Unsigned};
 use layout::{Memory, Version, put_in};
@@ -38,7 +38,8 @@ impl<L: Device, J: Device, A: Allocator + Copy> Client<L, J, A> {
         }
     }
 
-    /// The certificate of these changes, not signed yet. What was laid out for it is held.
+    /// The certificate of these changes, not signed yet. What was laid out for it goes into the cache, but where a look
+    /// is under way.
     fn certificate(
         &mut self,
         number: Version,
@@ -47,7 +48,8 @@ impl<L: Device, J: Device, A: Allocator + Copy> Client<L, J, A> {
     ) -> Result<Unsigned<A>, Memory>
         requires number { number ≡ self.old.number + 1 }
         requires few { length changes.now ≤ MOST_CHANGES }
-        ensures laying { OnOk result (self.new ≡ laying (map vec_items laid.now) self.old) }
+        ensures over { OnOk result (self.new ≡ over self.new.blocks self.old) }
+        ensures kept { OnOk result (LaysOut self.old (map vec_items laid.now) self.new.blocks) }
         ensures text { IfOk result (λ unsigned. unsigned ≡ cert.spell (next_cert self.old changes.now)) }
         ensures fits { OnOk result (cert.Fits (next_cert self.old changes.now)) }
         ensures err { OnErr result (self.new ≡ self.old) }
@@ -55,13 +57,12 @@ impl<L: Device, J: Device, A: Allocator + Copy> Client<L, J, A> {
         let last = digest_of_last(self.alloc, self.releases.last())?;
         let text = cert_text(self.alloc, self.releases.user(), number, last, changes)?;
         let unsigned = Unsigned::new(self.alloc, text)?;
-        let laid = copies(self.alloc, laid)?;
-        self.blocks.keep_all(laid)?;
+        self.lay_out(laid)?;
         Ok(unsigned)
     }
 
     /// The next certificate, of these changes, with its number: all that it takes of memory is there, and what was laid
-    /// out for it is held.
+    /// out for it is in the cache, but where a look is under way.
     fn prepare(
         &mut self,
         changes: &[Change<A>],
@@ -69,7 +70,8 @@ impl<L: Device, J: Device, A: Allocator + Copy> Client<L, J, A> {
     ) -> Result<(Version, Unsigned<A>), ClientError>
         requires idle { self.old.phase ≡ Phase.Idle }
         requires few { length changes.now ≤ MOST_CHANGES }
-        ensures laying { OnOk result (self.new ≡ laying (map vec_items laid.now) self.old) }
+        ensures over { OnOk result (self.new ≡ over self.new.blocks self.old) }
+        ensures kept { OnOk result (LaysOut self.old (map vec_items laid.now) self.new.blocks) }
         ensures number { IfOk result (λ p. p.0 ≡ self.old.number + 1) }
         ensures text { IfOk result (λ p. p.1 ≡ cert.spell (next_cert self.old changes.now)) }
         ensures fits { OnOk result (cert.Fits (next_cert self.old changes.now)) }
@@ -93,8 +95,8 @@ impl<L: Device, J: Device, A: Allocator + Copy> Client<L, J, A> {
     }
 
     /// Declares the next operation, and gives its signed certificate, which stands in the journal by then. What was
-    /// laid out for it is held. All growths come before the leaf is taken. After Device the client has to be opened
-    /// again.
+    /// laid out for it goes into the cache, but where a look is under way. All growths come before the leaf is taken.
+    /// After Device the client has to be opened again.
     pub fn begin(
         &mut self,
         changes: &[Change<A>],
@@ -105,7 +107,8 @@ impl<L: Device, J: Device, A: Allocator + Copy> Client<L, J, A> {
         requires laid { are_laid (map vec_items laid.now) changes.now ≡ true }
         ensures declared { OnOk result ((leaf : LeafNumber)
             × IsKept leaf (cert_record (declared_text self.old leaf changes.now)) self.old.devices self.new.devices
-            × (self.new ≡ on self.new.devices (declared self.old leaf changes.now (map vec_items laid.now)))) }
+            × (self.new ≡ over self.new.blocks (on self.new.devices (declared self.old leaf changes.now)))) }
+        ensures kept { OnOk result (LaysOut self.old (map vec_items laid.now) self.new.blocks) }
         ensures text { IfOk result (λ text. text.items ≡ self.new.text) }
         // What a crash leaves at any moment of the call, whatever it answers.
         ensures any_moment { (leaf : LeafNumber) → IsLeastFree self.old.devices.ledger.file.now.text leaf
@@ -117,7 +120,9 @@ impl<L: Device, J: Device, A: Allocator + Copy> Client<L, J, A> {
             ↔ ((self.old.number ≡ last_version) × (IsFull self.old.devices.ledger.file.now.text → ⊥)) }
         ensures rose { IsErrOf result ClientError.Device → OneHasRisen self.old.devices self.new.devices }
         ensures fails { IsErrOf result ClientError.Device
-            → self.new ≡ on self.new.devices (failed (laying (map vec_items laid.now) self.old)) }
+            → self.new ≡ over self.new.blocks (on self.new.devices (failed self.old)) }
+        ensures kept_device { IsErrOf result ClientError.Device
+            → LaysOut self.old (map vec_items laid.now) self.new.blocks }
         // What is signed can be read again.
         ensures fits { OnOk result (cert.Fits (next_cert self.old changes.now)) }
         ensures fits_device { IsErrOf result ClientError.Device → cert.Fits (next_cert self.old changes.now) }

@@ -5,7 +5,7 @@ ghost use Rattle.std.specs.Prelude.{◌≡◌, IfErr, IfOk, IfSome, IsOk, IsSome
 ghost use Rattle.std.specs.Option.{option_copied, option_map};
 ghost use Rattle.layout.specs.Hash.{hash};
 ghost use Rattle.reply_rules.specs.Lists.{lists_of};
-ghost use Rattle.client_tree.specs.Held.{held, keeping};
+ghost use Rattle.checked_blocks.specs.CheckedBlocks.{holding as with_held, known_blocks};
 ghost use Rattle.reply_check.specs.Reached.{IsReached, IsWritten};
 ghost use Rattle.reply_check.specs.AskedBlock.{block_breaks};
 ghost use Rattle.reply_check.specs.Verified.{AreOwn};
@@ -16,10 +16,11 @@ ghost use Rattle.client_verify.specs.State.{lists_under, released};
 ghost use Rattle.client_verify.specs.JudgedLast.{judged_last, listed};
 ghost use Rattle.client_verify.specs.Judged.{AsksOrAccepts, GoesOn, Handed, IsReading, IsWriting, Judged, ReadsOn};
 ghost use Rattle.client_verify.specs.Judged.{unjudged};
-ghost use Rattle.client_verify.specs.Standing.{HoldsOneMore, IsLacking, OnlyJudges, StandsAfter};
+ghost use Rattle.client_verify.specs.Standing.{HoldsMore, IsLacking, OnlyJudges, StandsAfter};
+ghost use Rattle.client_verify.specs.Holding.{HoldsAfter, HoldsMeanwhile};
 
 use crate::client::Client;
-use crate::keeping::keep;
+use crate::keeping::hold;
 use crate::step::Step;
 use crate::view::{Checked, Progress, Ready, Stage};
 use client_releases::{ClientError, Phase};
@@ -83,9 +84,10 @@ impl<L: Device, J: Device, A: Allocator + Copy> Client<L, J, A> {
 
     /// Goes on with lists that break no rule: a block is asked for, or the reply is accepted.
     fn go(&mut self, good: Good<A>, written: Written<A>) -> Step<A>
-        requires written { IsWritten (held self.old.blocks) (view_of self.old.pinned good) good.void written }
+        requires written { IsWritten (known_blocks self.old.blocks) (view_of self.old.pinned good) good.void written }
         requires own { IsOfDeclared (released self.old) good.lists.own.plan }
-        ensures { AsksOrAccepts self.old good result self.new }
+        ensures goes { AsksOrAccepts self.old good result self.new }
+        ensures held { HoldsMeanwhile self.old.blocks self.new }
     {
         match written {
             Written::Lacks(asked) => {
@@ -106,6 +108,7 @@ impl<L: Device, J: Device, A: Allocator + Copy> Client<L, J, A> {
                     lost,
                 };
                 put_in(&mut self.progress, Progress::Accepted(ready));
+                self.let_blocks_go();
                 Step::Store(texts)
             }
         }
@@ -133,7 +136,8 @@ impl<L: Device, J: Device, A: Allocator + Copy> Client<L, J, A> {
         ensures judged { IfOk result (λ step. Judged self.old text.now step self.new) }
         ensures only_memory { IfErr result (λ e. e ≡ ClientError.Memory) }
         ensures err { OnErr result (self.new ≡ self.old) }
-        // What it waits for then, and what stays.
+        // What is held then, what it waits for, and what stays.
+        ensures held { IfOk result (λ step. HoldsAfter self.old None step self.new) }
         ensures stands { IfOk result (λ step. StandsAfter self.old step self.new) }
         ensures only { OnOk result (OnlyJudges self.old self.new) }
     {
@@ -144,6 +148,7 @@ impl<L: Device, J: Device, A: Allocator + Copy> Client<L, J, A> {
     fn take_reply(&mut self, text: &[u8]) -> Result<Step<A>, ClientError>
         requires { self.old.phase ≡ Phase.Declared }
         ensures judged { IfOk result (λ step. Judged self.old text.now step self.new) }
+        ensures held { IfOk result (λ step. HoldsAfter self.old None step self.new) }
         ensures only_memory { IfErr result (λ e. e ≡ ClientError.Memory) }
         ensures err { OnErr result (self.new ≡ self.old) }
     {
@@ -153,8 +158,16 @@ impl<L: Device, J: Device, A: Allocator + Copy> Client<L, J, A> {
             Err(rule) => return Ok(Step::Broken(rule)),
         };
         self.is_replied(text, &reply);
-        match reach(self.alloc, &known, &reply, &self.blocks)? {
-            Reached::Breaks(rule) => Ok(Step::Broken(rule)),
+        let reached = reach(self.alloc, &known, &reply, &self.blocks)?;
+        if let Reached::Breaks(rule) = reached {
+            return Ok(Step::Broken(rule));
+        }
+        let Ok(()) = self.blocks.take_up() else {
+            let_go((reply, reached));
+            return Err(ClientError::Memory);
+        };
+        match reached {
+            Reached::Breaks(_) => unreachable!(),
             Reached::Lacks(asked) => {
                 let digest = asked.digest;
                 Ok(self.ask(Stage::Reading(reply, asked), digest))
@@ -172,7 +185,7 @@ impl<L: Device, J: Device, A: Allocator + Copy> Client<L, J, A> {
         requires reading { IsSomeAnd self.now.checked IsReading }
         ensures { IfSome self.now.checked
             (λ k. IfOk result (λ reached. IsSomeAnd (unjudged k)
-            (λ x. IsReached (held (keeping self.now.blocks text.now)) self.now.pinned x reached))) }
+            (λ x. IsReached (known_blocks (with_held self.now.blocks text.now)) self.now.pinned x reached))) }
     {
         let known = self.known();
         let Progress::Checking(checked) = &self.progress else {
@@ -189,6 +202,7 @@ impl<L: Device, J: Device, A: Allocator + Copy> Client<L, J, A> {
         requires hashed { digest ≡ hash text.now }
         requires reading { IsSomeAnd self.old.checked IsReading }
         ensures goes { IfSome self.old.checked (λ k. IfOk result (λ step. ReadsOn self.old k text.now step self.new)) }
+        ensures held { IfOk result (λ step. HoldsAfter self.old (Some text.now) step self.new) }
         ensures only_memory { IfErr result (λ e. e ≡ ClientError.Memory) }
         ensures err { OnErr result (self.new ≡ self.old) }
     {
@@ -196,7 +210,7 @@ impl<L: Device, J: Device, A: Allocator + Copy> Client<L, J, A> {
         if let Reached::Breaks(rule) = reached {
             return Ok(Step::Broken(rule));
         }
-        let Ok(()) = keep(self.alloc, &mut self.blocks, digest, text) else {
+        let Ok(()) = hold(self.alloc, &mut self.blocks, digest, text) else {
             let_go(reached);
             return Err(ClientError::Memory);
         };
@@ -223,6 +237,7 @@ impl<L: Device, J: Device, A: Allocator + Copy> Client<L, J, A> {
         requires writing { IsSomeAnd self.old.checked IsWriting }
         ensures goes { IfSome self.old.checked
             (λ k. IfOk result (λ step. GoesOn (holding self.old text.now) k step self.new)) }
+        ensures held { IfOk result (λ step. HoldsAfter self.old (Some text.now) step self.new) }
         ensures only_memory { IfErr result (λ e. e ≡ ClientError.Memory) }
         ensures err { OnErr result (self.new ≡ self.old) }
     {
@@ -233,8 +248,10 @@ impl<L: Device, J: Device, A: Allocator + Copy> Client<L, J, A> {
             unreachable!()
         };
         let written = write_with(self.alloc, &self.pinned, good, &self.blocks, digest, text)?;
-        let text = Vec::from_slice(self.alloc, text)?;
-        self.blocks.keep_as(digest, text)?;
+        let Ok(()) = hold(self.alloc, &mut self.blocks, digest, text) else {
+            let_go(written);
+            return Err(ClientError::Memory);
+        };
         let checked = self.progress.take_checked();
         let Stage::Writing(good, _) = checked.stage else {
             unreachable!()
@@ -249,15 +266,16 @@ impl<L: Device, J: Device, A: Allocator + Copy> Client<L, J, A> {
             (λ k. IfOk result (λ step. Handed self.old k (option_copied block.entry) step self.new)) }
         // A block that breaks the rule on blocks is told without memory.
         ensures told { IfSome self.old.checked
-            (λ k. block_breaks (held self.old.blocks) (asked_of k) (option_copied block.entry) ≡ Some Rule.Block
+            (λ k. block_breaks (known_blocks self.old.blocks) (asked_of k) (option_copied block.entry) ≡ Some Rule.Block
             → IsOk result) }
         ensures only_memory { IfErr result (λ e. e ≡ ClientError.Memory) }
         ensures err { OnErr result (self.new ≡ self.old) }
-        // What it waits for then, and what stays. A block that was lacking is one more that is held.
+        // What is held then, what it waits for, and what stays. A block that was lacking is one more that is held.
+        ensures held { IfOk result (λ step. HoldsAfter self.old (option_copied block.entry) step self.new) }
         ensures stands { IfOk result (λ step. StandsAfter self.old step self.new) }
         ensures only { OnOk result (OnlyJudges self.old self.new) }
         ensures more { IfSome self.old.checked
-            (λ k. IsLacking self.old (asked_of k) → IfOk result (λ step. HoldsOneMore self.old step self.new)) }
+            (λ k. IsLacking self.old (asked_of k) → IfOk result (λ step. HoldsMore self.old step self.new)) }
     {
         self.take_block(block)
     }
@@ -267,9 +285,10 @@ impl<L: Device, J: Device, A: Allocator + Copy> Client<L, J, A> {
         requires { IsSome self.old.checked }
         ensures handed { IfSome self.old.checked
             (λ k. IfOk result (λ step. Handed self.old k (option_copied block.entry) step self.new)) }
+        ensures held { IfOk result (λ step. HoldsAfter self.old (option_copied block.entry) step self.new) }
         // A block that breaks the rule on blocks is told without memory.
         ensures told { IfSome self.old.checked
-            (λ k. block_breaks (held self.old.blocks) (asked_of k) (option_copied block.entry) ≡ Some Rule.Block
+            (λ k. block_breaks (known_blocks self.old.blocks) (asked_of k) (option_copied block.entry) ≡ Some Rule.Block
             → IsOk result) }
         ensures only_memory { IfErr result (λ e. e ≡ ClientError.Memory) }
         ensures err { OnErr result (self.new ≡ self.old) }

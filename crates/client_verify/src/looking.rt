@@ -2,17 +2,18 @@
 
 ghost use Rattle.std.specs.Prelude.{◌≡◌, ◌≤◌, IfErr, IfOk, IfSome, IsOk, IsSome, IsSomeAnd, OnErr, OnOk, Some};
 ghost use Rattle.std.specs.Option.{option_copied};
-ghost use Rattle.client_tree.specs.Held.{held};
+ghost use Rattle.checked_blocks.specs.CheckedBlocks.{known_blocks};
 ghost use Rattle.client_tree.specs.declared.questions.Question.TheVariants.{At, Kind, Free};
 ghost use Rattle.reply_check.specs.Reached.{IsAnswer};
 ghost use Rattle.reply_check.specs.AskedBlock.{block_breaks};
 ghost use Rattle.reply_check.specs.FirstBroken.{view_over};
 ghost use Rattle.client_verify.specs.Told.{IsTold};
 ghost use Rattle.client_verify.specs.Looked.{Given, Looked};
-ghost use Rattle.client_verify.specs.Standing.{IsLacking, LookHoldsOneMore, LookStandsAfter, OnlyLooks};
+ghost use Rattle.client_verify.specs.Standing.{IsLacking, LookHoldsMore, LookStandsAfter, OnlyLooks};
+ghost use Rattle.client_verify.specs.Holding.{HoldsMeanwhile, LookHoldsAfter};
 
 use crate::client::Client;
-use crate::keeping::keep;
+use crate::keeping::hold;
 use crate::look::Look;
 use crate::view::Looking;
 use client_releases::ClientError;
@@ -45,7 +46,8 @@ impl<L: Device, J: Device, A: Allocator + Copy> Client<L, J, A> {
             (λ v. IfOk result (λ look. Looked self.old v (At principal i_number) look self.new)) }
         ensures only_memory { IfErr result (λ e. e ≡ ClientError.Memory) }
         ensures err { OnErr result (self.new ≡ self.old) }
-        // What it waits for then, and what stays.
+        // What is held then, what it waits for, and what stays.
+        ensures held { IfOk result (λ look. LookHoldsAfter self.old None look self.new) }
         ensures stands { IfOk result (λ look. LookStandsAfter self.old look self.new) }
         ensures only { OnOk result (OnlyLooks self.old self.new) }
     {
@@ -61,7 +63,8 @@ impl<L: Device, J: Device, A: Allocator + Copy> Client<L, J, A> {
             (λ v. IfOk result (λ look. Looked self.old v (Kind principal i_number) look self.new)) }
         ensures only_memory { IfErr result (λ e. e ≡ ClientError.Memory) }
         ensures err { OnErr result (self.new ≡ self.old) }
-        // What it waits for then, and what stays.
+        // What is held then, what it waits for, and what stays.
+        ensures held { IfOk result (λ look. LookHoldsAfter self.old None look self.new) }
         ensures stands { IfOk result (λ look. LookStandsAfter self.old look self.new) }
         ensures only { OnOk result (OnlyLooks self.old self.new) }
     {
@@ -83,7 +86,8 @@ impl<L: Device, J: Device, A: Allocator + Copy> Client<L, J, A> {
             (λ v. IfOk result (λ look. Looked self.old v (Free principal first last) look self.new)) }
         ensures only_memory { IfErr result (λ e. e ≡ ClientError.Memory) }
         ensures err { OnErr result (self.new ≡ self.old) }
-        // What it waits for then, and what stays.
+        // What is held then, what it waits for, and what stays.
+        ensures held { IfOk result (λ look. LookHoldsAfter self.old None look self.new) }
         ensures stands { IfOk result (λ look. LookStandsAfter self.old look self.new) }
         ensures only { OnOk result (OnlyLooks self.old self.new) }
     {
@@ -95,6 +99,7 @@ impl<L: Device, J: Device, A: Allocator + Copy> Client<L, J, A> {
         requires { IsSome self.old.view }
         ensures looked { IfSome self.old.view
             (λ v. IfOk result (λ look. Looked self.old v question look self.new)) }
+        ensures held { IfOk result (λ look. LookHoldsAfter self.old None look self.new) }
         ensures only_memory { IfErr result (λ e. e ≡ ClientError.Memory) }
         ensures err { OnErr result (self.new ≡ self.old) }
     {
@@ -111,7 +116,13 @@ impl<L: Device, J: Device, A: Allocator + Copy> Client<L, J, A> {
             copy,
             &self.blocks,
         )?;
-        Ok(self.answer(question, shown))
+        match self.blocks.take_up() {
+            Ok(()) => Ok(self.answer(question, shown)),
+            Err(_) => {
+                let_go(shown);
+                Err(ClientError::Memory)
+            }
+        }
     }
 
     /// Goes on with a look: a block is asked for, or it is over.
@@ -119,8 +130,9 @@ impl<L: Device, J: Device, A: Allocator + Copy> Client<L, J, A> {
     fn answer(&mut self, question: Question, shown: Shown<A>) -> Look<A>
         requires view { IsSome self.old.view }
         requires shown { IfSome self.old.view
-            (λ v. IsAnswer (held self.old.blocks) (view_over self.old.pinned v.table v.lists) question shown) }
-        ensures { IfSome self.old.view (λ v. Looked self.old v question result self.new) }
+            (λ v. IsAnswer (known_blocks self.old.blocks) (view_over self.old.pinned v.table v.lists) question shown) }
+        ensures looked { IfSome self.old.view (λ v. Looked self.old v question result self.new) }
+        ensures held { HoldsMeanwhile self.old.blocks self.new }
     {
         let Some(view) = &mut self.view else {
             unreachable!()
@@ -133,6 +145,7 @@ impl<L: Device, J: Device, A: Allocator + Copy> Client<L, J, A> {
             }
             Shown::Tells(answer) => {
                 view.looking = None;
+                self.let_blocks_go();
                 told(answer)
             }
         }
@@ -146,16 +159,18 @@ impl<L: Device, J: Device, A: Allocator + Copy> Client<L, J, A> {
             (λ look. Given self.old v l (option_copied block.entry) look self.new))) }
         // A block that breaks the rule on blocks is told without memory.
         ensures told { IfSome self.old.view
-            (λ v. IfSome v.looking (λ l. block_breaks (held self.old.blocks) l.asked (option_copied block.entry)
-            ≡ Some Rule.Block → IsOk result)) }
+            (λ v. IfSome v.looking
+            (λ l. block_breaks (known_blocks self.old.blocks) l.asked (option_copied block.entry) ≡ Some Rule.Block
+            → IsOk result)) }
         ensures only_memory { IfErr result (λ e. e ≡ ClientError.Memory) }
         ensures err { OnErr result (self.new ≡ self.old) }
-        // What it waits for then, and what stays. A block that was lacking is one more that is held.
+        // What is held then, what it waits for, and what stays. A block that was lacking is one more that is held.
+        ensures held { IfOk result (λ look. LookHoldsAfter self.old (option_copied block.entry) look self.new) }
         ensures stands { IfOk result (λ look. LookStandsAfter self.old look self.new) }
         ensures only { OnOk result (OnlyLooks self.old self.new) }
         ensures more { IfSome self.old.view
             (λ v. IfSome v.looking (λ l. IsLacking self.old l.asked
-            → IfOk result (λ look. LookHoldsOneMore self.old look self.new))) }
+            → IfOk result (λ look. LookHoldsMore self.old look self.new))) }
     {
         self.take_given(block)
     }
@@ -166,10 +181,12 @@ impl<L: Device, J: Device, A: Allocator + Copy> Client<L, J, A> {
         ensures given { IfSome self.old.view
             (λ v. IfSome v.looking (λ l. IfOk result
             (λ look. Given self.old v l (option_copied block.entry) look self.new))) }
+        ensures held { IfOk result (λ look. LookHoldsAfter self.old (option_copied block.entry) look self.new) }
         // A block that breaks the rule on blocks is told without memory.
         ensures told { IfSome self.old.view
-            (λ v. IfSome v.looking (λ l. block_breaks (held self.old.blocks) l.asked (option_copied block.entry)
-            ≡ Some Rule.Block → IsOk result)) }
+            (λ v. IfSome v.looking
+            (λ l. block_breaks (known_blocks self.old.blocks) l.asked (option_copied block.entry) ≡ Some Rule.Block
+            → IsOk result)) }
         ensures only_memory { IfErr result (λ e. e ≡ ClientError.Memory) }
         ensures err { OnErr result (self.new ≡ self.old) }
     {
@@ -195,7 +212,7 @@ impl<L: Device, J: Device, A: Allocator + Copy> Client<L, J, A> {
             digest,
             text,
         )?;
-        match keep(self.alloc, &mut self.blocks, digest, text) {
+        match hold(self.alloc, &mut self.blocks, digest, text) {
             Ok(()) => Ok(self.answer(looking.question, shown)),
             Err(_) => {
                 let_go(shown);

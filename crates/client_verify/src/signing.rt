@@ -8,7 +8,8 @@ ghost use Rattle.leaf_ledger.specs.Ledger.{IsFull, IsLeastFree, LeafNumber};
 ghost use Rattle.version_order.specs.Structure.{structure};
 ghost use Rattle.pending_list.specs.Reply.{user_of};
 ghost use Rattle.client_releases.specs.Releasing.{AnyMoment, IsKept, IsTried, OneHasRisen, structure_record};
-ghost use Rattle.client_verify.specs.State.{committed, failed, next_structure, on, signed_over, signed_text};
+ghost use Rattle.client_verify.specs.State.{committed, failed, next_structure, on, over, signed_over, signed_text};
+ghost use Rattle.checked_blocks.specs.CheckedBlocks.{LetsGo};
 
 use crate::client::Client;
 use crate::structure::{Draft, draft_over};
@@ -56,7 +57,9 @@ impl<L: Device, J: Device, A: Allocator + Copy> Client<L, J, A> {
         requires { IsSome self.old.accepted }
         ensures signed { OnOk result (IfSome self.old.accepted (λ r. (leaf : LeafNumber)
             × IsKept leaf (structure_record (signed_text self.old leaf r)) self.old.devices self.new.devices
-            × (self.new ≡ on self.new.devices (signed_over self.old leaf r)))) }
+            × (self.new ≡ over self.new.blocks (on self.new.devices (signed_over self.old leaf r))))) }
+        // A look that was under way is over, so that nothing is.
+        ensures gone { OnOk result (LetsGo self.old.blocks self.new.blocks) }
         ensures text { IfOk result (λ text. text.items ≡ self.new.text) }
         // What a crash leaves at any moment of the call, whatever it answers.
         ensures any_moment { IfSome self.old.accepted
@@ -105,6 +108,7 @@ impl<L: Device, J: Device, A: Allocator + Copy> Client<L, J, A> {
                     looking: None,
                 };
                 put_in(&mut self.view, Some(accepted));
+                self.blocks.let_go();
                 Ok(sent)
             }
             Err(error) => {

@@ -3,7 +3,6 @@ pub mod Looks
 pub mod Turns
 pub mod Operations
 pub mod Given
-pub mod Few
 pub mod Steps
 pub mod Last
 pub mod Walks

@@ -134,7 +134,7 @@ module _ {T : Type 0} {answers : Answering T} where
     finished = (tt, none, unfinished);
     carried = tt;
     given = given_from answers (point s t (resuming s.phase s.text)) (point new t' (Over e)) s.phase s.text h.went.moves (Err e) refl refl h.went.run;
-    once = asked_once answers (point s t (resuming s.phase s.text)) (point new t' (Over e)) h.went.moves h.went.run;
+    once = asked_once answers (point s t (resuming s.phase s.text)) h.went.moves (point new t' (Over e)) h.went.run;
   }
 
   -- it was finished, and the command carried out
@@ -151,5 +151,5 @@ module _ {T : Type 0} {answers : Answering T} where
         finished = h.lost;
         carried = subst (λ es. IsCarriedOut u c es r new) o.order o;
         given = given_from answers (point s t (resuming s.phase s.text)) (point new t' (ready_or r)) s.phase s.text both.moves r refl refl both.run;
-        once = asked_once answers (point s t (resuming s.phase s.text)) (point new t' (ready_or r)) both.moves both.run;
+        once = asked_once answers (point s t (resuming s.phase s.text)) both.moves (point new t' (ready_or r)) both.run;
       }

@@ -1,5 +1,5 @@
 -- What passes between a session and its client.
-use Rattle.std.specs.Prelude.{◌≡◌, ◌≤◌, ◌+◌, ℕ, List, [], length, Option, Some, None, Result, Ok, Err}
+use Rattle.std.specs.Prelude.{◌≡◌, ℕ, List, [], Option, Some, None, Result, Ok, Err}
 use Rattle.layout.specs.Types.{Bytes, Digest}
 use Rattle.update_cert.specs.Change.{Change}
 use Rattle.client_tree.specs.declared.questions.Question.{Question}
@@ -7,6 +7,7 @@ use Rattle.wire.specs.declared.kinds.Status.{Status}
 use Rattle.client_releases.specs.declared.error.ClientError.{ClientError}
 use Rattle.client_verify.specs.declared.look.Look.TheVariants as look
 use Rattle.client_verify.specs.declared.step.Step.TheVariants as step
+use Rattle.client_verify.specs.Standing.{HasMore}
 use Rattle.client_verify.specs.State.{AcceptedView, State}
 use Rattle.client_steps.specs.Steps.{Asks, Sees, FromOpen, Open}
 use Rattle.client_steps.specs.Steps as steps
@@ -44,25 +45,11 @@ abbrev pub TellsLost : Call → State → Type 0
 TellsLost (Signs x lost) new = lost ≡ lost_of new
 TellsLost call new = Unit {0}
 
--- how many blocks the client takes by a call: the one that is handed in, where it isn't refused
-abbrev pub one_of_step : Result Asks ClientError → ℕ
-one_of_step (Ok (step.Broken rule)) = 0
-one_of_step (Ok other) = 1
-one_of_step (Err e) = 0
-
-abbrev pub one_of_look : Result Sees ClientError → ℕ
-one_of_look (Ok (look.Broken rule)) = 0
-one_of_look (Ok other) = 1
-one_of_look (Err e) = 0
-
-abbrev pub taken_by : Call → ℕ
-taken_by (Takes block x) = one_of_step x
-taken_by (Gives q block x) = one_of_look x
-taken_by other = 0
-
--- what it takes it didn't hold before, and it drops none
+-- where a block was handed in that a reply or a look asked for, and one more is asked for, more are held than before
 abbrev pub HoldsMore : State → Call → State → Type 0
-HoldsMore s call new = length s.blocks + taken_by call ≤ length new.blocks
+HoldsMore s (Takes block (Ok (step.Need digest))) new = HasMore s new
+HoldsMore s (Gives q block (Ok (look.Need digest))) new = HasMore s new
+HoldsMore s call new = Unit {0}
 
 -- from this client, this call with its answer may lead to that one: it is a step of a run
 unfoldable pub Leads : State → Call → State → Type 0

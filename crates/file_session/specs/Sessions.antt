@@ -1,10 +1,8 @@
 -- What a session promises.
-use Rattle.std.specs.Prelude.{◌≡◌, ◌⊎◌, ◌≤◌, ◌+◌, ℕ, List, [], ◌∷◌, ◌++◌, length, Option, Some, None, Result, Ok, Err}
+use Rattle.std.specs.Prelude.{◌≡◌, ◌⊎◌, ℕ, List, [], ◌∷◌, ◌++◌, Option, Some, None, Result, Ok, Err}
 use Rattle.layout.specs.Types.{Bytes, Digest, User, Version}
 use Rattle.update_cert.specs.Change.{Change}
 use Rattle.update_cert.specs.World.{Content, Tree}
-use Rattle.wire.specs.declared.kinds.RequestKind.{RequestKind}
-use Rattle.wire.specs.declared.kinds.RequestKind.TheVariants as kind
 use Rattle.client_releases.specs.declared.error.ClientError.{ClientError}
 use Rattle.client_releases.specs.declared.error.ClientError.TheVariants as error
 use Rattle.client_releases.specs.declared.phase.Phase.{Phase}
@@ -19,8 +17,9 @@ use Rattle.file_session.specs.declared.stop.Stop.{Stop}
 use Rattle.file_session.specs.declared.stop.Stop.TheVariants as stop
 use Rattle.file_session.specs.Declaring.{all_declared, all_texts}
 use Rattle.file_session.specs.Given.{IsGiven}
-use Rattle.file_session.specs.Order.{Move, Sends, ready_or, resuming}
-use Rattle.file_session.specs.Went.{Agrees, Answering, Event, Begun, Seen, Signed, Unplanned, events, looks, Moves}
+use Rattle.file_session.specs.Calls.{HoldsMore}
+use Rattle.file_session.specs.Order.{Move, Calls, ready_or, resuming}
+use Rattle.file_session.specs.Went.{Agrees, Answering, At, Event, Begun, Seen, Signed, Unplanned, events, looks, Moves}
 use Rattle.file_session.specs.Went.{point, signs}
 
 -- ---- what was finished first
@@ -127,23 +126,16 @@ abbrev pub IsGivenFrom : {X : Type 0} → Phase → List Move → Result X Stop 
 IsGivenFrom phase.Failed moves result = moves ≡ []
 IsGivenFrom other moves result = IsGiven moves result
 
--- ---- how many blocks are asked for
+-- ---- how often a block is asked for
 
-abbrev pub one_of_kind : RequestKind → ℕ
-one_of_kind kind.Get = 1
-one_of_kind other = 0
-
-abbrev pub one_of_move : Move → ℕ
-one_of_move (Sends r x) = one_of_kind r.kind
-one_of_move other = 0
-
-abbrev pub blocks_asked : List Move → ℕ
-blocks_asked [] = 0
-blocks_asked (m ∷ ms) = one_of_move m + blocks_asked ms
-
--- each block that was asked for is one more that is held then, but for the last one, which may be refused
-abbrev pub AreAskedOnce : State → List Move → State → Type 0
-AreAskedOnce s moves new = length s.blocks + blocks_asked moves ≤ length new.blocks + 1
+-- Where a block was handed in and another is asked for, more blocks are held than before: within one reply, and within
+-- one look, none is taken twice.
+abbrev pub AreAskedOnce : {T : Type 0} (answers : Answering T) (a : At T) (ms : List Move) (b : At T)
+    → Moves answers a ms b → Type 0
+AreAskedOnce answers a [] b run = Unit {0}
+AreAskedOnce answers a (Calls call ∷ ms) b (mid, one, more) =
+    HoldsMore a.client call mid.client × AreAskedOnce answers mid ms b more
+AreAskedOnce answers a (other ∷ ms) b (mid, one, more) = AreAskedOnce answers mid ms b more
 
 -- ---- a session
 
@@ -159,4 +151,4 @@ pub record Ran {T : Type 0} (answers : Answering T) (s : State) (t : T) (u : Use
   pub finished : IsResumed s signed es result resumed new
   pub carried : IsCommand u c es result new
   pub given : IsGivenFrom s.phase moves result
-  pub once : AreAskedOnce s moves new
+  pub once : AreAskedOnce answers (point s t (resuming s.phase s.text)) moves (point new t' (ready_or result)) run

@@ -1,6 +1,6 @@
 -- Nobody has to believe this file: an aid of private contracts.
 -- What a client waits for after a step, and after a look, and how many blocks it may still ask for.
-use Rattle.std.specs.Prelude.{[], Result, Ok, Err, ◌≡◌, ◌≤◌, ◌<◌, ◌-◌, ◌*◌, ℕ, zero, suc, IsSome, IsSomeAnd, length}
+use Rattle.std.specs.Prelude.{[], Result, Ok, Err, ◌≡◌, ◌≤◌, ◌<◌, ◌-◌, ◌^◌, ℕ, IsSome, IsSomeAnd, length}
 use Rattle.client_tree.specs.declared.questions.Question.{Question}
 use Rattle.client_tree.specs.declared.questions.Question.TheVariants as question
 use Rattle.client_verify.specs.declared.look.Look.{Look}
@@ -52,14 +52,9 @@ IsRange (question.At p i) = Unit {0}
 IsRange (question.Kind p i) = Unit {0}
 IsRange (question.Free p first last) = first ≤ last
 
--- how many lists of so many bytes there are
-unfoldable pub many : ℕ → ℕ
-many zero = 1
-many (suc n) = many n * 256
-
--- how many blocks it doesn't hold yet, of as many as there are digests
+-- how many blocks more a client may hold: fewer than 2^63 stand in its memory
 abbrev pub left : State → ℕ
-left s = many 32 - length s.blocks
+left s = 2 ^ 63 - length s.blocks.held
 
 -- a block that is asked for is one that is left no more
 abbrev pub AsksFewer : {A : Type 0} → Step A → State → State → Type 0

@@ -117,10 +117,20 @@ pub(crate) fn ask<L: Device, J: Device, A: Allocator + Copy>(
     ensures phase { client.new.phase ≡ client.old.phase }
     ensures view { IsSome client.new.view }
 {
+    // For the proof: the number of its principal is below 96.
     match question {
-        Question::At(principal, i_number) => client.look(principal, i_number),
-        Question::Kind(principal, i_number) => client.kind(principal, i_number),
-        Question::Free(principal, first, last) => client.free(principal, first, last),
+        Question::At(principal, i_number) => {
+            let _number = principal.get();
+            client.look(principal, i_number)
+        }
+        Question::Kind(principal, i_number) => {
+            let _number = principal.get();
+            client.kind(principal, i_number)
+        }
+        Question::Free(principal, first, last) => {
+            let _number = principal.get();
+            client.free(principal, first, last)
+        }
     }
 }
 

@@ -195,6 +195,10 @@ module _ (keys : Keys) (run : List Event) (is : IsRun keys run) (premises : Prem
   pub agreed : Agree (views run)
   agreed = lines.agreed (views run) are_accepted apart
 
+  -- the certificate of each operation that is pending in an accepted view was released
+  pub item_released : (x : View) → In x (views run) → (i : PendingItem) → In i (items x.lists) → HasReleased i.cert.user run (cert.spell i.cert)
+  item_released x n i j = declared_item keys run is all_released_texts all_true x n i j
+
   pub all_released : AreReleased run
   all_released = to_all (λ x. All (λ c. HasReleased c.user run (cert.spell c)) (line (views run) x)) (views run) (λ x i. to_all (λ c. HasReleased c.user run (cert.spell c)) (line (views run) x) (λ c j. of_line x c j))
     where

@@ -19,13 +19,15 @@ use Rattle.version_order.specs.Structure.{Structure, group_of}
 use Rattle.version_order.specs.Vector.{version_of}
 use Rattle.update_cert.specs.World.{genesis}
 use Rattle.update_cert.specs.Reading.{Reading}
-use Rattle.tree_parts.specs.Blocks.{Agrees}
+use Rattle.tree_parts.specs.Blocks.{Agrees, Blocks}
 use Rattle.pending_list.specs.declared.signed.Signed.{Signed}
 use Rattle.pending_list.specs.Groups.{raised_groups, raises}
 use Rattle.reply_rules.specs.Lists.{structure_of}
 use Rattle.reply_check.specs.Good.{record_over}
 use Rattle.client_tree.specs.Genesis.{first_blocks, first_handle, first_table, first_texts}
 use Rattle.client_tree.specs.Held.{held}
+use Rattle.checked_blocks.specs.CheckedBlocks.{at_first, known_blocks}
+use Rattle.checked_blocks.proofs.BlockLaws.{known-at_first}
 use Rattle.client_tree.specs.Tree.{IsStored, IsUntouched, Stored}
 use Rattle.client_tree.specs.View.{handle_in, record_of, tree}
 use Rattle.client_tree.specs.View as tree_spec
@@ -190,9 +192,12 @@ module _ (texts : List Bytes) (apart : NoneCollide texts texts) (key : Key) (pin
 
   -- ---- the beginning
 
-  pub first_agrees : Agrees (held (first_blocks key)) reads
+  first_held : Agrees (held (first_blocks key)) reads
   unfolding first_blocks
-  first_agrees = agrees_within (held (first_blocks key)) (told_by_texts texts) (are_within texts apart (held (first_blocks key)) (among_all_kept texts [] (first_texts key) inside (among_none texts))) reads agrees
+  first_held = agrees_within (held (first_blocks key)) (told_by_texts texts) (are_within texts apart (held (first_blocks key)) (among_all_kept texts [] (first_texts key) inside (among_none texts))) reads agrees
+
+  pub first_agrees : Agrees (known_blocks (at_first (first_blocks key))) reads
+  first_agrees = subst (λ (f : Blocks). Agrees f reads) (sym (known-at_first (first_blocks key))) first_held
 
   pub apart_first : NoneCollide (first_texts key) (first_texts key)
   apart_first a b has_a has_b same =
@@ -201,7 +206,7 @@ module _ (texts : List Bytes) (apart : NoneCollide texts texts) (key : Key) (pin
   pub first_names : (p : Principal) → p < 96 → Names reads p (first_handle p key) (genesis key)
   first_names p low = λ i other.
       ap (option_map reads.content) (agrees.inodes p (first_handle p key) i (digest_at (first_table p key) i) (first_told key texts apart inside p low i))
-      ∙ has_genesis key (first_blocks key) refl apart_first reads first_agrees p i other
+      ∙ has_genesis key (at_first (first_blocks key)) refl apart_first reads first_agrees p i other
 
   pub name_first : NamesTableAmong texts (first_handle 0 key) (first_users key) → NameFirst reads key
   name_first named = record { fits = first_fits key pinned; named = first_names; users = named reads agrees }

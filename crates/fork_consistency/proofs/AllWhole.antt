@@ -56,7 +56,7 @@ newest_in g (z ∷ zs) r e = go (newest_in g zs r) (record_of g z.value.groups) 
         either false is = here (first ∙ is)
 
 -- groups are below 96
-group_low : (n g : ℕ) → In g (groups_below n) → g < 64 + n
+pub group_low : (n g : ℕ) → In g (groups_below n) → g < 64 + n
 unfolding groups_below
 group_low zero g i = absurd i
 group_low (suc n) g i =
@@ -70,29 +70,43 @@ pub with_all : (P : GroupRecord → Type 0) (old new : List GroupRecord) → All
 with_all P old [] a b = a
 with_all P old (r ∷ rs) a b = with_all P (with_row nat_cmp group_of old r) rs (all_with_row nat_cmp group_of nat_cmp_total P old r (All-head P r rs b) a) (All-tail P r rs b)
 
+-- ---- what holds of handles
+
+-- this holds of each handle that a structure names
+pub record EachHandle (P : Principal → Handle → Type 0) (z : Structure) : Type 0 where
+  pub own : P z.plan.user z.handle
+  pub groups : All (λ r. P r.group r.handle) z.groups
+
+-- Where it does so of those of the beginning, and of each of these structures, it holds of the handle on which a part stands.
+pub part_by : (P : Principal → Handle → Type 0) (key : Key) → ((p : ℕ) → p < 96 → P p (first_handle p key)) → (zs : List (Signed Structure)) → ((z : Signed Structure) → In z zs → EachHandle P z.value) → (p : ℕ) → p < 96 → P p (handle_in key zs p)
+part_by P key first zs each p low = go (nat_lt p 64)
+  where
+    of_user : (o : Option (Signed Structure)) → shown_structure p zs ≡ o → P p (option_map_or (λ z. z.value.handle) o (first_handle p key))
+    of_user None none = first p low
+    of_user (Some z) is =
+        let f = found_in (λ (y : Signed Structure). y.value.plan.user == p) zs z is in
+        subst (λ (q : Principal). P q z.value.handle) (eqb-true z.value.plan.user p f.1) (each z f.0).own
+
+    of_group : (o : Option GroupRecord) → newest p zs ≡ o → P p (option_map_or (λ r. r.handle) o (first_handle p key))
+    of_group None none = first p low
+    of_group (Some r) is =
+        let (z, i, j, same) = newest_in p zs r is in
+        subst (λ (q : Principal). P q r.handle) same (of_all (λ (q : GroupRecord). P q.group q.handle) z.value.groups (each z i).groups r j)
+
+    go : (b : Bool) → P p (if b then option_map_or (λ z. z.value.handle) (shown_structure p zs) (first_handle p key) else option_map_or (λ r. r.handle) (newest p zs) (first_handle p key))
+    go true = of_user (shown_structure p zs) refl
+    go false = of_group (newest p zs) refl
+
 module _ (texts : List Bytes) (apart : NoneCollide texts texts) (key : Key) (inside : (t : Bytes) → In t (first_texts key) → In t texts) where
   first : (p : ℕ) → p < 96 → IsWhole texts p (first_handle p key)
   first = first_whole key texts inside
 
+  each_handle : (z : Structure) → NamesWhole texts z → EachHandle (IsWhole texts) z
+  each_handle z whole = record { own = whole.own; groups = whole.groups }
+
   -- each part stands on a handle that is whole
   pub part_before : (zs : List (Signed Structure)) → ((z : Signed Structure) → In z zs → NamesWhole texts z.value) → (p : ℕ) → p < 96 → IsWhole texts p (handle_in key zs p)
-  part_before zs each p low = go (nat_lt p 64)
-    where
-      of_user : (o : Option (Signed Structure)) → shown_structure p zs ≡ o → IsWhole texts p (option_map_or (λ z. z.value.handle) o (first_handle p key))
-      of_user None none = first p low
-      of_user (Some z) is =
-          let f = found_in (λ (y : Signed Structure). y.value.plan.user == p) zs z is in
-          subst (λ (q : Principal). IsWhole texts q z.value.handle) (eqb-true z.value.plan.user p f.1) (each z f.0).own
-
-      of_group : (o : Option GroupRecord) → newest p zs ≡ o → IsWhole texts p (option_map_or (λ r. r.handle) o (first_handle p key))
-      of_group None none = first p low
-      of_group (Some r) is =
-          let (z, i, j, same) = newest_in p zs r is in
-          subst (λ (q : Principal). IsWhole texts q r.handle) same (of_all (λ (q : GroupRecord). IsWhole texts q.group q.handle) z.value.groups (each z i).groups r j)
-
-      go : (b : Bool) → IsWhole texts p (if b then option_map_or (λ z. z.value.handle) (shown_structure p zs) (first_handle p key) else option_map_or (λ r. r.handle) (newest p zs) (first_handle p key))
-      go true = of_user (shown_structure p zs) refl
-      go false = of_group (newest p zs) refl
+  part_before zs each p low = part_by (IsWhole texts) key first zs (λ z i. each_handle z.value (each z i)) p low
 
   -- the handles that are made of them are whole
   module _ (x : View) (known : IsKnown texts apart key x) (read : (i : PendingItem) → In i (items x.lists) → cert.Fits i.cert) (user : x.lists.own.plan.user ≡ x.lists.own.cert.user) (plan : x.signed.plan ≡ x.lists.own.plan)
@@ -136,38 +150,45 @@ module _ (texts : List Bytes) (apart : NoneCollide texts texts) (key : Key) (ins
     stored_whole s i low into =
         part_whole texts apart m.blocks v s m.among (of_all (λ (q : Stored). IsStored m.blocks v q ⊎ IsUntouched v q) (m.own ∷ m.raised) m.outcome.stored s i) into (part_before x.lists.structures each s.principal low)
 
-    own_whole : IsWhole texts x.signed.plan.user x.signed.handle
-    own_whole =
-        let same : m.own.principal ≡ x.signed.plan.user = own_is ∙ sym user ∙ sym (ap (λ p. p.user) plan) in
-        subst (λ (h : Handle). IsWhole texts x.signed.plan.user h) (sym m.handle_is) (subst (λ (p : Principal). IsWhole texts p m.own.handle) same (stored_whole m.own (inl refl) low_own m.own_in))
+    -- what holds of each part that is stored, and of each handle that was named before, holds of each that is named now
+    module _ (P : Principal → Handle → Type 0) (stored : (s : Stored) → In s (m.own ∷ m.raised) → ((t : Bytes) → In t s.texts → In t texts) → P s.principal s.handle) (named : (z : Signed Structure) → In z x.lists.structures → EachHandle P z.value) where
+      own_by : P x.signed.plan.user x.signed.handle
+      own_by =
+          let same : m.own.principal ≡ x.signed.plan.user = own_is ∙ sym user ∙ sym (ap (λ p. p.user) plan) in
+          subst (λ (h : Handle). P x.signed.plan.user h) (sym m.handle_is) (subst (λ (q : Principal). P q m.own.handle) same (stored m.own (inl refl) m.own_in))
 
-    abbrev IsWholeRecord : GroupRecord → Type 0
-    IsWholeRecord r = IsWhole texts r.group r.handle
+      abbrev OfRecord : GroupRecord → Type 0
+      OfRecord r = P r.group r.handle
 
-    new_records : All IsWholeRecord known.records
-    new_records =
-        subst (All IsWholeRecord) (sym m.records_are)
-        (to_all IsWholeRecord (map (record_over x.lists.own.plan) m.raised)
-        (λ r i. (
-        let (s, j, same) = in-map (record_over x.lists.own.plan) m.raised r i in
-        subst IsWholeRecord (sym same) (stored_whole s (inr j) (low_raised s j) (m.raised_in s j)))))
+      new_records : All OfRecord known.records
+      new_records =
+          subst (All OfRecord) (sym m.records_are)
+          (to_all OfRecord (map (record_over x.lists.own.plan) m.raised)
+          (λ r i. (
+          let (s, j, same) = in-map (record_over x.lists.own.plan) m.raised r i in
+          subst OfRecord (sym same) (stored s (inr j) (m.raised_in s j)))))
 
-    old_records : All IsWholeRecord (groups_of known.last)
-    old_records = go known.last (structure_of (user_of x) x.lists) refl known.last_is
-      where
-        go : (last : Option (Signed Structure)) (o : Option (Signed Structure)) → structure_of (user_of x) x.lists ≡ o → option_map value_of o ≡ option_map value_of last → All IsWholeRecord (groups_of last)
-        go None o found same = All-nil IsWholeRecord
-        go (Some l) None found same = absurd (cc same)
-        go (Some l) (Some z) found same =
-            let f = found_in (λ (y : Signed Structure). y.value.plan.user == user_of x) x.lists.structures z found in
-            let value : z.value ≡ l.value = cc same in
-            subst (λ (s : Structure). All IsWholeRecord s.groups) value (each z f.0).groups
+      old_records : All OfRecord (groups_of known.last)
+      old_records = go known.last (structure_of (user_of x) x.lists) refl known.last_is
+        where
+          go : (last : Option (Signed Structure)) (o : Option (Signed Structure)) → structure_of (user_of x) x.lists ≡ o → option_map value_of o ≡ option_map value_of last → All OfRecord (groups_of last)
+          go None o found same = All-nil OfRecord
+          go (Some l) None found same = absurd (cc same)
+          go (Some l) (Some z) found same =
+              let f = found_in (λ (y : Signed Structure). y.value.plan.user == user_of x) x.lists.structures z found in
+              let value : z.value ≡ l.value = cc same in
+              subst (λ (s : Structure). All OfRecord s.groups) value (named z f.0).groups
+
+      pub names_by : EachHandle P x.signed
+      names_by = record {
+        own = own_by;
+        groups = subst (All OfRecord) (sym known.groups_are) (with_all OfRecord (groups_of known.last) known.records old_records new_records);
+      }
 
     pub names_whole : NamesWhole texts x.signed
-    names_whole = record {
-      own = own_whole;
-      groups = subst (All IsWholeRecord) (sym known.groups_are) (with_all IsWholeRecord (groups_of known.last) known.records old_records new_records);
-    }
+    names_whole =
+        let is = names_by (IsWhole texts) (λ s i into. stored_whole s i (low_all s i) into) (λ z i. each_handle z.value (each z i)) in
+        record { own = is.own; groups = is.groups }
 
   -- what is known of a view that is accepted after those whose structures are whole
   pub record IsPlain (x : View) : Type 0 where

@@ -1,5 +1,6 @@
 -- Blocks that are among texts no two of which have one digest: what they tell is told by all of these texts.
 use Rattle.std.proofs.Common.{◌≡◌, Bool, true, false, ◌==◌, List, [], ◌∷◌, ◌++◌, find, Option, Some, None, refl, sym, ap, ◌∙◌, subst, inl, inr, if◌then◌else◌}
+use Rattle.std.specs.Prelude.{MatchBool}
 use Rattle.std.specs.Option.{option_and_then, option_map}
 use Rattle.std.specs.Result.{result_ok}
 use Rattle.std.specs.Str.{bytes_eq}
@@ -18,8 +19,12 @@ use Rattle.update_cert.specs.World.{Content, File, Directory, Principals}
 use Rattle.update_cert.specs.Reading.{Reading}
 use Rattle.tree_parts.specs.Blocks.{Agrees, Blocks, IsHeld, IsOf, chunk_held, if_of_size, inode_at, inode_told, joined, root_at, told_by, told_under}
 use Rattle.client_tree.specs.Held.{Block, held, keeping, keeping_all}
+use Rattle.checked_blocks.specs.CheckedBlocks.{CheckedBlocks, Keeps, KnowsPart, LetsGo, TakesUp, holding as with_held, known_blocks}
+use Rattle.checked_blocks.proofs.BlockLaws.{with_new as known_new, with_none as known_none, with_old as known_old}
+use Rattle.client_verify.specs.State.{State}
+use Rattle.client_verify.specs.Holding.{HoldsMeanwhile, LaysOut, is_under_way}
 use Rattle.client_tree.proofs.HeldLaws.{with_new, with_none, with_old}
-use Rattle.agreement.proofs.Members.{In, in_contains}
+use Rattle.agreement.proofs.Members.{In, contains_in, in_contains}
 
 -- the text of a digest among these
 abbrev pub of_texts : List Bytes → Blocks
@@ -72,8 +77,8 @@ pub among_none : (texts : List Bytes) → AreAmong texts (held [])
 unfolding held
 among_none texts digest text is = absurd (cc is)
 
-pub among_kept : (texts : List Bytes) (blocks : List Block) (text : Bytes) → In text texts → AreAmong texts (held blocks) → AreAmong texts (held (keeping blocks text))
-among_kept texts blocks text inside among d x is = go (held blocks d) refl
+pub among_listed : (texts : List Bytes) (blocks : List Block) (text : Bytes) → In text texts → AreAmong texts (held blocks) → AreAmong texts (held (keeping blocks text))
+among_listed texts blocks text inside among d x is = go (held blocks d) refl
   where
     fresh : held blocks d ≡ None → (b : Bool) → bytes_eq d (hash text) ≡ b → In x texts × (hash x ≡ d)
     fresh none true same =
@@ -94,7 +99,68 @@ among_kept texts blocks text inside among d x is = go (held blocks d) refl
 pub among_all_kept : (texts : List Bytes) (blocks : List Block) (more : List Bytes) → ((t : Bytes) → In t more → In t texts) → AreAmong texts (held blocks) → AreAmong texts (held (keeping_all blocks more))
 unfolding keeping_all
 among_all_kept texts blocks [] inside among = among
-among_all_kept texts blocks (t ∷ ts) inside among = among_all_kept texts (keeping blocks t) ts (λ x i. inside x (inr i)) (among_kept texts blocks t (inside t (inl refl)) among)
+among_all_kept texts blocks (t ∷ ts) inside among = among_all_kept texts (keeping blocks t) ts (λ x i. inside x (inr i)) (among_listed texts blocks t (inside t (inl refl)) among)
+
+within_kept : (blocks : List Block) (text : Bytes) → AreWithin (held blocks) (held (keeping blocks text))
+within_kept blocks text d x is = sym (with_old blocks text d x is)
+
+pub within_all_kept : (blocks : List Block) (more : List Bytes) → AreWithin (held blocks) (held (keeping_all blocks more))
+unfolding keeping_all
+within_all_kept blocks [] d x is = is
+within_all_kept blocks (t ∷ ts) d x is = within_all_kept (keeping blocks t) ts d x (within_kept blocks t d x is)
+
+-- ---- what is known of checked blocks
+
+-- where each text was known before
+pub among_part : (texts : List Bytes) (old new : CheckedBlocks) → AreAmong texts (known_blocks old) → KnowsPart old new → AreAmong texts (known_blocks new)
+among_part texts old new among part d x is = among d x (part d x is)
+
+-- where the same is known
+pub among_same : (texts : List Bytes) (old new : CheckedBlocks) → AreAmong texts (known_blocks old) → known_blocks new ≡ known_blocks old → AreAmong texts (known_blocks new)
+among_same texts old new among same = subst (AreAmong texts) (sym same) among
+
+-- where a text is held
+pub among_kept : (texts : List Bytes) (blocks : CheckedBlocks) (text : Bytes) → In text texts → AreAmong texts (known_blocks blocks) → AreAmong texts (known_blocks (with_held blocks text))
+among_kept texts blocks text inside among d x is = go (known_blocks blocks d) refl
+  where
+    fresh : known_blocks blocks d ≡ None → (b : Bool) → bytes_eq d (hash text) ≡ b → In x texts × (hash x ≡ d)
+    fresh none true same =
+        let at : d ≡ hash text = (bytes_eq-Decides d (hash text)).0 same in
+        let one : Some text ≡ Some x = known_new blocks text d none at ∙ is in
+        let found : text ≡ x = cc one in
+        subst (λ (y : Bytes). In y texts × (hash y ≡ d)) found (inside, sym at)
+    fresh none false other =
+        let clash : None ≡ Some x = known_none blocks text d none (not_from_Decides _ (bytes_eq-Decides d (hash text)) other) ∙ is in
+        absurd (cc clash)
+
+    go : (o : Option Bytes) → known_blocks blocks d ≡ o → In x texts × (hash x ≡ d)
+    go (Some y) was =
+        let one : Some y ≡ Some x = known_old blocks text d y was ∙ is in
+        among d x (was ∙ one)
+    go None none = fresh none (bytes_eq d (hash text)) refl
+
+-- where texts are kept
+among_keeps : (texts : List Bytes) (old : CheckedBlocks) (more : List Bytes) (new : CheckedBlocks) → ((t : Bytes) → In t more → In t texts) → AreAmong texts (known_blocks old) → Keeps old more new → AreAmong texts (known_blocks new)
+among_keeps texts old more new inside among kept d x is = elim (kept.known d x is) [
+  | inl before ↦ among d x before
+  | inr laid ↦ (inside x (contains_in x more laid.0), laid.1)
+]
+
+-- where texts were laid out
+pub among_laid : (texts : List Bytes) (s : State) (more : List Bytes) (new : CheckedBlocks) → ((t : Bytes) → In t more → In t texts) → AreAmong texts (known_blocks s.blocks) → LaysOut s more new → AreAmong texts (known_blocks new)
+among_laid texts s more new inside among kept = go (is_under_way s) kept
+  where
+    go : (b : Bool) → MatchBool b (new ≡ s.blocks) (Keeps s.blocks more new) → AreAmong texts (known_blocks new)
+    go true same = among_same texts s.blocks new among (ap known_blocks same)
+    go false kept = among_keeps texts s.blocks more new inside among kept
+
+-- after an answer, while something is under way and once nothing is
+pub among_after : (texts : List Bytes) (blocks : CheckedBlocks) (new : State) → AreAmong texts (known_blocks blocks) → HoldsMeanwhile blocks new → AreAmong texts (known_blocks new.blocks)
+among_after texts blocks new among h = go (is_under_way new) h
+  where
+    go : (b : Bool) → MatchBool b (TakesUp blocks new.blocks) (LetsGo blocks new.blocks) → AreAmong texts (known_blocks new.blocks)
+    go true taken = among_same texts blocks new.blocks among taken.known
+    go false gone = among_part texts blocks new.blocks among gone.known
 
 -- ---- what they tell
 
@@ -109,13 +175,13 @@ module _ (some all : Blocks) (within : AreWithin some all) where
   pub inode_within : (digest : Digest) (n : Inode) → inode_at some digest ≡ Some n → inode_at all digest ≡ Some n
   inode_within digest n is = then_within (λ text. result_ok (whole inode text)) digest n is
 
-  root_within : (handle : Handle) (r : Root) → root_at some handle ≡ Some r → root_at all handle ≡ Some r
+  pub root_within : (handle : Handle) (r : Root) → root_at some handle ≡ Some r → root_at all handle ≡ Some r
   root_within handle r is = then_within (λ text. result_ok (whole root text)) handle r is
 
   chunk_within : (digest : Digest) (x : Chunk) → chunk_held some digest ≡ Some x → chunk_held all digest ≡ Some x
   chunk_within digest x is = then_within (λ text. result_ok (whole chunk text)) digest x is
 
-  joined_within : (ds : List Digest) (bytes : Bytes) → joined some ds ≡ Some bytes → joined all ds ≡ Some bytes
+  pub joined_within : (ds : List Digest) (bytes : Bytes) → joined some ds ≡ Some bytes → joined all ds ≡ Some bytes
   unfolding joined
   joined_within [] bytes is = is
   joined_within (d ∷ ds) bytes is = go (some d) (joined some ds) refl (joined_within ds) is

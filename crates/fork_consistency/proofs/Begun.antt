@@ -25,8 +25,9 @@ use Rattle.release_runs.proofs.Runs as low_runs
 use Rattle.release_runs.proofs.Stories.{OfCert, OfStructure, Release, cert_of, text as release_text}
 use Rattle.release_runs.proofs.Texts.{no_cert}
 use Rattle.release_runs.specs.Steps as low
-use Rattle.client_steps.specs.Steps.{Begins, Call, Client, Closed, Closes, Commits, Crashes, Gives, HasBegun, HasCommitted, HasSigned, Hears, IsHandedBack, IsLeft, IsOpened, IsRefused, IsSound, IsStep, Looks, Open, Opens, Owner, Parts, Signs, Takes, first}
-use Rattle.client_runs.specs.Released.{hashed_at, hashed_by, released, released_by}
+use Rattle.client_steps.specs.Steps.{Begins, Caches, Call, Client, Closed, Closes, Commits, Crashes, Gives, HasBegun, HasCommitted, HasSigned, Hears, IsHandedBack, IsLeft, IsOpened, IsRefused, IsSound, IsStep, Looks, Open, Opens, Owner, Parts, Signs, Takes, first}
+use Rattle.fork_consistency.proofs.BlocksOf.{are_hashed, blocks_at, blocks_by}
+use Rattle.client_runs.specs.Released.{hashed_at, released, released_by}
 use Rattle.client_runs.specs.Runs.{Event, IsRun, Keys, client_of, owner}
 use Rattle.client_runs.proofs.Lowering.{low_begin_failed, low_begun, low_client, low_left, low_opened, low_owner, low_parts, low_sign_failed, low_signed, with_ready}
 use Rattle.client_runs.proofs.Quiet.{gives, hears, looks, takes}
@@ -183,7 +184,7 @@ module _ (texts : List Bytes) where
         (low_holds.commits (low_owner o) (Unit {0}) (Unit {0}) h.story h.tried sent (λ t. t) (released_in_state s) (released_in_state new) h.low (record { signed = b.signed; state = ap released_in_state b.state }))
     commits s new other sent h b = same_as s new sent h b.state
 
-    step : (before : Client) (call : Call) (after : Client) (sent : List Bytes) → ((t : Bytes) → In t (hashed_by call) → In t texts) → IsSound before → Holds before sent → IsStep o before call after → IsSound after → After sent call after
+    step : (before : Client) (call : Call) (after : Client) (sent : List Bytes) → ((t : Bytes) → In t (blocks_by call) → In t texts) → IsSound before → Holds before sent → IsStep o before call after → IsSound after → After sent call after
     step (Closed p) (Opens (Ok x)) (Open s) sent into was h is sound = opens p s x sent h is sound
     step (Closed p) (Opens (Err e)) (Closed q) sent into was h is sound = refused p e q sent h is
     step (Closed p) Crashes (Closed q) sent into was h is sound = left (Closed p) sent q h is
@@ -209,6 +210,7 @@ module _ (texts : List Bytes) where
     step (Open s) (Commits st) (Open new) sent into was h is sound = commits s new st sent h is
     step (Open s) (Looks q answer) (Open new) sent into was h is sound = same_released s new sent h (ap (λ (k : Kept). k.0) (looks s q answer new is))
     step (Open s) (Gives block answer) (Open new) sent into was h is sound = same_released s new sent h (ap (λ (k : Kept). k.0) (gives s block answer new is))
+    step (Open s) (Caches capacity) (Open new) sent into was h is sound = same_released s new sent h (ap released_in_state is.state)
     step (Open s) call after sent into was h is sound = absurd is
 
   -- ---- runs
@@ -225,12 +227,12 @@ module _ (texts : List Bytes) where
         go true was = is.1
         go false was = was
 
-    begun_at : (run : List Event) → IsRun keys run → ((t : Bytes) → In t (flat_map hashed_at run) → In t texts) → Holds (owner keys u) (client_of u run) (released u run)
+    begun_at : (run : List Event) → IsRun keys run → ((t : Bytes) → In t (flat_map blocks_at run) → In t texts) → Holds (owner keys u) (client_of u run) (released u run)
     begun_at [] is into = at_first (owner keys u)
-    begun_at (e ∷ older) is into = go (e.user == u) refl (begun_at older is.2 (λ t i. into t (in-right t (hashed_at e) (flat_map hashed_at older) i)))
+    begun_at (e ∷ older) is into = go (e.user == u) refl (begun_at older is.2 (λ t i. into t (in-right t (blocks_at e) (flat_map blocks_at older) i)))
       where
-        here : (t : Bytes) → In t (hashed_by e.call) → In t texts
-        here t i = into t (in-left t (hashed_at e) (flat_map hashed_at older) (in-left t (hashed_by e.call) _ i))
+        here : (t : Bytes) → In t (blocks_by e.call) → In t texts
+        here t i = into t (in-left t (blocks_at e) (flat_map blocks_at older) i)
 
         go : (b : Bool) → (e.user == u) ≡ b → Holds (owner keys u) (client_of u older) (released u older) → Holds (owner keys u) (if b then e.after else client_of u older) (if b then released_by e.call e.after ++ released u older else released u older)
         go true same h =
@@ -239,8 +241,8 @@ module _ (texts : List Bytes) where
         go false same h = h
 
     -- each text that is a certificate
-    pub each_begun : (run : List Event) → IsRun keys run → ((t : Bytes) → In t (flat_map hashed_at run) → In t texts) → (a : Bytes) (s : Signed Cert) → In a (released u run) → cert_in u a ≡ Some s → IsBegun s.value
-    each_begun run is into a s i read =
+    pub begun_by_blocks : (run : List Event) → IsRun keys run → ((t : Bytes) → In t (flat_map blocks_at run) → In t texts) → (a : Bytes) (s : Signed Cert) → In a (released u run) → cert_in u a ≡ Some s → IsBegun s.value
+    begun_by_blocks run is into a s i read =
         let h = begun_at run is into in
         let (r, j, at) = h.low.released a i in
         go h r j (sym (ap (cert_in u) at) ∙ read)
@@ -252,3 +254,6 @@ module _ (texts : List Bytes) where
             let same : record { value = d; signature = signature_of own.seed own.id q (cert.spell d) } ≡ s = cc two in
             subst (λ (y : Signed Cert). IsBegun y.value) same (h.certs d q j)
         go h (OfStructure z q) j some = absurd (cc (sym (no_cert u z (signature_of own.seed own.id q (structure.spell z))) ∙ some))
+
+    pub each_begun : (run : List Event) → IsRun keys run → ((t : Bytes) → In t (flat_map hashed_at run) → In t texts) → (a : Bytes) (s : Signed Cert) → In a (released u run) → cert_in u a ≡ Some s → IsBegun s.value
+    each_begun run is into a s i read = begun_by_blocks run is (λ t j. into t (are_hashed run t j)) a s i read

@@ -20,7 +20,7 @@ use Rattle.release_runs.proofs.Holds as low_holds
 use Rattle.release_runs.proofs.Opening.{IsOf, opened_holds}
 use Rattle.release_runs.proofs.Releasing.{IsTriedCert, IsTriedStructure, declare_fails, declares, sign_fails, signs}
 use Rattle.release_runs.proofs.Stories.{OfCert, OfStructure, Release, last_in, phase_in, text_in}
-use Rattle.client_verify.specs.State.{Ready, State, declared, next_cert, next_structure, on, released, signed_over, signed_text}
+use Rattle.client_verify.specs.State.{Ready, State, declared, next_cert, next_structure, on, over as over_blocks, released, signed_over, signed_text}
 use Rattle.client_steps.specs.Steps.{Begins, Call, Client, Closed, Commits, HasBegun, HasCommitted, HasSigned, IsOpened, IsSound, Open, Opens, Owner, Parts, Signs}
 use Rattle.client_runs.specs.Runs.{Event}
 use Rattle.client_runs.specs.Released.{accepted_by, in_hand, released_by, tried_by, view_over, where_signed}
@@ -276,7 +276,7 @@ module _ (o : Owner) where
 
         pub signs_ok : (text : Bytes) → HasSigned s (Ok text) new → HoldsAfter older (Open s) texts signed view (Signs (Ok text)) (Open new)
         signs_ok text b =
-            let done = if_ready s new y ready (λ r. (leaf : LeafNumber) × IsKept leaf (structure_record (signed_text s leaf r)) s.devices new.devices × (new ≡ on new.devices (signed_over s leaf r))) b.signed in
+            let done = if_ready s new y ready (λ r. (leaf : LeafNumber) × IsKept leaf (structure_record (signed_text s leaf r)) s.devices new.devices × (new ≡ over_blocks new.blocks (on new.devices (signed_over s leaf r)))) b.signed in
             let is = done.2 in
             let k = signs (low_owner o) (Unit {0}) h.story h.tried texts (released s) h.low (next_structure s y) (released new) text (low_signed s new y ready text h.own.always b) in
             record {

@@ -23,12 +23,12 @@ use Rattle.client_verify.specs.declared.step.Step.TheVariants.{Need, Store, Brok
 use Rattle.client_verify.specs.declared.view.Looking.{Looking}
 use Rattle.reply_check.specs.FirstBroken.{reply_in, view_over}
 use Rattle.reply_check.specs.Good.{Good}
-use Rattle.client_verify.specs.State.{AcceptedView, Checked, Reading, Ready, State, Writing, committed, holding, on, signed_over, signed_structure, signed_text}
+use Rattle.client_verify.specs.State.{AcceptedView, Checked, Reading, Ready, State, Writing, committed, holding, on, over as over_blocks, signed_over, signed_structure, signed_text}
 use Rattle.client_verify.specs.Judged.{AsksOrAccepts, GoesOn, Handed, Judged, Taken}
 use Rattle.client_verify.specs.Looked.{Given, Looked}
 use Rattle.agreement.specs.Runs.{View, user_of}
 use Rattle.agreement.proofs.Members.{In, in-right}
-use Rattle.client_steps.specs.Steps.{Asks, Begins, Call, Client, Closed, Closes, Commits, Crashes, Gives, HasBegun, HasGiven, HasHeard, HasLooked, HasSigned, HasTaken, Hears, IsStep, Looks, Open, Opens, Owner, Sees, Signs, Takes}
+use Rattle.client_steps.specs.Steps.{Asks, Begins, Caches, Call, Client, Closed, Closes, Commits, Crashes, Gives, HasBegun, HasCached, HasGiven, HasHeard, HasLooked, HasSigned, HasTaken, Hears, IsStep, Looks, Open, Opens, Owner, Sees, Signs, Takes}
 use Rattle.client_runs.specs.Released.{accepted_by, hashed_at, tried_view, view_over as over, views}
 use Rattle.client_runs.specs.Runs.{Event, IsRun, Keys, client_of, owner, public_key}
 use Rattle.fork_consistency.proofs.Among.{agrees_within, are_within}
@@ -181,6 +181,9 @@ module _ (s new : State) where
       go None at some h = absurd some
       go (Some v) at some h = looking v at v.looking some h
 
+  caches : (capacity : ℕ) → HasCached s capacity new → Keeps s.view new.view
+  caches capacity h = same (ap (λ (n : State). n.view) h.state)
+
 -- ---- the view that was accepted last
 
 module _ (texts : List Bytes) (apart : NoneCollide texts texts) (key : Key) where
@@ -215,7 +218,7 @@ module _ (texts : List Bytes) (apart : NoneCollide texts texts) (key : Key) wher
       go (Some w) (Some v) keeps has = moved v w keeps last has
 
   -- a view that is signed over
-  signed_view : (s new : State) (y : Ready) (leaf : LeafNumber) → new ≡ on new.devices (signed_over s leaf y) → IsReady texts apart key y → HasLastView (Some (over s y)) (Open new)
+  signed_view : (s new : State) (y : Ready) (leaf : LeafNumber) → new ≡ over_blocks new.blocks (on new.devices (signed_over s leaf y)) → IsReady texts apart key y → HasLastView (Some (over s y)) (Open new)
   signed_view s new y leaf is made =
       subst (λ (o : Option AcceptedView). IfSome o (λ v. IsSomeAnd (Some (over s y)) (IsOf v))) (sym (ap (λ (n : State). n.view) is))
       (record {
@@ -234,7 +237,7 @@ module _ (texts : List Bytes) (apart : NoneCollide texts texts) (key : Key) wher
   signs : (s new : State) (text : Bytes) (last : Option View) → HasSigned s (Ok text) new → KnowsClient texts apart key (Open s) → HasLastView (next (option_to_list (option_map (over s) s.accepted)) last) (Open new)
   signs s new text last h knows = go s.accepted h.ready h.signed knows.accepted
     where
-      go : (o : Option Ready) → IsSome o → IfSome o (λ r. (leaf : LeafNumber) × IsKept leaf (structure_record (signed_text s leaf r)) s.devices new.devices × (new ≡ on new.devices (signed_over s leaf r))) → IfSome o (IsReady texts apart key)
+      go : (o : Option Ready) → IsSome o → IfSome o (λ r. (leaf : LeafNumber) × IsKept leaf (structure_record (signed_text s leaf r)) s.devices new.devices × (new ≡ over_blocks new.blocks (on new.devices (signed_over s leaf r)))) → IfSome o (IsReady texts apart key)
           → HasLastView (next (option_to_list (option_map (over s) o)) last) (Open new)
       go None some h made = absurd (cc some)
       go (Some y) some h made = signed_view s new y h.0 h.2 made
@@ -255,6 +258,7 @@ module _ (texts : List Bytes) (apart : NoneCollide texts texts) (key : Key) wher
   step o (Open s) (Commits st) (Open new) tried last is knows has = kept last s new (commits s new st is.state) has
   step o (Open s) (Looks q answer) (Open new) tried last is knows has = kept last s new (looks s new q answer is) has
   step o (Open s) (Gives block answer) (Open new) tried last is knows has = kept last s new (gives s new block answer is) has
+  step o (Open s) (Caches capacity) (Open new) tried last is knows has = kept last s new (caches s new capacity is) has
   step o (Open s) call after tried last is knows has = absurd is
 
   found_other : (u w : User) (xs ys : List View) → ((x : View) → In x xs → user_of x ≡ w) → (w == u) ≡ false → find (λ x. user_of x == u) (xs ++ ys) ≡ find (λ x. user_of x == u) ys

@@ -6,7 +6,7 @@ mod Views
 pub mod Among
 mod Listings
 pub mod ScriptKeys
-mod Lists
+pub mod Lists
 mod Chunks
 pub mod TableTexts
 mod Whole
@@ -16,6 +16,7 @@ mod SignedTable
 mod HonestViews
 mod Contents
 mod Certificates
+pub mod BlocksOf
 pub mod Origins
 pub mod Tables
 pub mod ByCertificates
@@ -24,7 +25,7 @@ mod Agreed
 mod AllWhole
 mod AllHonest
 mod RunWorlds
-mod LastViews
+pub mod LastViews
 mod Shown
 mod Begun
 mod OneWorld
@@ -33,3 +34,10 @@ pub mod Consistent
 mod OwnChanges
 mod OwnParts
 mod Signed
+pub mod Served
+mod Slots
+pub mod Backed
+mod LaidOut
+mod Filled
+pub mod AllFilled
+pub mod Serving

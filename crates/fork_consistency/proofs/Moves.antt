@@ -17,7 +17,7 @@ use Rattle.release_runs.proofs.Holds as low_holds
 use Rattle.release_runs.proofs.Runs as low_runs
 use Rattle.client_verify.specs.State.{Checked, State, released}
 use Rattle.client_verify.specs.Judged.{Handed}
-use Rattle.client_steps.specs.Steps.{Asks, Begins, Call, Client, Closed, Closes, Commits, Crashes, Gives, HasHeard, HasTaken, Hears, IsHandedBack, IsLeft, IsRefused, IsSound, IsStep, Looks, Open, Opens, Owner, Parts, Signs, Takes, first}
+use Rattle.client_steps.specs.Steps.{Asks, Begins, Caches, Call, Client, Closed, Closes, Commits, Crashes, Gives, HasHeard, HasTaken, Hears, IsHandedBack, IsLeft, IsRefused, IsSound, IsStep, Looks, Open, Opens, Owner, Parts, Signs, Takes, first}
 use Rattle.client_runs.specs.Runs.{Event, IsRun, Keys, client_of, owner}
 use Rattle.client_runs.specs.Released.{accepted_by, released as released_in, released_by, reply_texts, shown_in, stored_texts, tried_by, tried_view}
 use Rattle.fork_consistency.proofs.Holds.{Holds, HoldsAfter, begin_fails, begins, closes, commits, event, later, opens, sign_fails_here, signed_in, signs_ok, stays}
@@ -123,6 +123,7 @@ module _ (o : Owner) where
     step (Open s) (Commits status) (Open new) h is sound = commits o older texts signed view s h new sound status is
     step (Open s) (Looks q answer) (Open new) h is sound = sees older texts signed view s h new sound (event o (Looks q answer) (Open new)) (looks s q answer new is)
     step (Open s) (Gives block answer) (Open new) h is sound = sees older texts signed view s h new sound (event o (Gives block answer) (Open new)) (gives s block answer new is)
+    step (Open s) (Caches capacity) (Open new) h is sound = sees older texts signed view s h new sound (event o (Caches capacity) (Open new)) (ap (λ (n : State). (released n, n.pinned, n.checked, n.accepted)) is.state)
     step (Open s) call after h is sound = absurd is
 
 -- ---- runs

@@ -16,6 +16,7 @@ use Rattle.tree_parts.specs.Blocks.{Agrees}
 use Rattle.pending_list.specs.declared.signed.Signed.{Signed}
 use Rattle.pending_list.specs.Reply.{PendingItem}
 use Rattle.client_releases.specs.Told.{cert_in}
+use Rattle.checked_blocks.specs.CheckedBlocks.{at_first}
 use Rattle.client_tree.specs.Genesis.{first_blocks, first_texts, inode_digest, root_inode}
 use Rattle.client_verify.specs.Laid.{are_laid, is_file_laid, is_laid}
 use Rattle.client_verify.proofs.GenesisLaws.{has_genesis}
@@ -99,7 +100,7 @@ module _ (keys : Keys) (run : List Event) (is : IsRun keys run) (apart : NoColli
   root_of : (reads : Reading) → IsReadingOf keys run reads → reads.content (inode_digest root_inode) ≡ Directory []
   root_of reads agrees =
       let same : Some (reads.content (inode_digest root_inode)) ≡ Some (Directory []) =
-      has_genesis key (first_blocks key) refl (apart_first texts apart key pinned inside reads agrees) reads (first_agrees texts apart key pinned inside reads agrees) 0 2 refl in
+      has_genesis key (at_first (first_blocks key)) refl (apart_first texts apart key pinned inside reads agrees) reads (first_agrees texts apart key pinned inside reads agrees) 0 2 refl in
       cc same
 
   -- readings give one world to certificates that were begun

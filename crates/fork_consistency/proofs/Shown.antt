@@ -12,7 +12,7 @@ use Rattle.update_cert.specs.Reading.{Reading}
 use Rattle.update_cert.specs.World.{Content, File, Tree, is_table}
 use Rattle.tree_parts.specs.Blocks.{Agrees, Blocks}
 use Rattle.client_tree.specs.Genesis.{first_texts}
-use Rattle.client_tree.specs.Held.{held}
+use Rattle.checked_blocks.specs.CheckedBlocks.{known_blocks}
 use Rattle.client_tree.specs.Questions.{IsKindOf, IsLeastFree}
 use Rattle.client_tree.specs.View.{shown, tree, lost as lost_of}
 use Rattle.client_tree.specs.View as tree_spec
@@ -99,15 +99,15 @@ module _ (keys : Keys) (run : List Event) (is : IsRun keys run) (apart : NoColli
   first_in t i = in-right t (flat_map hashed_at run) (first_texts key) i
 
   module _ (v : AcceptedView) (x : View) (of : IsOf texts apart key v x) where
-    looked_true : (s : State) → s.pinned ≡ key → AreAmong texts (held s.blocks) → (q : Question) (answer : Sees) (new : State) → Looked s v q answer new → IsTrueInView reads key x q answer
+    looked_true : (s : State) → s.pinned ≡ key → AreAmong texts (known_blocks s.blocks) → (q : Question) (answer : Sees) (new : State) → Looked s v q answer new → IsTrueInView reads key x q answer
     looked_true s pinned among q answer new h users is_users = go answer h
       where
-        told : (a : Sees) → Answers (held s.blocks) (view_over s.pinned v.table v.lists) q a → IsTrueOf (shown reads users (view_in key x)) q a
+        told : (a : Sees) → Answers (known_blocks s.blocks) (view_over s.pinned v.table v.lists) q a → IsTrueOf (shown reads users (view_in key x)) q a
         told a answers =
             let same : view_over s.pinned v.table v.lists ≡ view_in key x =
             ap (λ (k : Key). view_over k v.table v.lists) pinned ∙ ap (λ (t : Table). view_over key t v.lists) of.table ∙ ap (view_over key x.table) of.lists in
-            answers_true (held s.blocks) (view_in key x) reads (agrees_within (held s.blocks) (told_by_texts texts) (are_within texts apart (held s.blocks) among) reads agrees) users q a
-            (subst (λ (y : tree_spec.View). Answers (held s.blocks) y q a) same answers)
+            answers_true (known_blocks s.blocks) (view_in key x) reads (agrees_within (known_blocks s.blocks) (told_by_texts texts) (are_within texts apart (known_blocks s.blocks) among) reads agrees) users q a
+            (subst (λ (y : tree_spec.View). Answers (known_blocks s.blocks) y q a) same answers)
 
         go : (a : Sees) → Looked s v q a new → IsTrueOf (shown reads users (view_in key x)) q a
         go (look.Need digest) h = needs_true (shown reads users (view_in key x)) q digest
@@ -118,11 +118,11 @@ module _ (keys : Keys) (run : List Event) (is : IsRun keys run) (apart : NoColli
         go (look.Free found) h = told (look.Free found) h.1
         go (look.Broken rule) h = absurd h
 
-    block_true : (s : State) → s.pinned ≡ key → AreAmong texts (held s.blocks) → (q : Question) (block : Option Bytes) (answer : Sees) (new : State) → IfSome block (λ t. In t texts) → IsSomeAnd block (λ text. Looked (holding s text) v q answer new) → IsTrueInView reads key x q answer
+    block_true : (s : State) → s.pinned ≡ key → AreAmong texts (known_blocks s.blocks) → (q : Question) (block : Option Bytes) (answer : Sees) (new : State) → IfSome block (λ t. In t texts) → IsSomeAnd block (λ text. Looked (holding s text) v q answer new) → IsTrueInView reads key x q answer
     block_true s pinned among q None answer new into h = absurd h
     block_true s pinned among q (Some text) answer new into h = looked_true (holding s text) pinned (among_kept texts s.blocks text into among) q answer new h
 
-    given_true : (s : State) → s.pinned ≡ key → AreAmong texts (held s.blocks) → (l : Looking) (block : Option Bytes) (answer : Sees) (new : State) → IfSome block (λ t. In t texts) → Given s v l block answer new → IsTrueInView reads key x l.question answer
+    given_true : (s : State) → s.pinned ≡ key → AreAmong texts (known_blocks s.blocks) → (l : Looking) (block : Option Bytes) (answer : Sees) (new : State) → IfSome block (λ t. In t texts) → Given s v l block answer new → IsTrueInView reads key x l.question answer
     given_true s pinned among l block (look.Need digest) new into h = block_true s pinned among l.question block (look.Need digest) new into h.1
     given_true s pinned among l block (look.File bytes) new into h = block_true s pinned among l.question block (look.File bytes) new into h.1
     given_true s pinned among l block (look.Dir entries) new into h = block_true s pinned among l.question block (look.Dir entries) new into h.1

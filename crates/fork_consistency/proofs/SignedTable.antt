@@ -65,7 +65,7 @@ module _ (texts : List Bytes) (apart : NoneCollide texts texts) where
         let users = principals_texts blocks before s.principal x.table in
         inside t (subst (λ (ts : List Bytes). In t ts) (sym st.stored) (in-left t (changed ++ users) (new_texts before st.table) (in-right t changed users i)))
 
-    file_in : (t : Bytes) → In t (file_of_principals x.table) → In t texts
+    pub file_in : (t : Bytes) → In t (file_of_principals x.table) → In t texts
     file_in t i = go (has_principals blocks before x.table) refl
       where
         go : (b : Bool) → has_principals blocks before x.table ≡ b → In t texts

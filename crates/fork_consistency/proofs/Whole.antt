@@ -116,7 +116,7 @@ module _ (texts : List Bytes) where
     held_text : (text : Bytes) → Contains texts text → told_by_texts texts (hash text) ≡ Some text
     held_text text has = all_held texts apart text (contains_in text texts has)
 
-    top_at : (t : ITable) → IsTable t → Contains texts (root_text t) → root_at (told_by_texts texts) (table_handle t) ≡ Some (root_of t)
+    pub top_at : (t : ITable) → IsTable t → Contains texts (root_text t) → root_at (told_by_texts texts) (table_handle t) ≡ Some (root_of t)
     top_at t is has = ap (option_and_then (λ text. result_ok (whole root text))) (held_text (root_text t) has) ∙ ap result_ok (root_reads t is)
 
     under : (t : ITable) (p i : ℕ) → IsTable t → t.principal ≡ p → Contains texts (root_text t) → inode_told (told_by_texts texts) p (table_handle t) i ≡ told_by (told_by_texts texts) i (chunk_at (root_of t) (chunk_number i))
@@ -150,7 +150,7 @@ module _ (texts : List Bytes) where
         go (inr far) = ap (told_by (told_by_texts texts) i) (none_far t is n far) ∙ ap (λ (d : Option Digest). Some d) (sym (digest_far t i is far))
 
     module _ (p : Principal) (h : Handle) (w : IsWhole texts p h) where
-      named_under : (i : ℕ) → inode_told (told_by_texts texts) p h i ≡ told_by (told_by_texts texts) i (chunk_at (root_of w.table) (chunk_number i))
+      pub named_under : (i : ℕ) → inode_told (told_by_texts texts) p h i ≡ told_by (told_by_texts texts) i (chunk_at (root_of w.table) (chunk_number i))
       named_under i = ap (λ (x : Handle). inode_told (told_by_texts texts) p x i) w.named ∙ under w.table p i w.is_table w.principal w.root
 
       -- what a listed chunk tells

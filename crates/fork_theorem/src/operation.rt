@@ -63,8 +63,8 @@ pub(crate) fn begin<R: Wait, L: Device, J: Device, A: Allocator + Copy>(
     }
 }
 
-/// Hands a reply in, and each block that it asks for: what the client comes to in the end. Each block that is taken is
-/// one more that is held, so that the bound is never met.
+/// Hands a reply in, and each block that it asks for: what the client comes to in the end. By each that is taken where
+/// another is asked for more are held, so that the bound is never met.
 fn judged<R: Wait, L: Device, J: Device, A: Allocator + Copy>(
     blocks: &StoredBlocks<'_, R, A>,
     client: &mut Client<L, J, A>,

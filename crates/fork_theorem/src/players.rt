@@ -2,6 +2,7 @@
 
 ghost use Rattle.std.specs.Prelude.{◌≡◌, ◌<◌, IfOk, IfSome, length, vec_len};
 
+use checked_blocks::MOST_CACHED;
 use client_verify::{Client, Parts, Phase};
 use layout::{Memory, User, let_go};
 use leaf_ledger::MemoryDevice;
@@ -17,11 +18,12 @@ pub(crate) struct Player<A: Allocator + Copy> {
     pub(crate) last: Vec<u8, A>,
 }
 
-/// The clients that were named so far.
+/// The clients that were named so far, and how many blocks the cache of each may have.
 #[derive(Drop)]
 pub(crate) struct Players<A: Allocator + Copy> {
     alloc: A,
     pinned: PublicKey,
+    capacity: usize,
     pub(crate) list: Vec<Player<A>, A>,
 }
 
@@ -43,12 +45,14 @@ fn crashed<A: Allocator + Copy>(
     }
 }
 
-/// A client of a user over these devices, whose last signed structure this is. A device in memory fails by want of
-/// memory alone, and what stands on these is the user's own: so nothing else refuses it.
+/// A client of a user over these devices, whose last signed structure this is, with a cache for so many blocks, 1 to
+/// 4,096. A device in memory fails by want of memory alone, and what stands on these is the user's own: so nothing else
+/// refuses it.
 fn open<A: Allocator + Copy>(
     alloc: A,
     user: User,
     pinned: PublicKey,
+    capacity: usize,
     parts: Parts<MemoryDevice<A>, MemoryDevice<A>, A>,
     last: Vec<u8, A>,
 ) -> Result<Player<A>, Memory> {
@@ -59,11 +63,14 @@ fn open<A: Allocator + Copy>(
     } = parts;
     let public = key.public();
     match Client::open(alloc, user, key, pinned, ledger, journal) {
-        Ok(client) => Ok(Player {
-            client,
-            key: public,
-            last,
-        }),
+        Ok(mut client) => {
+            client.cache(capacity.clamp(1, MOST_CACHED));
+            Ok(Player {
+                client,
+                key: public,
+                last,
+            })
+        }
         Err((_, parts)) => {
             let_go(parts);
             Err(Memory)
@@ -77,6 +84,7 @@ fn first_open<A: Allocator + Copy>(
     user: User,
     key: PrivateKey<A>,
     pinned: PublicKey,
+    capacity: usize,
 ) -> Result<Player<A>, Memory> {
     let ledger = MemoryDevice::new(alloc, Vec::new(alloc))?;
     let journal = MemoryDevice::new(alloc, Vec::new(alloc))?;
@@ -85,7 +93,7 @@ fn first_open<A: Allocator + Copy>(
         ledger,
         journal,
     };
-    open(alloc, user, pinned, parts, Vec::new(alloc))
+    open(alloc, user, pinned, capacity, parts, Vec::new(alloc))
 }
 
 /// Where the client of a user stands in the list, if it was named.
@@ -101,16 +109,17 @@ fn named_at<A: Allocator + Copy>(list: &[Player<A>], user: User) -> Option<usize
 }
 
 impl<A: Allocator + Copy> Players<A> {
-    /// Client 0, whose key all clients know.
-    pub(crate) fn new(alloc: A) -> Result<Players<A>, Memory> {
+    /// Client 0, whose key all clients know. The cache of each client may have so many blocks.
+    pub(crate) fn new(alloc: A, capacity: usize) -> Result<Players<A>, Memory> {
         let key = first_key(alloc, User::superuser())?;
         let pinned = key.public();
-        let player = first_open(alloc, User::superuser(), key, pinned)?;
+        let player = first_open(alloc, User::superuser(), key, pinned, capacity)?;
         let mut list = Vec::new(alloc);
         list.push(player)?;
         Ok(Players {
             alloc,
             pinned,
+            capacity,
             list,
         })
     }
@@ -128,7 +137,7 @@ impl<A: Allocator + Copy> Players<A> {
             return Ok(place);
         }
         let key = first_key(self.alloc, user)?;
-        let player = first_open(self.alloc, user, key, self.pinned)?;
+        let player = first_open(self.alloc, user, key, self.pinned, self.capacity)?;
         self.list.push(player)?;
         Ok(self.list.len() - 1)
     }
@@ -154,7 +163,7 @@ impl<A: Allocator + Copy> Players<A> {
             ledger,
             journal,
         };
-        let player = open(self.alloc, user, self.pinned, parts, last)?;
+        let player = open(self.alloc, user, self.pinned, self.capacity, parts, last)?;
         let phase = player.client.phase();
         self.list.push(player)?;
         Ok(phase)

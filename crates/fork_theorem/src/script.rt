@@ -94,14 +94,16 @@ fn write_line<A: Allocator, W: Write>(
 }
 
 /// Runs the script that the reader gives, and writes a line for each command. Lines that are empty or begin with `#`
-/// are skipped. It waits for the lock of the stored blocks, which nobody else has.
+/// are skipped. The cache of each client may have so many blocks, at least 1 and at most 4,096: no line changes for it.
+/// It waits for the lock of the stored blocks, which nobody else has.
 pub fn play<R: Wait, A: Allocator + Copy, I: BufRead, O: Write>(
     rt: &R,
     alloc: A,
+    capacity: usize,
     reader: &mut I,
     writer: &mut O,
 ) -> Result<(), PlayError> {
-    let mut world = World::new(rt, alloc)?;
+    let mut world = World::new(rt, alloc, capacity)?;
     let played = play_in(alloc, &mut world, reader, writer);
     let_go(world);
     played

@@ -26,9 +26,10 @@ pub(crate) struct World<'a, R: Wait, A: Allocator + Copy> {
 }
 
 impl<'a, R: Wait, A: Allocator + Copy> World<'a, R, A> {
-    /// A server at the beginning, and client 0.
-    pub(crate) fn new(rt: &'a R, alloc: A) -> Result<World<'a, R, A>, Memory> {
-        let (blocks, players) = beside(StoredBlocks::new(rt, alloc)?, Players::new(alloc))?;
+    /// A server at the beginning, and client 0. The cache of each client may have so many blocks.
+    pub(crate) fn new(rt: &'a R, alloc: A, capacity: usize) -> Result<World<'a, R, A>, Memory> {
+        let blocks = StoredBlocks::new(rt, alloc)?;
+        let (blocks, players) = beside(blocks, Players::new(alloc, capacity))?;
         let servers = Servers::new(alloc, players.pinned());
         let ((blocks, players), servers) = beside((blocks, players), servers)?;
         Ok(World {

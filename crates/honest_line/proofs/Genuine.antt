@@ -73,13 +73,13 @@ module _ (keys : Keys) where
     some_shown (Err error.Memory) texts t i = absurd i
     some_shown (Err other) texts t i = i
 
-    reply_handed : (exchange : Option Exchange) → Sent exchange → IfSome exchange (IsAnswered key calls) → (text : Bytes) → IsSomeAnd exchange (λ x. x.answer ≡ record { status = status.Ok; payload = text }) → ShowsReleased key older text
+    pub reply_handed : (exchange : Option Exchange) → Sent exchange → IfSome exchange (IsAnswered key calls) → (text : Bytes) → IsSomeAnd exchange (λ x. x.answer ≡ record { status = status.Ok; payload = text }) → ShowsReleased key older text
     reply_handed None sent answered text handed = absurd handed
     reply_handed (Some x) sent answered text handed =
         let done : is_carried_out x.answer.status ≡ true = ap (λ (a : Answer). is_carried_out a.status) handed in
         answer_shows key older calls are x.call (of_client x.call.kind x.call.text sent) text (sym (answered.carried_out done) ∙ handed)
 
-    shown_here : (blocks : Blocks) (exchange : Option Exchange) → Sent exchange → IfSome exchange (IsAnswered key calls) → (call : ClientCall) → IsHandedIn (client_of u older) blocks exchange call
+    pub shown_here : (blocks : Blocks) (exchange : Option Exchange) → Sent exchange → IfSome exchange (IsAnswered key calls) → (call : ClientCall) → IsHandedIn (client_of u older) blocks exchange call
         → (t : Shown) → In t (shown_by call) → HasReleased t.user older t.text
     shown_here blocks exchange sent answered (Hears text answer) handed t i =
         reply_handed exchange sent answered text handed t (some_shown answer (option_map_or shown_in (reply_in text) []) t i)

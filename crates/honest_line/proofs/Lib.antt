@@ -11,5 +11,10 @@ pub mod OwnKeys
 pub mod Signing
 pub mod Stepping
 pub mod Simulated
+pub mod Put
+pub mod Blocks
 pub mod Promises
+pub mod GoingOn
 pub mod Line
+pub mod Next
+pub mod OneLine

@@ -9,7 +9,7 @@ use Rattle.principals.specs.Table.{Table, genesis}
 use Rattle.principals.specs.TableText.{table}
 use Rattle.tree_parts.specs.Blocks.{Blocks}
 use Rattle.client_tree.specs.Genesis.{first_handle}
-use Rattle.client_tree.specs.Held.{held, keeping}
+use Rattle.checked_blocks.specs.CheckedBlocks.{holding, known_blocks}
 use Rattle.client_tree.specs.Principals.{IsNamed, IsPending}
 use Rattle.client_tree.specs.View.{handle_in}
 use Rattle.reply_rules.specs.Lists.{Lists}
@@ -147,13 +147,13 @@ module _ (keys : Keys) (run : List Event) (is : IsRun keys run) (honest : SuperI
         (known_at keys texts honest.no_collision (first_in keys run is honest) u older is_older inside).0
 
     -- each block that a client holds is among the texts
-    pub held_among : AreAmong texts (held s.blocks)
+    pub held_among : AreAmong texts (known_blocks s.blocks)
     held_among = known.among
 
     -- so it is with one more that is handed in
-    pub keeping_among : (text : Bytes) → In text texts → AreAmong texts (held (keeping s.blocks text))
-    keeping_among text i = among_kept texts s.blocks text i held_among
+    pub holding_among : (text : Bytes) → In text texts → AreAmong texts (known_blocks (holding s.blocks text))
+    holding_among text i = among_kept texts s.blocks text i held_among
 
-    pub with_block_among : (block : Option Bytes) → ((t : Bytes) → In t (option_to_list block) → In t texts) → AreAmong texts (held (blocks_with s block))
+    pub with_block_among : (block : Option Bytes) → ((t : Bytes) → In t (option_to_list block) → In t texts) → AreAmong texts (known_blocks (blocks_with s block))
     with_block_among None here = held_among
-    with_block_among (Some text) here = keeping_among text (here text (inl refl))
+    with_block_among (Some text) here = holding_among text (here text (inl refl))

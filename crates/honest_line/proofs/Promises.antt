@@ -13,23 +13,24 @@ use Rattle.layout.specs.Types.{Bytes, Key, User}
 use Rattle.principals.specs.Table.{Table}
 use Rattle.tree_parts.specs.Blocks.{Blocks}
 use Rattle.pending_list.specs.declared.signed.Signed.{Signed}
+use Rattle.pending_list.specs.Signed.{signed}
 use Rattle.pending_list.specs.Reply.{Reply, reply}
 use Rattle.pending_list.specs.ReplyLaws.{lawful_reply}
 use Rattle.version_order.specs.Structure.{Structure}
-use Rattle.update_cert.specs.Cert.{Cert}
+use Rattle.update_cert.specs.Cert.{Cert, cert}
 use Rattle.reply_rules.specs.Lists.{Lists, lists_of}
 use Rattle.reply_rules.specs.Rules.{lists}
-use Rattle.reply_rules.specs.Broken.{least}
 use Rattle.reply_rules.specs.declared.rule.Rule.{Rule}
 use Rattle.reply_rules.specs.declared.rule.Rule.TheVariants as rule
 use Rattle.wire.specs.declared.kinds.Status.{Status}
 use Rattle.wire.specs.declared.kinds.Status.TheVariants as status
 use Rattle.client_tree.specs.Held.{Block, held}
+use Rattle.checked_blocks.specs.CheckedBlocks.{known_blocks}
 use Rattle.client_releases.specs.declared.phase.Phase.{Phase}
 use Rattle.client_releases.specs.declared.phase.Phase.TheVariants as phase
 use Rattle.client_verify.specs.declared.look.Look.TheVariants as look
 use Rattle.client_verify.specs.declared.step.Step.TheVariants as step
-use Rattle.reply_check.specs.AskedBlock.{block, block_breaks, content}
+use Rattle.reply_check.specs.AskedBlock.{block, block_breaks}
 use Rattle.reply_check.specs.declared.asked.Asked.{Asked}
 use Rattle.reply_check.specs.FirstBroken.{ByTable, IsFirstBroken, IsRead, Known, lists_break, lists_in, of_reply, reply_breaks}
 use Rattle.client_tree.specs.declared.questions.Question.{Question}
@@ -53,40 +54,34 @@ use Rattle.fork_consistency.proofs.Origins.{IsTold}
 use Rattle.fork_consistency.specs.Handles.{told_by_texts}
 use Rattle.honest_history.specs.Honest.{Naming}
 use Rattle.honest_history.specs.Served.{IsTableOf}
-use Rattle.honest_dialogues.specs.Dialogue.{Commits, Declared, MayMove, Move, Sealed, Stage, Updates, calls, stage_of, update_by}
+use Rattle.honest_dialogues.specs.Dialogue.{Commits, Declared, MayMove, Move, Sealed, Stage, Updates, calls, commit_by, stage_of, update_by, views as shown_views}
+use Rattle.honest_dialogues.specs.GoingOn.{events_of}
 use Rattle.honest_dialogues.specs.OneLine.{IsGoodAnswer, IsGoodCommit, IsGoodUpdate, known_to}
 use Rattle.honest_dialogues.proofs.Accepting.{one_table}
-use Rattle.honest_dialogues.proofs.Dialogues.{one_line}
+use Rattle.honest_dialogues.proofs.Dialogues.{in_step, one_line}
+use Rattle.honest_dialogues.proofs.Stages.{StandsAt}
 use Rattle.honest_runs.specs.HonestRuns.{Exchange, HonestEvent, IsAnswered, IsHandedIn, IsHonestRun, IsHonestStep, events, history, sent_by, stored}
 use Rattle.honest_runs.proofs.Events.{events_with, with_step}
-use Rattle.honest_line.specs.OneLine.{IsOnBlocks, IsUnbroken, MayAnswer}
+use Rattle.honest_line.specs.Answered.{AreAnswered, MayAnswer, is_at_limit, is_listed}
+use Rattle.honest_line.specs.GoingOn.{HasGoodReply}
+use Rattle.honest_line.specs.OneLine.{IsUnbroken}
+use Rattle.honest_line.proofs.Blocks.{AreRight, IsRight}
 use Rattle.honest_line.proofs.Follows.{Follows, in_phase_at, signed_cert, signed_structure}
 use Rattle.honest_line.proofs.Simulated.{Grounds, KeepsTo, Simulates, keeps_with, knows, own, placed_table, simulates, table_read, table_then, unbroken_then, update_is}
 
--- ---- rules on blocks
-
--- of rules on blocks the first broken one is such
-on_blocks : (a b : Bool) (first : Rule) → least ((rule.Block, a) ∷ (rule.Content, b) ∷ []) ≡ Some first → IsOnBlocks first
-on_blocks false b first is = let same : rule.Block ≡ first = (let two : Some rule.Block ≡ Some first = is in cc two) in subst IsOnBlocks same tt
-on_blocks true false first is = let same : rule.Content ≡ first = (let two : Some rule.Content ≡ Some first = is in cc two) in subst IsOnBlocks same tt
-on_blocks true true first is = absurd (let two : None ≡ Some first = is in cc two)
-
-of_block : (blocks : Blocks) (a : Asked) (handed : Option Bytes) (first : Rule) → block_breaks blocks a handed ≡ Some first → IsOnBlocks first
-of_block blocks a handed first is = on_blocks (block blocks a handed) (content blocks a handed) first is
-
 -- ---- statuses
 
-late : (kind : CallKind) (st : Status) → is_carried_out st ≡ false → MayAnswer kind st
-late kind status.Busy is = tt
-late kind status.Memory is = tt
-late kind status.Ok is = absurd (true≢false is)
-late kind status.Form is = absurd (true≢false is)
-late kind status.UnknownUser is = absurd (true≢false is)
-late kind status.BadSignature is = absurd (true≢false is)
-late kind status.WrongNumber is = absurd (true≢false is)
-late kind status.NotPending is = absurd (true≢false is)
-late kind status.TooLarge is = absurd (true≢false is)
-late kind status.Absent is = absurd (true≢false is)
+late : (pinned : Key) (sent : List ServerCall) (u : User) (x : ServerCall) (st : Status) → is_carried_out st ≡ false → MayAnswer pinned sent u x st
+late pinned sent u x status.Busy is = tt
+late pinned sent u x status.Memory is = tt
+late pinned sent u x status.Ok is = absurd (true≢false is)
+late pinned sent u x status.Form is = absurd (true≢false is)
+late pinned sent u x status.UnknownUser is = absurd (true≢false is)
+late pinned sent u x status.BadSignature is = absurd (true≢false is)
+late pinned sent u x status.WrongNumber is = absurd (true≢false is)
+late pinned sent u x status.NotPending is = absurd (true≢false is)
+late pinned sent u x status.TooLarge is = absurd (true≢false is)
+late pinned sent u x status.Absent is = absurd (true≢false is)
 
 -- ---- the lists of a reply
 
@@ -157,47 +152,56 @@ module _ (keys : Keys) (naming : Naming) (texts : List Bytes) (g : Grounds keys 
           let may : MayMove pk naming (calls s.moves) u stage Commits stage = subst (λ (b : Stage). MayMove pk naming (calls s.moves) u b Commits b) (sym at) refl in
           subst (λ (b : Stage). IsGoodAnswer pk naming (calls s.moves) u b Commits) at (one_line pk naming g.is_naming (m ∷ s.moves) (may, s.is)).answers.0
 
+      -- the certificate is the user's
+      user_then : (last : Option (Signed Structure)) (c : Signed Cert) (heard : Option Lists) → stage ≡ Declared last c heard → c.value.user ≡ u
+      user_then last c heard at = (subst (StandsAt pk naming (events_of pk s.moves) (shown_views s.moves) u) at ((in_step pk naming g.is_naming s.moves s.is).stands u)).next.user
+
       answer_is : (x : Exchange) → IsAnswered (pk 0) sent x → is_carried_out x.answer.status ≡ true → x.answer ≡ answer_of (pk 0) (calls s.moves) x.call
       answer_is x answered carried = answered.carried_out carried ∙ ap (λ (cs : List ServerCall). answer_of (pk 0) cs x.call) (sym s.calls_are)
 
-      update_status : (f : Phase) → t.phase ≡ f → (sent_text : Bytes) → certificate_in f t.text ≡ Some sent_text → MayAnswer Update (answer_of (pk 0) (calls s.moves) (update_of sent_text)).status
+      update_status : (f : Phase) → t.phase ≡ f → (sent_text : Bytes) → certificate_in f t.text ≡ Some sent_text → MayAnswer (pk 0) (calls s.moves) u (update_of sent_text) (answer_of (pk 0) (calls s.moves) (update_of sent_text)).status
       update_status phase.Declared at sent_text by =
           let d = in_phase_at keys naming u t stage phase.Declared at follows.own.in_phase in
           let same : t.text ≡ sent_text = (let two : Some t.text ≡ Some sent_text = by in cc two) in
-          let good = good_update t.last (signed_cert keys naming u d.0 d.1) d.2 d.3 in
-          subst (λ (b : Bytes). MayAnswer Update (answer_of (pk 0) (calls s.moves) (update_of b)).status) (sym d.4 ∙ same) (elim good.answered [
-            | inl ok ↦ subst (MayAnswer Update) (sym ok) tt
-            | inr (inl unknown) ↦ subst (MayAnswer Update) (sym unknown.0) tt
-            | inr (inr large) ↦ subst (MayAnswer Update) (sym large.0) tt
+          let c = signed_cert keys naming u d.0 d.1 in
+          let good = good_update t.last c d.2 d.3 in
+          let may = MayAnswer (pk 0) (calls s.moves) u (update_by c) in
+          subst (λ (b : Bytes). MayAnswer (pk 0) (calls s.moves) u (update_of b) (answer_of (pk 0) (calls s.moves) (update_of b)).status) (sym d.4 ∙ same) (elim good.answered [
+            | inl ok ↦ subst may (sym ok) tt
+            | inr (inl unknown) ↦ subst may (sym unknown.0) (refl, subst (λ (v : User). is_listed (pk 0) (calls s.moves) v ≡ false) (user_then t.last c d.2 d.3) unknown.1)
+            | inr (inr large) ↦ subst may (sym large.0) (refl, (c, refl, large.1))
           ])
       update_status phase.Idle at sent_text by = absurd (let two : None ≡ Some sent_text = by in cc two)
       update_status phase.Signed at sent_text by = absurd (let two : None ≡ Some sent_text = by in cc two)
       update_status phase.Failed at sent_text by = absurd (let two : None ≡ Some sent_text = by in cc two)
 
-      commit_status : (f : Phase) → t.phase ≡ f → (sent_text : Bytes) → structure_in f t.text ≡ Some sent_text → MayAnswer Commit (answer_of (pk 0) (calls s.moves) (commit_of sent_text)).status
+      commit_status : (f : Phase) → t.phase ≡ f → (sent_text : Bytes) → structure_in f t.text ≡ Some sent_text → MayAnswer (pk 0) (calls s.moves) u (commit_of sent_text) (answer_of (pk 0) (calls s.moves) (commit_of sent_text)).status
       commit_status phase.Signed at sent_text by =
           let d = in_phase_at keys naming u t stage phase.Signed at follows.own.in_phase in
           let same : t.text ≡ sent_text = (let two : Some t.text ≡ Some sent_text = by in cc two) in
-          subst (λ (b : Bytes). MayAnswer Commit (answer_of (pk 0) (calls s.moves) (commit_of b)).status) (sym d.4 ∙ same)
-          (subst (MayAnswer Commit) (sym (good_commit (signed_structure keys naming u d.0 d.1) d.2)) tt)
+          let z = signed_structure keys naming u d.0 d.1 in
+          subst (λ (b : Bytes). MayAnswer (pk 0) (calls s.moves) u (commit_of b) (answer_of (pk 0) (calls s.moves) (commit_of b)).status) (sym d.4 ∙ same)
+          (subst (MayAnswer (pk 0) (calls s.moves) u (commit_by z)) (sym (good_commit z d.2)) tt)
       commit_status phase.Idle at sent_text by = absurd (let two : None ≡ Some sent_text = by in cc two)
       commit_status phase.Declared at sent_text by = absurd (let two : None ≡ Some sent_text = by in cc two)
       commit_status phase.Failed at sent_text by = absurd (let two : None ≡ Some sent_text = by in cc two)
 
-    carried_status : (client : Client) → client_of u es ≡ client → (kind : CallKind) (sent_text : Bytes) → sent_by client kind ≡ Some sent_text → MayAnswer kind (answer_of (pk 0) (calls s.moves) (record { kind = kind; text = sent_text })).status
+    carried_status : (client : Client) → client_of u es ≡ client → (kind : CallKind) (sent_text : Bytes) → sent_by client kind ≡ Some sent_text
+        → MayAnswer (pk 0) (calls s.moves) u (record { kind = kind; text = sent_text }) (answer_of (pk 0) (calls s.moves) (record { kind = kind; text = sent_text })).status
     carried_status (Closed p) is Update sent_text by = absurd (let two : None ≡ Some sent_text = by in cc two)
     carried_status (Closed p) is Commit sent_text by = absurd (let two : None ≡ Some sent_text = by in cc two)
     carried_status (Open t) is Update sent_text by = update_status t is t.phase refl sent_text by
     carried_status (Open t) is Commit sent_text by = commit_status t is t.phase refl sent_text by
 
-    pub status_is : (x : Exchange) → sent_by (client_of u es) x.call.kind ≡ Some x.call.text → IsAnswered (pk 0) sent x → MayAnswer x.call.kind x.answer.status
+    pub status_is : (x : Exchange) → sent_by (client_of u es) x.call.kind ≡ Some x.call.text → IsAnswered (pk 0) sent x → MayAnswer (pk 0) sent u x.call x.answer.status
     status_is x sends answered = go (is_carried_out x.answer.status) refl
       where
-        go : (b : Bool) → is_carried_out x.answer.status ≡ b → MayAnswer x.call.kind x.answer.status
-        go false is = late x.call.kind x.answer.status is
+        go : (b : Bool) → is_carried_out x.answer.status ≡ b → MayAnswer (pk 0) sent u x.call x.answer.status
+        go false is = late (pk 0) sent u x.call x.answer.status is
         go true is =
             let same : x.answer ≡ answer_of (pk 0) (calls s.moves) x.call = answered.carried_out is ∙ ap (λ (cs : List ServerCall). answer_of (pk 0) cs x.call) (sym s.calls_are) in
-            subst (λ (a : Answer). MayAnswer x.call.kind a.status) (sym same) (carried_status (client_of u es) refl x.call.kind x.call.text sends)
+            subst (λ (cs : List ServerCall). MayAnswer (pk 0) cs u x.call x.answer.status) s.calls_are
+            (subst (λ (a : Answer). MayAnswer (pk 0) (calls s.moves) u x.call a.status) (sym same) (carried_status (client_of u es) refl x.call.kind x.call.text sends))
 
     -- ---- refusals
 
@@ -219,17 +223,56 @@ module _ (keys : Keys) (naming : Naming) (texts : List Bytes) (g : Grounds keys 
         ∙ ap (λ (p : Key). let k : Known = record { user = u; pinned = p; last = t.last; declared = t.text } in k) (knows keys naming texts g sent es s k u t is).pinned
         ∙ ap (λ (b : Bytes). let k : Known = record { user = u; pinned = pk 0; last = t.last; declared = b } in k) d.4 in
         let itself : reply_breaks (known t) text ≡ None = ap (λ (k : Known). reply_breaks k text) known_is ∙ unbroken.itself in
-        let first = subst (λ (o : Option Rule). IsFirstBroken o None (held t.blocks) t.pinned (lists_in text) rule) itself b.judged.0 in
-        let lists = subst (λ (o : Option Lists). IsSomeAnd o (λ y. ByTable (held t.blocks) t.pinned y (Some rule))) unbroken.lists first in
-        let by = subst (λ (p : Key). ByTable (held t.blocks) p y (Some rule)) (knows keys naming texts g sent es s k u t is).pinned lists in
-        none_by_table (held t.blocks) (knows keys naming texts g sent es s k u t is).among y (in_order (known t) text y b.bytes itself unbroken.lists) table unbroken.table unbroken.by_table rule by
+        let first = subst (λ (o : Option Rule). IsFirstBroken o None (known_blocks t.blocks) t.pinned (lists_in text) rule) itself b.judged.0 in
+        let lists = subst (λ (o : Option Lists). IsSomeAnd o (λ y. ByTable (known_blocks t.blocks) t.pinned y (Some rule))) unbroken.lists first in
+        let by = subst (λ (p : Key). ByTable (known_blocks t.blocks) p y (Some rule)) (knows keys naming texts g sent es s k u t is).pinned lists in
+        none_by_table (known_blocks t.blocks) (knows keys naming texts g sent es s k u t is).among y (in_order (known t) text y b.bytes itself unbroken.lists) table unbroken.table unbroken.by_table rule by
+
+    -- what comes next of an open client: the reply to a declared operation is good
+    pub next_reply : (t : State) → client_of u es ≡ Open t → t.phase ≡ phase.Declared → is_listed (pk 0) sent u ≡ true
+        → ((c : Signed Cert) → (signed cert).spell c ≡ t.text → is_at_limit (pk 0) sent c ≡ false) → HasGoodReply (pk 0) sent t
+    next_reply t is at listed below =
+        let d = in_phase_at keys naming u t stage phase.Declared at (follows t is).own.in_phase in
+        let c = signed_cert keys naming u d.0 d.1 in
+        let good = good_update t is t.last c d.2 d.3 in
+        let answer = answer_of (pk 0) (calls s.moves) (update_by c) in
+        let by_calls = λ (v : User). ap (λ (cs : List ServerCall). is_listed (pk 0) cs v) s.calls_are in
+        let succeeds : answer.status ≡ status.Ok =
+        elim good.answered [
+          | inl ok ↦ ok
+          | inr (inl unknown) ↦ absurd (true≢false (sym listed ∙ sym (by_calls u) ∙ ap (λ (v : User). is_listed (pk 0) (calls s.moves) v) (sym (user_then t is t.last c d.2 d.3)) ∙ unknown.1))
+          | inr (inr large) ↦ absurd (true≢false (sym large.1 ∙ ap (λ (cs : List ServerCall). is_at_limit (pk 0) cs c) s.calls_are ∙ below c (sym d.4)))
+        ] in
+        let told : answer ≡ record { status = status.Ok; payload = answer.payload } = ap (λ (st : Status). record { status = st; payload = answer.payload }) succeeds in
+        let same : answer_of (pk 0) sent (update_of t.text) ≡ record { status = status.Ok; payload = answer.payload } =
+        ap (λ (cs : List ServerCall). answer_of (pk 0) cs (update_of t.text)) (sym s.calls_are) ∙ ap (λ (b : Bytes). answer_of (pk 0) (calls s.moves) (update_of b)) d.4 ∙ told in
+        let x : Exchange = record { call = update_of t.text; answer = record { status = status.Ok; payload = answer.payload } } in
+        let answered : IsAnswered (pk 0) sent x = record {
+          carried_out = λ w. sym same;
+          bare = λ w. absurd (true≢false w);
+          full = λ w. absurd (cc w);
+          logged_it = λ w. absurd (cc w);
+        } in
+        let sends : certificate_in t.phase t.text ≡ Some t.text = ap (λ (f : Phase). certificate_in f t.text) at in (
+          answer.payload,
+          same,
+          λ rule new b. hears_unbroken t new is answer.payload rule b x sends answered refl,
+        )
+
+    -- and a signed structure is taken
+    pub next_commit : (t : State) → client_of u es ≡ Open t → t.phase ≡ phase.Signed → (answer_of (pk 0) sent (commit_of t.text)).status ≡ status.Ok
+    next_commit t is at =
+        let d = in_phase_at keys naming u t stage phase.Signed at (follows t is).own.in_phase in
+        let z = signed_structure keys naming u d.0 d.1 in
+        ap (λ (cs : List ServerCall). (answer_of (pk 0) cs (commit_of t.text)).status) (sym s.calls_are)
+        ∙ ap (λ (b : Bytes). (answer_of (pk 0) (calls s.moves) (commit_of b)).status) d.4 ∙ good_commit t is z d.2
 
     -- nor do its lists once a block of it was handed in
-    module _ (t new : State) (is : client_of u es ≡ Open t) (handed : Option Bytes) (rule : Rule) (among : AreAmong texts (held (blocks_with t handed))) where
+    module _ (t new : State) (is : client_of u es ≡ Open t) (handed : Option Bytes) (rule : Rule) (among : AreAmong texts (known_blocks (blocks_with t handed))) where
       pinned_is : t.pinned ≡ pk 0
       pinned_is = (knows keys naming texts g sent es s k u t is).pinned
 
-      by_lists : (r : Reply) (a : Asked) → t.checked ≡ Some (Reading r a) → (o : Option Lists) → lists_of r ≡ o → IsSomeAnd o (λ y. ByTable (held (blocks_with t handed)) t.pinned y (Some rule)) → ⊥
+      by_lists : (r : Reply) (a : Asked) → t.checked ≡ Some (Reading r a) → (o : Option Lists) → lists_of r ≡ o → IsSomeAnd o (λ y. ByTable (known_blocks (blocks_with t handed)) t.pinned y (Some rule)) → ⊥
       by_lists r a at None of by = absurd by
       by_lists r a at (Some y) of by =
           let judged = subst (λ (o : Option Checked). IfSome o (IsUnder es (record { user = t.user; pinned = t.pinned; last = t.last; declared = t.text }))) at (own keys naming texts g sent es s k u t is).own.replies.checked in
@@ -245,39 +288,36 @@ module _ (keys : Keys) (naming : Naming) (texts : List Bytes) (g : Grounds keys 
           let in_hand = subst (λ (o : Option Checked). IfSome o (λ k. IfSome (lists_under k) (λ x. d.2 ≡ Some x))) at d.5.checked in
           let heard : d.2 ≡ Some y = subst (λ (o : Option Lists). IfSome o (λ x. d.2 ≡ Some x)) of in_hand in
           let at_stage = d.3 ∙ ap (Declared t.last c) heard in
-          none_by_table (held (blocks_with t handed)) among y order (placed_table keys naming texts g sent es s u t.last c y at_stage) (table_then keys naming texts g sent es s u t.last c y at_stage)
-          (unbroken_then keys naming texts g sent es s u t.last c y at_stage) rule (subst (λ (p : Key). ByTable (held (blocks_with t handed)) p y (Some rule)) pinned_is by)
+          none_by_table (known_blocks (blocks_with t handed)) among y order (placed_table keys naming texts g sent es s u t.last c y at_stage) (table_then keys naming texts g sent es s u t.last c y at_stage)
+          (unbroken_then keys naming texts g sent es s u t.last c y at_stage) rule (subst (λ (p : Key). ByTable (known_blocks (blocks_with t handed)) p y (Some rule)) pinned_is by)
         where
           checked_declared : (r : Reply) (a : Asked) → t.checked ≡ Some (Reading r a) → (y : Lists) → lists_of r ≡ Some y → t.phase ≡ phase.Declared
           checked_declared r a at y of =
               let one = subst (λ (o : Option Checked). IfSome o (λ k. IsSomeAnd (lists_under k) (λ x. IsOfDeclared (released t) x.own.plan))) at (follows t is).own.always.1.of_checked in
               (subst (λ (o : Option Lists). IsSomeAnd o (λ x. IsOfDeclared (released t) x.own.plan)) of one).is_declared
 
-      by_check : (c : Checked) → t.checked ≡ Some c → IsSomeAnd (unjudged c) (λ y. ByTable (held (blocks_with t handed)) t.pinned y (Some rule)) → ⊥
+      by_check : (c : Checked) → t.checked ≡ Some c → IsSomeAnd (unjudged c) (λ y. ByTable (known_blocks (blocks_with t handed)) t.pinned y (Some rule)) → ⊥
       by_check (Reading r a) at by = by_lists r a at (lists_of r) refl by
       by_check (Writing x a) at by = absurd by
 
-      first_of : (c : Checked) → t.checked ≡ Some c → (o : Option Rule) → block_breaks (held t.blocks) (asked_of c) handed ≡ o → IsFirstBroken None o (held (blocks_with t handed)) t.pinned (unjudged c) rule → IsOnBlocks rule
-      first_of c at (Some first) of is = subst IsOnBlocks is (of_block (held t.blocks) (asked_of c) handed first of)
-      first_of c at None of is = absurd (by_check c at is)
-
-      takes_on_blocks : HasTaken t handed (Ok (step.Broken rule)) new → IsOnBlocks rule
-      takes_on_blocks b = go t.checked refl b.wants b.handed
+      takes_unbroken : IfSome t.checked (λ c. block_breaks (known_blocks t.blocks) (asked_of c) handed ≡ None) → HasTaken t handed (Ok (step.Broken rule)) new → ⊥
+      takes_unbroken right b = go t.checked refl b.wants right b.handed
         where
-          go : (o : Option Checked) → t.checked ≡ o → IsSome o → IfSome o (λ c. Handed {A = Unit {0}} t c handed (step.Broken rule) new) → IsOnBlocks rule
-          go None at some h = absurd (cc some)
-          go (Some c) at some h = first_of c at (block_breaks (held t.blocks) (asked_of c) handed) refl h.0
+          go : (o : Option Checked) → t.checked ≡ o → IsSome o → IfSome o (λ c. block_breaks (known_blocks t.blocks) (asked_of c) handed ≡ None) → IfSome o (λ c. Handed {A = Unit {0}} t c handed (step.Broken rule) new) → ⊥
+          go None at some right h = absurd (cc some)
+          go (Some c) at some right h = by_check c at (subst (λ (first : Option Rule). IsFirstBroken None first (known_blocks (blocks_with t handed)) t.pinned (unjudged c) rule) right h.0)
 
-    gives_on_blocks : (t new : State) (handed : Option Bytes) (rule : Rule) → HasGiven t handed (Ok (look.Broken rule)) new → IsOnBlocks rule
-    gives_on_blocks t new handed rule b = go t.view b.looks b.given
+    gives_unbroken : (t new : State) (handed : Option Bytes) (rule : Rule) → IfSome t.view (λ v. IfSome v.looking (λ l. block_breaks (known_blocks t.blocks) l.asked handed ≡ None)) → HasGiven t handed (Ok (look.Broken rule)) new → ⊥
+    gives_unbroken t new handed rule right b = go t.view b.looks right b.given
       where
-        looking : (v : AcceptedView) (l : Option Looking) → IsSome l → IfSome l (λ x. Given {A = Unit {0}} t v x handed (look.Broken rule) new) → IsOnBlocks rule
-        looking v None some h = absurd (cc some)
-        looking v (Some l) some h = of_block (held t.blocks) l.asked handed rule h.0
+        looking : (v : AcceptedView) (l : Option Looking) → IsSome l → IfSome l (λ l. block_breaks (known_blocks t.blocks) l.asked handed ≡ None) → IfSome l (λ x. Given {A = Unit {0}} t v x handed (look.Broken rule) new) → ⊥
+        looking v None some right h = absurd (cc some)
+        looking v (Some l) some right h = absurd (let two : None ≡ Some rule = sym right ∙ h.0 in cc two)
 
-        go : (view : Option AcceptedView) → IsSomeAnd view (λ v. IsSome v.looking) → IfSome view (λ v. IfSome v.looking (λ l. Given {A = Unit {0}} t v l handed (look.Broken rule) new)) → IsOnBlocks rule
-        go None some h = absurd some
-        go (Some v) some h = looking v v.looking some h
+        go : (view : Option AcceptedView) → IsSomeAnd view (λ v. IsSome v.looking) → IfSome view (λ v. IfSome v.looking (λ l. block_breaks (known_blocks t.blocks) l.asked handed ≡ None))
+            → IfSome view (λ v. IfSome v.looking (λ l. Given {A = Unit {0}} t v l handed (look.Broken rule) new)) → ⊥
+        go None some right h = absurd some
+        go (Some v) some right h = looking v v.looking some right h
 
     looks_unbroken : (t new : State) (q : Question) (rule : Rule) → HasLooked t q (Ok (look.Broken rule)) new → ⊥
     looks_unbroken t new q rule b = go t.view b.sees b.looked
@@ -286,17 +326,17 @@ module _ (keys : Keys) (naming : Naming) (texts : List Bytes) (g : Grounds keys 
         go None some h = absurd (cc some)
         go (Some v) some h = absurd h
 
-    with_block : (t : State) → client_of u es ≡ Open t → (handed : Option Bytes) → ((x : Bytes) → In x (option_to_list handed) → In x texts) → AreAmong texts (held (blocks_with t handed))
+    with_block : (t : State) → client_of u es ≡ Open t → (handed : Option Bytes) → ((x : Bytes) → In x (option_to_list handed) → In x texts) → AreAmong texts (known_blocks (blocks_with t handed))
     with_block t is None here = (knows keys naming texts g sent es s k u t is).among
     with_block t is (Some x) here = among_kept texts t.blocks x (here x (inl refl)) (knows keys naming texts g sent es s k u t is).among
 
   -- ---- a step
 
   module _ (sent : List ServerCall) (es : List Event) (blocks : List Block) (s : Simulates keys naming texts g sent es) (h : HonestEvent) (is : IsHonestStep keys (client_of h.user es) sent blocks h) (k : KeepsTo keys naming texts es) where
-    pub statuses : IfSome h.exchange (λ x. MayAnswer x.call.kind x.answer.status)
+    pub statuses : IfSome h.exchange (λ x. MayAnswer (pk 0) sent h.user x.call x.answer.status)
     statuses = go h.exchange is.sent is.answered
       where
-        go : (o : Option Exchange) → IfSome o (λ x. sent_by (client_of h.user es) x.call.kind ≡ Some x.call.text) → IfSome o (IsAnswered (public_key keys 0) sent) → IfSome o (λ x. MayAnswer x.call.kind x.answer.status)
+        go : (o : Option Exchange) → IfSome o (λ x. sent_by (client_of h.user es) x.call.kind ≡ Some x.call.text) → IfSome o (IsAnswered (public_key keys 0) sent) → IfSome o (λ x. MayAnswer (pk 0) sent h.user x.call x.answer.status)
         go None sends answered = tt
         go (Some x) sends answered = status_is sent es s k h.user x sends answered
 
@@ -304,48 +344,48 @@ module _ (keys : Keys) (naming : Naming) (texts : List Bytes) (g : Grounds keys 
     abbrev AreIn : Call → Client → Type 0
     AreIn call after = (x : Bytes) → In x (hashed_at (record { user = h.user; call = call; after = after })) → In x texts
 
-    by_call : (before : Client) → client_of h.user es ≡ before → (call : Call) (after : Client) → IsStep (owner keys h.user) before call after → IsHandedIn before (held blocks) h.exchange call → AreIn call after → IsUnbroken call
-    by_call (Closed p) same (Hears text answer) after step handed inside = absurd step
-    by_call (Closed p) same (Takes block answer) after step handed inside = absurd step
-    by_call (Closed p) same (Looks q answer) after step handed inside = absurd step
-    by_call (Closed p) same (Gives block answer) after step handed inside = absurd step
-    by_call (Open t) same (Hears text answer) (Closed q) step handed inside = absurd step
-    by_call (Open t) same (Takes block answer) (Closed q) step handed inside = absurd step
-    by_call (Open t) same (Looks q answer) (Closed p) step handed inside = absurd step
-    by_call (Open t) same (Gives block answer) (Closed q) step handed inside = absurd step
-    by_call (Open t) same (Hears text (Ok (step.Broken rule))) (Open new) taken handed inside = go h.exchange is.sent is.answered handed
+    by_call : (before : Client) → client_of h.user es ≡ before → (call : Call) (after : Client) → IsStep (owner keys h.user) before call after → IsHandedIn before (held blocks) h.exchange call → AreIn call after → IsRight before call → IsUnbroken call
+    by_call (Closed p) same (Hears text answer) after step handed inside right = absurd step
+    by_call (Closed p) same (Takes block answer) after step handed inside right = absurd step
+    by_call (Closed p) same (Looks q answer) after step handed inside right = absurd step
+    by_call (Closed p) same (Gives block answer) after step handed inside right = absurd step
+    by_call (Open t) same (Hears text answer) (Closed q) step handed inside right = absurd step
+    by_call (Open t) same (Takes block answer) (Closed q) step handed inside right = absurd step
+    by_call (Open t) same (Looks q answer) (Closed p) step handed inside right = absurd step
+    by_call (Open t) same (Gives block answer) (Closed q) step handed inside right = absurd step
+    by_call (Open t) same (Hears text (Ok (step.Broken rule))) (Open new) taken handed inside right = go h.exchange is.sent is.answered handed
       where
         go : (o : Option Exchange) → IfSome o (λ x. sent_by (client_of h.user es) x.call.kind ≡ Some x.call.text) → IfSome o (IsAnswered (public_key keys 0) sent)
             → IsSomeAnd o (λ x. x.answer ≡ record { status = status.Ok; payload = text }) → ⊥
         go None sends answered some = absurd some
         go (Some x) sends answered some =
             hears_unbroken sent es s k h.user t new same text rule taken x (subst (λ (c : Client). sent_by c x.call.kind ≡ Some x.call.text) same sends) answered some
-    by_call (Open t) same (Takes block (Ok (step.Broken rule))) (Open new) taken handed inside =
-        takes_on_blocks sent es s k h.user t new same block rule
-        (with_block sent es s k h.user t same block (λ x i. inside x (in-left x _ _ (in-left x (option_to_list block) _ i)))) taken
-    by_call (Open t) same (Looks q (Ok (look.Broken rule))) (Open new) taken handed inside = looks_unbroken sent es s k h.user t new q rule taken
-    by_call (Open t) same (Gives block (Ok (look.Broken rule))) (Open new) taken handed inside = gives_on_blocks sent es s k h.user t new block rule taken
-    by_call before same call after taken handed inside = tt
+    by_call (Open t) same (Takes block (Ok (step.Broken rule))) (Open new) taken handed inside right =
+        takes_unbroken sent es s k h.user t new same block rule
+        (with_block sent es s k h.user t same block (λ x i. inside x (in-left x _ _ (in-left x (option_to_list block) _ i)))) right taken
+    by_call (Open t) same (Looks q (Ok (look.Broken rule))) (Open new) taken handed inside right = looks_unbroken sent es s k h.user t new q rule taken
+    by_call (Open t) same (Gives block (Ok (look.Broken rule))) (Open new) taken handed inside right = gives_unbroken sent es s k h.user t new block rule right taken
+    by_call before same call after taken handed inside right = tt
 
-    pub unbroken_step : (AreHashedIn : (t : StepTaken) → h.step ≡ Some t → AreIn t.call t.after) → IfSome h.step (λ t. IsUnbroken t.call)
-    unbroken_step inside = go h.step refl is.taken is.handed_in
+    pub unbroken_step : (AreHashedIn : (t : StepTaken) → h.step ≡ Some t → AreIn t.call t.after) → IfSome h.step (λ t. IsRight (client_of h.user es) t.call) → IfSome h.step (λ t. IsUnbroken t.call)
+    unbroken_step inside right = go h.step refl is.taken is.handed_in right
       where
-        go : (o : Option StepTaken) → h.step ≡ o → IfSome o (λ t. IsStep (owner keys h.user) (client_of h.user es) t.call t.after × IsSound t.after) → IfSome o (λ t. IsHandedIn (client_of h.user es) (held blocks) h.exchange t.call) → IfSome o (λ t. IsUnbroken t.call)
-        go None at taken handed = tt
-        go (Some t) at taken handed = by_call (client_of h.user es) refl t.call t.after taken.0 handed (inside t at)
+        go : (o : Option StepTaken) → h.step ≡ o → IfSome o (λ t. IsStep (owner keys h.user) (client_of h.user es) t.call t.after × IsSound t.after) → IfSome o (λ t. IsHandedIn (client_of h.user es) (held blocks) h.exchange t.call) → IfSome o (λ t. IsRight (client_of h.user es) t.call) → IfSome o (λ t. IsUnbroken t.call)
+        go None at taken handed right = tt
+        go (Some t) at taken handed right = by_call (client_of h.user es) refl t.call t.after taken.0 handed (inside t at) right
 
   -- ---- runs
 
-  pub each : (run : List HonestEvent) → IsHonestRun keys run → KeepsTo keys naming texts (events run)
-      → All (λ h. IfSome h.step (λ t. IsUnbroken t.call)) run × All (λ h. IfSome h.exchange (λ x. MayAnswer x.call.kind x.answer.status)) run
-  each [] is k = (All-nil (λ (h : HonestEvent). IfSome h.step (λ t. IsUnbroken t.call)), All-nil (λ (h : HonestEvent). IfSome h.exchange (λ x. MayAnswer x.call.kind x.answer.status)))
-  each (h ∷ older) is k =
+  pub each : (run : List HonestEvent) → IsHonestRun keys run → KeepsTo keys naming texts (events run) → AreRight run
+      → All (λ h. IfSome h.step (λ t. IsUnbroken t.call)) run × AreAnswered keys run
+  each [] is k right = (All-nil (λ (h : HonestEvent). IfSome h.step (λ t. IsUnbroken t.call)), tt)
+  each (h ∷ older) is k right =
       let now = subst (λ (es : List Event). KeepsTo keys naming texts es) (with_step h older) k in
       let before = keeps_with keys naming texts g h.user h.step (events older) now in
       let s = simulates keys naming texts g older is.1 before in
-      let rest = each older is.1 before in
+      let rest = each older is.1 before right.1 in
       let inside : (t : StepTaken) → h.step ≡ Some t → (x : Bytes) → In x (hashed_at (record { user = h.user; call = t.call; after = t.after })) → In x texts =
       λ t at x i. (let kept = subst (λ (o : Option StepTaken). KeepsTo keys naming texts (events_with h.user o (events older))) at now in kept.hashed_in x (in-left x (hashed_at (record { user = h.user; call = t.call; after = t.after })) (flat_map hashed_at (events older)) i)) in (
-        All-cons (λ (h : HonestEvent). IfSome h.step (λ t. IsUnbroken t.call)) h older (unbroken_step (history older) (events older) (stored older) s h is.0 before inside) rest.0,
-        All-cons (λ (h : HonestEvent). IfSome h.exchange (λ x. MayAnswer x.call.kind x.answer.status)) h older (statuses (history older) (events older) (stored older) s h is.0 before) rest.1,
+        All-cons (λ (h : HonestEvent). IfSome h.step (λ t. IsUnbroken t.call)) h older (unbroken_step (history older) (events older) (stored older) s h is.0 before inside right.0) rest.0,
+        (statuses (history older) (events older) (stored older) s h is.0 before, rest.1),
       )

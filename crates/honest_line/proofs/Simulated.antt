@@ -24,7 +24,7 @@ use Rattle.client_releases.specs.declared.error.ClientError.TheVariants as error
 use Rattle.client_releases.specs.declared.phase.Phase.{Phase}
 use Rattle.client_releases.specs.declared.phase.Phase.TheVariants as phase
 use Rattle.client_verify.specs.State.{Ready, State}
-use Rattle.client_steps.specs.Steps.{Asks, Begins, Call, Client, Closed, Closes, Commits, Crashes, Gives, HasBegun, HasCommitted, HasHeard, HasSigned, HasTaken, Hears, IsSound, IsStep, Looks, Open, Opens, Signs, StepTaken, Takes}
+use Rattle.client_steps.specs.Steps.{Asks, Begins, Caches, Call, Client, Closed, Closes, Commits, Crashes, Gives, HasBegun, HasCommitted, HasHeard, HasSigned, HasTaken, Hears, IsSound, IsStep, Looks, Open, Opens, Signs, StepTaken, Takes}
 use Rattle.agreement.specs.Runs.{View, user_of}
 use Rattle.agreement.specs.Worlds.{NamesTable}
 use Rattle.agreement.proofs.Formed.{cert_fits}
@@ -447,6 +447,7 @@ module _ (keys : Keys) (naming : Naming) (texts : List Bytes) (g : Grounds keys 
     goes (Open t) is (Signs answer) (Open new) k step sound silent = signs t new is sound answer k step
     goes (Open t) is (Commits st) (Open new) k step sound silent = inl (refl, refl, same t new is sound (Commits st) k silent)
     goes (Open t) is (Looks q answer) (Open new) k step sound silent = inl (refl, refl, kept_on t new is sound (Looks q answer) k (quiet.looks t q answer new step))
+    goes (Open t) is (Caches capacity) (Open new) k step sound silent = inl (refl, refl, kept_on t new is sound (Caches capacity) k (ap kept step.state))
     goes (Open t) is (Gives block answer) (Open new) k step sound silent = inl (refl, refl, kept_on t new is sound (Gives block answer) k (quiet.gives t block answer new step))
     goes (Open t) is call after k step sound silent = absurd step
 
@@ -536,6 +537,7 @@ module _ (keys : Keys) (naming : Naming) (texts : List Bytes) (g : Grounds keys 
       step_of before same (Takes block answer) after k step sound handed = silently (Takes block answer) after k (subst (λ (c : Client). IsStep (owner keys h.user) c (Takes block answer) after) (sym same) step) sound tt
       step_of before same (Signs answer) after k step sound handed = silently (Signs answer) after k (subst (λ (c : Client). IsStep (owner keys h.user) c (Signs answer) after) (sym same) step) sound tt
       step_of before same (Looks q answer) after k step sound handed = silently (Looks q answer) after k (subst (λ (c : Client). IsStep (owner keys h.user) c (Looks q answer) after) (sym same) step) sound tt
+      step_of before same (Caches capacity) after k step sound handed = silently (Caches capacity) after k (subst (λ (c : Client). IsStep (owner keys h.user) c (Caches capacity) after) (sym same) step) sound tt
       step_of before same (Gives block answer) after k step sound handed = silently (Gives block answer) after k (subst (λ (c : Client). IsStep (owner keys h.user) c (Gives block answer) after) (sym same) step) sound tt
       step_of before same Crashes after k step sound handed = silently Crashes after k (subst (λ (c : Client). IsStep (owner keys h.user) c Crashes after) (sym same) step) sound tt
       step_of (Closed p) same (Hears text answer) after k step sound handed = absurd step

@@ -14,7 +14,7 @@ use Rattle.client_releases.specs.declared.phase.Phase.{Phase}
 use Rattle.client_releases.specs.declared.phase.Phase.TheVariants as phase
 use Rattle.client_releases.specs.Told.{IsPhase, Released}
 use Rattle.client_releases.specs.Releasing.{IsKept, structure_record}
-use Rattle.client_verify.specs.State.{Ready, State, committed, next_cert, next_structure, on, released, signed_over, signed_text}
+use Rattle.client_verify.specs.State.{Ready, State, committed, next_cert, next_structure, on, over, released, signed_over, signed_text}
 use Rattle.client_steps.specs.Steps.{Begins, Call, Client, Closed, HasBegun, HasSigned, IsHandedBack, IsLeft, IsOpened, IsRefused, IsSound, Open, Opens, Parts}
 use Rattle.agreement.specs.Runs.{View, user_of}
 use Rattle.agreement.proofs.Members.{In}
@@ -353,7 +353,7 @@ module _ (keys : Keys) (naming : Naming) (u : User) (has_id : length (keys u).id
 
       pub signs_ok : (answer : Bytes) → HasSigned s (Ok answer) new → Covers (option_to_list (in_hand (Open s))) → IsMove keys naming u history stage (Open new) (answer ∷ texts) view [] (option_to_list (in_hand (Open s)))
       signs_ok answer b covers =
-          let done = if_ready s new y ready (λ r. (leaf : LeafNumber) × IsKept leaf (structure_record (signed_text s leaf r)) s.devices new.devices × (new ≡ on new.devices (signed_over s leaf r))) b.signed in
+          let done = if_ready s new y ready (λ r. (leaf : LeafNumber) × IsKept leaf (structure_record (signed_text s leaf r)) s.devices new.devices × (new ≡ over new.blocks (on new.devices (signed_over s leaf r)))) b.signed in
           let is = done.2 in
           let k = signs (o keys naming u) (Unit {0}) f.story f.tried texts (released s) f.low z (released new) answer (low_signed s new y ready answer f.own.always b) in
           let q = k.0 in

@@ -16,10 +16,10 @@ use Rattle.reply_check.specs.Good.{Good}
 use Rattle.client_verify.specs.declared.look.Look.TheVariants as look
 use Rattle.client_verify.specs.declared.step.Step.TheVariants as step
 use Rattle.client_verify.specs.declared.view.Looking.{Looking}
-use Rattle.client_verify.specs.State.{AcceptedView, Checked, Reading, State, Writing, asked_of, holding, on, signed_over, signed_text}
+use Rattle.client_verify.specs.State.{AcceptedView, Checked, Reading, State, Writing, asked_of, holding, on, over, signed_over, signed_text}
 use Rattle.client_verify.specs.Judged.{AsksOrAccepts, GoesOn, Handed, Judged, Taken}
 use Rattle.client_verify.specs.Looked.{Given, Looked}
-use Rattle.client_steps.specs.Steps.{Asks, Begins, Call, Client, Closed, Closes, Commits, Crashes, FromOpen, Gives, HasBegun, HasCommitted, HasGiven, HasHeard, HasLooked, HasSigned, HasTaken, Hears, IsOpened, IsStep, Looks, Open, Opens, Owner, Parts, Sees, Signs, Takes}
+use Rattle.client_steps.specs.Steps.{Asks, Begins, Caches, Call, Client, Closed, Closes, Commits, Crashes, FromOpen, Gives, HasBegun, HasCommitted, HasGiven, HasHeard, HasLooked, HasSigned, HasTaken, Hears, IsOpened, IsStep, Looks, Open, Opens, Owner, Parts, Sees, Signs, Takes}
 use Rattle.client_runs.proofs.Lowering.{if_ready, with_ready}
 use Rattle.honest_runs.specs.declared.wanted.Wanted.{Wanted}
 use Rattle.honest_runs.specs.Town.{IsNoted}
@@ -69,7 +69,7 @@ module _ (w : Wanted) where
     signs : (answer : Result Bytes ClientError) → HasSigned s answer new → IsNoted (Open new) w
     signs (Ok text) b =
         with_ready s (IsNoted (Open new) w) b.ready
-        (λ y is. let done = if_ready s new y is (λ r. (leaf : LeafNumber) × IsKept leaf (structure_record (signed_text s leaf r)) s.devices new.devices × (new ≡ on new.devices (signed_over s leaf r))) b.signed in
+        (λ y is. let done = if_ready s new y is (λ r. (leaf : LeafNumber) × IsKept leaf (structure_record (signed_text s leaf r)) s.devices new.devices × (new ≡ over new.blocks (on new.devices (signed_over s leaf r)))) b.signed in
         noted_by new None (on new.devices (signed_over s done.0 y)).view (ap (λ (n : State). n.checked) done.2) (ap (λ (n : State). n.view) done.2) tt tt)
     signs (Err e) b =
         unless_device e (λ is. let left = b.fails (ap (λ (x : ClientError). Err x) is) in unasked (ap (λ (n : State). n.checked) left) (ap (λ (n : State). n.view) left)) b.err
@@ -157,7 +157,7 @@ after_look w other = w
 
 module _ (w : Wanted) where
   -- the look has ended
-  ended : (s new : State) (v : AcceptedView) → IsNoted (Open s) w → new ≡ record s { view = Some (record v { looking = None }) } → IsNoted (Open new) w
+  ended : (s new : State) (v : AcceptedView) → IsNoted (Open s) w → new ≡ record s { blocks = new.blocks; view = Some (record v { looking = None }) } → IsNoted (Open new) w
   ended s new v old is = noted_by w new s.checked (Some (record v { looking = None })) (ap (λ (n : State). n.checked) is) (ap (λ (n : State). n.view) is) old.0 tt
 
   looked : (s : State) (v : AcceptedView) (q : Question) (answer : Sees) (new : State) → IsNoted (Open s) w → Looked s v q answer new → IsNoted (Open new) (after_look w (Ok answer))
@@ -253,6 +253,7 @@ module _ (w : Wanted) where
   from_open s (Signs answer) (Open new) old b = signs w s new old answer b
   from_open s (Commits status) (Open new) old b = commits w s new old status b
   from_open s (Looks q answer) (Open new) old b = noted_as (Open new) (after_look w answer) (asking w (Looks q answer)) (look_asking w q answer) (looks w s q answer new old b)
+  from_open s (Caches capacity) (Open new) old b = noted_by w new s.checked s.view (ap (λ (n : State). n.checked) b.state) (ap (λ (n : State). n.view) b.state) old.0 old.1
   from_open s (Gives block answer) (Open new) old b = noted_as (Open new) (after_look w answer) (asking w (Gives block answer)) (give_asking w block answer) (gives w s block answer new old b)
   from_open s call after old b = absurd b
 

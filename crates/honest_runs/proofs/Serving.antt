@@ -1,5 +1,5 @@
 -- The server of an honest run answers by its history, and its log is that history's.
-use Rattle.std.proofs.Common.{◌≡◌, ◌≢◌, ◌==◌, Bool, true, false, List, [], ◌∷◌, ◌++◌, Some, None, if◌then◌else◌, length, refl, sym, ap, subst, ◌∙◌}
+use Rattle.std.proofs.Common.{◌≡◌, ◌≢◌, ◌==◌, ◌≤◌, arith, Bool, true, false, List, [], ◌∷◌, ◌++◌, Some, None, if◌then◌else◌, length, refl, sym, ap, subst, ◌∙◌}
 use Rattle.std.specs.Prelude.{IsTrue, option_to_list}
 use Rattle.std.proofs.lemmas.Bool.{eqb-true}
 use Rattle.layout.specs.Types.{Bytes, Key}
@@ -37,7 +37,7 @@ module _ (old : Ordered) (key : Key) (pinned : old.pinned ≡ key) (kind : CallK
   is_answered log is answered busy busy_logged bare = record {
     carried_out = λ w. by_key (λ (o : Ordered). a ≡ answer_of o.pinned o.history made) (answered w);
     bare = bare;
-    full = λ w. ap (λ (calls : List Call). length calls) (sym is) ∙ eqb-true (length log) 1024 (busy w);
+    full = λ w. (let many : length (log_of key old.history) ≡ 1024 = ap (λ (calls : List Call). length calls) (sym is) ∙ eqb-true (length log) 1024 (busy w) in omega (arith, many));
     logged_it = λ w. by_key (λ (o : Ordered). logged o made ≢ []) (busy_logged w);
   }
 

@@ -15,7 +15,7 @@ use Rattle.client_verify.specs.declared.step.Step.{Step}
 use Rattle.client_verify.specs.declared.step.Step.TheVariants as step
 use Rattle.client_verify.specs.State.{AcceptedView, Checked, asked_of}
 use Rattle.client_verify.specs.declared.view.Looking.{Looking}
-use Rattle.client_steps.specs.Steps.{Asks, Begins, Call, Client, Closed, Closes, Commits, Crashes, Gives, Hears, IsSound, IsStep, Looks, Open, Opens, Owner, Sees, Signs, StepTaken, Takes}
+use Rattle.client_steps.specs.Steps.{Asks, Begins, Caches, Call, Client, Closed, Closes, Commits, Crashes, Gives, Hears, IsSound, IsStep, Looks, Open, Opens, Owner, Sees, Signs, StepTaken, Takes}
 use Rattle.client_steps.specs.Anywhere.{asked, bytes_anywhere, on_ok, seen}
 use Rattle.client_tree.specs.declared.questions.Question.{Question}
 use Rattle.client_tree.specs.declared.questions.Question.TheVariants as question
@@ -87,6 +87,7 @@ module _ {A : Type 0} (w : Wanted) where
   asking_noted (act.Kind p i) (answer.Sees r) call is = by_call (λ c. asking w c ≡ noting w (answer.Sees r)) (Looks (question.Kind p i) (on_ok seen r)) call is (looks_same w (question.Kind p i) r)
   asking_noted (act.Free p first last) (answer.Sees r) call is = by_call (λ c. asking w c ≡ noting w (answer.Sees r)) (Looks (question.Free p first last) (on_ok seen r)) call is (looks_same w (question.Free p first last) r)
   asking_noted (act.Give block) (answer.Sees r) call is = by_call (λ c. asking w c ≡ noting w (answer.Sees r)) (Gives (option_map vec_items block) (on_ok seen r)) call is (gives_same w (option_map vec_items block) r)
+  asking_noted (act.Cache capacity) answer.Cached call is = by_call (λ c. asking w c ≡ w) (Caches capacity) call is refl
   asking_noted (act.Crash ledger journal) answer.Crashed call is = by_call (λ c. asking w c ≡ w) Crashes call is refl
   asking_noted t a call is = absurd (cc is)
 
@@ -124,6 +125,7 @@ module _ {A : Type 0} where
   put_told (act.Kind p i) (answer.Sees r) call is = by_call (λ c. put_with c ≡ []) (Looks (question.Kind p i) (on_ok seen r)) call is refl
   put_told (act.Free p first last) (answer.Sees r) call is = by_call (λ c. put_with c ≡ []) (Looks (question.Free p first last) (on_ok seen r)) call is refl
   put_told (act.Give block) (answer.Sees r) call is = by_call (λ c. put_with c ≡ []) (Gives (option_map vec_items block) (on_ok seen r)) call is refl
+  put_told (act.Cache capacity) answer.Cached call is = by_call (λ c. put_with c ≡ []) (Caches capacity) call is refl
   put_told (act.Crash ledger journal) answer.Crashed call is = by_call (λ c. put_with c ≡ []) Crashes call is refl
   put_told t a call is = absurd (cc is)
 
@@ -175,6 +177,7 @@ module _ (client : Client) (blocks : Blocks) (x : Option Exchange) where
     alone_handed (act.Kind p i) (answer.Sees r) call lone is = by_call Handed (Looks (question.Kind p i) (on_ok seen r)) call is tt
     alone_handed (act.Free p first last) (answer.Sees r) call lone is = by_call Handed (Looks (question.Free p first last) (on_ok seen r)) call is tt
     alone_handed (act.Give block) a call lone is = absurd (cc lone)
+    alone_handed (act.Cache capacity) answer.Cached call lone is = by_call Handed (Caches capacity) call is tt
     alone_handed (act.Crash ledger journal) answer.Crashed call lone is = by_call Handed Crashes call is tt
     alone_handed t a call lone is = absurd (cc is)
 
@@ -240,6 +243,7 @@ module _ {A : Type 0} (o : Owner) (before : Client) (t : Act A) (after : Client)
   is_done (answer.Signed r) h = takes_it (answer.Signed r) h
   is_done answer.Committed h = takes_it answer.Committed h
   is_done (answer.Sees r) h = takes_it (answer.Sees r) h
+  is_done answer.Cached h = takes_it answer.Cached h
   is_done answer.Crashed h = takes_it answer.Crashed h
   is_done (answer.Served status) h = takes_it (answer.Served status) h
 
@@ -257,6 +261,7 @@ module _ {A : Type 0} (o : Owner) (before : Client) (t : Act A) (after : Client)
     is_noted (answer.Signed r) h = still_noted (answer.Signed r) h
     is_noted answer.Committed h = still_noted answer.Committed h
     is_noted (answer.Sees r) h = still_noted (answer.Sees r) h
+    is_noted answer.Cached h = still_noted answer.Cached h
     is_noted answer.Crashed h = still_noted answer.Crashed h
     is_noted (answer.Served status) h = still_noted (answer.Served status) h
 

@@ -1,7 +1,7 @@
 -- Honest runs: steps of the clients of all users in any order, the latest first, with one server and one store of
 -- blocks. What a client is handed is what the server answered it in that very step, or the stored block that it asks
 -- for; and what its operations need is stored before it sends or signs anything.
-use Rattle.std.specs.Prelude.{◌≡◌, ◌≢◌, true, false, List, [], ◌∷◌, Option, Some, None, IfSome, IsSomeAnd, filter_map, if◌then◌else◌, length}
+use Rattle.std.specs.Prelude.{◌≡◌, ◌≢◌, ◌≤◌, true, false, List, [], ◌∷◌, Option, Some, None, IfSome, IsSomeAnd, filter_map, if◌then◌else◌, length}
 use Rattle.std.specs.Option.{option_and_then, option_map}
 use Rattle.layout.specs.Types.{Bytes, Digest, Key, User}
 use Rattle.tree_parts.specs.Blocks.{Blocks}
@@ -58,12 +58,12 @@ abbrev pub sent_by : Client → CallKind → Option Bytes
 sent_by client Update = certificate_of client
 sent_by client Commit = structure_of client
 
--- The server answers by its history, unless its log of 1,024 calls is full, to which this call would go, or memory runs
--- out.
+-- The server answers by its history, unless it answers Busy, since its log, to which this call would go, has had the
+-- 1,024 calls for which there is room; or Memory.
 pub record IsAnswered (pinned : Key) (history : List Call) (x : Exchange) : Type 0 where
   pub carried_out : is_carried_out x.answer.status ≡ true → x.answer ≡ answer_of pinned history x.call
   pub bare : is_carried_out x.answer.status ≡ false → x.answer.payload ≡ []
-  pub full : x.answer.status ≡ status.Busy → length (log_of pinned history) ≡ 1024
+  pub full : x.answer.status ≡ status.Busy → 1024 ≤ length (log_of pinned history)
   pub logged_it : x.answer.status ≡ status.Busy
       → logged (record { pinned = pinned; history = history }) x.call ≢ []
 
@@ -115,6 +115,6 @@ IsHonestRun keys [] = Unit {0}
 IsHonestRun keys (h ∷ older) = IsHonestStep keys (client_of h.user (events older)) (history older) (stored older) h
     × IsHonestRun keys older
 
--- what its clients do is a run, of which the servers and stores of fork consistency might be any
+-- what its clients do is a run, so all that is proved of runs with any server holds of it
 abbrev pub AreRuns : Type 0
 AreRuns = (keys : Keys) (run : List HonestEvent) → IsHonestRun keys run → IsRun keys (events run)

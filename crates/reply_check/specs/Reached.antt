@@ -7,7 +7,6 @@ use Rattle.version_order.specs.Plan.{Plan}
 use Rattle.layout.specs.Types.{Group, Key}
 use Rattle.version_order.specs.Vector.{version_of}
 use Rattle.pending_list.specs.Groups.{raises}
-use Rattle.principals.specs.Table.{Table}
 use Rattle.tree_parts.specs.Blocks.{Blocks}
 use Rattle.tree_parts.specs.Spot.{lacks}
 use Rattle.reply_rules.specs.Lists.{Lists}

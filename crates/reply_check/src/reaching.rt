@@ -5,7 +5,7 @@ ghost use Rattle.std.specs.List.{All};
 ghost use Rattle.reply_rules.specs.Lists.{lists_of};
 ghost use Rattle.tree_parts.specs.declared.error.ApplyError.TheVariants as apply_error;
 ghost use Rattle.layout.specs.Hash.{hash};
-ghost use Rattle.client_tree.specs.Held.{held, keeping};
+ghost use Rattle.checked_blocks.specs.CheckedBlocks.{holding, known_blocks};
 ghost use Rattle.version_order.specs.Vector.{version_of};
 ghost use Rattle.reply_check.specs.FirstBroken.{lists_break, view_over};
 ghost use Rattle.reply_check.specs.Good.{record_over, view_of};
@@ -16,7 +16,8 @@ use crate::by_table::lists_broken;
 use crate::good::Good;
 use crate::known::Known;
 use crate::lists::{Admitted, Lists};
-use client_tree::{Answer, Held, PendingTable, Question, Stored, View, With, table_of};
+use checked_blocks::{CheckedBlocks, With};
+use client_tree::{Answer, PendingTable, Question, Stored, View, table_of};
 use layout::{Digest, Group, Memory, Version};
 use lms_sign::PublicKey;
 use pending_list::table_version;
@@ -247,13 +248,13 @@ pub fn write_with<A: Allocator + Copy>(
     alloc: A,
     pinned: &PublicKey,
     good: &Good<A>,
-    blocks: &Held<A>,
+    blocks: &CheckedBlocks<A>,
     digest: Digest,
     text: &[u8],
 ) -> Result<Written<A>, Memory>
     requires { digest ≡ hash text.now }
-    ensures { IfOk result (λ written. IsWritten (held (keeping blocks.now text.now)) (view_of pinned.now good.now)
-        good.now.void written) }
+    ensures { IfOk result (λ written. IsWritten (known_blocks (holding blocks.now text.now))
+        (view_of pinned.now good.now) good.now.void written) }
 {
     let with = With::new(blocks, digest, text);
     write(alloc, pinned, good, &with)
@@ -264,13 +265,13 @@ pub fn reach_with<A: Allocator + Copy>(
     alloc: A,
     known: &Known<'_, A>,
     reply: &Admitted<A>,
-    blocks: &Held<A>,
+    blocks: &CheckedBlocks<A>,
     digest: Digest,
     text: &[u8],
 ) -> Result<Reached<A>, Memory>
     requires { digest ≡ hash text.now }
     ensures { IfOk result (λ reached. IsSomeAnd (lists_of reply.now)
-        (λ x. IsReached (held (keeping blocks.now text.now)) known.now.pinned x reached)) }
+        (λ x. IsReached (known_blocks (holding blocks.now text.now)) known.now.pinned x reached)) }
 {
     let with = With::new(blocks, digest, text);
     reach(alloc, known, reply, &with)
@@ -283,12 +284,12 @@ pub fn show_with<A: Allocator + Copy>(
     table: &Table<A>,
     lists: &Lists<A>,
     question: Question,
-    blocks: &Held<A>,
+    blocks: &CheckedBlocks<A>,
     digest: Digest,
     text: &[u8],
 ) -> Result<Shown<A>, Memory>
     requires { digest ≡ hash text.now }
-    ensures { IfOk result (λ shown. IsAnswer (held (keeping blocks.now text.now))
+    ensures { IfOk result (λ shown. IsAnswer (known_blocks (holding blocks.now text.now))
         (view_over pinned.now table.now lists.now) question shown) }
 {
     let with = With::new(blocks, digest, text);

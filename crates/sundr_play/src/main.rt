@@ -2,7 +2,7 @@
 #![tactic(auto)]
 
 use clap::Command;
-use fork_theorem::play;
+use fork_theorem::{CACHED_AT_FIRST, play};
 use std::env;
 use std::io::{self, BufReader, ErrorKind};
 use std::process::ExitCode;
@@ -27,7 +27,8 @@ fn refuse<R: Runtime>(rt: &R, fault: &clap::Error) -> anyhow::Result<ExitCode> {
 /// Runs the script.
 fn play_script<R: Runtime + AllocGlobal + Wait>(rt: &R) -> anyhow::Result<ExitCode> {
     let mut reader = BufReader::new(rt.alloc(), rt.reader())?;
-    play(rt, rt.alloc(), &mut reader, &mut io::writer(rt))?;
+    let mut writer = io::writer(rt);
+    play(rt, rt.alloc(), CACHED_AT_FIRST, &mut reader, &mut writer)?;
     Ok(ExitCode::SUCCESS)
 }
 

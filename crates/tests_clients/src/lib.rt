@@ -4,6 +4,8 @@
 #![tactic(auto)]
 
 #[cfg(test)]
+mod cached_blocks;
+#[cfg(test)]
 mod changed_replies;
 #[cfg(test)]
 mod crashed_users;

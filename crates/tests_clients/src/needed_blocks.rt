@@ -59,7 +59,7 @@ fn declares_each(rt: &impl Host, users: &mut Users, bytes: &[u8], is_new: bool) 
 }
 
 /// User 1 makes them, in one operation that is committed.
-fn makes_each(rt: &impl Host, scene: &mut Listed) {
+pub(crate) fn makes_each(rt: &impl Host, scene: &mut Listed) {
     let update = declares_each(rt, &mut scene.users, b"a", true);
     let Users { first, store, .. } = &mut scene.users;
     let _structure = completes(rt, store, &mut scene.server, first, &update);
@@ -73,7 +73,7 @@ fn replaces_each(rt: &impl Host, scene: &mut Listed) {
 
 /// User 2, who just opened its client, makes an operation without changes, and asks for four blocks: the root, the
 /// chunk, the i-node and the block of the table of principals.
-fn second_goes_on(rt: &impl Host, scene: &mut Listed) {
+pub(crate) fn second_goes_on(rt: &impl Host, scene: &mut Listed) {
     let Users { second, store, .. } = &mut scene.users;
     let update = declare(rt, second);
     let text = answers_update_so(rt, &mut scene.server, &update, Status::Ok);
@@ -96,7 +96,7 @@ fn asked_of(rt: &impl Host, client: &mut MemoryClient, store: &Held<Global>, tex
 }
 
 /// What comes of a look that was begun, through which the stored blocks are handed in; it asks for so many.
-fn look_through(
+pub(crate) fn look_through(
     rt: &impl Host,
     client: &mut MemoryClient,
     store: &Held<Global>,
@@ -117,7 +117,7 @@ fn look_through(
 }
 
 /// User 2 sees these bytes in a file of user 1's, and asks for so many blocks.
-fn second_sees(rt: &impl Host, users: &mut Users, bytes: &[u8], asked: usize) {
+pub(crate) fn second_sees(rt: &impl Host, users: &mut Users, bytes: &[u8], asked: usize) {
     let Users { second, store, .. } = users;
     let begun = look_at(rt, second, 1, 64);
     let seen = look_through(rt, second, store, begun, asked);

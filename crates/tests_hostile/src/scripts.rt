@@ -1,6 +1,6 @@
 //! Plays scripts that stand in tables: in each row a command, and the line that it prints.
 
-use fork_theorem::play;
+use fork_theorem::{CACHED_AT_FIRST, play};
 use std::alloc::Global;
 use std::io::Cursor;
 use std::process::Abort;
@@ -27,20 +27,21 @@ fn add_row(rt: &impl ScriptHost, script: &mut Vec<u8>, wanted: &mut Vec<u8>, row
     add_line(rt, wanted, line);
 }
 
-/// What the script prints is what is wanted.
-fn plays(rt: &impl ScriptHost, script: &[u8], wanted: &[u8]) {
+/// What the script prints is what is wanted where the cache of each client may have so many blocks.
+fn plays(rt: &impl ScriptHost, capacity: usize, script: &[u8], wanted: &[u8]) {
     let mut reader = Cursor::new(script);
     let mut writer = Vec::new(rt.alloc());
-    play(rt, rt.alloc(), &mut reader, &mut writer).expect(rt, "lines");
+    play(rt, rt.alloc(), capacity, &mut reader, &mut writer).expect(rt, "lines");
     let printed = writer.as_slice();
     assert!(rt; printed == wanted, "{printed:?} is not {wanted:?}");
 }
 
-/// Each command of the table prints the line beside it.
+/// Each command of the table prints the line beside it, whether a client's cache may have 1,024 blocks or one.
 pub(crate) fn prints(rt: &impl ScriptHost, table: &str) {
     let (mut script, mut wanted) = (Vec::new(rt.alloc()), Vec::new(rt.alloc()));
     for row in table.lines() {
         add_row(rt, &mut script, &mut wanted, row);
     }
-    plays(rt, &script, &wanted);
+    plays(rt, CACHED_AT_FIRST, &script, &wanted);
+    plays(rt, 1, &script, &wanted);
 }

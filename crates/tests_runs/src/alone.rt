@@ -80,6 +80,34 @@ fn steps_out_of_phase_are_not_taken(rt: HostRuntime) {
     let_go(told);
 }
 
+/// The cache of an open client may have 1 to 4,096 blocks, in any phase.
+#[test]
+fn caches_of_all_sizes(rt: HostRuntime) {
+    let rt = &(rt, Here);
+    let alloc = rt.alloc();
+    let acts = vec![in alloc;
+        Act::Cache(1),
+        Act::Open,
+        Act::Cache(0),
+        Act::Cache(1),
+        Act::Cache(4_096),
+        Act::Cache(4_097),
+        declaration(rt),
+        Act::Cache(2),
+    ]
+    .expect(rt, "memory");
+    let told = answers(rt, acts, None, None);
+    for (place, answer) in told.iter().enumerate() {
+        let is_right = match answer {
+            Answer::Cached => matches!(place, 3 | 4 | 7),
+            Answer::NotTaken => matches!(place, 0 | 2 | 5),
+            _ => matches!(place, 1 | 6),
+        };
+        assert!(rt; is_right, "at {place}");
+    }
+    let_go(told);
+}
+
 #[test]
 fn what_is_declared_is_told_again(rt: HostRuntime) {
     let rt = &(rt, Here);

@@ -5,7 +5,7 @@ use crate::here::Here;
 use crate::planning::user;
 use client_runs::{Accepted, Act, Answer};
 use client_verify::Look;
-use honest_runs::{Delivery, HonestAct, HonestStep, honest_run};
+use fork_theorem::{Delivery, HonestAct, HonestStep, honest_run};
 use layout::let_go;
 use std::alloc::Global;
 use tests_aids::numbers::{i_number, principal};

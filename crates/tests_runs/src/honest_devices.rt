@@ -3,7 +3,7 @@
 
 use crate::honest::Script;
 use client_runs::{Act, Answer};
-use honest_runs::HonestStep;
+use fork_theorem::HonestStep;
 use layout::let_go;
 use lms_sign::PublicKey;
 use std::alloc::Global;

@@ -9,7 +9,7 @@ use crate::honest_devices::crash;
 use crate::planning::{Row, planned_of};
 use client_runs::{Act, Answer};
 use client_verify::{ClientError, Look, Step};
-use honest_runs::{Delivery, HonestAct, HonestStep};
+use fork_theorem::{Delivery, HonestAct, HonestStep};
 use layout::let_go;
 use lms_sign::PublicKey;
 use std::alloc::Global;
@@ -145,10 +145,11 @@ impl Story {
         self.script.declares(rt, number, planned);
     }
 
-    /// A user's certificate is sent.
+    /// A user's certificate is sent. While blocks are asked for, the client's cache gets another size.
     fn updates(&mut self, rt: &impl Host, dice: &mut Dice, number: u8) {
         let update = HonestAct::Update(dice.delivery());
         self.script.add(rt, number, update);
+        self.script.alone(rt, number, Act::Cache(2));
         self.script.judges(rt, number);
     }
 
@@ -166,7 +167,7 @@ impl Story {
         self.script.add(rt, number, commit);
     }
 
-    /// A user looks somewhere, in one of the three ways.
+    /// A user looks somewhere, in one of the three ways. In the middle of it the client's cache gets another size.
     fn looks(&mut self, rt: &impl Host, dice: &mut Dice, number: u8) {
         let (owner, place) = *dice.one_of(rt, &PLACES);
         let (owner, place) = (principal(rt, owner), i_number(rt, place));
@@ -176,6 +177,7 @@ impl Story {
             _ => Act::Free(owner, place, i_number(rt, 70)),
         };
         self.script.alone(rt, number, act);
+        self.script.alone(rt, number, Act::Cache(1));
         self.script.is_given(rt, number);
     }
 

@@ -18,6 +18,10 @@ mod honest;
 #[cfg(test)]
 mod honest_devices;
 #[cfg(test)]
+mod honest_log;
+#[cfg(test)]
+mod honest_play;
+#[cfg(test)]
 mod honest_random;
 #[cfg(test)]
 mod instance;

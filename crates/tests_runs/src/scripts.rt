@@ -1,6 +1,6 @@
 //! What scripts print, also where a reader or a writer fails: the lines before stand.
 
-use fork_theorem::{PlayError, play};
+use fork_theorem::{CACHED_AT_FIRST, PlayError, play};
 use std::alloc::Global;
 use std::io::{self, BufReader, Cursor, ErrorKind, Read};
 use std::process::Abort;
@@ -661,12 +661,18 @@ fn check_text(rt: &impl Host, found: &[u8], wanted: &[u8]) {
     assert!(rt; found == wanted, "{found:?} is not {wanted:?}");
 }
 
-/// The script prints these lines.
-pub(crate) fn prints(rt: &impl Host, script: &[u8], lines: &[u8]) {
+/// The script prints these lines where the cache of each client may have so many blocks.
+fn prints_at(rt: &impl Host, capacity: usize, script: &[u8], lines: &[u8]) {
     let mut reader = Cursor::new(script);
     let mut writer = Vec::new(rt.alloc());
-    play(rt, rt.alloc(), &mut reader, &mut writer).expect(rt, "lines");
+    play(rt, rt.alloc(), capacity, &mut reader, &mut writer).expect(rt, "lines");
     check_text(rt, &writer, lines);
+}
+
+/// The script prints these lines, whether a client's cache may have 1,024 blocks or one.
+pub(crate) fn prints(rt: &impl Host, script: &[u8], lines: &[u8]) {
+    prints_at(rt, CACHED_AT_FIRST, script, lines);
+    prints_at(rt, 1, script, lines);
 }
 
 #[test]
@@ -720,7 +726,7 @@ fn lines_before_a_failing_read(rt: HostRuntime) {
     let failing = Failing { bytes: SCRIPT };
     let mut reader = BufReader::new(rt.alloc(), failing).expect(&rt, "memory");
     let mut writer = Vec::new(rt.alloc());
-    let played = play(&rt, rt.alloc(), &mut reader, &mut writer);
+    let played = play(&rt, rt.alloc(), CACHED_AT_FIRST, &mut reader, &mut writer);
     assert!(rt; matches!(played, Err(PlayError::Read)), "no reader");
     check_text(&rt, &writer, b"0 begin 1\nerror\n");
 }
@@ -733,7 +739,7 @@ fn lines_before_a_failing_write(rt: HostRuntime) {
     let mut room = [0; ROOM];
     let mut reader = Cursor::new(b"begin 0\nupdate 0 a\ncommit 0 a\n".as_slice());
     let mut writer = Cursor::new(room.as_mut_slice());
-    let played = play(&rt, rt.alloc(), &mut reader, &mut writer);
+    let played = play(&rt, rt.alloc(), CACHED_AT_FIRST, &mut reader, &mut writer);
     assert!(rt; matches!(played, Err(PlayError::Write)), "no writer");
     check_text(&rt, &room, b"0 begin 1\n0 ");
 }

@@ -27,6 +27,10 @@ const DIRECTORY: usize = 2;
 /// The i-node of a file, which is stored or asked for.
 const INODE: usize = 1;
 
+/// What is asked for again once the largest file was laid out, which pushes what was read for the look out of the cache:
+/// four blocks of the table of principals, and the i-node of the file that is replaced.
+const AGAIN: usize = 4 + INODE;
+
 /// Users 0 and 1 are listed, the root directory has a file, and each of both has a process behind it.
 const BEGINNING: [(&str, &str); 3] = [
     ("0", "adduser 1 KEY1"),
@@ -141,7 +145,8 @@ fn of_what_is_old(rt: HostRuntime) {
     let most = LOOK + ROOT + INODE + OPERATION + TABLE;
     let put = ("0", "put /f FILE");
     costs(&rt, &mut town, &digits, put, &small, most + INODE + 1);
-    costs(&rt, &mut town, &digits, put, &large, most + INODE + 1024);
+    let largest = most + INODE + 1024 + AGAIN;
+    costs(&rt, &mut town, &digits, put, &large, largest);
     costs(
         &rt,
         &mut town,

@@ -5,7 +5,7 @@ use Rattle.client_verify.specs.State.{State}
 use Rattle.client_steps.specs.Anywhere.{on_ok}
 use Rattle.client_steps.proofs.Answered.{begun}
 use Rattle.file_session.specs.Calls.{Begins}
-use Rattle.file_session.proofs.Steps.{begun_more, leads}
+use Rattle.file_session.proofs.Steps.{leads}
 use Rattle.file_session.proofs.calls.begin.Goals as goal
 
 pub returns-clause-leads : goal.returns-clause-leads
@@ -13,8 +13,7 @@ returns-clause-leads g c =
     let e = c.begin.ensures in
     leads _ (Begins c.args.changes.now (map vec_items c.args.laid.now) (on_ok vec_items c.begin.result)) _
     (begun c.args.client.now c.begin.new.self c.args.changes.now (map vec_items c.args.laid.now) c.begin.result c.requires.idle c.requires.few c.requires.laid
-    e.declared e.text e.fits e.any_moment e.tried e.no_leaf e.no_number e.rose e.fails e.fits_device e.only e.err) tt
-    (begun_more c.args.client.now c.begin.new.self c.args.changes.now (map vec_items c.args.laid.now) c.begin.result e.declared e.fails e.err)
+    e.declared e.kept e.text e.fits e.any_moment e.tried e.no_leaf e.no_number e.rose e.fails e.kept_device e.fits_device e.only e.err) tt tt
 
 pub returns-clause-declared : goal.returns-clause-declared
 returns-clause-declared g c = on_ok_weaker c.begin.result (λ h. ap (λ (s : State). s.phase) h.2) c.begin.ensures.declared

@@ -4,21 +4,19 @@ use Rattle.client_steps.proofs.Answered.{signed}
 use Rattle.client_verify.specs.State.{released}
 use Rattle.file_session.specs.Calls.{Signs, lost_of}
 use Rattle.std.proofs.Common.{refl}
-use Rattle.file_session.proofs.Steps.{leads, of_declared, signed_more}
+use Rattle.file_session.proofs.Steps.{leads, of_declared, sign_unfinished}
 use Rattle.file_session.proofs.calls.sign.Goals as goal
 
 pub returns-clause-leads : goal.returns-clause-leads
 returns-clause-leads g c =
     let e = c.sign.ensures in
     let s = c.args.client.now in
-    let is = of_declared (released s) s.accepted c.requires c.type_invariant.ensures.replies.of_accepted in
     leads _ (Signs (on_ok vec_items c.sign.result) (lost_of c.sign.new.self)) _
-    (signed s c.sign.new.self c.sign.result c.requires e.signed e.text e.fits e.any_moment e.tried e.no_leaf e.rose e.fails e.fits_device e.only e.err) refl
-    (signed_more s c.sign.new.self c.sign.result (lost_of c.sign.new.self) c.requires is e.signed e.fails e.err).0
+    (signed s c.sign.new.self c.sign.result c.requires e.signed e.gone e.text e.fits e.any_moment e.tried e.no_leaf e.rose e.fails e.fits_device e.only e.err) refl tt
 
 pub returns-clause-unfinished : goal.returns-clause-unfinished
 returns-clause-unfinished g c =
     let e = c.sign.ensures in
     let s = c.args.client.now in
     let is = of_declared (released s) s.accepted c.requires c.type_invariant.ensures.replies.of_accepted in
-    (signed_more s c.sign.new.self c.sign.result (lost_of c.sign.new.self) c.requires is e.signed e.fails e.err).1
+    sign_unfinished s c.sign.new.self c.sign.result c.requires is e.signed e.fails e.err

@@ -1,4 +1,4 @@
-use Rattle.honest_line.proofs.Line.{carried_ok}
+use Rattle.honest_line.proofs.OneLine.{carried_ok}
 use Rattle.honest_line.proofs.running.honest_run.Goals as goal
 
 pub returns : goal.returns

@@ -1,4 +1,5 @@
 use Rattle.std.proofs.Common.{map}
+use Rattle.std.specs.NonZero.{non_zero_usize_get}
 use Rattle.std.specs.Vec.{vec_items}
 use Rattle.checked_blocks.specs.CheckedBlocks.{checked_blocks}
 use Rattle.checked_blocks.proofs.MoveLaws.{are_kept, keeps}
@@ -7,11 +8,12 @@ use Rattle.checked_blocks.proofs.checked.CheckedBlocks.keep.Goals as goal
 pub invariant_of-self : goal.invariant_of-self
 invariant_of-self g c =
     let i = c.self.inside in
-    let k = checked_blocks i.first i.held.entries i.cache.entries i.cache.cap in
-    are_kept k (map vec_items c.args.texts.items) c.put_texts.new.cache.entries c.put_texts.new.cache.cap c.self.invariant c.put_texts.ensures.of_texts c.put_texts.ensures.capacity
+    let k = checked_blocks i.first i.held.entries i.cache.entries (non_zero_usize_get i.capacity) in
+    are_kept k (map vec_items c.args.texts.items) c.put_texts.new.cache.entries c.self.invariant (rw c.resize.ensures at c.put_texts.ensures.of_texts)
 
 pub returns : goal.returns
 returns g c =
     let i = c.self.inside in
-    let k = checked_blocks i.first i.held.entries i.cache.entries i.cache.cap in
-    rw (← c.self.view_is) (keeps k (map vec_items c.args.texts.items) c.put_texts.new.cache.entries c.put_texts.new.cache.cap c.put_texts.ensures.put c.put_texts.ensures.of_texts c.put_texts.ensures.capacity)
+    let k = checked_blocks i.first i.held.entries i.cache.entries (non_zero_usize_get i.capacity) in
+    rw (← c.self.view_is) (keeps k (map vec_items c.args.texts.items) c.put_texts.new.cache.entries (rw c.resize.ensures at c.put_texts.ensures.put) (rw c.resize.ensures at c.put_texts.ensures.of_texts)
+    (rw c.resize.ensures at c.put_texts.ensures.few))

@@ -9,6 +9,8 @@ use Rattle.client_releases.specs.declared.error.ClientError.TheVariants as error
 use Rattle.client_releases.specs.declared.phase.Phase.TheVariants as phase
 use Rattle.client_releases.specs.Releasing.{AnyMoment, IsTried, OneHasRisen, cert_record}
 use Rattle.client_releases.specs.Told.{Released, sent}
+use Rattle.checked_blocks.specs.CheckedBlocks.{CheckedBlocks}
+use Rattle.client_verify.specs.Holding.{LaysOut}
 use Rattle.client_verify.specs.Progress.{accepted_of, checked_of}
 use Rattle.client_verify.specs.State.{State, declared_text, next_cert, released}
 use Rattle.client_verify.proofs.Releasing.{at_device, begun, begun_failed, but_device, err_at, never_else, ok_either, only_device, own_after, refused_moments, refused_tried, same_error, seen, stands_in}
@@ -31,12 +33,12 @@ returns-in-Err-clause-no_number g c = same_error c.in-Err.error error.NoNumber _
 
 pub declare-requires-clause-free : goal.declare-requires-clause-free
 declare-requires-clause-free g c full =
-    let is = c.self-2.view_is ∙ c.in-Ok.ensures.laying in
+    let is = c.self-2.view_is ∙ c.in-Ok.ensures.over in
     c.in-Ok.ensures.free (subst (λ (o : Released). IsFull o.devices.ledger.file.now.text) (ap released is) full)
 
 pub declare-requires-clause-own : goal.declare-requires-clause-own
 declare-requires-clause-own g c =
-    let is = c.self-2.view_is ∙ c.in-Ok.ensures.laying in
+    let is = c.self-2.view_is ∙ c.in-Ok.ensures.over in
     (next_cert c.args.self.now c.args.changes.now, c.in-Ok.ensures.text, c.in-Ok.ensures.fits, sym (ap (λ (o : State). o.user) is), sym c.in-Ok.ensures.number)
 
 pub invariant_of-self : goal.invariant_of-self
@@ -44,8 +46,7 @@ invariant_of-self g c =
     let s = c.args.self.now in
     let r = c.self-2.inside.releases in
     let new = c.declare.new.self in
-    let laid = map vec_items c.args.laid.now in
-    let is = c.self-2.view_is ∙ c.in-Ok.ensures.laying in
+    let is = c.self-2.view_is ∙ c.in-Ok.ensures.over in
     let same : c.self.inside.releases ≡ r = ap released c.self.view_is ∙ sym (ap released is) in
     let key = c.as_bytes-size.ensures.same ∙ c.key.ensures ∙ ap (λ (o : Released). public_key_of o.seed o.id) same in
     rw c.put_in.ensures (record { of_checked = tt; of_accepted = tt }, λ own. own_after c.declare.result r new c.as_bytes-size.result.now c.in-Ok.prepared.0 c.in-Ok.prepared.1 key c.as_bytes-size.ensures.size c.declare.ensures.declared c.declare.ensures.err (c.self-2.invariant.1 own))
@@ -55,18 +56,16 @@ returns-clause-declared g c =
     let s = c.args.self.now in
     let r = c.self-2.inside.releases in
     let new = c.declare.new.self in
-    let laid = map vec_items c.args.laid.now in
-    let is = c.self-2.view_is ∙ c.in-Ok.ensures.laying in
+    let is = c.self-2.view_is ∙ c.in-Ok.ensures.over in
     rw c.put_in.ensures (on_ok_weaker c.declare.result
-    (λ d. begun r new s c.self-2.inside.pinned c.self-2.inside.blocks (checked_of c.self-2.inside.progress) (accepted_of c.self-2.inside.progress) c.self-2.inside.view laid is c.args.changes.now c.in-Ok.prepared.1 c.in-Ok.prepared.0 d.0 c.in-Ok.ensures.text c.in-Ok.ensures.number d.1 d.2) c.declare.ensures.declared)
+    (λ d. begun r new s c.self-2.inside.pinned c.self-2.inside.blocks (checked_of c.self-2.inside.progress) (accepted_of c.self-2.inside.progress) c.self-2.inside.view c.prepare.new.self.blocks is c.args.changes.now c.in-Ok.prepared.1 c.in-Ok.prepared.0 d.0 c.in-Ok.ensures.text c.in-Ok.ensures.number d.1 d.2) c.declare.ensures.declared)
 
 pub returns-clause-any_moment : goal.returns-clause-any_moment
 returns-clause-any_moment g c =
     let s = c.args.self.now in
     let r = c.self-2.inside.releases in
     let new = c.declare.new.self in
-    let laid = map vec_items c.args.laid.now in
-    let is = c.self-2.view_is ∙ c.in-Ok.ensures.laying in
+    let is = c.self-2.view_is ∙ c.in-Ok.ensures.over in
     seen (λ (o : Released) (t : Bytes). (leaf : LeafNumber) → IsLeastFree o.devices.ledger.file.now.text leaf → AnyMoment leaf (cert_record (sent o leaf t)) o.devices new.devices)
     r (released s) c.in-Ok.prepared.1 (cert.spell (next_cert s c.args.changes.now)) (ap released is) c.in-Ok.ensures.text c.declare.ensures.any_moment
 
@@ -75,8 +74,7 @@ returns-clause-tried g c =
     let s = c.args.self.now in
     let r = c.self-2.inside.releases in
     let new = c.declare.new.self in
-    let laid = map vec_items c.args.laid.now in
-    let is = c.self-2.view_is ∙ c.in-Ok.ensures.laying in
+    let is = c.self-2.view_is ∙ c.in-Ok.ensures.over in
     on_err_weaker c.declare.result
     (seen (λ (o : Released) (t : Bytes). IsTried (λ leaf. cert_record (sent o leaf t)) o.devices new.devices) r (released s) c.in-Ok.prepared.1 (cert.spell (next_cert s c.args.changes.now)) (ap released is) c.in-Ok.ensures.text) c.declare.ensures.tried
 
@@ -91,8 +89,7 @@ returns-clause-rose g c fault =
     let s = c.args.self.now in
     let r = c.self-2.inside.releases in
     let new = c.declare.new.self in
-    let laid = map vec_items c.args.laid.now in
-    let is = c.self-2.view_is ∙ c.in-Ok.ensures.laying in
+    let is = c.self-2.view_is ∙ c.in-Ok.ensures.over in
     subst (λ (o : Released). OneHasRisen o.devices new.devices) (ap released is) (at_device _ c.declare.result c.declare.ensures.device fault)
 
 pub returns-clause-fails : goal.returns-clause-fails
@@ -100,9 +97,8 @@ returns-clause-fails g c fault =
     let s = c.args.self.now in
     let r = c.self-2.inside.releases in
     let new = c.declare.new.self in
-    let laid = map vec_items c.args.laid.now in
-    let is = c.self-2.view_is ∙ c.in-Ok.ensures.laying in
-    rw c.put_in.ensures (begun_failed r new s c.self-2.inside.pinned c.self-2.inside.blocks (checked_of c.self-2.inside.progress) (accepted_of c.self-2.inside.progress) c.self-2.inside.view laid is (err_at c.declare.result error.Device c.declare.ensures.err fault))
+    let is = c.self-2.view_is ∙ c.in-Ok.ensures.over in
+    rw c.put_in.ensures (begun_failed r new s c.self-2.inside.pinned c.self-2.inside.blocks (checked_of c.self-2.inside.progress) (accepted_of c.self-2.inside.progress) c.self-2.inside.view c.prepare.new.self.blocks is (err_at c.declare.result error.Device c.declare.ensures.err fault))
 
 pub returns-clause-fits : goal.returns-clause-fits
 returns-clause-fits g c = ok_either c.declare.result c.in-Ok.ensures.fits
@@ -112,3 +108,10 @@ returns-clause-only g c = only_device _ c.declare.result c.declare.ensures.devic
 
 pub returns-clause-err : goal.returns-clause-err
 returns-clause-err g c = but_device _ _ c.declare.result c.declare.ensures.device
+
+pub returns-clause-kept : goal.returns-clause-kept
+returns-clause-kept g c =
+    ok_either c.declare.result (subst (λ (b : CheckedBlocks). LaysOut c.args.self.now (map vec_items c.args.laid.now) b) (sym (ap (λ (s : State). s.blocks) c.self-2.view_is)) c.in-Ok.ensures.kept)
+
+pub returns-clause-kept_device : goal.returns-clause-kept_device
+returns-clause-kept_device g c = λ fault. subst (λ (b : CheckedBlocks). LaysOut c.args.self.now (map vec_items c.args.laid.now) b) (sym (ap (λ (s : State). s.blocks) c.self-2.view_is)) c.in-Ok.ensures.kept

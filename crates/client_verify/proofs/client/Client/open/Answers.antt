@@ -17,10 +17,9 @@ invariant_of-result g c =
 
 pub returns-in-Ok-open-clause-genesis : goal.returns-in-Ok-open-clause-genesis
 returns-in-Ok-open-clause-genesis g c =
-    let same = c.as_bytes.ensures.same in
-    has_genesis c.args.pinned c.in-Ok.blocks (rw same at c.in-Ok.ensures)
+    has_genesis c.args.pinned c.in-Ok.blocks c.in-Ok.ensures
 
 pub returns-in-Ok-open-clause-table_file : goal.returns-in-Ok-open-clause-table_file
 returns-in-Ok-open-clause-table_file g c =
-    let same = c.as_bytes.ensures.same in
-    has_table c.args.pinned c.in-Ok.blocks (rw same at c.as_bytes.ensures.size) (rw same at c.in-Ok.ensures)
+    let same = c.as_bytes-size.ensures.same in
+    has_table c.args.pinned c.in-Ok.blocks (rw same at c.as_bytes-size.ensures.size) c.in-Ok.ensures

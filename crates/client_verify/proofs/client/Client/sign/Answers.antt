@@ -56,7 +56,7 @@ returns-in-Ok-sign-clause-signed g c =
     let of_shown = shown_is r new s c.self.inside.pinned c.self.inside.blocks (checked_of c.self.inside.progress) (accepted_of c.self.inside.progress) c.self.inside.view c.self.view_is y d.0 c.in-Ok.drawn.0.structure c.in-Ok.drawn.0.shown c.in-Ok-sign.signature (sent r d.0 c.in-Ok.drawn.0.text) next c.in-Ok.ensures.shown c.in-Ok-sign.ensures.signature d.2 in
     let shown = view_is r new s c.self.inside.pinned c.self.inside.blocks (checked_of c.self.inside.progress) (accepted_of c.self.inside.progress) c.self.inside.view c.self.view_is y d.0 c.ready.inside.good.lists c.ready.inside.good.table _ c.with_own.result.items c.in-Ok.drawn.1.items c.ready.inside.lost.items
     (ap (λ (q : Ready). q.lists) c.ready.view_is) (ap (λ (q : Ready). q.table) c.ready.view_is) (ap (λ (q : Ready). q.lost) c.ready.view_is) of_shown c.with_own.ensures copied in
-    rw (c.take_accepted-ready.ensures.none, c.put_in.ensures) (if_some s.accepted y _ there (signed_of r new s c.self.inside.pinned c.self.inside.blocks (checked_of c.self.inside.progress) (accepted_of c.self.inside.progress) c.self.inside.view c.self.view_is y d.0 c.in-Ok.drawn.0.structure c.in-Ok.drawn.0.text _ next c.in-Ok.ensures.text d.1 d.2 shown))
+    rw (c.take_accepted-ready.ensures.none, c.put_in.ensures) (if_some s.accepted y _ there (signed_of r new s c.self.inside.pinned c.self.inside.blocks (checked_of c.self.inside.progress) (accepted_of c.self.inside.progress) c.self.inside.view c.self.view_is _ y d.0 c.in-Ok.drawn.0.structure c.in-Ok.drawn.0.text _ next c.in-Ok.ensures.text d.1 d.2 shown))
 
 pub returns-in-Ok-sign-clause-any_moment : goal.returns-in-Ok-sign-clause-any_moment
 returns-in-Ok-sign-clause-any_moment g c =

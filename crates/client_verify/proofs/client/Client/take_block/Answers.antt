@@ -1,12 +1,13 @@
-use Rattle.std.proofs.Common.{◌≡◌, Some, None, ap, rules, sym, ◌∙◌}
+use Rattle.std.proofs.Common.{◌≡◌, Some, None, ap, sym, ◌∙◌}
 use Rattle.std.specs.Option.{option_copied}
 use Rattle.std.proofs.lemmas.Result.{IfOk-from_err, IfOk-weaker}
 use Rattle.reply_rules.specs.declared.rule.Rule.TheVariants as rule
-use Rattle.client_tree.specs.Held.{held}
+use Rattle.checked_blocks.specs.CheckedBlocks.{known_blocks}
 use Rattle.client_verify.specs.Progress.{checked_of}
 use Rattle.client_verify.specs.State.{State, asked_of}
 use Rattle.reply_check.specs.AskedBlock.{block_breaks}
 use Rattle.client_verify.specs.Judged.{IsReading, IsWriting}
+use Rattle.client_verify.proofs.Holds.{held_from}
 use Rattle.client_verify.proofs.Steps.{handed_goes, if_some, some_one}
 use Rattle.client_verify.proofs.Handing.{breaks_after, breaks_before, handed_reads, if_at}
 use Rattle.client_verify.proofs.client.Client.take_block.Goals as goal
@@ -25,7 +26,7 @@ returns-in_err-text-clause-told g c =
     let k = c.in-Checking.checked in
     let inner : checked_of c.self.inside.progress ≡ Some k = ap checked_of c.in-Checking.is in
     let there : old.checked ≡ Some k = ap (λ (s : State). s.checked) (sym c.self.view_is) ∙ inner in
-    let ok = λ (is : block_breaks (held old.blocks) (asked_of k) (option_copied c.args.block) ≡ Some rule.Block). c.in_err-text.ensures.told (breaks_before _ old c.asked-asked.result (asked_of k) (option_copied c.args.block) (Some rule.Block) c.self.view_is c.asked-asked.ensures is) in
+    let ok = λ (is : block_breaks (known_blocks old.blocks) (asked_of k) (option_copied c.args.block) ≡ Some rule.Block). c.in_err-text.ensures.told (breaks_before _ old c.asked-asked.result (asked_of k) (option_copied c.args.block) (Some rule.Block) c.self.view_is c.asked-asked.ensures is) in
     if_some old.checked k _ there (λ is. let h = ok is in absurd cc)
 
 pub read_on-requires-clause-reading : goal.read_on-requires-clause-reading
@@ -52,9 +53,9 @@ returns-then-reads-clause-handed g c =
     let text = c.in-Ok.text.now in
     let inner : checked_of c.self.inside.progress ≡ Some k = ap checked_of c.in-Checking.is in
     let there : old.checked ≡ Some k = ap (λ (s : State). s.checked) (sym c.self.view_is) ∙ inner in
-    let inner_none : block_breaks (held c.self.inside.blocks) c.asked-asked.result block ≡ None = search rules in
+    let inner_none : block_breaks (known_blocks c.self.inside.blocks) c.asked-asked.result block ≡ None = rw c.in-Ok.is at c.in_ok-text.ensures.breaks in
     let none = breaks_after _ old c.asked-asked.result (asked_of k) block None c.self.view_is c.asked-asked.ensures inner_none in
-    let is : block ≡ Some text = search rules in
+    let is : block ≡ Some text = rw c.in-Ok.is at c.in_ok-text.ensures.kept in
     if_some old.checked k _ there (IfOk-weaker c.read_on.result _ _ (λ st reads. handed_reads old c.read_on.new.self k block text st none is reads) (if_at old.checked k _ there c.read_on.ensures.goes))
 
 pub returns-else-reads-clause-handed : goal.returns-else-reads-clause-handed
@@ -65,9 +66,9 @@ returns-else-reads-clause-handed g c =
     let text = c.in-Ok.text.now in
     let inner : checked_of c.self.inside.progress ≡ Some k = ap checked_of c.in-Checking.is in
     let there : old.checked ≡ Some k = ap (λ (s : State). s.checked) (sym c.self.view_is) ∙ inner in
-    let inner_none : block_breaks (held c.self.inside.blocks) c.asked-asked.result block ≡ None = search rules in
+    let inner_none : block_breaks (known_blocks c.self.inside.blocks) c.asked-asked.result block ≡ None = rw c.in-Ok.is at c.in_ok-text.ensures.breaks in
     let none = breaks_after _ old c.asked-asked.result (asked_of k) block None c.self.view_is c.asked-asked.ensures inner_none in
-    let is : block ≡ Some text = search rules in
+    let is : block ≡ Some text = rw c.in-Ok.is at c.in_ok-text.ensures.kept in
     if_some old.checked k _ there (IfOk-weaker c.write_on.result _ _ (λ st goes. handed_goes old k block text st c.write_on.new.self none is goes) (if_at old.checked k _ there c.write_on.ensures.goes))
 
 pub returns-then-reads-clause-told : goal.returns-then-reads-clause-told
@@ -77,7 +78,7 @@ returns-then-reads-clause-told g c =
     let block = option_copied c.args.block in
     let inner : checked_of c.self.inside.progress ≡ Some k = ap checked_of c.in-Checking.is in
     let there : old.checked ≡ Some k = ap (λ (s : State). s.checked) (sym c.self.view_is) ∙ inner in
-    let inner_none : block_breaks (held c.self.inside.blocks) c.asked-asked.result block ≡ None = search rules in
+    let inner_none : block_breaks (known_blocks c.self.inside.blocks) c.asked-asked.result block ≡ None = rw c.in-Ok.is at c.in_ok-text.ensures.breaks in
     let none = breaks_after _ old c.asked-asked.result (asked_of k) block None c.self.view_is c.asked-asked.ensures inner_none in
     if_some old.checked k _ there (λ is. absurd (cc (none, is)))
 
@@ -88,6 +89,18 @@ returns-else-reads-clause-told g c =
     let block = option_copied c.args.block in
     let inner : checked_of c.self.inside.progress ≡ Some k = ap checked_of c.in-Checking.is in
     let there : old.checked ≡ Some k = ap (λ (s : State). s.checked) (sym c.self.view_is) ∙ inner in
-    let inner_none : block_breaks (held c.self.inside.blocks) c.asked-asked.result block ≡ None = search rules in
+    let inner_none : block_breaks (known_blocks c.self.inside.blocks) c.asked-asked.result block ≡ None = rw c.in-Ok.is at c.in_ok-text.ensures.breaks in
     let none = breaks_after _ old c.asked-asked.result (asked_of k) block None c.self.view_is c.asked-asked.ensures inner_none in
     if_some old.checked k _ there (λ is. absurd (cc (none, is)))
+
+pub returns-then-reads-clause-held : goal.returns-then-reads-clause-held
+returns-then-reads-clause-held g c =
+    let old = c.args.self.now in
+    let is : option_copied c.args.block ≡ Some c.in-Ok.text.now = rw c.in-Ok.is at c.in_ok-text.ensures.kept in
+    held_from old c.read_on.new.self (Some c.in-Ok.text.now) (option_copied c.args.block) c.read_on.result is c.read_on.ensures.held
+
+pub returns-else-reads-clause-held : goal.returns-else-reads-clause-held
+returns-else-reads-clause-held g c =
+    let old = c.args.self.now in
+    let is : option_copied c.args.block ≡ Some c.in-Ok.text.now = rw c.in-Ok.is at c.in_ok-text.ensures.kept in
+    held_from old c.write_on.new.self (Some c.in-Ok.text.now) (option_copied c.args.block) c.write_on.result is c.write_on.ensures.held

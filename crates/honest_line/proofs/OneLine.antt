@@ -1,0 +1,64 @@
+-- Over each honest run all stand in one line.
+use Rattle.std.proofs.Common.{ℕ, List, Result, Ok, Err, IfOk}
+use Rattle.std.proofs.lemmas.List.{length-replicate}
+use Rattle.agreement.specs.Lines.{IsBeginning, line}
+use Rattle.agreement.proofs.Members.{to_all}
+use Rattle.client_runs.specs.declared.world.Answer.{Answer}
+use Rattle.client_runs.specs.Carried.{script_keys}
+use Rattle.client_runs.specs.Released.{views}
+use Rattle.client_runs.specs.Runs.{Keys, public_key}
+use Rattle.client_runs.proofs.Once.{certificates_once, leaves_once, structures_once}
+use Rattle.fork_consistency.proofs.Consistent.{consistent}
+use Rattle.fork_consistency.proofs.ScriptKeys.{pinned_fits}
+use Rattle.honest_history.specs.Placed.{placed}
+use Rattle.honest_runs.specs.declared.step.HonestStep.{HonestStep}
+use Rattle.honest_runs.specs.HonestRuns.{HonestEvent, IsHonestRun, events, history}
+use Rattle.honest_runs.specs.Served.{AreServed}
+use Rattle.honest_runs.proofs.Events.{are_runs}
+use Rattle.honest_line.specs.OneLine.{AreOnOneLine, EachHonestRun, HonestPremises, IsOneLine, RunPremises}
+use Rattle.honest_line.proofs.GoingOn.{all_lead_on}
+use Rattle.honest_line.proofs.Line.{apart, line_of, promised}
+use Rattle.honest_line.proofs.Naming.{premises}
+use Rattle.honest_line.proofs.Next.{each_can_go_on}
+
+on_one_line : (keys : Keys) (run : List HonestEvent) → IsHonestRun keys run → HonestPremises keys run → AreOnOneLine keys run
+on_one_line keys run is p =
+    let steps = promised keys run is p in
+    record {
+      unbroken = steps.0;
+      statuses = steps.1;
+      next = each_can_go_on keys run is p;
+      lead_on = all_lead_on keys run is steps.0;
+      lines = to_all (λ x. IsBeginning (line (views (events run)) x) (placed (public_key keys 0) (history run))) (views (events run)) (line_of keys run is p);
+      consistent = consistent keys (events run) (are_runs keys run is) (premises keys run is (apart keys run is p) p.true_keys);
+    }
+
+pub each_honest_run : EachHonestRun
+each_honest_run = on_one_line
+
+-- ---- steps that are carried out
+
+all_premises : (run : List HonestEvent) → RunPremises run → HonestPremises script_keys run
+all_premises run p = record {
+  no_collision = p.no_collision;
+  true_keys = record { pinned = pinned_fits; added = p.added };
+  identifiers = λ u. length-replicate {A = ℕ} 16 u;
+}
+
+carried : {A : Type 0} (steps : List (HonestStep A)) (answers : List (Answer A)) → AreServed steps answers → IsOneLine steps answers
+carried steps answers c =
+    let run = are_runs script_keys c.run c.is_run in
+    record {
+      run = c.run;
+      is_run = c.is_run;
+      kept = c.kept;
+      leaves = λ u. leaves_once script_keys (events c.run) u run;
+      certificates = λ u. certificates_once script_keys (events c.run) u run;
+      structures = λ u. structures_once script_keys (events c.run) u run;
+      one_line = λ p. on_one_line script_keys c.run c.is_run (all_premises c.run p);
+    }
+
+-- so is what a call answers with them
+pub carried_ok : {A W E : Type 0} (steps : List (HonestStep A)) (answers_of : W → List (Answer A)) (r : Result W E) → IfOk r (λ w. AreServed steps (answers_of w)) → IfOk r (λ w. IsOneLine steps (answers_of w))
+carried_ok steps answers_of (Ok w) is = carried steps (answers_of w) is
+carried_ok steps answers_of (Err e) is = tt

@@ -1,0 +1,81 @@
+-- How operations go on: what would come next of each client, whatever happened before, and what that leads to.
+use Rattle.std.specs.Prelude.{◌≡◌, ◌⊎◌, ◌+◌, true, false, List, [], ◌∷◌, Some, Ok, IfSome, IsSome}
+use Rattle.layout.specs.Types.{Bytes, Key, User}
+use Rattle.update_cert.specs.Cert.{Cert, cert}
+use Rattle.pending_list.specs.declared.signed.Signed.{Signed}
+use Rattle.pending_list.specs.Signed.{signed}
+use Rattle.reply_rules.specs.declared.rule.Rule.{Rule}
+use Rattle.wire.specs.declared.kinds.Status.TheVariants as status
+use Rattle.client_tree.specs.Held.{held}
+use Rattle.client_releases.specs.declared.phase.Phase.TheVariants as phase
+use Rattle.client_verify.specs.declared.look.Look.TheVariants as look
+use Rattle.client_verify.specs.declared.step.Step.TheVariants as step
+use Rattle.client_verify.specs.declared.view.Looking.{Looking}
+use Rattle.client_verify.specs.State.{Checked, State, asked_of}
+use Rattle.client_steps.specs.Steps.{Begins, Call, Client, Closed, Commits, HasGiven, HasHeard, HasTaken, Hears, Open, Signs, Takes}
+use Rattle.client_runs.specs.Runs.{Keys, client_of, public_key}
+use Rattle.consistency_server.specs.Answers.{Call as ServerCall}
+use Rattle.consistency_server.specs.History.{answer_of, commit_of, update_of}
+use Rattle.honest_runs.specs.HonestRuns.{HonestEvent, events, history, stored}
+use Rattle.honest_line.specs.Answered.{is_at_limit, is_listed}
+
+-- ---- what would come next
+
+-- the server would answer UPDATE with a reply, and the client not refuse that
+abbrev pub HasGoodReply : Key → List ServerCall → State → Type 0
+HasGoodReply pinned calls s =
+    (reply : Bytes) × (answer_of pinned calls (update_of s.text) ≡ record { status = status.Ok; payload = reply })
+    × ((rule : Rule) (new : State) → HasHeard s reply (Ok (step.Broken rule)) new → ⊥)
+
+-- the store has the block that a reply under check asks for, and the client would not refuse that
+abbrev pub HasGoodBlock : List HonestEvent → State → Checked → Type 0
+HasGoodBlock run s k =
+    (block : Bytes) × (held (stored run) (asked_of k).digest ≡ Some block)
+    × ((rule : Rule) (new : State) → HasTaken s (Some block) (Ok (step.Broken rule)) new → ⊥)
+
+-- so it is with the block that a look asks for
+abbrev pub LooksAtGoodBlock : List HonestEvent → State → Looking → Type 0
+LooksAtGoodBlock run s l =
+    (block : Bytes) × (held (stored run) l.asked.digest ≡ Some block)
+    × ((rule : Rule) (new : State) → HasGiven s (Some block) (Ok (look.Broken rule)) new → ⊥)
+
+-- An open client of a user can go on after these steps.
+pub record CanGoOn (keys : Keys) (run : List HonestEvent) (u : User) (s : State) : Type 0 where
+  -- A declared operation has a good reply, if its user is listed, and it is at the limit of no version;
+  pub update : s.phase ≡ phase.Declared → is_listed (public_key keys 0) (history run) u ≡ true
+      → ((c : Signed Cert) → (signed cert).spell c ≡ s.text → is_at_limit (public_key keys 0) (history run) c ≡ false)
+      → HasGoodReply (public_key keys 0) (history run) s
+  -- blocks that are asked for are good;
+  pub block : IfSome s.checked (HasGoodBlock run s)
+  pub look : IfSome s.view (λ v. IfSome v.looking (LooksAtGoodBlock run s))
+  -- and a signed structure would be taken.
+  pub commit : s.phase ≡ phase.Signed
+      → (answer_of (public_key keys 0) (history run) (commit_of s.text)).status ≡ status.Ok
+
+-- so can each client that is open
+abbrev pub ClientCanGoOn : Keys → List HonestEvent → User → Client → Type 0
+ClientCanGoOn keys run u (Closed p) = Unit {0}
+ClientCanGoOn keys run u (Open s) = CanGoOn keys run u s
+
+-- ---- what that leads to
+
+-- a block of the reply is asked for, or the reply is accepted
+abbrev pub HasReply : State → Type 0
+HasReply s = IsSome s.checked ⊎ IsSome s.accepted
+
+-- What a call of a client leads to that is answered without an error, and finds no rule broken: an operation is
+-- declared, of the next number; its reply is under check or accepted, and stays so with each block that is taken; a
+-- structure is signed; and with the server's status 0 the operation is over.
+abbrev pub LeadsOn : Client → Call → Client → Type 0
+LeadsOn (Open s) (Begins changes laid (Ok text)) (Open t) = (t.phase ≡ phase.Declared) × (t.number ≡ s.number + 1)
+LeadsOn (Open s) (Hears text (Ok step)) (Open t) = HasReply t
+LeadsOn (Open s) (Takes block (Ok step)) (Open t) = HasReply t
+LeadsOn (Open s) (Signs (Ok text)) (Open t) = t.phase ≡ phase.Signed
+LeadsOn (Open s) (Commits status.Ok) (Open t) = t.phase ≡ phase.Idle
+LeadsOn before call after = Unit {0}
+
+-- so does each call of the run
+abbrev pub AllLeadOn : List HonestEvent → Type 0
+AllLeadOn [] = Unit {0}
+AllLeadOn (h ∷ older) =
+    IfSome h.step (λ s. LeadsOn (client_of h.user (events older)) s.call s.after) × AllLeadOn older
