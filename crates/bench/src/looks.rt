@@ -1,8 +1,10 @@
-//! Times of looks at files, whose blocks are handed in one after another.
+//! Times of looks at files, whose blocks are handed in one after another, as a client takes them: each is hashed, judged
+//! at its place, and held. A look at a file that was looked at before finds in the cache what that still has.
 
 use crate::host::Host;
 use crate::time::{Time, Times, compress, least, rows};
 use anyhow::{Result, anyhow};
+use checked_blocks::CheckedBlocks;
 use client_tree::{Held, Seen, View, read_table};
 use itable::{ITable, Laid, lay_file};
 use layout::{Digest, INumber, Principal, User, Version, digest, let_go};
@@ -51,20 +53,24 @@ fn store_file(alloc: Global, store: &mut Held<Global>, file: &[u8]) -> Result<Di
     Ok(table.handle(alloc)?)
 }
 
-/// Holds the stored block, too, that is missing.
+/// Holds the stored block, too, that is missing, where it is what its place takes.
 fn hand(
     alloc: Global,
     store: &Held<Global>,
-    held: &mut Held<Global>,
+    known: &mut CheckedBlocks<Global>,
     error: ApplyError,
 ) -> Result<()> {
-    let ApplyError::Missing(digest, _) = error else {
+    let ApplyError::Missing(named, spot) = error else {
         return Err(anyhow!("out of memory"));
     };
-    let Some(block) = store.get(digest) else {
+    let Some(block) = store.get(named) else {
         return Err(anyhow!("a block isn't stored"));
     };
-    held.keep(Vec::from_slice(alloc, block)?)?;
+    if !spot.takes(alloc, known, block)? {
+        return Err(anyhow!("another block"));
+    }
+    let copy = Vec::from_slice(alloc, block)?;
+    known.hold(digest(block), copy)?;
     Ok(())
 }
 
@@ -123,89 +129,136 @@ fn shown_of(alloc: Global, handle: Digest) -> Result<Shown> {
 fn hold_table(
     alloc: Global,
     store: &Held<Global>,
-    held: &mut Held<Global>,
+    known: &mut CheckedBlocks<Global>,
     handle: Digest,
 ) -> Result<()> {
     for _ in 0..u32::MAX {
-        match read_table(alloc, held, owner(), handle) {
+        match read_table(alloc, known, owner(), handle) {
             Ok(_) => break,
-            Err(error) => hand(alloc, store, held, error)?,
+            Err(error) => hand(alloc, store, known, error)?,
         }
     }
     Ok(())
 }
 
-/// Looks until no block of the file is missing: its size.
+/// A look: how many blocks were handed in for it, the size of the file, and the time.
+#[derive(Clone, Copy)]
+struct Looked {
+    blocks: u32,
+    size: usize,
+    time: Duration,
+}
+
+/// Looks until no block of the file is missing: how many were handed in, and its size.
 fn look(
     alloc: Global,
     store: &Held<Global>,
-    held: &mut Held<Global>,
+    known: &mut CheckedBlocks<Global>,
     shown: &Shown,
-) -> Result<usize> {
+) -> Result<(u32, usize)> {
     let key = shown.key.as_bytes();
     let view = View::new(key, &shown.table, &shown.structures, &[], &shown.own);
-    for _ in 0..u32::MAX {
-        match view.look(alloc, held, owner(), INumber::root()) {
-            Ok(Seen::File(bytes)) => return Ok(bytes.len()),
+    for blocks in 0..u32::MAX {
+        match view.look(alloc, known, owner(), INumber::root()) {
+            Ok(Seen::File(bytes)) => return Ok((blocks, bytes.len())),
             Ok(_) => break,
-            Err(error) => hand(alloc, store, held, error)?,
+            Err(error) => hand(alloc, store, known, error)?,
         }
     }
     Err(anyhow!("no file"))
 }
 
-/// The time of a look where only the blocks of the i-table are held, with what is looked at it in.
+/// A look, after which what is held goes into the cache.
 fn timed_look(
     clock: &impl Clock,
     alloc: Global,
     store: &Held<Global>,
-    handle: Digest,
-) -> Result<(Duration, usize)> {
-    let mut held = Held::empty(alloc);
-    hold_table(alloc, store, &mut held, handle)?;
-    let shown = shown_of(alloc, handle)?;
+    known: &mut CheckedBlocks<Global>,
+    shown: &Shown,
+) -> Result<Looked> {
     let start = Instant::now(clock)?;
-    let size = look(alloc, store, &mut held, &shown);
-    let_go(shown);
-    Ok((start.elapsed(clock)?, size?))
+    let (blocks, size) = look(alloc, store, known, shown)?;
+    known.let_go();
+    let time = start.elapsed(clock)?;
+    Ok(Looked { blocks, size, time })
+}
+
+/// A look where only the blocks of the i-table are held, and one more.
+fn two_looks(
+    clock: &impl Clock,
+    alloc: Global,
+    store: &Held<Global>,
+    handle: Digest,
+) -> Result<(Looked, Looked)> {
+    let mut known = CheckedBlocks::new(alloc, Held::empty(alloc))?;
+    hold_table(alloc, store, &mut known, handle)?;
+    let shown = shown_of(alloc, handle)?;
+    let first = timed_look(clock, alloc, store, &mut known, &shown)?;
+    let again = timed_look(clock, alloc, store, &mut known, &shown)?;
+    Ok((first, again))
+}
+
+/// The time of a look, with what the hashes take of the blocks that were handed in for it.
+fn time_of(looked: Looked, unit: f64) -> Time {
+    Time::new(looked.time, looked.blocks.saturating_mul(BLOCK), unit)
+}
+
+/// Which of two looks at a file.
+#[derive(Clone, Copy)]
+enum Which {
+    /// The one where only the blocks of the i-table are held.
+    First,
+    /// The one after it.
+    Again,
 }
 
 /// The time of a look at a file of so many blocks.
-fn measure(rt: &impl Host, unit: f64, blocks: u32) -> Result<Time> {
+fn measure(rt: &impl Host, unit: f64, blocks: u32, which: Which) -> Result<Time> {
     let alloc = rt.alloc();
     let file = file_of(alloc, blocks)?;
     let mut store = Held::empty(alloc);
     let handle = store_file(alloc, &mut store, &file)?;
-    let (time, size) = timed_look(rt, alloc, &store, handle)?;
-    if size != file.len() {
+    let (first, again) = two_looks(rt, alloc, &store, handle)?;
+    if first.size != file.len() || again.size != file.len() {
         return Err(anyhow!("another file"));
     }
-    Ok(Time::new(time, blocks.saturating_mul(BLOCK), unit))
+    match which {
+        Which::First => Ok(time_of(first, unit)),
+        Which::Again => Ok(time_of(again, unit)),
+    }
 }
 
 /// The times of looks at files of 1, 64 and 1,024 blocks.
-fn measure_all(rt: &impl Host) -> Result<Times> {
+fn measure_all(rt: &impl Host, which: Which) -> Result<Times> {
     let (unit, _digest) = compress(rt)?;
     Ok([
-        measure(rt, unit, 1)?,
-        measure(rt, unit, 64)?,
-        measure(rt, unit, 1024)?,
+        measure(rt, unit, 1, which)?,
+        measure(rt, unit, 64, which)?,
+        measure(rt, unit, 1024, which)?,
     ])
 }
 
 /// Measures, and prints of each file the least of all rounds.
-pub(crate) fn report(rt: &impl Host) -> Result<()> {
-    let mut times = measure_all(rt)?;
+fn report_of(rt: &impl Host, which: Which, names: &[&str; 3]) -> Result<()> {
+    let mut times = measure_all(rt, which)?;
     for _round in 1..ROUNDS {
-        times = least(times, measure_all(rt)?);
+        times = least(times, measure_all(rt, which)?);
     }
-    rows(
-        rt,
-        &[
-            "look at 1 block",
-            "look at 64 blocks",
-            "look at 1024 blocks",
-        ],
-        times,
-    )
+    rows(rt, names, times)
+}
+
+/// Measures a look at each file, and one more.
+pub(crate) fn report(rt: &impl Host) -> Result<()> {
+    let first = [
+        "look at 1 block",
+        "look at 64 blocks",
+        "look at 1024 blocks",
+    ];
+    report_of(rt, Which::First, &first)?;
+    let again = [
+        "again at 1 block",
+        "again at 64 blocks",
+        "again at 1024 blocks",
+    ];
+    report_of(rt, Which::Again, &again)
 }

@@ -5,6 +5,7 @@ use Rattle.std.specs.Option.{option_map}
 use Rattle.layout.specs.Types.{Digest, INumber, Principal}
 use Rattle.itable.specs.Inode.{Inode}
 use Rattle.itable.specs.declared.inode.Kind.{Kind}
+use Rattle.itable.specs.declared.inode.Kind.TheVariants as kinds
 use Rattle.tree_parts.specs.Blocks.{Blocks, inode_at, joined, Agrees}
 use Rattle.tree_parts.specs.Asked.{HasBlocks, IsBlock, Lacks}
 use Rattle.tree_parts.specs.declared.error.ApplyError.{ApplyError}
@@ -26,15 +27,15 @@ use Rattle.client_tree.proofs.OpenedLaws.{wider}
 -- a block of an i-node is one of its kind's
 of_kind : (blocks : Blocks) (inode : Digest) (n : Inode) (kind : Kind) (digest : Digest) (s : Spot) → inode_at blocks inode ≡ Some n → IsBlock blocks kind inode digest s → n.kind ≡ kind
 of_kind blocks inode n kind digest s at (k, is, of) =
-    (subst (λ (o : Option Inode). IsSomeAnd o (λ m. (m.kind ≡ kind) × (slice_get m.blocks k ≡ Some digest) × IsSome (joined blocks (take k m.blocks)))) at of).0
+    (subst (λ (o : Option Inode). IsSomeAnd o (λ m. (m.kind ≡ kind) × (slice_get m.blocks k ≡ Some digest) × (kind ≡ kinds.Directory → IsSome (joined blocks (take k m.blocks))))) at of).0
 
 pub all_taken : (blocks : Blocks) (p : Principal) (i : INumber) (inode : Digest) (n : Inode) → inode_at blocks inode ≡ Some n → lacks blocks inode (spot.Inode p i) ≡ false → HasBlocks blocks n.kind inode
     → (digest : Digest) (s : Spot) → IsOfInode blocks p i inode digest s → lacks blocks digest s ≡ false
 all_taken blocks p i inode n held taken has digest s (inl is) =
     subst (λ (x : Spot). lacks blocks digest x ≡ false) (sym is.1) (subst (λ (d : List ℕ). lacks blocks d (spot.Inode p i) ≡ false) (sym is.0) taken)
 all_taken blocks p i inode n held taken has digest s (inr (kind, is)) =
-    let kinds : n.kind ≡ kind = of_kind blocks inode n kind digest s held is in
-    has digest s (subst (λ (k : Kind). IsBlock blocks k inode digest s) (sym kinds) is)
+    let same : n.kind ≡ kind = of_kind blocks inode n kind digest s held is in
+    has digest s (subst (λ (k : Kind). IsBlock blocks k inode digest s) (sym same) is)
 
 -- what is read there is what the opened part has; the table of principals is no part's
 pub look_stands : (blocks : Blocks) (reads : Reading) (users : Table) (x : View) (p : Principal) (i : INumber) (part : Part) (s : Option Slot) → IsOpenedAt blocks x p i part → Agrees blocks reads → is_table p i ≡ false → loaded part.table i ≡ true → slot_here part i ≡ s

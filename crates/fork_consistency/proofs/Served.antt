@@ -31,9 +31,10 @@ use Rattle.principals.specs.TableText.{table}
 use Rattle.update_cert.specs.World.{is_table}
 use Rattle.tree_parts.specs.Blocks.{Blocks, inode_at, inode_told, joined, of_size, root_at, told_by}
 use Rattle.tree_parts.specs.Spot.{completes, is_block_of, is_of_file, size_of_block, takes, takes_block, takes_chunk, takes_file_block, takes_root, takes_table_block}
-use Rattle.tree_parts.specs.Asked.{IsBlock, IsBlockOf, IsChunkFor, IsInode, IsOfPrincipals, IsRoot}
+use Rattle.tree_parts.specs.Asked.{IsBlock, IsBlockOf, IsBlockAfterHeld, IsChunkFor, IsInode, IsOfPrincipals, IsRoot}
 use Rattle.tree_parts.specs.declared.spot.Spot.{Spot}
 use Rattle.tree_parts.specs.declared.spot.Spot.TheVariants as spot
+use Rattle.tree_parts.proofs.ReadingLaws.{after_is_block_of}
 use Rattle.client_tree.specs.Principals.{IsOfNamed}
 use Rattle.agreement.proofs.Members.{In, contains_in}
 use Rattle.fork_consistency.specs.Handles.{HasChunk, IsWhole, told_by_texts}
@@ -202,9 +203,15 @@ module _ (texts : List Bytes) (apart : NoneCollide texts texts) (blocks : Blocks
       taken = ap (λ (x : Spot). takes blocks x laid.text) is.1 ∙ (rw (laid.reads, other) refl);
     }
 
+    -- the blocks before one, as far as they are held
+    front : (k : ℕ) (n : Inode) → inode_at blocks digest ≡ Some n → IsSome (joined blocks (take k n.blocks)) → (bytes : Bytes) × (joined blocks (take k laid.node.blocks) ≡ Some bytes)
+    front k n at held =
+        let b = some_at (joined blocks (take k n.blocks)) held in
+        (b.0, ap (λ (m : Inode). joined blocks (take k m.blocks)) (sym (node_is n at)) ∙ b.1)
+
     module _ (kind : Kind) (k : ℕ) (d : Digest) (is : IsBlockOf blocks kind digest k d) where
-      at_node : (n : Inode) × (inode_at blocks digest ≡ Some n) × ((n.kind ≡ kind) × (slice_get n.blocks k ≡ Some d) × IsSome (joined blocks (take k n.blocks)))
-      at_node = some_and (inode_at blocks digest) (λ n. (n.kind ≡ kind) × (slice_get n.blocks k ≡ Some d) × IsSome (joined blocks (take k n.blocks))) is
+      at_node : (n : Inode) × (inode_at blocks digest ≡ Some n) × ((n.kind ≡ kind) × (slice_get n.blocks k ≡ Some d) × (kind ≡ kinds.Directory → IsSome (joined blocks (take k n.blocks))))
+      at_node = some_and (inode_at blocks digest) (λ n. (n.kind ≡ kind) × (slice_get n.blocks k ≡ Some d) × (kind ≡ kinds.Directory → IsSome (joined blocks (take k n.blocks)))) is
 
       pub held_node : inode_at blocks digest ≡ Some laid.node
       held_node = at_node.1 ∙ ap (λ (n : Inode). Some n) (node_is at_node.0 at_node.1)
@@ -215,10 +222,8 @@ module _ (texts : List Bytes) (apart : NoneCollide texts texts) (blocks : Blocks
       pub block_is : IsAt k d
       block_is = at_place k d (ap (λ (n : Inode). slice_get n.blocks k) (sym (node_is at_node.0 at_node.1)) ∙ at_node.2.1)
 
-      pub before : (bytes : Bytes) × (joined blocks (take k laid.node.blocks) ≡ Some bytes)
-      before =
-          let b = some_at (joined blocks (take k at_node.0.blocks)) at_node.2.2 in
-          (b.0, ap (λ (n : Inode). joined blocks (take k n.blocks)) (sym (node_is at_node.0 at_node.1)) ∙ b.1)
+      pub before : kind ≡ kinds.Directory → (bytes : Bytes) × (joined blocks (take k laid.node.blocks) ≡ Some bytes)
+      before of = front k at_node.0 at_node.1 (at_node.2.2 of)
 
     -- a block of a file takes its place
     serve_file_block : (k : ℕ) (d : Digest) → IsBlockOf blocks kinds.File digest k d → IsServed texts blocks d (spot.File digest k)
@@ -240,7 +245,7 @@ module _ (texts : List Bytes) (apart : NoneCollide texts texts) (blocks : Blocks
     unfolding takes
     serve_directory_block spells k d is =
         let b = block_is kinds.Directory k d is in
-        let so_far = before kinds.Directory k d is in
+        let so_far = before kinds.Directory k d is refl in
         record {
           text = b.text;
           there = laid.inside b.text (in_at laid.blocks k b.text b.at);
@@ -250,11 +255,13 @@ module _ (texts : List Bytes) (apart : NoneCollide texts texts) (blocks : Blocks
               ∙ both_true (not (is_of_file laid.node.kind)) _ (ap (λ (x : Kind). not (is_of_file x)) (kind_is kinds.Directory k d is)) (is_block directory (spells (kind_is kinds.Directory k d is)) k b.text so_far.0 b.at so_far.1);
         }
 
-    serve_table_block : Spells table texts digest laid → (k : ℕ) (d : Digest) → IsBlockOf blocks kinds.File digest k d → IsServed texts blocks d (spot.Table digest k)
+    serve_table_block : Spells table texts digest laid → (k : ℕ) (d : Digest) → IsBlockAfterHeld blocks kinds.File digest k d → IsServed texts blocks d (spot.Table digest k)
     unfolding takes
-    serve_table_block spells k d is =
+    serve_table_block spells k d next =
+        let is = after_is_block_of blocks kinds.File digest k d next in
         let b = block_is kinds.File k d is in
-        let so_far = before kinds.File k d is in
+        let node = some_and (inode_at blocks digest) (λ n. (n.kind ≡ kinds.File) × (slice_get n.blocks k ≡ Some d) × IsSome (joined blocks (take k n.blocks))) next in
+        let so_far = front k node.0 node.1 node.2.2 in
         record {
           text = b.text;
           there = laid.inside b.text (in_at laid.blocks k b.text b.at);

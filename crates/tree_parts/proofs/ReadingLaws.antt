@@ -1,6 +1,6 @@
 -- What reading i-nodes and directories finds, and what it lacks.
 use Rattle.std.proofs.Common.{◌≡◌, ℕ, suc, ◌+◌, ◌*◌, ◌<◌, ◌≤◌, min, Bool, true, false, List, [], ◌∷◌, ◌++◌, length, take, Option, Some, None, Result, Ok, Err, Vec, refl, sym, ap, subst, ◌∙◌, arith, append_assoc, add-one}
-use Rattle.std.specs.Prelude.{not, ◌&&◌, ◌||◌, ◌==◌, is_some, IsSome, IfOk, nat_lt, slice_index_or, if◌then◌else◌}
+use Rattle.std.specs.Prelude.{not, ◌&&◌, ◌||◌, ◌==◌, is_some, IsSome, IsSomeAnd, IfOk, nat_lt, slice_get, slice_index_or, if◌then◌else◌}
 use Rattle.std.proofs.lemmas.Bool.Decides.{nat_tests}
 use Rattle.std.proofs.Math.Seq.{take-suc}
 use Rattle.std.proofs.lemmas.Bool.{eq-eqb}
@@ -18,8 +18,8 @@ use Rattle.directory.specs.Directory.{directory}
 use Rattle.principals.specs.TableText.{table}
 use Rattle.principals.specs.Table.{Table}
 use Rattle.tree_parts.specs.Blocks.{Blocks, inode_at, joined, file_over, if_of_size, of_size}
-use Rattle.tree_parts.specs.Asked.{IsBlock, IsBlockOf, IsTableBlock, Lacks}
-use Rattle.tree_parts.specs.Acts.{as_table, table_spot}
+use Rattle.tree_parts.specs.Asked.{IsBlock, IsBlockOf, IsBlockAfterHeld, IsTableBlock, Lacks}
+use Rattle.tree_parts.specs.Acts.{IsAfterHeld, as_table, table_spot}
 use Rattle.tree_parts.specs.Spot.{takes, takes_inode, takes_block, takes_file_block, takes_table_block, is_block_of, size_of_block, spot_of, completes, is_of_file, lacks}
 use Rattle.tree_parts.specs.declared.error.ApplyError.{ApplyError}
 use Rattle.tree_parts.specs.declared.error.ApplyError.TheVariants as error
@@ -190,8 +190,20 @@ front_held None last text all = absurd cc
 front_held (Some front) last text all = refl
 
 -- a block of an i-node that is held, after others that are held
-pub is_block : (blocks : Blocks) (digest : List ℕ) (n : Inode) (kind : Kind) (k : ℕ) (block : List ℕ) → inode_at blocks digest ≡ Some n → n.kind ≡ kind → k < length n.blocks → block ≡ slice_index_or n.blocks k block → IsSome (joined blocks (take k n.blocks)) → IsBlockOf blocks kind digest k block
-is_block blocks digest n kind k block at of_kind inside here front = rw at (of_kind, slice_get_read n.blocks (length n.blocks) k block refl inside here, front)
+pub is_after_held : (blocks : Blocks) (digest : List ℕ) (n : Inode) (kind : Kind) (k : ℕ) (block : List ℕ) → inode_at blocks digest ≡ Some n → n.kind ≡ kind → k < length n.blocks → block ≡ slice_index_or n.blocks k block → IsSome (joined blocks (take k n.blocks)) → IsBlockAfterHeld blocks kind digest k block
+is_after_held blocks digest n kind k block at of_kind inside here front = rw at (of_kind, slice_get_read n.blocks (length n.blocks) k block refl inside here, front)
+
+-- it is one that may be asked for
+some_after : (kind : Kind) (k : ℕ) (block : List ℕ) (blocks : Blocks) (found : Option Inode) → IsSomeAnd found (λ n. (n.kind ≡ kind) × (slice_get n.blocks k ≡ Some block) × IsSome (joined blocks (take k n.blocks)))
+    → IsSomeAnd found (λ n. (n.kind ≡ kind) × (slice_get n.blocks k ≡ Some block) × (kind ≡ kinds.Directory → IsSome (joined blocks (take k n.blocks))))
+some_after kind k block blocks None is = absurd is
+some_after kind k block blocks (Some n) is = (is.0, is.1, λ of. is.2)
+
+pub after_is_block_of : (blocks : Blocks) (kind : Kind) (digest : List ℕ) (k : ℕ) (block : List ℕ) → IsBlockAfterHeld blocks kind digest k block → IsBlockOf blocks kind digest k block
+after_is_block_of blocks kind digest k block of = some_after kind k block blocks (inode_at blocks digest) of
+
+pub after_is_block : (blocks : Blocks) (kind : Kind) (digest block : List ℕ) (s : Spot) → IsAfterHeld blocks kind digest block s → IsBlock blocks kind digest block s
+after_is_block blocks kind digest block s (k, is, of) = (k, is, after_is_block_of blocks kind digest k block of)
 
 not_some : {T : Type 0} (found : Option T) (t : Bool) → found ≡ None → is_some (if t then found else None) ≡ false
 not_some found true none = ap is_some none
@@ -281,13 +293,13 @@ no_block_of_file blocks digest n k (Some bytes) at none =
 pub table_lacks_block : (blocks : Blocks) (digest : List ℕ) (n : Inode) (k : ℕ) (block : List ℕ) → inode_at blocks digest ≡ Some n → lacks blocks block (spot.File digest k) ≡ true → lacks blocks block (spot.Table digest k) ≡ true
 table_lacks_block blocks digest n k block at none = no_block_of_file blocks digest n k (blocks block) at none
 
-table_lacks_at : (blocks : Blocks) (digest : List ℕ) (n : Inode) (block : List ℕ) (s : Spot) → inode_at blocks digest ≡ Some n → IsBlock blocks kinds.File digest block s → lacks blocks block s ≡ true → IsTableBlock blocks digest block (table_spot s) × (lacks blocks block (table_spot s) ≡ true)
+table_lacks_at : (blocks : Blocks) (digest : List ℕ) (n : Inode) (block : List ℕ) (s : Spot) → inode_at blocks digest ≡ Some n → IsAfterHeld blocks kinds.File digest block s → lacks blocks block s ≡ true → IsTableBlock blocks digest block (table_spot s) × (lacks blocks block (table_spot s) ≡ true)
 table_lacks_at blocks digest n block s at (k, is, of) none =
     let there : lacks blocks block (spot.File digest k) ≡ true = subst (λ (x : Spot). lacks blocks block x ≡ true) is none in
     let to : table_spot s ≡ spot.Table digest k = ap table_spot is in
     ((k, to, of), subst (λ (x : Spot). lacks blocks block x ≡ true) (sym to) (table_lacks_block blocks digest n k block at there))
 
 -- a missing block of the file is one of the table
-pub as_table_lacks : (blocks : Blocks) (digest : List ℕ) (n : Inode) (e : ApplyError) → inode_at blocks digest ≡ Some n → Lacks blocks (IsBlock blocks kinds.File digest) e → Lacks blocks (IsTableBlock blocks digest) (as_table e)
+pub as_table_lacks : (blocks : Blocks) (digest : List ℕ) (n : Inode) (e : ApplyError) → inode_at blocks digest ≡ Some n → Lacks blocks (IsAfterHeld blocks kinds.File digest) e → Lacks blocks (IsTableBlock blocks digest) (as_table e)
 as_table_lacks blocks digest n (error.Missing block s) at (is, none) = table_lacks_at blocks digest n block s at is none
 as_table_lacks blocks digest n error.Memory at none = tt

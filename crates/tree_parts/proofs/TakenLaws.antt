@@ -91,7 +91,7 @@ IsBlockTaken blocks n k kind block = (bytes : List ℕ) → blocks block ≡ Som
 has_blocks : (blocks : Blocks) (digest : List ℕ) (n : Inode) (kind : Kind) → inode_at blocks digest ≡ Some n → ((k : ℕ) (block : List ℕ) → slice_get n.blocks k ≡ Some block → IsSized blocks n k block)
     → ((k : ℕ) (block : List ℕ) → slice_get n.blocks k ≡ Some block → IsBlockTaken blocks n k kind block) → HasBlocks blocks kind digest
 has_blocks blocks digest n kind at sized taken block s (k, is, of) =
-    let told = subst (λ (o : Option Inode). IsSomeAnd o (λ m. (m.kind ≡ kind) × (slice_get m.blocks k ≡ Some block) × IsSome (joined blocks (take k m.blocks)))) at of in
+    let told = subst (λ (o : Option Inode). IsSomeAnd o (λ m. (m.kind ≡ kind) × (slice_get m.blocks k ≡ Some block) × (kind ≡ kinds.Directory → IsSome (joined blocks (take k m.blocks))))) at of in
     let here : slice_get n.blocks k ≡ Some block = told.1 in
     subst (λ (x : Spot). lacks blocks block x ≡ false) (sym is)
     (is_taken blocks (spot_of kind digest k) (blocks block) (some_sized (blocks block) (size_of_block n.size k) (sized k block here)) (λ bytes held. taken_by blocks digest n k kind bytes at ∙ taken k block here bytes held))

@@ -9,10 +9,11 @@ use Rattle.layout.specs.Types.{Digest, INumber, Principal, User}
 use Rattle.update_cert.specs.World.{Content, File, Directory, Principals, Actor, Tree, fits, has_effect, is_of}
 use Rattle.update_cert.specs.Reading.{Reading}
 use Rattle.tree_parts.specs.Blocks.{Blocks, ForEachReading}
-use Rattle.tree_parts.specs.Spot.{lacks, size_of_block}
+use Rattle.tree_parts.specs.Spot.{lacks, size_of_block, spot_of}
 use Rattle.tree_parts.specs.Part.{Part, Laid, content_of, handle, slot_here, slot_at}
+use Rattle.itable.specs.declared.inode.Kind.{Kind}
 use Rattle.itable.specs.declared.inode.Kind.TheVariants as kind
-use Rattle.tree_parts.specs.Asked.{IsInode, IsBlock, IsChunkFor, asks, asks_slot, needs_inode, needs_entries}
+use Rattle.tree_parts.specs.Asked.{IsInode, IsBlock, IsBlockAfterHeld, IsChunkFor, asks, asks_slot, needs_inode, needs_entries}
 use Rattle.tree_parts.specs.Slots.{slot_becomes}
 use Rattle.tree_parts.specs.declared.error.ApplyError.{ApplyError}
 use Rattle.tree_parts.specs.declared.error.ApplyError.TheVariants as error
@@ -86,6 +87,10 @@ HasFor blocks part c = needs_inode c.principal c.i_number c.action ≡ true → 
 -- nor what the change asks for at its turn
 abbrev pub HasBy : Blocks → Actor → Part → Change Digest → Type 0
 HasBy blocks actor part c = (digest : Digest) (s : Spot) → LiesBy blocks actor part c digest s → lacks blocks digest s ≡ false
+
+-- the digest is that of a block of this i-node, its spot is that block's, and the blocks before it are held
+abbrev pub IsAfterHeld : Blocks → Kind → Digest → Digest → Spot → Type 0
+IsAfterHeld blocks of inode digest s = (k : ℕ) × (s ≡ spot_of of inode k) × IsBlockAfterHeld blocks of inode k digest
 
 -- a text of the size of the i-node's block at this place is held under this digest
 abbrev pub IsSized : Blocks → Inode → ℕ → Digest → Type 0

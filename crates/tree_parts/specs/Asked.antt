@@ -67,9 +67,16 @@ abbrev pub IsInode : Principal → INumber → Digest → Digest → Spot → Ty
 IsInode p i inode digest s = (digest ≡ inode) × (s ≡ spot.Inode p i)
 
 -- the digest is that of this block of an i-node of this kind that is held, and the blocks before it are held
+abbrev pub IsBlockAfterHeld : Blocks → Kind → Digest → ℕ → Digest → Type 0
+IsBlockAfterHeld blocks of inode k digest = IsSomeAnd (inode_at blocks inode)
+    (λ n. (n.kind ≡ of) × (slice_get n.blocks k ≡ Some digest) × IsSome (joined blocks (take k n.blocks)))
+
+-- The digest is that of this block of an i-node of this kind that is held. Of a directory the blocks before it are held,
+-- too, since its last one is judged with them; a file's are asked for in any order.
 abbrev pub IsBlockOf : Blocks → Kind → Digest → ℕ → Digest → Type 0
-IsBlockOf blocks kind inode k digest = IsSomeAnd (inode_at blocks inode)
-    (λ n. (n.kind ≡ kind) × (slice_get n.blocks k ≡ Some digest) × IsSome (joined blocks (take k n.blocks)))
+IsBlockOf blocks of inode k digest = IsSomeAnd (inode_at blocks inode)
+    (λ n. (n.kind ≡ of) × (slice_get n.blocks k ≡ Some digest)
+    × (of ≡ kind.Directory → IsSome (joined blocks (take k n.blocks))))
 
 -- and its spot is that block's
 abbrev pub IsBlock : Blocks → Kind → Digest → Digest → Spot → Type 0
@@ -84,7 +91,7 @@ HasBlocks blocks kind inode = (digest : Digest) (s : Spot) → IsBlock blocks ki
 
 -- the digest is that of this block of the file that the table is, and its spot is that block's
 abbrev pub IsTableBlock : Blocks → Digest → Digest → Spot → Type 0
-IsTableBlock blocks inode digest s = (k : ℕ) × (s ≡ spot.Table inode k) × IsBlockOf blocks kind.File inode k digest
+IsTableBlock blocks inode digest s = (k : ℕ) × (s ≡ spot.Table inode k) × IsBlockAfterHeld blocks kind.File inode k digest
 
 -- the digest is that of this i-node, which stands at user 0's i-number 1, or of a block of the table that it is of
 abbrev pub IsOfPrincipals : Blocks → Digest → Digest → Spot → Type 0

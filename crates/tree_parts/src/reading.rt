@@ -1,13 +1,13 @@
 //! I-nodes, files and directories, read from the blocks that are held.
 
-ghost use Rattle.std.specs.Prelude.{◌≡◌, ℕ, List, Some, IsSomeAnd, IfOk, IfErr, OnOk, false, length, slice_get};
+ghost use Rattle.std.specs.Prelude.{◌≡◌, ℕ, List, None, Some, IsSomeAnd, IfOk, IfErr, IfSome, OnOk, false, length, slice_get};
 ghost use Rattle.principals.specs.TableText.{table as table_format};
 ghost use Rattle.update_cert.specs.World.{File};
 ghost use Rattle.tree_parts.specs.Blocks.{ForEachReading, directory_over, file_over, inode_at as inode_of, joined};
 ghost use Rattle.tree_parts.specs.Blocks.{principals_at, principals_over};
 ghost use Rattle.tree_parts.specs.Asked.{HasBlocks, HasPrincipals, Lacks, IsInode, IsBlock, IsOfPrincipals};
 ghost use Rattle.tree_parts.specs.Asked.{IsTableBlock};
-ghost use Rattle.tree_parts.specs.Acts.{IsSized, as_table};
+ghost use Rattle.tree_parts.specs.Acts.{IsAfterHeld, IsSized, as_table};
 ghost use Rattle.tree_parts.specs.Spot.{lacks};
 ghost use Rattle.itable.specs.Inode.{inode as inode_format};
 ghost use Rattle.itable.specs.declared.inode.Kind.TheVariants as kinds;
@@ -56,7 +56,7 @@ fn find_blocks<A: Allocator, B: Blocks>(
         (λ text. length text ≡ inode.now.size)) }
     ensures sized { OnOk result ((k : ℕ) (block : List ℕ) → slice_get inode.now.blocks k ≡ Some block
         → IsSized (B.held blocks.now) inode.now k block) }
-    ensures missing { IfErr result (Lacks (B.held blocks.now) (IsBlock (B.held blocks.now) inode.now.kind digest)) }
+    ensures missing { IfErr result (Lacks (B.held blocks.now) (IsAfterHeld (B.held blocks.now) inode.now.kind digest)) }
 {
     // It has a block for each 4,096 bytes.
     let kind = inode.kind();
@@ -87,7 +87,7 @@ fn text_of<A: Allocator + Copy, B: Blocks>(
     ensures size { IfOk result (λ text. length text.items ≡ inode.now.size) }
     ensures sized { OnOk result ((k : ℕ) (block : List ℕ) → slice_get inode.now.blocks k ≡ Some block
         → IsSized (B.held blocks.now) inode.now k block) }
-    ensures missing { IfErr result (Lacks (B.held blocks.now) (IsBlock (B.held blocks.now) inode.now.kind digest)) }
+    ensures missing { IfErr result (Lacks (B.held blocks.now) (IsAfterHeld (B.held blocks.now) inode.now.kind digest)) }
 {
     find_blocks(blocks, digest, inode)?;
     let Some(text) = join(alloc, blocks, inode.blocks())? else {
@@ -97,7 +97,22 @@ fn text_of<A: Allocator + Copy, B: Blocks>(
     Ok(text)
 }
 
-/// The bytes of the file that the i-node of this digest is of. The errors are Missing of a block, and Memory.
+/// A block of these that isn't held, and its place, if halving finds one. Where the first ones are held and the others
+/// aren't, it is the first of those, and few are looked up for it. It finds none where all are held, and may find none
+/// where they are held here and there.
+fn find_absent<B: Blocks>(blocks: &B, digests: &[Digest]) -> Option<(usize, Digest)>
+    ensures named { IfSome result (λ found. slice_get digests.now found.0 ≡ Some found.1) }
+    ensures absent { IfSome result (λ found. B.held blocks.now found.1 ≡ None) }
+{
+    let place = digests.partition_point(|digest| blocks.get(*digest).is_some());
+    match digests.get(place) {
+        Some(digest) if blocks.get(*digest).is_none() => Some((place, *digest)),
+        _ => None,
+    }
+}
+
+/// The bytes of the file that the i-node of this digest is of. The errors are Missing of a block, not always the first
+/// one, and Memory.
 pub fn read_file<A: Allocator + Copy, B: Blocks>(
     alloc: A,
     blocks: &B,
@@ -112,6 +127,11 @@ pub fn read_file<A: Allocator + Copy, B: Blocks>(
     // Missing names a block of it of which no text is held that its spot takes.
     ensures missing { IfErr result (Lacks (B.held blocks.now) (IsBlock (B.held blocks.now) kinds.File digest)) }
 {
+    // It has at most 1,024 blocks.
+    let _kind = inode.kind();
+    if let Some((place, block)) = find_absent(blocks, inode.blocks()) {
+        return Err(ApplyError::Missing(block, Spot::File(digest, place as u16)));
+    }
     text_of(alloc, blocks, digest, inode)
 }
 

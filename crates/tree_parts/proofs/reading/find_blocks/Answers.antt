@@ -4,7 +4,7 @@ use Rattle.std.proofs.lemmas.Bool.{ne_eqb}
 use Rattle.std.specs.Option.{option_copied, option_map_or}
 use Rattle.tree_parts.specs.Blocks.{joined}
 use Rattle.tree_parts.specs.Spot.{size_of_block}
-use Rattle.tree_parts.proofs.ReadingLaws.{is_block, lacks_block}
+use Rattle.tree_parts.proofs.ReadingLaws.{is_after_held, lacks_block}
 use Rattle.tree_parts.proofs.TakenLaws.{all_sized, all_whole, sized_next, some_whole, whole_first, whole_next}
 use Rattle.tree_parts.proofs.reading.find_blocks.Goals.{in_default-via-in-Some+else-bytes-size, in_default-via-in_default}
 use Rattle.tree_parts.proofs.reading.find_blocks.Goals as goal
@@ -31,7 +31,7 @@ returns-in_default-clause-missing g c =
     let inside = rw c.blocks-block-items.ensures at c.loop-place-test.true in
     let at = rw c.blocks-block-items.ensures at c.block-item.is in
     let front = some_whole (joined held (take k n.blocks)) _ c.loop-place.invariant.whole in
-    rw (c.of_block-spot.ensures, c.kind-kind.ensures.same) ((k, refl, is_block held c.args.digest n n.kind k block c.requires refl inside at front), lacks_block held c.args.digest n k n.kind block c.requires none)
+    rw (c.of_block-spot.ensures, c.kind-kind.ensures.same) ((k, refl, is_after_held held c.args.digest n n.kind k block c.requires refl inside at front), lacks_block held c.args.digest n k n.kind block c.requires none)
 
 pub loop-place-preserved : goal.loop-place-preserved
 loop-place-preserved g c =

@@ -3,8 +3,9 @@ use Rattle.std.specs.Result.{result_ok}
 use Rattle.layout.specs.Format.{whole}
 use Rattle.directory.specs.Directory.{directory}
 use Rattle.itable.specs.declared.inode.Kind.TheVariants as kinds
+use Rattle.tree_parts.specs.declared.spot.Spot.TheVariants as spot
 use Rattle.tree_parts.proofs.TakenLaws.{directory_taken}
-use Rattle.tree_parts.proofs.ReadingLaws.{is_block, front_joined, lacks_last, some_block, few_blocks, text_read}
+use Rattle.tree_parts.proofs.ReadingLaws.{front_joined, is_after_held, lacks_last, after_is_block, some_block, few_blocks, text_read}
 use Rattle.tree_parts.proofs.reading.read_directory.Goals as goal
 
 pub overflow_sub-last : goal.overflow_sub-last
@@ -28,8 +29,11 @@ returns-clause-missing g c =
     let last : k + 1 ≡ length n.blocks = omega (arith, some) in
     let at = rw c.blocks-blocks.ensures at c.index-blocks-last.is in
     let none = sym (c.in_ok-directory.ensures.found) ∙ c.in_default.is in
-    rw c.blocks-blocks.ensures
-    ((k, refl, is_block held c.args.digest n kinds.Directory k block c.requires.held c.requires.directory inside at (front_joined held n.blocks k block c.in_ok-text.text.items last at c.in_ok-text.ensures.joined)), lacks_last held c.args.digest n k block c.in_ok-text.text.items fits c.requires.held last at c.in_ok-text.ensures.joined (rw c.deref.ensures.value at none))
+    rw c.blocks-blocks.ensures (
+      after_is_block held kinds.Directory c.args.digest block (spot.Directory c.args.digest k)
+          (k, refl, is_after_held held c.args.digest n kinds.Directory k block c.requires.held c.requires.directory inside at (front_joined held n.blocks k block c.in_ok-text.text.items last at c.in_ok-text.ensures.joined)),
+      lacks_last held c.args.digest n k block c.in_ok-text.text.items fits c.requires.held last at c.in_ok-text.ensures.joined (rw c.deref.ensures.value at none),
+    )
 
 pub returns-in-Some-clause-found : goal.returns-in-Some-clause-found
 returns-in-Some-clause-found g c =

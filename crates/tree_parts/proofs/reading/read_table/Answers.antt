@@ -4,7 +4,7 @@ use Rattle.layout.specs.Format.{whole}
 use Rattle.principals.specs.TableText.{table}
 use Rattle.itable.specs.declared.inode.Kind.TheVariants as kinds
 use Rattle.tree_parts.proofs.TakenLaws.{principals_taken}
-use Rattle.tree_parts.proofs.ReadingLaws.{is_block, front_joined, table_lacks_last, table_inode, text_read, few_blocks, some_block_of}
+use Rattle.tree_parts.proofs.ReadingLaws.{is_after_held, front_joined, table_lacks_last, table_inode, text_read, few_blocks, some_block_of}
 use Rattle.tree_parts.proofs.reading.read_table.Goals as goal
 
 pub overflow_sub-end : goal.overflow_sub-end
@@ -30,7 +30,7 @@ returns-clause-missing g c =
     let at = rw c.blocks-blocks.ensures at c.index-blocks-end.is in
     let none = sym (c.in_ok-table.ensures.found) ∙ c.in_default.is in
     rw c.blocks-blocks.ensures
-    ((k, refl, is_block held c.args.digest n kinds.File k block c.requires.held of_table.0 inside at (front_joined held n.blocks k block c.in_ok-text.text.items last at c.in_ok-text.ensures.joined)), table_lacks_last held c.args.digest n k block c.in_ok-text.text.items fits c.requires.held last at c.in_ok-text.ensures.joined (rw c.deref.ensures.value at none))
+    ((k, refl, is_after_held held c.args.digest n kinds.File k block c.requires.held of_table.0 inside at (front_joined held n.blocks k block c.in_ok-text.text.items last at c.in_ok-text.ensures.joined)), table_lacks_last held c.args.digest n k block c.in_ok-text.text.items fits c.requires.held last at c.in_ok-text.ensures.joined (rw c.deref.ensures.value at none))
 
 pub returns-in-Some-clause-found : goal.returns-in-Some-clause-found
 returns-in-Some-clause-found g c =
