@@ -1,5 +1,5 @@
 -- What is known of blocks that go between the cache and the held ones.
-use Rattle.std.proofs.Common.{◌≡◌, ◌-◌, ◌≤◌, ◌⊎◌, ℕ, length, Bool, true, false, cond, List, [], ◌∷◌, ◌++◌, take, Contains, Option, Some, None, is_some, Result, Ok, Err, OnOk, OnErr, refl, sym, ap, subst, ◌∙◌, inl, inr, map, append-nil, append_assoc}
+use Rattle.std.proofs.Common.{◌≡◌, ◌-◌, ◌≤◌, ◌⊎◌, ℕ, length, Bool, true, false, cond, List, [], ◌∷◌, ◌++◌, take, Contains, Option, Some, None, is_some, Result, Ok, Err, OnOk, OnErr, refl, sym, ap, subst, ◌∙◌, inl, inr, append-nil, append_assoc}
 use Rattle.std.specs.Option.{option_map, option_map_or, option_or}
 use Rattle.std.specs.Str.{bytes_eq}
 use Rattle.std.specs.List.{IsDistinct}
@@ -15,7 +15,7 @@ use Rattle.indexmap.specs.IndexMap.{insert_entry}
 use Rattle.lru.specs.LruCache.{lru_cache}
 use Rattle.lru.proofs.Splits.{Contains-head, Contains-tail}
 use Rattle.lru.proofs.CallerLemmas.{Contains-lookup_entry, lookup-put_entries}
-use Rattle.checked_blocks.specs.CheckedBlocks.{AreChecked, ArePut, CheckedBlocks, IsPut, Keeps, KnowsPart, LetsGo, TakesUp, Texts, checked_blocks, holding, known_blocks, knowing, text_at, with_capacity, with_digest, without_all}
+use Rattle.checked_blocks.specs.CheckedBlocks.{AreChecked, AreCopied, ArePut, CheckedBlocks, IsPut, Keeps, KnowsPart, LetsGo, TakesUp, Texts, checked_blocks, holding, known_blocks, knowing, text_at, with_capacity, with_digest, without_all}
 use Rattle.checked_blocks.specs.Moves.{AreOfTexts, IsPart, Moved, with_last, within}
 use Rattle.checked_blocks.proofs.BlockLaws.{are_part, everywhere, holding-known, holding-new, itself, known-holding, knows_part_cached, lift_step, same_digest, takes_none, text_at-last, text_at-take, without_more}
 
@@ -297,7 +297,7 @@ either_step None W W' x P part found = part found
 -- the texts that are left and the cache, after some were put there
 pub record PutSoFar (capacity : ℕ) (texts : List Bytes) (cached : Texts) (rest : List Bytes) (cached' : Texts) : Type 0 where
   pub put : AreOfTexts texts cached cached'
-  pub ahead : (last : Texts) → ArePut capacity (map with_digest rest) cached' last → ArePut capacity (map with_digest texts) cached last
+  pub ahead : (last : Texts) → AreCopied capacity rest cached' last → AreCopied capacity texts cached last
   pub among : (x : Bytes) → Contains rest x → Contains texts x
 
 own_or_before : (texts : List Bytes) (cached c : Texts) (k : Digest) (v : Bytes) (d : Digest) (x : Bytes) → AreOfTexts texts cached c → Contains texts v → k ≡ hash v → (text_at c d ≡ Some x) ⊎ ((d ≡ k) × (x ≡ v))
@@ -305,21 +305,25 @@ own_or_before : (texts : List Bytes) (cached c : Texts) (k : Digest) (v : Bytes)
 own_or_before texts cached c k v d x put there is (inl old) = put d x old
 own_or_before texts cached c k v d x put there is (inr new) = inr (subst (Contains texts) (sym new.1) there, ap hash new.1 ∙ sym is ∙ sym new.0)
 
+-- where one is left out, all is as before
+copied_at : (capacity : ℕ) (c c' : Texts) (v : Bytes) (d : Digest) (x : Bytes) → (c' ≡ c) ⊎ IsPut capacity c (with_digest v) c' → text_at c' d ≡ Some x → (text_at c d ≡ Some x) ⊎ ((d ≡ hash v) × (x ≡ v))
+copied_at capacity c c' v d x (inl same) found = inl (subst (λ (t : Texts). text_at t d ≡ Some x) same found)
+copied_at capacity c c' v d x (inr put) found = put_at capacity c c' (hash v) v d x put (bytes_eq d (hash v)) refl found
+
 -- one more was put
-pub put_next : (capacity : ℕ) (texts : List Bytes) (cached : Texts) (before rest : List Bytes) (v : Bytes) (k : Digest) (c c' : Texts) → PutSoFar capacity texts cached before c → before ≡ v ∷ rest → k ≡ hash v → IsPut capacity c (k, v) c'
+pub put_next : (capacity : ℕ) (texts : List Bytes) (cached : Texts) (before rest : List Bytes) (v : Bytes) (c c' : Texts) → PutSoFar capacity texts cached before c → before ≡ v ∷ rest → (c' ≡ c) ⊎ IsPut capacity c (with_digest v) c'
     → PutSoFar capacity texts cached rest c'
-put_next capacity texts cached before rest v k c c' so_far is hashed put =
+put_next capacity texts cached before rest v c c' so_far is put =
     let there : Contains before v = subst (λ (l : List Bytes). Contains l v) (sym is) (Contains-head v rest) in
-    let at : IsPut capacity c (with_digest v) c' = subst (λ (d : Digest). IsPut capacity c (d, v) c') hashed put in
     record {
-      put = λ d x found. own_or_before texts cached c k v d x so_far.put (so_far.among v there) hashed (put_at capacity c c' k v d x put (bytes_eq d k) refl found);
-      ahead = λ last more. so_far.ahead last (subst (λ (ts : List Bytes). ArePut capacity (map with_digest ts) c last) (sym is) (c', at, more));
+      put = λ d x found. own_or_before texts cached c (hash v) v d x so_far.put (so_far.among v there) refl (copied_at capacity c c' v d x put found);
+      ahead = λ last more. so_far.ahead last (subst (λ (ts : List Bytes). AreCopied capacity ts c last) (sym is) (c', put, more));
       among = λ x later. so_far.among x (subst (λ (l : List Bytes). Contains l x) (sym is) (Contains-tail v rest x later));
     }
 
 -- all were put
-pub texts_put : (capacity : ℕ) (texts : List Bytes) (cached : Texts) (rest : List Bytes) (cached' : Texts) → PutSoFar capacity texts cached rest cached' → rest ≡ [] → ArePut capacity (map with_digest texts) cached cached'
-texts_put capacity texts cached rest cached' so_far none = so_far.ahead cached' (subst (λ (ts : List Bytes). ArePut capacity (map with_digest ts) cached' cached') (sym none) refl)
+pub texts_put : (capacity : ℕ) (texts : List Bytes) (cached : Texts) (rest : List Bytes) (cached' : Texts) → PutSoFar capacity texts cached rest cached' → rest ≡ [] → AreCopied capacity texts cached cached'
+texts_put capacity texts cached rest cached' so_far none = so_far.ahead cached' (subst (λ (ts : List Bytes). AreCopied capacity ts cached' cached') (sym none) refl)
 
 keeps_known : (k : CheckedBlocks) (texts : List Bytes) (c' : Texts) (capacity : ℕ) (d : Digest) (x : Bytes) → AreOfTexts texts k.cached c' → known_blocks (checked_blocks k.first k.held c' capacity) d ≡ Some x
     → (known_blocks k d ≡ Some x) ⊎ (Contains texts x × (hash x ≡ d))
@@ -336,7 +340,7 @@ shrunk_kept k texts c' d x of found = elim (keeps_known (with_capacity k.capacit
   | inr new ↦ inr new
 ]
 
-pub keeps : (k : CheckedBlocks) (texts : List Bytes) (c' : Texts) → ArePut k.capacity (map with_digest texts) (take k.capacity k.cached) c' → AreOfTexts texts (take k.capacity k.cached) c' → length c' ≤ k.capacity → Keeps k texts (checked_blocks k.first k.held c' k.capacity)
+pub keeps : (k : CheckedBlocks) (texts : List Bytes) (c' : Texts) → AreCopied k.capacity texts (take k.capacity k.cached) c' → AreOfTexts texts (take k.capacity k.cached) c' → length c' ≤ k.capacity → Keeps k texts (checked_blocks k.first k.held c' k.capacity)
 keeps k texts c' put of few = record {
   put = put;
   few = few;

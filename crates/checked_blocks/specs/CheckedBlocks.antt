@@ -1,5 +1,5 @@
 -- What a client knows of checked blocks: those of the beginning, those that are held, and others in a cache.
-use Rattle.std.specs.Prelude.{◌≡◌, ℕ, ◌≤◌, ◌⊎◌, List, [], ◌∷◌, ◌++◌, length, map, take, Option, Some, None, is_some, Contains, if◌then◌else◌}
+use Rattle.std.specs.Prelude.{◌≡◌, ℕ, ◌≤◌, ◌⊎◌, List, [], ◌∷◌, ◌++◌, length, take, Option, Some, None, is_some, Contains, if◌then◌else◌}
 use Rattle.std.specs.Map.{lookup, remove_entry}
 use Rattle.std.specs.Option.{option_or}
 use Rattle.std.specs.Str.{bytes_eq}
@@ -91,6 +91,13 @@ ArePut capacity [] cached cached' = cached' ≡ cached
 ArePut capacity (block ∷ blocks) cached cached' =
     (between : Texts) × IsPut capacity cached block between × ArePut capacity blocks between cached'
 
+-- texts go into a cache in turn; one of which memory refuses a copy is left out
+abbrev pub AreCopied : ℕ → List Bytes → Texts → Texts → Type 0
+AreCopied capacity [] cached cached' = cached' ≡ cached
+AreCopied capacity (text ∷ texts) cached cached' =
+    (between : Texts) × ((between ≡ cached) ⊎ IsPut capacity cached (with_digest text) between)
+    × AreCopied capacity texts between cached'
+
 -- each text that is known then was known before
 abbrev pub KnowsPart : CheckedBlocks → CheckedBlocks → Type 0
 KnowsPart old new =
@@ -109,7 +116,7 @@ pub record LetsGo (old new : CheckedBlocks) : Type 0 where
 
 -- texts go into the cache: what is known then was known before, or is one of these under its digest
 pub record Keeps (old : CheckedBlocks) (texts : List Bytes) (new : CheckedBlocks) : Type 0 where
-  pub put : ArePut old.capacity (map with_digest texts) (take old.capacity old.cached) new.cached
+  pub put : AreCopied old.capacity texts (take old.capacity old.cached) new.cached
   pub few : length new.cached ≤ old.capacity
   pub known : (digest : Digest) (text : Bytes) → known_blocks new digest ≡ Some text
       → (known_blocks old digest ≡ Some text) ⊎ (Contains texts text × (hash text ≡ digest))

@@ -1,9 +1,9 @@
 //! A cache of blocks by digest, and what goes from there among the held blocks and back.
 
-ghost use Rattle.std.specs.Prelude.{◌≡◌, ◌+◌, ◌<◌, ◌≤◌, [], if◌then◌else◌, length, map, vec_len};
+ghost use Rattle.std.specs.Prelude.{◌≡◌, ◌⊎◌, ◌+◌, ◌<◌, ◌≤◌, [], if◌then◌else◌, length, map, vec_len};
 ghost use Rattle.std.specs.Vec.{vec_items};
 ghost use Rattle.indexmap.specs.IndexMap.{spare};
-ghost use Rattle.checked_blocks.specs.CheckedBlocks.{ArePut, IsPut, with_digest};
+ghost use Rattle.checked_blocks.specs.CheckedBlocks.{AreCopied, ArePut, IsPut, with_digest};
 ghost use Rattle.checked_blocks.specs.Moves.{AreOfTexts, IsPart, Moved, with_last};
 
 use indexmap::IndexMap;
@@ -189,16 +189,28 @@ pub(crate) fn put_all_back<A: Allocator + Copy>(held: &mut HeldBlocks<A>, cache:
     let _size = cache.len();
 }
 
-/// Puts texts into the cache, the last as the most recently used. One that memory refuses is left out.
-pub(crate) fn put_texts<A: Allocator + Copy>(cache: &mut Cache<A>, texts: Vec<Vec<u8, A>, A>)
-    ensures put { ArePut cache.old.cap (map with_digest (map vec_items texts.items)) cache.old.entries
-        cache.new.entries }
-    ensures of_texts { AreOfTexts (map vec_items texts.items) cache.old.entries cache.new.entries }
+/// Puts a copy of a text into the cache, or leaves it out where memory refuses it.
+fn put_copy<A: Allocator + Copy>(cache: &mut Cache<A>, text: &[u8])
+    ensures put { (cache.new.entries ≡ cache.old.entries)
+        ⊎ IsPut cache.old.cap cache.old.entries (with_digest text.now) cache.new.entries }
+    ensures capacity { cache.new.cap ≡ cache.old.cap }
+{
+    let alloc = *cache.allocator();
+    match Vec::from_slice(alloc, text) {
+        Ok(copy) => put(cache, digest(text), MarkedText::new(copy)),
+        Err(_) => {}
+    }
+}
+
+/// Puts copies of texts into the cache, the last as the most recently used. One that memory refuses is left out.
+pub(crate) fn put_copies<A: Allocator + Copy>(cache: &mut Cache<A>, texts: &[Vec<u8, A>])
+    ensures put { AreCopied cache.old.cap (map vec_items texts.now) cache.old.entries cache.new.entries }
+    ensures of_texts { AreOfTexts (map vec_items texts.now) cache.old.entries cache.new.entries }
     ensures capacity { cache.new.cap ≡ cache.old.cap }
     ensures few { length cache.new.entries ≤ cache.old.cap }
 {
     for text in texts {
-        put(cache, digest(&text), MarkedText::new(text));
+        put_copy(cache, text);
     }
     // No more than it may have.
     let _size = cache.len();

@@ -9,7 +9,7 @@ ghost use Rattle.checked_blocks.specs.CheckedBlocks.{known_blocks, knowing, text
 ghost use Rattle.checked_blocks.specs.CheckedBlocks.{with_capacity_later};
 
 use crate::cache::{
-    Cache, HeldBlocks, digests_read, hold_and_move, move_all, put_all_back, put_texts,
+    Cache, HeldBlocks, digests_read, hold_and_move, move_all, put_all_back, put_copies,
 };
 use client_tree::Held;
 use indexmap::IndexMap;
@@ -201,12 +201,12 @@ impl<A: Allocator + Copy> CheckedBlocks<A> {
         put_all_back(&mut self.held, &mut self.cache);
     }
 
-    /// Puts texts into the cache, the last as the most recently used. One that memory refuses is left out.
-    pub fn keep(&mut self, texts: Vec<Vec<u8, A>, A>)
-        ensures { Keeps self.old (map vec_items texts.items) self.new }
+    /// Puts copies of texts into the cache, the last as the most recently used. One that memory refuses is left out.
+    pub fn keep(&mut self, texts: &[Vec<u8, A>])
+        ensures { Keeps self.old (map vec_items texts.now) self.new }
     {
         self.cache.resize(self.capacity);
-        put_texts(&mut self.cache, texts);
+        put_copies(&mut self.cache, texts);
     }
 
     /// Changes how many blocks the cache may have: 1 to 4,096. The most recently used stay, as many as fit. It can't

@@ -169,7 +169,7 @@ fn texts_are_kept_in_the_cache(rt: HostRuntime) {
         };
         assert!(rt; texts.push(text).is_ok());
     }
-    blocks.keep(texts);
+    blocks.keep(&texts);
     assert_eq!(rt; blocks.held_len(), 0);
     assert_eq!(rt; blocks.cached_len(), 2);
     assert!(rt; !reads(&blocks, 1));

@@ -1,6 +1,5 @@
 -- What a client knows of blocks after a call. While a reply is under check or a look under way it holds what it was
--- handed in for that, and what it read of the cache, and forgets nothing; once neither is, all of it goes into the
--- cache.
+-- handed in, and forgets nothing that it knew; once neither is, all that it holds goes into the cache.
 use Rattle.std.specs.Prelude.{◌≡◌, ◌||◌, ℕ, Bool, false, List, Option, is_some, MatchBool, if◌then◌else◌}
 use Rattle.std.specs.Option.{option_map_or}
 use Rattle.layout.specs.Types.{Bytes}
@@ -15,7 +14,8 @@ use Rattle.client_verify.specs.State.{State, blocks_with, over}
 abbrev pub is_under_way : State → Bool
 is_under_way s = is_some s.checked || option_map_or (λ v. is_some v.looking) s.view false
 
--- while one is, blocks of the cache that were read are held, too; once none is, all that are held are let go
+-- while one is, nothing that was known is forgotten, and blocks of the cache may be held; once none is, all that are
+-- held are let go
 abbrev pub HoldsMeanwhile : CheckedBlocks → State → Type 0
 HoldsMeanwhile blocks new = MatchBool (is_under_way new) (TakesUp blocks new.blocks) (LetsGo blocks new.blocks)
 

@@ -57,7 +57,7 @@ impl<L: Device, J: Device, A: Allocator + Copy> Client<L, J, A> {
         let last = digest_of_last(self.alloc, self.releases.last())?;
         let text = cert_text(self.alloc, self.releases.user(), number, last, changes)?;
         let unsigned = Unsigned::new(self.alloc, text)?;
-        self.lay_out(laid)?;
+        self.lay_out(laid);
         Ok(unsigned)
     }
 

@@ -9,7 +9,6 @@ ghost use Rattle.client_verify.specs.Holding.{HoldsMeanwhile, LaysOut, is_under_
 ghost use Rattle.client_verify.specs.State.{over};
 
 use crate::client::Client;
-use crate::laid::copies;
 use checked_blocks::{CheckedBlocks, MOST_CACHED};
 use layout::{Digest, Memory};
 use leaf_ledger::Device;
@@ -53,19 +52,16 @@ impl<L: Device, J: Device, A: Allocator + Copy> Client<L, J, A> {
         self.blocks.let_go();
     }
 
-    /// Puts copies of texts that were laid out into the cache, but not while something is under way. After an error the
-    /// client is as before.
-    pub(crate) fn lay_out(&mut self, laid: &[Vec<u8, A>]) -> Result<(), Memory>
+    /// Puts copies of texts that were laid out into the cache, but not while something is under way. One that memory
+    /// refuses is left out.
+    pub(crate) fn lay_out(&mut self, laid: &[Vec<u8, A>])
         ensures over { self.new ≡ over self.new.blocks self.old }
-        ensures kept { OnOk result (LaysOut self.old (map vec_items laid.now) self.new.blocks) }
-        ensures err { OnErr result (self.new ≡ self.old) }
+        ensures kept { LaysOut self.old (map vec_items laid.now) self.new.blocks }
     {
         if self.is_under_way() {
-            return Ok(());
+            return;
         }
-        let copies = copies(self.alloc, laid)?;
-        self.blocks.keep(copies);
-        Ok(())
+        self.blocks.keep(laid);
     }
 
     /// Changes how many blocks the cache may have, at first 1,024: 1 to 4,096. The most recently used stay, as many as

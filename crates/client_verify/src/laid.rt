@@ -180,20 +180,6 @@ fn all_laid<A: Allocator + Copy>(
     Ok(true)
 }
 
-/// Copies of these texts.
-pub(crate) fn copies<A: Allocator + Copy>(
-    alloc: A,
-    texts: &[Vec<u8, A>],
-) -> Result<Vec<Vec<u8, A>, A>, Memory>
-    ensures { IfOk result (λ copies. map vec_items copies.items ≡ map vec_items texts.now) }
-{
-    let mut copies = Vec::new(alloc);
-    for text in texts {
-        copies.push(Vec::from_slice(alloc, text)?)?;
-    }
-    Ok(copies)
-}
-
 /// These texts, each hashed once.
 fn hashed<A: Allocator + Copy>(
     alloc: A,

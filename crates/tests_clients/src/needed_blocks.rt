@@ -130,7 +130,7 @@ pub(crate) fn second_sees(rt: &impl Host, users: &mut Users, bytes: &[u8], asked
 
 /// The root, the chunk, the i-node and the block of the file, and nothing more for a second look.
 #[test]
-fn four_blocks_and_four(rt: HostRuntime) {
+fn eight_blocks(rt: HostRuntime) {
     let rt = &(rt, Here);
     let mut scene = both_are_listed(rt);
     makes_each(rt, &mut scene);

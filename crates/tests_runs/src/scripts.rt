@@ -692,6 +692,7 @@ fn scripts_with_groups(rt: HostRuntime) {
 #[test]
 fn two_writes_that_are_pending(rt: HostRuntime) {
     prints(&rt, TWO_WRITES.script, TWO_WRITES.lines);
+    prints_at(&rt, 2, TWO_WRITES.script, TWO_WRITES.lines);
 }
 
 #[test]
