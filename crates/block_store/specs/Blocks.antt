@@ -23,8 +23,3 @@ IsOwn block = (hash block.text ≡ block.digest) × (length block.text ≤ BLOCK
 -- the pass is one of this store
 abbrev pub IsOf : Shelves → Where Stored → Type 0
 IsOf store pass = Shows store pass
-
--- these are the bytes of the block that the store has at this number
-abbrev pub IsStoredAt : Shelves → ℕ → Bytes → Type 0
-IsStoredAt store number text =
-    (pass : Where Stored) × IsOf store pass × IsOwn pass.value × (pass.index ≡ number) × (pass.value.text ≡ text)

@@ -6,7 +6,7 @@ ghost use Rattle.std.specs.BTreeMap.{Updates, IsUnchanged, get};
 ghost use Rattle.std.specs.Cmp.Lexicographic.{slice_cmp};
 ghost use Rattle.std.specs.Ordering.{nat_cmp};
 ghost use Rattle.layout.specs.Hash.{hash};
-ghost use Rattle.block_store.specs.Blocks.{IsOwn, IsOf, IsStoredAt};
+ghost use Rattle.block_store.specs.Blocks.{IsOwn, IsOf};
 ghost use Rattle.block_store.specs.declared.error.StoreError.TheVariants as store_error;
 
 use crate::block::{Block, Own};
@@ -104,9 +104,24 @@ impl<A: Allocator + Copy> Store<A> {
         self.blocks.value(&pass.place).text()
     }
 
-    /// The bytes of the block of a number. None where no block has it.
+    /// The pass of the block of a number. None where no block has it.
+    pub fn pass_at(&self, number: usize) -> Option<BlockPass<A>>
+        ensures of { IfSome result (λ pass. IsOf self.now pass) }
+        ensures index { IfSome result (λ pass. pass.index ≡ number) }
+        ensures own { IfSome result (λ pass. hash pass.value.text ≡ pass.value.digest) }
+        ensures small { IfSome result (λ pass. length pass.value.text ≤ BLOCK_LIMIT) }
+    {
+        let place = self.blocks.witness(number)?;
+        let block = self.blocks.get_seen(number, &place)?;
+        Some(BlockPass {
+            digest: block.digest(),
+            place,
+        })
+    }
+
+    /// The bytes of the block of a number, as its pass gives them. None where no block has it.
     pub fn get_at(&self, index: usize) -> Option<&[u8]>
-        ensures stored { IfSome result (λ block. IsStoredAt self.now index block.now) }
+        ensures { IfSome result (λ block. length block.now ≤ BLOCK_LIMIT) }
     {
         let pass = self.pass_at(index)?;
         Some(self.get_by_pass(&pass))
@@ -168,19 +183,6 @@ impl<A: Allocator + Copy> Store<A> {
         } else {
             None
         }
-    }
-
-    /// The pass of the block of a number, if one has it.
-    fn pass_at(&self, number: usize) -> Option<BlockPass<A>>
-        ensures of { IfSome result (λ pass. IsOf self.now pass × IsOwn pass.value) }
-        ensures index { IfSome result (λ pass. pass.index ≡ number) }
-    {
-        let place = self.blocks.witness(number)?;
-        let block = self.blocks.get_seen(number, &place)?;
-        Some(BlockPass {
-            digest: block.digest(),
-            place,
-        })
     }
 }
 

@@ -247,6 +247,13 @@ fn a_block_has_one_number(rt: HostRuntime) {
     assert!(rt; store.get_at(0) == Some(b"one".as_slice()), "the first");
     assert!(rt; store.get_at(1) == Some(b"two".as_slice()), "the second");
     assert!(rt; store.get_at(2).is_none(), "no third");
+    let Some(pass) = store.pass_at(1) else {
+        panic!(rt; "no pass of the second")
+    };
+    assert!(rt;
+        store.get_by_pass(&pass) == b"two".as_slice(),
+        "by its pass"
+    );
 }
 
 /// How often a reader reads.
