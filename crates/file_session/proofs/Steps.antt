@@ -1,5 +1,5 @@
 -- The calls of a client: each is a step of a run, and asks for fewer blocks than before.
-use Rattle.std.proofs.Common.{◌≡◌, ◌≢◌, ◌-◌, ◌<◌, ◌^◌, ℕ, List, length, Option, Some, None, Result, Ok, Err, IfOk, IfSome, IsSome, IsSomeAnd, IfErr, OnErr, OnOk, arith, refl, ap, ◌∙◌}
+use Rattle.std.proofs.Common.{◌≡◌, ◌≢◌, ◌<◌, ◌^◌, ℕ, length, Option, Some, None, Result, Ok, Err, IfOk, IfSome, IsSome, IsSomeAnd, IfErr, OnErr, OnOk, arith, refl, ap, ◌∙◌}
 use Rattle.std.specs.Prelude.{IsErrOf}
 use Rattle.std.specs.declared.vec.Vec.{Vec}
 use Rattle.layout.specs.Types.{Bytes}
@@ -19,23 +19,22 @@ use Rattle.client_verify.specs.Standing.{HasMore, IsLacking, LookHoldsMore, Only
 use Rattle.client_verify.specs.Standing as client
 use Rattle.client_verify.specs.Holding.{LookHoldsAfter}
 use Rattle.client_verify.specs.Looked.{Looked}
-use Rattle.client_verify.proofs.Standing.{judged_stands}
 use Rattle.client_steps.specs.Steps.{FromOpen, Open, HasLooked, principal_of}
 use Rattle.client_steps.specs.Anywhere.{asked, on_ok, seen}
 use Rattle.client_steps.proofs.Anywhere.{look_holds, looked}
 use Rattle.client_tree.specs.declared.questions.Question.{Question}
 use Rattle.client_releases.specs.declared.error.ClientError.TheVariants as error
-use Rattle.file_session.specs.Calls.{Call, Takes, Gives, HoldsMore, Leads, TellsLost, step_of}
+use Rattle.file_session.specs.Calls.{AsksForLacking, Call, Gives, Hears, Leads, Looks, Takes, TellsLost, step_of}
 use Rattle.file_session.specs.Sessions.{IsUnfinished}
 use Rattle.file_session.specs.Waits.{AsksFewer, AsksFewerAt, WaitsAt, left}
 
-pub leads : (s : State) (call : Call) (new : State) → FromOpen s (step_of call) (Open new) → TellsLost call new → HoldsMore s call new → Leads s call new
+pub leads : (s : State) (call : Call) (new : State) → FromOpen s (step_of call) (Open new) → TellsLost call new → AsksForLacking s call new → Leads s call new
 unfolding Leads
 leads s call new h k more = (h, k, more)
 
-pub holds_more : (s : State) (call : Call) (new : State) → Leads s call new → HoldsMore s call new
+pub asks_for_lacking : (s : State) (call : Call) (new : State) → Leads s call new → AsksForLacking s call new
 unfolding Leads
-holds_more s call new h = h.2
+asks_for_lacking s call new h = h.2
 
 -- ---- an operation is under way
 
@@ -88,15 +87,21 @@ module _ {A : Type 0} (s new : State) where
   more_taken x None h k = absurd h
   more_taken x (Some checked) h k = k h
 
-  step_more : (block : Option Bytes) (x : Result (Step A) ClientError) → IfOk x (λ step. client.HoldsMore s step new) → HoldsMore s (Takes block (on_ok asked x)) new
-  step_more block (Ok (step.Need digest)) h = h
-  step_more block (Ok (step.Store texts)) h = tt
-  step_more block (Ok (step.Broken rule)) h = tt
-  step_more block (Err e) h = tt
+  pub heard_asks : (text : Bytes) (x : Result (Step A) ClientError) → IfOk x (λ step. client.StandsAfter s step new) → AsksForLacking s (Hears text (on_ok asked x)) new
+  heard_asks text (Ok (step.Need digest)) stands = stands.1
+  heard_asks text (Ok (step.Store texts)) stands = tt
+  heard_asks text (Ok (step.Broken rule)) stands = tt
+  heard_asks text (Err e) stands = tt
+
+  step_more : (block : Option Bytes) (x : Result (Step A) ClientError) → IfOk x (λ step. client.HoldsMore s step new) → IfOk x (λ step. client.StandsAfter s step new) → AsksForLacking s (Takes block (on_ok asked x)) new
+  step_more block (Ok (step.Need digest)) h stands = (h, stands.1)
+  step_more block (Ok (step.Store texts)) h stands = tt
+  step_more block (Ok (step.Broken rule)) h stands = tt
+  step_more block (Err e) h stands = tt
 
   pub taken_more : (block : Option Bytes) (x : Result (Step A) ClientError) → IsSomeAnd s.checked (λ k. IsLacking s (asked_of k))
-      → IfSome s.checked (λ k. IsLacking s (asked_of k) → IfOk x (λ step. client.HoldsMore s step new)) → HoldsMore s (Takes block (on_ok asked x)) new
-  taken_more block x h k = step_more block x (more_taken x s.checked h k)
+      → IfSome s.checked (λ k. IsLacking s (asked_of k) → IfOk x (λ step. client.HoldsMore s step new)) → IfOk x (λ step. client.StandsAfter s step new) → AsksForLacking s (Takes block (on_ok asked x)) new
+  taken_more block x h k stands = step_more block x (more_taken x s.checked h k) stands
 
   more_given : (q : Question) (x : Result (Look A) ClientError) (view : Option AcceptedView) → IsSomeAnd view (λ v. IsSomeAnd v.looking (λ l. (l.question ≡ q) × IsLacking s l.asked))
       → IfSome view (λ v. IfSome v.looking (λ l. IsLacking s l.asked → IfOk x (λ look. LookHoldsMore s look new))) → IfOk x (λ look. LookHoldsMore s look new)
@@ -106,20 +111,30 @@ module _ {A : Type 0} (s new : State) where
     | Some l ↦ λ h k. k h.1
   ] h k
 
-  look_more : (q : Question) (block : Option Bytes) (x : Result (Look A) ClientError) → IfOk x (λ look. LookHoldsMore s look new) → HoldsMore s (Gives q block (on_ok seen x)) new
-  look_more q block (Ok (look.Need digest)) h = h
-  look_more q block (Ok (look.File bytes)) h = tt
-  look_more q block (Ok (look.Dir entries)) h = tt
-  look_more q block (Ok look.None) h = tt
-  look_more q block (Ok (look.Kind kind)) h = tt
-  look_more q block (Ok (look.Free found)) h = tt
-  look_more q block (Ok (look.Broken rule)) h = tt
-  look_more q block (Err e) h = tt
+  pub looked_asks : (q : Question) (x : Result (Look A) ClientError) → IfOk x (λ look. client.LookStandsAfter s look new) → AsksForLacking s (Looks q (on_ok seen x)) new
+  looked_asks q (Ok (look.Need digest)) stands = stands
+  looked_asks q (Ok (look.File bytes)) stands = tt
+  looked_asks q (Ok (look.Dir entries)) stands = tt
+  looked_asks q (Ok look.None) stands = tt
+  looked_asks q (Ok (look.Kind kind)) stands = tt
+  looked_asks q (Ok (look.Free found)) stands = tt
+  looked_asks q (Ok (look.Broken rule)) stands = tt
+  looked_asks q (Err e) stands = tt
+
+  look_more : (q : Question) (block : Option Bytes) (x : Result (Look A) ClientError) → IfOk x (λ look. LookHoldsMore s look new) → IfOk x (λ look. client.LookStandsAfter s look new) → AsksForLacking s (Gives q block (on_ok seen x)) new
+  look_more q block (Ok (look.Need digest)) h stands = (h, stands)
+  look_more q block (Ok (look.File bytes)) h stands = tt
+  look_more q block (Ok (look.Dir entries)) h stands = tt
+  look_more q block (Ok look.None) h stands = tt
+  look_more q block (Ok (look.Kind kind)) h stands = tt
+  look_more q block (Ok (look.Free found)) h stands = tt
+  look_more q block (Ok (look.Broken rule)) h stands = tt
+  look_more q block (Err e) h stands = tt
 
   -- for whichever question the look is, since it is under way for one
   pub given_more : (q p : Question) (block : Option Bytes) (x : Result (Look A) ClientError) → WaitsAt q s
-      → IfSome s.view (λ v. IfSome v.looking (λ l. IsLacking s l.asked → IfOk x (λ look. LookHoldsMore s look new))) → HoldsMore s (Gives p block (on_ok seen x)) new
-  given_more q p block x h k = look_more p block x (more_given q x s.view h k)
+      → IfSome s.view (λ v. IfSome v.looking (λ l. IsLacking s l.asked → IfOk x (λ look. LookHoldsMore s look new))) → IfOk x (λ look. client.LookStandsAfter s look new) → AsksForLacking s (Gives p block (on_ok seen x)) new
+  given_more q p block x h k stands = look_more p block x (more_given q x s.view h k) stands
 
 -- ---- fewer are left
 

@@ -1,5 +1,5 @@
 -- What passes between a session and its client.
-use Rattle.std.specs.Prelude.{◌≡◌, ℕ, List, [], Option, Some, None, Result, Ok, Err}
+use Rattle.std.specs.Prelude.{◌≡◌, ℕ, true, List, [], Option, Some, None, Result, Ok, IsSomeAnd}
 use Rattle.layout.specs.Types.{Bytes, Digest}
 use Rattle.update_cert.specs.Change.{Change}
 use Rattle.client_tree.specs.declared.questions.Question.{Question}
@@ -7,8 +7,10 @@ use Rattle.wire.specs.declared.kinds.Status.{Status}
 use Rattle.client_releases.specs.declared.error.ClientError.{ClientError}
 use Rattle.client_verify.specs.declared.look.Look.TheVariants as look
 use Rattle.client_verify.specs.declared.step.Step.TheVariants as step
-use Rattle.client_verify.specs.Standing.{HasMore}
-use Rattle.client_verify.specs.State.{AcceptedView, State}
+use Rattle.tree_parts.specs.Spot.{lacks}
+use Rattle.checked_blocks.specs.CheckedBlocks.{known_blocks}
+use Rattle.client_verify.specs.Standing.{HasMore, IsLacking}
+use Rattle.client_verify.specs.State.{AcceptedView, State, asked_of}
 use Rattle.client_steps.specs.Steps.{Asks, Sees, FromOpen, Open}
 use Rattle.client_steps.specs.Steps as steps
 
@@ -45,12 +47,24 @@ abbrev pub TellsLost : Call → State → Type 0
 TellsLost (Signs x lost) new = lost ≡ lost_of new
 TellsLost call new = Unit {0}
 
--- where a block was handed in that a reply or a look asked for, and one more is asked for, more are held than before
-abbrev pub HoldsMore : State → Call → State → Type 0
-HoldsMore s (Takes block (Ok (step.Need digest))) new = HasMore s new
-HoldsMore s (Gives q block (Ok (look.Need digest))) new = HasMore s new
-HoldsMore s call new = Unit {0}
+-- the reply under check waits for the block of this digest, of which no text is known that its place takes
+abbrev pub WaitsFor : Digest → State → Type 0
+WaitsFor digest s = IsSomeAnd s.checked
+    (λ k. ((asked_of k).digest ≡ digest) × (lacks (known_blocks s.blocks) digest (asked_of k).spot ≡ true))
+
+-- so does the look that is under way
+abbrev pub LookWaitsFor : Digest → State → Type 0
+LookWaitsFor digest s = IsSomeAnd s.view
+    (λ v. IsSomeAnd v.looking (λ l. (l.asked.digest ≡ digest) × IsLacking s l.asked))
+
+-- A block is asked for only where it is lacking; and where one was handed in just before, more are held than before that.
+abbrev pub AsksForLacking : State → Call → State → Type 0
+AsksForLacking s (Hears text (Ok (step.Need digest))) new = WaitsFor digest new
+AsksForLacking s (Takes block (Ok (step.Need digest))) new = HasMore s new × WaitsFor digest new
+AsksForLacking s (Looks q (Ok (look.Need digest))) new = LookWaitsFor digest new
+AsksForLacking s (Gives q block (Ok (look.Need digest))) new = HasMore s new × LookWaitsFor digest new
+AsksForLacking s call new = Unit {0}
 
 -- from this client, this call with its answer may lead to that one: it is a step of a run
 unfoldable pub Leads : State → Call → State → Type 0
-Leads s call new = FromOpen s (step_of call) (Open new) × TellsLost call new × HoldsMore s call new
+Leads s call new = FromOpen s (step_of call) (Open new) × TellsLost call new × AsksForLacking s call new

@@ -17,7 +17,7 @@ use Rattle.file_session.specs.declared.stop.Stop.{Stop}
 use Rattle.file_session.specs.declared.stop.Stop.TheVariants as stop
 use Rattle.file_session.specs.Declaring.{all_declared, all_texts}
 use Rattle.file_session.specs.Given.{IsGiven}
-use Rattle.file_session.specs.Calls.{HoldsMore}
+use Rattle.file_session.specs.Calls.{AsksForLacking}
 use Rattle.file_session.specs.Order.{Move, Calls, ready_or, resuming}
 use Rattle.file_session.specs.Went.{Agrees, Answering, At, Event, Begun, Seen, Signed, Unplanned, events, looks, Moves}
 use Rattle.file_session.specs.Went.{point, signs}
@@ -128,13 +128,13 @@ IsGivenFrom other moves result = IsGiven moves result
 
 -- ---- how often a block is asked for
 
--- Where a block was handed in and another is asked for, more blocks are held than before: within one reply, and within
--- one look, none is taken twice.
+-- Each block that is asked for is lacking then; and where one was handed in and another is asked for, more blocks are held
+-- than before: so within one reply, and within one look, none is taken twice.
 abbrev pub AreAskedOnce : {T : Type 0} (answers : Answering T) (a : At T) (ms : List Move) (b : At T)
     → Moves answers a ms b → Type 0
 AreAskedOnce answers a [] b run = Unit {0}
 AreAskedOnce answers a (Calls call ∷ ms) b (mid, one, more) =
-    HoldsMore a.client call mid.client × AreAskedOnce answers mid ms b more
+    AsksForLacking a.client call mid.client × AreAskedOnce answers mid ms b more
 AreAskedOnce answers a (other ∷ ms) b (mid, one, more) = AreAskedOnce answers mid ms b more
 
 -- ---- a session

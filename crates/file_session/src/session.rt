@@ -26,7 +26,6 @@ use transport::Transport;
 
 /// A client over a transport, for commands of its user.
 pub struct Session<L: Device, J: Device, T, A: Allocator> {
-    user: User,
     conversation: Conversation<L, J, T, A>,
     resumed: Option<Resumed<A>>,
 }
@@ -147,17 +146,14 @@ impl<L: Device, J: Device, T: Transport<A>, A: Allocator + Copy> Session<L, J, T
     pub fn new(alloc: A, client: Client<L, J, A>, transport: T) -> Session<L, J, T, A>
         ensures client { result.conversation.client ≡ client }
         ensures transport { result.conversation.transport ≡ transport }
-        ensures user { result.user ≡ client.user }
         ensures resumed { result.resumed ≡ None }
     {
-        let user = client.user();
         let conversation = Conversation {
             alloc,
             client,
             transport,
         };
         Session {
-            user,
             conversation,
             resumed: None,
         }
@@ -169,7 +165,6 @@ impl<L: Device, J: Device, T: Transport<A>, A: Allocator + Copy> Session<L, J, T
         ensures transport { result.1 ≡ self.conversation.transport }
     {
         let Session {
-            user: _,
             conversation,
             resumed: _,
         } = self;
@@ -192,13 +187,13 @@ impl<L: Device, J: Device, T: Transport<A>, A: Allocator + Copy> Session<L, J, T
     fn go(&mut self, command: &Command<'_>) -> Result<Answer<A>, Stop>
         requires small { is_too_large command.now ≡ false }
         requires none { self.old.resumed ≡ None }
-        ensures ran { Ran T.answers self.old.conversation.client self.old.conversation.transport self.old.user
-            command.now self.new.conversation.client self.new.conversation.transport self.new.resumed
-            (on_ok answer_of result) }
-        ensures user { self.new.user ≡ self.old.user }
+        ensures { Ran T.answers self.old.conversation.client self.old.conversation.transport
+            self.old.conversation.client.user command.now self.new.conversation.client self.new.conversation.transport
+            self.new.resumed (on_ok answer_of result) }
     {
+        let user = self.conversation.client.user();
         self.resumed = self.conversation.resume()?;
-        self.conversation.carry_out(self.user, command)
+        self.conversation.carry_out(user, command)
     }
 
     /// Carries a command out. A path or a size at fault is told at once, and nothing is sent. Else what was declared or
@@ -211,10 +206,9 @@ impl<L: Device, J: Device, T: Transport<A>, A: Allocator + Copy> Session<L, J, T
             → self.new.conversation.transport ≡ self.old.conversation.transport }
         ensures early_resumed { IsSome (early command.now) → self.new.resumed ≡ None }
         ensures ran { early command.now ≡ None → (r : Result AnswerOf Stopped)
-            × Ran T.answers self.old.conversation.client self.old.conversation.transport self.old.user command.now
-            self.new.conversation.client self.new.conversation.transport self.new.resumed r
-            × (answer_of result ≡ answered r) }
-        ensures user { self.new.user ≡ self.old.user }
+            × Ran T.answers self.old.conversation.client self.old.conversation.transport
+            self.old.conversation.client.user command.now self.new.conversation.client self.new.conversation.transport
+            self.new.resumed r × (answer_of result ≡ answered r) }
     {
         self.resumed = None;
         if let Some(why) = early(command) {

@@ -4,9 +4,11 @@
 use crate::files::blocks_of;
 use crate::here::Here;
 use crate::operations::{Many, make_many};
-use crate::town::{Town, town_of_three};
-use crate::words::{Digits, keys_of, run_words};
+use crate::town::{Town, town_of_one, town_of_three};
+use crate::words::{Digits, ends, keys_of, run_words};
+use commands::Command;
 use tests_aids::{Aided, check, check_text, given};
+use wire::RequestKind;
 
 /// A commit again, then the look: the certificate, four blocks of the table of principals (the root of user 0's
 /// i-table, its chunk, the i-node and the block of the file), and the commit.
@@ -209,4 +211,34 @@ fn of_a_full_chunk(rt: HostRuntime) {
     costs(&rt, &mut town, &digits, put, b"new", NEW + 2);
     let outcome = run_words(&rt, &mut town, &digits, "0", "ls /", b"");
     check_text(&rt, &outcome.printed, b"first 0:3\nnew 0:68\n");
+}
+
+/// What the second command of a session sends: it has nothing to finish, and asks for what the first one stored, the two
+/// blocks of the i-table and the two of the directory, but not for what that laid out, the i-node and the block of the
+/// file.
+const SECOND: [RequestKind; 6] = [
+    RequestKind::Update,
+    RequestKind::Get,
+    RequestKind::Get,
+    RequestKind::Commit,
+    RequestKind::Get,
+    RequestKind::Get,
+];
+
+#[test]
+fn of_a_second_command(rt: HostRuntime) {
+    let rt = (rt, Here);
+    let mut town = town_of_one(&rt);
+    let put = Command::Put {
+        path: "/f",
+        content: b"hello",
+    };
+    let (first, second) = town.run_both(&rt, (&put, &Command::Cat("/f")));
+    ends(&rt, &first, "put", 0, "done|");
+    ends(&rt, &second, "cat", 0, "hello");
+    check(
+        &rt,
+        second.sent.as_slice().ends_with(&SECOND),
+        "six exchanges, four of them for blocks",
+    );
 }

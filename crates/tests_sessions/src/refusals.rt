@@ -6,6 +6,7 @@ use crate::memory::Trouble;
 use crate::town::{Town, town_of_one, town_of_three};
 use crate::words::{Digits, all_end, ends, keys_of, run_of_0};
 use client_verify::Parts;
+use commands::Command;
 use lms_sign::PrivateKey;
 use std::alloc::Global;
 use tests_aids::texts::{
@@ -58,6 +59,22 @@ fn the_ledger_fails(rt: HostRuntime) {
     kept.ledger.fail_after(CALLS_OF_OPENING);
     town.come_home(0, kept);
     lists(&rt, &mut town, 4, "device|");
+}
+
+/// A device fails in the first command of a session. The second one is told so at once, and nothing is sent for either.
+/// A new process goes on.
+#[test]
+fn a_failed_session_goes_on_with_nothing(rt: HostRuntime) {
+    let rt = (rt, Here);
+    let mut town = town_of_one(&rt);
+    let mut kept = town.leave_home(&rt, 0);
+    kept.ledger.fail_after(CALLS_OF_OPENING);
+    town.come_home(0, kept);
+    let (first, second) = town.run_both(&rt, (&Command::Ls("/"), &Command::Cat("/f")));
+    ends(&rt, &first, "ls", 4, "device|");
+    ends(&rt, &second, "cat", 4, "device|");
+    check(&rt, second.sent.is_empty(), "nothing is sent");
+    lists(&rt, &mut town, 0, "");
 }
 
 #[test]

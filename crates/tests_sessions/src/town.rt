@@ -13,7 +13,7 @@ use lms_sign::PublicKey;
 use std::alloc::Global;
 use tests_aids::texts::{joined, key_of};
 use tests_aids::{Aided, found, given};
-use tests_client_aids::clients::{Kept, MemoryClient, nothing_yet, opened};
+use tests_client_aids::clients::{Kept, MemoryClient, nothing_yet, open_over, opened};
 use tests_client_aids::crashes::closed;
 use transport::Transport;
 use wire::RequestKind;
@@ -219,5 +219,23 @@ impl Town {
                 (unopened(rt, error), transport)
             }
         }
+    }
+
+    /// One session of user 0 carries out both commands over the server in memory: what each ends with, and what was
+    /// sent for both.
+    pub(crate) fn run_both(
+        &mut self,
+        rt: &impl Aided,
+        (one, other): (&Command<'_>, &Command<'_>),
+    ) -> (Outcome, Outcome) {
+        let kept = self.leave_home(rt, 0);
+        let server = self.leave_server(rt);
+        let client = open_over(rt, User::superuser(), self.pinned, kept);
+        let mut session = Session::new(rt.alloc(), client, server);
+        let first = ended(rt, &mut session, one);
+        let second = ended(rt, &mut session, other);
+        let (client, server) = session.close();
+        self.come_home(0, closed(client));
+        (first, self.come_back(second, server))
     }
 }

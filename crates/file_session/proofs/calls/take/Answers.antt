@@ -13,7 +13,7 @@ returns-clause-leads g c =
     let old = c.args.client.now in
     leads _ (Takes (option_copied c.args.block) (on_ok asked c.on_block-step.result)) _
     (taken old c.on_block-step.new.self (option_copied c.args.block) c.on_block-step.result (some_from (λ k. IsLacking old (asked_of k)) old.checked c.requires) c.is_bytes.ensures e.handed e.held e.told e.only_memory e.err) tt
-    (taken_more old c.on_block-step.new.self (option_copied c.args.block) c.on_block-step.result c.requires e.more)
+    (taken_more old c.on_block-step.new.self (option_copied c.args.block) c.on_block-step.result c.requires e.more e.stands)
 
 pub returns-clause-phase : goal.returns-clause-phase
 returns-clause-phase g c = same_phase c.args.client.now c.on_block-step.new.self c.on_block-step.result c.on_block-step.ensures.only c.on_block-step.ensures.err

@@ -4,10 +4,10 @@ use Rattle.client_steps.specs.Anywhere.{on_ok}
 use Rattle.file_session.proofs.Sessions.{carried_to, ran, ran_not, ready_same}
 use Rattle.file_session.proofs.session.Session.go.Goals as goal
 
-pub returns-in_err-self-clause-ran : goal.returns-in_err-self-clause-ran
-returns-in_err-self-clause-ran g c =
+pub returns-in_err-self : goal.returns-in_err-self
+returns-in_err-self g c =
     let p = err_from_is_err_and c.from_residual.result c.from_residual.ensures.1 in
     rw (p.1, p.2) (ran_not _ _ _ _ _ _ _ _ c.requires.none c.in_err-self.ensures.unfinished c.in_err-self.ensures.finished)
 
-pub returns-clause-ran : goal.returns-clause-ran
-returns-clause-ran g c = ran _ _ _ _ _ _ _ _ _ (on_ok answer_of c.carry_out.result) c.in_ok-self.ensures.finished (carried_to (ready_same answer_of c.carry_out.result) c.carry_out.ensures)
+pub returns : goal.returns
+returns g c = ran _ _ _ _ _ _ _ _ _ (on_ok answer_of c.carry_out.result) c.in_ok-self.ensures.finished (carried_to (ready_same answer_of c.carry_out.result) (rw c.user-user.ensures at c.carry_out.ensures))
