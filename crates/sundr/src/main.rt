@@ -1,24 +1,25 @@
 //! A client of a file system over a server that nobody trusts: it carries out one command, and prints what comes of it.
 #![tactic(auto)]
 
+mod folder;
+mod hindrance;
+
 use client_verify::Client;
-use commands::{Answer, Command, Refusal};
+use commands::{Answer, Command};
 use connection::{ConnectionFault, Socket};
 use drawn_key::drawn_key;
 use file_commands::{Line, LineError, Wanted};
 use file_session::{Resumed, Session, refusal_of};
-use itable::FILE_SIZE;
-use layout::{Memory, let_go};
+use folder::{Keys, lock_ledger, open_device, read_content, read_keys, read_seed};
+use hindrance::Hindrance;
+use layout::let_go;
 use leaf_ledger::FileDevice;
-use lms_sign::{ID_SIZE, KEY_SIZE, PublicKey, SEED_SIZE};
-use std::alloc::{AllocError, Global};
+use std::alloc::Global;
 use std::env;
-use std::fs::{File, OpenOptions, TryLockError};
-use std::io::{self, ErrorKind, Read};
+use std::io::{self, ErrorKind};
 use std::net::{Net, TcpStream};
 use std::process::ExitCode;
 use std::thread::Threads;
-use thiserror::Error;
 use transport::{Connect, Connecting};
 
 /// The status where the words are at fault.
@@ -30,42 +31,8 @@ const REFUSED: u8 = 4;
 /// The status where what came can't be printed.
 const UNPRINTED: u8 = 6;
 
-/// Why a command isn't begun.
-#[derive(Clone, Copy, Debug, Error)]
-enum Hindrance {
-    /// The folder hasn't the keys that the command needs.
-    #[error("no keys")]
-    NoKeys,
-    /// The file that is to be put can't be read.
-    #[error("no file")]
-    NoFile,
-    /// What an answer tells too.
-    #[error("{0}")]
-    Refused(Refusal),
-}
-
-impl From<AllocError> for Hindrance {
-    fn from(_e: AllocError) -> Hindrance {
-        Hindrance::Refused(Refusal::Memory)
-    }
-}
-
-impl From<Memory> for Hindrance {
-    fn from(_e: Memory) -> Hindrance {
-        Hindrance::Refused(Refusal::Memory)
-    }
-}
-
 /// A client over the files of a folder.
 type OwnClient = Client<FileDevice<Global>, FileDevice<Global>, Global>;
-
-/// What a user's own key is drawn from, and user 0's public key.
-#[derive(Clone, Copy)]
-struct Keys {
-    seed: [u8; SEED_SIZE],
-    id: [u8; ID_SIZE],
-    pinned: PublicKey,
-}
 
 /// What is printed of a line.
 #[derive(Drop)]
@@ -94,100 +61,6 @@ impl<'a, H: Net<Stream = TcpStream>> Connect<Socket> for Server<'a, H> {
     fn connect(&mut self) -> Result<Socket, ConnectionFault> {
         dial(self.host, self.address).map_err(|_| ConnectionFault)
     }
-}
-
-/// What a fault of the system at the ledger or at the journal is told as.
-fn device_hindrance(fault: &io::Error) -> Hindrance {
-    match fault.kind() {
-        ErrorKind::OutOfMemory => Hindrance::Refused(Refusal::Memory),
-        _ => Hindrance::Refused(Refusal::Device),
-    }
-}
-
-/// The path of a file of a folder.
-fn path_in(alloc: Global, folder: &str, name: &str) -> Result<String, AllocError> {
-    format!(in alloc; "{folder}/{name}")
-}
-
-/// Reads the last bytes of a file: none are to follow them.
-fn read_last(file: &mut File, bytes: &mut [u8]) -> Option<()> {
-    file.read_exact(bytes).ok()?;
-    match file.read(&mut [0]) {
-        Ok(0) => Some(()),
-        _ => None,
-    }
-}
-
-/// The seed and the identifier in a user's folder.
-fn read_seed(
-    rt: &HostRuntime,
-    folder: &str,
-) -> Result<([u8; SEED_SIZE], [u8; ID_SIZE]), Hindrance> {
-    let path = path_in(rt.alloc(), folder, "seed")?;
-    let (mut seed, mut id) = ([0; SEED_SIZE], [0; ID_SIZE]);
-    let mut file = File::open(rt, &path).map_err(|_| Hindrance::NoKeys)?;
-    file.read_exact(&mut seed).map_err(|_| Hindrance::NoKeys)?;
-    read_last(&mut file, &mut id).ok_or(Hindrance::NoKeys)?;
-    Ok((seed, id))
-}
-
-/// User 0's public key in a user's folder.
-fn read_pinned(rt: &HostRuntime, folder: &str) -> Result<PublicKey, Hindrance> {
-    let path = path_in(rt.alloc(), folder, "super.pub")?;
-    let mut bytes = [0; KEY_SIZE];
-    let mut file = File::open(rt, &path).map_err(|_| Hindrance::NoKeys)?;
-    read_last(&mut file, &mut bytes).ok_or(Hindrance::NoKeys)?;
-    PublicKey::from_bytes(bytes).ok_or(Hindrance::NoKeys)
-}
-
-/// What a user's folder has of keys.
-fn read_keys(rt: &HostRuntime, folder: &str) -> Result<Keys, Hindrance> {
-    let (seed, id) = read_seed(rt, folder)?;
-    let pinned = read_pinned(rt, folder)?;
-    Ok(Keys { seed, id, pinned })
-}
-
-/// The bytes of a file of the system, of which one more than a file may have is enough.
-fn read_content(rt: &HostRuntime, path: &str) -> Result<Vec<u8>, Hindrance> {
-    let file = File::open(rt, path).map_err(|_| Hindrance::NoFile)?;
-    let mut content = Vec::new(rt.alloc());
-    match file
-        .take(u64::from(FILE_SIZE) + 1)
-        .read_to_end(&mut content)
-    {
-        Ok(_) => Ok(content),
-        Err(fault) if fault.kind() == ErrorKind::OutOfMemory => {
-            Err(Hindrance::Refused(Refusal::Memory))
-        }
-        Err(_) => Err(Hindrance::NoFile),
-    }
-}
-
-/// Locks the ledger's file, unless the system knows no locks: while the handle is open, no other process is given the
-/// lock.
-fn lock_ledger(rt: &HostRuntime, folder: &str) -> Result<File, Hindrance> {
-    let path = path_in(rt.alloc(), folder, "ledger")?;
-    let file = OpenOptions::new()
-        .read(true)
-        .write(true)
-        .create(true)
-        .open(rt, &path)
-        .map_err(|fault| device_hindrance(&fault))?;
-    match file.try_lock() {
-        Ok(()) => Ok(file),
-        Err(TryLockError::Error(fault)) if fault.kind() == ErrorKind::Unsupported => Ok(file),
-        Err(_) => Err(Hindrance::Refused(Refusal::Device)),
-    }
-}
-
-/// The device over a file of a folder.
-fn open_device(
-    rt: &HostRuntime,
-    folder: &str,
-    name: &str,
-) -> Result<FileDevice<Global>, Hindrance> {
-    let path = path_in(rt.alloc(), folder, name)?;
-    FileDevice::open(rt, rt.alloc(), folder, &path).map_err(|fault| device_hindrance(&fault))
 }
 
 /// The user's client.
@@ -301,6 +174,12 @@ fn obey<H: Net<Stream = TcpStream> + Threads + Sync>(
     Ok(Outcome::Answer(answer))
 }
 
+/// Prints an answer: the status to end with.
+fn print_answer(rt: &HostRuntime, answer: &Answer<Global>) -> anyhow::Result<u8> {
+    answer.write(&mut io::writer(rt))?;
+    Ok(answer.status())
+}
+
 /// Prints what came of a line: the status to end with.
 fn print(rt: &HostRuntime, outcome: &Result<Outcome, Hindrance>) -> anyhow::Result<u8> {
     match outcome {
@@ -308,10 +187,8 @@ fn print(rt: &HostRuntime, outcome: &Result<Outcome, Hindrance>) -> anyhow::Resu
             println!(rt; "{digits}")?;
             Ok(0)
         }
-        Ok(Outcome::Answer(answer)) => {
-            answer.write(&mut io::writer(rt))?;
-            Ok(answer.status())
-        }
+        Ok(Outcome::Answer(answer)) => print_answer(rt, answer),
+        Err(Hindrance::Refused(refusal)) => print_answer(rt, &Answer::Refused(*refusal)),
         Err(hindrance) => {
             println!(rt; "{hindrance}")?;
             Ok(REFUSED)
@@ -338,7 +215,7 @@ fn refuse(rt: &HostRuntime, error: &LineError) -> anyhow::Result<u8> {
 }
 
 /// Does what a line wants, and prints what comes of it.
-fn serve<H: Net<Stream = TcpStream> + Threads + Sync>(
+fn obey_and_print<H: Net<Stream = TcpStream> + Threads + Sync>(
     rt: &HostRuntime,
     host: &H,
     line: &Line<'_>,
@@ -370,7 +247,7 @@ fn run<H: Net<Stream = TcpStream> + Threads + Sync>(
         }
     };
     match Line::read(rt.alloc(), words.as_slice()) {
-        Ok(line) => serve(rt, host, &line),
+        Ok(line) => obey_and_print(rt, host, &line),
         Err(error) => {
             let status = refuse(rt, &error);
             let_go(error);

@@ -1,0 +1,112 @@
+//! What a user's folder has: the keys, and the files of the client's ledger and journal; and the file that is put.
+
+use crate::hindrance::Hindrance;
+use commands::Refusal;
+use itable::FILE_SIZE;
+use leaf_ledger::FileDevice;
+use lms_sign::{ID_SIZE, KEY_SIZE, PublicKey, SEED_SIZE};
+use std::alloc::{AllocError, Global};
+use std::fs::{File, OpenOptions, TryLockError};
+use std::io::{self, ErrorKind, Read};
+
+/// What a user's own key is drawn from, and user 0's public key.
+#[derive(Clone, Copy)]
+pub(crate) struct Keys {
+    pub(crate) seed: [u8; SEED_SIZE],
+    pub(crate) id: [u8; ID_SIZE],
+    pub(crate) pinned: PublicKey,
+}
+
+/// What a fault of the system at the ledger or at the journal is told as.
+fn device_hindrance(fault: &io::Error) -> Hindrance {
+    match fault.kind() {
+        ErrorKind::OutOfMemory => Hindrance::Refused(Refusal::Memory),
+        _ => Hindrance::Refused(Refusal::Device),
+    }
+}
+
+/// The path of a file of a folder.
+fn path_in(alloc: Global, folder: &str, name: &str) -> Result<String, AllocError> {
+    format!(in alloc; "{folder}/{name}")
+}
+
+/// Reads the last bytes of a file: none are to follow them.
+fn read_last(file: &mut File, bytes: &mut [u8]) -> Option<()> {
+    file.read_exact(bytes).ok()?;
+    match file.read(&mut [0]) {
+        Ok(0) => Some(()),
+        _ => None,
+    }
+}
+
+/// The seed and the identifier in a user's folder.
+pub(crate) fn read_seed(
+    rt: &HostRuntime,
+    folder: &str,
+) -> Result<([u8; SEED_SIZE], [u8; ID_SIZE]), Hindrance> {
+    let path = path_in(rt.alloc(), folder, "seed")?;
+    let (mut seed, mut id) = ([0; SEED_SIZE], [0; ID_SIZE]);
+    let mut file = File::open(rt, &path).map_err(|_| Hindrance::NoKeys)?;
+    file.read_exact(&mut seed).map_err(|_| Hindrance::NoKeys)?;
+    read_last(&mut file, &mut id).ok_or(Hindrance::NoKeys)?;
+    Ok((seed, id))
+}
+
+/// User 0's public key in a user's folder.
+fn read_pinned(rt: &HostRuntime, folder: &str) -> Result<PublicKey, Hindrance> {
+    let path = path_in(rt.alloc(), folder, "super.pub")?;
+    let mut bytes = [0; KEY_SIZE];
+    let mut file = File::open(rt, &path).map_err(|_| Hindrance::NoKeys)?;
+    read_last(&mut file, &mut bytes).ok_or(Hindrance::NoKeys)?;
+    PublicKey::from_bytes(bytes).ok_or(Hindrance::NoKeys)
+}
+
+/// What a user's folder has of keys.
+pub(crate) fn read_keys(rt: &HostRuntime, folder: &str) -> Result<Keys, Hindrance> {
+    let (seed, id) = read_seed(rt, folder)?;
+    let pinned = read_pinned(rt, folder)?;
+    Ok(Keys { seed, id, pinned })
+}
+
+/// The bytes of a file of the system, of which one more than a file may have is enough.
+pub(crate) fn read_content(rt: &HostRuntime, path: &str) -> Result<Vec<u8>, Hindrance> {
+    let file = File::open(rt, path).map_err(|_| Hindrance::NoFile)?;
+    let mut content = Vec::new(rt.alloc());
+    match file
+        .take(u64::from(FILE_SIZE) + 1)
+        .read_to_end(&mut content)
+    {
+        Ok(_) => Ok(content),
+        Err(fault) if fault.kind() == ErrorKind::OutOfMemory => {
+            Err(Hindrance::Refused(Refusal::Memory))
+        }
+        Err(_) => Err(Hindrance::NoFile),
+    }
+}
+
+/// Locks the ledger's file, unless the system knows no locks: while the handle is open, no other process is given the
+/// lock.
+pub(crate) fn lock_ledger(rt: &HostRuntime, folder: &str) -> Result<File, Hindrance> {
+    let path = path_in(rt.alloc(), folder, "ledger")?;
+    let file = OpenOptions::new()
+        .read(true)
+        .write(true)
+        .create(true)
+        .open(rt, &path)
+        .map_err(|fault| device_hindrance(&fault))?;
+    match file.try_lock() {
+        Ok(()) => Ok(file),
+        Err(TryLockError::Error(fault)) if fault.kind() == ErrorKind::Unsupported => Ok(file),
+        Err(_) => Err(Hindrance::Refused(Refusal::Device)),
+    }
+}
+
+/// The device over a file of a folder.
+pub(crate) fn open_device(
+    rt: &HostRuntime,
+    folder: &str,
+    name: &str,
+) -> Result<FileDevice<Global>, Hindrance> {
+    let path = path_in(rt.alloc(), folder, name)?;
+    FileDevice::open(rt, rt.alloc(), folder, &path).map_err(|fault| device_hindrance(&fault))
+}
