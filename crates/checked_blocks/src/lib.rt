@@ -4,8 +4,6 @@
 
 mod cache;
 mod checked;
-#[cfg(test)]
-mod tests;
 mod with;
 
 pub use checked::{CACHED_AT_FIRST, CheckedBlocks, MOST_CACHED};

@@ -8,8 +8,6 @@ mod path;
 mod place;
 mod printing;
 mod range;
-#[cfg(test)]
-mod tests;
 
 pub use answer::{Answer, Refusal};
 pub use command::Command;

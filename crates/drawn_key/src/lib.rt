@@ -10,9 +10,6 @@ use lms_sign::{LEAF_COUNT, PrivateKey, leaf_value};
 use std::alloc::Allocator;
 use std::thread::{self, Threads};
 
-#[cfg(test)]
-mod tests;
-
 /// In how many threads the leaves are valued where the system doesn't tell of how many processors it is.
 const THREADS: usize = 4;
 

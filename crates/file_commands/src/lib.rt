@@ -3,8 +3,6 @@
 
 mod line;
 mod reading;
-#[cfg(test)]
-mod tests;
 mod words;
 
 pub use line::{Line, LineError, Wanted};

@@ -3,8 +3,6 @@
 
 mod connecting;
 mod framed;
-#[cfg(test)]
-mod tests;
 mod transport;
 
 pub use connecting::{Connect, Connecting};

@@ -1,6 +1,6 @@
 //! A key drawn over all processors is the one drawn in one thread.
 
-use crate::drawn_key;
+use drawn_key::drawn_key;
 use lms_sign::PrivateKey;
 
 #[test]

@@ -1,9 +1,9 @@
 //! Each call once, over connections in memory and over one that fails.
 
-use crate::{Connect, Connecting, Framed, Request, Transport, TransportError};
 use connection::{Connection, ConnectionFault, MemoryConnection};
 use std::alloc::Global;
 use std::process::Abort;
+use transport::{Connect, Connecting, Framed, Request, Transport, TransportError};
 use wire::{BODY_LIMIT, RequestKind};
 
 /// A request with this payload comes to this body over the transport, or to this error.
@@ -18,11 +18,12 @@ fn comes_to<T: Transport<Global>, R: Abort>(
         request.kind() == RequestKind::Put && request.payload() == payload,
         "the request"
     );
-    match (transport.exchange(&request), wanted) {
-        (Ok(body), Ok(wanted)) => assert!(rt; body.as_slice() == wanted, "the body"),
-        (Err(error), Err(wanted)) => assert!(rt; error == wanted, "the error"),
-        _ => assert!(rt; false, "what comes"),
-    }
+    let is_wanted = match (&transport.exchange(&request), wanted) {
+        (Ok(body), Ok(wanted)) => body.as_slice() == wanted,
+        (Err(error), Err(wanted)) => *error == wanted,
+        _ => false,
+    };
+    assert!(rt; is_wanted, "what comes");
 }
 
 /// Two replies, of which bytes of the second come with the first.
@@ -34,28 +35,42 @@ static REQUESTS: &[u8] = b"\0\0\0\x03\x03ab\0\0\0\x02\x03c";
 /// The frame of one that puts `c`.
 static REQUEST: &[u8] = b"\0\0\0\x02\x03c";
 
+/// A payload, and the body or the error that a request with it comes to.
+type Row<'a> = (&'a [u8], Result<&'a [u8], TransportError>);
+
+/// Over this connection two requests come to this, one after the other; behind each it has failed so many times.
+fn both_come_to<C: Connection + Drop, R: Abort + Alloc<A = Global>>(
+    rt: &R,
+    connection: C,
+    rows: (Row<'_>, Row<'_>),
+    faults: u64,
+) {
+    let mut framed = Framed::new(rt.alloc(), connection).expect(rt, "memory");
+    let ((payload, wanted), (second, wanted_then)) = rows;
+    comes_to(rt, &mut framed, payload, wanted);
+    assert!(rt; framed.faults() == faults, "the faults");
+    comes_to(rt, &mut framed, second, wanted_then);
+    assert!(rt; framed.faults() == faults, "the faults");
+    let _connection = framed.into_connection();
+}
+
 #[test]
 fn replies_come_in_order(rt: HostRuntime) {
     let mut output = Vec::new(rt.alloc());
     let connection = MemoryConnection::new(REPLIES, 8, &mut output);
-    let mut framed = Framed::new(rt.alloc(), connection).expect(&rt, "memory");
-    comes_to(&rt, &mut framed, b"ab", Ok(b"\0\x07"));
-    comes_to(&rt, &mut framed, b"c", Ok(b"\x08"));
-    assert_eq!(rt; framed.faults(), 0);
-    let _connection = framed.into_connection();
+    let rows: (Row<'_>, Row<'_>) = ((b"ab", Ok(b"\0\x07")), (b"c", Ok(b"\x08")));
+    both_come_to(&rt, connection, rows, 0);
     assert!(rt; output.as_slice() == REQUESTS, "the requests");
 }
 
 /// What comes ends in mid-frame, or its next length is at fault. The request was written, and no further one is.
 #[test]
 fn no_frame_comes(rt: HostRuntime) {
+    let no_frame = Err(TransportError::NoFrame);
     for input in &[b"\0\0\0\x02\0", b"\0\0\0\0\0"] {
         let mut output = Vec::new(rt.alloc());
         let connection = MemoryConnection::new(*input, 3, &mut output);
-        let mut framed = Framed::new(rt.alloc(), connection).expect(&rt, "memory");
-        comes_to(&rt, &mut framed, b"c", Err(TransportError::NoFrame));
-        comes_to(&rt, &mut framed, b"d", Err(TransportError::NoFrame));
-        let _connection = framed.into_connection();
+        both_come_to(&rt, connection, ((b"c", no_frame), (b"d", no_frame)), 0);
         assert!(rt; output.as_slice() == REQUEST, "the request");
     }
 }
@@ -66,10 +81,11 @@ fn too_large_a_payload(rt: HostRuntime) {
     let payload = Vec::from_elem(rt.alloc(), 0, BODY_LIMIT as usize).expect(&rt, "memory");
     let mut output = Vec::new(rt.alloc());
     let connection = MemoryConnection::new(REPLIES, 8, &mut output);
-    let mut framed = Framed::new(rt.alloc(), connection).expect(&rt, "memory");
-    comes_to(&rt, &mut framed, &payload, Err(TransportError::NoFrame));
-    comes_to(&rt, &mut framed, b"c", Ok(b"\0\x07"));
-    let _connection = framed.into_connection();
+    let rows: (Row<'_>, Row<'_>) = (
+        (&payload, Err(TransportError::NoFrame)),
+        (b"c", Ok(b"\0\x07")),
+    );
+    both_come_to(&rt, connection, rows, 0);
     assert!(rt; output.as_slice() == REQUEST, "the request");
 }
 
@@ -104,11 +120,11 @@ impl Connection for Deaf {
 
 #[test]
 fn a_connection_that_fails(rt: HostRuntime) {
-    let mut framed = Framed::new(rt.alloc(), Deaf { faults: 0 }).expect(&rt, "memory");
-    comes_to(&rt, &mut framed, b"ab", Err(TransportError::Fault));
-    assert_eq!(rt; framed.faults(), 1);
-    comes_to(&rt, &mut framed, b"ab", Err(TransportError::NoFrame));
-    assert_eq!(rt; framed.faults(), 1);
+    let rows: (Row<'_>, Row<'_>) = (
+        (b"ab", Err(TransportError::Fault)),
+        (b"ab", Err(TransportError::NoFrame)),
+    );
+    both_come_to(&rt, Deaf { faults: 0 }, rows, 1);
 }
 
 /// Refuses so many connections, and then gives one.

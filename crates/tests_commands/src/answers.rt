@@ -1,0 +1,218 @@
+//! Each row of the table of answers once, texts of paths, and what commands come to.
+
+use commands::{Answer, Course, Place, Refusal, Stands, path_of, place_of};
+use directory::{Directory, Target};
+use layout::{INumber, Principal};
+use reply_rules::Rule;
+use std::alloc::Global;
+use std::process::Abort;
+use wire::Status;
+
+/// Whether this is what is printed of an answer, with this status.
+fn is_printed(rt: &impl Abort, answer: Answer<Global>, wanted: (&str, u8), alloc: Global) -> bool {
+    let mut text: Vec<u8> = Vec::new(alloc);
+    answer.write(&mut text).expect(rt, "written");
+    text.as_slice() == wanted.0.as_bytes() && answer.status() == wanted.1
+}
+
+/// Whether a refusal or a broken rule is printed as this line, with this status.
+fn is_line(rt: &impl Abort, answer: Answer<Global>, line: (&str, u8), alloc: Global) -> bool {
+    let text = format!(in alloc; "{}\n", line.0).expect(rt, "memory");
+    is_printed(rt, answer, (&text, line.1), alloc)
+}
+
+static REFUSALS: [Refusal; 11] = [
+    Refusal::NoPath,
+    Refusal::There,
+    Refusal::NotEmpty,
+    Refusal::NoNumber,
+    Refusal::NoLeaf,
+    Refusal::TooLarge,
+    Refusal::Device,
+    Refusal::Foreign,
+    Refusal::Damaged,
+    Refusal::Cut,
+    Refusal::Memory,
+];
+
+/// The line of each refusal.
+const LINES_OF_REFUSALS: &str = "\
+no path
+there
+not empty
+no number
+no leaf
+too large
+device
+foreign
+damaged
+cut
+memory
+";
+
+#[test]
+fn refusals_are_printed(rt: HostRuntime) {
+    let mut lines = LINES_OF_REFUSALS.lines();
+    for refusal in &REFUSALS {
+        let line = lines.next().expect(&rt, "a line");
+        assert!(rt; is_line(&rt, Answer::Refused(*refusal), (line, 4), rt.alloc()));
+    }
+}
+
+static RULES: [Rule; 15] = [
+    Rule::Form,
+    Rule::Lists,
+    Rule::OwnLast,
+    Rule::OwnPending,
+    Rule::SuperSignature,
+    Rule::Block,
+    Rule::Content,
+    Rule::UnknownUser,
+    Rule::Signature,
+    Rule::Certificate,
+    Rule::Numbers,
+    Rule::Vector,
+    Rule::Entries,
+    Rule::Link,
+    Rule::GroupRecord,
+];
+
+/// The line of each rule.
+const LINES_OF_RULES: &str = "\
+broken 1 Form
+broken 2 Lists
+broken 3 OwnLast
+broken 4 OwnPending
+broken 5 SuperSignature
+broken 6 Block
+broken 7 Content
+broken 8 UnknownUser
+broken 9 Signature
+broken 10 Certificate
+broken 11 Numbers
+broken 12 Vector
+broken 13 Entries
+broken 14 Link
+broken 15 GroupRecord
+";
+
+/// Whether this is the line of a rule, with the name that the rule itself shows.
+fn is_rule(rt: &impl Abort, rule: Rule, line: &str, alloc: Global) -> bool {
+    let number = rule.number();
+    let shown = format!(in alloc; "broken {number} {rule}").expect(rt, "memory");
+    shown.as_str() == line && is_line(rt, Answer::Broken(rule), (line, 2), alloc)
+}
+
+#[test]
+fn rules_are_printed(rt: HostRuntime) {
+    let mut lines = LINES_OF_RULES.lines();
+    for rule in &RULES {
+        let line = lines.next().expect(&rt, "a line");
+        assert!(rt; is_rule(&rt, *rule, line, rt.alloc()));
+    }
+}
+
+fn target(rt: &impl Abort, principal: u8, i_number: u16) -> Target {
+    Target {
+        principal: Principal::new(principal).expect(rt, "a principal"),
+        i_number: INumber::new(i_number).expect(rt, "an i-number"),
+    }
+}
+
+#[test]
+fn what_was_done_is_printed(rt: HostRuntime) {
+    let alloc = rt.alloc();
+    assert!(rt; is_printed(&rt, Answer::Done, ("done\n", 0), alloc));
+    let bytes = Vec::from_slice(alloc, b"a\nb").expect(&rt, "memory");
+    assert!(rt; is_printed(&rt, Answer::Bytes(bytes), ("a\nb", 0), alloc));
+    let lost = Vec::from_slice(alloc, &[1, 2]).expect(&rt, "memory");
+    assert!(rt; is_printed(&rt, Answer::Lost(lost), ("lost 1 2\n", 1), alloc));
+    let declined = Answer::Declined(Status::Busy);
+    assert!(rt; is_printed(&rt, declined, ("declined 6\n", 3), alloc));
+}
+
+#[test]
+fn entries_are_printed(rt: HostRuntime) {
+    let mut directory = Directory::empty(rt.alloc());
+    directory
+        .link(b"b", target(&rt, 64, 4095))
+        .expect(&rt, "linked");
+    directory
+        .link(b"a", target(&rt, 0, 3))
+        .expect(&rt, "linked");
+    let answer = Answer::Listing(directory);
+    assert!(rt; is_printed(&rt, answer, ("a 0:3\nb 64:4095\n", 0), rt.alloc()));
+}
+
+/// Beside the empty text.
+const NO_PATHS: &str = "\
+a
+//
+/a/
+/./a
+/..
+@
+@0
+@0:
+@0:2/
+@:2
+@96:1
+@0:0
+@0:4096
+@+0:2
+@0:65537
+@0:2//a
+";
+
+#[test]
+fn no_paths(rt: HostRuntime) {
+    for text in NO_PATHS.lines() {
+        assert!(rt; path_of(text).is_none());
+    }
+    assert!(rt; path_of("").is_none());
+    assert!(rt; place_of("/a").is_none() && place_of("@0:2/a").is_none());
+}
+
+/// A text is a path from this principal and i-number on, over these names.
+fn is_path(rt: &impl Abort, text: &str, start: (u8, u16), wanted: &[&str]) {
+    let path = path_of(text).expect(rt, "a path");
+    assert!(rt; path.start() == target(rt, start.0, start.1));
+    let mut names = path.names();
+    for name in wanted {
+        assert!(rt; !names.is_empty() && names.next() == Some(*name));
+    }
+    assert!(rt; names.is_empty() && names.next().is_none());
+}
+
+#[test]
+fn paths(rt: HostRuntime) {
+    is_path(&rt, "/", (0, 2), &[]);
+    is_path(&rt, "/a/b", (0, 2), &["a", "b"]);
+    is_path(&rt, "@64:64", (64, 64), &[]);
+    is_path(&rt, "@095:0004095/x", (95, 4095), &["x"]);
+    is_path(&rt, "@5:1/.../é", (5, 1), &["...", "é"]);
+}
+
+#[test]
+fn commands_at_a_new_name(rt: HostRuntime) {
+    let new = Place::New {
+        directory: target(&rt, 0, 2),
+        name: "n",
+    };
+    assert!(rt; matches!(new.put(None), Course::Refuse(Refusal::NoNumber)));
+    assert!(rt; matches!(new.make(INumber::new(7)), Course::MakeNamed { .. }));
+    assert!(rt; matches!(new.remove(), Course::Refuse(Refusal::NoPath)));
+    assert!(rt; matches!(new.link(target(&rt, 1, 9)), Course::Link { .. }));
+}
+
+#[test]
+fn commands_at_an_old_name(rt: HostRuntime) {
+    let old = Place::Old {
+        directory: target(&rt, 0, 2),
+        name: "n",
+        target: target(&rt, 1, 9),
+        stands: Stands::File,
+    };
+    assert!(rt; matches!(old.put(None), Course::Put(_)));
+    assert!(rt; matches!(old.remove(), Course::Unlink { .. }));
+}

@@ -1,0 +1,158 @@
+//! Each command's line once, and lines that aren't read.
+
+use clap::error::ErrorKind;
+use commands::Command;
+use file_commands::{Line, LineError, Wanted};
+use std::alloc::Global;
+use std::process::Abort;
+
+/// The words before a command of user 7.
+const OPTIONS: &str = "sundr --dir d --server a:1 --user 7";
+
+/// The words of user 7 that end with these.
+fn of_user_7(rt: &impl Abort, alloc: Global, command: &str) -> String {
+    format!(in alloc; "{OPTIONS} {command}").expect(rt, "memory")
+}
+
+/// The words of a text.
+fn words_of<'a>(rt: &impl Abort, alloc: Global, text: &'a str) -> Vec<&'a str> {
+    let mut words = Vec::new(alloc);
+    for word in text.split(' ') {
+        words.push(word).expect(rt, "memory");
+    }
+    words
+}
+
+/// Whether the words before the command are read.
+fn is_of_user_7(line: &Line<'_>) -> bool {
+    line.dir == "d" && line.server == "a:1" && line.user.get() == 7
+}
+
+/// A key's 112 digits: the form, and bytes of which none is another.
+const DIGITS: &str = "0000000600000003000102030405060708090a0b0c0d0e0f\
+    101112131415161718191a1b1c1d1e1f202122232425262728292a2b2C2D2E2F";
+
+/// The number of the command, by its place below, where its words are read.
+fn command_read(command: &Command<'_>) -> u8 {
+    match command {
+        Command::Ls("/p") => 2,
+        Command::Cat("/p") => 3,
+        Command::Mkdir("/p") => 5,
+        Command::Rm("/p") => 6,
+        Command::Link {
+            path: "/p",
+            target: "@1:2",
+        } => 7,
+        Command::AddMember { group, user } if group.get() == 64 && user.get() == 63 => 8,
+        Command::DropMember { group, user } if group.get() == 95 && user.get() == 0 => 9,
+        Command::AddUser { user, key } => {
+            let bytes = key.as_bytes();
+            if user.get() == 5 && bytes[8] == 0 && bytes[9] == 1 && bytes[55] == 0x2f {
+                10
+            } else {
+                0
+            }
+        }
+        _ => 0,
+    }
+}
+
+/// The number of what is wanted.
+fn number_of(wanted: &Wanted<'_>) -> u8 {
+    match wanted {
+        Wanted::Key => 1,
+        Wanted::Put {
+            path: "/p",
+            file: "f",
+        } => 4,
+        Wanted::Run(command) => command_read(command),
+        _ => 0,
+    }
+}
+
+/// The number of what the words of user 7 that end with these want; 0 where they aren't read.
+fn reads(rt: &impl Abort, alloc: Global, command: &str) -> u8 {
+    let text = of_user_7(rt, alloc, command);
+    let words = words_of(rt, alloc, &text);
+    match &Line::read(alloc, &words) {
+        Ok(line) if is_of_user_7(line) => number_of(&line.wanted),
+        _ => 0,
+    }
+}
+
+/// Each command, numbered from 1. Behind these comes one with a key.
+const COMMANDS: &str = "\
+key
+ls /p
+cat /p
+put /p f
+mkdir /p
+rm /p
+link /p @1:2
+addmember 64 63
+dropmember 95 0
+";
+
+#[test]
+fn lines_of_commands(rt: HostRuntime) {
+    let alloc = rt.alloc();
+    let mut number = 0u8;
+    for command in COMMANDS.lines() {
+        number = number.saturating_add(1);
+        assert!(rt; reads(&rt, alloc, command) == number);
+    }
+    let adduser = format!(in alloc; "adduser 5 {DIGITS}").expect(&rt, "memory");
+    assert!(rt; reads(&rt, alloc, &adduser) == 10);
+}
+
+/// Whether this is a fault of this kind that clap finds, or else a bad key.
+fn is_fault(error: &LineError, kind: Option<ErrorKind>) -> bool {
+    match error {
+        LineError::Words(fault) => kind == Some(fault.kind()),
+        LineError::Key => kind.is_none(),
+        LineError::Memory => false,
+    }
+}
+
+/// Whether words aren't read, with such a fault.
+fn has_fault(rt: &impl Abort, alloc: Global, text: &str, kind: Option<ErrorKind>) -> bool {
+    let words = words_of(rt, alloc, text);
+    match &Line::read(alloc, &words) {
+        Ok(_) => false,
+        Err(error) => is_fault(error, kind),
+    }
+}
+
+/// Whether the words of user 7 that end with these have such a fault.
+fn has_fault_behind(
+    rt: &impl Abort,
+    alloc: Global,
+    command: &str,
+    kind: Option<ErrorKind>,
+) -> bool {
+    has_fault(rt, alloc, &of_user_7(rt, alloc, command), kind)
+}
+
+const NO_USER: &str = "sundr --dir d --server a:1 --user 64 ls /p";
+
+const NO_SERVER: &str = "sundr --dir d --user 7 key";
+
+#[test]
+fn refuses_lines(rt: HostRuntime) {
+    let alloc = rt.alloc();
+    let no_value = Some(ErrorKind::ValueValidation);
+    let no_argument = Some(ErrorKind::MissingRequiredArgument);
+    assert!(rt; has_fault(&rt, alloc, NO_USER, no_value));
+    assert!(rt; has_fault_behind(&rt, alloc, "addmember 63 1", no_value));
+    assert!(rt; has_fault(&rt, alloc, OPTIONS, Some(ErrorKind::MissingSubcommand)));
+    assert!(rt; has_fault(&rt, alloc, NO_SERVER, no_argument));
+    assert!(rt; has_fault_behind(&rt, alloc, "put /p", no_argument));
+    assert!(rt; has_fault_behind(&rt, alloc, "adduser 5 0000000600000003", None));
+}
+
+#[test]
+fn tells_help(rt: HostRuntime) {
+    let help = Some(ErrorKind::DisplayHelp);
+    assert!(rt; has_fault(&rt, rt.alloc(), "sundr put --help", help));
+    assert!(rt; has_fault(&rt, rt.alloc(), "sundr --help", help));
+}
