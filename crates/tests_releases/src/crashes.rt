@@ -1,8 +1,9 @@
-//! What these tests share: what they run in, devices in memory, and what a crash leaves of them, in each way that is
-//! tried.
+//! What these tests share: what they run in, devices in memory, what a crash leaves of them in each way that is tried,
+//! how tables are read, and how errors print.
 
-use leaf_ledger::MemoryDevice;
+use leaf_ledger::{Extent, MemoryDevice};
 use std::alloc::Global;
+use std::fmt::Display;
 use std::process::Abort;
 
 /// What a test runs in.
@@ -17,68 +18,62 @@ pub(crate) fn device_of(rt: &impl Host, text: &[u8]) -> MemoryDevice<Global> {
     MemoryDevice::new(alloc, text).expect(rt, "memory")
 }
 
-/// What a crash leaves of an extent that was written since the last sync.
-#[derive(Clone, Copy, Debug)]
-enum Left {
-    Old,
-    New,
-    Filled(u8),
-}
-
-/// The ways that are tried, for each extent.
-static LEFT: [Left; 6] = [
-    Left::Old,
-    Left::New,
-    Left::Filled(0),
-    Left::Filled(1),
-    Left::Filled(0x7f),
-    Left::Filled(0xff),
-];
-
-/// How many bytes a crash leaves. The digits of the outcome, to base 6, say how each extent is left; what lies past the
-/// old end is cut short where the last extents are left old.
-fn size_left(device: &MemoryDevice<Global>, outcome: usize) -> usize {
-    let mut size = device.synced_text().len();
-    let mut ways = outcome;
-    for extent in device.unsynced() {
-        if ways % 6 != 0 {
-            size = size.max(extent.at.saturating_add(extent.size));
-        }
-        ways /= 6;
+/// Leaves an extent that was written since the last sync in one of six ways: old, new, or filled with a byte.
+fn leave(rt: &impl Host, left: &mut Vec<u8>, extent: &Extent, written: &[u8], way: usize) {
+    let end = extent.at.saturating_add(extent.size);
+    if way != 0 && left.len() < end {
+        left.resize(end, 0).expect(rt, "memory");
     }
-    size
-}
-
-/// The byte at a place that a crash leaves.
-fn byte_left(device: &MemoryDevice<Global>, outcome: usize, i: usize) -> u8 {
-    let mut byte = device.synced_text().get(i).copied().unwrap_or(0);
-    let mut ways = outcome;
-    for extent in device.unsynced() {
-        if extent.at <= i && i - extent.at < extent.size {
-            match LEFT[ways % 6] {
-                Left::Old => {}
-                Left::New => byte = device.text().get(i).copied().unwrap_or(0),
-                Left::Filled(filler) => byte = filler,
+    for place in extent.at..end {
+        if let Some(byte) = left.get_mut(place) {
+            match way {
+                0 => {}
+                1 => *byte = written.get(place).copied().unwrap_or(0),
+                2 => *byte = 0,
+                3 => *byte = 1,
+                4 => *byte = 0x7f,
+                _ => *byte = 0xff,
             }
         }
-        ways /= 6;
     }
-    byte
 }
 
-/// The device after a crash with this outcome.
+/// The device after a crash with this outcome, whose digits, to base 6, say how each extent is left. What lies past the
+/// old end is cut short where the last extents are left old.
 pub(crate) fn crashed(
     rt: &impl Host,
     device: MemoryDevice<Global>,
     outcome: usize,
 ) -> MemoryDevice<Global> {
-    let mut text = Vec::new(rt.alloc());
-    for i in 0..size_left(&device, outcome) {
-        text.push(byte_left(&device, outcome, i))
-            .expect(rt, "memory");
+    let mut left = Vec::from_slice(rt.alloc(), device.synced_text()).expect(rt, "memory");
+    let mut ways = outcome;
+    for extent in device.unsynced() {
+        leave(rt, &mut left, extent, device.text(), ways % 6);
+        ways /= 6;
     }
-    match device.crash(text) {
+    match device.crash(left) {
         Ok(device) => device,
         Err((error, _)) => panic!(rt; "{error}"),
     }
+}
+
+/// The pieces of a table or of a row, which are parted by this byte. A piece with `#` before it, which tells of those
+/// after it, is left out.
+pub(crate) fn pieces(rt: &impl Host, text: &'static [u8], byte: u8) -> Vec<&'static [u8]> {
+    let mut pieces = Vec::new(rt.alloc());
+    for piece in text.split(|it| *it == byte) {
+        if !piece.starts_with(b"#") {
+            pieces.push(piece).expect(rt, "memory");
+        }
+    }
+    pieces
+}
+
+/// Each error prints its line, and there are no more lines.
+pub(crate) fn print_lines<E: Display>(rt: &impl Host, errors: &[E], lines: &str) {
+    let mut printed = String::new(rt.alloc());
+    for error in errors {
+        printed = format!(in rt.alloc(); "{printed}{error}\n").expect(rt, "memory");
+    }
+    assert!(rt; printed.as_str() == lines, "{printed}");
 }

@@ -1,153 +1,122 @@
 //! Journals on devices in memory: files and what they tell, and each call failing in turn, with crashes.
 
-ghost use Rattle.std.specs.Prelude.{◌<◌, length};
-
-use crate::crashes::{Host, crashed, device_of};
+use crate::crashes::{Host, crashed, device_of, pieces, print_lines};
 use client_journal::{Journal, JournalError, JournalState, Kind, Record};
 use leaf_ledger::{Device, MemoryDevice};
 use std::alloc::Global;
 
-/// What a file tells. Each text has one byte.
-#[derive(Clone, Copy, Debug, PartialEq, Eq)]
-enum Told {
-    Damaged,
-    Idle,
-    Declared(Option<u8>, u8),
-    Signed(u8),
-    Nothing,
-}
-
-/// The byte of a text of one.
-fn byte_of(text: &[u8]) -> Option<u8> {
-    match text {
-        [byte] => Some(*byte),
-        _ => None,
-    }
-}
-
-/// A state whose texts have one byte each.
-fn told_of(state: &JournalState<Global>) -> Told {
-    let (last, certificate) = match state {
-        JournalState::Idle => return Told::Idle,
-        JournalState::Signed(structure) => {
-            return byte_of(structure).map_or(Told::Nothing, Told::Signed);
+/// The state that the file on a device tells, and the device.
+fn state_of(
+    alloc: Global,
+    device: MemoryDevice<Global>,
+) -> (
+    Result<JournalState<Global>, JournalError>,
+    MemoryDevice<Global>,
+) {
+    match Journal::open(device) {
+        Ok(mut journal) => {
+            let state = journal.state(alloc);
+            (state, journal.close())
         }
-        JournalState::Declared(last, certificate) => (last, certificate),
-    };
-    let last = match last {
-        Some(text) => byte_of(text),
-        None => None,
-    };
-    match byte_of(certificate) {
-        Some(byte) => Told::Declared(last, byte),
-        None => Told::Nothing,
+        Err((error, device)) => (Err(error), device),
     }
 }
 
-/// What the file on a device tells, and the device.
-fn read_file(alloc: Global, device: MemoryDevice<Global>) -> (Told, MemoryDevice<Global>) {
-    let mut journal = match Journal::open(device) {
-        Ok(journal) => journal,
-        Err((JournalError::Damaged, device)) => return (Told::Damaged, device),
-        Err((_, device)) => return (Told::Nothing, device),
+/// What the file on a device tells, or why it tells nothing, and the device.
+fn read_file(rt: &impl Host, device: MemoryDevice<Global>) -> (String, MemoryDevice<Global>) {
+    let (state, device) = state_of(rt.alloc(), device);
+    let told = match state {
+        Ok(state) => format!(in rt.alloc(); "{state:?}"),
+        Err(error) => format!(in rt.alloc(); "{error:?}"),
     };
-    let told = match journal.state(alloc) {
-        Ok(state) => told_of(&state),
-        Err(_) => Told::Nothing,
-    };
-    (told, journal.close())
+    (told.expect(rt, "memory"), device)
 }
 
-/// Files, and what they tell.
-static FILES: [(&[u8], Told); 18] = [
-    (&[], Told::Idle),
-    (&[1], Told::Idle),
-    (&[0x7f], Told::Idle),
-    // A torn record after a gate that isn't open.
-    (&[0, 1, 0, 0], Told::Idle),
-    (&[0x7f, 1, 0, 0, 0, 1, 9, 0], Told::Idle),
-    (&[1, 1, 0, 0, 0, 1, 9, 0], Told::Declared(None, 9)),
-    (&[1, 1, 0, 0, 0, 1, 9, 0x7f, 5], Told::Declared(None, 9)),
-    (
-        &[1, 1, 0, 0, 0, 1, 9, 1, 2, 0, 0, 0, 1, 8, 0],
-        Told::Signed(8),
-    ),
-    (
-        &[
-            1, 1, 0, 0, 0, 1, 9, 1, 2, 0, 0, 0, 1, 8, 1, 1, 0, 0, 0, 1, 7, 0, 4,
-        ],
-        Told::Declared(Some(8), 7),
-    ),
-    // Another kind.
-    (&[1, 0, 0, 0, 0, 1, 9, 0], Told::Damaged),
-    (&[1, 3, 0, 0, 0, 1, 9, 0], Told::Damaged),
-    // Out of turn.
-    (&[1, 2, 0, 0, 0, 1, 9, 0], Told::Damaged),
-    (
-        &[1, 1, 0, 0, 0, 1, 9, 1, 1, 0, 0, 0, 1, 8, 0],
-        Told::Damaged,
-    ),
-    // The end before the next gate.
-    (&[1, 1], Told::Damaged),
-    (&[1, 1, 0, 0, 0, 0], Told::Damaged),
-    (&[1, 1, 0, 0, 0, 1, 9], Told::Damaged),
-    (&[1, 1, 0xff, 0xff, 0xff, 0xff, 9, 0], Told::Damaged),
-    (&[1, 1, 0, 0, 0, 1, 9, 1], Told::Damaged),
-];
+/// What files tell: of each a line, which is what it tells, `|`, and its bytes. A line with `#` before it tells of the
+/// rows below it.
+static FILES: &[u8] = b"\
+    Idle|\n\
+    Idle|\x01\n\
+    Idle|\x7f\n\
+    # a torn record after a gate that isn't open\n\
+    Idle|\0\x01\0\0\n\
+    Idle|\x7f\x01\0\0\0\x01\x09\0\n\
+    Declared(None, [9])|\x01\x01\0\0\0\x01\x09\0\n\
+    Declared(None, [9])|\x01\x01\0\0\0\x01\x09\x7f\x05\n\
+    Signed([8])|\x01\x01\0\0\0\x01\x09\x01\x02\0\0\0\x01\x08\0\n\
+    Declared(Some([8]), [7])|\x01\x01\0\0\0\x01\x09\x01\x02\0\0\0\x01\x08\x01\x01\0\0\0\x01\x07\0\x04\n\
+    # another kind\n\
+    Damaged|\x01\0\0\0\0\x01\x09\0\n\
+    Damaged|\x01\x03\0\0\0\x01\x09\0\n\
+    # out of turn\n\
+    Damaged|\x01\x02\0\0\0\x01\x09\0\n\
+    Damaged|\x01\x01\0\0\0\x01\x09\x01\x01\0\0\0\x01\x08\0\n\
+    # the end before the next gate\n\
+    Damaged|\x01\x01\n\
+    Damaged|\x01\x01\0\0\0\0\n\
+    Damaged|\x01\x01\0\0\0\x01\x09\n\
+    Damaged|\x01\x01\xff\xff\xff\xff\x09\0\n\
+    Damaged|\x01\x01\0\0\0\x01\x09\x01";
 
 /// A file tells this, and keeps its length; one of at most one byte becomes that of a new journal.
-fn file_tells(rt: &impl Host, file: &[u8], wanted: Told) {
-    let (found, device) = read_file(rt.alloc(), device_of(rt, file));
-    assert!(rt; found == wanted, "{file:?}: {found:?}");
-    assert!(rt; device.text().len() == file.len().max(1), "{file:?}");
-    assert!(rt;
-        file.len() > 1 || device.text() == [0].as_slice(),
-        "{file:?}"
-    );
+fn file_tells(rt: &impl Host, wanted: &[u8], file: &[u8]) {
+    let (found, device) = read_file(rt, device_of(rt, file));
+    assert!(rt; found.as_bytes() == wanted, "{file:?}: {found}");
+    let is_kept = device.text().len() == file.len().max(1);
+    let is_new = device.text() == [0].as_slice();
+    assert!(rt; is_kept && (is_new || file.len() > 1), "{file:?}");
 }
 
 #[test]
 fn files_tell(rt: HostRuntime) {
-    for (file, wanted) in &FILES {
-        file_tells(&rt, file, *wanted);
+    let rows = pieces(&rt, FILES, b'\n');
+    assert_eq!(rt; rows.len(), 18);
+    for row in &rows {
+        let parts = pieces(&rt, row, b'|');
+        let [wanted, file] = parts.as_slice() else {
+            panic!(rt; "a row of other parts");
+        };
+        file_tells(&rt, wanted, file);
     }
 }
 
-/// Records that follow one another, each with a text of one byte.
-static RECORDS: [(Kind, u8); 3] = [
-    (Kind::Certificate, 1),
-    (Kind::Structure, 2),
-    (Kind::Certificate, 3),
+/// What is told by none of the records with the texts 1, 2 and 3, by one, by two and by all three.
+static TOLD: [&str; 4] = [
+    "Idle",
+    "Declared(None, [1])",
+    "Signed([2])",
+    "Declared(Some([2]), [3])",
 ];
 
-/// What so many of them tell.
-static TOLD: [Told; 4] = [
-    Told::Idle,
-    Told::Declared(None, 1),
-    Told::Signed(2),
-    Told::Declared(Some(2), 3),
-];
+/// By how many of them this is told, if it tells records.
+fn count_told(told: &str) -> Option<usize> {
+    for (count, known) in TOLD.iter().enumerate() {
+        if *known == told {
+            return Some(count);
+        }
+    }
+    None
+}
 
-/// How many calls a first open makes, and an append.
-const OPEN_CALLS: u64 = 4;
-
-const APPEND_CALLS: u64 = 6;
-
-/// Opens a journal and appends the records from one on, while it can. Tells how many there are then, if all was well.
-fn appended(device: MemoryDevice<Global>, from: usize) -> (Option<usize>, MemoryDevice<Global>) {
+/// Opens a journal and appends the records of these texts from one on, a certificate and a structure in turn, while it
+/// can. Tells how many there are then, if all was well.
+fn appended(
+    device: MemoryDevice<Global>,
+    texts: &[&[u8]],
+    from: usize,
+) -> (Option<usize>, MemoryDevice<Global>) {
     let mut journal = match Journal::open(device) {
         Ok(journal) => journal,
         Err((_, device)) => return (None, device),
     };
     let mut count = from;
-    for (kind, byte) in &RECORDS[from.min(3)..] {
-        if journal.usable() && journal.next() == *kind {
-            let text = [*byte];
-            if let Ok(()) = journal.append(Record {
-                kind: *kind,
-                text: &text,
-            }) {
-                count = count.saturating_add(1);
+    for (place, text) in texts.iter().enumerate().skip(from) {
+        if journal.usable() {
+            let kind = journal.next();
+            let is_next = matches!(kind, Kind::Certificate) == (place % 2 == 0);
+            if is_next && text.len() < 65_536 {
+                let added = journal.append(Record { kind, text: *text });
+                count = count.saturating_add(usize::from(added.is_ok()));
             }
         }
     }
@@ -155,11 +124,22 @@ fn appended(device: MemoryDevice<Global>, from: usize) -> (Option<usize>, Memory
     (well.then_some(count), journal.close())
 }
 
-/// In how many ways a crash leaves three extents.
-const OUTCOMES: usize = 216;
+/// How many calls a first open makes, and an append.
+const OPEN_CALLS: u64 = 4;
+
+const APPEND_CALLS: u64 = 6;
 
 /// How many calls a new journal makes for three records.
 const CALLS: u64 = OPEN_CALLS + 3 * APPEND_CALLS;
+
+/// How many calls an open makes of a file with three records, and `state` then.
+const LATER_CALLS: u64 = 2 + 3 * 2 + 1 + 2;
+
+/// In how many ways a crash leaves three extents.
+const OUTCOMES: usize = 216;
+
+/// The texts of three records that follow one another.
+static TEXTS: [&[u8]; 3] = [b"\x01", b"\x02", b"\x03"];
 
 /// How many records were answered Ok before the call that failed.
 fn answered_before(failing: u64) -> usize {
@@ -170,56 +150,28 @@ fn answered_before(failing: u64) -> usize {
 fn after_appends(rt: &impl Host, failing: u64) -> (Option<usize>, MemoryDevice<Global>) {
     let mut device = device_of(rt, b"");
     device.fail_after(failing);
-    appended(device, 0)
+    appended(device, &TEXTS, 0)
 }
 
-/// How many calls an open makes of a file with three records, and `state` then.
-const LATER_CALLS: u64 = 2 + 3 * 2 + 1 + 2;
-
-/// What a file tells by a reading in which a call may fail, and by another one after a crash.
-#[derive(Clone, Copy, Debug)]
-struct Readings {
-    first: Told,
-    /// A call failed in the first reading.
-    failed: bool,
-    second: Told,
-}
-
-/// Appends records until a call fails, reads them, where another call may fail, and again after a crash.
-fn read_twice(rt: &impl Host, failing: u64, later: u64, outcome: usize) -> Readings {
+/// Appends records until a call fails, reads them, where another call may fail, and again after a crash. A reading that
+/// fails tells nothing, and else the later one finds the same: the records that were answered, or one more.
+fn readings_agree(rt: &impl Host, failing: u64, later: u64, outcome: usize) {
     let (_, mut device) = after_appends(rt, failing);
     let faults = device.faults();
     device.fail_after(later);
-    let (first, device) = read_file(rt.alloc(), device);
+    let (first, device) = read_file(rt, device);
     let failed = device.faults() > faults;
-    let (second, _) = read_file(rt.alloc(), crashed(rt, device, outcome));
-    Readings {
-        first,
-        failed,
-        second,
-    }
-}
-
-/// A reading that fails tells nothing, and else the later one finds the same.
-fn agree(found: &Readings) -> bool {
-    match found.first {
-        Told::Nothing => found.failed,
-        told => !found.failed && told == found.second,
-    }
-}
-
-/// What is told by so many records, or by one more.
-fn is_told(told: Told, count: usize) -> bool {
-    TOLD.iter().skip(count).take(2).any(|it| *it == told)
-}
-
-/// The readings agree, and tell the records that were answered, or one more.
-fn readings_agree(rt: &impl Host, failing: u64, later: u64, outcome: usize) {
-    let found = read_twice(rt, failing, later, outcome);
-    let well = agree(&found) && (!found.failed || later < LATER_CALLS);
+    let (second, _) = read_file(rt, crashed(rt, device, outcome));
+    let agree = match first.as_str() {
+        "Device" => failed,
+        told => !failed && told == second.as_str(),
+    };
+    let before = answered_before(failing);
+    let count = count_told(&second);
+    let is_told = count == Some(before) || count == Some(before.saturating_add(1));
     assert!(rt;
-        well && is_told(found.second, answered_before(failing)),
-        "calls {failing}, {later}, outcome {outcome}: {found:?}"
+        agree && (!failed || later < LATER_CALLS) && is_told,
+        "calls {failing}, {later}, outcome {outcome}: {first}, {second}"
     );
 }
 
@@ -234,31 +186,19 @@ fn each_call_of_a_later_open_fails(rt: HostRuntime) {
     }
 }
 
-/// How many records there are after a crash with this outcome, and the device.
-fn count_after(
-    rt: &impl Host,
-    failing: u64,
-    outcome: usize,
-) -> (Option<usize>, MemoryDevice<Global>) {
-    let (_, device) = after_appends(rt, failing);
-    let (found, device) = read_file(rt.alloc(), crashed(rt, device, outcome));
-    (TOLD.iter().position(|told| *told == found), device)
-}
-
 /// A crash leaves the records that were answered, or one more, and the journal goes on from there.
 fn leaves_records(rt: &impl Host, failing: u64, outcome: usize) {
     let before = answered_before(failing);
-    let (count, device) = count_after(rt, failing, outcome);
-    let count = count.expect(rt, "it tells records");
+    let (_, device) = after_appends(rt, failing);
+    let (left, device) = read_file(rt, crashed(rt, device, outcome));
+    let count = count_told(&left).expect(rt, "it tells records");
+    let (well, device) = appended(device, &TEXTS, count);
+    let (last, _) = read_file(rt, device);
     assert!(rt;
-        count == before || count == before.saturating_add(1),
-        "call {failing}, outcome {outcome}: {count}"
-    );
-    let (well, device) = appended(device, count);
-    let (last, _) = read_file(rt.alloc(), device);
-    assert!(rt;
-        well == Some(3) && last == TOLD[3],
-        "call {failing}, outcome {outcome}: {last:?}"
+        (count == before || count == before.saturating_add(1))
+            && well == Some(3)
+            && last.as_str() == TOLD[3],
+        "call {failing}, outcome {outcome}: {count}, {last}"
     );
 }
 
@@ -279,61 +219,35 @@ fn a_failed_call_is_answered(rt: HostRuntime) {
     }
 }
 
-/// What the journal tells after a crash that left the gate so, once it was opened and not synced.
-fn gate_left(rt: &impl Host, outcome: usize) -> Told {
-    let (_, device) = after_appends(rt, OPEN_CALLS + 5);
-    let (found, _) = read_file(rt.alloc(), crashed(rt, device, outcome));
-    found
-}
-
-/// A gate that is left 00, 01 and 7f, and how many records are told then.
-static GATES: [(usize, usize); 3] = [(2, 0), (3, 1), (4, 0)];
-
+/// A gate was opened and not synced: a crash leaves 00, 01 and 7f, and so many records are told then.
 #[test]
 fn gates_tell(rt: HostRuntime) {
-    for (outcome, count) in &GATES {
-        let found = gate_left(&rt, *outcome);
-        assert!(rt; TOLD.get(*count) == Some(&found), "outcome {outcome}");
+    for (outcome, count) in [(2, 0usize), (3, 1), (4, 0)] {
+        let (_, device) = after_appends(&rt, OPEN_CALLS + 5);
+        let (found, _) = read_file(&rt, crashed(&rt, device, outcome));
+        assert!(rt; count_told(&found) == Some(count), "outcome {outcome}");
     }
-}
-
-/// Opens a journal, appends a record of this kind where it is its turn, and closes it.
-fn appended_once(
-    rt: &impl Host,
-    device: MemoryDevice<Global>,
-    kind: Kind,
-    text: &[u8],
-) -> MemoryDevice<Global>
-    requires { length text.now < 4294967296 }
-{
-    let Ok(mut journal) = Journal::open(device) else {
-        panic!(rt; "it wasn't opened");
-    };
-    if journal.usable() && journal.next() == kind {
-        let _ = journal.append(Record { kind, text });
-    }
-    journal.close()
 }
 
 /// A signed certificate without changes, and the structure after it.
 #[test]
 fn sizes_of_records(rt: HostRuntime) {
-    let device = appended_once(&rt, device_of(&rt, b""), Kind::Certificate, &[5; 2550]);
-    assert_eq!(rt; device.text().len(), 2557);
-    let device = appended_once(&rt, device, Kind::Structure, &[6; 2595]);
-    assert_eq!(rt; device.text().len(), 5158);
+    let texts: [&[u8]; 2] = [&[5; 2550], &[6; 2595]];
+    let mut device = device_of(&rt, b"");
+    for (from, size) in [2557, 5158].iter().enumerate() {
+        let (_, closed) = appended(device, &texts[..=from], from);
+        device = closed;
+        assert_eq!(rt; device.text().len(), *size);
+    }
 }
-
-static ERRORS: [(JournalError, &str); 3] = [
-    (JournalError::Device, "the device failed"),
-    (JournalError::Memory, "out of memory"),
-    (JournalError::Damaged, "the journal is damaged"),
-];
 
 #[test]
 fn errors_print(rt: HostRuntime) {
-    for (error, text) in &ERRORS {
-        let printed = format!(in rt.alloc(); "{error}").expect(&rt, "memory");
-        assert!(rt; printed.as_str() == *text, "{text}");
-    }
+    let errors = [
+        JournalError::Device,
+        JournalError::Memory,
+        JournalError::Damaged,
+    ];
+    let lines = "the device failed\nout of memory\nthe journal is damaged\n";
+    print_lines(&rt, &errors, lines);
 }

@@ -1,6 +1,6 @@
 //! Ledgers on devices in memory whose calls fail in turn, and which crash.
 
-use crate::crashes::{Host, crashed, device_of};
+use crate::crashes::{Host, crashed, device_of, print_lines};
 use leaf_ledger::{CrashError, Device, DeviceError, Ledger, LedgerError, MemoryDevice};
 use lms_sign::{PublicKey, burn};
 use std::alloc::Global;
@@ -42,9 +42,45 @@ fn session(
     (refused, ledger.close())
 }
 
+/// What a session was refused, and how many leaves there are after it.
+type Told = (Option<LedgerError>, usize);
+
+/// The numbers of the leaves that come of sessions on a new device, and what each session tells. Of those before a
+/// crash with this outcome the call after so many fails; each takes so many leaves.
+fn played(
+    rt: &impl Host,
+    before: &[(u64, usize)],
+    outcome: usize,
+    after: &[usize],
+) -> (Vec<u32>, Vec<Told>) {
+    let key = key(rt, 1);
+    let (mut numbers, mut told) = (Vec::new(rt.alloc()), Vec::new(rt.alloc()));
+    let mut device = device_of(rt, b"");
+    for (failing, takes) in before {
+        device.fail_after(*failing);
+        let (refused, closed) = session(device, &key, *takes, &mut numbers);
+        device = closed;
+        told.push((refused, numbers.len())).expect(rt, "memory");
+    }
+    device = crashed(rt, device, outcome);
+    for takes in after {
+        let (refused, closed) = session(device, &key, *takes, &mut numbers);
+        device = closed;
+        told.push((refused, numbers.len())).expect(rt, "memory");
+    }
+    (numbers, told)
+}
+
 /// Each number is greater than the one before.
 fn ascend(numbers: &[u32]) -> bool {
-    numbers.windows(2).all(|pair| pair[0] < pair[1])
+    let mut least = 0;
+    for number in numbers {
+        if *number < least {
+            return false;
+        }
+        least = number.saturating_add(1);
+    }
+    true
 }
 
 /// How many calls a first open makes, and three takes after it.
@@ -53,94 +89,52 @@ const CALLS: u64 = 5 + 3 * 2;
 /// How many calls an open makes of a file that is there.
 const LATER_OPEN_CALLS: u64 = 4;
 
-/// A device on which the ledger of a key was opened and three leaves were taken, until a call failed. Tells what was
-/// refused, too.
-fn after_takes(
-    rt: &impl Host,
-    key: &PublicKey,
-    failing: u64,
-    numbers: &mut Vec<u32>,
-) -> (Option<LedgerError>, MemoryDevice<Global>) {
-    let mut device = device_of(rt, b"");
-    device.fail_after(failing);
-    session(device, key, 3, numbers)
-}
-
 /// How many leaves come before a call that fails.
 fn leaves_before(failing: u64) -> u64 {
     failing.saturating_sub(5) / 2
 }
 
-/// The device after that: each leaf before the call that failed came, and the fault was told.
-fn taken(
-    rt: &impl Host,
-    key: &PublicKey,
-    failing: u64,
-    numbers: &mut Vec<u32>,
-) -> MemoryDevice<Global> {
-    let (refused, device) = after_takes(rt, key, failing, numbers);
+/// Takes leaves until a call fails, and more after a crash: each leaf before that call came, and the fault was told. No
+/// leaf comes twice, and at most one is lost.
+fn comes_once(rt: &impl Host, failing: u64, outcome: usize) {
+    let (numbers, told) = played(rt, &[(failing, 3)], outcome, &[3, 1]);
+    let [(refused, count), (again, _), _] = told.as_slice() else {
+        panic!(rt; "not three sessions");
+    };
+    let leaves = leaves_before(failing);
+    let is_told = *refused == (failing < CALLS).then_some(LedgerError::Device);
+    // Only a file that was never whole is refused, or has marks by chance; no leaf came from it. Of any other at most
+    // one leaf is lost.
+    let most = leaves.saturating_add(4);
+    let goes_on = match numbers.last() {
+        Some(last) => again.is_none() && u64::from(*last) <= most,
+        None => false,
+    };
     assert!(rt;
-        refused == (failing < CALLS).then_some(LedgerError::Device)
-            && numbers.len() as u64 == leaves_before(failing),
-        "call {failing}"
-    );
-    device
-}
-
-/// Takes leaves until a call fails, and more after a crash: no leaf comes twice, and at most one is lost.
-fn comes_once(rt: &impl Host, key: &PublicKey, failing: u64, outcome: usize) {
-    let mut numbers = Vec::new(rt.alloc());
-    let device = taken(rt, key, failing, &mut numbers);
-    let device = crashed(rt, device, outcome);
-    let (again, device) = session(device, key, 3, &mut numbers);
-    // Only a file that was never whole is refused, or has marks by chance; no leaf came from it.
-    assert!(rt;
-        again.is_none() || failing < 5,
-        "call {failing}, outcome {outcome}"
-    );
-    let (_, _) = session(device, key, 1, &mut numbers);
-    assert!(rt; ascend(&numbers), "call {failing}, outcome {outcome}");
-    // Of any other at most one leaf is lost.
-    let most = leaves_before(failing).saturating_add(4);
-    assert!(rt;
-        failing < 5 || numbers.last().is_some_and(|last| *last as u64 <= most),
+        is_told && *count as u64 == leaves && (goes_on || failing < 5) && ascend(&numbers),
         "call {failing}, outcome {outcome}"
     );
 }
 
 #[test]
 fn no_leaf_comes_twice(rt: HostRuntime) {
-    let key = key(&rt, 1);
     for failing in 0..=CALLS {
         for outcome in 0..OUTCOMES {
-            comes_once(&rt, &key, failing, outcome);
+            comes_once(&rt, failing, outcome);
         }
     }
 }
 
 /// Takes leaves until a call fails, opens the ledger again, where another call may fail, and once more after a crash.
-/// Tells what the second open was refused.
-fn opened_thrice(
-    rt: &impl Host,
-    key: &PublicKey,
-    calls: (u64, u64),
-    outcome: usize,
-    numbers: &mut Vec<u32>,
-) -> Option<LedgerError> {
-    let (_, mut device) = after_takes(rt, key, calls.0, numbers);
-    device.fail_after(calls.1);
-    let (refused, device) = session(device, key, 0, numbers);
-    let (_, _) = session(crashed(rt, device, outcome), key, 1, numbers);
-    refused
-}
-
 /// No leaf comes twice, the second open is refused where a call of it fails, and only there, and then one more leaf
 /// comes.
-fn opens_again(rt: &impl Host, key: &PublicKey, failing: u64, later: u64, outcome: usize) {
-    let mut numbers = Vec::new(rt.alloc());
-    let refused = opened_thrice(rt, key, (failing, later), outcome, &mut numbers);
+fn opens_again(rt: &impl Host, failing: u64, later: u64, outcome: usize) {
+    let (numbers, told) = played(rt, &[(failing, 3), (later, 0)], outcome, &[1]);
+    let [_, (refused, _), _] = told.as_slice() else {
+        panic!(rt; "not three sessions");
+    };
     // A file that was never whole may be refused, or made.
-    let well = refused == (later < LATER_OPEN_CALLS).then_some(LedgerError::Device)
+    let well = *refused == (later < LATER_OPEN_CALLS).then_some(LedgerError::Device)
         && numbers.len() as u64 == leaves_before(failing).saturating_add(1);
     assert!(rt;
         ascend(&numbers) && (well || failing < 5),
@@ -150,106 +144,49 @@ fn opens_again(rt: &impl Host, key: &PublicKey, failing: u64, later: u64, outcom
 
 #[test]
 fn each_call_of_a_later_open_fails(rt: HostRuntime) {
-    let key = key(&rt, 1);
     for failing in 0..=CALLS {
         for later in 0..=LATER_OPEN_CALLS {
             for outcome in 0..OUTCOMES {
-                opens_again(&rt, &key, failing, later, outcome);
+                opens_again(&rt, failing, later, outcome);
             }
         }
     }
 }
 
-/// The leaf that comes after a crash that left the first leaf's mark so, which was written and not synced.
-fn leaf_after(rt: &impl Host, key: &PublicKey, outcome: usize) -> Vec<u32> {
-    let mut numbers = Vec::new(rt.alloc());
-    let mut device = device_of(rt, b"");
-    device.fail_after(6);
-    let (_, device) = session(device, key, 1, &mut numbers);
-    let (_, _) = session(crashed(rt, device, outcome), key, 1, &mut numbers);
-    numbers
-}
-
-/// Marks that are left 00, 01 and 7f, and the leaf that comes then.
-static MARKS: [(usize, u32); 3] = [(2, 0), (3, 1), (4, 1)];
-
+/// The first leaf's mark was written and not synced: a crash leaves 00, 01 and 7f, and this leaf comes then.
 #[test]
 fn marks_that_a_crash_left(rt: HostRuntime) {
-    let key = key(&rt, 1);
-    for (outcome, leaf) in &MARKS {
-        let leaves = leaf_after(&rt, &key, *outcome);
+    for (outcome, leaf) in [(2, 0), (3, 1), (4, 1)] {
+        let (numbers, _) = played(&rt, &[(6, 1)], outcome, &[1]);
         assert!(rt;
-            leaves.as_slice() == [*leaf].as_slice(),
+            numbers.as_slice() == [leaf].as_slice(),
             "outcome {outcome}"
         );
     }
 }
 
-/// A device on which all leaves of a key were taken, in turn.
-fn all_taken(rt: &impl Host, key: &PublicKey) -> MemoryDevice<Global> {
-    let mut numbers = Vec::new(rt.alloc());
-    let (refused, device) = session(device_of(rt, b""), key, 1024, &mut numbers);
-    assert!(rt; refused.is_none());
-    assert!(rt; numbers.len() == 1024 && numbers[0] == 0 && numbers[1023] == 1023);
-    assert!(rt; ascend(&numbers));
-    device
-}
-
-/// No leaf comes, for this reason.
-fn is_refused(
-    rt: &impl Host,
-    device: MemoryDevice<Global>,
-    key: &PublicKey,
-    why: LedgerError,
-) -> MemoryDevice<Global> {
-    let mut numbers = Vec::new(rt.alloc());
-    let (refused, device) = session(device, key, 1, &mut numbers);
-    assert!(rt; refused == Some(why) && numbers.is_empty(), "{why}");
-    device
-}
-
 #[test]
 fn as_many_leaves_as_a_key_has(rt: HostRuntime) {
     let (first, second) = (key(&rt, 1), key(&rt, 2));
-    let device = is_refused(&rt, all_taken(&rt, &first), &first, LedgerError::NoLeaf);
+    let mut numbers = Vec::new(rt.alloc());
+    let (none, device) = session(device_of(&rt, b""), &first, 1024, &mut numbers);
+    assert!(rt; numbers.len() == 1024 && numbers[0] == 0 && numbers[1023] == 1023);
+    let (no_leaf, device) = session(device, &first, 1, &mut numbers);
     assert!(rt; device.text().len() == 1080 && device.text().starts_with(first.as_bytes()));
     // Another key, and another length.
-    is_refused(&rt, device, &second, LedgerError::Foreign);
-    is_refused(
-        &rt,
-        device_of(&rt, &[0; 1079]),
-        &first,
-        LedgerError::Foreign,
-    );
-}
-
-/// No crash leaves this of the device.
-fn never_left(rt: &impl Host, device: MemoryDevice<Global>, left: &[u8]) -> MemoryDevice<Global> {
-    let left = Vec::from_slice(rt.alloc(), left).expect(rt, "memory");
-    match device.crash(left) {
-        Ok(_) => panic!(rt; "it crashed"),
-        Err((error, device)) => {
-            assert_eq!(rt; error, CrashError::Impossible);
-            device
-        }
-    }
-}
-
-/// A crash leaves this of the device.
-fn is_left(rt: &impl Host, device: MemoryDevice<Global>, left: &[u8]) {
-    let bytes = Vec::from_slice(rt.alloc(), left).expect(rt, "memory");
-    match device.crash(bytes) {
-        Ok(device) => assert!(rt; device.text() == left),
-        Err((error, _)) => panic!(rt; "{error}"),
-    }
+    let (foreign, _) = session(device, &second, 1, &mut numbers);
+    let (short, _) = session(device_of(&rt, &[0; 1079]), &first, 1, &mut numbers);
+    assert!(rt; none.is_none() && no_leaf == Some(LedgerError::NoLeaf));
+    assert!(rt; foreign == Some(LedgerError::Foreign) && short == foreign);
+    assert!(rt; numbers.len() == 1024 && ascend(&numbers));
 }
 
 /// A device with the text abc, on which xyz was written from the third byte on, and not synced.
 fn written(rt: &impl Host) -> MemoryDevice<Global> {
-    let text = Vec::from_slice(rt.alloc(), b"abc").expect(rt, "memory");
-    let mut device = MemoryDevice::new(rt.alloc(), text).expect(rt, "memory");
+    let mut device = device_of(rt, b"abc");
     assert_eq!(rt; device.len().expect(rt, "its size"), 3);
     device.write_at(2, b"xyz").expect(rt, "written");
+    assert_eq!(rt; device.len().expect(rt, "its size"), 5);
     let mut read = [0; 5];
     device.read(0, &mut read).expect(rt, "read");
     assert!(rt; read == *b"abxyz");
@@ -260,37 +197,33 @@ fn written(rt: &impl Host) -> MemoryDevice<Global> {
 fn a_device_crashes_only_as_it_may(rt: HostRuntime) {
     let mut device = written(&rt);
     // Before the place, shorter, and longer than it may be.
-    device = never_left(&rt, device, b"aXc");
-    device = never_left(&rt, device, b"ab");
-    device = never_left(&rt, device, b"abcdef");
+    for left in [b"aXc".as_slice(), b"ab", b"abcdef"] {
+        let left = Vec::from_slice(rt.alloc(), left).expect(&rt, "memory");
+        match device.crash(left) {
+            Ok(_) => panic!(rt; "it crashed"),
+            Err((error, same)) => {
+                assert_eq!(rt; error, CrashError::Impossible);
+                device = same;
+            }
+        }
+    }
     device.sync().expect(&rt, "synced");
     assert_eq!(rt; device.faults(), 0);
-    is_left(&rt, device, b"abxyz");
+    // There is nothing that a crash may leave otherwise.
+    let device = crashed(&rt, device, 0);
+    assert!(rt; device.text() == b"abxyz".as_slice());
 }
-
-static LEDGER_ERRORS: [(LedgerError, &str); 3] = [
-    (LedgerError::NoLeaf, "no leaf is free"),
-    (LedgerError::Device, "the device failed"),
-    (LedgerError::Foreign, "the file is no ledger of this key"),
-];
-
-static CRASH_ERRORS: [(CrashError, &str); 2] = [
-    (CrashError::Impossible, "no crash leaves this"),
-    (CrashError::Memory, "out of memory"),
-];
 
 #[test]
 fn errors_print(rt: HostRuntime) {
-    let alloc = rt.alloc();
-    for (error, text) in &LEDGER_ERRORS {
-        let printed = format!(in alloc; "{error}").expect(&rt, "memory");
-        assert!(rt; printed.as_str() == *text, "{text}");
-    }
-    for (error, text) in &CRASH_ERRORS {
-        let printed = format!(in alloc; "{error}").expect(&rt, "memory");
-        assert!(rt; printed.as_str() == *text, "{text}");
-    }
-    let error = DeviceError;
-    let printed = format!(in alloc; "{error}").expect(&rt, "memory");
-    assert!(rt; printed.as_str() == "the device failed");
+    let of_ledgers = [
+        LedgerError::NoLeaf,
+        LedgerError::Device,
+        LedgerError::Foreign,
+    ];
+    let lines = "no leaf is free\nthe device failed\nthe file is no ledger of this key\n";
+    print_lines(&rt, &of_ledgers, lines);
+    let of_crashes = [CrashError::Impossible, CrashError::Memory];
+    print_lines(&rt, &of_crashes, "no crash leaves this\nout of memory\n");
+    print_lines(&rt, &[DeviceError], "the device failed\n");
 }

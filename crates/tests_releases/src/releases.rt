@@ -5,7 +5,7 @@ ghost use Rattle.std.specs.Prelude.{◌≡◌};
 ghost use Rattle.version_order.specs.Structure.{structure as structure_format};
 ghost use Rattle.update_cert.specs.Cert.{Cert as PureCert, cert};
 
-use crate::crashes::{Host, device_of};
+use crate::crashes::{Host, device_of, print_lines};
 use client_releases::{ClientError, Parts, Phase, Releases, Unsigned};
 use layout::{Digest, Text, User, Version};
 use leaf_ledger::MemoryDevice;
@@ -29,25 +29,23 @@ fn nothing_yet(rt: &impl Host) -> Kept {
     }
 }
 
-/// What user 0 released over these.
-fn opened(rt: &impl Host, parts: Kept) -> InMemory {
+/// What a user released over these, or why that isn't opened, and these.
+fn open(rt: &impl Host, user: u8, parts: Kept) -> Result<InMemory, (ClientError, Kept)> {
     let Parts {
         key,
         ledger,
         journal,
     } = parts;
-    match Releases::open(rt.alloc(), User::superuser(), key, ledger, journal) {
+    let user = User::new(user).expect(rt, "a user");
+    Releases::open(rt.alloc(), user, key, ledger, journal)
+}
+
+/// What user 0 released over these.
+fn opened(rt: &impl Host, parts: Kept) -> InMemory {
+    match open(rt, 0, parts) {
         Ok(releases) => releases,
         Err((error, _)) => panic!(rt; "{error}"),
     }
-}
-
-/// What is told after a restart, over a journal of so many bytes.
-fn reopened(rt: &impl Host, releases: InMemory, size: usize) -> InMemory {
-    let parts = releases.close();
-    let found = parts.journal.text().len();
-    assert!(rt; found == size, "{found} bytes and not {size}");
-    opened(rt, parts)
 }
 
 /// The certificate of an operation without changes, not signed yet.
@@ -96,20 +94,39 @@ fn sign(rt: &impl Host, releases: &mut InMemory) -> Result<Vec<u8>, ClientError>
     Ok(text)
 }
 
-/// The structure is committed.
-fn commit(rt: &impl Host, releases: &mut InMemory) {
-    assert!(rt; releases.phase() == Phase::Signed);
-    releases.commit();
+/// What is done to releases.
+enum Step {
+    /// The next operation is declared.
+    Declare,
+    /// The structure of the declared operation is signed.
+    Sign,
+    /// The structure is committed.
+    Commit,
+    /// It is told after a restart, over a journal of so many bytes.
+    Reopen(usize),
 }
 
-/// Checks how far it is, the number, and whether a structure was signed.
-fn stands(rt: &impl Host, releases: &InMemory, phase: Phase, number: u32, signed: bool) {
-    let found = (
-        releases.phase(),
-        releases.number(),
-        releases.last().is_some(),
-    );
-    assert!(rt; found == (phase, number, signed), "{found:?}");
+/// The releases after a step, and the text that it releases.
+fn after(rt: &impl Host, releases: InMemory, step: &Step, text: &mut Vec<u8>) -> InMemory {
+    let mut releases = releases;
+    match step {
+        Step::Declare => {
+            let number = releases.number().wrapping_add(1);
+            *text = declare(rt, &mut releases, number).expect(rt, "declared");
+        }
+        Step::Sign => *text = sign(rt, &mut releases).expect(rt, "signed"),
+        Step::Commit => {
+            assert!(rt; releases.phase() == Phase::Signed);
+            releases.commit();
+        }
+        Step::Reopen(size) => {
+            let parts = releases.close();
+            let found = parts.journal.text().len();
+            assert!(rt; found == *size, "{found} bytes and not {size}");
+            return opened(rt, parts);
+        }
+    }
+    releases
 }
 
 /// Checks that this text was released last, and that its signature verifies.
@@ -120,71 +137,85 @@ fn is_last(rt: &impl Host, releases: &InMemory, text: &[u8]) {
     assert!(rt; verify(&releases.key(), unsigned, signature), "not signed");
 }
 
+/// What is done, and then how far it is, the number, and whether a structure was signed.
+static STEPS: [(Step, Phase, u32, bool); 10] = [
+    (Step::Reopen(1), Phase::Idle, 0, false),
+    (Step::Declare, Phase::Declared, 1, false),
+    // A gate, a header of 5 bytes, 42 bytes of certificate, its signature, and a gate.
+    (Step::Reopen(2557), Phase::Declared, 1, false),
+    (Step::Sign, Phase::Signed, 1, true),
+    // Then a header, 82 bytes of structure, its signature, and a gate.
+    (Step::Reopen(5153), Phase::Signed, 1, true),
+    (Step::Commit, Phase::Idle, 1, true),
+    // No record tells of the commit.
+    (Step::Reopen(5153), Phase::Signed, 1, true),
+    (Step::Commit, Phase::Idle, 1, true),
+    (Step::Declare, Phase::Declared, 2, true),
+    (Step::Reopen(7709), Phase::Declared, 2, true),
+];
+
 #[test]
 fn restarts_in_each_phase(rt: HostRuntime) {
-    let mut releases = reopened(&rt, opened(&rt, nothing_yet(&rt)), 1);
-    stands(&rt, &releases, Phase::Idle, 0, false);
-    let update = declare(&rt, &mut releases, 1).expect(&rt, "declared");
-    // A gate, a header of 5 bytes, 42 bytes of certificate, its signature, and a gate.
-    let mut releases = reopened(&rt, releases, 2557);
-    stands(&rt, &releases, Phase::Declared, 1, false);
-    is_last(&rt, &releases, &update);
-    let signed = sign(&rt, &mut releases).expect(&rt, "signed");
-    // Then a header, 82 bytes of structure, its signature, and a gate.
-    let mut releases = reopened(&rt, releases, 5153);
-    stands(&rt, &releases, Phase::Signed, 1, true);
-    is_last(&rt, &releases, &signed);
-    commit(&rt, &mut releases);
-    stands(&rt, &releases, Phase::Idle, 1, true);
-    // No record tells of the commit.
-    let mut releases = reopened(&rt, releases, 5153);
-    stands(&rt, &releases, Phase::Signed, 1, true);
-    commit(&rt, &mut releases);
-    let second = declare(&rt, &mut releases, 2).expect(&rt, "declared");
-    let releases = reopened(&rt, releases, 7709);
-    stands(&rt, &releases, Phase::Declared, 2, true);
-    is_last(&rt, &releases, &second);
+    let mut releases = opened(&rt, nothing_yet(&rt));
+    let mut text = Vec::new(rt.alloc());
+    for (step, phase, number, signed) in &STEPS {
+        releases = after(&rt, releases, step, &mut text);
+        let found = (
+            releases.phase(),
+            releases.number(),
+            releases.last().is_some(),
+        );
+        assert!(rt; found == (*phase, *number, *signed), "{found:?}");
+        if *number > 0 {
+            is_last(&rt, &releases, &text);
+        }
+    }
 }
+
+/// How many calls an open makes of a new ledger, and of a new journal.
+const OPEN_CALLS: (u64, u64) = (5, 4);
 
 /// Declares the first operation on devices of which one fails at a call, and tells how far it is after a restart.
 fn after_fault(rt: &impl Host, parts: Kept) -> Phase {
     let mut releases = opened(rt, parts);
     let declared = declare(rt, &mut releases, 1);
     assert!(rt; matches!(declared, Err(ClientError::Device)), "no fault");
-    stands(rt, &releases, Phase::Failed, 0, false);
+    let found = (
+        releases.phase(),
+        releases.number(),
+        releases.last().is_some(),
+    );
+    assert!(rt; found == (Phase::Failed, 0, false), "{found:?}");
     opened(rt, releases.close()).phase()
 }
 
-/// How many calls an open makes of a new ledger, and of a new journal.
-const OPEN_CALLS: (u64, u64) = (5, 4);
-
+/// Each call of a declaration fails: two of the ledger, and six of the journal. By the last of them the gate is open,
+/// and isn't synced.
 #[test]
 fn each_call_of_a_device_fails(rt: HostRuntime) {
-    for call in 0..2 {
+    for call in 0..8u64 {
         let mut parts = nothing_yet(&rt);
-        parts.ledger.fail_after(OPEN_CALLS.0 + call);
-        assert!(rt; after_fault(&rt, parts) == Phase::Idle, "call {call}");
-    }
-    // By the last of them the gate is open, and isn't synced.
-    for call in 0..6 {
-        let mut parts = nothing_yet(&rt);
-        parts.journal.fail_after(OPEN_CALLS.1 + call);
-        let declared = after_fault(&rt, parts) == Phase::Declared;
-        assert!(rt; declared == (call == 5), "call {call}");
+        if call < 2 {
+            parts.ledger.fail_after(OPEN_CALLS.0 + call);
+        } else {
+            parts.journal.fail_after(OPEN_CALLS.1 + (call - 2));
+        }
+        let phase = after_fault(&rt, parts);
+        let is_declared = phase == Phase::Declared;
+        assert!(rt; is_declared == (call == 7), "call {call}");
+        assert!(rt; call >= 2 || phase == Phase::Idle, "call {call}");
     }
 }
 
-/// Why user 1 doesn't open these, which are handed back.
-fn refused(rt: &impl Host, parts: Kept) -> (ClientError, Kept) {
-    let Parts {
-        key,
-        ledger,
-        journal,
-    } = parts;
-    let user = User::new(1).expect(rt, "a user");
-    match Releases::open(rt.alloc(), user, key, ledger, journal) {
+/// User 1 doesn't open these, for this reason. They are handed back.
+fn refused(rt: &impl Host, parts: Kept, why: &str) -> Kept {
+    match open(rt, 1, parts) {
         Ok(_) => panic!(rt; "it is opened"),
-        Err(refused) => refused,
+        Err((error, parts)) => {
+            let found = format!(in rt.alloc(); "{error:?}").expect(rt, "memory");
+            assert!(rt; found.as_str() == why, "{error}");
+            parts
+        }
     }
 }
 
@@ -193,27 +224,23 @@ fn what_is_not_opened(rt: HostRuntime) {
     let mut releases = opened(&rt, nothing_yet(&rt));
     let _update = declare(&rt, &mut releases, 1).expect(&rt, "declared");
     // A journal of user 0.
-    let (error, mut parts) = refused(&rt, releases.close());
-    assert!(rt; matches!(error, ClientError::Damaged), "{error}");
+    let mut parts = refused(&rt, releases.close(), "Damaged");
     assert!(rt; parts.journal.text().len() == 2557);
     // A third kind of record.
     parts.journal = device_of(&rt, &[1, 3, 0, 0, 0, 1, 9, 0]);
-    let (error, mut parts) = refused(&rt, parts);
-    assert!(rt; matches!(error, ClientError::Damaged), "{error}");
+    let mut parts = refused(&rt, parts, "Damaged");
     parts.journal.fail_after(0);
-    let (error, mut parts) = refused(&rt, parts);
-    assert!(rt; matches!(error, ClientError::Device), "{error}");
+    let mut parts = refused(&rt, parts, "Device");
     parts.ledger = device_of(&rt, b"another file");
-    let (error, parts) = refused(&rt, parts);
-    assert!(rt; matches!(error, ClientError::Foreign), "{error}");
+    let parts = refused(&rt, parts, "Foreign");
     assert!(rt; parts.ledger.text() == b"another file".as_slice());
 }
 
 #[test]
 fn the_last_leaf_declares(rt: HostRuntime) {
-    let alloc = rt.alloc();
     let mut parts = nothing_yet(&rt);
-    let mut file = Vec::from_slice(alloc, parts.key.public().as_bytes()).expect(&rt, "memory");
+    let key = parts.key.public();
+    let mut file = Vec::from_slice(rt.alloc(), key.as_bytes()).expect(&rt, "memory");
     file.extend_from_slice(&[1; 1023]).expect(&rt, "memory");
     file.push(0).expect(&rt, "memory");
     parts.ledger = device_of(&rt, &file);
@@ -223,19 +250,17 @@ fn the_last_leaf_declares(rt: HostRuntime) {
     assert!(rt; !releases.has_free_leaf());
 }
 
-static ERRORS: [(ClientError, &str); 6] = [
-    (ClientError::Memory, "out of memory"),
-    (ClientError::NoLeaf, "no leaf is left"),
-    (ClientError::Device, "a device failed"),
-    (ClientError::NoNumber, "no number is left"),
-    (ClientError::Foreign, "the ledger is another key's"),
-    (ClientError::Damaged, "the journal is damaged"),
-];
-
 #[test]
 fn errors_print(rt: HostRuntime) {
-    for (error, text) in &ERRORS {
-        let printed = format!(in rt.alloc(); "{error}").expect(&rt, "memory");
-        assert!(rt; printed.as_str() == *text, "{text}");
-    }
+    let errors = [
+        ClientError::Memory,
+        ClientError::NoLeaf,
+        ClientError::Device,
+        ClientError::NoNumber,
+        ClientError::Foreign,
+        ClientError::Damaged,
+    ];
+    let lines = "out of memory\nno leaf is left\na device failed\nno number is left\n\
+        the ledger is another key's\nthe journal is damaged\n";
+    print_lines(&rt, &errors, lines);
 }

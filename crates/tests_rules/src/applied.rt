@@ -63,30 +63,19 @@ fn check_sixth(rt: &impl Host, held: &Held<Global>, part: Part<Global>, stands: 
     let_go(part);
 }
 
-/// The third change has no effect.
+/// The third change has no effect, and where no file stands the second one has none either.
 #[test]
 fn changes_are_made(rt: HostRuntime) {
     let rt = &(rt, Here);
-    let (held, handle) = blocks(rt, FILE, FILE);
-    let mut part = part_of(rt, &held, handle);
-    let cert = certificate(rt);
-    let voids = apply(rt.alloc(), &mut part, &held, false, &cert).expect(rt, "the changes");
-    check_text(rt, voids.numbers(), &[3]);
-    check_sixth(rt, &held, part, true);
-    let_go((cert, held));
-}
-
-/// Nothing is replaced where no file stands.
-#[test]
-fn others_are_void(rt: HostRuntime) {
-    let rt = &(rt, Here);
-    let (held, handle) = blocks(rt, OTHER, OTHER);
-    let mut part = part_of(rt, &held, handle);
-    let cert = certificate(rt);
-    let voids = apply(rt.alloc(), &mut part, &held, false, &cert).expect(rt, "the changes");
-    check_text(rt, voids.numbers(), &[2, 3]);
-    check_sixth(rt, &held, part, true);
-    let_go((cert, held));
+    for (inode, void) in [(FILE, [3].as_slice()), (OTHER, &[2, 3])] {
+        let (held, handle) = blocks(rt, inode, inode);
+        let mut part = part_of(rt, &held, handle);
+        let cert = certificate(rt);
+        let voids = apply(rt.alloc(), &mut part, &held, false, &cert).expect(rt, "the changes");
+        check_text(rt, voids.numbers(), void);
+        check_sixth(rt, &held, part, true);
+        let_go((cert, held));
+    }
 }
 
 /// Where the i-node is missing that the second change meets, the part is as before the first one.

@@ -1,11 +1,12 @@
 //! Files in blocks, and i-tables: what is laid out and written, and that it is read again.
 
+use crate::blocks::held;
 use crate::here::Here;
-use client_tree::{Held, read_table};
+use client_tree::read_table;
 use itable::{
     ChunkNumber, FILE_SIZE, ITable, Inode, Kind, LayError, lay_file, read_chunk, read_root,
 };
-use layout::{Digest, Text};
+use layout::{Digest, Text, digest};
 use std::alloc::Global;
 use tests_aids::numbers::{i_number, principal};
 use tests_aids::{Aided, Host, check, check_text};
@@ -17,32 +18,28 @@ fn file_of(rt: &impl Host, size: usize) -> Vec<u8> {
     file
 }
 
-/// A file's size, how many blocks it has, how many bytes the last one has, and the size of the i-node.
-static LAID: [(u32, usize, usize, usize); 4] = [
-    (1, 1, 1, 43),
-    (4096, 1, 4096, 43),
-    (4097, 2, 1, 75),
-    (FILE_SIZE, 1024, 4096, 32779),
-];
-
-/// The file of a size is laid out so.
-fn is_laid(rt: &impl Host, laid: (u32, usize, usize, usize)) {
-    let (size, blocks, last, inode) = laid;
+/// The file of a size has so many blocks, so many bytes in the last one, and an i-node of that size.
+fn is_laid(rt: &impl Host, size: u32, blocks: usize, last: usize, inode: usize) {
     let laid = lay_file(rt.alloc(), &file_of(rt, size as usize)).expect(rt, "a file");
     check(rt, laid.blocks.len() == blocks, "how many blocks there are");
     let block = laid.blocks.last().expect(rt, "a block");
     check_text(rt, block, &file_of(rt, last));
     check(rt, laid.inode.len() == inode, "the size of the i-node");
     let found: Inode<Global> = Inode::read(rt.alloc(), &laid.inode).expect(rt, "an i-node");
-    check(rt, found.kind() == Kind::File, "a file");
-    check(rt, found.size() == size, "its size");
+    let is_it = found.kind() == Kind::File && found.size() == size;
+    check(rt, is_it, "a file of that size");
 }
 
 #[test]
 fn files_are_laid_out_in_blocks(rt: HostRuntime) {
     let rt = (rt, Here);
-    for laid in &LAID {
-        is_laid(&rt, *laid);
+    for (size, blocks, last, inode) in [
+        (1, 1, 1, 43),
+        (4096, 1, 4096, 43),
+        (4097, 2, 1, 75),
+        (FILE_SIZE, 1024, 4096, 32779),
+    ] {
+        is_laid(&rt, size, blocks, last, inode);
     }
     let empty = lay_file(rt.alloc(), &[]).expect(&rt, "a file");
     check_text(&rt, &empty.inode, b"SIN1\x01\0\0\0\0\0\0");
@@ -75,28 +72,6 @@ fn set(rt: &impl Host, table: &mut ITable<Global>, number: u16, byte: u8) {
     table.set(i_number, digest).expect(rt, "memory");
 }
 
-/// The digest of an i-number, of this byte everywhere, is removed, if it has one.
-fn removes(rt: &impl Host, table: &mut ITable<Global>, number: u16, byte: Option<u8>) {
-    let i_number = i_number(rt, number);
-    assert!(rt; table.loaded(i_number));
-    let found = table.remove(i_number);
-    let digest = byte.map(|byte| Digest::from_bytes([byte; 32]));
-    check(rt, found == digest, "what was removed");
-}
-
-/// The digest of an i-number is of this byte everywhere, and no other i-number has any.
-fn has_alone(rt: &impl Host, table: &ITable<Global>, number: u16, byte: u8) {
-    let i_number = i_number(rt, number);
-    assert!(rt; table.loaded(i_number));
-    let found = table.get(i_number);
-    check(
-        rt,
-        found == Some(Digest::from_bytes([byte; 32])),
-        "a digest",
-    );
-    check(rt, table.pairs().len() == 1, "one pair");
-}
-
 /// The handle.
 fn handle_of(rt: &impl Host, table: &mut ITable<Global>) -> Digest {
     table.handle(rt.alloc()).expect(rt, "memory")
@@ -123,22 +98,18 @@ fn root_of(rt: &impl Host, table: &mut ITable<Global>) -> Vec<u8> {
     table.root_text(rt.alloc()).expect(rt, "memory")
 }
 
-/// Whether the table has a chunk.
-fn has_chunk(rt: &impl Host, table: &ITable<Global>, number: u8) -> bool {
-    let number = ChunkNumber::new(number).expect(rt, "a chunk");
-    let text = table.chunk_text(rt.alloc(), number).expect(rt, "memory");
-    text.is_some()
-}
-
 #[test]
 fn empty_table(rt: HostRuntime) {
     let rt = (rt, Here);
     let mut table = ITable::empty(rt.alloc(), principal(&rt, 5));
     check(&rt, table.principal() == principal(&rt, 5), "principal 5");
-    check(&rt, !has_chunk(&rt, &table, 0), "no chunk");
+    let first = ChunkNumber::new(0).expect(&rt, "a chunk");
+    let text = table.chunk_text(rt.alloc(), first).expect(&rt, "memory");
+    check(&rt, text.is_none(), "no chunk");
     check_text(&rt, &root_of(&rt, &mut table), b"STR1\x05\0");
 }
 
+/// The digest that is set twice at an i-number is there alone, and is removed once.
 #[test]
 fn pairs_are_set_and_removed(rt: HostRuntime) {
     let rt = (rt, Here);
@@ -146,10 +117,15 @@ fn pairs_are_set_and_removed(rt: HostRuntime) {
     let empty = handle_of(&rt, &mut table);
     set(&rt, &mut table, 1, 8);
     set(&rt, &mut table, 1, 7);
-    has_alone(&rt, &table, 1, 7);
+    let (first, sevens) = (i_number(&rt, 1), Some(Digest::from_bytes([7; 32])));
+    assert!(rt; table.loaded(first));
+    check(&rt, table.get(first) == sevens, "a digest");
+    check(&rt, table.pairs().len() == 1, "one pair");
     check(&rt, handle_of(&rt, &mut table) != empty, "another handle");
-    removes(&rt, &mut table, 1, Some(7));
-    removes(&rt, &mut table, 1, None);
+    for wanted in [sevens, None] {
+        assert!(rt; table.loaded(first));
+        check(&rt, table.remove(first) == wanted, "what was removed");
+    }
     check(&rt, handle_of(&rt, &mut table) == empty, "the handle");
 }
 
@@ -188,37 +164,22 @@ fn two_pairs(rt: HostRuntime) {
     check(&rt, root.starts_with(b"STR1\0\x01\0"), "the root");
 }
 
-/// The i-numbers of two full chunks, and one of each other chunk.
-fn numbers_of_each_chunk(rt: &impl Host) -> Vec<u16> {
-    let mut numbers = Vec::new(rt.alloc());
-    for number in 1..128 {
-        numbers.push(number).expect(rt, "memory");
-    }
-    for chunk in 2..64 {
-        numbers.push(chunk * 64 + 63).expect(rt, "memory");
-    }
-    numbers
-}
-
+/// Two full chunks, and one i-number in each other chunk.
 #[test]
 fn full_chunks_and_a_full_root(rt: HostRuntime) {
     let rt = (rt, Here);
-    let mut table = table_of(&rt, &numbers_of_each_chunk(&rt));
+    let mut numbers = Vec::new(rt.alloc());
+    for number in 1..128u16 {
+        numbers.push(number).expect(&rt, "memory");
+    }
+    for chunk in 2..64u16 {
+        numbers.push(chunk * 64 + 63).expect(&rt, "memory");
+    }
+    let mut table = table_of(&rt, &numbers);
     has_pairs(&rt, &table, 0, 63, 2148);
     has_pairs(&rt, &table, 1, 64, 2182);
     has_pairs(&rt, &table, 63, 1, 40);
     has_chunks(&rt, &mut table, 64, 2118);
-}
-
-/// Keeps a text.
-fn keep(rt: &impl Host, held: &mut Held<Global>, text: Vec<u8>) -> Digest {
-    held.keep(text).expect(rt, "memory")
-}
-
-/// The i-table that the held blocks spell under the handle has the pairs of this one.
-fn is_read_again(rt: &impl Host, held: &Held<Global>, handle: Digest, table: &ITable<Global>) {
-    let again = read_table(rt.alloc(), held, principal(rt, 0), handle).expect(rt, "a table");
-    check(rt, again.pairs() == table.pairs(), "the same pairs");
 }
 
 /// User 0's table with i-numbers in the chunks 0 and 3.
@@ -226,10 +187,13 @@ fn is_read_again(rt: &impl Host, held: &Held<Global>, handle: Digest, table: &IT
 fn table_is_read_again(rt: HostRuntime) {
     let rt = (rt, Here);
     let mut table = table_of(&rt, &[1, 2, 200]);
-    let mut held = Held::empty(rt.alloc());
-    let _first = keep(&rt, &mut held, chunk_of(&rt, &table, 0));
-    let _other = keep(&rt, &mut held, chunk_of(&rt, &table, 3));
-    let handle = keep(&rt, &mut held, root_of(&rt, &mut table));
-    is_read_again(&rt, &held, handle, &table);
-    check(&rt, handle_of(&rt, &mut table) == handle, "the handle");
+    let root = root_of(&rt, &mut table);
+    let held = held(
+        &rt,
+        &[&root, &chunk_of(&rt, &table, 0), &chunk_of(&rt, &table, 3)],
+    );
+    let handle = handle_of(&rt, &mut table);
+    check(&rt, handle == digest(&root), "the handle");
+    let again = read_table(rt.alloc(), &held, principal(&rt, 0), handle).expect(&rt, "a table");
+    check(&rt, again.pairs() == table.pairs(), "the same pairs");
 }

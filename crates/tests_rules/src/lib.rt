@@ -13,12 +13,10 @@ mod i_tables;
 #[cfg(test)]
 mod last_blocks;
 #[cfg(test)]
+mod lists;
+#[cfg(test)]
 mod missing_chunks;
 #[cfg(test)]
 mod missing_files;
-#[cfg(test)]
-mod rule_parts;
-#[cfg(test)]
-mod several_pending;
 #[cfg(test)]
 mod spots;

@@ -22,42 +22,40 @@ pub(crate) struct Texts {
     pub(crate) other: Vec<u8>,
 }
 
-/// Chunk 0.
-fn first_chunk(rt: &impl Host) -> Vec<u8> {
-    let (hello, long, none) = (digest(HELLO_INODE), digest(LONG_INODE), digest(HELLO));
-    joined(
-        rt,
-        &[
-            b"STC1\0\x03\0\x01",
-            hello.as_bytes(),
-            b"\0\x03",
-            long.as_bytes(),
-            b"\0\x04",
-            none.as_bytes(),
-        ],
-    )
-}
-
-/// The root of these two chunks.
-fn root_of(rt: &impl Host, first: &[u8], other: &[u8]) -> Vec<u8> {
-    let (first, other) = (digest(first), digest(other));
-    joined(
-        rt,
-        &[b"STR1\0\x02\0", first.as_bytes(), b"\x03", other.as_bytes()],
-    )
-}
-
 /// The texts of the i-table.
 pub(crate) fn texts_of_table(rt: &impl Host) -> Texts {
-    let first = first_chunk(rt);
-    let other = joined(rt, &[b"STC1\x03\x01\0\xc8", digest(HELLO_INODE).as_bytes()]);
-    let root = root_of(rt, &first, &other);
+    let (hello, long, none) = (digest(HELLO_INODE), digest(LONG_INODE), digest(HELLO));
+    let pieces: [&[u8]; 6] = [
+        b"STC1\0\x03\0\x01",
+        hello.as_bytes(),
+        b"\0\x03",
+        long.as_bytes(),
+        b"\0\x04",
+        none.as_bytes(),
+    ];
+    let first = joined(rt, &pieces);
+    let other = joined(rt, &[b"STC1\x03\x01\0\xc8", hello.as_bytes()]);
+    let (of_first, of_other) = (digest(&first), digest(&other));
+    let pieces: [&[u8]; 4] = [
+        b"STR1\0\x02\0",
+        of_first.as_bytes(),
+        b"\x03",
+        of_other.as_bytes(),
+    ];
+    let root = joined(rt, &pieces);
     Texts { root, first, other }
 }
 
-/// The i-table of this handle wants a text.
-fn table_wants(rt: &impl Host, held: &Held<Global>, handle: Digest, text: &[u8], spot: Spot) {
-    match read_table(rt.alloc(), held, principal(rt, 0), handle) {
+/// A user's i-table of this handle wants a text.
+fn table_wants(
+    rt: &impl Host,
+    held: &Held<Global>,
+    user: u8,
+    handle: Digest,
+    text: &[u8],
+    spot: Spot,
+) {
+    match read_table(rt.alloc(), held, principal(rt, user), handle) {
         Ok(_) => panic!(rt; "nothing is missing"),
         Err(error) => is_missing(rt, error, text, spot),
     }
@@ -70,28 +68,23 @@ fn chunk(rt: &impl Host, number: u8) -> Spot {
 }
 
 /// The root is missing, and then one chunk after the other.
-fn wants_each(rt: &impl Host, held: &mut Held<Global>, texts: &Texts) {
-    let handle = digest(&texts.root);
-    table_wants(rt, held, handle, &texts.root, Spot::Root(principal(rt, 0)));
-    let _digest = keep(rt, held, &texts.root);
-    table_wants(rt, held, handle, &texts.first, chunk(rt, 0));
-    let _digest = keep(rt, held, &texts.first);
-    table_wants(rt, held, handle, &texts.other, chunk(rt, 3));
-    let _digest = keep(rt, held, &texts.other);
-}
-
 #[test]
 fn table_wants_its_texts(rt: HostRuntime) {
     let rt = (rt, Here);
     let texts = texts_of_table(&rt);
     let mut held = held(&rt, &[]);
-    wants_each(&rt, &mut held, &texts);
     let handle = digest(&texts.root);
+    for (text, spot) in [
+        (&texts.root, Spot::Root(principal(&rt, 0))),
+        (&texts.first, chunk(&rt, 0)),
+        (&texts.other, chunk(&rt, 3)),
+    ] {
+        table_wants(&rt, &held, 0, handle, text, spot);
+        let _digest = keep(&rt, &mut held, text);
+    }
     let table = read_table(rt.alloc(), &held, principal(&rt, 0), handle).expect(&rt, "a table");
     check(&rt, table.pairs().len() == 4, "four i-nodes");
     // What is held is no root of another principal.
-    match read_table(rt.alloc(), &held, principal(&rt, 1), handle) {
-        Ok(_) => panic!(rt; "nothing is missing"),
-        Err(error) => is_missing(&rt, error, &texts.root, Spot::Root(principal(&rt, 1))),
-    }
+    let root_of_1 = Spot::Root(principal(&rt, 1));
+    table_wants(&rt, &held, 1, handle, &texts.root, root_of_1);
 }

@@ -1,7 +1,7 @@
 //! Which texts a spot takes.
 
 use crate::blocks::held;
-use crate::here::Here;
+use crate::here::{Here, pieces};
 use itable::ChunkNumber;
 use layout::digest;
 use tests_aids::numbers::{i_number, principal};
@@ -46,95 +46,118 @@ const OF_NO_FILE: &[u8] = b"SIN1\x02\0\0\0\x44\0\x01abcdefghijklmnopqrstuvwxyz01
 /// An i-node that isn't held.
 const NOT_HELD: &[u8] = b"SIN1\x01\0\0\0\x01\0\x01abcdefghijklmnopqrstuvwxyz012345";
 
-/// A spot: what its block is of is named by its text.
-enum Place {
-    Root(u8),
-    Chunk(u8, u8),
-    Inode(u8, u16),
-    File(&'static [u8], u16),
-    Directory(&'static [u8], u16),
-    Table(&'static [u8], u16),
-}
-
-/// A spot, a text, and whether the spot takes it.
-struct Case(Place, &'static [u8], bool);
-
-static CASES: [Case; 51] = [
-    Case(Place::Root(0), ROOT, true),
-    Case(Place::Root(0), LATER_ROOT, false),
-    Case(Place::Root(0), BARE_ROOT, false),
-    Case(Place::Root(0), BARE_ROOT_OF_1, false),
-    Case(Place::Root(1), BARE_ROOT_OF_1, true),
-    Case(Place::Root(1), ROOT, false),
-    Case(Place::Root(0), CHUNK, false),
-    Case(Place::Root(1), b"STR1\x01", false),
-    Case(Place::Chunk(0, 0), CHUNK, true),
-    Case(Place::Chunk(0, 0), CHUNK_OF_2, false),
-    Case(Place::Chunk(1, 0), CHUNK_OF_2, true),
-    Case(Place::Chunk(0, 0), CHUNK_1, false),
-    Case(Place::Chunk(0, 1), CHUNK_1, true),
-    Case(Place::Chunk(0, 1), CHUNK, false),
-    Case(Place::Chunk(0, 0), ROOT, false),
-    Case(Place::Inode(0, 1), FILE, true),
-    Case(Place::Inode(0, 1), NO_BYTES, false),
-    Case(Place::Inode(0, 1), DIRECTORY, false),
-    Case(Place::Inode(0, 2), DIRECTORY, true),
-    Case(Place::Inode(0, 2), FILE, true),
-    Case(Place::Inode(0, 3), NO_BYTES, true),
-    Case(Place::Inode(1, 1), DIRECTORY, true),
-    Case(Place::Inode(0, 3), CHUNK, false),
-    Case(Place::Inode(0, 3), b"hello", false),
-    Case(Place::File(FILE, 0), &[7; 4096], true),
-    Case(Place::File(FILE, 0), &[7; 4095], false),
-    Case(Place::File(FILE, 0), &[7; 4097], false),
-    Case(Place::File(FILE, 1), b"x", true),
-    Case(Place::File(FILE, 1), b"", false),
-    Case(Place::File(FILE, 1), b"xy", false),
-    Case(Place::File(FILE, 2), b"", false),
-    Case(Place::File(NO_BYTES, 0), b"", false),
-    Case(Place::File(NOT_HELD, 0), b"x", false),
-    Case(Place::File(DIRECTORY, 0), b"SDI1\0\x01\x01f\0\0\x03", false),
-    Case(
-        Place::Directory(DIRECTORY, 0),
-        b"SDI1\0\x01\x01f\0\0\x03",
-        true,
-    ),
-    Case(
-        Place::Directory(DIRECTORY, 0),
-        b"SDI1\0\x01\x01/\0\0\x03",
-        false,
-    ),
-    Case(Place::Directory(DIRECTORY, 0), b"SDI1\0\0", false),
-    Case(Place::Directory(DIRECTORY, 0), b"hello hello", false),
-    Case(Place::Directory(DIRECTORY, 1), b"", false),
-    Case(Place::Directory(FILE, 1), b"x", false),
-    Case(Place::Table(OF_TABLE, 0), TABLE, true),
-    Case(Place::Table(OF_TABLE, 0), NO_TABLE, false),
-    Case(Place::Table(OF_TABLE, 0), b"SPT1", false),
-    Case(Place::Table(OF_TABLE, 1), b"", false),
-    Case(Place::Table(OF_NO_FILE, 0), TABLE, false),
-    // The first of two blocks needs no other one, and the last one isn't taken without the first.
-    Case(Place::Table(FILE, 0), &[7; 4096], true),
-    Case(Place::Table(FILE, 0), &[7; 4095], false),
-    Case(Place::Table(FILE, 1), b"x", false),
-    Case(Place::Table(NO_BYTES, 0), b"", false),
-    Case(Place::Table(NOT_HELD, 0), b"x", false),
-    // Any file takes the bytes of a table.
-    Case(Place::File(OF_TABLE, 0), TABLE, true),
+/// What names stand for.
+static PIECES: [(&[u8], &[u8]); 18] = [
+    (b"$root", ROOT),
+    (b"$later root", LATER_ROOT),
+    (b"$bare root", BARE_ROOT),
+    (b"$bare root of 1", BARE_ROOT_OF_1),
+    (b"$chunk", CHUNK),
+    (b"$chunk of 2", CHUNK_OF_2),
+    (b"$chunk 1", CHUNK_1),
+    (b"$file", FILE),
+    (b"$no bytes", NO_BYTES),
+    (b"$directory", DIRECTORY),
+    (b"$table", TABLE),
+    (b"$no table", NO_TABLE),
+    (b"$of table", OF_TABLE),
+    (b"$of no file", OF_NO_FILE),
+    (b"$not held", NOT_HELD),
+    (b"$4095 sevens", &[7; 4095]),
+    (b"$4096 sevens", &[7; 4096]),
+    (b"$4097 sevens", &[7; 4097]),
 ];
 
-/// The spot of a place.
-fn spot_of(rt: &impl Host, place: &Place) -> Spot {
-    match place {
-        Place::Root(user) => Spot::Root(principal(rt, *user)),
-        Place::Chunk(user, number) => {
-            let number = ChunkNumber::new(*number).expect(rt, "a chunk");
-            Spot::Chunk(principal(rt, *user), number)
+/// Of each case a line: a spot, a text, and whether the spot takes it. A spot is that of a root, a chunk or an i-node of
+/// a user, or of a block of a file, of a directory or of the table, whose i-node is told by its text; and then a number.
+static CASES: &[u8] = b"\
+    root|0|0|$root|yes\n\
+    root|0|0|$later root|no\n\
+    root|0|0|$bare root|no\n\
+    root|0|0|$bare root of 1|no\n\
+    root|1|0|$bare root of 1|yes\n\
+    root|1|0|$root|no\n\
+    root|0|0|$chunk|no\n\
+    root|1|0|STR1\x01|no\n\
+    chunk|0|0|$chunk|yes\n\
+    chunk|0|0|$chunk of 2|no\n\
+    chunk|1|0|$chunk of 2|yes\n\
+    chunk|0|0|$chunk 1|no\n\
+    chunk|0|1|$chunk 1|yes\n\
+    chunk|0|1|$chunk|no\n\
+    chunk|0|0|$root|no\n\
+    inode|0|1|$file|yes\n\
+    inode|0|1|$no bytes|no\n\
+    inode|0|1|$directory|no\n\
+    inode|0|2|$directory|yes\n\
+    inode|0|2|$file|yes\n\
+    inode|0|3|$no bytes|yes\n\
+    inode|1|1|$directory|yes\n\
+    inode|0|3|$chunk|no\n\
+    inode|0|3|hello|no\n\
+    file|$file|0|$4096 sevens|yes\n\
+    file|$file|0|$4095 sevens|no\n\
+    file|$file|0|$4097 sevens|no\n\
+    file|$file|1|x|yes\n\
+    file|$file|1||no\n\
+    file|$file|1|xy|no\n\
+    file|$file|2||no\n\
+    file|$no bytes|0||no\n\
+    file|$not held|0|x|no\n\
+    file|$directory|0|SDI1\0\x01\x01f\0\0\x03|no\n\
+    directory|$directory|0|SDI1\0\x01\x01f\0\0\x03|yes\n\
+    directory|$directory|0|SDI1\0\x01\x01/\0\0\x03|no\n\
+    directory|$directory|0|SDI1\0\0|no\n\
+    directory|$directory|0|hello hello|no\n\
+    directory|$directory|1||no\n\
+    directory|$file|1|x|no\n\
+    table|$of table|0|$table|yes\n\
+    table|$of table|0|$no table|no\n\
+    table|$of table|0|SPT1|no\n\
+    table|$of table|1||no\n\
+    table|$of no file|0|$table|no\n\
+    # the first of two blocks needs no other one, and the last one isn't taken without the first\n\
+    table|$file|0|$4096 sevens|yes\n\
+    table|$file|0|$4095 sevens|no\n\
+    table|$file|1|x|no\n\
+    table|$no bytes|0||no\n\
+    table|$not held|0|x|no\n\
+    # any file takes the bytes of a table\n\
+    file|$of table|0|$table|yes";
+
+/// What a name stands for, or else the text itself.
+fn text_of(part: &'static [u8]) -> &'static [u8] {
+    for (name, piece) in &PIECES {
+        if *name == part {
+            return piece;
         }
-        Place::Inode(user, number) => Spot::Inode(principal(rt, *user), i_number(rt, *number)),
-        Place::File(inode, place) => Spot::File(digest(inode), *place),
-        Place::Directory(inode, place) => Spot::Directory(digest(inode), *place),
-        Place::Table(inode, place) => Spot::Table(digest(inode), *place),
+    }
+    part
+}
+
+/// The number of one digit.
+fn number_of(rt: &impl Host, part: &[u8]) -> u8 {
+    match part {
+        [digit @ b'0'..=b'9'] => *digit - b'0',
+        _ => panic!(rt; "no number {part:?}"),
+    }
+}
+
+/// The spot of a word, of a user or an i-node, and of a number.
+fn spot_of(rt: &impl Host, word: &[u8], of: &'static [u8], number: u8) -> Spot {
+    let place = u16::from(number);
+    match word {
+        b"file" => Spot::File(digest(text_of(of)), place),
+        b"directory" => Spot::Directory(digest(text_of(of)), place),
+        b"table" => Spot::Table(digest(text_of(of)), place),
+        _ => {
+            let user = principal(rt, number_of(rt, of));
+            match word {
+                b"root" => Spot::Root(user),
+                b"chunk" => Spot::Chunk(user, ChunkNumber::new(number).expect(rt, "a chunk")),
+                _ => Spot::Inode(user, i_number(rt, place)),
+            }
+        }
     }
 }
 
@@ -142,9 +165,17 @@ fn spot_of(rt: &impl Host, place: &Place) -> Spot {
 fn each_spot(rt: HostRuntime) {
     let rt = (rt, Here);
     let held = held(&rt, &[FILE, NO_BYTES, DIRECTORY, OF_TABLE, OF_NO_FILE]);
-    for (number, Case(place, text, is_taken)) in CASES.iter().enumerate() {
-        let spot = spot_of(&rt, place);
-        let taken = spot.takes(rt.alloc(), &held, text).expect(&rt, "memory");
-        assert!(rt; taken == *is_taken, "case {number}");
+    let rows = pieces(&rt, CASES, b'\n');
+    assert_eq!(rt; rows.len(), 51);
+    for row in &rows {
+        let parts = pieces(&rt, row, b'|');
+        let [word, of, number, text, is_taken] = parts.as_slice() else {
+            panic!(rt; "a row of other parts");
+        };
+        let spot = spot_of(&rt, word, of, number_of(&rt, number));
+        let taken = spot
+            .takes(rt.alloc(), &held, text_of(text))
+            .expect(&rt, "memory");
+        assert!(rt; taken == (*is_taken == b"yes".as_slice()), "{row:?}");
     }
 }

@@ -3,7 +3,7 @@
 //! fault's name and the pieces of the text after it, with `|` between; `$` and a name stand for a piece that comes often
 //! or is long, and a line with `#` before it tells of the rows below it.
 
-use crate::here::Here;
+use crate::here::{Here, pieces};
 use directory::Directory;
 use itable::{Chunk, Inode, Root};
 use layout::{ReadError, Text};
@@ -12,14 +12,14 @@ use principals::Table;
 use std::alloc::Global;
 use tests_aids::tables::FORM;
 use tests_aids::texts::joined;
-use tests_aids::{Host, check, check_text};
+use tests_aids::{Aided, Host, check, check_text};
 use update_cert::Cert;
 use version_order::{Plan, Structure, Vector};
 use wire::body_of;
 
 /// What the bytes are read as.
-#[derive(Clone, Copy)]
-enum Kind {
+#[derive(Drop)]
+pub(crate) enum Kind {
     Certificate,
     SignedCertificate,
     Vector,
@@ -364,27 +364,25 @@ fn name_of(fault: ReadError) -> &'static str {
     }
 }
 
+/// The value is spelled so.
+pub(crate) fn is_spelled<T: Text<Global>, R: Host>(rt: &R, value: &T, by_hand: &[u8]) {
+    let text = value.text(rt.alloc()).expect(rt, "memory");
+    check_text(rt, &text, by_hand);
+}
+
 /// The fault of a text. What is read without one is spelled so.
-pub(crate) fn fault_of<T: Text<Global>, R: Host>(rt: &R, text: &[u8]) -> &'static str {
+fn fault_of<T: Text<Global>, R: Host>(rt: &R, text: &[u8]) -> &'static str {
     match T::read(rt.alloc(), text) {
         Ok(value) => {
-            check_text(rt, &value.text(rt.alloc()).expect(rt, "memory"), text);
+            is_spelled(rt, &value, text);
             NONE
         }
         Err(fault) => name_of(fault),
     }
 }
 
-/// The fault of a frame.
-fn fault_of_frame(text: &[u8]) -> &'static str {
-    match body_of(text) {
-        Ok(_) => NONE,
-        Err(fault) => name_of(fault),
-    }
-}
-
 /// The fault of the bytes where they are read so.
-fn fault_in(rt: &impl Host, kind: Kind, text: &[u8]) -> &'static str {
+pub(crate) fn fault_in(rt: &impl Host, kind: &Kind, text: &[u8]) -> &'static str {
     match kind {
         Kind::Certificate => fault_of::<Cert<Global>, _>(rt, text),
         Kind::SignedCertificate => fault_of::<Signed<Cert<Global>>, _>(rt, text),
@@ -398,12 +396,15 @@ fn fault_in(rt: &impl Host, kind: Kind, text: &[u8]) -> &'static str {
         Kind::Root => fault_of::<Root<Global>, _>(rt, text),
         Kind::Directory => fault_of::<Directory<Global>, _>(rt, text),
         Kind::Principals => fault_of::<Table<Global>, _>(rt, text),
-        Kind::Frame => fault_of_frame(text),
+        Kind::Frame => match body_of(text) {
+            Ok(_) => NONE,
+            Err(fault) => name_of(fault),
+        },
     }
 }
 
 /// Each proper prefix of a text is short, and a byte more trails.
-fn ends_there(rt: &impl Host, kind: Kind, text: &[u8]) {
+fn ends_there(rt: &impl Host, kind: &Kind, text: &[u8]) {
     for size in 0..text.len() {
         check(rt, fault_in(rt, kind, &text[..size]) == SHORT, "a prefix");
     }
@@ -453,7 +454,7 @@ fn text_of(rt: &impl Host, row: &[u8]) -> Vec<u8> {
 }
 
 /// The row's text has its fault.
-fn has_fault(rt: &impl Host, kind: Kind, row: &[u8]) {
+fn has_fault(rt: &impl Host, kind: &Kind, row: &[u8]) {
     let text = text_of(rt, row);
     let found = fault_in(rt, kind, &text);
     let is_it = row.starts_with(&joined(rt, &[found.as_bytes(), b"|"]));
@@ -464,34 +465,35 @@ fn has_fault(rt: &impl Host, kind: Kind, row: &[u8]) {
 }
 
 /// Each row's text has its fault, and there are so many rows.
-fn have_faults(rt: &impl Host, kind: Kind, rows: &[u8], count: u32) {
-    let mut seen = 0u32;
-    for row in rows.split(|byte| *byte == b'\n') {
-        if !row.starts_with(b"#") {
-            has_fault(rt, kind, row);
-            seen = seen.wrapping_add(1);
-        }
+fn have_faults(rt: &impl Host, kind: &Kind, table: &'static [u8], count: usize) {
+    let rows = pieces(rt, table, b'\n');
+    for row in &rows {
+        has_fault(rt, kind, row);
     }
-    assert!(rt; seen == count, "{seen} rows and not {count}");
+    assert!(rt; rows.len() == count, "{} rows and not {count}", rows.len());
 }
 
 #[test]
 fn texts_have_their_faults(rt: HostRuntime) {
     let rt = (rt, Here);
-    have_faults(&rt, Kind::Certificate, CERTIFICATES, 27);
-    have_faults(&rt, Kind::SignedCertificate, SIGNED_CERTIFICATES, 1);
-    have_faults(&rt, Kind::Vector, VECTORS, 7);
-    have_faults(&rt, Kind::Plan, PLANS, 12);
-    have_faults(&rt, Kind::Structure, STRUCTURES, 6);
-    have_faults(&rt, Kind::SignedStructure, SIGNED_STRUCTURES, 1);
-    have_faults(&rt, Kind::Structure, RECORDS, 9);
-    have_faults(&rt, Kind::Reply, REPLIES, 15);
-    have_faults(&rt, Kind::Inode, INODES, 20);
-    have_faults(&rt, Kind::Chunk, CHUNKS, 19);
-    have_faults(&rt, Kind::Root, ROOTS, 13);
-    have_faults(&rt, Kind::Directory, DIRECTORIES, 28);
-    have_faults(&rt, Kind::Certificate, TABLE_CHANGES, 15);
-    have_faults(&rt, Kind::Principals, USERS, 17);
-    have_faults(&rt, Kind::Principals, MEMBERS, 19);
-    have_faults(&rt, Kind::Frame, FRAMES, 6);
+    for (kind, table, count) in [
+        (Kind::Certificate, CERTIFICATES, 27),
+        (Kind::SignedCertificate, SIGNED_CERTIFICATES, 1),
+        (Kind::Vector, VECTORS, 7),
+        (Kind::Plan, PLANS, 12),
+        (Kind::Structure, STRUCTURES, 6),
+        (Kind::SignedStructure, SIGNED_STRUCTURES, 1),
+        (Kind::Structure, RECORDS, 9),
+        (Kind::Reply, REPLIES, 15),
+        (Kind::Inode, INODES, 20),
+        (Kind::Chunk, CHUNKS, 19),
+        (Kind::Root, ROOTS, 13),
+        (Kind::Directory, DIRECTORIES, 28),
+        (Kind::Certificate, TABLE_CHANGES, 15),
+        (Kind::Principals, USERS, 17),
+        (Kind::Principals, MEMBERS, 19),
+        (Kind::Frame, FRAMES, 6),
+    ] {
+        have_faults(&rt, &kind, table, count);
+    }
 }

@@ -2,7 +2,7 @@
 
 use crate::here::Here;
 use itable::{ChunkNumber, ITable, read_chunk, read_root};
-use layout::{Digest, INumber, digest, let_go};
+use layout::{Digest, digest, let_go};
 use std::alloc::Global;
 use tests_aids::numbers::{i_number, principal};
 use tests_aids::{Aided, Host, check};
@@ -27,21 +27,6 @@ fn set(rt: &impl Host, table: &mut ITable<Global>, number: u16, byte: u8) {
     table.set(i_number, digest).expect(rt, "memory");
 }
 
-/// The digest at an i-number whose chunk is loaded.
-fn get(rt: &impl Host, table: &ITable<Global>, i_number: INumber) -> Option<Digest> {
-    assert!(rt; table.loaded(i_number), "loaded");
-    table.get(i_number)
-}
-
-/// User 0's table with digests of 7s in the chunks 0, 3 and 63.
-fn whole_table(rt: &impl Host) -> ITable<Global> {
-    let mut table = ITable::empty(rt.alloc(), principal(rt, 0));
-    for number in [1, 2, 200, 4095] {
-        set(rt, &mut table, number, 7);
-    }
-    table
-}
-
 /// The table of the whole one's root, with no chunk loaded.
 fn table_of_root(rt: &impl Host, whole: &mut ITable<Global>) -> ITable<Global> {
     let text = whole.root_text(rt.alloc()).expect(rt, "memory");
@@ -50,25 +35,20 @@ fn table_of_root(rt: &impl Host, whole: &mut ITable<Global>) -> ITable<Global> {
     ITable::of_root(rt.alloc(), root)
 }
 
-/// The text of the chunk that an i-number is in.
-fn text_of(rt: &impl Host, table: &ITable<Global>, i_number: INumber) -> Vec<u8> {
-    let number = ChunkNumber::of(i_number);
-    let text = table.chunk_text(rt.alloc(), number).expect(rt, "memory");
-    text.expect(rt, "a chunk with pairs")
-}
-
 /// Loads the chunk that an i-number is in, as the whole table has it.
 fn load(rt: &impl Host, table: &mut ITable<Global>, whole: &ITable<Global>, number: u16) {
     let i_number = i_number(rt, number);
-    let text = text_of(rt, whole, i_number);
+    let text = whole.chunk_text(rt.alloc(), ChunkNumber::of(i_number));
+    let text = text.expect(rt, "memory").expect(rt, "a chunk with pairs");
     let chunk = read_chunk(rt.alloc(), &text).expect(rt, "a chunk");
     let listed = table.unloaded(i_number).expect(rt, "not loaded");
     assert!(rt; chunk.number() == listed.number, "its number");
     assert!(rt; digest(&text) == listed.digest, "its digest");
     table.load(&chunk, listed.digest).expect(rt, "memory");
     let_go(chunk);
-    let found = get(rt, table, i_number);
-    check(rt, found == get(rt, whole, i_number), "the digest");
+    assert!(rt; table.loaded(i_number) && whole.loaded(i_number), "loaded");
+    let is_same = table.get(i_number) == whole.get(i_number);
+    check(rt, is_same, "the digest");
 }
 
 /// A table has this handle.
@@ -80,7 +60,11 @@ fn has_handle(rt: &impl Host, table: &mut ITable<Global>, bytes: [u8; 32]) {
 #[test]
 fn part_of_a_table(rt: HostRuntime) {
     let rt = (rt, Here);
-    let mut whole = whole_table(&rt);
+    let mut whole = ITable::empty(rt.alloc(), principal(&rt, 0));
+    // The chunks 0, 3 and 63.
+    for number in [1, 2, 200, 4095] {
+        set(&rt, &mut whole, number, 7);
+    }
     let mut part = table_of_root(&rt, &mut whole);
     has_handle(&rt, &mut whole, WHOLE);
     has_handle(&rt, &mut part, WHOLE);

@@ -1,6 +1,7 @@
 //! The plans of next operations, also of those that raise groups, and the group records of structures.
 
-use crate::here::Here;
+use crate::faults::is_spelled;
+use crate::here::{Here, pieces};
 use layout::{Digest, Group, Text, User, Version, let_go};
 use std::alloc::Global;
 use tests_aids::texts::{joined, plan};
@@ -9,143 +10,100 @@ use version_order::{
     Entries, GroupRecord, GroupRecords, Plan, PlanError, Structure, Vector, below, depth, next_plan,
 };
 
-/// The vector before an operation of a user, the groups that it raises, and the vector of its plan with the plan's
-/// depth: none where a version would pass 4,294,967,295.
-struct Case {
-    before: &'static [u8],
+/// Of each case a line: the vector before an operation, its user and the groups that it raises, and the depth and the
+/// vector of its plan: neither where a version would pass 4,294,967,295.
+static CASES: &[u8] = b"\
+    \0|\0|1|\x01\0\0\0\0\x01\n\
+    # groups don't count for the depth\n\
+    \x03\0\0\0\0\x04\x02\0\0\0\x01\x41\0\0\0\x02|\x01\x40\x41|6\
+        |\x05\0\0\0\0\x04\x01\0\0\0\x01\x02\0\0\0\x01\x40\0\0\0\x01\x41\0\0\0\x03\n\
+    # the greatest version, and one more\n\
+    \x01\0\xff\xff\xff\xfe|\0|4294967295|\x01\0\xff\xff\xff\xff\n\
+    \x01\0\xff\xff\xff\xff|\0|none|\n\
+    \x02\0\0\0\0\x01\x40\xff\xff\xff\xff|\0\x40|none|\n\
+    \x02\0\0\0\0\x01\x41\xff\xff\xff\xff|\0\x40\x41|none|\n\
+    # the greatest version of another principal\n\
+    \x02\0\0\0\0\x01\x40\xff\xff\xff\xff|\0|2|\x02\0\0\0\0\x02\x40\xff\xff\xff\xff\n\
+    \x01\0\xff\xff\xff\xff|\x01|4294967296|\x02\0\xff\xff\xff\xff\x01\0\0\0\x01";
+
+/// The plan of a user's first operation after this vector, which raises the groups of these numbers, of a certificate
+/// with the digest of 32 times 7.
+fn next_of(
+    rt: &impl Host,
+    before: &[u8],
     user: u8,
-    groups: &'static [u8],
-    next: Option<(&'static [u8], u64)>,
-}
-
-/// Versions of user 0, user 2 and group 65, and the same after user 1's first operation, which raises groups 64 and 65.
-const BEFORE: &[u8] = b"\x03\0\0\0\0\x04\x02\0\0\0\x01\x41\0\0\0\x02";
-
-const RAISED: &[u8] = b"\x05\0\0\0\0\x04\x01\0\0\0\x01\x02\0\0\0\x01\x40\0\0\0\x01\x41\0\0\0\x03";
-
-static CASES: [Case; 8] = [
-    Case {
-        before: b"\0",
-        user: 0,
-        groups: &[],
-        next: Some((b"\x01\0\0\0\0\x01", 1)),
-    },
-    // Groups don't count for the depth.
-    Case {
-        before: BEFORE,
-        user: 1,
-        groups: &[64, 65],
-        next: Some((RAISED, 6)),
-    },
-    // The greatest version, and one more.
-    Case {
-        before: b"\x01\0\xff\xff\xff\xfe",
-        user: 0,
-        groups: &[],
-        next: Some((b"\x01\0\xff\xff\xff\xff", 4294967295)),
-    },
-    Case {
-        before: b"\x01\0\xff\xff\xff\xff",
-        user: 0,
-        groups: &[],
-        next: None,
-    },
-    Case {
-        before: b"\x02\0\0\0\0\x01\x40\xff\xff\xff\xff",
-        user: 0,
-        groups: &[64],
-        next: None,
-    },
-    Case {
-        before: b"\x02\0\0\0\0\x01\x41\xff\xff\xff\xff",
-        user: 0,
-        groups: &[64, 65],
-        next: None,
-    },
-    // The greatest version of another principal.
-    Case {
-        before: b"\x02\0\0\0\0\x01\x40\xff\xff\xff\xff",
-        user: 0,
-        groups: &[],
-        next: Some((b"\x02\0\0\0\0\x02\x40\xff\xff\xff\xff", 2)),
-    },
-    Case {
-        before: b"\x01\0\xff\xff\xff\xff",
-        user: 1,
-        groups: &[],
-        next: Some((b"\x02\0\xff\xff\xff\xff\x01\0\0\0\x01", 4294967296)),
-    },
-];
-
-/// The groups that the operation of a case raises.
-fn groups_of(rt: &impl Host, case: &Case) -> Vec<Group> {
+    numbers: &[u8],
+) -> Result<Plan<Global>, PlanError> {
+    let before = Vector::read(rt.alloc(), before).expect(rt, "a vector");
     let mut groups = Vec::new(rt.alloc());
-    for number in case.groups {
+    for number in numbers {
         let group = Group::new(*number).expect(rt, "a group");
         groups.push(group).expect(rt, "memory");
     }
-    groups
-}
-
-/// The plan of the operation of a case, of a certificate with the digest of 32 times 7.
-fn next_of(rt: &impl Host, case: &Case) -> Result<Plan<Global>, PlanError> {
-    let before = Vector::read(rt.alloc(), case.before).expect(rt, "a vector");
-    let entries = Entries::new(rt.alloc());
-    let user = User::new(case.user).expect(rt, "a user");
-    let certificate = Digest::from_bytes([7; 32]);
-    let groups = groups_of(rt, case);
     next_plan(
         rt.alloc(),
         &before,
-        entries,
-        user,
+        Entries::new(rt.alloc()),
+        User::new(user).expect(rt, "a user"),
         Version::first(),
-        certificate,
+        Digest::from_bytes([7; 32]),
         &groups,
     )
 }
 
-/// The plan has this vector and depth, and is spelled so.
-fn is_next(rt: &impl Host, found: &Plan<Global>, user: u8, vector: &[u8], sum: u64) {
-    check(rt, depth(found) == sum, "the depth");
+/// The plan is of this user and has this vector, and is spelled so.
+fn is_next(rt: &impl Host, found: &Plan<Global>, user: u8, vector: &[u8]) {
     check(rt, below(found, found), "the plan below itself");
     let by_hand = plan(rt, user, 1, &[7; 32], vector, b"\0");
-    check_text(rt, &found.text(rt.alloc()).expect(rt, "memory"), &by_hand);
+    is_spelled(rt, found, &by_hand);
     let again = Plan::read(rt.alloc(), &by_hand).expect(rt, "a plan");
     check(rt, again.vector().same(found.vector()), "the vector");
+}
+
+/// The next plan of a case is as its row says.
+fn is_as_told(rt: &impl Host, row: &'static [u8]) {
+    let parts = pieces(rt, row, b'|');
+    let [before, [user, groups @ ..], sum, vector] = parts.as_slice() else {
+        panic!(rt; "a row of other parts");
+    };
+    match next_of(rt, before, *user, groups) {
+        Ok(found) => {
+            let printed = format!(in rt.alloc(); "{}", depth(&found)).expect(rt, "memory");
+            check_text(rt, printed.as_bytes(), sum);
+            is_next(rt, &found, *user, vector);
+        }
+        Err(PlanError::Limit) => check_text(rt, b"none", sum),
+        Err(_) => panic!(rt; "another answer after {before:?}"),
+    }
 }
 
 #[test]
 fn each_next_plan(rt: HostRuntime) {
     let rt = (rt, Here);
-    for case in &CASES {
-        match (next_of(&rt, case), case.next) {
-            (Ok(found), Some((vector, sum))) => is_next(&rt, &found, case.user, vector, sum),
-            (Err(PlanError::Limit), None) => {}
-            _ => panic!(rt; "another answer after {:?}", case.before),
-        }
+    let rows = pieces(&rt, CASES, b'\n');
+    for row in &rows {
+        is_as_told(&rt, row);
     }
+    check(&rt, rows.len() == 8, "eight cases");
 }
 
-/// The record is of this group, version and handle, and of the table of version 3.
-fn is_record(rt: &impl Host, found: &GroupRecord, group: u8, version: u32, handle: u8) {
-    check(rt, found.group.get() == group, "the group");
-    check(rt, found.version.get() == version, "the version");
-    check(rt, found.table == 3, "the version of the table");
-    check_text(rt, found.handle.as_bytes(), &[handle; 32]);
-}
-
-/// There are two records, of these groups, versions and handles.
+/// There are two records, of these groups, versions and handles, and of the table of version 3.
 fn are_records(rt: &impl Host, records: &[GroupRecord], wanted: [(u8, u32, u8); 2]) {
     check(rt, records.len() == 2, "two records");
-    for (found, (group, version, handle)) in records.iter().zip(wanted) {
-        is_record(rt, found, group, version, handle);
+    for (found, wanted) in records.iter().zip(wanted) {
+        let [handle, ..] = *found.handle.as_bytes();
+        let is = (found.group.get(), found.version.get(), handle) == wanted && found.table == 3;
+        check(rt, is, "the group, its version, and that of the table");
+        check_text(rt, found.handle.as_bytes(), &[handle; 32]);
     }
 }
 
-/// A structure with records of groups 64 and 65, of 189 bytes.
-fn structure_of_two(rt: &impl Host) -> Vec<u8> {
-    let plan = plan(rt, 1, 1, &[7; 32], RAISED, b"\0");
+/// A structure with records of groups 64 and 65 has 189 bytes.
+#[test]
+fn records_of_two_groups(rt: HostRuntime) {
+    let rt = (rt, Here);
+    let vector = b"\x05\0\0\0\0\x04\x01\0\0\0\x01\x02\0\0\0\x01\x40\0\0\0\x01\x41\0\0\0\x03";
+    let plan = plan(&rt, 1, 1, &[7; 32], vector, b"\0");
     let pieces: [&[u8]; 7] = [
         b"SVS1\0\x44",
         &plan,
@@ -155,37 +113,24 @@ fn structure_of_two(rt: &impl Host) -> Vec<u8> {
         b"\x41\0\0\0\x03\0\0\0\x03",
         &[9; 32],
     ];
-    joined(rt, &pieces)
-}
-
-#[test]
-fn records_of_two_groups(rt: HostRuntime) {
-    let rt = (rt, Here);
-    let text = structure_of_two(&rt);
+    let text = joined(&rt, &pieces);
     check(&rt, text.len() == 189, "the size of the structure");
     let structure = Structure::read(rt.alloc(), &text).expect(&rt, "a structure");
-    let records = structure.groups().as_slice();
-    are_records(&rt, records, [(64, 1, 8), (65, 3, 9)]);
+    are_records(&rt, structure.groups().as_slice(), [(64, 1, 8), (65, 3, 9)]);
     let_go(structure);
-}
-
-/// The state of a group at a version, of a handle of 32 times this byte, by the table of version 3.
-fn state_of(rt: &impl Host, group: u8, version: u32, handle: u8) -> GroupRecord {
-    GroupRecord {
-        group: Group::new(group).expect(rt, "a group"),
-        version: Version::new(version).expect(rt, "a version"),
-        table: 3,
-        handle: Digest::from_bytes([handle; 32]),
-    }
 }
 
 #[test]
 fn records_are_set(rt: HostRuntime) {
     let rt = (rt, Here);
     let mut records = GroupRecords::new(rt.alloc());
-    let states = [(70, 1, 5), (64, 2, 6), (70, 9, 7)];
-    for (group, version, handle) in states {
-        let state = state_of(&rt, group, version, handle);
+    for (group, version, handle) in [(70, 1, 5), (64, 2, 6), (70, 9, 7)] {
+        let state = GroupRecord {
+            group: Group::new(group).expect(&rt, "a group"),
+            version: Version::new(version).expect(&rt, "a version"),
+            table: 3,
+            handle: Digest::from_bytes([handle; 32]),
+        };
         records.set(state).expect(&rt, "memory");
     }
     are_records(&rt, records.as_slice(), [(64, 2, 6), (70, 9, 7)]);

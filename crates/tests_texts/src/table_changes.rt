@@ -1,6 +1,6 @@
 //! Changes of the table: their bytes, what they make of a table, and which have no effect.
 
-use crate::faults::CERT;
+use crate::faults::{CERT, is_spelled};
 use crate::here::Here;
 use layout::{Digest, Group, Text, User, Version, let_go};
 use lms_sign::PublicKey;
@@ -52,14 +52,6 @@ fn first(rt: &impl Host) -> Cert<Global> {
     cert_of(rt, User::superuser(), 1, &changes)
 }
 
-/// The text of user 0's first certificate.
-fn first_text(rt: &impl Host) -> Vec<u8> {
-    let first = first(rt);
-    let text = first.text(rt.alloc()).expect(rt, "memory");
-    let_go(first);
-    text
-}
-
 /// Each change is one of the table.
 fn are_of_table(rt: &impl Host, changes: &[Change<Global>]) {
     for change in changes {
@@ -82,7 +74,9 @@ fn text_of_the_tables_changes(rt: HostRuntime) {
         b"\x08\x40\x02",
     ];
     let by_hand = joined(&rt, &pieces);
-    check_text(&rt, &first_text(&rt), &by_hand);
+    let first = first(&rt);
+    is_spelled(&rt, &first, &by_hand);
+    let_go(first);
     let again: Cert<Global> = Cert::read(rt.alloc(), &by_hand).expect(&rt, "a certificate");
     are_of_table(&rt, again.changes());
     let_go(again);
@@ -96,7 +90,6 @@ fn applied(rt: &impl Host, table: &mut Table<Global>, cert: &Cert<Global>, void:
 
 /// The bytes of the table, with this row of a member.
 fn check_table(rt: &impl Host, table: &Table<Global>, row: &[u8; 10]) {
-    let text = table.text(rt.alloc()).expect(rt, "memory");
     let wanted: [&[u8]; 6] = [
         b"SPT1\x02\0\0\0\0\0",
         PINNED,
@@ -105,28 +98,22 @@ fn check_table(rt: &impl Host, table: &Table<Global>, row: &[u8; 10]) {
         b"\0\x01",
         row,
     ];
-    check_text(rt, &text, &joined(rt, &wanted));
+    let text = joined(rt, &wanted);
     assert!(rt; text.len() == 139);
+    is_spelled(rt, table, &text);
 }
 
-/// The table after user 0's second operation, told without changing the one before.
-fn after_second_drop(rt: &impl Host, table: &Table<Global>, second: &Cert<Global>) {
-    let after = table_after(rt.alloc(), table, second).expect(rt, "memory");
-    check_table(
-        rt,
-        &after.expect(rt, "a table"),
-        b"\x40\x01\0\0\0\x01\0\0\0\x02",
-    );
+/// The table after an operation, told without changing the one before, has this row: none where nothing changes.
+fn after(rt: &impl Host, table: &Table<Global>, cert: &Cert<Global>, row: Option<&[u8; 10]>) {
+    let after = table_after(rt.alloc(), table, cert).expect(rt, "memory");
+    match (after, row) {
+        (Some(after), Some(row)) => check_table(rt, &after, row),
+        (None, None) => {}
+        _ => panic!(rt; "another change of the table"),
+    }
 }
 
 /// Another user's changes leave the table as it was.
-fn others_drop_nobody(rt: &impl Host, table: &mut Table<Global>, others: &Cert<Global>) {
-    applied(rt, table, others, &[1, 2]);
-    check_table(rt, table, b"\x40\x01\0\0\0\x01\0\0\0\0");
-    let after = table_after(rt.alloc(), table, others).expect(rt, "memory");
-    assert!(rt; after.is_none());
-}
-
 #[test]
 fn table_of_three_operations(rt: HostRuntime) {
     let rt = (rt, Here);
@@ -135,9 +122,12 @@ fn table_of_three_operations(rt: HostRuntime) {
     applied(&rt, &mut table, &first(&rt), &[3, 4]);
     check_table(&rt, &table, b"\x40\x01\0\0\0\x01\0\0\0\0");
     let dropped = [TableChange::DropMember(group, one); 2];
-    others_drop_nobody(&rt, &mut table, &cert_of(&rt, one, 1, &dropped));
+    let others = cert_of(&rt, one, 1, &dropped);
+    applied(&rt, &mut table, &others, &[1, 2]);
+    check_table(&rt, &table, b"\x40\x01\0\0\0\x01\0\0\0\0");
+    after(&rt, &table, &others, None);
     let second = cert_of(&rt, User::superuser(), 2, &dropped);
-    after_second_drop(&rt, &table, &second);
+    after(&rt, &table, &second, Some(b"\x40\x01\0\0\0\x01\0\0\0\x02"));
     applied(&rt, &mut table, &second, &[2]);
     assert!(rt; table.is_member(group, one, 1) && !table.is_member(group, one, 2));
 }
