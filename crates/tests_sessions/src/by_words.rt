@@ -3,8 +3,7 @@
 
 use crate::here::Here;
 use crate::town::{town_of_one, town_of_three};
-use crate::words::{Digits, all_end, keys_of};
-use tests_aids::Aided;
+use crate::words::all_end;
 
 /// Files of user 0: i-numbers 1 and 2 are the table of principals and the root directory.
 const FILES: &str = "\
@@ -194,50 +193,18 @@ const GROUPS: &str = "\
 0 ls / -> 0
 ";
 
-/// The commands of a table of user 0, who is alone, end as stands beside them.
-fn ends_alone(rt: &impl Aided, table: &str) {
-    let mut town = town_of_one(rt);
-    all_end(rt, &mut town, &Digits::none(rt), table);
-}
-
-/// The commands of a table end as stands beside them.
-fn ends_among_others(rt: &impl Aided, table: &str) {
-    let mut town = town_of_three(rt);
-    let digits = keys_of(rt, &town);
-    all_end(rt, &mut town, &digits, table);
+#[test]
+fn commands_of_one(rt: HostRuntime) {
+    let rt = (rt, Here);
+    for table in [FILES, DIRECTORIES, NO_PATHS, LINKS, ENTRIES] {
+        all_end(&rt, &mut town_of_one(&rt), table);
+    }
 }
 
 #[test]
-fn files(rt: HostRuntime) {
-    ends_alone(&(rt, Here), FILES);
-}
-
-#[test]
-fn directories(rt: HostRuntime) {
-    ends_alone(&(rt, Here), DIRECTORIES);
-}
-
-#[test]
-fn no_paths(rt: HostRuntime) {
-    ends_alone(&(rt, Here), NO_PATHS);
-}
-
-#[test]
-fn links(rt: HostRuntime) {
-    ends_alone(&(rt, Here), LINKS);
-}
-
-#[test]
-fn entries(rt: HostRuntime) {
-    ends_alone(&(rt, Here), ENTRIES);
-}
-
-#[test]
-fn users(rt: HostRuntime) {
-    ends_among_others(&(rt, Here), USERS);
-}
-
-#[test]
-fn groups(rt: HostRuntime) {
-    ends_among_others(&(rt, Here), GROUPS);
+fn commands_of_several(rt: HostRuntime) {
+    let rt = (rt, Here);
+    for table in [USERS, GROUPS] {
+        all_end(&rt, &mut town_of_three(&rt), table);
+    }
 }

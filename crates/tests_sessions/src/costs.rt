@@ -5,9 +5,9 @@ use crate::files::blocks_of;
 use crate::here::Here;
 use crate::operations::{Many, make_many};
 use crate::town::{Town, town_of_one, town_of_three};
-use crate::words::{Digits, ends, keys_of, run_words};
+use crate::words::{all_end, ends, is_end, run};
 use commands::Command;
-use tests_aids::{Aided, check, check_text, given};
+use tests_aids::{Aided, check, given};
 use wire::RequestKind;
 
 /// A commit again, then the look: the certificate, four blocks of the table of principals (the root of user 0's
@@ -34,129 +34,76 @@ const INODE: usize = 1;
 const AGAIN: usize = 4 + INODE;
 
 /// Users 0 and 1 are listed, the root directory has a file, and each of both has a process behind it.
-const BEGINNING: [(&str, &str); 3] = [
-    ("0", "adduser 1 KEY1"),
-    ("0", "put /first FILE"),
-    ("1", "ls /"),
-];
+const BEGINNING: &str = "\
+0 adduser 1 KEY1 -> 0 done|
+0 put /first FILE < first -> 0 done|
+1 ls / -> 0 first 0:3|
+";
 
-/// The town after the beginning, and the digits of its keys.
-fn settled(rt: &impl Aided) -> (Town, Digits) {
+/// The town after the beginning.
+fn settled(rt: &impl Aided) -> Town {
     let mut town = town_of_three(rt);
-    let digits = keys_of(rt, &town);
-    for (user, words) in &BEGINNING {
-        costs_any(rt, &mut town, &digits, user, words, b"first");
-    }
-    (town, digits)
+    all_end(rt, &mut town, BEGINNING);
+    town
 }
 
-/// A process of a user carries a command out with status 0: how many exchanges it had.
-fn costs_any(
-    rt: &impl Aided,
-    town: &mut Town,
-    digits: &Digits,
-    user: &str,
-    words: &str,
-    content: &[u8],
-) -> usize {
-    let outcome = run_words(rt, town, digits, user, words, content);
-    if outcome.status != 0 {
-        rt.fail(format_args!("{words}: {:?}", outcome.printed));
-    }
-    outcome.sent.len()
-}
-
-/// It had so many exchanges.
-fn costs(
-    rt: &impl Aided,
-    town: &mut Town,
-    digits: &Digits,
-    (user, words): (&str, &str),
-    content: &[u8],
-    exchanges: usize,
-) {
-    let found = costs_any(rt, town, digits, user, words, content);
-    if found != exchanges {
-        rt.fail(format_args!("{words}: {found} and not {exchanges}"));
+/// A process carries a command out with status 0, and has so many exchanges.
+fn costs(rt: &impl Aided, town: &mut Town, command: &str, content: &[u8], exchanges: usize) {
+    let outcome = run(rt, town, command, content);
+    let found = town.sent(rt).len();
+    if outcome.status != 0 || found != exchanges {
+        let status = outcome.status;
+        rt.fail(format_args!("{command}: {status}, {found} and not {exchanges}"));
     }
 }
 
 #[test]
 fn of_looks(rt: HostRuntime) {
     let rt = (rt, Here);
-    let (mut town, digits) = settled(&rt);
-    costs(&rt, &mut town, &digits, ("0", "ls /"), b"", LOOK + ROOT);
-    costs(&rt, &mut town, &digits, ("1", "ls /"), b"", LOOK + ROOT);
-    let file = blocks_of(&rt, 3);
-    costs_any(&rt, &mut town, &digits, "0", "put /f FILE", &file);
-    costs(
+    let mut town = settled(&rt);
+    for command in ["0 ls /", "1 ls /"] {
+        costs(&rt, &mut town, command, b"", LOOK + ROOT);
+    }
+    let _exchanges = ends(
         &rt,
         &mut town,
-        &digits,
-        ("0", "cat /f"),
-        b"",
-        LOOK + ROOT + INODE + 3,
+        "0 put /f FILE",
+        &blocks_of(&rt, 3),
+        "0 done|",
     );
-    costs(
-        &rt,
-        &mut town,
-        &digits,
-        ("1", "cat /f"),
-        b"",
-        LOOK + ROOT + INODE + 3,
-    );
+    for command in ["0 cat /f", "1 cat /f"] {
+        costs(&rt, &mut town, command, b"", LOOK + ROOT + INODE + 3);
+    }
 }
 
 /// What is new takes its blocks, an i-node and a name.
 #[test]
 fn of_what_is_new(rt: HostRuntime) {
     let rt = (rt, Here);
-    let (mut town, digits) = settled(&rt);
+    let mut town = settled(&rt);
     let most = LOOK + ROOT + INODE + OPERATION + TABLE + DIRECTORY;
     for blocks in [0, 1, 3] {
+        let command = format!(in rt.alloc(); "0 put /f{blocks} FILE");
+        let command = given(&rt, command, "memory");
         let file = blocks_of(&rt, blocks);
-        let words = given(&rt, format!(in rt.alloc(); "put /f{blocks} FILE"), "memory");
-        let exchanges = most + usize::from(blocks);
-        costs(
-            &rt,
-            &mut town,
-            &digits,
-            ("0", words.as_str()),
-            &file,
-            exchanges,
-        );
+        costs(&rt, &mut town, &command, &file, most + usize::from(blocks));
     }
     // An empty directory is known from the beginning.
-    costs(
-        &rt,
-        &mut town,
-        &digits,
-        ("0", "mkdir /d"),
-        b"",
-        most - INODE,
-    );
+    costs(&rt, &mut town, "0 mkdir /d", b"", most - INODE);
 }
 
 /// What is replaced or removed isn't read, but for its i-node: the largest file costs no more than any other.
 #[test]
 fn of_what_is_old(rt: HostRuntime) {
     let rt = (rt, Here);
-    let (mut town, digits) = settled(&rt);
-    let (large, small) = (blocks_of(&rt, 1024), blocks_of(&rt, 1));
-    costs_any(&rt, &mut town, &digits, "0", "put /f FILE", &large);
+    let mut town = settled(&rt);
+    let large = blocks_of(&rt, 1024);
+    let put = "0 put /f FILE";
+    let _exchanges = ends(&rt, &mut town, put, &large, "0 done|");
     let most = LOOK + ROOT + INODE + OPERATION + TABLE;
-    let put = ("0", "put /f FILE");
-    costs(&rt, &mut town, &digits, put, &small, most + INODE + 1);
-    let largest = most + INODE + 1024 + AGAIN;
-    costs(&rt, &mut town, &digits, put, &large, largest);
-    costs(
-        &rt,
-        &mut town,
-        &digits,
-        ("0", "rm /f"),
-        b"",
-        most + DIRECTORY,
-    );
+    costs(&rt, &mut town, put, &blocks_of(&rt, 1), most + INODE + 1);
+    costs(&rt, &mut town, put, &large, most + INODE + 1024 + AGAIN);
+    costs(&rt, &mut town, "0 rm /f", b"", most + DIRECTORY);
 }
 
 /// A new file of one block in a directory of one block.
@@ -171,33 +118,31 @@ const MORE_BLOCKS: usize = 2;
 #[test]
 fn of_a_long_directory(rt: HostRuntime) {
     let rt = (rt, Here);
-    let (mut town, digits) = settled(&rt);
+    let mut town = settled(&rt);
     make_many(&rt, &mut town, Many::Names, 1000, (1, 9));
-    let put = ("0", "put /new FILE");
-    costs(&rt, &mut town, &digits, put, b"new", NEW);
+    costs(&rt, &mut town, "0 put /new FILE", b"new", NEW);
     make_many(&rt, &mut town, Many::Names, 1009, (61, 16));
     make_many(&rt, &mut town, Many::Names, 1985, (1, 13));
-    let put = ("0", "put /newer FILE");
     costs(
         &rt,
         &mut town,
-        &digits,
-        put,
+        "0 put /newer FILE",
         b"newer",
         NEW + 2 * MORE_BLOCKS,
     );
-    lists(&rt, &mut town, &digits, 1001);
+    check(&rt, names(&rt, &mut town) == 1001, "so many names");
 }
 
-/// The root directory has so many names.
-fn lists(rt: &impl Aided, town: &mut Town, digits: &Digits, names: usize) {
-    let outcome = run_words(rt, town, digits, "0", "ls /", b"");
-    let lines = outcome
-        .printed
-        .iter()
-        .filter(|byte| **byte == b'\n')
-        .count();
-    check(rt, lines == names, "so many names");
+/// How many names the root directory has.
+fn names(rt: &impl Aided, town: &mut Town) -> usize {
+    let outcome = run(rt, town, "0 ls /", b"");
+    let mut names = 0usize;
+    for byte in &outcome.printed {
+        if *byte == b'\n' {
+            names = names.saturating_add(1);
+        }
+    }
+    names
 }
 
 /// Where something stands at each i-number of a chunk of 64, the next chunk is asked for, too, and stored beside the
@@ -205,12 +150,10 @@ fn lists(rt: &impl Aided, town: &mut Town, digits: &Digits, names: usize) {
 #[test]
 fn of_a_full_chunk(rt: HostRuntime) {
     let rt = (rt, Here);
-    let (mut town, digits) = settled(&rt);
+    let mut town = settled(&rt);
     make_many(&rt, &mut town, Many::Files, 4, (4, 16));
-    let put = ("0", "put /new FILE");
-    costs(&rt, &mut town, &digits, put, b"new", NEW + 2);
-    let outcome = run_words(&rt, &mut town, &digits, "0", "ls /", b"");
-    check_text(&rt, &outcome.printed, b"first 0:3\nnew 0:68\n");
+    costs(&rt, &mut town, "0 put /new FILE", b"new", NEW + 2);
+    all_end(&rt, &mut town, "0 ls / -> 0 first 0:3|new 0:68|");
 }
 
 /// What the second command of a session sends: it has nothing to finish, and asks for what the first one stored, the two
@@ -234,11 +177,8 @@ fn of_a_second_command(rt: HostRuntime) {
         content: b"hello",
     };
     let (first, second) = town.run_both(&rt, (&put, &Command::Cat("/f")));
-    ends(&rt, &first, "put", 0, "done|");
-    ends(&rt, &second, "cat", 0, "hello");
-    check(
-        &rt,
-        second.sent.as_slice().ends_with(&SECOND),
-        "six exchanges, four of them for blocks",
-    );
+    is_end(&rt, &first, "put", "0 done|");
+    is_end(&rt, &second, "cat", "0 hello");
+    let is_short = town.sent(&rt).ends_with(&SECOND);
+    check(&rt, is_short, "six exchanges, four of them for blocks");
 }

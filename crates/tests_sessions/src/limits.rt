@@ -3,7 +3,7 @@
 use crate::files::blocks_of;
 use crate::here::Here;
 use crate::town::{Town, town_of_one};
-use crate::words::{ends, run_of_0};
+use crate::words::{ends, run};
 use tests_aids::texts::joined;
 use tests_aids::{Aided, check, check_text, given};
 
@@ -21,9 +21,8 @@ fn the_largest_file_is_put_and_read(rt: HostRuntime) {
     let rt = (rt, Here);
     let mut town = town_of_one(&rt);
     let file = blocks_of(&rt, MOST);
-    let outcome = run_of_0(&rt, &mut town, "put /f FILE", &file);
-    ends(&rt, &outcome, "put", 0, "done|");
-    let outcome = run_of_0(&rt, &mut town, "cat /f", b"");
+    let _requests = ends(&rt, &mut town, "0 put /f FILE", &file, "0 done|");
+    let outcome = run(&rt, &mut town, "0 cat /f", b"");
     check(&rt, outcome.status == 0, "it is read");
     check(&rt, outcome.printed == file, "the same bytes");
 }
@@ -32,15 +31,13 @@ fn the_largest_file_is_put_and_read(rt: HostRuntime) {
 fn a_larger_file_is_refused_at_once(rt: HostRuntime) {
     let rt = (rt, Here);
     let mut town = town_of_one(&rt);
-    let outcome = run_of_0(&rt, &mut town, "put /f FILE", b"hello");
-    ends(&rt, &outcome, "put", 0, "done|");
+    let put = "0 put /f FILE";
+    let _requests = ends(&rt, &mut town, put, b"hello", "0 done|");
     let before = devices_of_0(&rt, &town);
     let mut file = blocks_of(&rt, MOST);
     given(&rt, file.push(0), "memory");
-    let outcome = run_of_0(&rt, &mut town, "put /f FILE", &file);
-    ends(&rt, &outcome, "put", 4, "too large|");
-    check(&rt, outcome.sent.is_empty(), "nothing was sent");
+    let requests = ends(&rt, &mut town, put, &file, "4 too large|");
+    check(&rt, requests == 0, "nothing was sent");
     check_text(&rt, &devices_of_0(&rt, &town), &before);
-    let outcome = run_of_0(&rt, &mut town, "put //f FILE", &file);
-    ends(&rt, &outcome, "put", 4, "no path|");
+    let _requests = ends(&rt, &mut town, "0 put //f FILE", &file, "4 no path|");
 }

@@ -6,7 +6,6 @@ use client_tree::Held;
 use consistency_server::{MemoryLog, Ordered};
 use layout::Digest;
 use std::alloc::Global;
-use std::mem;
 use transport::{Request, Transport, TransportError};
 use tree_parts::Blocks;
 use wire::{RequestKind, Status};
@@ -40,7 +39,6 @@ struct Honest {
 /// A server in memory, the kinds of the requests that it was sent, and how often the way to it failed.
 #[derive(Drop)]
 pub(crate) struct MemoryServer {
-    alloc: Global,
     honest: Honest,
     trouble: Trouble,
     sent: Vec<RequestKind>,
@@ -131,7 +129,6 @@ impl MemoryServer {
     ) -> MemoryServer {
         let blocks = Held::empty(alloc);
         MemoryServer {
-            alloc,
             honest: Honest {
                 alloc,
                 ordered,
@@ -150,9 +147,14 @@ impl MemoryServer {
         self.sent.clear();
     }
 
-    /// The kinds of the requests that it was sent since this was asked, the one at which the way failed included.
-    pub(crate) fn take_sent(&mut self) -> Vec<RequestKind> {
-        mem::replace(&mut self.sent, Vec::new(self.alloc))
+    /// What it was sent before counts no more.
+    pub(crate) fn forget(&mut self) {
+        self.sent.clear();
+    }
+
+    /// The kinds of the requests that it was sent and that count, the one at which the way failed included.
+    pub(crate) fn sent(&self) -> &[RequestKind] {
+        &self.sent
     }
 }
 

@@ -92,13 +92,6 @@ fn operate(
     end(rt, client, Status::Ok);
 }
 
-/// What a client committed last is committed again, as it is when it is opened.
-fn commit_again(rt: &impl Aided, client: &mut MemoryClient, server: &mut MemoryServer) {
-    let last = structure(rt, client);
-    let _nothing = answered(rt, server, RequestKind::Commit, &last);
-    end(rt, client, Status::Ok);
-}
-
 /// What the changes of an operation do, each with a number.
 #[derive(Clone, Copy)]
 pub(crate) enum Many {
@@ -142,7 +135,10 @@ pub(crate) fn make_many(
     let kept = town.leave_home(rt, 0);
     let mut server = town.leave_server(rt);
     let mut client = open_over(rt, User::superuser(), town.pinned, kept);
-    commit_again(rt, &mut client, &mut server);
+    // What it committed last is committed again, as it is when it is opened.
+    let last = structure(rt, &client);
+    let _nothing = answered(rt, &mut server, RequestKind::Commit, &last);
+    end(rt, &mut client, Status::Ok);
     let mut next = first;
     for _operation in 0..operations {
         let end = next.saturating_add(each);

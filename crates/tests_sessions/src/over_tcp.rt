@@ -3,8 +3,8 @@
 
 use crate::files::blocks_of;
 use crate::here::Here;
-use crate::town::{Outcome, Town, town_of_one, town_of_three};
-use crate::words::{Digits, ends, keys_of, run_words_over};
+use crate::town::{Town, town_of_three};
+use crate::words::{is_end, row_of, run_over};
 use block_store::Store;
 use connection::Socket;
 use layout::let_go;
@@ -21,22 +21,19 @@ use tests_aids::given;
 use tests_client_aids::clients::first_key;
 use transport::Framed;
 
-/// A user, the words of a command, the content of the file that it puts, and the status and the text of its end.
-type Row = (&'static str, &'static str, &'static str, u8, &'static str);
-
 /// User 1 owns no file in user 0's directory.
-static ROWS: [Row; 7] = [
-    ("0", "put /f FILE", "hello", 0, "done|"),
-    ("0", "put /empty FILE", "", 0, "done|"),
-    ("0", "cat /empty", "", 0, ""),
-    ("0", "adduser 1 KEY1", "", 0, "done|"),
-    ("1", "rm /f", "", 1, "lost 1 2|"),
-    ("1", "cat /f", "", 0, "hello"),
-    ("1", "ls /", "", 0, "empty 0:4|f 0:3|"),
-];
+const ROWS: &str = "\
+0 put /f FILE < hello -> 0 done|
+0 put /empty FILE -> 0 done|
+0 cat /empty -> 0
+0 adduser 1 KEY1 -> 0 done|
+1 rm /f -> 1 lost 1 2|
+1 cat /f -> 0 hello
+1 ls / -> 0 empty 0:4|f 0:3|
+";
 
-/// As many processes come as there are rows.
-const PROCESSES: u32 = 7;
+/// As many processes come as there are rows, and two with large files.
+const PROCESSES: u32 = 9;
 
 /// A connection to the server.
 fn connected<R: Alloc<A = Global> + Abort + Net<Listener = TcpListener, Stream = TcpStream>>(
@@ -49,67 +46,61 @@ fn connected<R: Alloc<A = Global> + Abort + Net<Listener = TcpListener, Stream =
     Framed::new(rt.alloc(), socket).expect(rt, "memory")
 }
 
-/// A user's process carries out what these words say over a connection of its own.
-fn run_there<R: Alloc<A = Global> + Abort + Net<Listener = TcpListener, Stream = TcpStream>>(
+/// A process carries out what these words say over a connection of its own, and ends so.
+fn ends_there<R: Alloc<A = Global> + Abort + Net<Listener = TcpListener, Stream = TcpStream>>(
     rt: &R,
     address: SocketAddr,
     town: &mut Town,
-    digits: &Digits,
-    command: (&str, &str),
+    command: &str,
     content: &[u8],
-) -> Outcome {
+    end: &str,
+) {
     let host = &(rt, Here);
     let framed = connected(rt, address);
-    let (outcome, framed) = run_words_over(host, town, digits, command, content, framed);
+    let (outcome, framed) = run_over(host, town, command, content, framed);
     let_go(framed);
-    outcome
+    is_end(host, &outcome, command, end);
 }
 
-/// Each row ends as stands in it.
-fn rows<R: Alloc<A = Global> + Abort + Net<Listener = TcpListener, Stream = TcpStream>>(
+/// Each row ends as stands in it. Then the largest file is put, and one with a byte more is refused.
+fn processes<R: Alloc<A = Global> + Abort + Net<Listener = TcpListener, Stream = TcpStream>>(
     rt: &R,
     address: SocketAddr,
 ) {
     let host = &(rt, Here);
     let mut town = town_of_three(host);
-    let digits = keys_of(host, &town);
-    for (user, words, content, status, printed) in &ROWS {
-        let content = content.as_bytes();
-        let outcome = run_there(rt, address, &mut town, &digits, (user, words), content);
-        ends(host, &outcome, words, *status, printed);
+    for row in ROWS.lines() {
+        let (command, content, end) = row_of(host, row);
+        ends_there(rt, address, &mut town, command, content, end);
     }
-}
-
-/// The largest file is put, and one with a byte more is refused.
-fn large_files<R: Alloc<A = Global> + Abort + Net<Listener = TcpListener, Stream = TcpStream>>(
-    rt: &R,
-    address: SocketAddr,
-) {
-    let host = &(rt, Here);
-    let mut town = town_of_one(host);
-    let digits = Digits::none(host);
     let mut file = blocks_of(host, 1024);
-    let put = ("0", "put /large FILE");
-    let outcome = run_there(rt, address, &mut town, &digits, put, &file);
-    ends(host, &outcome, "put", 0, "done|");
+    let put = "0 put /large FILE";
+    ends_there(rt, address, &mut town, put, &file, "0 done|");
     given(host, file.push(0), "memory");
-    let outcome = run_there(rt, address, &mut town, &digits, put, &file);
-    ends(host, &outcome, "put", 4, "too large|");
+    ends_there(rt, address, &mut town, put, &file, "4 too large|");
 }
 
-/// Serves so many processes: whether all that was placed and committed was logged.
+/// Serves as many processes as come: whether all that was placed and committed was logged.
 fn serves<R: Alloc<A = Global> + Abort + Clock + Threads + Wait + Sync>(
     rt: &R,
     listener: &TcpListener,
-    most: u32,
     pinned: PublicKey,
 ) -> bool {
     let alloc = rt.alloc();
     let store = Store::new(alloc).expect(rt, "memory");
     let log = Vec::new(alloc);
     let mut fault = None;
-    let connections = Accepted::new(rt, listener, most, &mut fault);
-    let served = serve(rt, alloc, &OpenGate, connections, most, &store, pinned, log);
+    let connections = Accepted::new(rt, listener, PROCESSES, &mut fault);
+    let served = serve(
+        rt,
+        alloc,
+        &OpenGate,
+        connections,
+        PROCESSES,
+        &store,
+        pinned,
+        log,
+    );
     let served = served.expect(rt, "memory");
     let flushed = served.flushed;
     let_go(served);
@@ -118,27 +109,14 @@ fn serves<R: Alloc<A = Global> + Abort + Clock + Threads + Wait + Sync>(
 }
 
 #[test]
-fn commands_over_tcp(rt: HostRuntime) {
+fn commands_and_large_files_over_tcp(rt: HostRuntime) {
     let pinned = first_key(&(&rt, Here));
     let listener = TcpListener::bind(&rt, "127.0.0.1:0").expect(&rt, "a port");
     let address = listener.local_addr().expect(&rt, "its address");
     let (flushed, ()) = thread::join(
         &rt,
-        || serves(&rt, &listener, PROCESSES, pinned),
-        || rows(&rt, address),
-    );
-    assert!(rt; flushed, "the log is written");
-}
-
-#[test]
-fn large_files_over_tcp(rt: HostRuntime) {
-    let pinned = first_key(&(&rt, Here));
-    let listener = TcpListener::bind(&rt, "127.0.0.1:0").expect(&rt, "a port");
-    let address = listener.local_addr().expect(&rt, "its address");
-    let (flushed, ()) = thread::join(
-        &rt,
-        || serves(&rt, &listener, 2, pinned),
-        || large_files(&rt, address),
+        || serves(&rt, &listener, pinned),
+        || processes(&rt, address),
     );
     assert!(rt; flushed, "the log is written");
 }

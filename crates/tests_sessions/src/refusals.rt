@@ -4,61 +4,48 @@
 use crate::here::Here;
 use crate::memory::Trouble;
 use crate::town::{Town, town_of_one, town_of_three};
-use crate::words::{Digits, all_end, ends, keys_of, run_of_0};
-use client_verify::Parts;
+use crate::words::{all_end, ends, is_end};
 use commands::Command;
+use layout::put_in;
 use lms_sign::PrivateKey;
 use std::alloc::Global;
 use tests_aids::texts::{
     FIRST_HANDLE, certificate, joined, key_of, named, plan, signed, structure,
 };
 use tests_aids::{Aided, check, given};
-use tests_client_aids::clients::{Kept, device_of};
+use tests_client_aids::clients::device_of;
 use wire::RequestKind;
 
-/// What is kept, with this as the text of the ledger behind the key.
-fn with_ledger(rt: &impl Aided, kept: Kept, key: &[u8], leaves: u8) -> Kept {
-    let Parts {
-        key: own,
-        ledger: _,
-        journal,
-    } = kept;
-    let text = joined(rt, &[key, &[leaves; 1024]]);
-    Parts {
-        key: own,
-        ledger: device_of(rt, &text),
-        journal,
-    }
-}
-
-/// User 0's process lists the root directory, and ends so.
-fn lists(rt: &impl Aided, town: &mut Town, status: u8, printed: &str) {
-    let outcome = run_of_0(rt, town, "ls /", b"");
-    ends(rt, &outcome, "ls", status, printed);
+/// User 0's process is opened over a ledger of a key with these leaves.
+fn with_ledger(rt: &impl Aided, town: &mut Town, key: &[u8], leaves: u8) {
+    let ledger = device_of(rt, &joined(rt, &[key, &[leaves; 1024]]));
+    put_in(&mut town.home_of_0(rt).ledger, ledger);
 }
 
 #[test]
 fn no_leaf_is_free(rt: HostRuntime) {
     let rt = (rt, Here);
     let mut town = town_of_one(&rt);
-    lists(&rt, &mut town, 0, "");
-    let kept = town.leave_home(&rt, 0);
-    let key = kept.key.public();
-    town.come_home(0, with_ledger(&rt, kept, key.as_bytes(), 1));
-    lists(&rt, &mut town, 4, "no leaf|");
+    all_end(&rt, &mut town, "0 ls / -> 0");
+    let key = town.pinned;
+    with_ledger(&rt, &mut town, key.as_bytes(), 1);
+    all_end(&rt, &mut town, "0 ls / -> 4 no leaf|");
 }
 
 /// How many calls an opening makes of a new ledger.
 const CALLS_OF_OPENING: u64 = 5;
 
+/// User 0's ledger fails once its next client is open.
+fn with_failing_ledger(rt: &impl Aided) -> Town {
+    let mut town = town_of_one(rt);
+    town.home_of_0(rt).ledger.fail_after(CALLS_OF_OPENING);
+    town
+}
+
 #[test]
 fn the_ledger_fails(rt: HostRuntime) {
     let rt = (rt, Here);
-    let mut town = town_of_one(&rt);
-    let mut kept = town.leave_home(&rt, 0);
-    kept.ledger.fail_after(CALLS_OF_OPENING);
-    town.come_home(0, kept);
-    lists(&rt, &mut town, 4, "device|");
+    all_end(&rt, &mut with_failing_ledger(&rt), "0 ls / -> 4 device|");
 }
 
 /// A device fails in the first command of a session. The second one is told so at once, and nothing is sent for either.
@@ -66,41 +53,27 @@ fn the_ledger_fails(rt: HostRuntime) {
 #[test]
 fn a_failed_session_goes_on_with_nothing(rt: HostRuntime) {
     let rt = (rt, Here);
-    let mut town = town_of_one(&rt);
-    let mut kept = town.leave_home(&rt, 0);
-    kept.ledger.fail_after(CALLS_OF_OPENING);
-    town.come_home(0, kept);
+    let mut town = with_failing_ledger(&rt);
     let (first, second) = town.run_both(&rt, (&Command::Ls("/"), &Command::Cat("/f")));
-    ends(&rt, &first, "ls", 4, "device|");
-    ends(&rt, &second, "cat", 4, "device|");
-    check(&rt, second.sent.is_empty(), "nothing is sent");
-    lists(&rt, &mut town, 0, "");
+    is_end(&rt, &first, "ls", "4 device|");
+    is_end(&rt, &second, "cat", "4 device|");
+    check(&rt, town.sent(&rt).is_empty(), "nothing is sent");
+    all_end(&rt, &mut town, "0 ls / -> 0");
 }
 
 #[test]
 fn another_keys_ledger(rt: HostRuntime) {
     let rt = (rt, Here);
     let mut town = town_of_one(&rt);
-    let kept = town.leave_home(&rt, 0);
     let other = key_of(&rt, 1).public();
-    town.come_home(0, with_ledger(&rt, kept, other.as_bytes(), 0));
-    lists(&rt, &mut town, 4, "foreign|");
+    with_ledger(&rt, &mut town, other.as_bytes(), 0);
+    all_end(&rt, &mut town, "0 ls / -> 4 foreign|");
 }
 
 /// User 0's process is opened over a journal with this text.
 fn with_journal(rt: &impl Aided, town: &mut Town, text: &[u8]) {
-    let Parts {
-        key,
-        ledger,
-        journal: _,
-    } = town.leave_home(rt, 0);
     let journal = device_of(rt, text);
-    let kept = Parts {
-        key,
-        ledger,
-        journal,
-    };
-    town.come_home(0, kept);
+    put_in(&mut town.home_of_0(rt).journal, journal);
 }
 
 #[test]
@@ -108,12 +81,14 @@ fn damaged_journals(rt: HostRuntime) {
     let rt = (rt, Here);
     let mut town = town_of_three(&rt);
     with_journal(&rt, &mut town, b"\x01\x07");
-    lists(&rt, &mut town, 4, "damaged|");
-    let digits = keys_of(&rt, &town);
-    all_end(&rt, &mut town, &digits, "1 ls / -> 3 declined 2|\n");
+    all_end(
+        &rt,
+        &mut town,
+        "0 ls / -> 4 damaged|\n1 ls / -> 3 declined 2|\n",
+    );
     let other = joined(&rt, &[town.home(&rt, 1).journal.text()]);
     with_journal(&rt, &mut town, &other);
-    lists(&rt, &mut town, 4, "damaged|");
+    all_end(&rt, &mut town, "0 ls / -> 4 damaged|");
 }
 
 /// A journal's gate that is open, the record of this kind behind it, which is a signed text, and its size before that.
@@ -141,7 +116,7 @@ fn last_journal(rt: &impl Aided, key: &PrivateKey<Global>) -> Vec<u8> {
     )
 }
 
-/// After the operation of the last number, which the server takes, there is no further one.
+/// After the operation of the last number, which the server takes, there is no further one. The commit alone is sent.
 #[test]
 fn no_further_number(rt: HostRuntime) {
     let rt = (rt, Here);
@@ -149,27 +124,28 @@ fn no_further_number(rt: HostRuntime) {
     let journal = last_journal(&rt, &town.home(&rt, 0).key);
     with_journal(&rt, &mut town, &journal);
     town.set(&rt, Trouble::Lies(RequestKind::Commit, &[0]));
-    let outcome = run_of_0(&rt, &mut town, "ls /", b"");
-    ends(&rt, &outcome, "ls", 4, "no number|");
-    check(&rt, outcome.sent.len() == 1, "the commit alone is sent");
+    all_end(&rt, &mut town, "0 ls / -> 4 no number| # 1");
 }
 
-/// User 0 makes something at each i-number of its own in a group, which are 1 to 63. What is to be made without an
-/// i-number in words has none there.
+/// Where all i-numbers are taken, what is to be made without one in words has none there.
+const FULL: &str = "\
+0 mkdir @64:1/d -> 4 no number|
+0 put @64:1/f FILE < f -> 4 no number|
+0 rm @64:63 -> 0 done|
+0 mkdir @64:1/d -> 0 done|
+0 ls @64:1 -> 0 d 64:63|
+";
+
+/// User 0 makes something at each i-number of its own in a group, which are 1 to 63.
 #[test]
 fn no_number_is_free(rt: HostRuntime) {
     let rt = (rt, Here);
     let mut town = town_of_one(&rt);
-    let digits = Digits::none(&rt);
-    all_end(&rt, &mut town, &digits, "0 addmember 64 0 -> 0 done|\n");
+    all_end(&rt, &mut town, "0 addmember 64 0 -> 0 done|");
     for number in 1..64u8 {
-        let words = format!(in rt.alloc(); "mkdir @64:{number}");
-        let words = given(&rt, words, "memory");
-        let outcome = run_of_0(&rt, &mut town, &words, b"");
-        ends(&rt, &outcome, "mkdir", 0, "done|");
+        let command = format!(in rt.alloc(); "0 mkdir @64:{number}");
+        let command = given(&rt, command, "memory");
+        let _requests = ends(&rt, &mut town, &command, b"", "0 done|");
     }
-    let full = "0 mkdir @64:1/d -> 4 no number|\n0 put @64:1/f FILE < f -> 4 no number|\n";
-    all_end(&rt, &mut town, &digits, full);
-    let again = "0 rm @64:63 -> 0 done|\n0 mkdir @64:1/d -> 0 done|\n0 ls @64:1 -> 0 d 64:63|\n";
-    all_end(&rt, &mut town, &digits, again);
+    all_end(&rt, &mut town, FULL);
 }

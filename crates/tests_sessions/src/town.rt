@@ -7,7 +7,7 @@ use client_verify::ClientError;
 use commands::{Answer, Command};
 use consistency_server::{MemoryLog, Ordered};
 use file_session::{Resumed, Session, refusal_of};
-use layout::User;
+use layout::{User, put_in};
 use leaf_ledger::MemoryDevice;
 use lms_sign::PublicKey;
 use std::alloc::Global;
@@ -38,8 +38,6 @@ pub(crate) struct Outcome {
     pub(crate) printed: Vec<u8>,
     /// Its status.
     pub(crate) status: u8,
-    /// The kinds of the requests that it sent, where the server is in memory.
-    pub(crate) sent: Vec<RequestKind>,
 }
 
 /// A server at the beginning.
@@ -100,28 +98,17 @@ fn answer_text(rt: &impl Aided, answer: &Answer<Global>) -> Vec<u8> {
     }
 }
 
-/// Carries a command out: what is printed of it, and its status.
-fn carry_out<T: Transport<Global>>(
-    rt: &impl Aided,
-    session: &mut MemorySession<T>,
-    command: &Command<'_>,
-) -> (Vec<u8>, u8) {
-    let answer = session.run(command);
-    (answer_text(rt, &answer), answer.status())
-}
-
 /// What a session ends a command with.
 fn ended<T: Transport<Global>>(
     rt: &impl Aided,
     session: &mut MemorySession<T>,
     command: &Command<'_>,
 ) -> Outcome {
-    let (printed, status) = carry_out(rt, session, command);
+    let answer = session.run(command);
     Outcome {
         resumed: resumed_text(rt, session.resumed()),
-        printed,
-        status,
-        sent: Vec::new(rt.alloc()),
+        printed: answer_text(rt, &answer),
+        status: answer.status(),
     }
 }
 
@@ -145,7 +132,6 @@ fn unopened(rt: &impl Aided, error: ClientError) -> Outcome {
         resumed: Vec::new(rt.alloc()),
         printed: answer_text(rt, &answer),
         status: answer.status(),
-        sent: Vec::new(rt.alloc()),
     }
 }
 
@@ -155,24 +141,24 @@ impl Town {
         found(rt, self.server.as_mut(), "the server").set(trouble);
     }
 
-    /// Takes the server, for a process.
+    /// Takes the server, for a process. What it was sent before counts no more.
     pub(crate) fn leave_server(&mut self, rt: &impl Aided) -> MemoryServer {
-        found(rt, self.server.take(), "the server")
+        let mut server = found(rt, self.server.take(), "the server");
+        server.forget();
+        server
     }
 
-    /// Puts the server back, and forgets what it was sent meanwhile.
+    /// Puts the server back.
     pub(crate) fn bring_back(&mut self, server: MemoryServer) {
-        let mut server = server;
-        let _sent = server.take_sent();
-        self.server = Some(server);
+        put_in(&mut self.server, Some(server));
     }
 
-    /// Puts the server back after a process, and adds to what that ended with what it sent.
-    pub(crate) fn come_back(&mut self, outcome: Outcome, server: MemoryServer) -> Outcome {
-        let (mut outcome, mut server) = (outcome, server);
-        outcome.sent = server.take_sent();
-        self.server = Some(server);
-        outcome
+    /// The kinds of the requests that the server was sent since it was taken, or since this is wrong with it.
+    pub(crate) fn sent(&self, rt: &impl Aided) -> &[RequestKind] {
+        match &self.server {
+            Some(server) => server.sent(),
+            None => rt.fail("the server is away"),
+        }
     }
 
     /// What a user keeps, while no process of its has it.
@@ -180,6 +166,16 @@ impl Town {
         match self.homes.get(user) {
             Some(Some(kept)) => kept,
             _ => rt.fail("none of these users"),
+        }
+    }
+
+    /// What user 0 keeps, to be changed while no process of its has it.
+    pub(crate) fn home_of_0(&mut self, rt: &impl Aided) -> &mut Kept {
+        let homes = &mut self.homes;
+        let homes = &mut homes[..];
+        match homes.first_mut() {
+            Some(Some(kept)) => kept,
+            _ => rt.fail("a process has it"),
         }
     }
 
@@ -194,7 +190,7 @@ impl Town {
     /// Puts back what a user keeps.
     pub(crate) fn come_home(&mut self, user: usize, kept: Kept) {
         if let Some(home) = self.homes.get_mut(user) {
-            *home = Some(kept);
+            put_in(home, Some(kept));
         }
     }
 
@@ -221,8 +217,7 @@ impl Town {
         }
     }
 
-    /// One session of user 0 carries out both commands over the server in memory: what each ends with, and what was
-    /// sent for both.
+    /// One session of user 0 carries out both commands over the server in memory: what each ends with.
     pub(crate) fn run_both(
         &mut self,
         rt: &impl Aided,
@@ -236,6 +231,7 @@ impl Town {
         let second = ended(rt, &mut session, other);
         let (client, server) = session.close();
         self.come_home(0, closed(client));
-        (first, self.come_back(second, server))
+        self.bring_back(server);
+        (first, second)
     }
 }

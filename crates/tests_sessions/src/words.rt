@@ -1,82 +1,29 @@
-//! Commands by their words, and what they end with, as rows of a table.
+//! Commands by their words, and what they end with, as rows of a table. The words of a command stand behind the number
+//! of its user.
 
+use crate::memory::Trouble;
 use crate::town::{Outcome, Town};
 use commands::Command;
 use file_commands::{Line, Wanted};
 use layout::User;
 use std::alloc::Global;
-use tests_aids::{Aided, found, given};
+use tests_aids::texts::joined;
+use tests_aids::{Aided, check, found, given};
 use transport::Transport;
 
-/// What stands in a row between a command and what it ends with.
-const ARROW: &str = " -> ";
+/// What stands before the number of the user.
+const OPTIONS: &str = "sundr --dir home --server here:1 --user";
 
-/// What stands between the words of a command and the content of the file that it puts.
-const CONTENT: &str = " < ";
-
-/// What stands in words for the key of user 1, and of user 2.
-const KEYS: [&str; 2] = ["KEY1", "KEY2"];
-
-/// The hexadecimal digits of the keys of users 1 and 2.
-#[derive(Drop)]
-pub(crate) struct Digits {
-    one: String,
-    two: String,
-}
-
-/// The digits of a user's key.
-fn digits_of(rt: &impl Aided, town: &Town, user: usize) -> String {
+/// The text of a command line. What stands for the key of user 1 or 2 is `KEY1` or `KEY2`, the last word.
+fn line_text(rt: &impl Aided, town: &Town, command: &str) -> String {
+    let Some((before, user)) = command.split_once(" KEY") else {
+        return given(rt, format!(in rt.alloc(); "{OPTIONS} {command}"), "memory");
+    };
+    let user = given(rt, user.parse::<usize>(), "a user");
     let key = town.home(rt, user).key.public();
-    given(rt, hex::encode(rt.alloc(), key.as_bytes()), "memory")
-}
-
-/// The digits of the keys of users 1 and 2.
-pub(crate) fn keys_of(rt: &impl Aided, town: &Town) -> Digits {
-    Digits {
-        one: digits_of(rt, town, 1),
-        two: digits_of(rt, town, 2),
-    }
-}
-
-impl Digits {
-    /// No user but 0 is there.
-    pub(crate) fn none(rt: &impl Aided) -> Digits {
-        Digits {
-            one: String::new(rt.alloc()),
-            two: String::new(rt.alloc()),
-        }
-    }
-
-    /// A word, where what stands for a key is the key.
-    fn word<'a>(&'a self, word: &'a str) -> &'a str {
-        let [one, two] = KEYS;
-        if word == one {
-            self.one.as_str()
-        } else if word == two {
-            self.two.as_str()
-        } else {
-            word
-        }
-    }
-}
-
-/// The words of a command line of a user.
-fn words_of<'a>(
-    rt: &impl Aided,
-    digits: &'a Digits,
-    user: &'a str,
-    words: &'a str,
-) -> Vec<&'a str> {
-    let mut line = Vec::new(rt.alloc());
-    for word in [
-        "sundr", "--dir", "home", "--server", "here:1", "--user", user,
-    ] {
-        given(rt, line.push(word), "memory");
-    }
-    for word in words.split(' ') {
-        given(rt, line.push(digits.word(word)), "memory");
-    }
-    line
+    let digits = given(rt, hex::encode(rt.alloc(), key.as_bytes()), "memory");
+    let text = format!(in rt.alloc(); "{OPTIONS} {before} {digits}");
+    given(rt, text, "memory")
 }
 
 /// A user's process puts this content at a path, over this transport.
@@ -105,90 +52,114 @@ fn run_line<'a, T: Transport<Global>>(
     }
 }
 
-/// A user's process carries out what these words say over this transport, with this as the content of the file that it
-/// puts.
-pub(crate) fn run_words_over<'a, T: Transport<Global>>(
+/// A process carries out what these words say over this transport, with this as the content of the file that it puts.
+pub(crate) fn run_over<T: Transport<Global>>(
     rt: &impl Aided,
     town: &mut Town,
-    digits: &'a Digits,
-    (user, words): (&'a str, &'a str),
-    content: &'a [u8],
+    command: &str,
+    content: &[u8],
     transport: T,
 ) -> (Outcome, T) {
-    let line = words_of(rt, digits, user, words);
-    match &Line::read(rt.alloc(), &line) {
+    let text = line_text(rt, town, command);
+    let mut words = Vec::new(rt.alloc());
+    for word in text.split(' ') {
+        given(rt, words.push(word), "memory");
+    }
+    match &Line::read(rt.alloc(), &words) {
         Ok(line) => run_line(rt, town, line, content, transport),
-        Err(error) => rt.fail(format_args!("{words}: {error}")),
+        Err(error) => rt.fail(format_args!("{command}: {error}")),
     }
 }
 
-/// A user's process does so over the server in memory.
-pub(crate) fn run_words<'a>(
+/// A process does so over the server in memory.
+pub(crate) fn run(rt: &impl Aided, town: &mut Town, command: &str, content: &[u8]) -> Outcome {
+    let server = town.leave_server(rt);
+    let (outcome, server) = run_over(rt, town, command, content, server);
+    town.bring_back(server);
+    outcome
+}
+
+/// A text with a bar for each end of a line.
+pub(crate) fn on_one_line(rt: &impl Aided, text: &[u8]) -> Vec<u8> {
+    let mut line = Vec::new(rt.alloc());
+    for byte in text {
+        let byte = if *byte == b'\n' { b'|' } else { *byte };
+        given(rt, line.push(byte), "memory");
+    }
+    line
+}
+
+/// The process of a command ended with this status, and behind it with what it printed, first of an operation that it
+/// finished.
+pub(crate) fn is_end(rt: &impl Aided, outcome: &Outcome, command: &str, end: &str) {
+    let status = outcome.status;
+    let mut text = given(rt, format!(in rt.alloc(); "{status}"), "memory");
+    if !outcome.resumed.is_empty() || !outcome.printed.is_empty() {
+        given(rt, text.push(' '), "memory");
+    }
+    let parts: [&[u8]; 3] = [text.as_bytes(), &outcome.resumed, &outcome.printed];
+    let line = on_one_line(rt, &joined(rt, &parts));
+    if line.as_slice() != end.as_bytes() {
+        let line = std::str::from_utf8(&line).unwrap_or("no text");
+        rt.fail(format_args!("{command}: {line}"));
+    }
+}
+
+/// The process of a command ends so: how many requests it sent.
+pub(crate) fn ends(
     rt: &impl Aided,
     town: &mut Town,
-    digits: &'a Digits,
-    user: &'a str,
-    words: &'a str,
-    content: &'a [u8],
-) -> Outcome {
-    let server = town.leave_server(rt);
-    let (outcome, server) = run_words_over(rt, town, digits, (user, words), content, server);
-    town.come_back(outcome, server)
+    command: &str,
+    content: &[u8],
+    end: &str,
+) -> usize {
+    let outcome = run(rt, town, command, content);
+    is_end(rt, &outcome, command, end);
+    town.sent(rt).len()
 }
 
-/// User 0's process does the same.
-pub(crate) fn run_of_0(rt: &impl Aided, town: &mut Town, words: &str, content: &[u8]) -> Outcome {
-    let digits = Digits::none(rt);
-    run_words(rt, town, &digits, "0", words, content)
+/// The words of a command, the content of the file that it puts, and what it ends with.
+pub(crate) fn row_of<'a>(rt: &impl Aided, row: &'a str) -> (&'a str, &'a [u8], &'a str) {
+    let (command, end) = found(rt, row.split_once(" -> "), "a command and its end");
+    let (command, content) = command.split_once(" < ").unwrap_or((command, ""));
+    (command, content.as_bytes(), end)
 }
 
-/// A command of a row: its user, its words, and the content of the file that it puts.
-fn run_row(rt: &impl Aided, town: &mut Town, digits: &Digits, command: &str) -> Outcome {
-    let (user, rest) = found(rt, command.split_once(' '), "a user");
-    let (words, content) = match rest.split_once(CONTENT) {
-        Some((words, content)) => (words, content),
-        None => (rest, ""),
-    };
-    run_words(rt, town, digits, user, words, content.as_bytes())
-}
-
-/// These texts, one after the other, with a bar for each end of a line.
-pub(crate) fn on_one_line(rt: &impl Aided, parts: &[&[u8]]) -> Vec<u8> {
-    let mut text = Vec::new(rt.alloc());
-    for part in parts {
-        for byte in *part {
-            let byte = if *byte == b'\n' { b'|' } else { *byte };
-            given(rt, text.push(byte), "memory");
+/// The command of a row ends as stands behind it, and sends as many requests, if that stands there.
+fn row_ends(rt: &impl Aided, town: &mut Town, row: &str) {
+    let (command, content, end) = row_of(rt, row);
+    match end.split_once(" # ") {
+        Some((end, requests)) => {
+            let requests = given(rt, requests.parse::<usize>(), "a number");
+            check(rt, ends(rt, town, command, content, end) == requests, row);
+        }
+        None => {
+            let _requests = ends(rt, town, command, content, end);
         }
     }
-    text
 }
 
-/// A process printed this, first what it says of an operation that it finished, and ended with this status.
-pub(crate) fn ends(rt: &impl Aided, outcome: &Outcome, row: &str, status: u8, printed: &str) {
-    let text = on_one_line(rt, &[&outcome.resumed, &outcome.printed]);
-    if outcome.status != status || text.as_slice() != printed.as_bytes() {
-        let found = outcome.status;
-        let text = std::str::from_utf8(&text).unwrap_or("no text");
-        rt.fail(format_args!("{row}: {found} {text}"));
+/// What is wrong with the server from a row on, which has a word and a number of requests.
+fn trouble_of(rt: &impl Aided, row: &str) -> Trouble {
+    let (word, number) = row.split_once(' ').unwrap_or((row, "0"));
+    let number = given(rt, number.parse::<usize>(), "a number");
+    match word {
+        "nothing" => Trouble::Nothing,
+        "lost" => Trouble::Lost(number),
+        "memory" => Trouble::NoMemory(number),
+        "absent" => Trouble::LiesAt(number, b"\x08"),
+        "another" => Trouble::LiesAt(number, b"\0another"),
+        _ => rt.fail(format_args!("{row}: no trouble")),
     }
 }
 
-/// The command of a row ends with its status, and prints what stands behind that, if something does.
-fn row(rt: &impl Aided, town: &mut Town, digits: &Digits, row: &str) {
-    let (command, end) = found(rt, row.split_once(ARROW), "a command and its end");
-    let (status, printed) = match end.split_once(' ') {
-        Some((status, printed)) => (status, printed),
-        None => (end, ""),
-    };
-    let status = given(rt, status.parse::<u8>(), "a status");
-    let outcome = run_row(rt, town, digits, command);
-    ends(rt, &outcome, row, status, printed);
-}
-
-/// Each command of the table ends as stands beside it.
-pub(crate) fn all_end(rt: &impl Aided, town: &mut Town, digits: &Digits, table: &str) {
-    for line in table.lines() {
-        row(rt, town, digits, line);
+/// Each command of a table ends as stands behind it. A row that begins with `~` says what is wrong with the server from
+/// then on.
+pub(crate) fn all_end(rt: &impl Aided, town: &mut Town, table: &str) {
+    for row in table.lines() {
+        match row.strip_prefix("~ ") {
+            Some(trouble) => town.set(rt, trouble_of(rt, trouble)),
+            None => row_ends(rt, town, row),
+        }
     }
 }
