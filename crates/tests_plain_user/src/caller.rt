@@ -9,7 +9,7 @@ use thiserror::Error;
 use wire::{BODY_LIMIT, FrameError, Frames, RequestKind, Status, reply_of, request_frame};
 
 /// Why a request has no reply, or was never made.
-#[derive(Clone, Copy, Debug, PartialEq, Eq, Error)]
+#[derive(Clone, Copy, Debug, Error)]
 pub enum CallError {
     #[error("the connection failed, or ended")]
     Lost,

@@ -6,20 +6,20 @@ ghost use Rattle.lms_sign.specs.Keys.{public_key_of};
 use crate::caller::CallError;
 use layout::Memory;
 use leaf_ledger::{Ledger, LedgerError, MemoryDevice};
-use lms_sign::{PrivateKey, PublicKey, sign};
-use std::alloc::Allocator;
+use lms_sign::{PrivateKey, sign};
+use std::alloc::Global;
 
 /// A key that signs with one leaf after another. Its ledger lies in memory, so that nothing of it is left afterwards.
 #[derive(Drop)]
-pub struct Signer<A: Allocator + Copy> {
-    key: PrivateKey<A>,
-    ledger: Ledger<MemoryDevice<A>>,
+pub(crate) struct Signer {
+    pub(crate) key: PrivateKey<Global>,
+    ledger: Ledger<MemoryDevice<Global>>,
     ghost own: { ledger.key ≡ public_key_of key.seed key.id },
 }
 
-impl<A: Allocator + Copy> Signer<A> {
+impl Signer {
     /// A key of which no leaf is used.
-    pub fn new(alloc: A, key: PrivateKey<A>) -> Result<Signer<A>, Memory> {
+    pub(crate) fn new(alloc: Global, key: PrivateKey<Global>) -> Result<Signer, Memory> {
         let device = MemoryDevice::new(alloc, Vec::new(alloc))?;
         match Ledger::open(device, &key.public()) {
             Ok(ledger) => Ok(Signer { key, ledger }),
@@ -28,13 +28,8 @@ impl<A: Allocator + Copy> Signer<A> {
         }
     }
 
-    /// Its public key.
-    pub fn public(&self) -> PublicKey {
-        self.key.public()
-    }
-
     /// The signature of a text by the next leaf.
-    pub fn sign(&mut self, text: &[u8]) -> Result<[u8; 2508], CallError> {
+    pub(crate) fn sign(&mut self, text: &[u8]) -> Result<[u8; 2508], CallError> {
         if !self.ledger.usable() {
             return Err(CallError::Memory);
         }

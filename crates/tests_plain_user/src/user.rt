@@ -2,7 +2,7 @@
 
 use crate::caller::{CallError, Caller};
 use crate::signer::Signer;
-use layout::{Memory, Text, digest};
+use layout::{Memory, Text, digest, let_go};
 use lms_sign::{PrivateKey, PublicKey};
 use pending_list::Reply;
 use std::alloc::Global;
@@ -17,7 +17,7 @@ const TRIES: u32 = 1_000_000;
 pub struct PlainUser {
     alloc: Global,
     user: u8,
-    signer: Signer<Global>,
+    signer: Signer,
     number: u32,
     /// The digest of its last structure.
     last: [u8; 32],
@@ -29,6 +29,22 @@ pub struct PlainUser {
 fn size_of(text: &[u8]) -> [u8; 2] {
     let [.., high, low] = text.len().to_be_bytes();
     [high, low]
+}
+
+/// The text of the last plan of the lists with which an UPDATE was answered.
+fn last_plan(alloc: Global, lists: &[u8]) -> Result<Vec<u8>, CallError> {
+    let Ok(lists) = Reply::read(alloc, lists) else {
+        return Err(CallError::Form);
+    };
+    let plan = match lists.pending().last() {
+        Some(own) => Some(own.plan().text(alloc)),
+        None => None,
+    };
+    let_go(lists);
+    match plan {
+        Some(plan) => Ok(plan?),
+        None => Err(CallError::Form),
+    }
 }
 
 impl PlainUser {
@@ -47,7 +63,7 @@ impl PlainUser {
 
     /// Its public key.
     pub fn public(&self) -> PublicKey {
-        self.signer.public()
+        self.signer.key.public()
     }
 
     /// How often a call of its operations was answered Busy, and sent again.
@@ -76,13 +92,7 @@ impl PlainUser {
     /// The structure over the last plan of the lists with which an UPDATE was answered, with a handle of zeros and no
     /// records.
     pub fn structure(&mut self, lists: &[u8]) -> Result<Vec<u8>, CallError> {
-        let Ok(lists) = Reply::read(self.alloc, lists) else {
-            return Err(CallError::Form);
-        };
-        let Some(own) = lists.pending().last() else {
-            return Err(CallError::Form);
-        };
-        let plan = own.plan().text(self.alloc)?;
+        let plan = last_plan(self.alloc, lists)?;
         let signed = self.signed(&[b"SVS1", &size_of(&plan), &plan, &[0; 32], &[0]])?;
         let text = &signed[..signed.len().saturating_sub(2508)];
         self.last = *digest(text).as_bytes();

@@ -2,19 +2,14 @@
 
 ghost use Rattle.block_store.specs.Blocks.{IsOf};
 
-use crate::by_hand::Host;
+use crate::requests::EMPTY;
+use crate::serving::Host;
 use block_store::{BLOCK_LIMIT, BlockPass, Store, StoreError};
 use layout::Digest;
 use std::alloc::Global;
 use std::sync::Wait;
 use std::thread;
 use std::thread::Threads;
-
-/// The SHA-256 of no bytes (FIPS 180-4's own vector).
-const EMPTY: [u8; 32] = [
-    0xe3, 0xb0, 0xc4, 0x42, 0x98, 0xfc, 0x1c, 0x14, 0x9a, 0xfb, 0xf4, 0xc8, 0x99, 0x6f, 0xb9, 0x24,
-    0x27, 0xae, 0x41, 0xe4, 0x64, 0x9b, 0x93, 0x4c, 0xa4, 0x95, 0x99, 0x1b, 0x78, 0x52, 0xb8, 0x55,
-];
 
 /// What the store answers to a block: the digest of its pass.
 fn put<R: Wait>(rt: &R, store: &Store<Global>, bytes: &[u8]) -> Result<Digest, StoreError> {
@@ -24,29 +19,25 @@ fn put<R: Wait>(rt: &R, store: &Store<Global>, bytes: &[u8]) -> Result<Digest, S
     }
 }
 
-/// Whether the store finds these bytes for the digest.
-fn finds<R: Wait>(rt: &R, store: &Store<Global>, digest: Digest, bytes: &[u8]) -> bool {
-    match store.find(rt, digest) {
-        Some(pass) => store.get_by_pass(&pass) == bytes && pass.digest() == digest,
-        None => false,
-    }
-}
-
 /// Whether the store gives these bytes for the digest, as a copy and by a pass.
 fn gives<R: Wait>(rt: &R, store: &Store<Global>, digest: Digest, bytes: &[u8]) -> bool {
+    let is_found = match store.find(rt, digest) {
+        Some(pass) => store.get_by_pass(&pass) == bytes && pass.digest() == digest,
+        None => false,
+    };
     match store.fetch(rt, digest) {
-        Ok(Some(block)) => block.as_slice() == bytes && finds(rt, store, digest, bytes),
+        Ok(Some(block)) => is_found && block.as_slice() == bytes,
         Ok(None) | Err(_) => false,
     }
 }
 
 /// Whether the store has no block of this digest.
-fn lacks(rt: &impl Host, store: &Store<Global>, digest: Digest) -> bool {
+fn lacks<R: Host>(rt: &R, store: &Store<Global>, digest: Digest) -> bool {
     store.find(rt, digest).is_none() && store.fetch(rt, digest).expect(rt, "memory").is_none()
 }
 
 /// Whether a block is put under this digest, and given.
-fn takes(rt: &impl Host, store: &Store<Global>, digest: Digest, bytes: &[u8]) -> bool {
+fn takes<R: Wait>(rt: &R, store: &Store<Global>, digest: Digest, bytes: &[u8]) -> bool {
     put(rt, store, bytes) == Ok(digest) && gives(rt, store, digest, bytes)
 }
 
@@ -75,46 +66,19 @@ fn the_empty_block_is_found(rt: HostRuntime) {
 }
 
 /// A block of so many bytes, which begins with a number where it has room for it.
-fn sized(alloc: Global, size: usize, number: u8) -> Result<Vec<u8>, StoreError> {
-    let Ok(mut bytes) = Vec::from_elem(alloc, 0x5a_u8, size) else {
-        return Err(StoreError::Memory);
-    };
+fn block<R: Host>(rt: &R, size: usize, number: u8) -> Vec<u8> {
+    let mut bytes = Vec::from_elem(rt.alloc(), 0x5a_u8, size).expect(rt, "memory");
     if let Some(first) = bytes.first_mut() {
         *first = number;
     }
-    Ok(bytes)
+    bytes
 }
 
-/// The same, where the test fails without memory.
-fn block(rt: &impl Host, size: usize, number: u8) -> Vec<u8> {
-    sized(rt.alloc(), size, number).expect(rt, "memory")
-}
-
-/// Whether the block of this size and number is given.
-fn gives_sized(rt: &impl Host, store: &Store<Global>, size: usize, number: u8) -> bool {
-    let bytes = block(rt, size, number);
-    gives(rt, store, layout::digest(&bytes), &bytes)
-}
-
-#[test]
-fn the_largest_block_passes(rt: HostRuntime) {
-    let store = Store::new(rt.alloc()).expect(&rt, "memory");
-    let mut bytes = Vec::from_elem(rt.alloc(), 7_u8, 32_779).expect(&rt, "memory");
-    let digest = layout::digest(&bytes);
-    assert!(rt; takes(&rt, &store, digest, &bytes), "32,779 bytes");
-    bytes.push(7).expect(&rt, "memory");
-    assert!(rt;
-        put(&rt, &store, &bytes) == Err(StoreError::TooLarge),
-        "32,780 bytes"
-    );
-    assert!(rt; BLOCK_LIMIT == 32_779, "the limit");
-}
-
-/// The sizes at which blocks of the file system begin or end, and those beside them.
+/// The sizes at which blocks of the file system begin or end, and those beside them, up to the largest.
 static SIZES: [usize; 9] = [0, 1, 999, 1_000, 4_095, 4_096, 4_097, 32_778, 32_779];
 
 /// Puts the block of this size and number. It isn't there before, but for the empty one, which has no number.
-fn put_sized(rt: &impl Host, store: &Store<Global>, size: usize, number: u8) {
+fn put_sized<R: Host>(rt: &R, store: &Store<Global>, size: usize, number: u8) {
     let bytes = block(rt, size, number);
     let digest = layout::digest(&bytes);
     assert!(rt;
@@ -124,14 +88,18 @@ fn put_sized(rt: &impl Host, store: &Store<Global>, size: usize, number: u8) {
     assert!(rt; takes(rt, store, digest, &bytes), "{size} bytes, put");
 }
 
-/// The blocks of this size are given, with each of these numbers.
-fn gives_numbers(rt: &impl Host, store: &Store<Global>, size: usize, numbers: &[u8]) {
-    for number in numbers {
-        assert!(rt;
-            gives_sized(rt, store, size, *number),
-            "{size} bytes, number {number}"
-        );
+/// How many of the blocks of all sizes with these numbers are given.
+fn given<R: Host>(rt: &R, store: &Store<Global>, numbers: &[u8]) -> u32 {
+    let mut found = 0u32;
+    for size in SIZES.iter().rev() {
+        for number in numbers {
+            let bytes = block(rt, *size, *number);
+            if gives(rt, store, layout::digest(&bytes), &bytes) {
+                found = found.wrapping_add(1);
+            }
+        }
     }
+    found
 }
 
 #[test]
@@ -143,9 +111,7 @@ fn blocks_of_all_sizes_are_found(rt: HostRuntime) {
         }
     }
     // After all of them, in the other order.
-    for size in SIZES.iter().rev() {
-        gives_numbers(&rt, &store, *size, &[0, 1, 2]);
-    }
+    assert_eq!(rt; given(&rt, &store, &[0, 1, 2]), 27);
 }
 
 /// Sizes of blocks that are too large, up to that of the largest frame.
@@ -153,6 +119,7 @@ static TOO_LARGE: [usize; 4] = [32_780, 32_781, 65_536, 2_097_151];
 
 #[test]
 fn larger_blocks_are_refused(rt: HostRuntime) {
+    assert!(rt; BLOCK_LIMIT == 32_779, "the limit");
     let store = Store::new(rt.alloc()).expect(&rt, "memory");
     for size in &TOO_LARGE {
         let bytes = block(&rt, *size, 1);
@@ -166,40 +133,25 @@ fn larger_blocks_are_refused(rt: HostRuntime) {
 }
 
 /// Puts a block of each size and number, and then fetches all of them. Tells how many came as they were put.
-fn fill_sizes<R: Wait>(rt: &R, alloc: Global, store: &Store<Global>, numbers: [u8; 4]) -> u32 {
-    let mut found = 0u32;
+fn fill_sizes<R: Host>(rt: &R, store: &Store<Global>, numbers: &[u8]) -> u32 {
     for size in &SIZES {
         for number in numbers {
-            if let Ok(bytes) = sized(alloc, *size, number) {
-                let _put = put(rt, store, &bytes);
-            }
+            let _put = put(rt, store, &block(rt, *size, *number));
         }
     }
-    for size in &SIZES {
-        for number in numbers {
-            if let Ok(bytes) = sized(alloc, *size, number) {
-                if gives(rt, store, layout::digest(&bytes), &bytes) {
-                    found = found.wrapping_add(1);
-                }
-            }
-        }
-    }
-    found
+    given(rt, store, numbers)
 }
 
 #[test]
 fn two_threads_put_blocks_of_all_sizes(rt: HostRuntime) {
-    let alloc = rt.alloc();
-    let store = Store::new(alloc).expect(&rt, "memory");
+    let store = Store::new(rt.alloc()).expect(&rt, "memory");
     let (first, second) = thread::join(
         &rt,
-        || fill_sizes(&rt, alloc, &store, [1, 2, 3, 4]),
-        || fill_sizes(&rt, alloc, &store, [3, 4, 5, 6]),
+        || fill_sizes(&rt, &store, &[1, 2, 3, 4]),
+        || fill_sizes(&rt, &store, &[3, 4, 5, 6]),
     );
     assert_eq!(rt; (first, second), (36, 36));
-    for size in &SIZES {
-        gives_numbers(&rt, &store, *size, &[1, 2, 3, 4, 5, 6]);
-    }
+    assert_eq!(rt; given(&rt, &store, &[1, 2, 3, 4, 5, 6]), 54);
 }
 
 /// Puts the blocks of these numbers and fetches each. Tells how many came as they were put.
@@ -207,10 +159,8 @@ fn fill<R: Wait>(rt: &R, store: &Store<Global>, from: u32, to: u32) -> u32 {
     let mut found = 0u32;
     for number in from..to {
         let bytes = number.to_be_bytes();
-        if let Ok(digest) = put(rt, store, &bytes) {
-            if gives(rt, store, digest, &bytes) {
-                found = found.wrapping_add(1);
-            }
+        if takes(rt, store, layout::digest(&bytes), &bytes) {
+            found = found.wrapping_add(1);
         }
     }
     found
@@ -233,23 +183,25 @@ fn two_threads_put_and_fetch(rt: HostRuntime) {
     }
 }
 
-/// A block that is put again keeps its number, and others come after it.
-#[test]
-fn a_block_has_one_number(rt: HostRuntime) {
-    let store = Store::new(rt.alloc()).expect(&rt, "memory");
-    let first = store.put(&rt, b"one").expect(&rt, "memory");
-    let other = store.put(&rt, b"two").expect(&rt, "memory");
-    let again = store.put(&rt, b"one").expect(&rt, "memory");
+/// A block that is put again keeps its number, and another one has the next.
+fn put_again<R: Host>(rt: &R, store: &Store<Global>) {
+    let first = store.put(rt, b"one").expect(rt, "memory");
+    let other = store.put(rt, b"two").expect(rt, "memory");
+    let again = store.put(rt, b"one").expect(rt, "memory");
     assert_eq!(rt; (first.index(), other.index(), again.index()), (0, 1, 0));
     if first.index() == again.index() {
         store.agree(&first, &again);
     }
+}
+
+#[test]
+fn a_block_has_one_number(rt: HostRuntime) {
+    let store = Store::new(rt.alloc()).expect(&rt, "memory");
+    put_again(&rt, &store);
     assert!(rt; store.get_at(0) == Some(b"one".as_slice()), "the first");
     assert!(rt; store.get_at(1) == Some(b"two".as_slice()), "the second");
     assert!(rt; store.get_at(2).is_none(), "no third");
-    let Some(pass) = store.pass_at(1) else {
-        panic!(rt; "no pass of the second")
-    };
+    let pass = store.pass_at(1).expect(&rt, "a pass of the second");
     assert!(rt;
         store.get_by_pass(&pass) == b"two".as_slice(),
         "by its pass"

@@ -4,7 +4,8 @@ ghost use Rattle.std.specs.Prelude.{◌≡◌, [], true};
 ghost use Rattle.crossbeam_queue.specs.Passes.{IsPassOf, ruled_capacity};
 ghost use Rattle.server_workers.specs.Hands.{hand, hand_of};
 
-use crate::requests::{REPLIES, REQUESTS, append, joined, key, put_frame};
+use crate::requests::{REPLIES, REQUESTS, joined, put_frame};
+use crate::serving::key;
 use block_store::Store;
 use connection::{Connection, MemoryConnection};
 use layout::digest;
@@ -52,7 +53,7 @@ fn converse_once<G: Gate, C: Connection, W: Write + Drop, B: ServerName, L: Ledg
     (ended, tally.answered(), flusher.into_writer())
 }
 
-/// The same over a queue of its own.
+/// The same over a queue of its own: how it ends, how many calls are answered, and the log.
 pub(crate) fn conversed<G: Gate, C: Connection, W: Write + Drop, R: Host>(
     rt: &R,
     gate: &G,
@@ -69,18 +70,8 @@ pub(crate) fn conversed<G: Gate, C: Connection, W: Write + Drop, R: Host>(
     )
 }
 
-/// A conversation over these bytes, of which five come at a time: how it ends, how many calls are answered, and what
-/// is replied. Nothing is logged.
-fn conversation<G: Gate, R: Host>(rt: &R, gate: &G, input: &[u8]) -> (Ended, u64, Vec<u8>) {
-    let mut output = Vec::new(rt.alloc());
-    let mut connection = MemoryConnection::new(input, 5, &mut output);
-    let log = Vec::new(rt.alloc());
-    let (ended, answered, log) = conversed(rt, gate, key(rt), &mut connection, log);
-    assert!(rt; log.is_empty(), "nothing was logged");
-    (ended, answered, output)
-}
-
-/// A conversation over these bytes through a gate is replied this, ends like this, and has so many calls answered.
+/// A conversation over these bytes, of which five come at a time, through a gate is replied this, ends like this, and
+/// has so many calls answered. Nothing is logged.
 fn converses_through<G: Gate, R: Host>(
     rt: &R,
     gate: &G,
@@ -89,8 +80,12 @@ fn converses_through<G: Gate, R: Host>(
     how: Ended,
     calls: u64,
 ) {
-    let (ended, answered, output) = conversation(rt, gate, input);
+    let mut output = Vec::new(rt.alloc());
+    let mut connection = MemoryConnection::new(input, 5, &mut output);
+    let log = Vec::new(rt.alloc());
+    let (ended, answered, log) = conversed(rt, gate, key(rt), &mut connection, log);
     assert_eq!(rt; (ended, answered), (how, calls));
+    assert!(rt; log.is_empty(), "nothing was logged");
     assert!(rt; output.as_slice() == wanted, "the replies");
 }
 
@@ -99,32 +94,28 @@ fn converses<R: Host>(rt: &R, input: &[u8], wanted: &[u8], how: Ended, calls: u6
     converses_through(rt, &OpenGate, input, wanted, how, calls);
 }
 
-/// What comes after two requests that no text follows, and how the conversation ends then.
-static ENDS: [(&[u8], Ended); 4] = [
-    (b"", Ended::End),
-    (b"\0\0\0", Ended::End),
-    (b"\0\0\0\0", Ended::Length),
-    // 2,097,153 bytes, and a request that isn't read any more.
-    (b"\0\x20\0\x01\0\0\0\x01\x03", Ended::Length),
-];
+/// After two requests that no text follows this comes, and the conversation ends so.
+fn ends<R: Host>(rt: &R, rest: &[u8], how: Ended) {
+    let input = joined(rt, &[b"\0\0\0\x01\x01\0\0\0\x01\x02", rest]);
+    converses(rt, &input, b"\0\0\0\x01\x01\0\0\0\x01\x01", how, 2);
+}
 
 #[test]
 fn a_conversation_by_hand(rt: HostRuntime) {
-    for (rest, how) in &ENDS {
-        let input = joined(&rt, &[b"\0\0\0\x01\x01\0\0\0\x01\x02", rest]);
-        converses(&rt, &input, b"\0\0\0\x01\x01\0\0\0\x01\x01", *how, 2);
-    }
+    ends(&rt, b"", Ended::End);
+    ends(&rt, b"\0\0\0", Ended::End);
+    ends(&rt, b"\0\0\0\0", Ended::Length);
+    // 2,097,153 bytes, and a request that isn't read any more.
+    ends(&rt, b"\0\x20\0\x01\0\0\0\x01\x03", Ended::Length);
     converses(&rt, b"", b"", Ended::End, 0);
     converses(&rt, b"\0\0\0\0", b"", Ended::Length, 0);
 }
 
-/// No such kind; a digest of 31 bytes; the empty block put, and got; a digest that no block has.
 #[test]
 fn blocks_by_hand(rt: HostRuntime) {
-    let (mut input, wanted) = (joined(&rt, &REQUESTS), joined(&rt, &REPLIES));
-    converses(&rt, &input, &wanted, Ended::End, 0);
-    append(&rt, &mut input, &[&[0; 4]]);
-    converses(&rt, &input, &wanted, Ended::Length, 0);
+    converses(&rt, REQUESTS, REPLIES, Ended::End, 0);
+    let input = joined(&rt, &[REQUESTS, &[0; 4]]);
+    converses(&rt, &input, REPLIES, Ended::Length, 0);
 }
 
 /// The sizes at which blocks of the file system begin or end, and those beside them.
@@ -138,63 +129,39 @@ fn block<R: Host>(rt: &R, size: usize) -> Vec<u8> {
     Vec::from_elem(rt.alloc(), 0x5a_u8, size).expect(rt, "memory")
 }
 
-/// Requests, and what they are replied.
-#[derive(Drop)]
-struct Exchange {
-    requests: Vec<u8>,
-    replies: Vec<u8>,
-}
-
-impl Exchange {
-    fn new(alloc: Global) -> Exchange {
-        Exchange {
-            requests: Vec::new(alloc),
-            replies: Vec::new(alloc),
-        }
-    }
-
-    /// A request of this kind, and its reply of this status.
-    fn add<R: Host>(&mut self, rt: &R, request: (u8, &[u8]), reply: (u8, &[u8])) {
-        put_frame(rt, &mut self.requests, request.0, request.1);
-        put_frame(rt, &mut self.replies, reply.0, reply.1);
-    }
-
-    /// The conversation of these requests through a gate is replied so, and has so many calls answered.
-    fn holds_through<G: Gate, R: Host>(&self, rt: &R, gate: &G, calls: u64) {
-        converses_through(rt, gate, &self.requests, &self.replies, Ended::End, calls);
-    }
-
-    /// The conversation of these requests, none of which is a call, is replied so.
-    fn holds<R: Host>(&self, rt: &R) {
-        self.holds_through(rt, &OpenGate, 0);
-    }
-}
-
 /// Blocks of all sizes are put, and then got.
 #[test]
 fn blocks_of_all_sizes_by_hand(rt: HostRuntime) {
-    let mut exchange = Exchange::new(rt.alloc());
+    let alloc = rt.alloc();
+    let (mut puts, mut digests) = (Vec::new(alloc), Vec::new(alloc));
+    let (mut gets, mut blocks) = (Vec::new(alloc), Vec::new(alloc));
     for size in &SIZES {
         let block = block(&rt, *size);
-        exchange.add(&rt, (3, &block), (0, digest(&block).as_bytes()));
+        let digest = digest(&block);
+        put_frame(&rt, &mut puts, 3, &block);
+        put_frame(&rt, &mut digests, 0, digest.as_bytes());
+        put_frame(&rt, &mut gets, 4, digest.as_bytes());
+        put_frame(&rt, &mut blocks, 0, &block);
     }
-    for size in &SIZES {
-        let block = block(&rt, *size);
-        exchange.add(&rt, (4, digest(&block).as_bytes()), (0, &block));
-    }
-    exchange.holds(&rt);
+    let (input, wanted) = (
+        joined(&rt, &[&puts, &gets]),
+        joined(&rt, &[&digests, &blocks]),
+    );
+    converses(&rt, &input, &wanted, Ended::End, 0);
 }
 
 /// Larger ones are refused, and not stored.
 #[test]
 fn larger_blocks_by_hand(rt: HostRuntime) {
-    let mut exchange = Exchange::new(rt.alloc());
+    let (mut input, mut wanted) = (Vec::new(rt.alloc()), Vec::new(rt.alloc()));
     for size in &TOO_LARGE {
         let block = block(&rt, *size);
-        exchange.add(&rt, (3, &block), (7, &[]));
-        exchange.add(&rt, (4, digest(&block).as_bytes()), (8, &[]));
+        put_frame(&rt, &mut input, 3, &block);
+        put_frame(&rt, &mut wanted, 7, b"");
+        put_frame(&rt, &mut input, 4, digest(&block).as_bytes());
+        put_frame(&rt, &mut wanted, 8, b"");
     }
-    exchange.holds(&rt);
+    converses(&rt, &input, &wanted, Ended::End, 0);
 }
 
 /// A gate that notes the calls which pass it.
@@ -213,16 +180,18 @@ impl<'a, R: Wait> Gate for Noting<'a, R> {
 /// Each UPDATE and each COMMIT passes the gate, under the next number, and no other request does.
 #[test]
 fn calls_pass_the_gate_in_turn(rt: HostRuntime) {
-    let mut exchange = Exchange::new(rt.alloc());
-    exchange.add(&rt, (3, &[]), (0, digest(&[]).as_bytes()));
-    for kind in [1u8, 4, 1, 5, 2, 0, 2, 1] {
-        exchange.add(&rt, (kind, &[]), (1, &[]));
+    let (mut input, mut wanted) = (Vec::new(rt.alloc()), Vec::new(rt.alloc()));
+    put_frame(&rt, &mut input, 3, b"");
+    put_frame(&rt, &mut wanted, 0, digest(&[]).as_bytes());
+    for kind in b"\x01\x04\x01\x05\x02\0\x02\x01" {
+        put_frame(&rt, &mut input, *kind, b"");
+        put_frame(&rt, &mut wanted, 1, b"");
     }
     let gate = Noting {
         rt: &rt,
         calls: Mutex::new(Vec::new(rt.alloc())),
     };
-    exchange.holds_through(&rt, &gate, 5);
+    converses_through(&rt, &gate, &input, &wanted, Ended::End, 5);
     let noted = gate.calls.lock(&rt);
     assert!(rt;
         noted.as_slice() == [1, 2, 3, 4, 5].as_slice(),

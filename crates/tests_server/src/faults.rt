@@ -4,7 +4,7 @@ ghost use Rattle.std.specs.Prelude.{◌≤◌, None};
 ghost use Rattle.leaf_ledger.specs.Device.{HasRisen};
 
 use crate::by_hand::{Host, conversed};
-use crate::requests::key;
+use crate::serving::key;
 use connection::{Connection, ConnectionFault};
 use server_workers::{Ended, OpenGate};
 
@@ -14,27 +14,13 @@ use server_workers::{Ended, OpenGate};
 struct Failing<'a> {
     request: &'a [u8],
     /// How many reads don't fail any more.
-    left: u32,
-    reads: u32,
-    writes: u32,
+    left: usize,
+    reads: usize,
+    writes: usize,
     /// How many bytes were to be written.
     size: usize,
     ended: bool,
     faults: u64,
-}
-
-impl<'a> Failing<'a> {
-    fn new(request: &'a [u8], left: u32) -> Failing<'a> {
-        Failing {
-            request,
-            left,
-            reads: 0,
-            writes: 0,
-            size: 0,
-            ended: false,
-            faults: 0,
-        }
-    }
 }
 
 /// Counts a fault.
@@ -76,65 +62,37 @@ impl<'a> Connection for Failing<'a> {
     }
 }
 
-/// What each read gives, how many don't fail, and then: how many calls are answered, how many reads and writes were
-/// asked for, and how many bytes were to be written.
-struct Case {
-    request: &'static [u8],
-    good: u32,
-    answered: u64,
-    reads: u32,
-    writes: u32,
-    size: usize,
-}
+/// A request that no text follows, and a second one.
+const INPUT: &[u8] = b"\0\0\0\x01\x01\0\0\0\x01\x02";
 
-/// The first read fails; the second one does, after a part of a frame; the first write does, after a request that no
-/// text follows, which is answered by a frame of 5 bytes; and where a second request was read too.
-static CASES: [Case; 4] = [
-    Case {
-        request: b"",
-        good: 0,
-        answered: 0,
-        reads: 1,
-        writes: 0,
-        size: 0,
-    },
-    Case {
-        request: b"\0\0\0",
-        good: 1,
-        answered: 0,
-        reads: 2,
-        writes: 0,
-        size: 0,
-    },
-    Case {
-        request: b"\0\0\0\x01\x01",
-        good: 1,
-        answered: 1,
-        reads: 1,
-        writes: 1,
-        size: 5,
-    },
-    Case {
-        request: b"\0\0\0\x01\x01\0\0\0\x01\x02",
-        good: 5,
-        answered: 1,
-        reads: 1,
-        writes: 1,
-        size: 5,
-    },
+/// How much of them each read gives, how many reads don't fail, and then: how many calls are answered, how many reads
+/// and writes were asked for, and how many bytes were to be written. The first read fails; the second one does, after a
+/// part of a frame; the first write does, after a request, which is answered by a frame of 5 bytes; and where a second
+/// request was read too.
+static CASES: [[usize; 6]; 4] = [
+    [0, 0, 0, 1, 0, 0],
+    [3, 1, 0, 2, 0, 0],
+    [5, 1, 1, 1, 1, 5],
+    [10, 5, 1, 1, 1, 5],
 ];
 
-/// The conversation ends by a fault, the only one, after so many calls, reads and writes.
-fn ends_by_a_fault<R: Host>(rt: &R, case: &Case) {
-    let mut connection = Failing::new(case.request, case.good);
+/// The conversation ends by a fault, the only one.
+fn ends_by_a_fault<R: Host>(rt: &R, case: &[usize; 6]) {
+    let [given, left, wanted, reads, writes, size] = *case;
+    let mut connection = Failing {
+        request: INPUT.get(..given).expect(rt, "so many bytes"),
+        left,
+        reads: 0,
+        writes: 0,
+        size: 0,
+        ended: false,
+        faults: 0,
+    };
     let log = Vec::new(rt.alloc());
     let (ended, answered, log) = conversed(rt, &OpenGate, key(rt), &mut connection, log);
     assert_eq!(rt; (ended, connection.faults()), (Ended::Fault, 1));
-    assert_eq!(rt; (answered, connection.reads), (case.answered, case.reads));
-    assert_eq!(rt;
-        (connection.writes, connection.size),
-        (case.writes, case.size)
-    );
+    assert_eq!(rt; (answered as usize, connection.reads), (wanted, reads));
+    assert_eq!(rt; (connection.writes, connection.size), (writes, size));
     assert!(rt; log.is_empty(), "nothing was logged");
 }
 

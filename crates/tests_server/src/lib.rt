@@ -1,7 +1,9 @@
-//! Tests of stored blocks and of the server's workers, over connections in memory and over sockets, by threads; and that
-//! a verification under another key counts for nothing.
+//! Tests of stored blocks and of the server's workers, over connections in memory and over sockets, by threads; and
+//! that a verification under another key counts for nothing.
 #![tactic(auto)]
 
+#[cfg(test)]
+mod again;
 #[cfg(test)]
 mod blocks;
 #[cfg(test)]
@@ -9,7 +11,17 @@ mod by_hand;
 #[cfg(test)]
 mod faults;
 #[cfg(test)]
+mod full_log;
+#[cfg(test)]
+mod logs;
+#[cfg(test)]
+mod operations;
+#[cfg(test)]
+mod overlap;
+#[cfg(test)]
 mod requests;
+#[cfg(test)]
+mod serving;
 #[cfg(test)]
 mod sockets;
 #[cfg(test)]

@@ -1,64 +1,15 @@
-//! Requests over memory, each stream cut in pieces of several sizes.
+//! Requests over memory, each stream cut in pieces of several sizes, and more connections than are served.
 
-ghost use Rattle.std.specs.Prelude.{◌<◌};
 ghost use Rattle.std.specs.Iterator.{at_most};
 
-use block_store::Store;
+use crate::serving::{Host, key, serve_all};
 use connection::MemoryConnection;
 use lms_sign::PublicKey;
-use server_workers::{OpenGate, Served, serve};
+use server_workers::{OpenGate, Served};
 use std::alloc::Global;
+use std::io::Write;
 use std::process::Abort;
 use std::slice::IterMut;
-use std::sync::Wait;
-use std::thread::Threads;
-use std::time::Clock;
-
-/// What a test runs in.
-trait Host: Alloc<A = Global> + Abort + Clock + Threads + Wait + Sync {}
-
-impl<R: Alloc<A = Global> + Abort + Clock + Threads + Wait + Sync> Host for R {}
-
-/// A public key of these types, whose root signs nothing here.
-pub(crate) fn key(rt: &impl Abort) -> PublicKey {
-    let mut bytes = [0; 56];
-    bytes[3] = 6;
-    bytes[7] = 3;
-    PublicKey::from_bytes(bytes).expect(rt, "a key")
-}
-
-/// Serves one connection that gives these bytes, in pieces of such a size, over a store.
-fn served<R: Host>(
-    rt: &R,
-    store: &Store<Global>,
-    input: &[u8],
-    piece: usize,
-    output: &mut Vec<u8>,
-) -> Served<Vec<u8>>
-    requires { 0 < piece }
-{
-    let alloc = rt.alloc();
-    let mut connections = Vec::new(alloc);
-    let connection = MemoryConnection::new(input, piece, output);
-    connections.push(connection).expect(rt, "memory");
-    let served = serve(
-        rt,
-        alloc,
-        &OpenGate,
-        connections.into_iter(),
-        1,
-        store,
-        key(rt),
-        Vec::new(alloc),
-    );
-    served.expect(rt, "memory")
-}
-
-/// The SHA-256 of no bytes (FIPS 180-4's own vector).
-const EMPTY: [u8; 32] = [
-    0xe3, 0xb0, 0xc4, 0x42, 0x98, 0xfc, 0x1c, 0x14, 0x9a, 0xfb, 0xf4, 0xc8, 0x99, 0x6f, 0xb9, 0x24,
-    0x27, 0xae, 0x41, 0xe4, 0x64, 0x9b, 0x93, 0x4c, 0xa4, 0x95, 0x99, 0x1b, 0x78, 0x52, 0xb8, 0x55,
-];
 
 /// Puts these pieces after others.
 pub(crate) fn append(rt: &(impl Alloc<A = Global> + Abort), bytes: &mut Vec<u8>, pieces: &[&[u8]]) {
@@ -85,98 +36,53 @@ pub(crate) fn put_frame(
     append(rt, frames, &[&[a, b, c, d, head], payload]);
 }
 
+/// The SHA-256 of no bytes (FIPS 180-4's own vector).
+pub(crate) const EMPTY: [u8; 32] =
+    *b"\xe3\xb0\xc4\x42\x98\xfc\x1c\x14\x9a\xfb\xf4\xc8\x99\x6f\xb9\x24\
+    \x27\xae\x41\xe4\x64\x9b\x93\x4c\xa4\x95\x99\x1b\x78\x52\xb8\x55";
+
 /// No such kind; a digest of 31 bytes; the empty block put, and got; a digest that no block has.
-pub(crate) static REQUESTS: [&[u8]; 8] = [
-    &[0, 0, 0, 1, 5],
-    &[0, 0, 0, 0x20, 4],
-    &[0; 31],
-    &[0, 0, 0, 1, 3],
-    &[0, 0, 0, 0x21, 4],
-    &EMPTY,
-    &[0, 0, 0, 0x21, 4],
-    &[0; 32],
-];
+pub(crate) const REQUESTS: &[u8] = b"\0\0\0\x01\x05\
+    \0\0\0\x20\x04\0\0\0\0\0\0\0\0\0\0\0\0\0\0\0\0\0\0\0\0\0\0\0\0\0\0\0\0\0\0\0\
+    \0\0\0\x01\x03\
+    \0\0\0\x21\x04\xe3\xb0\xc4\x42\x98\xfc\x1c\x14\x9a\xfb\xf4\xc8\x99\x6f\xb9\x24\
+    \x27\xae\x41\xe4\x64\x9b\x93\x4c\xa4\x95\x99\x1b\x78\x52\xb8\x55\
+    \0\0\0\x21\x04\0\0\0\0\0\0\0\0\0\0\0\0\0\0\0\0\0\0\0\0\0\0\0\0\0\0\0\0\0\0\0\0";
 
 /// What they are replied.
-pub(crate) static REPLIES: [&[u8]; 6] = [
-    &[0, 0, 0, 1, 1],
-    &[0, 0, 0, 1, 1],
-    &[0, 0, 0, 0x21, 0],
-    &EMPTY,
-    &[0, 0, 0, 1, 0],
-    &[0, 0, 0, 1, 8],
-];
+pub(crate) const REPLIES: &[u8] = b"\0\0\0\x01\x01\0\0\0\x01\x01\
+    \0\0\0\x21\0\xe3\xb0\xc4\x42\x98\xfc\x1c\x14\x9a\xfb\xf4\xc8\x99\x6f\xb9\x24\
+    \x27\xae\x41\xe4\x64\x9b\x93\x4c\xa4\x95\x99\x1b\x78\x52\xb8\x55\
+    \0\0\0\x01\0\0\0\0\x01\x08";
 
-/// The requests, in pieces of this size, are replied so.
-fn replies_in_pieces<R: Host>(rt: &R, input: &[u8], piece: usize, wanted: &[u8])
-    requires { 0 < piece }
-{
-    let store = Store::new(rt.alloc()).expect(rt, "memory");
-    let mut output = Vec::new(rt.alloc());
-    let served = served(rt, &store, input, piece, &mut output);
-    assert_eq!(rt; (served.answered, served.unserved), (0, 0));
-    assert!(rt;
-        served.flushed && served.writer.is_empty(),
-        "nothing was logged"
-    );
-    assert!(rt; output.as_slice() == wanted, "pieces of {piece}");
-}
-
-#[test]
-fn requests_over_memory(rt: HostRuntime) {
-    let (input, wanted) = (joined(&rt, &REQUESTS), joined(&rt, &REPLIES));
-    for piece in [1usize, 5, 36, 1000] {
-        replies_in_pieces(&rt, &input, piece, &wanted);
-    }
-}
-
-/// After a request that no text follows this length ends the conversation: a request after it isn't read any more.
-fn ends_at<R: Host>(rt: &R, length: &[u8; 4]) {
-    let input = joined(rt, &[&[0, 0, 0, 1, 1], length, &[0, 0, 0, 1, 3]]);
-    let store = Store::new(rt.alloc()).expect(rt, "memory");
-    let mut output = Vec::new(rt.alloc());
-    let served = served(rt, &store, &input, 1000, &mut output);
-    assert_eq!(rt; served.answered, 1);
-    assert_eq!(rt; served.ordered.history().len(), 1);
-    assert!(rt;
-        output.as_slice() == [0, 0, 0, 1, 1].as_slice(),
-        "one reply"
-    );
-}
-
-/// Lengths at fault: 0, and 2,097,153.
-#[test]
-fn a_length_at_fault_ends_it(rt: HostRuntime) {
-    ends_at(&rt, &[0, 0, 0, 0]);
-    ends_at(&rt, &[0, 0x20, 0, 1]);
-}
-
-/// What these bytes are replied.
-fn replied<R: Host>(rt: &R, input: &[u8]) -> Vec<u8> {
-    let store = Store::new(rt.alloc()).expect(rt, "memory");
-    let mut output = Vec::new(rt.alloc());
-    served(rt, &store, input, 3, &mut output);
-    output
-}
-
-/// A request of a digest that no block has: cut at any byte it gets no reply.
-#[test]
-fn a_cut_request_gets_no_reply(rt: HostRuntime) {
-    let input = joined(&rt, &[&[0, 0, 0, 0x21, 4], &[0; 32]]);
-    for cut in 0..input.len() {
-        assert!(rt; replied(&rt, &input[..cut]).is_empty(), "cut at {cut}");
-    }
-    let whole = replied(&rt, &input);
-    assert!(rt; whole.as_slice() == [0, 0, 0, 1, 8].as_slice(), "the whole");
-}
-
-/// Connections that come one by one, each of the same bytes and with an output of its own, and how many came.
+/// Connections that come one by one, each of the same bytes in pieces of one size and with an output of its own, and
+/// how many came.
 #[derive(Drop)]
 struct Offered<'a> {
     input: &'a [u8],
+    /// The size of the pieces, or 0 for that of 1.
+    piece: usize,
     outputs: IterMut<'a, Vec<u8>>,
     left: u32,
     taken: &'a mut u32,
+}
+
+impl<'a> Offered<'a> {
+    /// At most a hundred, of which none came yet.
+    fn new(
+        input: &'a [u8],
+        piece: usize,
+        outputs: &'a mut Vec<Vec<u8>>,
+        taken: &'a mut u32,
+    ) -> Offered<'a> {
+        Offered {
+            input,
+            piece,
+            outputs: outputs.iter_mut(),
+            left: 100,
+            taken,
+        }
+    }
 }
 
 impl<'a> Iterator for Offered<'a> {
@@ -191,12 +97,29 @@ impl<'a> Iterator for Offered<'a> {
         self.left -= 1;
         *self.taken = self.taken.saturating_add(1);
         let output = self.outputs.next()?;
-        Some(MemoryConnection::new(self.input, 7, output))
+        Some(MemoryConnection::new(self.input, self.piece.max(1), output))
     }
 }
 
+/// Offers connections of the same bytes in such pieces, one for each output, to a server of at most so many: what is
+/// left of it, and how many it took.
+pub(crate) fn offer<R: Host, W: Write + Drop + Send>(
+    rt: &R,
+    input: &[u8],
+    piece: usize,
+    outputs: &mut Vec<Vec<u8>>,
+    most: u32,
+    pinned: PublicKey,
+    writer: W,
+) -> (Served<W>, u32) {
+    let mut taken = 0;
+    let connections = Offered::new(input, piece, outputs, &mut taken);
+    let served = serve_all(rt, &OpenGate, connections, most, pinned, writer);
+    (served, taken)
+}
+
 /// So many empty outputs.
-fn outputs<R: Host>(rt: &R, count: usize) -> Vec<Vec<u8>> {
+pub(crate) fn outputs<R: Host>(rt: &R, count: usize) -> Vec<Vec<u8>> {
     let mut outputs = Vec::new(rt.alloc());
     for _number in 0..count {
         outputs.push(Vec::new(rt.alloc())).expect(rt, "memory");
@@ -204,66 +127,84 @@ fn outputs<R: Host>(rt: &R, count: usize) -> Vec<Vec<u8>> {
     outputs
 }
 
-/// Offers connections of the same bytes, one for each output, to a server of at most so many: how many it took.
-fn offer<R: Host>(rt: &R, input: &[u8], outputs: &mut Vec<Vec<u8>>, most: u32) -> u32 {
-    let alloc = rt.alloc();
-    let store = Store::new(alloc).expect(rt, "memory");
-    let mut taken = 0;
-    let connections = Offered {
-        input,
-        outputs: outputs.iter_mut(),
-        left: 100,
-        taken: &mut taken,
-    };
-    let log = Vec::new(alloc);
-    let served = serve(
-        rt,
-        alloc,
-        &OpenGate,
-        connections,
-        most,
-        &store,
-        key(rt),
-        log,
-    );
-    let served = served.expect(rt, "memory");
-    assert_eq!(rt; (served.answered, served.unserved), (0, 0));
-    assert!(rt; served.flushed && served.writer.is_empty(), "no log");
-    taken
-}
+/// How many connections come, how many are served at most, and how often one is taken.
+type Counts = (usize, u32, u32);
 
-/// The empty block is put over each of `count` connections to a server of at most `most`: those that it serves are
-/// replied this, and the others nothing.
-fn serves_at_most<R: Host>(rt: &R, count: usize, most: u32, wanted: &[u8]) {
+/// One connection, which is served.
+const ONE: Counts = (1, 1, 1);
+
+/// Connections of these bytes in such pieces: those that are served are replied this, and the others nothing. Of their
+/// requests so many are calls, and nothing is logged.
+fn are_replied<R: Host>(
+    rt: &R,
+    (count, most, wanted_taken): Counts,
+    input: &[u8],
+    piece: usize,
+    wanted: &[u8],
+    calls: u64,
+) {
     let mut outputs = outputs(rt, count);
-    let taken = offer(rt, &[0, 0, 0, 1, 3], &mut outputs, most);
-    assert_eq!(rt; taken, most);
+    let log = Vec::new(rt.alloc());
+    let (served, taken) = offer(rt, input, piece, &mut outputs, most, key(rt), log);
+    assert_eq!(rt; taken, wanted_taken);
+    assert_eq!(rt; (served.answered, served.unserved), (calls, 0));
+    assert_eq!(rt; served.ordered.history().len() as u64, calls);
+    assert!(rt;
+        served.flushed && served.writer.is_empty(),
+        "nothing was logged"
+    );
     for (number, output) in outputs.iter().enumerate() {
-        let is_served = number < most as usize;
+        let wanted: &[u8] = if number < most as usize { wanted } else { b"" };
         assert!(rt;
-            output.is_empty() != is_served && (output.as_slice() == wanted) == is_served,
-            "connection {number} of {count}, {most} at most"
+            output.as_slice() == wanted,
+            "connection {number} of {count}, {most} at most, pieces of {piece}"
         );
     }
 }
 
-/// How many connections come, and how many are served at most.
-static COUNTS: [(usize, u32); 6] = [(3, 2), (3, 0), (8, 8), (9, 8), (8, 1), (20, 20)];
-
 #[test]
-fn connections_past_the_most_stay(rt: HostRuntime) {
-    let wanted = joined(&rt, &[&[0, 0, 0, 0x21, 0], &EMPTY]);
-    for (count, most) in &COUNTS {
-        serves_at_most(&rt, *count, *most, &wanted);
+fn requests_over_memory(rt: HostRuntime) {
+    for piece in [1usize, 5, 36, 1000] {
+        are_replied(&rt, ONE, REQUESTS, piece, REPLIES, 0);
     }
 }
 
+/// After a request that no text follows, a length of 0, and of 2,097,153, ends the conversation: a request after it
+/// isn't read any more.
 #[test]
-fn fewer_connections_than_the_most(rt: HostRuntime) {
-    let mut outputs = outputs(&rt, 2);
-    // The third time none came.
-    assert_eq!(rt; offer(&rt, &[0, 0, 0, 1, 5], &mut outputs, 5), 3);
-    for output in &outputs {
-        assert!(rt; output.as_slice() == [0, 0, 0, 1, 1].as_slice(), "replied");
+fn a_length_at_fault_ends_it(rt: HostRuntime) {
+    for length in [b"\0\0\0\0", b"\0\x20\0\x01"] {
+        let input = joined(&rt, &[b"\0\0\0\x01\x01", length, b"\0\0\0\x01\x03"]);
+        are_replied(&rt, ONE, &input, 1000, b"\0\0\0\x01\x01", 1);
     }
+}
+
+/// A request of a digest that no block has: cut at any byte it gets no reply.
+#[test]
+fn a_cut_request_gets_no_reply(rt: HostRuntime) {
+    let input = joined(&rt, &[b"\0\0\0\x21\x04", &[0; 32]]);
+    for cut in 0..input.len() {
+        are_replied(&rt, ONE, &input[..cut], 3, b"", 0);
+    }
+    are_replied(&rt, ONE, &input, 3, b"\0\0\0\x01\x08", 0);
+}
+
+static COUNTS: [Counts; 6] = [
+    (3, 2, 2),
+    (3, 0, 0),
+    (8, 8, 8),
+    (9, 8, 8),
+    (8, 1, 1),
+    (20, 20, 20),
+];
+
+/// The empty block is put over each connection.
+#[test]
+fn connections_past_the_most_stay(rt: HostRuntime) {
+    let wanted = joined(&rt, &[b"\0\0\0\x21\0", &EMPTY]);
+    for counts in &COUNTS {
+        are_replied(&rt, *counts, b"\0\0\0\x01\x03", 7, &wanted, 0);
+    }
+    // The third time none came.
+    are_replied(&rt, (2, 5, 3), b"\0\0\0\x01\x05", 7, b"\0\0\0\x01\x01", 0);
 }

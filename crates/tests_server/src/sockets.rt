@@ -1,6 +1,7 @@
 //! Connections over TCP: what is accepted, and the bytes of a socket both ways.
 
 use connection::{Connection, Socket};
+use layout::let_go;
 use server_workers::Accepted;
 use std::io;
 use std::io::{ErrorKind, Read, Write};
@@ -8,16 +9,12 @@ use std::net::{Net, Shutdown, SocketAddr, TcpListener, TcpStream};
 use std::process::Abort;
 use std::time::{Clock, Duration};
 
-/// What these tests run in.
-trait Host: Abort + Net<Listener = TcpListener, Stream = TcpStream> {}
-
-impl<R: Abort + Net<Listener = TcpListener, Stream = TcpStream>> Host for R {}
-
-/// A clock that makes a client knock where it should rest.
+/// A clock that makes a client knock where it should rest, or that doesn't rest at all.
 #[derive(Drop)]
 struct Knocking<'a, R: Net> {
     rt: &'a R,
     address: SocketAddr,
+    knocks: bool,
 }
 
 impl<'a, R: Net> Clock for Knocking<'a, R> {
@@ -30,87 +27,85 @@ impl<'a, R: Net> Clock for Knocking<'a, R> {
     }
 
     fn sleep(&self, _duration: Duration) {
-        let _stream = TcpStream::connect(self.rt, self.address);
+        if self.knocks {
+            let _stream = TcpStream::connect(self.rt, self.address);
+        }
     }
-}
-
-/// A clock that never rests.
-struct Restless;
-
-impl Clock for Restless {
-    fn monotonic(&self) -> io::Result<Duration> {
-        Err(ErrorKind::Unsupported.into())
-    }
-
-    fn since_1970(&self) -> io::Result<Duration> {
-        Err(ErrorKind::Unsupported.into())
-    }
-}
-
-/// A listener that fails while nobody knocks, since it doesn't wait.
-fn hasty<R: Host>(rt: &R) -> (TcpListener, SocketAddr) {
-    let listener = TcpListener::bind(rt, "127.0.0.1:0").expect(rt, "a port");
-    listener.set_nonblocking(true).expect(rt, "it doesn't wait");
-    let address = listener.local_addr().expect(rt, "its address");
-    (listener, address)
 }
 
 /// Knocks: a stream, which is open as long as it is kept.
-fn knock<R: Host>(rt: &R, address: SocketAddr) -> TcpStream {
+fn knock<R: Abort + Net<Listener = TcpListener, Stream = TcpStream>>(
+    rt: &R,
+    address: SocketAddr,
+) -> TcpStream {
     TcpStream::connect(rt, address).expect(rt, "a connection")
+}
+
+/// Of at most so many connections so many are accepted by a listener that fails while nobody knocks, since it doesn't
+/// wait. The first clients knock before, or else whenever the clock should rest; then nobody does.
+fn accepts<R: Abort + Net<Listener = TcpListener, Stream = TcpStream>>(
+    rt: &R,
+    knocks: bool,
+    most: u32,
+    count: u32,
+) {
+    let listener = TcpListener::bind(rt, "127.0.0.1:0").expect(rt, "a port");
+    listener.set_nonblocking(true).expect(rt, "it doesn't wait");
+    let address = listener.local_addr().expect(rt, "its address");
+    let clock = Knocking {
+        rt,
+        address,
+        knocks,
+    };
+    let mut fault = None;
+    let mut accepted = Accepted::new(&clock, &listener, most, &mut fault);
+    for turn in 0..count {
+        let _client = if knocks {
+            None
+        } else {
+            Some(knock(rt, address))
+        };
+        assert!(rt; accepted.next().is_some(), "{turn} of {most}");
+    }
+    assert!(rt; accepted.next().is_none(), "past {count} of {most}");
+    // Who knocks now comes too late, and isn't accepted.
+    let _late = knock(rt, address);
+    assert!(rt; accepted.next().is_none(), "late, of {most}");
+    assert!(rt; accepted.next().is_none(), "late again, of {most}");
+    let_go(accepted);
+    assert!(rt; listener.accept().is_ok(), "who came too late still waits");
+    let kind = match fault {
+        Some(fault) => Some(fault.kind()),
+        None => None,
+    };
+    let wanted = if knocks {
+        None
+    } else {
+        Some(ErrorKind::WouldBlock)
+    };
+    assert!(rt; kind == wanted, "the fault, of {most}");
 }
 
 #[test]
 fn a_fault_that_passes_is_waited_out(rt: HostRuntime) {
-    let (listener, address) = hasty(&rt);
-    let clock = Knocking { rt: &rt, address };
     for most in 0..=3u32 {
-        let mut fault = None;
-        {
-            let mut accepted = Accepted::new(&clock, &listener, most, &mut fault);
-            for turn in 0..most {
-                assert!(rt; accepted.next().is_some(), "{turn} of {most}");
-            }
-            // Nobody is accepted past the limit, though somebody knocks.
-            let _client = knock(&rt, address);
-            assert!(rt; accepted.next().is_none(), "past {most}");
-            assert!(rt; accepted.next().is_none(), "again past {most}");
-            assert!(rt; listener.accept().is_ok(), "who knocked still waits");
-        }
-        assert!(rt; fault.is_none(), "no fault");
+        accepts(&rt, true, most, most);
     }
 }
 
+/// Nobody knocks, or one client does.
 #[test]
-fn a_fault_that_stays_is_told(rt: HostRuntime) {
-    let (listener, _) = hasty(&rt);
-    let mut fault = None;
-    for _socket in Accepted::new(&Restless, &listener, 2, &mut fault) {
-        panic!(rt; "nobody knocks");
-    }
-    let fault = fault.expect(&rt, "a fault");
-    assert_eq!(rt; fault.kind(), ErrorKind::WouldBlock);
-}
-
-#[test]
-fn a_fault_ends_them(rt: HostRuntime) {
-    let (listener, address) = hasty(&rt);
-    let mut fault = None;
-    {
-        let mut accepted = Accepted::new(&Restless, &listener, 3, &mut fault);
-        let _first = knock(&rt, address);
-        assert!(rt; accepted.next().is_some(), "who knocked");
-        assert!(rt; accepted.next().is_none(), "nobody knocks");
-        // Who knocks now comes too late, and isn't accepted.
-        let _second = knock(&rt, address);
-        assert!(rt; accepted.next().is_none(), "ended");
-        assert!(rt; listener.accept().is_ok(), "who came too late still waits");
-    }
-    assert!(rt; fault.is_some(), "the fault");
+fn a_fault_that_stays_ends_them(rt: HostRuntime) {
+    accepts(&rt, false, 2, 0);
+    accepts(&rt, false, 3, 1);
 }
 
 /// What the client writes is read.
-fn brings_requests<R: Host>(rt: &R, client: &mut TcpStream, socket: &mut Socket) {
+fn brings_requests<R: Abort + Net<Listener = TcpListener, Stream = TcpStream>>(
+    rt: &R,
+    client: &mut TcpStream,
+    socket: &mut Socket,
+) {
     client.write_all(b"abc").expect(rt, "written");
     let mut buffer = [0; 8];
     assert_eq!(rt; socket.read(&mut buffer).ok(), Some(3));
@@ -121,7 +116,11 @@ fn brings_requests<R: Host>(rt: &R, client: &mut TcpStream, socket: &mut Socket)
 }
 
 /// What the server writes comes to the client.
-fn brings_replies<R: Host>(rt: &R, client: &mut TcpStream, socket: &mut Socket) {
+fn brings_replies<R: Abort + Net<Listener = TcpListener, Stream = TcpStream>>(
+    rt: &R,
+    client: &mut TcpStream,
+    socket: &mut Socket,
+) {
     assert!(rt; socket.write(b"defg").is_ok(), "written");
     let mut read = [0; 4];
     client.read_exact(&mut read).expect(rt, "read");

@@ -1,82 +1,75 @@
 //! What is known of a signature under another key than its user's counts for nothing: it is verified again.
 
+ghost use Rattle.std.specs.Prelude.{◌<◌};
+
+use crate::by_hand::Host;
 use consistency_server::{Answer, CallKind, MemoryLog, Ordered, Verification};
 use layout::let_go;
-use lms_sign::PublicKey;
+use lms_sign::{Leaf, PrivateKey, PublicKey, sign};
 use std::alloc::Global;
-use std::fmt::Display;
-use std::process::Abort;
-use tests_aids::texts::{certificate, key_of, signed};
-use tests_aids::{Fails, Host, check, check_text, given};
 use wire::Status;
 
-/// Stands beside the runtime of a test, which fails by it.
-#[derive(Clone, Copy)]
-struct Here;
-
-impl<R: Abort> Fails<R> for Here {
-    fn fail<D: Display + Drop>(rt: &R, why: D) -> ! {
-        rt.panic(why)
-    }
-}
-
-/// A server's answer to its first certificate, of whose signature this is known. Its user 0 has this key.
-fn answer_knowing(
-    rt: &impl Host,
+/// A server's answer to its first certificate, whose signature was verified under the other key, if one is given. Its
+/// user 0 has the pinned key.
+fn answer<R: Host>(
+    rt: &R,
     pinned: PublicKey,
     update: &[u8],
-    known: &Verification<'_>,
+    verified: Option<PublicKey>,
 ) -> Answer<Global> {
+    let known = match verified {
+        Some(key) => Some(Verification::new(key, update)),
+        None => None,
+    };
     let mut ordered = Ordered::genesis(rt.alloc(), pinned);
-    let mut log = given(rt, MemoryLog::new(rt.alloc()), "memory");
-    let answer = ordered.answer(&mut log, CallKind::Update, update, Some(known));
-    let_go((ordered, log));
-    answer
-}
-
-/// The same, of whose signature nothing is known.
-fn answer_to(rt: &impl Host, pinned: PublicKey, update: &[u8]) -> Answer<Global> {
-    let mut ordered = Ordered::genesis(rt.alloc(), pinned);
-    let mut log = given(rt, MemoryLog::new(rt.alloc()), "memory");
-    let answer = ordered.update(&mut log, update);
+    let mut log = MemoryLog::new(rt.alloc()).expect(rt, "memory");
+    let answer = ordered.answer(&mut log, CallKind::Update, update, known.as_ref());
     let_go((ordered, log));
     answer
 }
 
 /// The certificate is answered by this status, and the same reply, whether or not its signature was verified under
 /// the other key.
-fn is_verified_again(
-    rt: &impl Host,
+fn is_verified_again<R: Host>(
+    rt: &R,
     pinned: PublicKey,
     other: PublicKey,
     update: &[u8],
     status: Status,
 ) {
-    let known = Verification::new(other, update);
-    let (found, wanted) = (
-        answer_knowing(rt, pinned, update, &known),
-        answer_to(rt, pinned, update),
-    );
-    check(rt, found.status() == status, "the status");
-    check(
-        rt,
+    let found = answer(rt, pinned, update, Some(other));
+    let wanted = answer(rt, pinned, update, None);
+    assert!(rt; found.status() == status, "the status");
+    assert!(rt;
         wanted.status() == status,
-        "the status where nothing is known",
+        "the status where nothing is known"
     );
-    check_text(rt, &found.into_payload(), &wanted.into_payload());
+    assert!(rt;
+        found.into_payload() == wanted.into_payload(),
+        "the replies"
+    );
+}
+
+/// User 0's first certificate, without changes.
+const CERTIFICATE: &[u8] = b"SUC1\0\0\0\0\x01\
+    \0\0\0\0\0\0\0\0\0\0\0\0\0\0\0\0\0\0\0\0\0\0\0\0\0\0\0\0\0\0\0\0\0";
+
+/// The certificate and its signature by the key whose seed and identifier have this byte everywhere, and that key.
+fn signed_by<R: Host>(rt: &R, byte: u8) -> (Vec<u8>, PublicKey) {
+    let key = PrivateKey::from_seed(rt.alloc(), [byte; 32], [byte; 16]).expect(rt, "memory");
+    let public = key.public();
+    let (signature, spent) = sign(&key, Leaf::issue(&public, 0), CERTIFICATE);
+    spent.end();
+    let mut text = Vec::from_slice(rt.alloc(), CERTIFICATE).expect(rt, "memory");
+    text.extend_from_slice(&signature).expect(rt, "memory");
+    (text, public)
 }
 
 /// User 0's first certificate, signed by user 0, and then by another.
 #[test]
 fn a_verification_under_another_key(rt: HostRuntime) {
-    let rt = (rt, Here);
-    let (own, other) = (key_of(&rt, 0), key_of(&rt, 1));
-    let certificate = certificate(&rt, 0, 1, &[0; 32]);
-    let (by_own, by_other) = (
-        signed(&rt, &own, 0, &certificate),
-        signed(&rt, &other, 0, &certificate),
-    );
-    let (pinned, other) = (own.public(), other.public());
+    let (by_own, pinned) = signed_by(&rt, 0);
+    let (by_other, other) = signed_by(&rt, 1);
     is_verified_again(&rt, pinned, other, &by_own, Status::Ok);
     is_verified_again(&rt, pinned, other, &by_other, Status::BadSignature);
 }

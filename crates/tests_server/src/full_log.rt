@@ -4,9 +4,9 @@ ghost use Rattle.std.specs.Prelude.{◌≡◌, ◌<◌, [], true};
 ghost use Rattle.crossbeam_queue.specs.Passes.{IsPassOf, ruled_capacity};
 ghost use Rattle.server_workers.specs.Hands.{hand, hand_of};
 
-use crate::connections::{Host, users};
+use crate::by_hand::Host;
 use crate::operations::records;
-use crate::user::{PlainUser, listing};
+use crate::requests::put_frame;
 use block_store::Store;
 use connection::MemoryConnection;
 use layout::let_go;
@@ -18,10 +18,16 @@ use std::alloc::Global;
 use std::io::Write;
 use std::marker::Brand;
 use std::sync::ledger::{Blank, Ledger};
-use wire::{RequestKind, Status, body_of, reply_of, request_frame};
+use tests_plain_user::{PlainUser, listing};
+use wire::{Status, body_of, reply_of};
 
 /// How many operations fill the log, which has room for 1,024 calls. They take all leaves of a key, too.
 const FILLING: u32 = 512;
+
+/// The number of an UPDATE, and that of a COMMIT.
+const UPDATE: u8 = 1;
+
+const COMMIT: u8 = 2;
 
 /// A server without threads, whose log somebody else empties.
 #[derive(Drop)]
@@ -44,19 +50,14 @@ impl<'a, B: ServerName, L: Ledger, R: Host> ByHand<'a, B, L, R> {
         output
     }
 
-    /// The payload with which a request is replied over such a connection, and this status.
-    fn ask(&mut self, kind: RequestKind, text: &[u8], status: Status) -> Vec<u8> {
+    /// The payload with which a request of this kind is replied over such a connection, and this status.
+    fn ask(&mut self, kind: u8, text: &[u8], status: Status) -> Vec<u8> {
         let rt = self.rt;
-        let input = framed(rt, kind, text);
+        let mut input = Vec::new(rt.alloc());
+        put_frame(rt, &mut input, kind, text);
         let output = self.written(&input);
         payload_of(rt, &output, status)
     }
-}
-
-/// The frame of a request.
-fn framed<R: Host>(rt: &R, kind: RequestKind, text: &[u8]) -> Vec<u8> {
-    assert!(rt; text.len() < 2_097_152, "a text of a frame");
-    request_frame(rt.alloc(), kind, text).expect(rt, "memory")
 }
 
 /// The payload of the reply in this frame, which has this status.
@@ -75,40 +76,31 @@ fn operate<B: ServerName, L: Ledger, R: Host>(
 ) {
     let rt = server.rt;
     let certificate = user.certificate(changes).expect(rt, "a certificate");
-    let lists = server.ask(RequestKind::Update, &certificate, Status::Ok);
+    let lists = server.ask(UPDATE, &certificate, Status::Ok);
     let structure = user.structure(&lists).expect(rt, "a structure");
-    let _payload = server.ask(RequestKind::Commit, &structure, Status::Ok);
+    let _payload = server.ask(COMMIT, &structure, Status::Ok);
 }
 
-/// Fills the log by user 0's operations, the first of which has these changes.
-fn fill<B: ServerName, L: Ledger, R: Host>(
-    server: &mut ByHand<'_, B, L, R>,
-    user: PlainUser,
-    changes: &[u8],
-) {
-    let mut user = user;
-    operate(server, &mut user, changes);
-    for _operation in 1..FILLING {
-        operate(server, &mut user, b"\0");
-    }
-}
-
-/// Fills the log, whereupon a call of the other user is answered Busy, twice, and empties it, whereupon it isn't.
+/// Fills the log by user 0's operations, the first of which has these changes, whereupon a call of the other user is
+/// answered Busy, twice, and empties it, whereupon it isn't.
 fn is_busy_while_full<W: Write + Drop, B: ServerName, L: Ledger, R: Host>(
     server: &mut ByHand<'_, B, L, R>,
     flusher: &mut Flusher<'_, Global, B, R, W>,
-    (superuser, other): (PlainUser, PlainUser),
+    superuser: &mut PlainUser,
+    other: &mut PlainUser,
     changes: &[u8],
 ) {
     let rt = server.rt;
-    let mut other = other;
-    fill(server, superuser, changes);
+    operate(server, superuser, changes);
+    for _operation in 1..FILLING {
+        operate(server, superuser, b"\0");
+    }
     let certificate = other.certificate(b"\0").expect(rt, "a certificate");
     for _time in 0..2u8 {
-        let _payload = server.ask(RequestKind::Update, &certificate, Status::Busy);
+        let _payload = server.ask(UPDATE, &certificate, Status::Busy);
     }
     flusher.flush();
-    let _payload = server.ask(RequestKind::Update, &certificate, Status::Ok);
+    let _payload = server.ask(UPDATE, &certificate, Status::Ok);
     flusher.flush();
 }
 
@@ -118,8 +110,10 @@ fn fill_and_empty<W: Write + Drop, B: ServerName, L: Ledger, R: Host>(
     queue: &CallQueue<Global>,
     pass: CallPass<Global>,
     blank: Blank,
+    store: &Store<Global>,
     pinned: PublicKey,
-    users: (PlainUser, PlainUser),
+    superuser: &mut PlainUser,
+    other: &mut PlainUser,
     changes: &[u8],
     writer: W,
 ) -> (u64, W)
@@ -129,14 +123,18 @@ fn fill_and_empty<W: Write + Drop, B: ServerName, L: Ledger, R: Host>(
     requires name { blank.name ≡ L.name }
     requires parts { (blank.parts ≡ L.parts) × (blank.parts ≡ 1) }
 {
-    let alloc = rt.alloc();
-    let store = Store::new(alloc).expect(rt, "memory");
     let (shared, tally, popping) = Shared::<'_, Global, B, L, R>::new(
-        rt, alloc, queue, pass, blank, &store, pinned,
+        rt,
+        rt.alloc(),
+        queue,
+        pass,
+        blank,
+        store,
+        pinned,
     );
     let mut flusher = Flusher::<'_, Global, B, R, W>::new(rt, queue, popping, writer);
     let mut server = ByHand { rt, shared, tally };
-    is_busy_while_full(&mut server, &mut flusher, users, changes);
+    is_busy_while_full(&mut server, &mut flusher, superuser, other, changes);
     let carried_out = server.tally.answered();
     let_go(server);
     (carried_out, flusher.into_writer())
@@ -145,15 +143,26 @@ fn fill_and_empty<W: Write + Drop, B: ServerName, L: Ledger, R: Host>(
 /// And over a queue of its own.
 fn fill_a_log<W: Write + Drop, R: Host>(rt: &R, writer: W) -> (u64, W) {
     let alloc = rt.alloc();
-    let superuser = PlainUser::new(alloc, 0).expect(rt, "memory");
-    let pinned = superuser.public();
-    let mut others = users(rt, 1);
+    let mut superuser = PlainUser::new(alloc, 0).expect(rt, "memory");
+    let mut others = [PlainUser::new(alloc, 1).expect(rt, "memory")];
     let changes = listing(alloc, &others).expect(rt, "memory");
-    let other = others.pop().expect(rt, "user 1");
+    let [other] = &mut others;
+    let pinned = superuser.public();
+    let store = Store::new(alloc).expect(rt, "memory");
     let (queue, pass) = empty_queue(alloc).expect(rt, "memory");
     let blank = Blank::new(1);
-    let both = (superuser, other);
-    fill_and_empty::<W, Brand, Brand, R>(rt, &queue, pass, blank, pinned, both, &changes, writer)
+    fill_and_empty::<W, Brand, Brand, R>(
+        rt,
+        &queue,
+        pass,
+        blank,
+        &store,
+        pinned,
+        &mut superuser,
+        other,
+        &changes,
+        writer,
+    )
 }
 
 /// A log has room for 1,024 calls, and as soon as it is emptied for more.
