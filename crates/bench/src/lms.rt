@@ -1,19 +1,19 @@
 //! Times of keys and signatures.
 
 use crate::host::Host;
-use crate::time::{Time, Times, compress, least, middle, rows};
+use crate::time::{NOTHING, Round, middle, now, since};
 use anyhow::{Result, anyhow};
 use layout::let_go;
 use lms_sign::{Leaf, PrivateKey, sign, verify};
 use std::alloc::Global;
 use std::rt::Clock;
-use std::time::{Duration, Instant};
+use std::time::Duration;
 
-/// The least time of so many rounds counts.
-const ROUNDS: u32 = 10;
+/// What is timed.
+pub(crate) static NAMES: [&str; 3] = ["key", "sign", "verify"];
 
 /// How many leaves are used to time a signature.
-const LEAVES: u32 = 255;
+const LEAVES: usize = 255;
 
 /// The compressions of a key: for each of 1,024 leaves the starts of 67 chains, 15 steps each, a text of 2,166 bytes
 /// and one of 54; for each of the other 1,023 nodes a text of 86 bytes.
@@ -28,61 +28,43 @@ const SIGN: u32 = 1 + 3 + 67 + STEPS;
 /// Those of a verification: the text, the other steps, the leaf's key, its node, and the ten nodes above.
 const VERIFY: u32 = 3 + (67 * 15 - STEPS) + 34 + 1 + 10 * 2;
 
-/// The times of a signature, and of a verification, of a short text.
-#[derive(Clone, Copy)]
-pub(crate) struct Signing {
-    pub(crate) sign: Duration,
-    pub(crate) verify: Duration,
-}
-
-/// The middle times of many signatures by this key, and of as many verifications.
-fn signing_by(clock: &impl Clock, alloc: Global, key: &PrivateKey<Global>) -> Result<Signing> {
+/// The middle times of many signatures by this key of a short text, and of as many verifications.
+fn times_by(clock: &impl Clock, key: &PrivateKey<Global>) -> Result<(Duration, Duration)> {
     let public = key.public();
     let text = [5; 87];
-    let (mut signed, mut verified) = (Vec::new(alloc), Vec::new(alloc));
+    let (mut signed, mut verified) = ([Duration::ZERO; LEAVES], [Duration::ZERO; LEAVES]);
     for leaf in 0..LEAVES {
-        let start = Instant::now(clock)?;
-        let (signature, spent) = sign(key, Leaf::issue(&public, leaf), &text);
+        let start = now(clock);
+        let (signature, spent) = sign(key, Leaf::issue(&public, leaf as u32), &text);
         spent.end();
-        signed.push(start.elapsed(clock)?)?;
-        let start = Instant::now(clock)?;
+        signed[leaf] = since(clock, start);
+        let start = now(clock);
         if !verify(&public, &text, &signature) {
             return Err(anyhow!("a signature isn't valid"));
         }
-        verified.push(start.elapsed(clock)?)?;
+        verified[leaf] = since(clock, start);
     }
-    Ok(Signing {
-        sign: middle(signed)?,
-        verify: middle(verified)?,
-    })
+    Ok((middle(&mut signed), middle(&mut verified)))
 }
 
-/// The middle times of many signatures and verifications.
-pub(crate) fn measure_signing(clock: &impl Clock, alloc: Global) -> Result<Signing> {
+/// The middle times of many signatures of a short text, and of as many verifications.
+pub(crate) fn signing(clock: &impl Clock, alloc: Global) -> Result<(Duration, Duration)> {
     let key = PrivateKey::from_seed(alloc, [9; 32], [9; 16])?;
-    let times = signing_by(clock, alloc, &key);
+    let times = times_by(clock, &key);
     let_go(key);
     times
 }
 
-fn measure(rt: &impl Host) -> Result<Times> {
-    let (unit, seed) = compress(rt)?;
-    let start = Instant::now(rt)?;
-    let_go(PrivateKey::from_seed(rt.alloc(), seed, [7; 16])?);
-    let key = Time::new(start.elapsed(rt)?, KEY, unit);
-    let Signing { sign, verify } = measure_signing(rt, rt.alloc())?;
-    Ok([
-        key,
-        Time::new(sign, SIGN, unit),
-        Time::new(verify, VERIFY, unit),
-    ])
-}
-
-/// Measures, and prints of each work the least of all rounds.
-pub(crate) fn report(rt: &impl Host) -> Result<()> {
-    let mut times = measure(rt)?;
-    for _round in 1..ROUNDS {
-        times = least(times, measure(rt)?);
-    }
-    rows(rt, &["key", "sign", "verify"], times)
+/// The times of a key of this seed, of a signature and of a verification.
+pub(crate) fn measure(rt: &impl Host, seed: [u8; 32]) -> Result<Round> {
+    let start = now(rt);
+    let key = PrivateKey::from_seed(rt.alloc(), seed, [7; 16])?;
+    let drawn = since(rt, start);
+    let_go(key);
+    let (sign, verify) = signing(rt, rt.alloc())?;
+    let mut round = NOTHING;
+    round[0] = (drawn, KEY);
+    round[1] = (sign, SIGN);
+    round[2] = (verify, VERIFY);
+    Ok(round)
 }

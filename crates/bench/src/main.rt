@@ -1,11 +1,10 @@
 //! How long things take, for people: `bench lms` keys, signatures and verifications, `bench itable` an i-table of
 //! 4,095 digests, `bench look` looks at files, `bench operations` the calls of an operation among 64 users, with how
 //! much of each is signing and verifying, `bench server` operations and blocks over TCP, `bench session` files that are
-//! put and read by commands over TCP. `bench visit=ADDR` makes an operation at a server that runs. With no word it does
-//! nothing.
+//! put and read by commands over TCP. With no word it does nothing.
 #![tactic(auto)]
 
-mod blocks;
+mod home;
 mod host;
 mod i_tables;
 mod lms;
@@ -23,16 +22,44 @@ use std::net::{Net, TcpListener, TcpStream};
 use std::rt::Runtime;
 use std::sync::Wait;
 use std::thread::Threads;
+use time::{PIECES, Time, compress};
+
+/// What is timed in rounds, of which the least one counts.
+#[derive(Clone, Copy)]
+enum Rounds {
+    Keys,
+    Tables,
+    Looks,
+}
+
+/// Times so many rounds, and prints of each piece of work the least of all.
+fn report_rounds<R: Host>(rt: &R, timed: Rounds, count: u32, names: &[&str]) -> Result<()> {
+    let mut least = [Time::LONGEST; PIECES];
+    for _round in 0..count {
+        let (unit, seed) = compress(rt);
+        let round = match timed {
+            Rounds::Keys => lms::measure(rt, seed),
+            Rounds::Tables => i_tables::measure(rt),
+            Rounds::Looks => looks::measure(rt),
+        }?;
+        for place in 0..PIECES {
+            least[place] = least[place].least(round[place], unit);
+        }
+    }
+    for place in 0..PIECES {
+        if let Some(name) = names.get(place) {
+            least[place].print(rt, name)?;
+        }
+    }
+    Ok(())
+}
 
 /// Measures what a word names.
 fn report<R: Host>(rt: &R, word: &str) -> Result<()> {
-    if let Some(address) = word.strip_prefix("visit=") {
-        return server::visit_at(rt, address);
-    }
     match word {
-        "lms" => lms::report(rt),
-        "itable" => i_tables::report(rt),
-        "look" => looks::report(rt),
+        "lms" => report_rounds(rt, Rounds::Keys, 10, &lms::NAMES),
+        "itable" => report_rounds(rt, Rounds::Tables, 20, &i_tables::NAMES),
+        "look" => report_rounds(rt, Rounds::Looks, 3, &looks::NAMES),
         "operations" => operations::report(rt),
         "server" => server::report(rt),
         "session" => session::report(rt),

@@ -1,43 +1,77 @@
-//! Operations over TCP, and what they are compared with: the time of the signatures that they need.
+//! Operations over TCP, and what they are compared with: the time of the signatures that they need. Then blocks over
+//! TCP: how many are put and got a second.
 
-use crate::blocks;
+use crate::home::own_key;
 use crate::host::Host;
-use crate::time::middle;
-use crate::world::new_others;
+use crate::lms::signing;
+use crate::session;
+use crate::time::{middle, now, since};
 use anyhow::{Result, anyhow};
 use block_store::Store;
 use layout::{beside, let_go};
-use lms_sign::{Leaf, PrivateKey, PublicKey, sign, verify};
+use lms_sign::PublicKey;
 use server_workers::{Accepted, OpenGate, serve};
-use std::alloc::Global;
-use std::io::{Read, Write};
 use std::net::{SocketAddr, TcpListener, TcpStream};
-use std::rt::Clock;
 use std::thread;
-use std::time::{Duration, Instant};
-use tests_plain_user::{CallError, Caller, PlainUser, listing};
-use wire::Status;
+use std::time::Duration;
+use tests_plain_user::{Caller, PlainUser};
+use wire::{RequestKind, Status};
 
 /// How many connections operate side by side.
-pub(crate) static CONNECTIONS: [u8; 3] = [1, 2, 4];
+static CONNECTIONS: [u8; 3] = [1, 2, 4];
 
 /// How many slices of either kind are timed in turn, an odd number.
-const SLICES: u32 = 9;
+const SLICES: usize = 9;
 
 /// How many operations each connection makes in a slice.
 const OPERATIONS: u32 = 32;
 
-/// A text as short as those that are signed.
-static TEXT: [u8; 87] = [5; 87];
+/// How many blocks each connection puts and gets.
+const BLOCKS: u32 = 4_096;
 
-/// A user's first operation over a stream: the statuses of its calls.
-fn operate_once<S: Read + Write + Drop>(
-    alloc: Global,
-    stream: S,
-    user: &mut PlainUser,
-) -> std::result::Result<(Status, Status), CallError> {
-    let mut caller = Caller::new(alloc, stream);
-    user.operate(&mut caller, b"\0")
+/// How many bytes each of them has.
+const SIZE: usize = 4_096;
+
+/// Two times that stand together: of the signatures of an operation and of a slice of operations, of the puts of blocks
+/// and of the gets, or of a file that is put and read.
+pub(crate) type Pair = [Duration; 2];
+
+/// Those of a visit: of each slice, and at last those of the blocks; or of each file.
+pub(crate) type Pairs = [Pair; 10];
+
+/// Before anything is timed.
+pub(crate) const NO_TIMES: Pairs = [[Duration::ZERO; 2]; 10];
+
+/// Who comes to a server.
+#[derive(Clone, Copy)]
+pub(crate) enum Visit {
+    /// User 0, for commands.
+    Commands,
+    /// So many users after it, for operations and blocks.
+    Users(u8),
+}
+
+/// What each connection does side by side with the others.
+#[derive(Clone, Copy)]
+enum Work {
+    /// Makes the operations of a slice.
+    Operate,
+    /// Puts its blocks, which no other connection puts.
+    Put,
+    /// Gets them.
+    Get,
+}
+
+/// A user over a connection of its own.
+#[derive(Drop)]
+struct Visitor {
+    number: u8,
+    user: PlainUser,
+    caller: Caller<TcpStream>,
+    /// The digests of the blocks that it put.
+    digests: Vec<Vec<u8>>,
+    /// How many operations it committed, and how many blocks it got whole.
+    done: u32,
 }
 
 /// A connection that sends at once what is written to it.
@@ -47,171 +81,125 @@ pub(crate) fn connect<R: Host>(rt: &R, address: SocketAddr) -> Result<TcpStream>
     Ok(stream)
 }
 
-/// A user over a connection of its own, and how many operations it committed.
-#[derive(Drop)]
-struct Visitor {
-    user: PlainUser,
-    caller: Caller<TcpStream>,
-    committed: u32,
-}
-
 impl Visitor {
-    /// Over a new connection.
-    fn new<R: Host>(rt: &R, address: SocketAddr, user: PlainUser) -> Result<Visitor> {
+    /// The user of this number, over a new connection.
+    fn new<R: Host>(rt: &R, address: SocketAddr, number: u8) -> Result<Visitor> {
+        let user = PlainUser::new(rt.alloc(), number)?;
         let (user, stream) = beside(user, connect(rt, address))?;
         Ok(Visitor {
+            number,
             user,
             caller: Caller::new(rt.alloc(), stream),
-            committed: 0,
+            digests: Vec::new(rt.alloc()),
+            done: 0,
         })
     }
 
-    /// Makes so many operations of these changes.
+    /// Makes so many operations of these changes, which are spelled after their count.
     fn operate(&mut self, changes: &[u8], count: u32) {
         for _number in 0..count {
-            if self.user.operate(&mut self.caller, changes) == Ok((Status::Ok, Status::Ok)) {
-                self.committed = self.committed.saturating_add(1);
+            if let Ok((Status::Ok, Status::Ok)) = self.user.operate(&mut self.caller, changes) {
+                self.done = self.done.saturating_add(1);
             }
         }
     }
-}
 
-/// Users over connections of their own.
-fn visitors<R: Host>(rt: &R, address: SocketAddr, users: Vec<PlainUser>) -> Result<Vec<Visitor>> {
-    let mut all = Vec::new(rt.alloc());
-    for user in users {
-        all.push(Visitor::new(rt, address, user)?)?;
+    /// Lists another user.
+    fn list(&mut self, other: &Visitor) {
+        let mut changes = [0; 59];
+        changes[..3].copy_from_slice(&[1, 6, other.number]);
+        changes[3..].copy_from_slice(other.user.public().as_bytes());
+        self.operate(&changes, 1);
     }
-    Ok(all)
-}
 
-/// User 0 lists the others.
-fn list_others<R: Host>(
-    rt: &R,
-    address: SocketAddr,
-    superuser: PlainUser,
-    others: &[PlainUser],
-) -> Result<()> {
-    let changes = listing(rt.alloc(), others);
-    let (superuser, changes) = beside(superuser, changes)?;
-    let mut visitor = Visitor::new(rt, address, superuser)?;
-    visitor.operate(&changes, 1);
-    match visitor.committed {
-        1 => Ok(()),
-        _ => Err(anyhow!("user 0 can't list the others")),
-    }
-}
-
-/// What a slice took: one thread alone for the signatures of so many operations, and then each of the connections for
-/// as many operations, side by side.
-#[derive(Clone, Copy)]
-struct Slice {
-    alone: Duration,
-    served: Duration,
-}
-
-impl Slice {
-    /// How many operations were committed for each thousand for which one thread could sign and verify.
-    fn thousandths(self, connections: u8) -> u128 {
-        let possible = self
-            .alone
-            .as_nanos()
-            .saturating_mul(u128::from(connections));
-        possible.saturating_mul(1000) / self.served.as_nanos().max(1)
-    }
-}
-
-/// One thread signs and verifies for so many operations: an operation needs two signatures, each of them made and
-/// verified once.
-fn sign_alone(clock: &impl Clock, key: &PrivateKey<Global>) -> Result<Duration> {
-    let public = key.public();
-    let start = Instant::now(clock)?;
-    for leaf in 0..2 * OPERATIONS {
-        let (signature, spent) = sign(key, Leaf::issue(&public, leaf), &TEXT);
-        spent.end();
-        if !verify(&public, &TEXT, &signature) {
-            return Err(anyhow!("a signature isn't valid"));
+    /// Puts its blocks, up to a fault.
+    fn put(&mut self) {
+        for number in 0..BLOCKS {
+            let mut block = [self.number; SIZE];
+            block[..4].copy_from_slice(&number.to_be_bytes());
+            let Ok(replied) = self.caller.ask(RequestKind::Put, &block) else {
+                return;
+            };
+            if self.digests.push(replied.payload).is_err() {
+                return;
+            }
         }
     }
-    Ok(start.elapsed(clock)?)
+
+    /// Gets its blocks.
+    fn get(&mut self) {
+        for digest in &self.digests {
+            if digest.len() == 32
+                && let Ok(replied) = self.caller.ask(RequestKind::Get, digest)
+                && replied.status == Status::Ok
+                && replied.payload.len() == SIZE
+            {
+                self.done = self.done.saturating_add(1);
+            }
+        }
+    }
+
+    fn work(&mut self, work: Work) {
+        match work {
+            Work::Operate => self.operate(b"\0", OPERATIONS),
+            Work::Put => self.put(),
+            Work::Get => self.get(),
+        }
+    }
 }
 
-/// Times a slice.
-fn time_slice<R: Host>(
-    rt: &R,
-    key: &PrivateKey<Global>,
-    visitors: &mut [Visitor],
-) -> Result<Slice> {
-    let alone = sign_alone(rt, key)?;
-    let start = Instant::now(rt)?;
+/// How long all take who do this side by side.
+fn side_by_side<R: Host>(rt: &R, visitors: &mut [Visitor], work: Work) -> Duration {
+    let start = now(rt);
     let threads = visitors.len().max(1);
     thread::for_each_mut(
         rt,
         visitors,
         threads,
-        &|_, visitor: &mut Visitor| { visitor.operate(b"\0", OPERATIONS) },
+        &|_, visitor: &mut Visitor| { visitor.work(work) },
     );
-    let served = start.elapsed(rt)?;
-    Ok(Slice { alone, served })
+    since(rt, start)
 }
 
-/// Times the slices in turn, since the processor's speed changes between one second and the next.
-fn time_slices<R: Host>(
-    rt: &R,
-    key: &PrivateKey<Global>,
-    visitors: &mut [Visitor],
-) -> Result<Vec<Slice>> {
-    let mut slices = Vec::new(rt.alloc());
-    for _slice in 0..SLICES {
-        slices.push(time_slice(rt, key, visitors)?)?;
+/// Times the slices in turn, since the processor's speed changes between one second and the next: one thread alone makes
+/// and verifies signatures, two of which an operation needs, and then each of the connections makes its operations, side
+/// by side. Then the blocks.
+fn times_of<R: Host>(rt: &R, visitors: &mut [Visitor]) -> Result<Pairs> {
+    let mut pairs = NO_TIMES;
+    for slice in 0..SLICES {
+        let (sign, verify) = signing(rt, rt.alloc())?;
+        let alone = sign.saturating_add(verify).saturating_mul(2);
+        pairs[slice] = [alone, side_by_side(rt, visitors, Work::Operate)];
     }
-    if visitors
-        .iter()
-        .any(|visitor| visitor.committed != SLICES * OPERATIONS)
-    {
-        return Err(anyhow!("not every operation was committed"));
+    let put = side_by_side(rt, visitors, Work::Put);
+    pairs[SLICES] = [put, side_by_side(rt, visitors, Work::Get)];
+    for visitor in visitors.iter() {
+        if visitor.done != SLICES as u32 * OPERATIONS + BLOCKS {
+            return Err(anyhow!("not every operation was committed, or not every block was got"));
+        }
     }
-    Ok(slices)
+    Ok(pairs)
 }
 
-/// User 0 lists the others, and these operate side by side.
-fn visit<R: Host>(
-    rt: &R,
-    address: SocketAddr,
-    superuser: PlainUser,
-    others: Vec<PlainUser>,
-) -> Result<Vec<Slice>> {
-    let listed = list_others(rt, address, superuser, &others);
-    let (others, ()) = beside(others, listed)?;
-    let visitors = visitors(rt, address, others)?;
-    let key = PrivateKey::from_seed(rt.alloc(), [9; 32], [9; 16]);
-    let (mut visitors, key) = beside(visitors, key)?;
-    let slices = time_slices(rt, &key, &mut visitors);
-    let_go(key);
+/// The users up to this number come over a connection each. User 0 lists the others, and these are timed.
+fn come<R: Host>(rt: &R, address: SocketAddr, last: u8) -> Result<Pairs> {
+    let mut visitors = Vec::new(rt.alloc());
+    for number in 0..=last {
+        visitors.push(Visitor::new(rt, address, number)?)?;
+    }
+    let Some((superuser, others)) = visitors.split_first_mut() else {
+        return Err(anyhow!("nobody came"));
+    };
+    for other in others.iter() {
+        superuser.list(other);
+    }
+    let pairs = times_of(rt, others);
     let_go(visitors);
-    slices
-}
-
-/// User 0's first operation at a server that runs already, at this address, for which the key of the seed of zeros is
-/// user 0's.
-pub(crate) fn visit_at<R: Host>(rt: &R, address: &str) -> Result<()> {
-    let stream = TcpStream::connect(rt, address)?;
-    let superuser = PlainUser::new(rt.alloc(), 0);
-    let (stream, mut superuser) = beside(stream, superuser)?;
-    let statuses = operate_once(rt.alloc(), stream, &mut superuser);
-    let_go(superuser);
-    let (placed, committed) = statuses?;
-    println!(rt; "placed {placed:?}, committed {committed:?}")?;
-    Ok(())
+    pairs
 }
 
 /// Serves so many connections, with a log in memory.
-pub(crate) fn serve_all<R: Host>(
-    rt: &R,
-    listener: &TcpListener,
-    most: u32,
-    pinned: PublicKey,
-) -> bool {
+fn serve_all<R: Host>(rt: &R, listener: &TcpListener, most: u32, pinned: PublicKey) -> bool {
     let alloc = rt.alloc();
     let Ok(store) = Store::new(alloc) else {
         return false;
@@ -222,55 +210,55 @@ pub(crate) fn serve_all<R: Host>(
     serve(rt, alloc, &OpenGate, connections, most, &store, pinned, log).is_ok()
 }
 
-/// Serves user 0 and so many others.
-fn measure<R: Host>(rt: &R, connections: u8) -> Result<Vec<Slice>> {
+/// What who comes to a server times, which serves as many connections as they are.
+pub(crate) fn served<R: Host>(rt: &R, who: Visit) -> Result<Pairs> {
     let listener = TcpListener::bind(rt, "127.0.0.1:0")?;
     let address = listener.local_addr()?;
-    let most = u32::from(connections) + 1;
-    let superuser = PlainUser::new(rt.alloc(), 0)?;
-    let pinned = superuser.public();
-    let others = new_others(rt.alloc(), connections);
-    let (superuser, others) = beside(superuser, others)?;
-    let (served, visited) = thread::join(
+    let pinned = own_key(rt.alloc())?.public();
+    let most = match who {
+        Visit::Commands => 1,
+        Visit::Users(last) => u32::from(last) + 1,
+    };
+    let (served, pairs) = thread::join(
         rt,
         || serve_all(rt, &listener, most, pinned),
-        move || visit(rt, address, superuser, others),
+        || match who {
+            Visit::Commands => session::visit(rt, address),
+            Visit::Users(last) => come(rt, address, last),
+        },
     );
     if !served {
         return Err(anyhow!("the server has no memory"));
     }
-    visited
+    pairs
 }
 
-/// Prints the middle slice of so many connections: how many operations a second were committed, and how many for each
-/// for which one thread could sign and verify, with the least and the most of these ratios.
-fn report_slices<R: Host>(rt: &R, connections: u8, slices: &[Slice]) -> Result<()> {
-    let (mut served, mut ratios) = (Vec::new(rt.alloc()), Vec::new(rt.alloc()));
-    for slice in slices {
-        served.push(slice.served)?;
-        ratios.push(slice.thousandths(connections))?;
-    }
-    let count = f64::from(OPERATIONS) * f64::from(connections);
-    let rate = count / middle(served)?.as_secs_f64();
-    ratios.sort_unstable();
-    let (least, most) = (ratios.first(), ratios.last());
-    let (least, most) = (least.copied().unwrap_or(0), most.copied().unwrap_or(0));
-    let ratio = middle(ratios)?;
-    println!(rt;
-        "{connections} connections: {rate:.0} a second, thousandths of one thread's {ratio} ({least} to {most})"
-    )?;
-    Ok(())
-}
-
-/// Prints for each number of connections how many operations a second were committed, and how many for each for which
-/// one thread could sign and verify just then. Then the same of blocks.
+/// Prints the times of each number of connections: of the middle slice how many operations a second were committed, and
+/// how many for each for which one thread could sign and verify just then, with the least and the most of these ratios;
+/// and how many blocks were put and got a second.
 pub(crate) fn report<R: Host>(rt: &R) -> Result<()> {
     for connections in &CONNECTIONS {
-        let slices = measure(rt, *connections)?;
-        report_slices(rt, *connections, &slices)?;
+        let pairs = served(rt, Visit::Users(*connections))?;
+        let operations = OPERATIONS.saturating_mul(u32::from(*connections));
+        let (mut times, mut ratios) = ([Duration::ZERO; SLICES], [0; SLICES]);
+        for slice in 0..SLICES {
+            let [alone, served] = pairs[slice];
+            times[slice] = served;
+            let possible = alone.saturating_mul(operations).as_nanos();
+            ratios[slice] = possible.saturating_mul(1000) / served.as_nanos().max(1);
+        }
+        let ratio = middle(&mut ratios);
+        let (least, most) = (ratios[0], ratios[SLICES - 1]);
+        let rate = f64::from(operations) / middle(&mut times).as_secs_f64();
+        println!(rt;
+            "{connections} connections: {rate:.0} a second, thousandths of one thread's {ratio} ({least} to {most})"
+        )?;
+        let [put, got] = pairs[SLICES];
+        let blocks = f64::from(BLOCKS) * f64::from(*connections);
+        let (put, got) = (blocks / put.as_secs_f64(), blocks / got.as_secs_f64());
+        println!(rt;
+            "{connections} connections: {put:.0} blocks put a second, {got:.0} got a second"
+        )?;
     }
-    let superuser = PlainUser::new(rt.alloc(), 0)?;
-    let pinned = superuser.public();
-    let_go(superuser);
-    blocks::report(rt, pinned)
+    Ok(())
 }

@@ -1,74 +1,93 @@
 //! Times, and what they are compared with.
 
-use anyhow::{Result, anyhow};
+ghost use Rattle.std.specs.Prelude.{◌<◌, length};
+
 use sha2::{Digest as _, Sha256};
+use std::io;
 use std::rt::Clock;
-use std::time::{Duration, Instant};
+use std::time::Duration;
 
 /// How many blocks are compressed to time one.
 const BLOCKS: u32 = 1 << 18;
 
-/// The seconds of a piece of work, the compressions of SHA-256 that it needs, and the seconds of one compression in the
-/// same round.
+/// How many pieces of work a round has at most.
+pub(crate) const PIECES: usize = 6;
+
+/// How long each piece of work of a round took, and how many compressions of SHA-256 it needs.
+pub(crate) type Round = [(Duration, u32); PIECES];
+
+/// Before anything is timed.
+pub(crate) const NOTHING: Round = [(Duration::ZERO, 0); PIECES];
+
+/// The seconds of a piece of work, the compressions that it needs, and the seconds of one compression in the same round.
 #[derive(Clone, Copy)]
 pub(crate) struct Time {
     seconds: f64,
-    compressions: u32,
+    compressions: f64,
     unit: f64,
 }
 
 impl Time {
-    pub(crate) fn new(time: Duration, compressions: u32, unit: f64) -> Time {
+    /// Longer than all others.
+    pub(crate) const LONGEST: Time = Time {
+        seconds: 1e18,
+        compressions: 0.0,
+        unit: 1.0,
+    };
+
+    /// The shorter one of it and what was timed in a round, each in the unit of its round.
+    pub(crate) fn least(self, (time, compressions): (Duration, u32), unit: f64) -> Time {
+        let seconds = time.as_secs_f64();
+        if seconds / unit >= self.seconds / self.unit {
+            return self;
+        }
+        let compressions = f64::from(compressions);
         Time {
-            seconds: time.as_secs_f64(),
+            seconds,
             compressions,
             unit,
         }
     }
 
-    /// The shorter one, each in the unit of its round.
-    fn least(self, other: Time) -> Time {
-        if other.seconds / other.unit < self.seconds / self.unit {
-            other
-        } else {
-            self
-        }
+    /// Prints it, and how much of it the compressions take that the work needs.
+    pub(crate) fn print(self, rt: &impl Print, name: &str) -> io::Result<()> {
+        let needed = self.compressions * self.unit;
+        row(rt, name, self.seconds, needed, "hashing")
     }
 }
 
-/// The times of three pieces of work.
-pub(crate) type Times = [Time; 3];
+/// The time of the clock. One that can't be read stands still.
+pub(crate) fn now(clock: &impl Clock) -> Duration {
+    match clock.monotonic() {
+        Ok(time) => time,
+        Err(_) => Duration::ZERO,
+    }
+}
 
-/// The shorter one of each piece of work.
-pub(crate) fn least(one: Times, other: Times) -> Times {
-    [
-        one[0].least(other[0]),
-        one[1].least(other[1]),
-        one[2].least(other[2]),
-    ]
+/// The time since then.
+pub(crate) fn since(clock: &impl Clock, start: Duration) -> Duration {
+    now(clock).saturating_sub(start)
 }
 
 /// Compresses the blocks of one long text: the seconds of one compression, and the text's digest.
-pub(crate) fn compress(clock: &impl Clock) -> Result<(f64, [u8; 32])> {
+pub(crate) fn compress(clock: &impl Clock) -> (f64, [u8; 32]) {
     let text = [5; 4096];
-    let start = Instant::now(clock)?;
+    let start = now(clock);
     let mut hasher = Sha256::new();
     for _piece in 0..BLOCKS / 64 {
         hasher.update(&text);
     }
     let digest = hasher.finalize();
-    let seconds = start.elapsed(clock)?.as_secs_f64();
-    Ok((seconds / f64::from(BLOCKS), digest))
+    let seconds = since(clock, start).as_secs_f64();
+    (seconds / f64::from(BLOCKS), digest)
 }
 
 /// The middle one of so many times or ratios.
-pub(crate) fn middle<T: Copy + Ord>(values: Vec<T>) -> Result<T> {
-    let mut values = values;
+pub(crate) fn middle<T: Copy + Ord>(values: &mut [T]) -> T
+    requires { 0 < length values.old }
+{
     values.sort_unstable();
-    match values.get(values.len() / 2) {
-        Some(value) => Ok(*value),
-        None => Err(anyhow!("nothing was timed")),
-    }
+    values[values.len() / 2]
 }
 
 /// Prints how long a piece of work takes, and how much of that what it needs takes.
@@ -78,27 +97,7 @@ pub(crate) fn row(
     seconds: f64,
     needed: f64,
     what: &str,
-) -> Result<()> {
+) -> io::Result<()> {
     let (whole, share) = (seconds * 1e6, needed / seconds * 100.0);
-    println!(rt; "{name:22} {whole:10.1} us, {share:5.1} % of it {what}")?;
-    Ok(())
-}
-
-/// Prints how long three pieces of work take, and how much of that the compressions take that they need.
-pub(crate) fn rows(rt: &impl Print, names: &[&str; 3], times: Times) -> Result<()> {
-    for place in 0..3 {
-        let Time {
-            seconds,
-            compressions,
-            unit,
-        } = times[place];
-        row(
-            rt,
-            names[place],
-            seconds,
-            f64::from(compressions) * unit,
-            "hashing",
-        )?;
-    }
-    Ok(())
+    println!(rt; "{name:22} {whole:10.1} us, {share:5.1} % of it {what}")
 }

@@ -1,0 +1,131 @@
+//! User 0's client over a transport, for commands of its own.
+
+use anyhow::anyhow;
+use client_verify::{Client, ClientError, Parts};
+use commands::{Answer, Command};
+use file_session::Session;
+use layout::{Memory, User, beside, digest, let_go, put_in};
+use leaf_ledger::MemoryDevice;
+use lms_sign::PrivateKey;
+use std::alloc::Global;
+use transport::Transport;
+
+/// A client whose devices are in memory.
+type MemoryClient = Client<MemoryDevice<Global>, MemoryDevice<Global>, Global>;
+
+/// What it is opened over.
+type Kept = Parts<MemoryDevice<Global>, MemoryDevice<Global>, Global>;
+
+/// User 0's client, and the transport to its server. When something failed, it does nothing more.
+#[derive(Drop)]
+pub(crate) struct Home<T> {
+    both: Option<(MemoryClient, T)>,
+}
+
+/// User 0's key.
+pub(crate) fn own_key(alloc: Global) -> Result<PrivateKey<Global>, Memory> {
+    PrivateKey::from_seed(alloc, [0; 32], [0; 16])
+}
+
+/// What user 0 keeps before its first operation.
+fn nothing_yet(alloc: Global) -> Result<Kept, Memory> {
+    let ledger = MemoryDevice::new(alloc, Vec::new(alloc))?;
+    let journal = MemoryDevice::new(alloc, Vec::new(alloc))?;
+    Ok(Parts {
+        key: own_key(alloc)?,
+        ledger,
+        journal,
+    })
+}
+
+/// User 0's client, opened over what it keeps. It holds no block.
+fn open(alloc: Global, kept: Kept) -> Result<MemoryClient, ClientError> {
+    let Parts {
+        key,
+        ledger,
+        journal,
+    } = kept;
+    let pinned = key.public();
+    match Client::open(alloc, User::superuser(), key, pinned, ledger, journal) {
+        Ok(client) => Ok(client),
+        Err((error, parts)) => {
+            let_go(parts);
+            Err(error)
+        }
+    }
+}
+
+/// Whether a command was carried out, and read these bytes, if it reads any.
+fn is_told(answer: &Answer<Global>, read: Option<&[u8]>) -> bool {
+    match (answer, read) {
+        (Answer::Done, None) => true,
+        (Answer::Bytes(bytes), Some(content)) => bytes.as_slice() == content,
+        _ => false,
+    }
+}
+
+impl<T: Transport<Global> + Drop> Home<T> {
+    /// Before user 0's first operation.
+    pub(crate) fn new(alloc: Global, transport: T) -> Home<T> {
+        let mut home = Home { both: None };
+        if let Ok((transport, kept)) = beside(transport, nothing_yet(alloc))
+            && let Ok((transport, client)) = beside(transport, open(alloc, kept))
+        {
+            put_in(&mut home.both, Some((client, transport)));
+        }
+        home
+    }
+
+    /// Opens the client anew over what it keeps, so that it holds no block.
+    pub(crate) fn reopen(&mut self, alloc: Global) {
+        if let Some((client, transport)) = self.both.take()
+            && let Ok((transport, client)) = beside(transport, open(alloc, client.close()))
+        {
+            put_in(&mut self.both, Some((client, transport)));
+        }
+    }
+
+    /// Carries a command out that reads these bytes, if it reads any.
+    pub(crate) fn run(&mut self, alloc: Global, command: &Command<'_>, read: Option<&[u8]>) {
+        let Some((client, transport)) = self.both.take() else {
+            return;
+        };
+        let mut session = Session::new(alloc, client, transport);
+        let answer = session.run(command);
+        put_in(&mut self.both, Some(session.close()));
+        if !is_told(&answer, read) {
+            let_go(self.both.take());
+        }
+        let_go(answer);
+    }
+
+    /// The transport, unless something failed.
+    pub(crate) fn transport(&mut self) -> Option<&mut T> {
+        match &mut self.both {
+            Some((_, transport)) => Some(transport),
+            None => None,
+        }
+    }
+
+    /// Ends it: whether nothing failed.
+    pub(crate) fn end(self) -> anyhow::Result<()> {
+        let Home { both } = self;
+        let is_well = both.is_some();
+        let_go(both);
+        match is_well {
+            true => Ok(()),
+            false => Err(anyhow!("a command failed")),
+        }
+    }
+}
+
+/// A file of so many bytes, a multiple of 32, that can't be made shorter, another one of each number.
+pub(crate) fn content_of(alloc: Global, number: u32, size: u32) -> Result<Vec<u8>, Memory> {
+    let [a, b, c, d] = number.to_be_bytes();
+    let mut bytes = Vec::new(alloc);
+    for place in 0..size / 32 {
+        let [e, f, g, h] = place.to_be_bytes();
+        bytes.extend_from_slice(digest(&[a, b, c, d, e, f, g, h]).as_bytes())?;
+    }
+    Ok(bytes)
+}
