@@ -1,6 +1,6 @@
-//! Times of looks at files by user 0's client at a server in memory. What the client takes is timed, and not the server:
-//! each block that it asks for is hashed, judged at its place, and held. A look at a file that was looked at before
-//! finds in the cache what that still has.
+//! Times of looks at files by user 0's client at a server in memory. What the client takes is timed, and not the
+//! server: each block that it asks for is hashed, judged at its place, and held. A look at a file that was looked at
+//! before finds in the cache what that still has.
 
 use crate::home::{Home, content_of};
 use crate::host::Host;

@@ -6,12 +6,12 @@
 //! 63 structures in the first setting, and the certificates of those that wait in the second.
 //!
 //! Each operation puts a small file in the place of another, as a command does after its look; the others operate
-//! between both. `begin` is the client's declaration, where it signs the certificate. `update` is the server's call that
-//! places it, where it verifies one signature. `on_reply` is the client's judgement of the reply, with all blocks that
-//! it asks for and all texts that it hands out, without what the server takes for these. `sign` is one signature of the
-//! client's. `commit` is the server's call that takes the structure, where it verifies one signature. `whole` is the
-//! sum. Beside the microseconds of each stands, in parts of a hundred, what its signatures and verifications alone take:
-//! so many times those of a short text. All that is else, the hashes of long texts also, is the rest.
+//! between both. `begin` is the client's declaration, where it signs the certificate. `update` is the server's call
+//! that places it, where it verifies one signature. `on_reply` is the client's judgement of the reply, with all blocks
+//! that it asks for and all texts that it hands out, without what the server takes for these. `sign` is one signature
+//! of the client's. `commit` is the server's call that takes the structure, where it verifies one signature. `whole` is
+//! the sum. Beside the microseconds of each stands, in parts of a hundred, what its signatures and verifications alone
+//! take: so many times those of a short text. All that is else, the hashes of long texts also, is the rest.
 //!
 //! Each time is the middle one of several. The client's ledger and its journal lie in memory, where each sync copies
 //! all that they hold: this is of the rest, too.

@@ -161,9 +161,9 @@ fn side_by_side<R: Host>(rt: &R, visitors: &mut [Visitor], work: Work) -> Durati
     since(rt, start)
 }
 
-/// Times the slices in turn, since the processor's speed changes between one second and the next: one thread alone makes
-/// and verifies signatures, two of which an operation needs, and then each of the connections makes its operations, side
-/// by side. Then the blocks.
+/// Times the slices in turn, since the processor's speed changes between one second and the next: one thread alone
+/// makes and verifies signatures, two of which an operation needs, and then each of the connections makes its
+/// operations, side by side. Then the blocks.
 fn times_of<R: Host>(rt: &R, visitors: &mut [Visitor]) -> Result<Pairs> {
     let mut pairs = NO_TIMES;
     for slice in 0..SLICES {

@@ -19,7 +19,8 @@ pub(crate) type Round = [(Duration, u32); PIECES];
 /// Before anything is timed.
 pub(crate) const NOTHING: Round = [(Duration::ZERO, 0); PIECES];
 
-/// The seconds of a piece of work, the compressions that it needs, and the seconds of one compression in the same round.
+/// The seconds of a piece of work, the compressions that it needs, and the seconds of one compression in the same
+/// round.
 #[derive(Clone, Copy)]
 pub(crate) struct Time {
     seconds: f64,

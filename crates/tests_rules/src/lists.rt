@@ -29,14 +29,14 @@ use tests_aids::{Aided, Host, check_text};
 const SIGNATURE: [u8; 2508] = [0; 2508];
 
 /// The operations that have a name. The first five follow one another: user 0's first one, whose structure most replies
-/// show, and its second one, which is pending in most; its third one, as one after no structure; user 1's first one, and
-/// user 0's second one after that.
+/// show, and its second one, which is pending in most; its third one, as one after no structure; user 1's first one,
+/// and user 0's second one after that.
 ///
-/// At place 0 of each line of several users stands an operation of user 3 that no reply shows, at place 1 the first one of
-/// user 0, whose structure is shown. Then come that of user 2, which was placed before top and is pending; that of user 1,
-/// whose structure is top; the second one of user 0, placed after top's and before that was committed; and the own one,
-/// the second of user 1. Or, before the own one, comes the first of user 3, placed before top's was committed too. Or,
-/// right after top, the own one of user 3, placed when top's was committed.
+/// At place 0 of each line of several users stands an operation of user 3 that no reply shows, at place 1 the first one
+/// of user 0, whose structure is shown. Then come that of user 2, which was placed before top and is pending; that of
+/// user 1, whose structure is top; the second one of user 0, placed after top's and before that was committed; and the
+/// own one, the second of user 1. Or, before the own one, comes the first of user 3, placed before top's was committed
+/// too. Or, right after top, the own one of user 3, placed when top's was committed.
 ///
 /// In the line of the group users 2 and 3 raise group 64 by operations that were placed before top, which is user 0's
 /// second.

@@ -68,8 +68,9 @@ static PIECES: [(&[u8], &[u8]); 18] = [
     (b"$4097 sevens", &[7; 4097]),
 ];
 
-/// Of each case a line: a spot, a text, and whether the spot takes it. A spot is that of a root, a chunk or an i-node of
-/// a user, or of a block of a file, of a directory or of the table, whose i-node is told by its text; and then a number.
+/// Of each case a line: a spot, a text, and whether the spot takes it. A spot is that of a root, a chunk or an i-node
+/// of a user, or of a block of a file, of a directory or of the table, whose i-node is told by its text; and then a
+/// number.
 static CASES: &[u8] = b"\
     root|0|0|$root|yes\n\
     root|0|0|$later root|no\n\

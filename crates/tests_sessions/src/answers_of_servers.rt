@@ -220,8 +220,8 @@ fn blocks_of_a_look_are_checked_and_want_of_memory_is_told(rt: HostRuntime) {
     }
 }
 
-/// User 1's first operation, which it signs by hand: the handle of its structure is the digest of a text that is no root
-/// of an i-table. Before it are four operations of user 0.
+/// User 1's first operation, which it signs by hand: the handle of its structure is the digest of a text that is no
+/// root of an i-table. Before it are four operations of user 0.
 fn signs_no_root(rt: &impl Aided, town: &mut Town, text: &[u8]) {
     let kept = town.leave_home(rt, 1);
     let mut server = town.leave_server(rt);

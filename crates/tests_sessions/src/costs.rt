@@ -29,8 +29,8 @@ const DIRECTORY: usize = 2;
 /// The i-node of a file, which is stored or asked for.
 const INODE: usize = 1;
 
-/// What is asked for again once the largest file was laid out, which pushes what was read for the look out of the cache:
-/// four blocks of the table of principals, and the i-node of the file that is replaced.
+/// What is asked for again once the largest file was laid out, which pushes what was read for the look out of the
+/// cache: four blocks of the table of principals, and the i-node of the file that is replaced.
 const AGAIN: usize = 4 + INODE;
 
 /// Users 0 and 1 are listed, the root directory has a file, and each of both has a process behind it.
@@ -109,12 +109,13 @@ fn of_what_is_old(rt: HostRuntime) {
 /// A new file of one block in a directory of one block.
 const NEW: usize = LOOK + ROOT + 1 + INODE + OPERATION + TABLE + DIRECTORY;
 
-/// How many blocks more a directory of 1,000 names of five bytes has than one of ten: each name takes nine bytes, so that
-/// it has three blocks of 4,096 bytes. In one block at most 818 names have room, since the shortest take five bytes.
+/// How many blocks more a directory of 1,000 names of five bytes has than one of ten: each name takes nine bytes, so
+/// that it has three blocks of 4,096 bytes. In one block at most 818 names have room, since the shortest take five
+/// bytes.
 const MORE_BLOCKS: usize = 2;
 
-/// A directory is read and stored as a whole: its further blocks are asked for, and stored again. Nothing else is more in
-/// a directory of 1,000 names than in one of ten.
+/// A directory is read and stored as a whole: its further blocks are asked for, and stored again. Nothing else is more
+/// in a directory of 1,000 names than in one of ten.
 #[test]
 fn of_a_long_directory(rt: HostRuntime) {
     let rt = (rt, Here);
@@ -156,9 +157,9 @@ fn of_a_full_chunk(rt: HostRuntime) {
     all_end(&rt, &mut town, "0 ls / -> 0 first 0:3|new 0:68|");
 }
 
-/// What the second command of a session sends: it has nothing to finish, and asks for what the first one stored, the two
-/// blocks of the i-table and the two of the directory, but not for what that laid out, the i-node and the block of the
-/// file.
+/// What the second command of a session sends: it has nothing to finish, and asks for what the first one stored, the
+/// two blocks of the i-table and the two of the directory, but not for what that laid out, the i-node and the block of
+/// the file.
 const SECOND: [RequestKind; 6] = [
     RequestKind::Update,
     RequestKind::Get,

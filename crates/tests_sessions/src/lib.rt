@@ -1,6 +1,6 @@
 //! Tests of sessions. Commands by their words, over a server in memory and over TCP; what a server that lies comes to,
-//! and what a client that refuses; how many exchanges a command has; a session that is stopped at each of them, or whose
-//! memory runs out.
+//! and what a client that refuses; how many exchanges a command has; a session that is stopped at each of them, or
+//! whose memory runs out.
 #![tactic(auto)]
 
 #[cfg(test)]

@@ -12,8 +12,8 @@ use tests_aids::{Aided, check, check_text, given};
 /// to be signed then.
 ///
 /// What was committed last goes out again. Then comes the look: its certificate, and two blocks; its structure; two
-/// blocks of the root directory, and the two texts of the file, which are stored. Then comes the operation that puts the
-/// file: its certificate, and the four texts of the own part, which are stored; its structure.
+/// blocks of the root directory, and the two texts of the file, which are stored. Then comes the operation that puts
+/// the file: its certificate, and the four texts of the own part, which are stored; its structure.
 static DECLARED: &[u8; EXCHANGES] = b"011111111222222";
 
 static UNSIGNED: &[u8; EXCHANGES] = b"-yyy-----yyyyy-";

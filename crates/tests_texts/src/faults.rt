@@ -1,7 +1,7 @@
 //! Texts that the formats' description spells out, and the first fault of those that are none. A table is one byte
 //! string, since the proof of a table costs much, and that of a byte string nothing: of each row a line, which is a
-//! fault's name and the pieces of the text after it, with `|` between; `$` and a name stand for a piece that comes often
-//! or is long, and a line with `#` before it tells of the rows below it.
+//! fault's name and the pieces of the text after it, with `|` between; `$` and a name stand for a piece that comes
+//! often or is long, and a line with `#` before it tells of the rows below it.
 
 use crate::here::{Here, pieces};
 use directory::Directory;

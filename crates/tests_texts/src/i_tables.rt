@@ -7,8 +7,8 @@ use std::alloc::Global;
 use tests_aids::numbers::{i_number, principal};
 use tests_aids::{Aided, Host, check};
 
-/// The handle of the whole table, and the one once i-number 2 has a digest of 8s: computed with Python's hashlib from the
-/// formats of chunks and roots.
+/// The handle of the whole table, and the one once i-number 2 has a digest of 8s: computed with Python's hashlib from
+/// the formats of chunks and roots.
 const WHOLE: [u8; 32] = [
     0xe7, 0x28, 0x61, 0x58, 0x16, 0xa8, 0xa5, 0x12, 0x5a, 0xc6, 0x36, 0x3e, 0x66, 0xfe, 0x1b, 0x1c,
     0x21, 0xaa, 0xc4, 0xf0, 0x24, 0x95, 0xea, 0xaa, 0x88, 0xbc, 0x52, 0x7a, 0xd2, 0x7f, 0x5f, 0x7c,
