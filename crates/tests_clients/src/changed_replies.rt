@@ -2,17 +2,11 @@
 //! that, when the client doesn't verify again what it verified.
 
 use crate::here::Here;
-use crate::several_users::breaks;
-use crate::two_users::{Scene, Users, accepts, both_are_listed, is_accepted};
-use client_tree::Held;
+use crate::two_users::{Scene, both_are_listed};
 use client_verify::Rule;
 use layout::let_go;
-use std::alloc::Global;
 use tests_aids::Host;
 use tests_aids::texts::joined;
-use tests_client_aids::clients::{MemoryClient, declare};
-use tests_client_aids::servers::{Server, answers_update_so};
-use wire::Status;
 
 /// The place of a byte in a reply whose lowest bit is changed, and the rule that the reply then breaks first.
 type Change = (usize, Rule);
@@ -70,106 +64,41 @@ fn flipped(rt: &impl Host, text: &[u8], place: usize) -> Vec<u8> {
     text
 }
 
-/// This change of the reply breaks its rule.
-fn refuses_change(
-    rt: &impl Host,
-    store: &Held<Global>,
-    client: &mut MemoryClient,
-    honest: &[u8],
-    (place, rule): &Change,
-) {
-    let changed = flipped(rt, honest, *place);
-    breaks(rt, client, store, &changed, Some(*rule));
-}
-
-/// The first bytes of the reply, so many, break Form.
-fn refuses_front(
-    rt: &impl Host,
-    store: &Held<Global>,
-    client: &mut MemoryClient,
-    honest: &[u8],
-    size: usize,
-) {
-    let front = honest.get(..size).expect(rt, "a front of the reply");
-    breaks(rt, client, store, front, Some(Rule::Form));
-}
-
-/// Each change of the reply breaks its rule, and each cut breaks Form.
-fn refuses_changes(
-    rt: &impl Host,
-    store: &Held<Global>,
-    client: &mut MemoryClient,
-    honest: &[u8],
-    changes: &[Change],
-) {
-    for change in changes {
-        refuses_change(rt, store, client, honest, change);
+/// The user refuses each change of the reply by its rule, and each cut by Form.
+fn refuses_changes(rt: &impl Host, scene: &mut Scene, user: u8, honest: &[u8], changes: &[Change]) {
+    for (place, rule) in changes {
+        scene.refuses(rt, user, &flipped(rt, honest, *place), *rule);
     }
     for size in &CUTS {
-        refuses_front(rt, store, client, honest, *size);
+        let front = honest.get(..*size).expect(rt, "a front of the reply");
+        scene.refuses(rt, user, front, Rule::Form);
     }
 }
 
-/// The client declares an operation, whose honest reply has this size: it refuses each change of it, accepts it,
-/// refuses each change once more, and accepts and signs it still.
-fn judges(
-    rt: &impl Host,
-    store: &mut Held<Global>,
-    client: &mut MemoryClient,
-    server: &mut Server,
-    (size, changes): (usize, &[Change]),
-) {
-    let update = declare(rt, client);
-    let honest = answers_update_so(rt, server, &update, Status::Ok);
+/// User 1 has committed, and another user's operation is placed and stays pending. The user declares its second
+/// operation, whose honest reply has this size: it refuses each change of it, accepts it, refuses each change once
+/// more, and accepts and signs it still.
+fn judges(rt: &impl Host, user: u8, pending: u8, size: usize, changes: &[Change]) {
+    let mut scene = both_are_listed(rt);
+    let _structure = scene.operates(rt, 1);
+    let _pending = scene.declares(rt, pending);
+    let (_update, honest) = scene.declares(rt, user);
     assert!(rt; honest.len() == size);
-    refuses_changes(rt, store, client, &honest, changes);
-    is_accepted(rt, store, client, &honest);
-    refuses_changes(rt, store, client, &honest, changes);
-    let _structure = accepts(rt, store, client, &honest);
+    refuses_changes(rt, &mut scene, user, &honest, changes);
+    scene.takes(rt, user, &honest);
+    refuses_changes(rt, &mut scene, user, &honest, changes);
+    let _structure = scene.accepts(rt, user, &honest);
+    let_go(scene);
 }
 
-/// The client declares an operation, which is placed and stays pending.
-fn waits(rt: &impl Host, server: &mut Server, client: &mut MemoryClient) {
-    let update = declare(rt, client);
-    let _reply = answers_update_so(rt, server, &update, Status::Ok);
-}
-
-/// User 0 judges the reply to its second operation.
-fn superuser_judges(rt: &impl Host, scene: &mut Scene) {
-    let Scene { users, server, .. } = scene;
-    let Users {
-        superuser,
-        store,
-        ..
-    } = users;
-    judges(rt, store, superuser, server, (10466, &TO_SUPERUSER));
-}
-
-/// User 1 judges the reply to its second operation.
-fn first_judges(rt: &impl Host, scene: &mut Scene) {
-    let Scene { users, server, .. } = scene;
-    let Users { first, store, .. } = users;
-    judges(rt, store, first, server, (10456, &TO_FIRST));
-}
-
-/// User 1 has committed, and user 2's operation is pending.
+/// User 2's operation is pending.
 #[test]
 fn changes_shown_to_user_0(rt: HostRuntime) {
-    let rt = &(rt, Here);
-    let mut scene = both_are_listed(rt);
-    let _structure = scene.first_operates(rt);
-    waits(rt, &mut scene.server, &mut scene.users.second);
-    superuser_judges(rt, &mut scene);
-    let_go(scene);
+    judges(&(rt, Here), 0, 2, 10466, &TO_SUPERUSER);
 }
 
-/// User 1 has committed, and user 0's second operation is pending.
+/// User 0's second operation is pending.
 #[test]
 fn changes_shown_to_user_1(rt: HostRuntime) {
-    let rt = &(rt, Here);
-    let mut scene = both_are_listed(rt);
-    let _structure = scene.first_operates(rt);
-    waits(rt, &mut scene.server, &mut scene.users.superuser);
-    first_judges(rt, &mut scene);
-    let_go(scene);
+    judges(&(rt, Here), 1, 0, 10456, &TO_FIRST);
 }

@@ -3,19 +3,20 @@
 
 use crate::here::Here;
 use crate::several_users::breaks;
-use crate::two_users::{BOTH, NONE, ONE, Scene, Users, accepts, both_are_listed, is_accepted};
+use crate::two_users::{BOTH, NONE, ONE, Scene, accepts, both_are_listed, is_accepted};
 use client_tree::Held;
 use client_verify::Rule;
 use layout::{User, let_go};
 use lms_sign::PublicKey;
 use std::alloc::Global;
 use tests_aids::texts::{joined, list, listed, named, only_pending, plan, reply};
-use tests_aids::{Host, check, check_text};
+use tests_aids::{Host, check};
 use tests_client_aids::clients::{Kept, MemoryClient, open_over, signed};
 use tests_client_aids::crashes::{
     Left, after_crash, has_declared, has_failed, has_signed, structure,
 };
-use tests_client_aids::servers::{Server, answers_commit, answers_update_so};
+use tests_client_aids::servers::{Server, answers_commit, answers_update};
+use tests_client_aids::three::Three;
 use wire::Status;
 
 /// The replies to user 1's first certificate.
@@ -30,33 +31,23 @@ struct Replies {
     mixed: Vec<u8>,
 }
 
-/// The server answers this to the certificate.
-fn is_true(rt: &impl Host, server: &mut Server, update: &[u8], by_hand: &[u8]) {
-    let found = answers_update_so(rt, server, update, Status::Ok);
-    check_text(rt, &found, by_hand);
-}
-
-/// The replies by hand, where these are the structures of users 0 and 2 as replies show them.
-fn replies_to(rt: &impl Host, update: Vec<u8>, zero: &[u8], two: &[u8]) -> Replies {
-    let both = list(rt, &[zero, two]);
+/// User 1 declares, after user 2 has operated at the other server: the replies, made by hand, which are the true ones
+/// of both.
+fn shown_to_first(rt: &impl Host, scene: &mut Scene) -> Replies {
+    let two = scene.operates(rt, 2);
+    let (update, _reply) = scene.declares(rt, 1);
+    let both = list(rt, &[&scene.zero, &two]);
     let own = only_pending(rt, 1, &update, ONE);
-    let after_both = only_pending(rt, 1, &update, BOTH);
+    let alone = reply(rt, &listed(rt, &scene.zero), &own);
+    let beside = reply(rt, &both, &only_pending(rt, 1, &update, BOTH));
+    answers_update(rt, &mut scene.server, &update, Status::Ok, &alone);
+    answers_update(rt, &mut scene.other, &update, Status::Ok, &beside);
     Replies {
-        alone: reply(rt, &listed(rt, zero), &own),
-        beside: reply(rt, &both, &after_both),
         mixed: reply(rt, &both, &own),
         update,
+        alone,
+        beside,
     }
-}
-
-/// User 1 declares, after user 2 has operated at the other server: the replies, which are the true ones of both.
-fn shown_to_first(rt: &impl Host, scene: &mut Scene) -> Replies {
-    let two = scene.second_operates_apart(rt);
-    let (update, _reply) = scene.first_declares(rt);
-    let replies = replies_to(rt, update, &scene.zero, &two);
-    is_true(rt, &mut scene.server, &replies.update, &replies.alone);
-    is_true(rt, &mut scene.other, &replies.update, &replies.beside);
-    replies
 }
 
 /// Two servers of different lines, the blocks, and what they show to user 1's client.
@@ -69,23 +60,25 @@ struct Fork {
     replies: Replies,
 }
 
-/// What is left of the scene where user 1's client crashes.
-fn left_of(rt: &impl Host, scene: Scene, replies: Replies) -> (Fork, Kept) {
+/// A fork, and what user 1's client left that declared, and crashed.
+fn new_fork(rt: &impl Host) -> (Fork, Kept) {
+    let mut scene = both_are_listed(rt);
+    let replies = shown_to_first(rt, &mut scene);
     let Scene {
-        pinned,
         users,
+        store,
         server,
         other,
         zero: _zero,
     } = scene;
-    let Users {
-        superuser,
-        first,
-        second,
-        store,
+    let Three {
+        zero,
+        one,
+        two,
+        pinned,
+        ..
     } = users;
-    let_go(superuser);
-    let_go(second);
+    let_go((zero, two));
     let fork = Fork {
         pinned,
         server,
@@ -93,14 +86,7 @@ fn left_of(rt: &impl Host, scene: Scene, replies: Replies) -> (Fork, Kept) {
         store,
         replies,
     };
-    (fork, after_crash(rt, first, Left::Synced))
-}
-
-/// A fork, and what user 1's client left that declared.
-fn new_fork(rt: &impl Host) -> (Fork, Kept) {
-    let mut scene = both_are_listed(rt);
-    let replies = shown_to_first(rt, &mut scene);
-    left_of(rt, scene, replies)
+    (fork, after_crash(rt, one, Left::Synced))
 }
 
 /// User 1's client over what was kept.
@@ -109,53 +95,9 @@ fn opened(rt: &impl Host, fork: &Fork, kept: Kept) -> MemoryClient {
     open_over(rt, user, fork.pinned, kept)
 }
 
-/// The client crashes, nothing unsynced is kept, and it is opened again.
-fn restarted(rt: &impl Host, fork: &Fork, client: MemoryClient) -> MemoryClient {
-    opened(rt, fork, after_crash(rt, client, Left::Synced))
-}
-
-/// It accepts the first server's reply.
-fn accepts_alone(rt: &impl Host, fork: &mut Fork, client: &mut MemoryClient) {
-    is_accepted(rt, &mut fork.store, client, &fork.replies.alone);
-}
-
-/// It refuses what is mixed.
-fn refuses_mixed(rt: &impl Host, fork: &mut Fork, client: &mut MemoryClient) {
-    let Fork { store, replies, .. } = fork;
-    breaks(rt, client, store, &replies.mixed, Some(Rule::Numbers));
-}
-
-/// It accepts the other server's reply, and signs: its structure.
-fn accepts_beside(rt: &impl Host, fork: &mut Fork, client: &mut MemoryClient) -> Vec<u8> {
-    let Fork { store, replies, .. } = fork;
-    let structure = accepts(rt, store, client, &replies.beside);
-    is_over(rt, &structure, &replies.update, BOTH);
-    structure
-}
-
-/// The other server commits this structure, and the first one doesn't.
-fn commits_beside(rt: &impl Host, fork: &mut Fork, structure: &[u8]) {
-    answers_commit(rt, &mut fork.server, structure, Status::NotPending);
-    answers_commit(rt, &mut fork.other, structure, Status::Ok);
-}
-
-/// The first server commits this structure, and the other one doesn't.
-fn commits_alone(rt: &impl Host, fork: &mut Fork, structure: &[u8]) {
-    answers_commit(rt, &mut fork.other, structure, Status::NotPending);
-    answers_commit(rt, &mut fork.server, structure, Status::Ok);
-}
-
-/// It refuses what is mixed, and signs the structure over the other server's reply, which stands after a restart: the
-/// other server commits it, and the first one doesn't.
-fn signs_beside(rt: &impl Host, fork: &mut Fork, client: MemoryClient) {
-    let mut client = client;
-    has_declared(rt, &client, 1, &fork.replies.update);
-    refuses_mixed(rt, fork, &mut client);
-    let structure = accepts_beside(rt, fork, &mut client);
-    let client = restarted(rt, fork, client);
-    has_signed(rt, &client, 1, &structure);
-    let_go(client);
-    commits_beside(rt, fork, &structure);
+/// The client crashes, this is kept, and it is opened again.
+fn restarted(rt: &impl Host, fork: &Fork, client: MemoryClient, left: Left) -> MemoryClient {
+    opened(rt, fork, after_crash(rt, client, left))
 }
 
 /// The structure is of the plan of this vector, without entries.
@@ -166,13 +108,35 @@ fn is_over(rt: &impl Host, structure: &[u8], update: &[u8], vector: &[u8]) {
     check(rt, structure.starts_with(&by_hand), "the plan");
 }
 
+/// The client has declared, refuses what is mixed, accepts the other server's reply, and signs: its structure.
+fn signs_over_beside(rt: &impl Host, fork: &mut Fork, client: &mut MemoryClient) -> Vec<u8> {
+    let Fork { store, replies, .. } = fork;
+    has_declared(rt, client, 1, &replies.update);
+    breaks(rt, client, store, &replies.mixed, Some(Rule::Numbers));
+    let structure = accepts(rt, store, client, &replies.beside);
+    is_over(rt, &structure, &replies.update, BOTH);
+    structure
+}
+
+/// The structure that the client signs over the other server's reply stands after a restart: the other server commits
+/// it, and the first one doesn't.
+fn signs_beside(rt: &impl Host, fork: &mut Fork, client: MemoryClient) {
+    let mut client = client;
+    let structure = signs_over_beside(rt, fork, &mut client);
+    let client = restarted(rt, fork, client, Left::Synced);
+    has_signed(rt, &client, 1, &structure);
+    let_go(client);
+    answers_commit(rt, &mut fork.server, &structure, Status::NotPending);
+    answers_commit(rt, &mut fork.other, &structure, Status::Ok);
+}
+
 #[test]
 fn another_reply_after_a_crash(rt: HostRuntime) {
     let rt = (rt, Here);
     let (mut fork, kept) = new_fork(&rt);
     let mut client = opened(&rt, &fork, kept);
-    accepts_alone(&rt, &mut fork, &mut client);
-    let client = restarted(&rt, &fork, client);
+    is_accepted(&rt, &mut fork.store, &mut client, &fork.replies.alone);
+    let client = restarted(&rt, &fork, client, Left::Synced);
     signs_beside(&rt, &mut fork, client);
     let_go(fork);
 }
@@ -183,20 +147,7 @@ const BEFORE_RECORD: u64 = 9;
 
 const BEFORE_GATE: u64 = 11;
 
-/// A device fails while the client signs over the accepted reply.
-fn sign_fails(rt: &impl Host, client: &mut MemoryClient) {
-    let answer = signed(rt, client);
-    has_failed(rt, client, &answer);
-}
-
-/// User 1's client, whose journal fails after so many calls.
-fn opened_before(rt: &impl Host, fork: &Fork, kept: Kept, calls: u64) -> MemoryClient {
-    let mut kept = kept;
-    kept.journal.fail_after(calls);
-    opened(rt, fork, kept)
-}
-
-/// The client accepts the first server's reply, its journal fails after so many calls in `sign`, and a crash leaves
+/// The client accepts the first server's reply, its journal fails after so many calls, in `sign`, and a crash leaves
 /// this.
 fn fails_to_sign(
     rt: &impl Host,
@@ -205,10 +156,13 @@ fn fails_to_sign(
     calls: u64,
     left: Left,
 ) -> MemoryClient {
-    let mut client = opened_before(rt, fork, kept, calls);
-    accepts_alone(rt, fork, &mut client);
-    sign_fails(rt, &mut client);
-    opened(rt, fork, after_crash(rt, client, left))
+    let mut kept = kept;
+    kept.journal.fail_after(calls);
+    let mut client = opened(rt, fork, kept);
+    is_accepted(rt, &mut fork.store, &mut client, &fork.replies.alone);
+    let answer = signed(rt, &mut client);
+    has_failed(rt, &client, &answer);
+    restarted(rt, fork, client, left)
 }
 
 #[test]
@@ -220,7 +174,8 @@ fn another_reply_after_a_crash_in_sign(rt: HostRuntime) {
     let_go(fork);
 }
 
-/// The structure over the first server's reply stands in the journal, and is the one of its number.
+/// The structure over the first server's reply stands in the journal, and is the one of its number: the first server
+/// commits it, and the other one doesn't.
 #[test]
 fn no_other_reply_once_a_structure_stands(rt: HostRuntime) {
     let rt = (rt, Here);
@@ -229,6 +184,7 @@ fn no_other_reply_once_a_structure_stands(rt: HostRuntime) {
     let structure = structure(&rt, &client);
     is_over(&rt, &structure, &fork.replies.update, ONE);
     let_go(client);
-    commits_alone(&rt, &mut fork, &structure);
+    answers_commit(&rt, &mut fork.other, &structure, Status::NotPending);
+    answers_commit(&rt, &mut fork.server, &structure, Status::Ok);
     let_go(fork);
 }

@@ -1,6 +1,6 @@
 //! Tests of clients among others, in replies that are made by hand or that a server changes: what others signed, wrote
-//! and placed; which blocks are asked for; clients whom a server shows different lines, before a crash and after one; and
-//! clients that are opened again, in each phase and after each call of their devices that fails.
+//! and placed; which blocks are asked for; clients whom a server shows different lines, before a crash and after one;
+//! and clients that are opened again, in each phase and after each call of their devices that fails.
 #![tactic(auto)]
 
 #[cfg(test)]

@@ -3,6 +3,7 @@
 
 use crate::here::Here;
 use crate::several_users::{breaks, keep_each};
+use crate::two_users::ONE;
 use client_tree::Held;
 use client_verify::{Rule, Step};
 use layout::{digest, let_go};
@@ -19,9 +20,9 @@ pub(crate) const SIZE: u32 = 4101;
 
 /// Its text: user 0 is a member of the groups 64 to 82.
 fn table_text(rt: &impl Host, zero: &PublicKey, one: &PublicKey) -> Vec<u8> {
-    let mut text = joined(rt, &[b"SPT1\x40"]);
-    push(rt, &mut text, &listing(rt, 0, 0, zero.as_bytes()));
-    push(rt, &mut text, &listing(rt, 1, 1, one.as_bytes()));
+    let zero = listing(rt, 0, 0, zero.as_bytes());
+    let one = listing(rt, 1, 1, one.as_bytes());
+    let mut text = joined(rt, &[b"SPT1\x40", &zero, &one]);
     for user in 2..64 {
         push(rt, &mut text, &listing(rt, user, 1, FORM));
     }
@@ -36,14 +37,6 @@ fn push(rt: &impl Host, text: &mut Vec<u8>, bytes: &[u8]) {
     text.extend_from_slice(bytes).expect(rt, "memory");
 }
 
-/// Its two blocks.
-fn blocks_of(rt: &impl Host, zero: &PublicKey, one: &PublicKey) -> [Vec<u8>; 2] {
-    let text = table_text(rt, zero, one);
-    assert!(rt; text.len() == 4101);
-    let (front, rest) = text.split_at(4096);
-    [joined(rt, &[front]), joined(rt, &[rest])]
-}
-
 /// User 0's key, the table's blocks, a client of user 1, and the certificate that it declared.
 #[derive(Drop)]
 pub(crate) struct Scene {
@@ -55,20 +48,22 @@ pub(crate) struct Scene {
 
 pub(crate) fn new_scene(rt: &impl Host) -> Scene {
     let (key, own) = (key_of(rt, 0), key_of(rt, 1));
-    let blocks = blocks_of(rt, &key.public(), &own.public());
+    let text = table_text(rt, &key.public(), &own.public());
+    assert!(rt; text.len() == 4101);
+    let (front, rest) = text.split_at(4096);
     let mut client = client_with(rt, 1, own, key.public());
     let update = declare(rt, &mut client);
     Scene {
         key,
-        blocks,
+        blocks: [joined(rt, &[front]), joined(rt, &[rest])],
         client,
         update,
     }
 }
 
 /// The text without its last byte.
-fn cut(rt: &impl Host, text: &[u8]) -> Vec<u8> {
-    joined(rt, &[&text[..text.len().saturating_sub(1)]])
+fn cut(text: &[u8]) -> &[u8] {
+    &text[..text.len().saturating_sub(1)]
 }
 
 /// The text with the lowest bit of its first byte changed, after which neither block is one of a table.
@@ -89,7 +84,19 @@ pub(crate) fn store_of(rt: &impl Host, blocks: &[Vec<u8>; 2]) -> (Held<Global>, 
     (store, root)
 }
 
-/// The reply to the certificate after user 0's structure over the i-table of this root, where the plan has this vector.
+/// The reply to the certificate after this signed structure of user 0's, where the plan has this vector.
+pub(crate) fn reply_after(
+    rt: &impl Host,
+    structure: &[u8],
+    update: &[u8],
+    vector: &[u8],
+) -> Vec<u8> {
+    let plan = plan(rt, 1, 1, &named(update), vector, b"\0");
+    let own = pending(rt, update, &plan);
+    reply(rt, &listed(rt, &shown(rt, structure)), &listed(rt, &own))
+}
+
+/// The same after user 0's structure over the i-table of this root.
 pub(crate) fn reply_with(
     rt: &impl Host,
     key: &PrivateKey<Global>,
@@ -97,43 +104,12 @@ pub(crate) fn reply_with(
     update: &[u8],
     vector: &[u8],
 ) -> Vec<u8> {
-    let superuser = structure_over(rt, key, 1, root);
-    let plan = plan(rt, 1, 1, &named(update), vector, b"\0");
-    let own = pending(rt, update, &plan);
-    reply(rt, &listed(rt, &shown(rt, &superuser)), &listed(rt, &own))
+    let structure = structure_over(rt, key, 1, root);
+    reply_after(rt, &structure, update, vector)
 }
 
-/// The same, where the plan has the vector of a good reply.
-pub(crate) fn reply_over(
-    rt: &impl Host,
-    key: &PrivateKey<Global>,
-    root: &[u8],
-    update: &[u8],
-) -> Vec<u8> {
-    reply_with(rt, key, root, update, b"\x02\0\0\0\0\x01\x01\0\0\0\x01")
-}
-
-/// What is handed in breaks the rule on blocks.
-fn refuses(rt: &impl Host, client: &mut MemoryClient, block: Option<&[u8]>) {
-    let step = hand(rt, client, block);
-    let is_broken = matches!(step, Step::Broken(Rule::Block));
-    check(rt, is_broken, "another block than that asked for");
-}
-
-/// This text, handed in, breaks it.
-fn refuses_text(rt: &impl Host, client: &mut MemoryClient, text: Vec<u8>) {
-    refuses(rt, client, Some(&text));
-}
-
-/// Each fault is handed in in the place of a block, where the other block of the table is this.
-fn refuses_each(rt: &impl Host, client: &mut MemoryClient, block: &[u8], other: &[u8]) {
-    refuses(rt, client, None);
-    refuses_text(rt, client, cut(rt, block));
-    refuses_text(rt, client, flipped(rt, block));
-    refuses(rt, client, Some(other));
-}
-
-/// The block is asked for, is handed in after each fault, and what comes next is answered.
+/// The block is asked for, and is handed in after each fault in its place, one of which is the other block: what comes
+/// next is answered.
 fn takes_block(
     rt: &impl Host,
     client: &mut MemoryClient,
@@ -145,7 +121,13 @@ fn takes_block(
         panic!(rt; "no block is asked for");
     };
     check(rt, asked == digest(block), "the block that is asked for");
-    refuses_each(rt, client, block, other);
+    let flipped = flipped(rt, block);
+    let faults: [Option<&[u8]>; 4] = [None, Some(cut(block)), Some(&flipped), Some(other)];
+    for fault in faults {
+        let step = hand(rt, client, fault);
+        let is_broken = matches!(step, Step::Broken(Rule::Block));
+        check(rt, is_broken, "another block than that asked for");
+    }
     hand(rt, client, Some(block))
 }
 
@@ -155,7 +137,7 @@ fn faults_in_the_place_of_blocks(rt: HostRuntime) {
     let mut scene = new_scene(&rt);
     let Texts { root, chunk, inode } = texts_over(&rt, SIZE, &scene.blocks);
     let [front, rest] = &scene.blocks;
-    let text = reply_over(&rt, &scene.key, &root, &scene.update);
+    let text = reply_with(&rt, &scene.key, &root, &scene.update, ONE);
     let mut step = step_on(&rt, &mut scene.client, &text);
     for (block, other) in [
         (&root, &chunk),
@@ -171,9 +153,10 @@ fn faults_in_the_place_of_blocks(rt: HostRuntime) {
 }
 
 /// The reply over an i-node that names these blocks breaks the rule first.
-fn breaks_over(rt: &impl Host, scene: &mut Scene, blocks: [Vec<u8>; 2], rule: Option<Rule>) {
+fn breaks_over(rt: &impl Host, scene: &mut Scene, [front, rest]: [&[u8]; 2], rule: Option<Rule>) {
+    let blocks = [joined(rt, &[front]), joined(rt, &[rest])];
     let (store, root) = store_of(rt, &blocks);
-    let text = reply_over(rt, &scene.key, &root, &scene.update);
+    let text = reply_with(rt, &scene.key, &root, &scene.update, ONE);
     breaks(rt, &mut scene.client, &store, &text, rule);
     let_go(store);
 }
@@ -184,18 +167,18 @@ fn faults_that_the_inode_names(rt: HostRuntime) {
     let mut scene = new_scene(&rt);
     let [front, rest] = &scene.blocks;
     let (front, rest) = (joined(&rt, &[front]), joined(&rt, &[rest]));
-    let copy = |text: &[u8]| joined(&rt, &[text]);
-    let cases = [
-        ([copy(&front), copy(&rest)], None),
-        ([copy(&rest), copy(&front)], Some(Rule::Content)),
-        ([cut(&rt, &front), copy(&rest)], Some(Rule::Content)),
-        ([flipped(&rt, &front), copy(&rest)], Some(Rule::Content)),
-        ([copy(&front), cut(&rt, &rest)], Some(Rule::Content)),
-        ([copy(&front), flipped(&rt, &rest)], Some(Rule::Content)),
-        ([copy(&front), copy(&front)], Some(Rule::Content)),
+    let (bad_front, bad_rest) = (flipped(&rt, &front), flipped(&rt, &rest));
+    breaks_over(&rt, &mut scene, [&front, &rest], None);
+    let cases: [[&[u8]; 2]; 6] = [
+        [&rest, &front],
+        [cut(&front), &rest],
+        [&bad_front, &rest],
+        [&front, cut(&rest)],
+        [&front, &bad_rest],
+        [&front, &front],
     ];
-    for (blocks, rule) in cases {
-        breaks_over(&rt, &mut scene, blocks, rule);
+    for blocks in cases {
+        breaks_over(&rt, &mut scene, blocks, Some(Rule::Content));
     }
     let_go(scene);
 }

@@ -3,8 +3,8 @@
 
 use crate::here::Here;
 use crate::several_users::{
-    Operation, SECOND_OF_GROUP, Scene, THIRD, breaks, first_handle, keep_each, list_of, new_scene,
-    own_row, structure_row,
+    Operation, SECOND_OF_GROUP, Scene, THIRD, breaks, first_handle, keep_each, looked, new_scene,
+    reply_after, structure_row,
 };
 use client_tree::Held;
 use client_verify::{Look, Rule};
@@ -12,14 +12,12 @@ use layout::{digest, let_go};
 use std::alloc::Global;
 use tests_aids::blocks::{HELLO, HELLO_INODE};
 use tests_aids::numbers::{i_number, principal};
-use tests_aids::texts::{joined, listed, reply};
+use tests_aids::texts::joined;
 use tests_aids::{Host, check, check_text};
-use tests_client_aids::clients::{MemoryClient, declare, declare_changes, give, look_at, sign};
+use tests_client_aids::changes::{Planned, nothing, plan_change};
+use tests_client_aids::clients::{MemoryClient, declare, declare_changes, look_at, sign};
 use tree_parts::Blocks;
 use update_cert::{Action, Change};
-
-/// How many blocks are handed in at most for one look.
-const BOUND: usize = 100;
 
 /// The texts of an i-table with one i-number, 5 of chunk 0 or 69 of chunk 1: whose root it is, the number by which the
 /// root lists the chunk, that of the chunk itself, the i-node, how many of the texts are stored, and the rule that is
@@ -88,61 +86,40 @@ static PARTS: [Part; 8] = [
     },
 ];
 
-/// Stores as many of these texts as the part says.
-fn keep_some(rt: &impl Host, store: &mut Held<Global>, texts: &[&[u8]], count: usize) {
-    for (place, text) in texts.iter().enumerate() {
-        if place < count {
-            keep_each(rt, store, &[text]);
-        }
-    }
-}
-
-/// Stores the texts of a part, and gives its handle.
+/// Stores as many of the texts of a part as it says, and gives its handle.
 fn store_part(rt: &impl Host, store: &mut Held<Global>, part: &Part) -> [u8; 32] {
     let place = if part.chunk == 0 { 5 } else { 69 };
-    let chunk = joined(
-        rt,
-        &[
-            b"STC1",
-            &[part.chunk, 1, 0, place],
-            digest(part.inode).as_bytes(),
-        ],
-    );
-    let root = joined(
-        rt,
-        &[
-            b"STR1",
-            &[part.owner, 1, part.listed],
-            digest(&chunk).as_bytes(),
-        ],
-    );
-    keep_some(rt, store, &[&root, &chunk, part.inode, HELLO], part.stored);
+    let pairs = [part.chunk, 1, 0, place];
+    let chunk = joined(rt, &[b"STC1", &pairs, digest(part.inode).as_bytes()]);
+    let chunks = [part.owner, 1, part.listed];
+    let root = joined(rt, &[b"STR1", &chunks, digest(&chunk).as_bytes()]);
+    let texts: &[&[u8]] = &[&root, &chunk, part.inode, HELLO];
+    let stored = texts.get(..part.stored).expect(rt, "so many texts");
+    keep_each(rt, store, stored);
     *digest(&root).as_bytes()
 }
 
 /// The certificate of an operation that removes 64:5.
 fn removes(rt: &impl Host, client: &mut MemoryClient) -> Vec<u8> {
+    let mut planned = nothing(rt);
     let change = Change::new(principal(rt, 64), i_number(rt, 5), Action::Remove);
-    let mut changes = Vec::new(rt.alloc());
-    changes.push(change).expect(rt, "memory");
-    declare_changes(rt, client, changes, Vec::new(rt.alloc()))
+    plan_change(rt, &mut planned, change);
+    let Planned { changes, laid } = planned;
+    declare_changes(rt, client, changes, laid)
 }
 
-/// The reply to that certificate, after user 2's structure with this handle in the record of the group.
-fn reply_after(rt: &impl Host, scene: &Scene, handle: &[u8; 32], update: &[u8]) -> Vec<u8> {
-    let row = structure_row(rt, scene, &SECOND_OF_GROUP, &first_handle(rt, 2), handle);
-    let own = own_row(rt, update, &[(0, 2), (1, 1), (2, 1), (64, 2)], b"\0");
-    reply(rt, &list_of(rt, scene, &[row]), &listed(rt, &own))
-}
-
+/// The reply to that certificate is after user 2's structure with the handle of the part in the record of the group.
 #[test]
 fn part_of_a_raised_group(rt: HostRuntime) {
     let rt = (rt, Here);
     let (mut scene, mut client) = new_scene(&rt);
     let update = removes(&rt, &mut client);
+    let own = [(0, 2), (1, 1), (2, 1), (64, 2)];
     for part in &PARTS {
         let handle = store_part(&rt, &mut scene.store, part);
-        let text = reply_after(&rt, &scene, &handle, &update);
+        let two = first_handle(&rt, 2);
+        let row = structure_row(&rt, &scene, &SECOND_OF_GROUP, &two, &handle);
+        let text = reply_after(&rt, &scene, &[row], &update, &own);
         breaks(&rt, &mut client, &scene.store, &text, part.broken);
     }
     let_go(client);
@@ -155,38 +132,9 @@ const THIRD_AFTER: Operation = Operation {
     ..THIRD
 };
 
-/// The reply to a certificate without changes, after structures of users 2 and 3 with these handles.
-fn reply_beside(rt: &impl Host, scene: &Scene, handles: &[[u8; 32]; 3], update: &[u8]) -> Vec<u8> {
-    let [two, three, group] = handles;
-    let second = structure_row(rt, scene, &SECOND_OF_GROUP, two, group);
-    let third = structure_row(rt, scene, &THIRD_AFTER, three, group);
-    let versions = [(0, 2), (1, 1), (2, 1), (3, 1), (64, 1)];
-    let own = own_row(rt, update, &versions, b"\0");
-    let rows = [second, third];
-    reply(rt, &list_of(rt, scene, &rows), &listed(rt, &own))
-}
-
-/// What stands at i-number 5 of a principal.
-fn look_through(
-    rt: &impl Host,
-    client: &mut MemoryClient,
-    store: &Held<Global>,
-    owner: u8,
-) -> Look<Global> {
-    let mut look = look_at(rt, client, owner, 5);
-    for _ in 0..BOUND {
-        let Look::Need(digest) = look else {
-            return look;
-        };
-        let next = give(rt, client, store.get(digest));
-        let_go(look);
-        look = next;
-    }
-    panic!(rt; "too many blocks")
-}
-
-/// User 2's root is one of user 5's, user 3's isn't stored, and the group has a file.
-fn handles_of(rt: &impl Host, scene: &mut Scene) -> [[u8; 32]; 3] {
+/// The reply to a certificate without changes, after structures of users 2 and 3: user 2's root is one of user 5's,
+/// user 3's isn't stored, and the group has a file.
+fn reply_beside(rt: &impl Host, scene: &mut Scene, update: &[u8]) -> Vec<u8> {
     let two = Part { owner: 5, ..WHOLE };
     let three = Part {
         owner: 3,
@@ -195,27 +143,30 @@ fn handles_of(rt: &impl Host, scene: &mut Scene) -> [[u8; 32]; 3] {
     };
     let two = store_part(rt, &mut scene.store, &two);
     let three = store_part(rt, &mut scene.store, &three);
-    [two, three, store_part(rt, &mut scene.store, &WHOLE)]
+    let group = store_part(rt, &mut scene.store, &WHOLE);
+    let rows = [
+        structure_row(rt, scene, &SECOND_OF_GROUP, &two, &group),
+        structure_row(rt, scene, &THIRD_AFTER, &three, &group),
+    ];
+    let own = [(0, 2), (1, 1), (2, 1), (3, 1), (64, 1)];
+    reply_after(rt, scene, &rows, update, &own)
 }
 
-/// What the looks see.
+/// What the looks at i-number 5 of each of them see: another's root, no root, and the file.
 fn sees_each(rt: &impl Host, client: &mut MemoryClient, store: &Held<Global>) {
-    let seen = look_through(rt, client, store, 2);
-    check(
-        rt,
-        matches!(seen, Look::Broken(Rule::Content)),
-        "another's root",
-    );
-    let_go(seen);
-    let seen = look_through(rt, client, store, 3);
-    check(rt, matches!(seen, Look::Broken(Rule::Block)), "no root");
-    let_go(seen);
-    let seen = look_through(rt, client, store, 64);
-    match &seen {
-        Look::File(bytes) => check_text(rt, bytes, HELLO),
-        _ => panic!(rt; "no file"),
+    for (owner, wanted) in [(2, Some(Rule::Content)), (3, Some(Rule::Block)), (64, None)] {
+        let begun = look_at(rt, client, owner, 5);
+        let (seen, _asked) = looked(rt, client, store, begun);
+        match &seen {
+            Look::Broken(rule) => check(rt, wanted == Some(*rule), "the rule"),
+            Look::File(bytes) => {
+                check(rt, wanted.is_none(), "a file");
+                check_text(rt, bytes, HELLO);
+            }
+            _ => panic!(rt; "no file"),
+        }
+        let_go(seen);
     }
-    let_go(seen);
 }
 
 #[test]
@@ -223,8 +174,7 @@ fn parts_that_are_looked_at(rt: HostRuntime) {
     let rt = (rt, Here);
     let (mut scene, mut client) = new_scene(&rt);
     let update = declare(&rt, &mut client);
-    let handles = handles_of(&rt, &mut scene);
-    let text = reply_beside(&rt, &scene, &handles, &update);
+    let text = reply_beside(&rt, &mut scene, &update);
     breaks(&rt, &mut client, &scene.store, &text, None);
     let _structure = sign(&rt, &mut client);
     sees_each(&rt, &mut client, &scene.store);

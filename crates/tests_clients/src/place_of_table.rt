@@ -2,17 +2,18 @@
 //! that is seen breaks the rule on contents.
 
 use crate::here::Here;
-use crate::long_table::reply_over;
-use crate::several_users::keep_each;
+use crate::long_table::reply_with;
+use crate::several_users::{judged, keep_each};
+use crate::two_users::ONE;
 use client_tree::Held;
-use client_verify::{Rule, Step};
-use layout::{Digest, digest, let_go};
+use client_verify::Rule;
+use layout::{digest, let_go};
 use lms_sign::PrivateKey;
 use std::alloc::Global;
 use tests_aids::blocks::{EMPTY_INODE, HELLO, HELLO_INODE, NO_BYTES_INODE};
 use tests_aids::texts::{joined, key_of};
 use tests_aids::{Host, check};
-use tests_client_aids::clients::{MemoryClient, client_with, declare, hand, step_on};
+use tests_client_aids::clients::{MemoryClient, client_with, declare};
 use tree_parts::Blocks;
 
 /// How many blocks are handed in at most for one reply.
@@ -82,43 +83,19 @@ static CASES: [Case; 7] = [
     },
 ];
 
-/// Chunk 0 with this i-number.
-fn chunk_of(rt: &impl Host, i_number: u8, inode: &[u8]) -> Vec<u8> {
-    let inode = digest(inode);
-    joined(rt, &[b"STC1\0\x01\0", &[i_number], inode.as_bytes()])
-}
-
-/// User 0's root, which lists the chunk by this number, or none.
-fn root_of(rt: &impl Host, listed: Option<u8>, chunk: &[u8]) -> Vec<u8> {
-    let chunk = digest(chunk);
-    match listed {
-        Some(number) => joined(rt, &[b"STR1\0\x01", &[number], chunk.as_bytes()]),
+/// User 0's root and chunk of the case.
+fn root_and_chunk(rt: &impl Host, case: &Case) -> (Vec<u8>, Vec<u8>) {
+    let inode = digest(case.inode);
+    let chunk = joined(rt, &[b"STC1\0\x01\0", &[case.i_number], inode.as_bytes()]);
+    let listed = digest(&chunk);
+    let root = match case.listed {
+        Some(number) => joined(rt, &[b"STR1\0\x01", &[number], listed.as_bytes()]),
         None => joined(rt, &[b"STR1\0\0"]),
-    }
-}
-
-/// The rule that the reply breaks first, and the block at which it does.
-fn broken_at(
-    rt: &impl Host,
-    client: &mut MemoryClient,
-    store: &Held<Global>,
-    reply: &[u8],
-) -> (Rule, Digest) {
-    let Step::Need(first) = step_on(rt, client, reply) else {
-        panic!(rt; "no block is asked for");
     };
-    let mut asked = first;
-    for _ in 0..BOUND {
-        match hand(rt, client, store.get(asked)) {
-            Step::Need(next) => asked = next,
-            Step::Store(_) => panic!(rt; "the reply is accepted"),
-            Step::Broken(rule) => return (rule, asked),
-        }
-    }
-    panic!(rt; "too many blocks")
+    (root, chunk)
 }
 
-/// The reply over the i-table of the case breaks the rule at its block.
+/// The reply over the i-table of the case breaks the rule at its block, the last one that is asked for.
 fn breaks_case(
     rt: &impl Host,
     client: &mut MemoryClient,
@@ -126,20 +103,25 @@ fn breaks_case(
     update: &[u8],
     case: &Case,
 ) {
-    let chunk = chunk_of(rt, case.i_number, case.inode);
-    let root = root_of(rt, case.listed, &chunk);
+    let (root, chunk) = root_and_chunk(rt, case);
     let mut store = Held::empty(rt.alloc());
     keep_each(rt, &mut store, &[&root, &chunk, case.inode, HELLO]);
-    let text = reply_over(rt, key, &root, update);
-    let (rule, asked) = broken_at(rt, client, &store, &text);
-    check(rt, rule == Rule::Content, "the rule on contents");
-    let wanted = match case.at {
-        Place::Root => digest(&root),
-        Place::Chunk => digest(&chunk),
-        Place::Inode => digest(case.inode),
-        Place::Block => digest(HELLO),
+    let text = reply_with(rt, key, &root, update, ONE);
+    let (asked, answer) = judged(rt, client, &store, &text);
+    check(
+        rt,
+        answer.err() == Some(Rule::Content),
+        "the rule on contents",
+    );
+    let wanted: &[u8] = match case.at {
+        Place::Root => &root,
+        Place::Chunk => &chunk,
+        Place::Inode => case.inode,
+        Place::Block => HELLO,
     };
-    check(rt, asked == wanted, "the block that breaks it");
+    check(rt, asked.len() <= BOUND, "too many blocks");
+    let last = asked.last().copied();
+    check(rt, last == Some(digest(wanted)), "the block that breaks it");
     let_go(store);
 }
 

@@ -3,9 +3,7 @@
 
 use crate::here::Here;
 use client_verify::{ClientError, Parts, Phase, Rule};
-use layout::{User, let_go};
-use leaf_ledger::MemoryDevice;
-use lms_sign::{PrivateKey, PublicKey};
+use layout::{User, let_go, put_in};
 use std::alloc::Global;
 use tests_aids::texts::{first_reply, joined, key_of};
 use tests_aids::{Host, check};
@@ -20,16 +18,6 @@ use wire::Status;
 pub(crate) fn reopened(rt: &impl Host, kept: Kept) -> MemoryClient {
     let pinned = kept.key.public();
     open_over(rt, User::superuser(), pinned, kept)
-}
-
-/// The key of a client, which is closed.
-pub(crate) fn key_in(client: MemoryClient) -> PrivateKey<Global> {
-    let Parts {
-        key,
-        ledger: _ledger,
-        journal: _journal,
-    } = closed(client);
-    key
 }
 
 /// The journal has so many bytes.
@@ -91,30 +79,17 @@ fn restarts_in_each_phase(rt: HostRuntime) {
     let_go(client);
 }
 
-/// The client refuses a reply in which its operation isn't pending.
-fn misses_its_own(rt: &impl Host, client: &mut MemoryClient) {
-    breaks(rt, client, b"SRL1\0\0", Some(Rule::OwnPending));
-}
-
 /// A reply in which the own operation isn't pending is refused after a restart as before, and the true one accepted.
 #[test]
 fn judges_after_a_restart(rt: HostRuntime) {
     let rt = (rt, Here);
     let mut client = superuser(&rt);
     let update = declare(&rt, &mut client);
-    misses_its_own(&rt, &mut client);
+    breaks(&rt, &mut client, b"SRL1\0\0", Some(Rule::OwnPending));
     let mut client = restarted(&rt, client, 2557);
-    misses_its_own(&rt, &mut client);
+    breaks(&rt, &mut client, b"SRL1\0\0", Some(Rule::OwnPending));
     let _commit = signs_first(&rt, &mut client, &update);
     let_go(client);
-}
-
-/// The first operation from its declaration to its commit: its structure.
-fn completes_first(rt: &impl Host, client: &mut MemoryClient) -> Vec<u8> {
-    let update = declare(rt, client);
-    let commit = signs_first(rt, client, &update);
-    end(rt, client, Status::Ok);
-    commit
 }
 
 /// A server that shows no structure of the client's, or another than its last one, is found out after a restart, too.
@@ -122,7 +97,9 @@ fn completes_first(rt: &impl Host, client: &mut MemoryClient) -> Vec<u8> {
 fn knows_its_last_structure_after_a_restart(rt: HostRuntime) {
     let rt = (rt, Here);
     let mut client = superuser(&rt);
-    let last = completes_first(&rt, &mut client);
+    let first = declare(&rt, &mut client);
+    let last = signs_first(&rt, &mut client, &first);
+    end(&rt, &mut client, Status::Ok);
     let (mut client, update) = declares(&rt, client, 2, 7714);
     knows_its_last(&rt, &mut client, &update, &last);
     let _commit = sign(&rt, &mut client);
@@ -132,32 +109,18 @@ fn knows_its_last_structure_after_a_restart(rt: HostRuntime) {
 /// How many bytes a ledger has before the mark of its last leaf: 56 of its key, and a mark of each other leaf.
 const BEFORE_LAST: usize = 56 + 1023;
 
-/// The text with 1s after it, up to this size.
-fn filled(rt: &impl Host, text: &[u8], size: usize) -> Vec<u8> {
-    let mut text = joined(rt, &[text]);
-    text.resize(size, 1).expect(rt, "memory");
-    text
-}
-
-/// A ledger of this key with this mark of its last leaf, in which each other leaf is used.
-fn ledger_with(rt: &impl Host, key: &PublicKey, mark: u8) -> MemoryDevice<Global> {
-    let front = filled(rt, key.as_bytes(), BEFORE_LAST);
-    device_of(rt, &joined(rt, &[&front, &[mark]]))
-}
-
-/// The client of user 0 over such a ledger.
+/// The client of user 0 over a ledger with this mark of its last leaf, in which each other leaf is used.
 fn with_mark(rt: &impl Host, mark: u8) -> MemoryClient {
     let key = key_of(rt, 0);
-    let ledger = ledger_with(rt, &key.public(), mark);
-    let journal = device_of(rt, b"");
-    reopened(
-        rt,
-        Parts {
-            key,
-            ledger,
-            journal,
-        },
-    )
+    let mut ledger = joined(rt, &[key.public().as_bytes()]);
+    ledger.resize(BEFORE_LAST, 1).expect(rt, "memory");
+    ledger.push(mark).expect(rt, "memory");
+    let kept = Parts {
+        key,
+        ledger: device_of(rt, &ledger),
+        journal: device_of(rt, b""),
+    };
+    reopened(rt, kept)
 }
 
 /// No leaf was left for what the client was asked for.
@@ -229,40 +192,18 @@ fn no_user_opens_anothers_journal(rt: HostRuntime) {
     is_opened(&rt, kept);
 }
 
-/// The same devices with the key of another user.
-fn with_key(rt: &impl Host, kept: Kept, key: u8) -> Kept {
-    let Parts {
-        key: _other,
-        ledger,
-        journal,
-    } = kept;
-    Parts {
-        key: key_of(rt, key),
-        ledger,
-        journal,
-    }
-}
-
-/// No client with another key is opened over these, and they are handed back.
-fn is_foreign(rt: &impl Host, kept: Kept) -> Kept {
-    let kept = with_key(rt, kept, 1);
-    let (error, kept) = refused(rt, User::superuser(), kept);
-    check(rt, matches!(error, ClientError::Foreign), "foreign");
-    with_key(rt, kept, 0)
-}
-
-/// No client is opened where the first call of the journal fails, and the devices are handed back.
-fn fails_to_open(rt: &impl Host, kept: Kept) -> Kept {
-    let mut kept = kept;
-    kept.journal.fail_after(0);
-    let (error, kept) = refused(rt, User::superuser(), kept);
-    check(rt, matches!(error, ClientError::Device), "a device failed");
-    kept
-}
-
+/// No client with another key is opened over these, nor one where the first call of the journal fails, and the devices
+/// are handed back.
 #[test]
 fn no_key_opens_anothers_ledger(rt: HostRuntime) {
     let rt = (rt, Here);
-    let kept = is_foreign(&rt, after_a_certificate(&rt));
-    is_opened(&rt, fails_to_open(&rt, kept));
+    let mut kept = after_a_certificate(&rt);
+    put_in(&mut kept.key, key_of(&rt, 1));
+    let (error, mut kept) = refused(&rt, User::superuser(), kept);
+    check(&rt, matches!(error, ClientError::Foreign), "foreign");
+    put_in(&mut kept.key, key_of(&rt, 0));
+    kept.journal.fail_after(0);
+    let (error, kept) = refused(&rt, User::superuser(), kept);
+    check(&rt, matches!(error, ClientError::Device), "a device failed");
+    is_opened(&rt, kept);
 }

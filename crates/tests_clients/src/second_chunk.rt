@@ -2,11 +2,11 @@
 //! of principals is in, judges the lists without it.
 
 use crate::here::Here;
-use crate::long_table::{SIZE, Scene, new_scene, reply_over, reply_with, store_of};
+use crate::long_table::{SIZE, Scene, new_scene, reply_with, store_of};
 use crate::several_users::breaks;
+use crate::two_users::ONE;
 use client_verify::{Rule, Step};
 use layout::{digest, let_go};
-use std::alloc::Global;
 use tests_aids::blocks::HELLO_INODE;
 use tests_aids::tables::texts_over;
 use tests_aids::texts::joined;
@@ -36,40 +36,31 @@ fn scene_after_one(rt: &impl Host) -> (Scene, Vec<u8>) {
     let mut scene = new_scene(rt);
     let chunk = texts_over(rt, SIZE, &scene.blocks).chunk;
     let (store, root) = store_of(rt, &scene.blocks);
-    let text = reply_over(rt, &scene.key, &root, &scene.update);
+    let text = reply_with(rt, &scene.key, &root, &scene.update, ONE);
     breaks(rt, &mut scene.client, &store, &text, None);
     let_go(store);
     let longer = longer_root(rt, &chunk);
     (scene, longer)
 }
 
-/// For the reply the root is asked for: what is answered when it is handed in.
-fn after_root(rt: &impl Host, scene: &mut Scene, root: &[u8], reply: &[u8]) -> Step<Global> {
-    let Step::Need(asked) = step_on(rt, &mut scene.client, reply) else {
-        panic!(rt; "no block is asked for");
-    };
-    check(rt, asked == digest(root), "the root is asked for");
-    hand(rt, &mut scene.client, Some(root))
-}
-
-/// A vector that doesn't follow breaks its rule, and once it follows the same root is enough to accept the reply.
+/// A vector that doesn't follow breaks its rule, and once it follows the same root is enough to accept the reply. For
+/// each reply the root is asked for.
 #[test]
 fn lists_are_judged_without_the_second_chunk(rt: HostRuntime) {
     let rt = (rt, Here);
     let (mut scene, root) = scene_after_one(&rt);
-    let bad = reply_with(&rt, &scene.key, &root, &scene.update, TOO_MANY);
-    let broken = after_root(&rt, &mut scene, &root, &bad);
-    check(
-        &rt,
-        matches!(broken, Step::Broken(Rule::Vector)),
-        "the vector is refused",
-    );
-    let good = reply_over(&rt, &scene.key, &root, &scene.update);
-    let accepted = after_root(&rt, &mut scene, &root, &good);
-    check(
-        &rt,
-        matches!(accepted, Step::Store(_)),
-        "the reply is accepted",
-    );
+    for (vector, is_good) in [(TOO_MANY, false), (ONE, true)] {
+        let text = reply_with(&rt, &scene.key, &root, &scene.update, vector);
+        let Step::Need(asked) = step_on(&rt, &mut scene.client, &text) else {
+            panic!(&rt; "no block is asked for");
+        };
+        check(&rt, asked == digest(&root), "the root is asked for");
+        let found = match hand(&rt, &mut scene.client, Some(&root)) {
+            Step::Store(_) => is_good,
+            Step::Broken(rule) => !is_good && rule == Rule::Vector,
+            Step::Need(_) => false,
+        };
+        check(&rt, found, "the vector is refused, or the reply accepted");
+    }
     let_go(scene);
 }

@@ -4,20 +4,20 @@
 
 use crate::here::Here;
 use client_tree::Held;
-use client_verify::{Rule, Step};
-use layout::{digest, let_go};
+use client_verify::{Look, Rule, Step};
+use layout::{Digest, digest, let_go};
 use lms_sign::{PrivateKey, PublicKey};
 use std::alloc::Global;
 use tests_aids::Host;
 use tests_aids::tables::{FORM, Texts, listing, structure_over, texts_over};
 use tests_aids::texts::{
-    certificate_of, joined, key_of, named, pending, plan, reply, shown, signed, structure_of,
-    vector_of,
+    certificate_of, joined, key_of, listed, named, pending, plan, reply, shown, signed,
+    structure_of, vector_of,
 };
-use tests_client_aids::clients::{MemoryClient, client_with, declare, hand, step_on};
+use tests_client_aids::clients::{MemoryClient, client_with, declare, give, hand, step_on};
 use tree_parts::Blocks;
 
-/// How many blocks are handed in at most for one reply.
+/// How many blocks are handed in at most for one reply or one look.
 const BOUND: usize = 100;
 
 /// The rows of the table after their count: users 1 and 2 are members of group 64 from number 1 of user 0's on, user 3
@@ -367,17 +367,6 @@ fn plan_of(rt: &impl Host, operation: &Operation, update: &[u8]) -> Vec<u8> {
     plan(rt, operation.user, 1, &named(update), &vector, b"\0")
 }
 
-/// The records of a structure after their count. What a record names is an i-table without pairs.
-fn records_of(rt: &impl Host, record: Option<(u8, u8, u8)>, handle: &[u8; 32]) -> Vec<u8> {
-    match record {
-        None => joined(rt, &[b"\0"]),
-        Some((group, version, table)) => {
-            let row = [1, group, 0, 0, 0, version, 0, 0, 0, table];
-            joined(rt, &[&row, handle])
-        }
-    }
-}
-
 /// The structure of an operation as a reply lists it. Its i-table, and that of the group of its record, have these
 /// handles.
 pub(crate) fn structure_row(
@@ -388,7 +377,13 @@ pub(crate) fn structure_row(
     of_group: &[u8; 32],
 ) -> Vec<u8> {
     let plan = plan_of(rt, operation, &update_of(rt, scene, operation));
-    let records = records_of(rt, operation.record, of_group);
+    let records = match operation.record {
+        None => joined(rt, &[b"\0"]),
+        Some((group, version, table)) => {
+            let row = [1, group, 0, 0, 0, version, 0, 0, 0, table];
+            joined(rt, &[&row, of_group])
+        }
+    };
     let text = structure_of(rt, &plan, handle, &records);
     let key = key_in(&scene.keys, operation.signer);
     shown(rt, &signed(rt, key, 3, &text))
@@ -399,18 +394,8 @@ pub(crate) fn first_handle(rt: &impl Host, principal: u8) -> [u8; 32] {
     *digest(&joined(rt, &[b"STR1", &[principal, 0]])).as_bytes()
 }
 
-/// A structure whose i-tables are those of the beginning.
-fn structure_at_first(rt: &impl Host, scene: &Scene, operation: &Operation) -> Vec<u8> {
-    let group = match operation.record {
-        Some((group, _, _)) => group,
-        None => 64,
-    };
-    let own = first_handle(rt, operation.user);
-    structure_row(rt, scene, operation, &own, &first_handle(rt, group))
-}
-
 /// The list of user 0's structure and these rows.
-pub(crate) fn list_of(rt: &impl Host, scene: &Scene, rows: &[Vec<u8>]) -> Vec<u8> {
+fn list_of(rt: &impl Host, scene: &Scene, rows: &[Vec<u8>]) -> Vec<u8> {
     let [.., count] = rows.len().wrapping_add(1).to_be_bytes();
     let mut list = joined(rt, &[&[count], &shown(rt, &scene.superuser)]);
     for row in rows {
@@ -419,21 +404,36 @@ pub(crate) fn list_of(rt: &impl Host, scene: &Scene, rows: &[Vec<u8>]) -> Vec<u8
     list
 }
 
-/// The structures of a case after their count.
+/// The structures of a case after their count. Their i-tables are those of the beginning.
 fn structures_of(rt: &impl Host, scene: &Scene, case: &Case) -> Vec<u8> {
     let mut rows = Vec::new(rt.alloc());
     for operation in case.structures {
-        let row = structure_at_first(rt, scene, operation);
+        let (group, _, _) = operation.record.unwrap_or((64, 0, 0));
+        let (own, of_group) = (first_handle(rt, operation.user), first_handle(rt, group));
+        let row = structure_row(rt, scene, operation, &own, &of_group);
         rows.push(row).expect(rt, "memory");
     }
     list_of(rt, scene, &rows)
 }
 
 /// The own operation as a reply lists it, with these versions and entries.
-pub(crate) fn own_row(rt: &impl Host, update: &[u8], own: &[(u8, u8)], entries: &[u8]) -> Vec<u8> {
+fn own_row(rt: &impl Host, update: &[u8], own: &[(u8, u8)], entries: &[u8]) -> Vec<u8> {
     let vector = vector_of(rt, own);
     let plan = plan(rt, 1, 1, &named(update), &vector, entries);
     pending(rt, update, &plan)
+}
+
+/// The reply to user 1's first certificate after user 0's structure and these. The own plan has these versions, and no
+/// entry.
+pub(crate) fn reply_after(
+    rt: &impl Host,
+    scene: &Scene,
+    structures: &[Vec<u8>],
+    update: &[u8],
+    own: &[(u8, u8)],
+) -> Vec<u8> {
+    let own = own_row(rt, update, own, b"\0");
+    reply(rt, &list_of(rt, scene, structures), &listed(rt, &own))
 }
 
 /// The pending operations of a case after their count.
@@ -443,28 +443,50 @@ fn pending_of(rt: &impl Host, scene: &Scene, case: &Case, update: &[u8]) -> Vec<
     };
     let other = update_of(rt, scene, operation);
     let plan = plan_of(rt, operation, &other);
-    let entries = joined(
-        rt,
-        &[&[1, operation.user, 0, 0, 0, 1], digest(&plan).as_bytes()],
-    );
+    let entry = [1, operation.user, 0, 0, 0, 1];
+    let entries = joined(rt, &[&entry, digest(&plan).as_bytes()]);
     let own = own_row(rt, update, case.own, &entries);
     joined(rt, &[&[2], &pending(rt, &other, &plan), &own])
 }
 
-/// Hands a reply in, and each block that it asks for: the texts to be stored, or the rule that is broken.
+/// Hands a reply in, and each block that it asks for: those blocks, and the texts to be stored or the rule that is
+/// broken.
 pub(crate) fn judged(
     rt: &impl Host,
     client: &mut MemoryClient,
     store: &Held<Global>,
     reply: &[u8],
-) -> Result<Vec<Vec<u8>>, Rule> {
+) -> (Vec<Digest>, Result<Vec<Vec<u8>>, Rule>) {
+    let mut asked = Vec::new(rt.alloc());
     let mut step = step_on(rt, client, reply);
     for _ in 0..BOUND {
         match step {
-            Step::Need(digest) => step = hand(rt, client, store.get(digest)),
-            Step::Store(texts) => return Ok(texts),
-            Step::Broken(rule) => return Err(rule),
+            Step::Need(digest) => {
+                asked.push(digest).expect(rt, "memory");
+                step = hand(rt, client, store.get(digest));
+            }
+            Step::Store(texts) => return (asked, Ok(texts)),
+            Step::Broken(rule) => return (asked, Err(rule)),
         }
+    }
+    panic!(rt; "too many blocks")
+}
+
+/// What comes of a look that was begun, through which the stored blocks are handed in, and how many it asks for.
+pub(crate) fn looked(
+    rt: &impl Host,
+    client: &mut MemoryClient,
+    store: &Held<Global>,
+    begun: Look<Global>,
+) -> (Look<Global>, usize) {
+    let mut look = begun;
+    for asked in 0..BOUND {
+        let Look::Need(digest) = look else {
+            return (look, asked);
+        };
+        let next = give(rt, client, store.get(digest));
+        let_go(look);
+        look = next;
     }
     panic!(rt; "too many blocks")
 }
@@ -477,7 +499,8 @@ pub(crate) fn breaks(
     reply: &[u8],
     rule: Option<Rule>,
 ) {
-    let found = judged(rt, client, store, reply).err();
+    let (_asked, found) = judged(rt, client, store, reply);
+    let found = found.err();
     assert!(rt; found == rule, "{found:?} and not {rule:?}");
 }
 
@@ -491,7 +514,8 @@ fn breaks_case(
 ) {
     let structures = structures_of(rt, scene, case);
     let text = reply(rt, &structures, &pending_of(rt, scene, case, update));
-    let found = judged(rt, client, &scene.store, &text).err();
+    let (_asked, found) = judged(rt, client, &scene.store, &text);
+    let found = found.err();
     assert!(rt; found == case.broken, "{found:?}: {}", case.name);
 }
 

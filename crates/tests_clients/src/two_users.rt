@@ -18,10 +18,8 @@ use tests_client_aids::three::{Three, three_clients};
 use tree_parts::Blocks;
 use wire::Status;
 
-/// The vectors of the first operations of user 0, of user 1 and user 2 after it, and of user 2 after user 1, each after
-/// its count.
-const ZERO: &[u8] = b"\x01\0\0\0\0\x01";
-
+/// The vectors of the first operations of user 1 and of user 2 after user 0's, and of user 2 after both, each after its
+/// count.
 pub(crate) const ONE: &[u8] = b"\x02\0\0\0\0\x01\x01\0\0\0\x01";
 
 pub(crate) const BOTH: &[u8] = b"\x03\0\0\0\0\x01\x01\0\0\0\x01\x02\0\0\0\x01";
@@ -32,15 +30,6 @@ const SECOND: &[u8] = b"\x03\0\0\0\0\x01\x01\0\0\0\x01\x02\0\0\0\x02";
 /// No entry.
 pub(crate) const NONE: &[u8] = b"\0";
 
-/// The clients of users 0 to 2, and the blocks that all servers share.
-#[derive(Drop)]
-pub(crate) struct Users {
-    pub(crate) superuser: MemoryClient,
-    pub(crate) first: MemoryClient,
-    pub(crate) second: MemoryClient,
-    pub(crate) store: Held<Global>,
-}
-
 /// The client accepts the reply, and the new texts are stored.
 pub(crate) fn is_accepted(
     rt: &impl Host,
@@ -48,7 +37,8 @@ pub(crate) fn is_accepted(
     client: &mut MemoryClient,
     reply: &[u8],
 ) {
-    match judged(rt, client, store, reply) {
+    let (_asked, answer) = judged(rt, client, store, reply);
+    match answer {
         Ok(texts) => store.keep_all(texts).expect(rt, "memory"),
         Err(rule) => panic!(rt; "{rule:?}"),
     }
@@ -65,12 +55,6 @@ pub(crate) fn accepts(
     sign(rt, client)
 }
 
-/// The server commits the structure that the client signed.
-fn commits(rt: &impl Host, server: &mut Server, client: &mut MemoryClient, structure: &[u8]) {
-    answers_commit(rt, server, structure, Status::Ok);
-    end(rt, client, Status::Ok);
-}
-
 /// A declared operation is placed, accepted and committed by an honest server: its structure.
 pub(crate) fn completes(
     rt: &impl Host,
@@ -81,33 +65,23 @@ pub(crate) fn completes(
 ) -> Vec<u8> {
     let reply = answers_update_so(rt, server, update, Status::Ok);
     let structure = accepts(rt, store, client, &reply);
-    commits(rt, server, client, &structure);
+    answers_commit(rt, server, &structure, Status::Ok);
+    end(rt, client, Status::Ok);
     structure
 }
 
-/// Both users are listed, by user 0's structure here, as two servers show it.
+/// The clients of users 0 to 2, of whom user 0 has listed the other two, by its structure here, as two servers show it,
+/// and the blocks that both servers share.
 #[derive(Drop)]
 pub(crate) struct Scene {
-    /// User 0's key.
-    pub(crate) pinned: PublicKey,
-    pub(crate) users: Users,
+    pub(crate) users: Three,
+    pub(crate) store: Held<Global>,
     pub(crate) server: Server,
     pub(crate) other: Server,
     pub(crate) zero: Vec<u8>,
 }
 
-/// User 0 declares that both users are listed.
-fn declares_listing(
-    rt: &impl Host,
-    superuser: &mut MemoryClient,
-    one: PublicKey,
-    two: PublicKey,
-) -> Vec<u8> {
-    let Planned { changes, laid } = listing_both(rt, one, two);
-    declare_changes(rt, superuser, changes, laid)
-}
-
-/// Another server, at which the same operation is placed and committed.
+/// A server at which this operation is placed and committed.
 fn server_after(rt: &impl Host, pinned: PublicKey, update: &[u8], structure: &[u8]) -> Server {
     let mut server = server_of(rt, pinned);
     let _same = answers_update_so(rt, &mut server, update, Status::Ok);
@@ -115,104 +89,71 @@ fn server_after(rt: &impl Host, pinned: PublicKey, update: &[u8], structure: &[u
     server
 }
 
-/// User 0 lists both users, at one server and in the same way at the other.
-fn listed_by(
-    rt: &impl Host,
-    users: Users,
-    pinned: PublicKey,
-    (one, two): (PublicKey, PublicKey),
-) -> Scene {
-    let mut users = users;
-    let mut server = server_of(rt, pinned);
-    let update = declares_listing(rt, &mut users.superuser, one, two);
-    let Users {
-        superuser,
-        store,
-        ..
-    } = &mut users;
-    let by_super = completes(rt, store, &mut server, superuser, &update);
-    let other = server_after(rt, pinned, &update, &by_super);
+/// User 0 lists both users, each by its key, at one server and in the same way at the other.
+pub(crate) fn both_are_listed(rt: &impl Host) -> Scene {
+    let mut users = three_clients(rt);
+    let mut store = Held::empty(rt.alloc());
+    let mut server = server_of(rt, users.pinned);
+    let Planned { changes, laid } = listing_both(rt, users.of_one, users.of_two);
+    let update = declare_changes(rt, &mut users.zero, changes, laid);
+    let structure = completes(rt, &mut store, &mut server, &mut users.zero, &update);
+    let other = server_after(rt, users.pinned, &update, &structure);
+    let zero = shown(rt, &structure);
     Scene {
-        pinned,
         users,
+        store,
         server,
         other,
-        zero: shown(rt, &by_super),
+        zero,
     }
 }
 
-/// Both users are listed, each by its key.
-pub(crate) fn both_are_listed(rt: &impl Host) -> Scene {
-    let Three {
-        zero: superuser,
-        one: first,
-        two: second,
-        pinned,
-        of_one,
-        of_two,
-    } = three_clients(rt);
-    let users = Users {
-        superuser,
-        first,
-        second,
-        store: Held::empty(rt.alloc()),
-    };
-    listed_by(rt, users, pinned, (of_one, of_two))
+/// A user's client.
+fn client_in(users: &mut Three, user: u8) -> &mut MemoryClient {
+    match user {
+        0 => &mut users.zero,
+        1 => &mut users.one,
+        _ => &mut users.two,
+    }
+}
+
+/// The server at which a user operates alone: user 1 at the first one, and user 2 at the other.
+fn server_in<'a>(first: &'a mut Server, other: &'a mut Server, user: u8) -> &'a mut Server {
+    if user == 1 { first } else { other }
 }
 
 impl Scene {
-    /// User 1 makes an operation without changes: its structure, as replies show it.
-    pub(crate) fn first_operates(&mut self, rt: &impl Host) -> Vec<u8> {
-        let Scene { users, server, .. } = self;
-        let Users { first, store, .. } = users;
-        let update = declare(rt, first);
-        shown(rt, &completes(rt, store, server, first, &update))
+    /// User 1 makes an operation without changes, or user 2 one at the other server: its structure, as replies show it.
+    pub(crate) fn operates(&mut self, rt: &impl Host, user: u8) -> Vec<u8> {
+        let client = client_in(&mut self.users, user);
+        let server = server_in(&mut self.server, &mut self.other, user);
+        let update = declare(rt, client);
+        shown(rt, &completes(rt, &mut self.store, server, client, &update))
     }
 
-    /// And user 2 one at the other server.
-    pub(crate) fn second_operates_apart(&mut self, rt: &impl Host) -> Vec<u8> {
-        let Scene { users, other, .. } = self;
-        let Users { second, store, .. } = users;
-        let update = declare(rt, second);
-        shown(rt, &completes(rt, store, other, second, &update))
-    }
-
-    /// User 1's declared operation, and the honest reply to it.
-    pub(crate) fn first_declares(&mut self, rt: &impl Host) -> (Vec<u8>, Vec<u8>) {
-        let update = declare(rt, &mut self.users.first);
+    /// A user's declared operation, and the honest reply to it.
+    pub(crate) fn declares(&mut self, rt: &impl Host, user: u8) -> (Vec<u8>, Vec<u8>) {
+        let update = declare(rt, client_in(&mut self.users, user));
         let reply = answers_update_so(rt, &mut self.server, &update, Status::Ok);
         (update, reply)
     }
 
-    /// User 2's declared operation, and the honest reply to it.
-    fn second_declares(&mut self, rt: &impl Host) -> (Vec<u8>, Vec<u8>) {
-        let update = declare(rt, &mut self.users.second);
-        let reply = answers_update_so(rt, &mut self.server, &update, Status::Ok);
-        (update, reply)
+    /// A user refuses this reply by a rule.
+    pub(crate) fn refuses(&mut self, rt: &impl Host, user: u8, reply: &[u8], rule: Rule) {
+        let client = client_in(&mut self.users, user);
+        breaks(rt, client, &self.store, reply, Some(rule));
     }
 
-    /// User 1 accepts this reply, and signs: its structure, as replies show it.
-    fn first_accepts(&mut self, rt: &impl Host, reply: &[u8]) -> Vec<u8> {
-        let Users { first, store, .. } = &mut self.users;
-        shown(rt, &accepts(rt, store, first, reply))
+    /// A user accepts this reply, and the new texts are stored.
+    pub(crate) fn takes(&mut self, rt: &impl Host, user: u8, reply: &[u8]) {
+        let client = client_in(&mut self.users, user);
+        is_accepted(rt, &mut self.store, client, reply);
     }
 
-    /// User 2 accepts this reply, and signs: its structure, as replies show it.
-    fn second_accepts(&mut self, rt: &impl Host, reply: &[u8]) -> Vec<u8> {
-        let Users { second, store, .. } = &mut self.users;
-        shown(rt, &accepts(rt, store, second, reply))
-    }
-
-    /// User 1 refuses this reply by a rule.
-    fn first_refuses(&mut self, rt: &impl Host, reply: &[u8], rule: Rule) {
-        let Users { first, store, .. } = &mut self.users;
-        breaks(rt, first, store, reply, Some(rule));
-    }
-
-    /// User 2 refuses this reply by a rule.
-    fn second_refuses(&mut self, rt: &impl Host, reply: &[u8], rule: Rule) {
-        let Users { second, store, .. } = &mut self.users;
-        breaks(rt, second, store, reply, Some(rule));
+    /// A user accepts this reply, and signs: its structure, as replies show it.
+    pub(crate) fn accepts(&mut self, rt: &impl Host, user: u8, reply: &[u8]) -> Vec<u8> {
+        let client = client_in(&mut self.users, user);
+        shown(rt, &accepts(rt, &mut self.store, client, reply))
     }
 }
 
@@ -231,160 +172,111 @@ fn both_pending(rt: &impl Host, one: &[u8], two: &[u8]) -> Vec<u8> {
     list(rt, &[&one, &two])
 }
 
-/// The reply to both, after user 0's structure.
-fn reply_to_both(rt: &impl Host, zero: &[u8], one: &[u8], two: &[u8]) -> Vec<u8> {
-    reply(rt, &listed(rt, zero), &both_pending(rt, one, two))
-}
-
 #[test]
 fn reply_to_two_pending_byte_for_byte(rt: HostRuntime) {
     let rt = &(rt, Here);
     let mut scene = both_are_listed(rt);
-    let (one, _reply) = scene.first_declares(rt);
-    let (two, found) = scene.second_declares(rt);
-    check_text(rt, &found, &reply_to_both(rt, &scene.zero, &one, &two));
-    let _structure = scene.second_accepts(rt, &found);
+    let (one, _reply) = scene.declares(rt, 1);
+    let (two, found) = scene.declares(rt, 2);
+    let by_hand = reply(rt, &listed(rt, &scene.zero), &both_pending(rt, &one, &two));
+    check_text(rt, &found, &by_hand);
+    let _structure = scene.accepts(rt, 2, &found);
     let_go(scene);
 }
 
-/// The replies to an operation, by hand: the honest one, and another one.
-#[derive(Drop)]
-struct Replies {
-    honest: Vec<u8>,
-    other: Vec<u8>,
+/// The reply to user 1's operation of this number is that with the honest structures after user 0's. User 1 refuses the
+/// one with the other structures by a rule, and accepts the honest one.
+fn first_is_shown(
+    rt: &impl Host,
+    scene: &mut Scene,
+    number: u8,
+    [honest, other]: [&[u8]; 2],
+    rule: Rule,
+) {
+    let (update, found) = scene.declares(rt, 1);
+    let vector = [2, 0, 0, 0, 0, 1, 1, 0, 0, 0, number];
+    let own = only_pending(rt, u32::from(number), &update, &vector);
+    check_text(rt, &found, &reply(rt, honest, &own));
+    scene.refuses(rt, 1, &reply(rt, other, &own), rule);
+    let _structure = scene.accepts(rt, 1, &found);
 }
 
-/// The reply to user 1 is the honest one. User 1 refuses the other one by a rule, and accepts the honest one.
-fn first_is_shown(rt: &impl Host, scene: &mut Scene, found: &[u8], by_hand: &Replies, rule: Rule) {
-    check_text(rt, found, &by_hand.honest);
-    scene.first_refuses(rt, &by_hand.other, rule);
-    let _structure = scene.first_accepts(rt, found);
-}
-
-/// The replies to user 1's second operation with the structures of its line alone, and with those of both lines.
-fn of_lines(rt: &impl Host, update: &[u8], zero: &[u8], one: &[u8], two: &[u8]) -> Replies {
-    let own = only_pending(rt, 2, update, b"\x02\0\0\0\0\x01\x01\0\0\0\x02");
-    Replies {
-        honest: reply(rt, &list(rt, &[zero, one]), &own),
-        other: reply(rt, &list(rt, &[zero, one, two]), &own),
-    }
-}
-
+/// User 1 is shown the structures of its line alone, and refuses those of both lines.
 #[test]
 fn forks_that_are_joined(rt: HostRuntime) {
     let rt = &(rt, Here);
     let mut scene = both_are_listed(rt);
-    let one = scene.first_operates(rt);
-    let two = scene.second_operates_apart(rt);
-    let (update, found) = scene.first_declares(rt);
-    let by_hand = of_lines(rt, &update, &scene.zero, &one, &two);
-    first_is_shown(rt, &mut scene, &found, &by_hand, Rule::Numbers);
+    let one = scene.operates(rt, 1);
+    let two = scene.operates(rt, 2);
+    let alone = list(rt, &[&scene.zero, &one]);
+    let both = list(rt, &[&scene.zero, &one, &two]);
+    first_is_shown(rt, &mut scene, 2, [&alone, &both], Rule::Numbers);
     let_go(scene);
 }
 
-/// The replies to user 1's fourth operation with its last structure, and with its oldest.
-fn of_ages(rt: &impl Host, update: &[u8], zero: &[u8], last: &[u8], oldest: &[u8]) -> Replies {
-    let own = only_pending(rt, 4, update, b"\x02\0\0\0\0\x01\x01\0\0\0\x04");
-    Replies {
-        honest: reply(rt, &list(rt, &[zero, last]), &own),
-        other: reply(rt, &list(rt, &[zero, oldest]), &own),
-    }
-}
-
+/// User 1 is shown its last structure, and refuses its oldest.
 #[test]
 fn own_structure_of_two_commits_ago(rt: HostRuntime) {
     let rt = &(rt, Here);
     let mut scene = both_are_listed(rt);
-    let oldest = scene.first_operates(rt);
-    let _older = scene.first_operates(rt);
-    let last = scene.first_operates(rt);
-    let (update, found) = scene.first_declares(rt);
-    let by_hand = of_ages(rt, &update, &scene.zero, &last, &oldest);
-    first_is_shown(rt, &mut scene, &found, &by_hand, Rule::OwnLast);
+    let oldest = scene.operates(rt, 1);
+    let _older = scene.operates(rt, 1);
+    let last = scene.operates(rt, 1);
+    let newest = list(rt, &[&scene.zero, &last]);
+    let older = list(rt, &[&scene.zero, &oldest]);
+    first_is_shown(rt, &mut scene, 4, [&newest, &older], Rule::OwnLast);
     let_go(scene);
 }
 
 /// Where the plan lies in user 0's structure, as replies show it: after its size, the tag, and the size of the plan.
 const PLAN: Range<usize> = 8..56;
 
-/// User 1's first operation with another plan than its own.
-#[derive(Drop)]
-struct Swapped {
-    /// The operation, as a reply lists it.
-    row: Vec<u8>,
-    /// The entries of a plan after it.
-    entries: Vec<u8>,
-}
-
-/// With a plan that has an entry of an operation that was committed before it.
-fn swapped_plan(rt: &impl Host, zero: &[u8], one: &[u8]) -> Swapped {
+/// User 1's first operation with another plan than its own: one that has an entry of an operation that was committed
+/// before it. The operation, as a reply lists it, and the entries of a plan after it.
+fn swapped_plan(rt: &impl Host, zero: &[u8], one: &[u8]) -> (Vec<u8>, Vec<u8>) {
     let of_super = zero.get(PLAN).expect(rt, "a plan");
     let plan = plan(rt, 1, 1, &named(one), ONE, &one_entry(rt, 0, of_super));
-    Swapped {
-        row: pending(rt, one, &plan),
-        entries: one_entry(rt, 1, &plan),
-    }
+    (pending(rt, one, &plan), one_entry(rt, 1, &plan))
 }
 
-/// The list of these pending operations, and of user 2's last: its plan has this number, this vector and these entries.
-fn before_second(
+/// A reply to user 2's operation of these structures, of these pending operations, and of user 2's last: its plan has
+/// this number, this vector and these entries.
+fn shown_to_second(
     rt: &impl Host,
     update: &[u8],
-    (number, vector, entries): (u32, &[u8], &[u8]),
+    structures: &[&[u8]],
     before: &[&[u8]],
+    (number, vector, entries): (u32, &[u8], &[u8]),
 ) -> Vec<u8> {
     let plan = plan(rt, 2, number, &named(update), vector, entries);
     let own = pending(rt, update, &plan);
     let [.., count] = before.len().wrapping_add(1).to_be_bytes();
-    joined(rt, &[&[count], &joined(rt, before), &own])
+    let pending = joined(rt, &[&[count], &joined(rt, before), &own]);
+    reply(rt, &list(rt, structures), &pending)
 }
 
-/// A reply to user 2's first operation in which user 1's is pending so.
-fn invented(rt: &impl Host, update: &[u8], zero: &[u8], swapped: &Swapped) -> Vec<u8> {
-    let plan = (1, BOTH, swapped.entries.as_slice());
-    let pending = before_second(rt, update, plan, &[&swapped.row]);
-    reply(rt, &listed(rt, zero), &pending)
-}
-
-/// User 2 declares, and accepts such a reply: its structure, as replies show it.
-fn second_is_fooled(rt: &impl Host, scene: &mut Scene, swapped: &Swapped) -> Vec<u8> {
-    let update = declare(rt, &mut scene.users.second);
-    let invented = invented(rt, &update, &scene.zero, swapped);
-    let structure = scene.second_accepts(rt, &invented);
-    end(rt, &mut scene.users.second, Status::Ok);
-    structure
-}
-
-/// A reply to user 2's second operation that shows the true structure of user 1.
-fn with_first(rt: &impl Host, update: &[u8], structures: [&[u8]; 3]) -> Vec<u8> {
-    let pending = before_second(rt, update, (2, SECOND, NONE), &[]);
-    reply(rt, &list(rt, &structures), &pending)
-}
-
-/// A reply to user 2's second operation in which user 1's is pending so, still.
-fn with_swapped(
-    rt: &impl Host,
-    update: &[u8],
-    structures: [&[u8]; 2],
-    swapped: &Swapped,
-) -> Vec<u8> {
-    let plan = (2, SECOND, swapped.entries.as_slice());
-    let pending = before_second(rt, update, plan, &[&swapped.row]);
-    reply(rt, &list(rt, &structures), &pending)
-}
-
+/// User 2 accepts a reply in which user 1's operation is pending with the swapped plan. Its next one finds that out by
+/// the true structure of user 1, and is accepted where the operation is pending still.
 #[test]
 fn plan_that_was_swapped(rt: HostRuntime) {
     let rt = &(rt, Here);
     let mut scene = both_are_listed(rt);
-    let (one, honest) = scene.first_declares(rt);
-    let swapped = swapped_plan(rt, &scene.zero, &one);
-    let by_second = second_is_fooled(rt, &mut scene, &swapped);
-    let by_first = scene.first_accepts(rt, &honest);
-    let update = declare(rt, &mut scene.users.second);
-    let found_out = with_first(rt, &update, [&scene.zero, &by_first, &by_second]);
-    scene.second_refuses(rt, &found_out, Rule::Entries);
-    let pending_still = with_swapped(rt, &update, [&scene.zero, &by_second], &swapped);
-    let _structure = scene.second_accepts(rt, &pending_still);
+    let (one, honest) = scene.declares(rt, 1);
+    let (row, entries) = swapped_plan(rt, &scene.zero, &one);
+    let update = declare(rt, &mut scene.users.two);
+    let plan = (1, BOTH, entries.as_slice());
+    let invented = shown_to_second(rt, &update, &[&scene.zero], &[&row], plan);
+    let by_second = scene.accepts(rt, 2, &invented);
+    end(rt, &mut scene.users.two, Status::Ok);
+    let by_first = scene.accepts(rt, 1, &honest);
+    let update = declare(rt, &mut scene.users.two);
+    let plan = (2, SECOND, NONE);
+    let structures: &[&[u8]] = &[&scene.zero, &by_first, &by_second];
+    let found_out = shown_to_second(rt, &update, structures, &[], plan);
+    scene.refuses(rt, 2, &found_out, Rule::Entries);
+    let plan = (2, SECOND, entries.as_slice());
+    let structures: &[&[u8]] = &[&scene.zero, &by_second];
+    let pending_still = shown_to_second(rt, &update, structures, &[&row], plan);
+    let _structure = scene.accepts(rt, 2, &pending_still);
     let_go(scene);
 }
