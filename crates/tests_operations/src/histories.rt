@@ -5,8 +5,8 @@
 use crate::changes::{Task, of_tasks};
 use crate::here::Here;
 use crate::world::{
-    World, asked_for, begin, finish, hand_each, has_lost, look_at, look_through, new_world,
-    operate, sees_file,
+    World, asked_for, asked_for_so_many, begin, file_at, finish, has_lost, look_through, new_world,
+    operate,
 };
 use client_verify::{Look, Rule};
 use directory::Directory;
@@ -15,7 +15,7 @@ use std::alloc::Global;
 use tests_aids::blocks::{OF_F, OF_F_INODE};
 use tests_aids::texts::FIRST_HANDLE;
 use tests_aids::{Host, check, check_text};
-use tests_client_aids::clients::{breaks, only_structure};
+use tests_client_aids::clients::{breaks, look_at, only_structure};
 
 /// What stands at an i-number of user 0's.
 #[derive(Clone, Copy)]
@@ -24,13 +24,6 @@ enum Seen {
     /// A directory of one entry, f for 0:3.
     DirectoryOfF,
     Nothing,
-}
-
-/// What is seen at an i-number, and the blocks that the look asks for.
-struct LookedAt {
-    number: u16,
-    seen: Seen,
-    asked: &'static [&'static [u8]],
 }
 
 struct Operation {
@@ -42,7 +35,8 @@ struct Operation {
     lost: &'static [u8],
     /// That of the own i-table after it.
     handle: [u8; 32],
-    looks: &'static [LookedAt],
+    /// What is seen at an i-number after it. No such look asks for a block.
+    looks: &'static [(u16, Seen)],
 }
 
 /// Makes a file, and links it in the root directory.
@@ -101,18 +95,7 @@ static FOUR: [Operation; 4] = [
         stored: &[OF_F, OF_F_INODE, CHUNK, ROOT],
         lost: &[],
         handle: HANDLE,
-        looks: &[
-            LookedAt {
-                number: 3,
-                seen: Seen::File(b"hello"),
-                asked: &[],
-            },
-            LookedAt {
-                number: 2,
-                seen: Seen::DirectoryOfF,
-                asked: &[],
-            },
-        ],
+        looks: &[(3, Seen::File(b"hello")), (2, Seen::DirectoryOfF)],
     },
     Operation {
         tasks: SECOND,
@@ -120,18 +103,7 @@ static FOUR: [Operation; 4] = [
         stored: &[NEXT_CHUNK, NEXT_ROOT],
         lost: &[1, 3, 4],
         handle: NEXT_HANDLE,
-        looks: &[
-            LookedAt {
-                number: 3,
-                seen: Seen::File(b"y"),
-                asked: &[],
-            },
-            LookedAt {
-                number: 2,
-                seen: Seen::DirectoryOfF,
-                asked: &[],
-            },
-        ],
+        looks: &[(3, Seen::File(b"y")), (2, Seen::DirectoryOfF)],
     },
     // Without changes.
     Operation {
@@ -149,11 +121,7 @@ static FOUR: [Operation; 4] = [
         stored: &[],
         lost: &[],
         handle: NEXT_HANDLE,
-        looks: &[LookedAt {
-            number: 2,
-            seen: Seen::DirectoryOfF,
-            asked: &[],
-        }],
+        looks: &[(2, Seen::DirectoryOfF)],
     },
 ];
 
@@ -220,18 +188,7 @@ static MADE_AND_REMOVED: [Operation; 2] = [
         stored: &[FIRST_CHUNK, FIRST_ROOT],
         lost: &[1],
         handle: FIRST_HANDLE,
-        looks: &[
-            LookedAt {
-                number: 3,
-                seen: Seen::Nothing,
-                asked: &[],
-            },
-            LookedAt {
-                number: 4,
-                seen: Seen::Nothing,
-                asked: &[],
-            },
-        ],
+        looks: &[(3, Seen::Nothing), (4, Seen::Nothing)],
     },
 ];
 
@@ -243,12 +200,6 @@ fn are_texts(rt: &impl Host, found: &[Vec<u8>], wanted: &[&[u8]]) {
     }
 }
 
-/// The client's own structure has this handle.
-fn has_handle(rt: &impl Host, world: &World, handle: &[u8]) {
-    let own = only_structure(rt, &world.client);
-    check_text(rt, own.value.handle().as_bytes(), handle);
-}
-
 /// The directory has one entry, f for 0:3.
 fn is_directory_of_f(rt: &impl Host, directory: &Directory<Global>) {
     check(rt, directory.entries().len() == 1, "one entry");
@@ -257,80 +208,67 @@ fn is_directory_of_f(rt: &impl Host, directory: &Directory<Global>) {
     check(rt, target.i_number.get() == 3, "0:3");
 }
 
-/// A look sees this, and asks for these blocks.
-fn is_seen(rt: &impl Host, world: &mut World, look: &LookedAt) {
-    let seen = look_through(rt, world, look.number);
-    match (&seen, look.seen) {
+/// A look at an i-number sees this, and asks for no block.
+fn is_seen(rt: &impl Host, world: &mut World, number: u16, wanted: Seen) {
+    let seen = look_through(rt, world, 0, number);
+    match (&seen, wanted) {
         (Look::File(found), Seen::File(file)) => check_text(rt, found, file),
         (Look::Dir(found), Seen::DirectoryOfF) => is_directory_of_f(rt, found),
         (Look::None, Seen::Nothing) => {}
-        _ => panic!(rt; "something else at 0:{}", look.number),
+        _ => panic!(rt; "something else at 0:{number}"),
     }
     let_go(seen);
-    asked_for(rt, world, look.asked);
+    asked_for_so_many(rt, world, 0);
 }
 
 /// What is told once an operation is accepted.
 fn is_accepted(rt: &impl Host, world: &mut World, operation: &Operation, texts: &[Vec<u8>]) {
     asked_for(rt, world, operation.asked);
     are_texts(rt, texts, operation.stored);
-    has_handle(rt, world, &operation.handle);
+    let own = only_structure(rt, &world.client);
+    check_text(rt, own.value.handle().as_bytes(), &operation.handle);
     has_lost(rt, world, operation.lost);
-    for look in operation.looks {
-        is_seen(rt, world, look);
-    }
 }
 
-/// The operations happen, with a store that is hostile or not.
-fn happen(rt: &impl Host, operations: &[Operation], is_hostile: bool) {
-    let mut world = new_world(rt, is_hostile);
-    for operation in operations {
-        let texts = operate(rt, &mut world, of_tasks(rt, operation.tasks));
-        is_accepted(rt, &mut world, operation, &texts);
+/// The operations happen, with a store that isn't hostile, and with one that is.
+fn happen(rt: &impl Host, operations: &[Operation]) {
+    for is_hostile in [false, true] {
+        let mut world = new_world(rt, is_hostile);
+        for operation in operations {
+            let texts = operate(rt, &mut world, of_tasks(rt, operation.tasks));
+            is_accepted(rt, &mut world, operation, &texts);
+            for (number, seen) in operation.looks {
+                is_seen(rt, &mut world, *number, *seen);
+            }
+        }
+        let_go(world);
     }
-    let_go(world);
 }
 
 #[test]
 fn four_operations(rt: HostRuntime) {
-    let rt = (rt, Here);
-    happen(&rt, &FOUR, false);
-    happen(&rt, &FOUR, true);
+    happen(&(rt, Here), &FOUR);
 }
 
 #[test]
 fn directory_is_made_and_removed(rt: HostRuntime) {
-    let rt = (rt, Here);
-    happen(&rt, &MADE_AND_REMOVED, false);
-    happen(&rt, &MADE_AND_REMOVED, true);
+    happen(&(rt, Here), &MADE_AND_REMOVED);
 }
 
-/// The second operation, where the directory wasn't looked at before.
-static UNSEEN: Operation = Operation {
-    tasks: SECOND,
-    asked: &[ROOT, CHUNK, OF_F_INODE, OF_F],
-    stored: &[NEXT_CHUNK, NEXT_ROOT],
-    lost: &[1, 3, 4],
-    handle: NEXT_HANDLE,
-    looks: &[LookedAt {
-        number: 3,
-        seen: Seen::File(b"y"),
-        asked: &[],
-    }],
-};
-
-/// A reply that breaks a rule leaves the one of which a block is asked for.
+/// A reply that breaks a rule leaves the one of which a block is asked for: that of the second operation, where the
+/// directory wasn't looked at before.
 #[test]
 fn broken_reply_before_the_blocks(rt: HostRuntime) {
     let rt = (rt, Here);
     check(&rt, Rule::Block.number() == 6, "the rule's number");
+    let [first, second, ..] = &FOUR;
     let mut world = new_world(&rt, true);
-    let _texts = operate(&rt, &mut world, of_tasks(&rt, FIRST));
-    let step = begin(&rt, &mut world, of_tasks(&rt, UNSEEN.tasks));
+    let _texts = operate(&rt, &mut world, of_tasks(&rt, first.tasks));
+    let step = begin(&rt, &mut world, of_tasks(&rt, second.tasks));
     breaks(&rt, &mut world.client, b"SRL1\0\0", Some(Rule::OwnLast));
-    let texts = hand_each(&rt, &mut world, step);
-    finish(&rt, &mut world, &texts);
-    is_accepted(&rt, &mut world, &UNSEEN, &texts);
+    let texts = finish(&rt, &mut world, step);
+    is_accepted(&rt, &mut world, second, &texts);
+    is_seen(&rt, &mut world, 3, Seen::File(b"y"));
     let_go(world);
 }
 
@@ -341,11 +279,13 @@ fn another_look_in_the_place_of_one(rt: HostRuntime) {
     let mut world = new_world(&rt, true);
     let _texts = operate(&rt, &mut world, of_tasks(&rt, FIRST));
     let _none = operate(&rt, &mut world, of_tasks(&rt, &[]));
-    let look = look_at(&rt, &mut world, 2);
+    let look = look_at(&rt, &mut world.client, 0, 2);
     check(&rt, matches!(look, Look::Need(_)), "a block is asked for");
     let_go(look);
-    check(&rt, world.client.looking(), "the look is under way");
-    sees_file(&rt, &mut world, 3, b"hello");
+    let before = world.client.looking();
+    let file = file_at(&rt, &mut world, 0, 3);
+    check_text(&rt, &file, b"hello");
+    check(&rt, before, "the look is under way");
     check(&rt, !world.client.looking(), "both looks are over");
     let_go(world);
 }

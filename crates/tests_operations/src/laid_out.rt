@@ -4,7 +4,6 @@ use crate::changes::{Task, of_tasks, plan_action};
 use crate::here::Here;
 use client_verify::are_laid;
 use layout::{digest, let_go};
-use std::alloc::Global;
 use tests_aids::Host;
 use tests_aids::blocks::{
     EMPTY, EMPTY_INODE, HELLO, HELLO_INODE, LONG_INODE, NO_BYTES_INODE, OF_F, OF_F_INODE, REST,
@@ -14,122 +13,76 @@ use tests_aids::texts::joined;
 use tests_client_aids::changes::{Planned, nothing};
 use update_cert::Action;
 
-/// A text that is named by its digest, the texts that are laid out, and whether a make and a put may name it then.
-struct Case {
-    named: &'static [u8],
-    laid: &'static [&'static [u8]],
-    by_make: bool,
-    by_put: bool,
-}
-
-static CASES: [Case; 12] = [
-    Case {
-        named: HELLO_INODE,
-        laid: &[HELLO_INODE, HELLO],
-        by_make: true,
-        by_put: true,
-    },
-    // Without its block, without its i-node, and without both.
-    Case {
-        named: HELLO_INODE,
-        laid: &[HELLO_INODE],
-        by_make: false,
-        by_put: false,
-    },
-    Case {
-        named: HELLO_INODE,
-        laid: &[HELLO],
-        by_make: false,
-        by_put: false,
-    },
-    Case {
-        named: HELLO_INODE,
-        laid: &[],
-        by_make: false,
-        by_put: false,
-    },
-    // A text that is no i-node.
-    Case {
-        named: HELLO,
-        laid: &[HELLO_INODE, HELLO],
-        by_make: false,
-        by_put: false,
-    },
-    Case {
-        named: NO_BYTES_INODE,
-        laid: &[NO_BYTES_INODE],
-        by_make: true,
-        by_put: true,
-    },
-    // With both blocks, and without either one.
-    Case {
-        named: LONG_INODE,
-        laid: &[WHOLE, REST, LONG_INODE],
-        by_make: true,
-        by_put: true,
-    },
-    Case {
-        named: LONG_INODE,
-        laid: &[WHOLE, LONG_INODE],
-        by_make: false,
-        by_put: false,
-    },
-    Case {
-        named: LONG_INODE,
-        laid: &[REST, LONG_INODE],
-        by_make: false,
-        by_put: false,
-    },
-    // The empty directory needs nothing, and a put takes none.
-    Case {
-        named: EMPTY_INODE,
-        laid: &[],
-        by_make: true,
-        by_put: false,
-    },
-    Case {
-        named: EMPTY_INODE,
-        laid: &[EMPTY, EMPTY_INODE],
-        by_make: true,
-        by_put: false,
-    },
-    // Another directory.
-    Case {
-        named: OF_F_INODE,
-        laid: &[OF_F, OF_F_INODE],
-        by_make: false,
-        by_put: false,
-    },
-];
-
-/// The texts of a case, and this action at 0:3.
-fn planned_of(rt: &impl Host, case: &Case, action: Action<Global>) -> Planned {
-    let mut planned = nothing(rt);
-    for text in case.laid {
-        planned.laid.push(joined(rt, &[text])).expect(rt, "memory");
+/// The text for which a letter stands: an i-node by a capital, a block of a file or of a directory by a small letter.
+fn text_of(rt: &impl Host, letter: u8) -> &'static [u8] {
+    match letter {
+        b'H' => HELLO_INODE,
+        b'h' => HELLO,
+        b'N' => NO_BYTES_INODE,
+        b'L' => LONG_INODE,
+        b'w' => WHOLE,
+        b'r' => REST,
+        b'E' => EMPTY_INODE,
+        b'e' => EMPTY,
+        b'F' => OF_F_INODE,
+        b'f' => OF_F,
+        _ => panic!(rt; "no text {letter}"),
     }
-    plan_action(rt, &mut planned, 3, action);
-    planned
 }
+
+/// Of each case a line: the text that is named by its digest, whether a make and a put may name it (y or n), and the
+/// texts that are laid out.
+///
+/// A file with its block and its i-node, without its block, without its i-node, and without both; a text that is no
+/// i-node; a file without bytes; a file of two blocks with both, and without either one; the empty directory, which
+/// needs nothing, and which a put doesn't take; another directory.
+static CASES: &[u8] = b"\
+    HyyHh\n\
+    HnnH\n\
+    Hnnh\n\
+    Hnn\n\
+    hnnHh\n\
+    NyyN\n\
+    LyywrL\n\
+    LnnwL\n\
+    LnnrL\n\
+    Eyn\n\
+    EyneE\n\
+    FnnfF";
 
 /// Whether what was planned is laid out.
 fn is_laid(rt: &impl Host, planned: &Planned) -> bool {
     are_laid(rt.alloc(), &planned.laid, &planned.changes).expect(rt, "memory")
 }
 
+/// A make or a put at 0:3 may name the text of a letter or not (y or n), where the texts of these letters are laid out.
+fn may_name(rt: &impl Host, named: u8, is_make: bool, answer: u8, laid: &[u8]) {
+    let named = digest(text_of(rt, named));
+    let mut planned = nothing(rt);
+    for letter in laid {
+        let text = joined(rt, &[text_of(rt, *letter)]);
+        planned.laid.push(text).expect(rt, "memory");
+    }
+    let action = if is_make {
+        Action::Make(named)
+    } else {
+        Action::Put(named)
+    };
+    plan_action(rt, &mut planned, (0, 3), action);
+    let found = is_laid(rt, &planned);
+    let_go(planned);
+    assert!(rt; found == (answer == b'y'), "{named:?} by make: {is_make}");
+}
+
 #[test]
 fn each_naming(rt: HostRuntime) {
     let rt = (rt, Here);
-    for (place, case) in CASES.iter().enumerate() {
-        let named = digest(case.named);
-        let making = planned_of(&rt, case, Action::Make(named));
-        let made = is_laid(&rt, &making);
-        let_go(making);
-        assert!(rt; made == case.by_make, "the make of case {place}");
-        let putting = planned_of(&rt, case, Action::Put(named));
-        let put = is_laid(&rt, &putting);
-        let_go(putting);
-        assert!(rt; put == case.by_put, "the put of case {place}");
+    for row in CASES.split(|byte| *byte == b'\n') {
+        let [named, by_make, by_put, laid @ ..] = row else {
+            panic!(&rt; "no row");
+        };
+        may_name(&rt, *named, true, *by_make, laid);
+        may_name(&rt, *named, false, *by_put, laid);
     }
 }
 
@@ -146,9 +99,9 @@ fn several_changes(rt: HostRuntime) {
     let rt = (rt, Here);
     let mut planned = of_tasks(&rt, &OTHERS);
     assert!(rt; planned.laid.is_empty() && is_laid(&rt, &planned));
-    plan_action(&rt, &mut planned, 3, Action::Make(digest(EMPTY_INODE)));
+    plan_action(&rt, &mut planned, (0, 3), Action::Make(digest(EMPTY_INODE)));
     assert!(rt; is_laid(&rt, &planned));
-    plan_action(&rt, &mut planned, 4, Action::Make(digest(HELLO_INODE)));
+    plan_action(&rt, &mut planned, (0, 4), Action::Make(digest(HELLO_INODE)));
     assert!(rt; !is_laid(&rt, &planned));
     let_go(planned);
 }

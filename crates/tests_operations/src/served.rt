@@ -135,28 +135,24 @@ fn write_and_look<R: Alloc<A = Global> + Abort + Net<Listener = TcpListener, Str
     address: SocketAddr,
 ) {
     let host = &(rt, Here);
-    let Three {
-        zero: mut superuser,
-        one: mut first,
-        two: mut second,
-        pinned: _,
-        of_one,
-        of_two,
-    } = three_clients(host);
-    let listing = listing_both(host, of_one, of_two);
+    let mut users = three_clients(host);
     let stream = TcpStream::connect(rt, address).expect(rt, "a connection");
     let mut caller = Caller::new(rt.alloc(), stream);
-    operate(host, &mut caller, &mut superuser, listing);
-    let by_first = begin(host, &mut caller, &mut first, making(host, 1, 3, b"one"));
-    let by_second = begin(host, &mut caller, &mut second, making(host, 2, 3, b"two"));
-    commit(host, &mut caller, &mut second, &by_second);
-    sees_both(host, &mut caller, &mut superuser);
-    commit(host, &mut caller, &mut first, &by_first);
-    sees_both(host, &mut caller, &mut superuser);
+    write_both(host, &mut caller, &mut users);
     let_go(caller);
-    let_go(second);
-    let_go(first);
-    let_go(superuser);
+    let_go(users);
+}
+
+/// The users do that over their connection.
+fn write_both(rt: &impl Host, caller: &mut Caller<TcpStream>, users: &mut Three) {
+    let listing = listing_both(rt, users.of_one, users.of_two);
+    operate(rt, caller, &mut users.zero, listing);
+    let by_first = begin(rt, caller, &mut users.one, making(rt, 1, 3, b"one"));
+    let by_second = begin(rt, caller, &mut users.two, making(rt, 2, 3, b"two"));
+    commit(rt, caller, &mut users.two, &by_second);
+    sees_both(rt, caller, &mut users.zero);
+    commit(rt, caller, &mut users.one, &by_first);
+    sees_both(rt, caller, &mut users.zero);
 }
 
 /// Serves one connection: how many calls were answered.

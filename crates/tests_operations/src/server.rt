@@ -3,41 +3,89 @@
 
 use crate::here::Here;
 use consistency_server::{Call, CallKind, Log, MemoryLog};
-use layout::let_go;
+use layout::{let_go, put_in};
 use lms_sign::PrivateKey;
 use std::alloc::Global;
-use tests_aids::texts::{joined, key_of, listed, named, plan, reply_to, shown, signed, structure};
+use tests_aids::texts::{
+    certificate_of, joined, key_of, listed, named, plan, reply_to, shown, signed, structure,
+};
 use tests_aids::{Host, check, check_text};
 use tests_client_aids::servers::{Server, answers_commit, answers_update, server_of};
 use wire::Status;
 
-/// The structure that a certificate names.
-#[derive(Clone, Copy)]
-enum Last {
-    /// None: zeros.
-    Zeros,
-    /// The one that was committed last.
-    Committed,
-    /// One that nobody signed.
-    Invented,
-}
+/// What is sent to the server, and the status of its answer, by seven letters: what it is, a user, a number, what that
+/// names or has, by whose key it is signed, its changes, and the status.
+///
+/// - `c` is a certificate of this user and number, which names no structure, by zeros (`0`), the one that was committed
+///   last (`c`), or one that nobody signed (`x`); it has no changes, or one of each kind (`e`).
+/// - `s` is the structure of this user and number over the certificate that was placed last, with a handle of this byte
+///   everywhere.
+/// - `p` is the certificate that was placed last, and `k` the structure that was committed last, as they were sent.
+/// - `g` is an update and a commit of no form.
+///
+/// A status is told by a letter of its name: Ok, Form, Unknown, Signature, Number, Pending or Busy.
+type Calls = &'static [u8];
 
-/// What is sent.
-#[derive(Clone, Copy)]
-enum Sent {
-    /// A certificate of this user and number, which names a structure, signed by this key, with these changes after
-    /// their count.
-    Certificate(u8, u8, Last, u8, &'static [u8]),
-    /// The certificate that was placed last, as it was sent.
-    PlacedAgain,
-    /// The structure of this user and number over the certificate that was placed last, with a handle of this byte
-    /// everywhere, signed by this key.
-    Structure(u8, u8, u8, u8),
-    /// The structure that was committed last, as it was sent.
-    CommittedAgain,
-    /// An update and a commit of no form.
-    Garbage,
-}
+/// Of several faults the first one: who it is, the signature, the number.
+const FAULTS: Calls = b"\
+    g.....F\
+    c1900.U\
+    c1101.U\
+    c0901.S\
+    c0101.S\
+    c0200.N\
+    c0300.N\
+    c01x0.N";
+
+/// Nothing is pending.
+const NONE_PENDING: Calls = b"\
+    s1150.U\
+    s0151.S\
+    s0150.P";
+
+/// The first operation is placed, and answered again as it was.
+const PLACED: Calls = b"\
+    c0100eO\
+    p.....O";
+
+/// While it is pending no other one is placed, whatever its number.
+const BESIDE_PENDING: Calls = b"\
+    c0100.N\
+    c0200.N\
+    c0101eS\
+    c1100eU";
+
+/// Its structure, and others.
+const COMMITTED: Calls = b"\
+    s0250.P\
+    s0151.S\
+    s1150.U\
+    g.....F\
+    p.....O\
+    s0150.O\
+    k.....O";
+
+/// Another structure over the same plan, and what was pending.
+const AFTER_COMMIT: Calls = b"\
+    s0160.P\
+    p.....N";
+
+/// The second operation is placed after the structure of the first one alone.
+const SECOND: Calls = b"\
+    c0200.N\
+    c02x0.N\
+    c01c0.N\
+    c03c0.N\
+    c02c0.O\
+    k.....O\
+    p.....O\
+    s0150.P\
+    s0270.O\
+    k.....O\
+    c03c0eO\
+    s0370.O\
+    c04c0.O\
+    p.....O";
 
 /// No changes, and one of each kind.
 const NONE: &[u8] = b"\0";
@@ -49,110 +97,24 @@ const EACH: &[u8] = b"\x05\
     \x04\0\0\x02\x01f\x40\0\x03\
     \x05\x40\0\x01\x04name";
 
-/// What is sent, and the status of the answer, in turn.
-static HISTORY: [(Sent, Status); 40] = [
-    (Sent::Garbage, Status::Form),
-    // Of several faults the first one: who it is, the signature, the number.
-    (
-        Sent::Certificate(1, 9, Last::Zeros, 0, NONE),
-        Status::UnknownUser,
-    ),
-    (
-        Sent::Certificate(1, 1, Last::Zeros, 1, NONE),
-        Status::UnknownUser,
-    ),
-    (
-        Sent::Certificate(0, 9, Last::Zeros, 1, NONE),
-        Status::BadSignature,
-    ),
-    (
-        Sent::Certificate(0, 1, Last::Zeros, 1, NONE),
-        Status::BadSignature,
-    ),
-    (
-        Sent::Certificate(0, 2, Last::Zeros, 0, NONE),
-        Status::WrongNumber,
-    ),
-    (
-        Sent::Certificate(0, 3, Last::Zeros, 0, NONE),
-        Status::WrongNumber,
-    ),
-    (
-        Sent::Certificate(0, 1, Last::Invented, 0, NONE),
-        Status::WrongNumber,
-    ),
-    // Nothing is pending.
-    (Sent::Structure(1, 1, 5, 0), Status::UnknownUser),
-    (Sent::Structure(0, 1, 5, 1), Status::BadSignature),
-    (Sent::Structure(0, 1, 5, 0), Status::NotPending),
-    // The first operation is placed, and answered again as it was.
-    (Sent::Certificate(0, 1, Last::Zeros, 0, EACH), Status::Ok),
-    (Sent::PlacedAgain, Status::Ok),
-    // While it is pending no other one is placed, whatever its number.
-    (
-        Sent::Certificate(0, 1, Last::Zeros, 0, NONE),
-        Status::WrongNumber,
-    ),
-    (
-        Sent::Certificate(0, 2, Last::Zeros, 0, NONE),
-        Status::WrongNumber,
-    ),
-    (
-        Sent::Certificate(0, 1, Last::Zeros, 1, EACH),
-        Status::BadSignature,
-    ),
-    (
-        Sent::Certificate(1, 1, Last::Zeros, 0, EACH),
-        Status::UnknownUser,
-    ),
-    // Its structure, and others.
-    (Sent::Structure(0, 2, 5, 0), Status::NotPending),
-    (Sent::Structure(0, 1, 5, 1), Status::BadSignature),
-    (Sent::Structure(1, 1, 5, 0), Status::UnknownUser),
-    (Sent::Garbage, Status::Form),
-    (Sent::PlacedAgain, Status::Ok),
-    (Sent::Structure(0, 1, 5, 0), Status::Ok),
-    (Sent::CommittedAgain, Status::Ok),
-    // Another structure over the same plan, and what was pending.
-    (Sent::Structure(0, 1, 6, 0), Status::NotPending),
-    (Sent::PlacedAgain, Status::WrongNumber),
-    // The second operation is placed after the structure of the first one alone.
-    (
-        Sent::Certificate(0, 2, Last::Zeros, 0, NONE),
-        Status::WrongNumber,
-    ),
-    (
-        Sent::Certificate(0, 2, Last::Invented, 0, NONE),
-        Status::WrongNumber,
-    ),
-    (
-        Sent::Certificate(0, 1, Last::Committed, 0, NONE),
-        Status::WrongNumber,
-    ),
-    (
-        Sent::Certificate(0, 3, Last::Committed, 0, NONE),
-        Status::WrongNumber,
-    ),
-    (
-        Sent::Certificate(0, 2, Last::Committed, 0, NONE),
-        Status::Ok,
-    ),
-    (Sent::CommittedAgain, Status::Ok),
-    (Sent::PlacedAgain, Status::Ok),
-    (Sent::Structure(0, 1, 5, 0), Status::NotPending),
-    (Sent::Structure(0, 2, 7, 0), Status::Ok),
-    (Sent::CommittedAgain, Status::Ok),
-    (
-        Sent::Certificate(0, 3, Last::Committed, 0, EACH),
-        Status::Ok,
-    ),
-    (Sent::Structure(0, 3, 7, 0), Status::Ok),
-    (
-        Sent::Certificate(0, 4, Last::Committed, 0, NONE),
-        Status::Ok,
-    ),
-    (Sent::PlacedAgain, Status::Ok),
-];
+/// The status of a letter.
+fn status_of(rt: &impl Host, letter: u8) -> Status {
+    match letter {
+        b'O' => Status::Ok,
+        b'F' => Status::Form,
+        b'U' => Status::UnknownUser,
+        b'S' => Status::BadSignature,
+        b'N' => Status::WrongNumber,
+        b'P' => Status::NotPending,
+        b'B' => Status::Busy,
+        _ => panic!(rt; "no status {letter}"),
+    }
+}
+
+/// The number that a digit stands for.
+fn digit(letter: u8) -> u8 {
+    letter.wrapping_sub(b'0')
+}
 
 /// A server, the keys of users 0 and 1, and what was placed and committed last.
 #[derive(Drop)]
@@ -183,28 +145,13 @@ fn new_run(rt: &impl Host) -> Run {
 }
 
 impl Run {
-    /// The text, signed by user 1's key or user 0's.
-    fn signed_by(&self, rt: &impl Host, key: u8, text: &[u8]) -> Vec<u8> {
-        let [own, other] = &self.keys;
-        signed(rt, if key == 1 { other } else { own }, 0, text)
-    }
-
-    /// The digest that a certificate names.
-    fn last_of(&self, last: Last) -> [u8; 32] {
-        match last {
-            Last::Zeros => [0; 32],
-            Last::Committed => self.last,
-            Last::Invented => [1; 32],
-        }
-    }
-
     /// The server answers this status to the certificate of a number, and where it places it, the reply made by hand.
     fn update(&mut self, rt: &impl Host, number: u8, text: Vec<u8>, status: Status) {
         if status == Status::Ok {
             let reply = reply_to(rt, &self.structures, number, &text);
             answers_update(rt, &mut self.server, &text, status, &reply);
             self.number = number;
-            self.placed = text;
+            put_in(&mut self.placed, text);
         } else {
             answers_update(rt, &mut self.server, &text, status, &[]);
         }
@@ -215,67 +162,99 @@ impl Run {
         answers_commit(rt, &mut self.server, &text, status);
         if status == Status::Ok {
             self.last = named(&text);
-            self.structures = listed(rt, &shown(rt, &text));
-            self.committed = text;
+            put_in(&mut self.structures, listed(rt, &shown(rt, &text)));
+            put_in(&mut self.committed, text);
         }
     }
 
-    /// The server answers this status to what is sent.
-    fn answers(&mut self, rt: &impl Host, sent: Sent, status: Status) {
-        match sent {
-            Sent::Certificate(user, number, last, key, changes) => {
-                let start = [user, 0, 0, 0, number];
-                let text = joined(rt, &[b"SUC1", &start, &self.last_of(last), changes]);
-                let text = self.signed_by(rt, key, &text);
-                self.update(rt, number, text, status);
+    /// The certificate of this user and number, signed by this key.
+    fn certificate(&self, rt: &impl Host, letters: [u8; 5]) -> Vec<u8> {
+        let [user, number, last, key, changes] = letters;
+        let last = match last {
+            b'c' => self.last,
+            b'x' => [1; 32],
+            _ => [0; 32],
+        };
+        let changes = if changes == b'e' { EACH } else { NONE };
+        let (user, number) = (digit(user), u32::from(digit(number)));
+        let text = certificate_of(rt, user, number, &last, changes);
+        let [own, other] = &self.keys;
+        signed(rt, if key == b'1' { other } else { own }, 0, &text)
+    }
+
+    /// The structure of this user and number, with a handle of this byte, signed by this key.
+    fn structure(&self, rt: &impl Host, letters: [u8; 4]) -> Vec<u8> {
+        let [user, number, handle, key] = letters;
+        let (user, number) = (digit(user), digit(number));
+        let vector = [1, user, 0, 0, 0, number];
+        let certificate = named(&self.placed);
+        let plan = plan(rt, user, u32::from(number), &certificate, &vector, b"\0");
+        let text = structure(rt, &plan, &[digit(handle); 32]);
+        let [own, other] = &self.keys;
+        signed(rt, if key == b'1' { other } else { own }, 0, &text)
+    }
+
+    /// The server answers a call by its status.
+    fn answers(&mut self, rt: &impl Host, call: &[u8]) {
+        let [what, user, number, named, key, changes, status] = call else {
+            panic!(rt; "not seven letters");
+        };
+        let status = status_of(rt, *status);
+        match what {
+            b'c' => {
+                let text = self.certificate(rt, [*user, *number, *named, *key, *changes]);
+                self.update(rt, digit(*number), text, status);
             }
-            Sent::PlacedAgain => {
+            b'p' => {
                 let text = joined(rt, &[&self.placed]);
                 self.update(rt, self.number, text, status);
             }
-            Sent::Structure(user, number, handle, key) => {
-                let vector = [1, user, 0, 0, 0, number];
-                let plan = plan(
-                    rt,
-                    user,
-                    u32::from(number),
-                    &named(&self.placed),
-                    &vector,
-                    b"\0",
-                );
-                let text = self.signed_by(rt, key, &structure(rt, &plan, &[handle; 32]));
+            b's' => {
+                let text = self.structure(rt, [*user, *number, *named, *key]);
                 self.commit(rt, text, status);
             }
-            Sent::CommittedAgain => {
+            b'k' => {
                 let text = joined(rt, &[&self.committed]);
                 self.commit(rt, text, status);
             }
-            Sent::Garbage => {
+            _ => {
                 answers_update(rt, &mut self.server, b"garbage", status, &[]);
                 answers_commit(rt, &mut self.server, b"garbage", status);
             }
         }
     }
+
+    /// The server answers each call by its status.
+    fn answers_each(&mut self, rt: &impl Host, calls: &[u8]) {
+        for call in calls.chunks(7) {
+            self.answers(rt, call);
+        }
+    }
 }
 
-/// Four certificates were placed and three structures committed, and each call is kept, the last one last.
-fn keeps_each(rt: &impl Host, run: &Run) {
-    check(rt, run.server.events() == 7, "seven events");
-    let history = run.server.ordered.history();
-    check(rt, history.len() == 42, "forty-two calls");
-    let call = history.last().expect(rt, "a call");
-    check(rt, call.kind() == CallKind::Update, "an update");
-    check_text(rt, call.text(), &run.placed);
-}
-
+/// Four certificates are placed and three structures committed, and each call is kept, the last one last.
 #[test]
 fn each_call_of_a_long_history(rt: HostRuntime) {
     let rt = (rt, Here);
     let mut run = new_run(&rt);
-    for (sent, status) in &HISTORY {
-        run.answers(&rt, *sent, *status);
+    let history: [Calls; 7] = [
+        FAULTS,
+        NONE_PENDING,
+        PLACED,
+        BESIDE_PENDING,
+        COMMITTED,
+        AFTER_COMMIT,
+        SECOND,
+    ];
+    for calls in history {
+        run.answers_each(&rt, calls);
     }
-    keeps_each(&rt, &run);
+    check(&rt, run.server.events() == 7, "seven events");
+    let history = run.server.ordered.history();
+    check(&rt, history.len() == 42, "forty-two calls");
+    let call = history.last().expect(&rt, "a call");
+    check(&rt, call.kind() == CallKind::Update, "an update");
+    check_text(&rt, call.text(), &run.placed);
     let_go(run);
 }
 
@@ -287,49 +266,32 @@ fn fill(rt: &impl Host, log: &mut MemoryLog<Global>) {
 }
 
 /// What a full log answers to before and after the first operation is placed: Busy alone to what would be an event.
-static FULL: [(Sent, Status); 4] = [
-    (Sent::Certificate(0, 1, Last::Zeros, 0, NONE), Status::Busy),
-    (
-        Sent::Certificate(0, 2, Last::Zeros, 0, NONE),
-        Status::WrongNumber,
-    ),
-    (Sent::Structure(0, 1, 5, 0), Status::NotPending),
-    (Sent::Garbage, Status::Form),
-];
+const FULL: Calls = b"\
+    c0100.B\
+    c0200.N\
+    s0150.P\
+    g.....F";
 
-static FULL_BESIDE: [(Sent, Status); 5] = [
-    (Sent::Structure(0, 1, 5, 0), Status::Busy),
-    (Sent::PlacedAgain, Status::Ok),
-    (Sent::Structure(0, 2, 5, 0), Status::NotPending),
-    (
-        Sent::Certificate(0, 2, Last::Zeros, 0, NONE),
-        Status::WrongNumber,
-    ),
-    (Sent::Structure(0, 1, 5, 0), Status::Busy),
-];
+const FULL_BESIDE: Calls = b"\
+    s0150.B\
+    p.....O\
+    s0250.P\
+    c0200.N\
+    s0150.B";
 
-/// A log that is full answers these.
-fn answers_full(rt: &impl Host, run: &mut Run, calls: &[(Sent, Status)]) {
+/// After these calls the log is full, and these are answered so, of which four aren't Busy.
+fn is_full_after(rt: &impl Host, before: Calls, calls: Calls) {
+    let mut run = new_run(rt);
+    run.answers_each(rt, before);
     fill(rt, &mut run.server.log);
-    for (sent, status) in calls {
-        run.answers(rt, *sent, *status);
-    }
+    run.answers_each(rt, calls);
+    check(rt, run.server.ordered.history().len() == 4, "not Busy");
+    let_go(run);
 }
 
 #[test]
 fn full_log_is_busy(rt: HostRuntime) {
     let rt = (rt, Here);
-    let mut run = new_run(&rt);
-    answers_full(&rt, &mut run, &FULL);
-    check(&rt, run.server.ordered.history().len() == 4, "not Busy");
-    let_go(run);
-    let mut run = new_run(&rt);
-    run.answers(
-        &rt,
-        Sent::Certificate(0, 1, Last::Zeros, 0, NONE),
-        Status::Ok,
-    );
-    answers_full(&rt, &mut run, &FULL_BESIDE);
-    check(&rt, run.server.ordered.history().len() == 4, "not Busy");
-    let_go(run);
+    is_full_after(&rt, b"", FULL);
+    is_full_after(&rt, b"c0100.O", FULL_BESIDE);
 }
