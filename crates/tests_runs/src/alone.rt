@@ -1,201 +1,126 @@
 //! One user's client without a server: steps out of phase, restarts, each call of a device failing in turn, and what no
-//! crash leaves.
+//! crash leaves. What comes of each step is told by hand, by a letter.
 
 use crate::here::Here;
-use client_runs::{Act, Answer, WorldStep};
+use crate::stage::{Fails, NEVER, Ran};
+use client_runs::{Act, Answer};
 use client_verify::{ClientError, Phase};
-use fork_consistency::run;
-use layout::{User, let_go};
+use layout::let_go;
 use std::alloc::Global;
+use tests_aids::texts::joined;
 use tests_aids::{Aided, Host};
 use wire::Status;
 
-/// What comes of these steps of user 2's client, of which this call of the ledger's device fails in the second, or this
-/// one of the journal's.
-fn answers(
-    rt: &impl Host,
-    acts: Vec<Act<Global>>,
-    ledger_fails: Option<u64>,
-    journal_fails: Option<u64>,
-) -> Vec<Answer<Global>> {
-    let mut steps = Vec::new(rt.alloc());
-    for act in acts {
-        let is_second = steps.len() == 1;
-        let step = WorldStep {
-            user: User::new(2).expect(rt, "a user"),
-            act,
-            ledger_fails: if is_second { ledger_fails } else { None },
-            journal_fails: if is_second { journal_fails } else { None },
-        };
-        steps.push(step).expect(rt, "memory");
+/// What user 2's client is told to do, by the letters of `act_of`, and what comes of it, by those of `is_so`.
+static STEPS: [(&[u8], &[u8]); 5] = [
+    // Steps out of phase are not taken.
+    (b"kdoorbscgks", b"--i------k-"),
+    // The cache of an open client may have 1 to 4,096 blocks, in any phase.
+    (b"1o01mnd2", b"-i-hh-bh"),
+    // What is declared is told again.
+    (b"oddko", b"ib-kd"),
+    // No crash leaves what was not written.
+    (b"wxo", b"-xi"),
+    // An open client has a ledger of 1,080 synced bytes, which no crash takes away: it stays open.
+    (b"oxd", b"i-b"),
+];
+
+/// What a client is told to do: `o` opens it, `k` closes it, `d` declares an operation without changes, `r` hands it an
+/// empty reply and `b` no block, `s` signs, `c` tells it of a commit, `g` gives it no block, `x` is a crash that leaves
+/// nothing, and `w` one that leaves a byte of a journal. Else its cache gets a size: `0`, `1` or `2`, for `m` the
+/// greatest one, and for others one above it.
+fn act_of(rt: &impl Host, letter: u8) -> Act<Global> {
+    match letter {
+        b'o' => Act::Open,
+        b'k' => Act::Close,
+        b'd' => Act::Begin(Vec::new(rt.alloc()), Vec::new(rt.alloc())),
+        b'r' => Act::Reply(Vec::new(rt.alloc())),
+        b'b' => Act::Block(None),
+        b's' => Act::Sign,
+        b'c' => Act::Committed(Status::Ok),
+        b'g' => Act::Give(None),
+        b'x' => Act::Crash(Vec::new(rt.alloc()), Vec::new(rt.alloc())),
+        b'w' => Act::Crash(Vec::new(rt.alloc()), joined(rt, &[&[1]])),
+        b'0' => Act::Cache(0),
+        b'1' => Act::Cache(1),
+        b'2' => Act::Cache(2),
+        b'm' => Act::Cache(4_096),
+        _ => Act::Cache(4_097),
     }
-    let told = run(rt.alloc(), &steps).expect(rt, "memory").answers;
-    let_go(steps);
-    told
 }
 
-/// The answer at this place.
-fn at<'a>(rt: &impl Host, told: &'a [Answer<Global>], place: usize) -> &'a Answer<Global> {
-    told.get(place).expect(rt, "an answer")
-}
-
-/// No bytes.
-fn none(rt: &impl Host) -> Vec<u8> {
-    Vec::new(rt.alloc())
-}
-
-/// A declaration without changes.
-fn declaration(rt: &impl Host) -> Act<Global> {
-    Act::Begin(Vec::new(rt.alloc()), Vec::new(rt.alloc()))
-}
-
-#[test]
-fn steps_out_of_phase_are_not_taken(rt: HostRuntime) {
-    let rt = &(rt, Here);
-    let alloc = rt.alloc();
-    let acts = vec![in alloc;
-        Act::Close,
-        declaration(rt),
-        Act::Open,
-        Act::Open,
-        Act::Reply(none(rt)),
-        Act::Block(None),
-        Act::Sign,
-        Act::Committed(Status::Ok),
-        Act::Give(None),
-        Act::Close,
-        Act::Sign,
-    ]
-    .expect(rt, "memory");
-    let told = answers(rt, acts, None, None);
-    for (place, answer) in told.iter().enumerate() {
-        let is_right = match answer {
-            Answer::Opened(phase, text) => place == 2 && *phase == Phase::Idle && text.is_empty(),
-            Answer::Closed => place == 9,
-            Answer::NotTaken => place != 2 && place != 9,
-            _ => false,
-        };
-        assert!(rt; is_right, "at {place}");
+/// Whether an answer is what a letter says: `-`, the step isn't taken; `i`, the client is open, idle, with nothing to
+/// be sent again; `d`, it is open, and the certificate that was sent is to be sent again; `o`, it is open; `k`, it is
+/// closed; `h`, its cache has another size; `x`, the crash came; `b`, it has declared; `f`, a device failed at that;
+/// `r`, a device failed at the opening; `n`, the ledger's file is no ledger of its key; `?`, anything.
+fn is_so(answer: &Answer<Global>, letter: u8, sent: &[u8]) -> bool {
+    match (letter, answer) {
+        (b'i', Answer::Opened(Phase::Idle, again)) => again.is_empty(),
+        (b'd', Answer::Opened(Phase::Declared, again)) => again.as_slice() == sent,
+        (b'-', Answer::NotTaken)
+        | (b'o', Answer::Opened(_, _))
+        | (b'k', Answer::Closed)
+        | (b'h', Answer::Cached)
+        | (b'x', Answer::Crashed)
+        | (b'b', Answer::Begun(Ok(_)))
+        | (b'f', Answer::Begun(Err(ClientError::Device)))
+        | (b'r', Answer::Refused(ClientError::Device))
+        | (b'n', Answer::Refused(ClientError::Foreign)) => true,
+        _ => letter == b'?',
     }
-    let_go(told);
 }
 
-/// The cache of an open client may have 1 to 4,096 blocks, in any phase.
-#[test]
-fn caches_of_all_sizes(rt: HostRuntime) {
-    let rt = &(rt, Here);
-    let alloc = rt.alloc();
-    let acts = vec![in alloc;
-        Act::Cache(1),
-        Act::Open,
-        Act::Cache(0),
-        Act::Cache(1),
-        Act::Cache(4_096),
-        Act::Cache(4_097),
-        declaration(rt),
-        Act::Cache(2),
-    ]
-    .expect(rt, "memory");
-    let told = answers(rt, acts, None, None);
-    for (place, answer) in told.iter().enumerate() {
-        let is_right = match answer {
-            Answer::Cached => matches!(place, 3 | 4 | 7),
-            Answer::NotTaken => matches!(place, 0 | 2 | 5),
-            _ => matches!(place, 1 | 6),
-        };
-        assert!(rt; is_right, "at {place}");
+/// The steps come to what is wanted, where in the one of this place a device fails so.
+fn come_to(rt: &impl Host, acts: &[u8], wanted: &[u8], failing: usize, fails: Fails) {
+    let mut ran = Ran::new(rt);
+    for (place, letter) in acts.iter().enumerate() {
+        let fails = if place == failing { fails } else { NEVER };
+        ran.add(rt, 2, act_of(rt, *letter), fails);
     }
-    let_go(told);
-}
-
-#[test]
-fn what_is_declared_is_told_again(rt: HostRuntime) {
-    let rt = &(rt, Here);
-    let alloc = rt.alloc();
-    let acts = vec![in alloc;
-        Act::Open,
-        declaration(rt),
-        declaration(rt),
-        Act::Close,
-        Act::Open,
-    ]
-    .expect(rt, "memory");
-    let told = answers(rt, acts, None, None);
-    assert!(rt; matches!(at(rt, &told, 2), Answer::NotTaken));
-    match (at(rt, &told, 1), at(rt, &told, 4)) {
-        (Answer::Begun(Ok(sent)), Answer::Opened(phase, again)) => {
-            assert!(rt; *phase == Phase::Declared && again.as_slice() == sent.as_slice());
+    ran.carry_out(rt);
+    let mut sent: &[u8] = &[];
+    for (place, (answer, letter)) in ran.answers.iter().zip(wanted).enumerate() {
+        assert!(rt; is_so(answer, *letter, sent), "at {place}: {fails:?}");
+        if let Answer::Begun(Ok(text)) = answer {
+            sent = text;
         }
-        _ => panic!(rt; "it isn't told"),
     }
-    let_go(told);
+    let_go(ran);
 }
 
-/// Declares while one call fails, and opens again: whether the declaration failed. It is told again if it didn't.
-fn fails(rt: &impl Host, ledger_fails: Option<u64>, journal_fails: Option<u64>) -> bool {
-    let alloc = rt.alloc();
-    let acts = vec![in alloc; Act::Open, declaration(rt), Act::Close, Act::Open].expect(
-        rt, "memory",
-    );
-    let told = answers(rt, acts, ledger_fails, journal_fails);
-    let failed = match (at(rt, &told, 1), at(rt, &told, 3)) {
-        (Answer::Begun(Ok(_)), Answer::Opened(phase, _)) => {
-            assert!(rt; *phase == Phase::Declared);
-            false
-        }
-        (Answer::Begun(Err(ClientError::Device)), Answer::Opened(_, _)) => true,
-        _ => panic!(rt; "it isn't opened again"),
-    };
-    let_go(told);
-    failed
+#[test]
+fn steps_of_one_client(rt: HostRuntime) {
+    let rt = &(rt, Here);
+    for (acts, wanted) in &STEPS {
+        come_to(rt, acts, wanted, 0, NEVER);
+    }
 }
 
-/// A declaration makes two calls of the ledger's device and six of the journal's.
+/// A declaration makes two calls of the ledger's device and six of the journal's. It is told again if none failed.
 #[test]
 fn each_call_fails_in_turn(rt: HostRuntime) {
     let rt = &(rt, Here);
     for calls in 0..4 {
-        assert!(rt;
-            fails(rt, Some(calls), None) == (calls < 2),
-            "the ledger's at {calls}"
-        );
+        let wanted = if calls < 2 { b"if?o" } else { b"ibkd" };
+        come_to(rt, b"odko", wanted, 1, (Some(calls), None));
     }
     for calls in 0..8 {
-        assert!(rt;
-            fails(rt, None, Some(calls)) == (calls < 6),
-            "the journal's at {calls}"
-        );
+        let wanted = if calls < 6 { b"if?o" } else { b"ibkd" };
+        come_to(rt, b"odko", wanted, 1, (None, Some(calls)));
     }
 }
 
+/// A first opening makes five calls of the ledger's device: a sync, the size, the key and the marks written, a sync.
+/// And four of the journal's: a sync, the size, the gate written, a sync. Of a write that fails half is written: a
+/// ledger's file that was written in part is no ledger of the key.
 #[test]
-fn no_crash_leaves_what_was_not_written(rt: HostRuntime) {
+fn each_call_of_an_opening_fails_in_a_run(rt: HostRuntime) {
     let rt = &(rt, Here);
-    let alloc = rt.alloc();
-    let byte = Vec::from_slice(alloc, &[1]).expect(rt, "memory");
-    let acts = vec![in alloc;
-        Act::Crash(none(rt), byte),
-        Act::Crash(none(rt), none(rt)),
-        Act::Open,
-    ]
-    .expect(rt, "memory");
-    let told = answers(rt, acts, None, None);
-    assert!(rt; matches!(at(rt, &told, 0), Answer::NotTaken));
-    assert!(rt; matches!(at(rt, &told, 1), Answer::Crashed));
-    assert!(rt; matches!(at(rt, &told, 2), Answer::Opened(Phase::Idle, _)));
-    let_go(told);
-}
-
-/// An open client has a ledger of 1,080 synced bytes, which no crash takes away: it stays open.
-#[test]
-fn no_crash_of_an_open_client_leaves_less(rt: HostRuntime) {
-    let rt = &(rt, Here);
-    let alloc = rt.alloc();
-    let acts = vec![in alloc; Act::Open, Act::Crash(none(rt), none(rt)), declaration(rt)].expect(
-        rt, "memory",
-    );
-    let told = answers(rt, acts, None, None);
-    assert!(rt; matches!(at(rt, &told, 1), Answer::NotTaken));
-    assert!(rt; matches!(at(rt, &told, 2), Answer::Begun(Ok(_))));
-    let_go(told);
+    for calls in 0..5 {
+        let wanted = if matches!(calls, 2 | 3) { b"rn" } else { b"ri" };
+        come_to(rt, b"oo", wanted, 0, (Some(calls), None));
+    }
+    for calls in 0..4 {
+        come_to(rt, b"oo", b"ri", 0, (None, Some(calls)));
+    }
 }

@@ -3,6 +3,7 @@
 
 use crate::here::Here;
 use crate::planning::user;
+use crate::stage::{Fails, NEVER};
 use client_runs::{Accepted, Act, Answer};
 use client_verify::Look;
 use fork_theorem::{Delivery, HonestAct, HonestStep, honest_run};
@@ -10,12 +11,14 @@ use layout::let_go;
 use std::alloc::Global;
 use tests_aids::numbers::{i_number, principal};
 use tests_aids::texts::key_of;
-use tests_aids::{Aided, Host, check};
+use tests_aids::{Aided, Host, check, found, given};
 use tests_client_aids::changes::{Planned, listing_both, making, nothing};
 use wire::Status;
 
 /// How many blocks each reply and each look is handed at most. Those that aren't asked for aren't taken.
-const BLOCKS: u8 = 10;
+const BLOCKS: &[u8] = b"bbbbbbbbbb";
+
+const GIVES: &[u8] = b"gggggggggg";
 
 /// The i-number at which each user makes its file.
 const PLACE: u16 = 5;
@@ -38,6 +41,26 @@ pub(crate) struct Script {
     pub(crate) steps: Vec<HonestStep<Global>>,
 }
 
+/// What a user's client does: `o` opens it, `k` closes it, `u` sends what it declared, `b` hands it a block, `s` signs,
+/// `c` sends what it signed, `g` gives it a block; `U` and `C`, where the answer is lost. Else its cache gets room for
+/// one block or two.
+fn act_of(rt: &impl Host, letter: u8) -> HonestAct<Global> {
+    match letter {
+        b'o' => HonestAct::Alone(Act::Open),
+        b'k' => HonestAct::Alone(Act::Close),
+        b'u' => HonestAct::Update(Delivery::Arrives),
+        b'U' => HonestAct::Update(Delivery::Lost),
+        b'b' => HonestAct::Block,
+        b's' => HonestAct::Alone(Act::Sign),
+        b'c' => HonestAct::Commit(Delivery::Arrives),
+        b'C' => HonestAct::Commit(Delivery::Lost),
+        b'g' => HonestAct::Give,
+        b'1' => HonestAct::Alone(Act::Cache(1)),
+        b'2' => HonestAct::Alone(Act::Cache(2)),
+        _ => rt.fail("no letter"),
+    }
+}
+
 impl Script {
     pub(crate) fn new(rt: &impl Host) -> Script {
         Script {
@@ -51,8 +74,7 @@ impl Script {
         rt: &impl Host,
         number: u8,
         act: HonestAct<Global>,
-        ledger_fails: Option<u64>,
-        journal_fails: Option<u64>,
+        (ledger_fails, journal_fails): Fails,
     ) {
         let step = HonestStep {
             user: user(rt, number),
@@ -60,27 +82,19 @@ impl Script {
             ledger_fails,
             journal_fails,
         };
-        self.steps.push(step).expect(rt, "memory");
-    }
-
-    /// A user's step.
-    pub(crate) fn add(&mut self, rt: &impl Host, number: u8, act: HonestAct<Global>) {
-        self.add_failing(rt, number, act, None, None);
+        given(rt, self.steps.push(step), "memory");
     }
 
     /// What a user's client does alone.
     pub(crate) fn alone(&mut self, rt: &impl Host, number: u8, act: Act<Global>) {
-        self.add(rt, number, HonestAct::Alone(act));
+        self.add_failing(rt, number, HonestAct::Alone(act), NEVER);
     }
 
-    pub(crate) fn opens(&mut self, rt: &impl Host, number: u8) {
-        self.alone(rt, number, Act::Open);
-    }
-
-    /// The client is closed and opened again.
-    pub(crate) fn reopens(&mut self, rt: &impl Host, number: u8) {
-        self.alone(rt, number, Act::Close);
-        self.opens(rt, number);
+    /// A user's steps, a letter each.
+    pub(crate) fn goes_on(&mut self, rt: &impl Host, number: u8, letters: &[u8]) {
+        for letter in letters {
+            self.add_failing(rt, number, act_of(rt, *letter), NEVER);
+        }
     }
 
     /// A user declares an operation.
@@ -89,52 +103,36 @@ impl Script {
         self.alone(rt, number, Act::Begin(changes, laid));
     }
 
-    /// A user declares an operation, and its reply arrives.
-    pub(crate) fn begins(&mut self, rt: &impl Host, number: u8, planned: Planned) {
+    /// A user's reply is handed blocks, and then the user does what these letters say.
+    pub(crate) fn judges(&mut self, rt: &impl Host, number: u8, letters: &[u8]) {
+        self.goes_on(rt, number, BLOCKS);
+        self.goes_on(rt, number, letters);
+    }
+
+    /// A user makes a whole operation.
+    pub(crate) fn operates(&mut self, rt: &impl Host, number: u8, planned: Planned) {
         self.declares(rt, number, planned);
-        self.add(rt, number, HonestAct::Update(Delivery::Arrives));
-    }
-
-    /// The reply under check is handed blocks.
-    pub(crate) fn judges(&mut self, rt: &impl Host, number: u8) {
-        for _ in 0..BLOCKS {
-            self.add(rt, number, HonestAct::Block);
-        }
-    }
-
-    /// A user checks the reply, signs and commits.
-    pub(crate) fn finishes(&mut self, rt: &impl Host, number: u8) {
-        self.judges(rt, number);
-        self.alone(rt, number, Act::Sign);
-        self.add(rt, number, HonestAct::Commit(Delivery::Arrives));
+        self.goes_on(rt, number, b"u");
+        self.judges(rt, number, b"sc");
     }
 
     /// The look under way is handed blocks.
     pub(crate) fn is_given(&mut self, rt: &impl Host, number: u8) {
-        for _ in 0..BLOCKS {
-            self.add(rt, number, HonestAct::Give);
-        }
-    }
-
-    /// User 0 looks at the file of another user's.
-    fn looks(&mut self, rt: &impl Host, owner: u8) {
-        let act = Act::Look(principal(rt, owner), i_number(rt, PLACE));
-        self.alone(rt, 0, act);
-        self.is_given(rt, 0);
+        self.goes_on(rt, number, GIVES);
     }
 
     /// User 0 operates without a change, and looks at both files.
     fn reads_both(&mut self, rt: &impl Host) {
-        self.begins(rt, 0, nothing(rt));
-        self.finishes(rt, 0);
-        self.looks(rt, 1);
-        self.looks(rt, 2);
+        self.operates(rt, 0, nothing(rt));
+        for owner in [1, 2] {
+            let act = Act::Look(principal(rt, owner), i_number(rt, PLACE));
+            self.alone(rt, 0, act);
+            self.is_given(rt, 0);
+        }
     }
 
     pub(crate) fn answers(&self, rt: &impl Host) -> Vec<Answer<Global>> {
-        let answers = honest_run(rt.alloc(), &self.steps)
-            .expect(rt, "memory")
-            .answers;
+        let answers = given(rt, honest_run(rt.alloc(), &self.steps), "memory").answers;
         check(rt, answers.len() == self.steps.len(), "one answer a step");
         answers
     }
@@ -166,11 +164,10 @@ pub(crate) fn is_committed(answer: &Answer<Global>) -> bool {
 fn first_operation_of_an_honest_run(rt: HostRuntime) {
     let rt = &(rt, Here);
     let mut script = Script::new(rt);
-    script.opens(rt, 0);
-    script.begins(rt, 0, nothing(rt));
-    script.finishes(rt, 0);
+    script.goes_on(rt, 0, b"o");
+    script.operates(rt, 0, nothing(rt));
     let answers = script.answers(rt);
-    let begun = answers.get(1).expect(rt, "a step");
+    let begun = found(rt, answers.get(1), "a step");
     let Answer::Begun(Ok(certificate)) = begun else {
         rt.fail("no certificate")
     };
@@ -184,7 +181,7 @@ fn first_operation_of_an_honest_run(rt: HostRuntime) {
     let mut views = views.map(|view| (view.text.len(), view.structures.len(), view.lost.len()));
     check(rt, views.next() == Some((STRUCTURE_SIZE, 1, 0)), "the view");
     check(rt, views.next().is_none(), "the only one");
-    let last = answers.last().expect(rt, "a step");
+    let last = found(rt, answers.last(), "a step");
     check(rt, is_committed(last), "committed");
     let_go(answers);
     let_go(script);
@@ -196,17 +193,18 @@ fn two_write_in_an_honest_run(rt: HostRuntime) {
     let rt = &(rt, Here);
     let mut script = Script::new(rt);
     for user in 0..3 {
-        script.opens(rt, user);
+        script.goes_on(rt, user, b"o");
     }
     let (one, two) = (key_of(rt, 1).public(), key_of(rt, 2).public());
-    script.begins(rt, 0, listing_both(rt, one, two));
-    script.finishes(rt, 0);
-    script.begins(rt, 1, making(rt, 1, PLACE, OF_ONE));
-    script.begins(rt, 2, making(rt, 2, PLACE, OF_TWO));
-    script.finishes(rt, 2);
-    script.reads_both(rt);
-    script.finishes(rt, 1);
-    script.reads_both(rt);
+    script.operates(rt, 0, listing_both(rt, one, two));
+    for (user, file) in [(1, OF_ONE), (2, OF_TWO)] {
+        script.declares(rt, user, making(rt, user, PLACE, file));
+        script.goes_on(rt, user, b"u");
+    }
+    for user in [2, 1] {
+        script.judges(rt, user, b"sc");
+        script.reads_both(rt);
+    }
     let answers = script.answers(rt);
     let views = answers.iter().filter_map(accepted_in).count();
     check(rt, views == 5, "all are accepted");

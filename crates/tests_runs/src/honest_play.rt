@@ -4,83 +4,70 @@
 
 use crate::here::Here;
 use crate::honest::{Script, accepted_in};
-use crate::honest_random::{Dice, keys};
-use crate::planning::{Row, planned_of};
+use crate::honest_random::Dice;
+use crate::planning::{keys, planned_of};
 use crate::scripts::prints;
-use client_runs::{Accepted, Act, Answer};
+use client_runs::{Accepted, Answer};
 use client_verify::Phase;
-use fork_theorem::{Delivery, HonestAct};
 use layout::let_go;
 use lms_sign::PublicKey;
 use std::alloc::Global;
 use std::io::Write;
-use tests_aids::{Aided, Host, check};
+use tests_aids::{Aided, Host, check, found, given};
 use wire::Status;
 
 /// How many commands come after the first operation.
 const COMMANDS: u8 = 100;
 
-/// Changes, and how a script says them. User 3 is listed by one of them.
-struct Changes {
-    rows: &'static [Row],
-    words: &'static str,
-}
+/// Changes, as they are planned and as a script says them. User 3 is listed by one of them.
+type Changes = (&'static [u8], &'static str);
 
 /// What user 0 does first.
-static FIRST: Changes = Changes {
-    rows: &[b"u\x01", b"u\x02", b"m\x40\x01", b"m\x40\x02"],
-    words: " adduser 1; adduser 2; addmember 64 1; addmember 64 2",
-};
+const FIRST: Changes = (
+    b"u\x01;u\x02;m\x40\x01;m\x40\x02",
+    " adduser 1; adduser 2; addmember 64 1; addmember 64 2",
+);
 
 static CHANGES: [Changes; 8] = [
-    Changes {
-        rows: &[],
-        words: "",
-    },
-    Changes {
-        rows: &[b"f\x01\x05one", b"f\x40\x40shared"],
-        words: " make 1 5 file one; make 64 64 file shared",
-    },
-    Changes {
-        rows: &[b"p\x01\x05again", b"r\x40\x40"],
-        words: " put 1 5 again; remove 64 64",
-    },
-    Changes {
-        rows: &[b"f\x02\x05two", b"p\x40\x40both"],
-        words: " make 2 5 file two; put 64 64 both",
-    },
-    Changes {
-        rows: &[b"r\x02\x05", b"f\x40\x41late"],
-        words: " remove 2 5; make 64 65 file late",
-    },
-    Changes {
-        rows: &[b"l\x00\x02\x01\x05name"],
-        words: " link 0 2 name 1 5",
-    },
-    Changes {
-        rows: &[b"n\x00\x02name", b"u\x03"],
-        words: " unlink 0 2 name; adduser 3",
-    },
-    Changes {
-        rows: &[b"d\x40\x02", b"f\x03\x05three"],
-        words: " dropmember 64 2; make 3 5 file three",
-    },
+    (b"", ""),
+    (
+        b"f\x01\x05one;f\x40\x40shared",
+        " make 1 5 file one; make 64 64 file shared",
+    ),
+    (b"p\x01\x05again;r\x40\x40", " put 1 5 again; remove 64 64"),
+    (
+        b"f\x02\x05two;p\x40\x40both",
+        " make 2 5 file two; put 64 64 both",
+    ),
+    (
+        b"r\x02\x05;f\x40\x41late",
+        " remove 2 5; make 64 65 file late",
+    ),
+    (b"l\x00\x02\x01\x05name", " link 0 2 name 1 5"),
+    (b"n\x00\x02name;u\x03", " unlink 0 2 name; adduser 3"),
+    (
+        b"d\x40\x02;f\x03\x05three",
+        " dropmember 64 2; make 3 5 file three",
+    ),
 ];
 
-/// A command of a script.
-#[derive(Clone, Copy)]
-enum Command {
-    Begin(&'static Changes),
-    Update,
-    Commit,
-    Restart,
-}
+/// What a command is in a script, before and after the user.
+type Words = (&'static str, &'static str);
+
+/// A command without changes, and the letters of its steps: a reply is handed ten blocks.
+type Command = (Words, &'static [u8]);
+
+const UPDATE: Command = (("update", " a"), b"ubbbbbbbbbbs");
+
+const COMMIT: Command = (("commit", " a"), b"c");
+
+const RESTART: Command = (("restart", ""), b"ko");
 
 /// A command of a user, and the answers to its steps.
 #[derive(Clone, Copy)]
 struct Line {
     user: u8,
-    command: Command,
+    words: Words,
     /// Where its steps begin, and where those of the next command do.
     first: usize,
     end: usize,
@@ -95,47 +82,41 @@ struct Both {
 }
 
 impl Both {
-    /// The steps of a command.
-    fn steps(&mut self, rt: &impl Host, user: u8, command: Command) {
-        let script = &mut self.script;
-        match command {
-            Command::Begin(changes) => {
-                let planned = planned_of(rt, &self.keys, changes.rows);
-                script.declares(rt, user, planned);
-            }
-            Command::Update => {
-                script.add(rt, user, HonestAct::Update(Delivery::Arrives));
-                script.judges(rt, user);
-                script.alone(rt, user, Act::Sign);
-            }
-            Command::Commit => script.add(rt, user, HonestAct::Commit(Delivery::Arrives)),
-            Command::Restart => script.reopens(rt, user),
-        }
-    }
-
-    /// A user's command.
-    fn add(&mut self, rt: &impl Host, user: u8, command: Command) {
-        let first = self.script.steps.len();
-        self.steps(rt, user, command);
+    /// Adds a user's command, whose steps are those from this one on.
+    fn add(&mut self, rt: &impl Host, user: u8, words: Words, first: usize) {
         let line = Line {
             user,
-            command,
+            words,
             first,
             end: self.script.steps.len(),
         };
-        self.lines.push(line).expect(rt, "memory");
+        given(rt, self.lines.push(line), "memory");
+    }
+
+    /// A user declares an operation of these changes.
+    fn begins(&mut self, rt: &impl Host, user: u8, (changes, words): Changes) {
+        let first = self.script.steps.len();
+        let planned = planned_of(rt, &self.keys, changes);
+        self.script.declares(rt, user, planned);
+        self.add(rt, user, ("begin", words), first);
+    }
+
+    /// Another command of a user.
+    fn goes_on(&mut self, rt: &impl Host, user: u8, (words, letters): Command) {
+        let first = self.script.steps.len();
+        self.script.goes_on(rt, user, letters);
+        self.add(rt, user, words, first);
     }
 
     /// A command that is drawn.
-    fn goes_on(&mut self, rt: &impl Host, dice: &mut Dice) {
+    fn draws(&mut self, rt: &impl Host, dice: &mut Dice) {
         let user = dice.roll() % 4;
-        let command = match dice.roll() % 8 {
-            0..=1 => Command::Begin(dice.one_of(rt, &CHANGES)),
-            2..=4 => Command::Update,
-            5..=6 => Command::Commit,
-            _ => Command::Restart,
-        };
-        self.add(rt, user, command);
+        match dice.roll() % 8 {
+            0..=1 => self.begins(rt, user, *dice.one_of(rt, &CHANGES)),
+            2..=4 => self.goes_on(rt, user, UPDATE),
+            5..=6 => self.goes_on(rt, user, COMMIT),
+            _ => self.goes_on(rt, user, RESTART),
+        }
     }
 
     /// All commands.
@@ -143,129 +124,77 @@ impl Both {
         let mut both = Both {
             script: Script::new(rt),
             lines: Vec::new(rt.alloc()),
-            keys: keys(rt),
+            keys: keys(rt, 4),
         };
         for user in 0..4 {
-            both.script.opens(rt, user);
+            both.script.goes_on(rt, user, b"o");
         }
-        both.add(rt, 0, Command::Begin(&FIRST));
-        both.add(rt, 0, Command::Update);
-        both.add(rt, 0, Command::Commit);
+        both.begins(rt, 0, FIRST);
+        both.goes_on(rt, 0, UPDATE);
+        both.goes_on(rt, 0, COMMIT);
         for _ in 0..COMMANDS {
-            both.goes_on(rt, dice);
+            both.draws(rt, dice);
         }
         both
     }
 }
 
-/// Writes a command as a script has it.
-fn write_command(rt: &impl Host, text: &mut Vec<u8>, line: &Line) {
-    let user = line.user;
-    let written = match line.command {
-        Command::Begin(changes) => write!(text, "begin {user}{}\n", changes.words),
-        Command::Update => write!(text, "update {user} a\n"),
-        Command::Commit => write!(text, "commit {user} a\n"),
-        Command::Restart => write!(text, "restart {user}\n"),
-    };
-    written.expect(rt, "memory");
+/// What came of an operation that was accepted: its number, and what had no effect.
+fn write_accepted(rt: &impl Host, text: &mut Vec<u8>, number: u32, accepted: &Accepted<Global>) {
+    given(rt, write!(text, "accepted {number}"), "memory");
+    for (place, lost) in accepted.lost.iter().enumerate() {
+        let before = if place == 0 { " lost" } else { "" };
+        given(rt, write!(text, "{before} {lost}"), "memory");
+    }
 }
 
-/// The view that these answers accept, if they do.
-fn view_in(answers: &[Answer<Global>]) -> Option<&Accepted<Global>> {
-    match answers.last() {
-        Some(Answer::Signed(Ok(accepted))) => Some(accepted),
+/// What came of a command, where that is one word.
+fn word_of(first: &Answer<Global>, last: &Answer<Global>) -> Option<&'static str> {
+    match (first, last) {
+        (Answer::NotTaken, _) => Some("busy"),
+        (Answer::Served(Status::Ok), _) => Some("committed"),
+        (_, Answer::Opened(Phase::Idle, _)) => Some("idle"),
+        (_, Answer::Opened(Phase::Declared, _)) => Some("declared"),
+        (_, Answer::Opened(Phase::Signed, _)) => Some("signed"),
         _ => None,
     }
 }
 
-/// What came of an operation that was accepted: its number, and what had no effect.
-fn write_accepted(rt: &impl Host, text: &mut Vec<u8>, number: u32, accepted: &Accepted<Global>) {
-    write!(text, "accepted {number}").expect(rt, "memory");
-    for (place, lost) in accepted.lost.iter().enumerate() {
-        let before = if place == 0 { " lost" } else { "" };
-        write!(text, "{before} {lost}").expect(rt, "memory");
-    }
-}
-
-/// What came of an UPDATE of an operation of this number.
-fn write_update(rt: &impl Host, text: &mut Vec<u8>, number: u32, answers: &[Answer<Global>]) {
-    match (answers.first(), view_in(answers)) {
-        (Some(Answer::NotTaken), _) => write!(text, "busy").expect(rt, "memory"),
-        (Some(Answer::Served(status)), _) => {
-            write!(text, "status {}", status.number()).expect(rt, "memory");
-        }
-        (_, Some(accepted)) => write_accepted(rt, text, number, accepted),
-        _ => rt.fail("it isn't accepted"),
-    }
-}
-
-/// What came of a COMMIT.
-fn write_commit(rt: &impl Host, text: &mut Vec<u8>, answer: &Answer<Global>) {
-    let written = match answer {
-        Answer::NotTaken => write!(text, "busy"),
-        Answer::Served(Status::Ok) => write!(text, "committed"),
-        Answer::Served(status) => write!(text, "status {}", status.number()),
-        _ => rt.fail("no status"),
-    };
-    written.expect(rt, "memory");
-}
-
-/// What came of a declaration, which has this number if it was made.
-fn write_begin(rt: &impl Host, text: &mut Vec<u8>, number: u32, answer: &Answer<Global>) {
-    let written = match answer {
-        Answer::NotTaken => write!(text, "busy"),
-        Answer::Begun(Ok(_)) => write!(text, "begin {number}"),
-        _ => rt.fail("no certificate"),
-    };
-    written.expect(rt, "memory");
-}
-
-/// What came of a restart.
-fn write_restart(rt: &impl Host, text: &mut Vec<u8>, answer: &Answer<Global>) {
-    let written = match answer {
-        Answer::Opened(Phase::Idle, _) => write!(text, "idle"),
-        Answer::Opened(Phase::Declared, _) => write!(text, "declared"),
-        Answer::Opened(Phase::Signed, _) => write!(text, "signed"),
-        _ => rt.fail("it isn't opened"),
-    };
-    written.expect(rt, "memory");
-}
-
 /// What a script should print of a command that was answered so, where the user's last operation has this number.
-fn write_line(
-    rt: &impl Host,
-    text: &mut Vec<u8>,
-    line: &Line,
-    number: &mut u32,
-    answers: &[Answer<Global>],
-) {
-    let last = answers.last().expect(rt, "an answer");
-    write!(text, "{} ", line.user).expect(rt, "memory");
-    match line.command {
-        Command::Begin(_) => {
-            if matches!(last, Answer::Begun(_)) {
-                *number = number.wrapping_add(1);
-            }
-            write_begin(rt, text, *number, last);
-        }
-        Command::Update => write_update(rt, text, *number, answers),
-        Command::Commit => write_commit(rt, text, last),
-        Command::Restart => write_restart(rt, text, last),
+fn write_outcome(rt: &impl Host, text: &mut Vec<u8>, number: u32, answers: &[Answer<Global>]) {
+    let first = found(rt, answers.first(), "an answer");
+    let last = found(rt, answers.last(), "an answer");
+    if let Some(word) = word_of(first, last) {
+        given(rt, text.extend_from_slice(word.as_bytes()), "memory");
+        return;
     }
-    write!(text, "\n").expect(rt, "memory");
+    match (first, last) {
+        (Answer::Served(status), _) => {
+            given(rt, write!(text, "status {}", status.number()), "memory");
+        }
+        (Answer::Begun(Ok(_)), _) => given(rt, write!(text, "begin {number}"), "memory"),
+        (_, Answer::Signed(Ok(accepted))) => write_accepted(rt, text, number, accepted),
+        _ => rt.fail("no outcome"),
+    }
 }
 
 /// The commands, and what a script should print of them by what an honest run answered.
 fn told(rt: &impl Host, both: &Both, answers: &[Answer<Global>]) -> (Vec<u8>, Vec<u8>) {
-    let (mut words, mut text) = (Vec::new(rt.alloc()), Vec::new(rt.alloc()));
+    let (mut script, mut text) = (Vec::new(rt.alloc()), Vec::new(rt.alloc()));
     let mut numbers = [0u32; 4];
     for line in &both.lines {
-        write_command(rt, &mut words, line);
-        let number = numbers.get_mut(usize::from(line.user)).expect(rt, "a user");
-        let own = answers.get(line.first..line.end).expect(rt, "steps");
-        write_line(rt, &mut text, line, number, own);
+        let (user, (command, after)) = (line.user, line.words);
+        given(rt, write!(script, "{command} {user}{after}\n"), "memory");
+        let own = found(rt, answers.get(line.first..line.end), "steps");
+        let number = found(rt, numbers.get_mut(usize::from(user)), "a user");
+        if matches!(own, [Answer::Begun(_)]) {
+            *number = number.wrapping_add(1);
+        }
+        given(rt, write!(text, "{user} "), "memory");
+        write_outcome(rt, &mut text, *number, own);
+        given(rt, write!(text, "\n"), "memory");
     }
-    (words, text)
+    (script, text)
 }
 
 /// Views are accepted, and who isn't listed is refused.

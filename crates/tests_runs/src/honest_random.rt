@@ -6,7 +6,7 @@
 use crate::here::Here;
 use crate::honest::{Script, accepted_in, is_committed};
 use crate::honest_devices::crash;
-use crate::planning::{Row, planned_of};
+use crate::planning::{keys, planned_of};
 use client_runs::{Act, Answer};
 use client_verify::{ClientError, Look, Step};
 use fork_theorem::{Delivery, HonestAct, HonestStep};
@@ -14,8 +14,7 @@ use layout::let_go;
 use lms_sign::PublicKey;
 use std::alloc::Global;
 use tests_aids::numbers::{i_number, principal};
-use tests_aids::texts::key_of;
-use tests_aids::{Aided, Host, check};
+use tests_aids::{Aided, Host, check, found, given};
 use tests_client_aids::changes::nothing;
 use wire::Status;
 
@@ -29,21 +28,21 @@ const LATE: u8 = 3;
 const HAPPENINGS: u8 = 100;
 
 /// What user 0 lists at first.
-static FIRST: [Row; 4] = [b"u\x01", b"u\x02", b"m\x40\x01", b"m\x40\x02"];
+const FIRST: &[u8] = b"u\x01;u\x02;m\x40\x01;m\x40\x02";
 
 /// And later.
-static LATER: [Row; 2] = [b"u\x03", b"m\x40\x03"];
+const LATER: &[u8] = b"u\x03;m\x40\x03";
 
 /// The changes of operations, whoever makes them: what a user may not do has no effect.
-static CHANGES: [&[Row]; 8] = [
-    &[],
-    &[b"f\x01\x05of user 1", b"f\x40\x40shared"],
-    &[b"p\x01\x05again", b"r\x40\x40"],
-    &[b"f\x02\x05of user 2", b"p\x40\x40of both"],
-    &[b"r\x02\x05", b"f\x40\x41"],
-    &[b"l\x00\x02\x01\x05one"],
-    &[b"n\x00\x02one", b"p\x40\x41other"],
-    &[b"f\x03\x05of user 3", b"d\x40\x02"],
+static CHANGES: [&[u8]; 8] = [
+    b"",
+    b"f\x01\x05of user 1;f\x40\x40shared",
+    b"p\x01\x05again;r\x40\x40",
+    b"f\x02\x05of user 2;p\x40\x40of both",
+    b"r\x02\x05;f\x40\x41",
+    b"l\x00\x02\x01\x05one",
+    b"n\x00\x02one;p\x40\x41other",
+    b"f\x03\x05of user 3;d\x40\x02",
 ];
 
 /// Places that are looked at: a principal and an i-number.
@@ -77,16 +76,12 @@ impl Dice {
     /// One of these.
     pub(crate) fn one_of<'a, T>(&mut self, rt: &impl Host, all: &'a [T]) -> &'a T {
         let place = usize::from(self.roll()).checked_rem(all.len());
-        all.get(place.expect(rt, "some")).expect(rt, "one")
+        found(rt, all.get(found(rt, place, "some")), "one")
     }
 
-    /// Three of four answers arrive.
-    fn delivery(&mut self) -> Delivery {
-        if self.roll() < 64 {
-            Delivery::Lost
-        } else {
-            Delivery::Arrives
-        }
+    /// The letter of a call whose answer arrives, or, in one of four cases, that of one whose answer gets lost.
+    fn delivery(&mut self, arrives: u8, lost: u8) -> [u8; 1] {
+        if self.roll() < 64 { [lost] } else { [arrives] }
     }
 }
 
@@ -95,17 +90,6 @@ impl Dice {
 struct Story {
     script: Script,
     keys: Vec<PublicKey>,
-    /// How many steps there are until all users are listed.
-    listed: usize,
-}
-
-/// The keys of the users.
-pub(crate) fn keys(rt: &impl Host) -> Vec<PublicKey> {
-    let mut keys = Vec::new(rt.alloc());
-    for number in 0..USERS {
-        keys.push(key_of(rt, number).public()).expect(rt, "memory");
-    }
-    keys
 }
 
 impl Story {
@@ -113,58 +97,48 @@ impl Story {
     fn new(rt: &impl Host) -> Story {
         let mut story = Story {
             script: Script::new(rt),
-            keys: keys(rt),
-            listed: 0,
+            keys: keys(rt, USERS),
         };
         for number in 0..USERS {
-            story.script.opens(rt, number);
+            story.script.goes_on(rt, number, b"o");
         }
-        story.goes_through(rt, 0, &FIRST);
+        story.operates(rt, 0, FIRST);
         story
     }
 
     /// A user's operation of these changes, from its declaration to its commit.
-    fn goes_through(&mut self, rt: &impl Host, number: u8, rows: &[Row]) {
-        let planned = planned_of(rt, &self.keys, rows);
-        self.script.begins(rt, number, planned);
-        self.script.finishes(rt, number);
+    fn operates(&mut self, rt: &impl Host, number: u8, changes: &[u8]) {
+        let planned = planned_of(rt, &self.keys, changes);
+        self.script.operates(rt, number, planned);
     }
 
     /// A user's client, in whatever phase, is opened again, and ends what it had begun.
     fn ends(&mut self, rt: &impl Host, number: u8) {
-        self.script.reopens(rt, number);
-        let update = HonestAct::Update(Delivery::Arrives);
-        self.script.add(rt, number, update);
-        self.script.finishes(rt, number);
+        self.script.goes_on(rt, number, b"kou");
+        self.script.judges(rt, number, b"sc");
     }
 
     /// A user declares an operation.
     fn declares(&mut self, rt: &impl Host, dice: &mut Dice, number: u8) {
-        let rows = *dice.one_of(rt, &CHANGES);
-        let planned = planned_of(rt, &self.keys, rows);
+        let changes = *dice.one_of(rt, &CHANGES);
+        let planned = planned_of(rt, &self.keys, changes);
         self.script.declares(rt, number, planned);
     }
 
     /// A user's certificate is sent. While blocks are asked for, the client's cache gets another size.
     fn updates(&mut self, rt: &impl Host, dice: &mut Dice, number: u8) {
-        let update = HonestAct::Update(dice.delivery());
-        self.script.add(rt, number, update);
-        self.script.alone(rt, number, Act::Cache(2));
-        self.script.judges(rt, number);
+        let letter = dice.delivery(b'u', b'U');
+        self.script.goes_on(rt, number, &letter);
+        self.script.goes_on(rt, number, b"2");
+        self.script.judges(rt, number, b"");
     }
 
     /// And mostly what was accepted is signed.
     fn updates_and_signs(&mut self, rt: &impl Host, dice: &mut Dice, number: u8) {
         self.updates(rt, dice, number);
         if dice.roll() < 192 {
-            self.script.alone(rt, number, Act::Sign);
+            self.script.goes_on(rt, number, b"s");
         }
-    }
-
-    /// A user's structure is sent.
-    fn commits(&mut self, rt: &impl Host, dice: &mut Dice, number: u8) {
-        let commit = HonestAct::Commit(dice.delivery());
-        self.script.add(rt, number, commit);
     }
 
     /// A user looks somewhere, in one of the three ways. In the middle of it the client's cache gets another size.
@@ -177,21 +151,21 @@ impl Story {
             _ => Act::Free(owner, place, i_number(rt, 70)),
         };
         self.script.alone(rt, number, act);
-        self.script.alone(rt, number, Act::Cache(1));
+        self.script.goes_on(rt, number, b"1");
         self.script.is_given(rt, number);
     }
 
     /// A user's device fails after so many calls, and the client is opened again.
     fn fails(&mut self, rt: &impl Host, dice: &mut Dice, number: u8, act: Act<Global>) {
         let calls = u64::from(dice.roll() % 6);
-        let (ledger, journal) = if dice.roll() < 64 {
+        let fails = if dice.roll() < 64 {
             (Some(calls % 2), None)
         } else {
             (None, Some(calls))
         };
         let act = HonestAct::Alone(act);
-        self.script.add_failing(rt, number, act, ledger, journal);
-        self.script.reopens(rt, number);
+        self.script.add_failing(rt, number, act, fails);
+        self.script.goes_on(rt, number, b"ko");
     }
 
     /// A user can't declare an operation, or can't sign one.
@@ -211,7 +185,7 @@ impl Story {
     fn stops(&mut self, rt: &impl Host, dice: &mut Dice, number: u8) {
         match number {
             0 | LATE => self.fails_at_something(rt, dice, number),
-            _ => self.script.reopens(rt, number),
+            _ => self.script.goes_on(rt, number, b"ko"),
         }
     }
 
@@ -221,7 +195,10 @@ impl Story {
         match dice.roll() % 16 {
             0..=3 => self.declares(rt, dice, number),
             4..=7 => self.updates_and_signs(rt, dice, number),
-            8..=11 => self.commits(rt, dice, number),
+            8..=11 => {
+                let letter = dice.delivery(b'c', b'C');
+                self.script.goes_on(rt, number, &letter);
+            }
             12..=14 => self.looks(rt, dice, number),
             _ => self.stops(rt, dice, number),
         }
@@ -232,23 +209,17 @@ impl Story {
         for _ in 0..HAPPENINGS {
             self.goes_on(rt, dice);
         }
-        let one = *self.keys.get(1).expect(rt, "a key");
-        let two = *self.keys.get(2).expect(rt, "a key");
+        let one = *found(rt, self.keys.get(1), "a key");
+        let two = *found(rt, self.keys.get(2), "a key");
         crash(rt, &mut self.script, &[(1, one), (2, two)]);
     }
 
-    /// A user ends what it had begun, and makes one more operation: where that begins.
-    fn goes_on_alone(&mut self, rt: &impl Host, number: u8, rows: &[Row]) -> usize {
+    /// A user ends what it had begun, and makes one more operation: where that begins, and where it ends.
+    fn goes_on_alone(&mut self, rt: &impl Host, number: u8, changes: &[u8]) -> (usize, usize) {
         self.ends(rt, number);
         let first = self.script.steps.len();
-        self.goes_through(rt, number, rows);
-        first
-    }
-
-    /// User 0 lists user 3.
-    fn lists_all(&mut self, rt: &impl Host) {
-        let _first = self.goes_on_alone(rt, 0, &LATER);
-        self.listed = self.script.steps.len();
+        self.operates(rt, number, changes);
+        (first, self.script.steps.len())
     }
 }
 
@@ -282,13 +253,6 @@ impl Seen {
         }
     }
 
-    /// A reply or a block was judged.
-    fn judges(&mut self, rt: &impl Host, step: &Step<Global>) {
-        if let Step::Broken(rule) = step {
-            rt.fail(format_args!("a reply breaks {rule:?}"));
-        }
-    }
-
     /// The server answered so. Memory suffices, and the log has room.
     fn is_served(&mut self, rt: &impl Host, step: &HonestStep<Global>, status: Status) {
         match (&step.act, status) {
@@ -317,7 +281,9 @@ impl Seen {
     fn sees(&mut self, rt: &impl Host, step: &HonestStep<Global>, answer: &Answer<Global>) {
         match answer {
             Answer::Sees(Ok(look)) => self.looks(rt, look),
-            Answer::Asks(Ok(judged)) => self.judges(rt, judged),
+            Answer::Asks(Ok(Step::Broken(rule))) => {
+                rt.fail(format_args!("a reply breaks {rule:?}"))
+            }
             Answer::Served(status) => self.is_served(rt, step, *status),
             Answer::Signed(Ok(_)) => count(&mut self.views),
             Answer::Crashed => count(&mut self.crashes),
@@ -346,39 +312,34 @@ fn are_honest(rt: &impl Host, steps: &[HonestStep<Global>], answers: &[Answer<Gl
     check(rt, seen.free >= 2, "free i-numbers are seen");
 }
 
-/// No certificate is refused.
-fn none_refused(rt: &impl Host, answers: &[Answer<Global>]) {
-    for answer in answers {
-        let refused = matches!(answer, Answer::Served(Status::UnknownUser));
-        check(rt, !refused, "all are listed");
-    }
-}
-
 /// The operation that ends here went through.
 fn went_through(rt: &impl Host, answers: &[Answer<Global>]) {
-    let begun = answers.first().expect(rt, "a step");
+    let begun = found(rt, answers.first(), "a step");
     check(rt, matches!(begun, Answer::Begun(Ok(_))), "it is declared");
     let views = answers.iter().filter_map(accepted_in).count();
     check(rt, views == 1, "it is accepted");
-    let last = answers.last().expect(rt, "a step");
+    let last = found(rt, answers.last(), "a step");
     check(rt, is_committed(last), "it is committed");
 }
 
-/// Each user's last operation goes through.
-fn all_go_through(rt: &impl Host, story: &mut Story) {
-    let mut firsts = Vec::new(rt.alloc());
+/// Each user's last operation goes through, and no certificate is refused once all are listed, after so many steps.
+fn all_go_through(rt: &impl Host, story: &mut Story, listed: usize) {
+    let mut places = Vec::new(rt.alloc());
     for number in 0..USERS {
-        let first = story.goes_on_alone(rt, number, &[]);
-        firsts
-            .push((first, story.script.steps.len()))
-            .expect(rt, "memory");
+        given(
+            rt,
+            places.push(story.goes_on_alone(rt, number, b"")),
+            "memory",
+        );
     }
     let answers = story.script.answers(rt);
-    for (first, end) in &firsts {
-        let own = answers.get(*first..*end).expect(rt, "steps");
-        went_through(rt, own);
+    for (first, end) in &places {
+        went_through(rt, found(rt, answers.get(*first..*end), "steps"));
     }
-    none_refused(rt, answers.get(story.listed..).expect(rt, "steps"));
+    for answer in found(rt, answers.get(listed..), "steps") {
+        let refused = matches!(answer, Answer::Served(Status::UnknownUser));
+        check(rt, !refused, "all are listed");
+    }
     are_honest(rt, &story.script.steps, &answers);
     let_go(answers);
 }
@@ -389,8 +350,8 @@ fn some_hundred_steps_of_an_honest_run(rt: HostRuntime) {
     let mut dice = Dice { state: 45 };
     let mut story = Story::new(rt);
     story.much_happens(rt, &mut dice);
-    story.lists_all(rt);
+    let (_, listed) = story.goes_on_alone(rt, 0, LATER);
     story.much_happens(rt, &mut dice);
-    all_go_through(rt, &mut story);
+    all_go_through(rt, &mut story, listed);
     let_go(story);
 }

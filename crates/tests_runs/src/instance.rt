@@ -3,77 +3,55 @@
 //! pending for good, one loses a change, since its user is dropped from the group before it is placed, two clients
 //! crash and are opened again, and at last what was shown apart is shown to user 2 together.
 
-use crate::forks::fork_of;
 use crate::here::Here;
 use crate::lines::looks_into_worlds;
 use crate::plain_world::Operation;
-use crate::planning::planned_of;
 use crate::premises::{keys_are_true, leaves_sign_once, none_collide, none_forged};
-use crate::steps::{
-    Ran, Record, accepts, begins, ends, finishes, joins, judges, looks, new_record, operates,
-    places, ran_as_told, restarts, signs,
-};
+use crate::stage::{NEVER, Stage, new_stage, place_in};
 use client_verify::{Phase, Rule};
 use layout::let_go;
-use lms_sign::PublicKey;
-use tests_aids::texts::{list, listed, named, pending, plan, reply, shown, vector_of};
-use tests_aids::{Host, check};
-use tests_client_aids::changes::{Planned, nothing};
-use tests_client_aids::clients::{MemoryClient, is_in};
-use tests_client_aids::crashes::Left;
-use tests_client_aids::servers::{Server, answers_commit, answers_update_so, server_of};
-use tests_client_aids::three::{Three, three_clients};
-use wire::Status;
+use tests_aids::texts::{list, listed, named, pending, plan, reply, vector_of};
+use tests_aids::{Host, check, found};
+use tests_client_aids::clients::is_in;
 
 /// The operations, by the letters A to I. User 1 makes no i-number of the group that is user 2's; user 0 is no member,
 /// and user 1 is none any more in its second operation.
 static OPERATIONS: [Operation; 9] = [
     Operation {
         user: 0,
-        changes: &[
-            b"u\x01",
-            b"u\x02",
-            b"m\x40\x01",
-            b"m\x40\x02",
-            b"f\x00\x03zero",
-            b"l\x00\x02\x40\x40shared",
-        ],
+        changes: b"u\x01;u\x02;m\x40\x01;m\x40\x02;f\x00\x03zero;l\x00\x02\x40\x40shared",
     },
     Operation {
         user: 1,
-        changes: &[
-            b"f\x40\x40old",
-            b"f\x01\x05of user 1",
-            b"f\x40\x80of user 2",
-        ],
+        changes: b"f\x40\x40old;f\x01\x05of user 1;f\x40\x80of user 2",
     },
     Operation {
         user: 2,
-        changes: &[b"f\x02\x05of user 2", b"p\x40\x40of both"],
+        changes: b"f\x02\x05of user 2;p\x40\x40of both",
     },
     Operation {
         user: 0,
-        changes: &[b"d\x40\x01", b"l\x00\x02\x02\x05own", b"p\x40\x40of none"],
+        changes: b"d\x40\x01;l\x00\x02\x02\x05own;p\x40\x40of none",
     },
     Operation {
         user: 1,
-        changes: &[b"p\x40\x40too late", b"p\x01\x05again"],
+        changes: b"p\x40\x40too late;p\x01\x05again",
     },
     Operation {
         user: 2,
-        changes: &[b"p\x40\x40apart", b"r\x02\x05"],
+        changes: b"p\x40\x40apart;r\x02\x05",
     },
     Operation {
         user: 0,
-        changes: &[],
+        changes: b"",
     },
     Operation {
         user: 2,
-        changes: &[b"f\x40\x80of user 2", b"f\x02\x05"],
+        changes: b"f\x40\x80of user 2;f\x02\x05",
     },
     Operation {
         user: 1,
-        changes: &[b"r\x01\x05", b"f\x01\x06last"],
+        changes: b"r\x01\x05;f\x01\x06last",
     },
 ];
 
@@ -94,7 +72,7 @@ static STILL_MEMBER: [&[u8]; 9] = [
 
 /// Where each view is looked at: the table of principals, the root directory, files of users and of the group, and
 /// where nothing ever stands.
-static PLACES: [(u8, u16); 9] = [
+static PLACES: [(u8, u8); 9] = [
     (0, 1),
     (0, 2),
     (0, 3),
@@ -106,256 +84,92 @@ static PLACES: [(u8, u16); 9] = [
     (65, 64),
 ];
 
-/// The keys of users 0 to 2, and what their clients did.
-#[derive(Drop)]
-struct Stage {
-    keys: [PublicKey; 3],
-    record: Record,
+/// The operation of this place, which user and changes are told of.
+fn operation_at(rt: &impl Host, place: usize) -> &'static Operation {
+    found(rt, OPERATIONS.get(place), "an operation")
 }
 
-/// Their clients.
-#[derive(Drop)]
-struct Clients {
-    zero: MemoryClient,
-    one: MemoryClient,
-    two: MemoryClient,
-}
-
-impl Stage {
-    /// The changes of an operation, and what is laid out for them.
-    fn planned(&self, rt: &impl Host, place: usize) -> Planned {
-        let operation = OPERATIONS.get(place).expect(rt, "an operation");
-        planned_of(rt, &self.keys, operation.changes)
-    }
-
-    /// The client looks everywhere in its view.
-    fn looks_around(&mut self, rt: &impl Host, client: &mut MemoryClient) {
-        for (owner, number) in &PLACES {
-            let_go(looks(rt, &mut self.record, client, *owner, *number));
-        }
-    }
-
-    /// The client makes an operation, and looks around: its structure.
-    fn operates(
-        &mut self,
-        rt: &impl Host,
-        server: &mut Server,
-        client: &mut MemoryClient,
-        place: usize,
-    ) -> Vec<u8> {
-        let planned = self.planned(rt, place);
-        let structure = operates(rt, &mut self.record, server, client, planned);
-        self.looks_around(rt, client);
-        structure
-    }
-
-    /// The client makes an operation, which isn't committed, and looks around: its structure.
-    fn signs(
-        &mut self,
-        rt: &impl Host,
-        server: &mut Server,
-        client: &mut MemoryClient,
-        place: usize,
-    ) -> Vec<u8> {
-        let planned = self.planned(rt, place);
-        let reply = places(rt, &mut self.record, server, client, planned);
-        accepts(rt, &mut self.record, client, &reply);
-        let structure = signs(rt, &mut self.record, client);
-        self.looks_around(rt, client);
-        structure
-    }
-
-    /// The client declares an operation, crashes, and is opened again: its certificate.
-    fn declares_and_restarts(
-        &mut self,
-        rt: &impl Host,
-        client: MemoryClient,
-        place: usize,
-    ) -> (MemoryClient, Vec<u8>) {
-        let mut client = client;
-        let planned = self.planned(rt, place);
-        let update = begins(rt, &mut self.record, &mut client, planned);
-        let client = restarts(rt, &mut self.record, client, Left::Synced);
-        is_in(rt, &client, Phase::Declared);
-        (client, update)
-    }
-
-    /// The declared operation is placed, accepted and committed, and the client looks around.
-    fn goes_on(
-        &mut self,
-        rt: &impl Host,
-        server: &mut Server,
-        client: &mut MemoryClient,
-        update: &[u8],
-    ) {
-        let reply = answers_update_so(rt, server, update, Status::Ok);
-        let _structure = finishes(rt, &mut self.record, server, client, &reply);
-        self.looks_around(rt, client);
-    }
-
-    /// User 2 crashes, is opened again, and is told that this structure of its first operation is committed.
-    fn restarts_and_commits(
-        &mut self,
-        rt: &impl Host,
-        server: &mut Server,
-        two: MemoryClient,
-        structure: &[u8],
-    ) -> MemoryClient {
-        let mut two = restarts(rt, &mut self.record, two, Left::Written);
-        is_in(rt, &two, Phase::Signed);
-        answers_commit(rt, server, structure, Status::Ok);
-        ends(rt, &mut self.record, &mut two);
-        two
-    }
-
-    /// User 2 declares its fourth operation, and is shown these structures: the rule that is broken.
-    fn is_shown_together(
-        &mut self,
-        rt: &impl Host,
-        two: &mut MemoryClient,
-        structures: &[&[u8]],
-    ) -> Option<Rule> {
-        let update = begins(rt, &mut self.record, two, nothing(rt));
-        let vector = vector_of(rt, &[(0, 3), (1, 3), (2, 4), (64, 4)]);
-        let plan = plan(rt, 2, 4, &named(&update), &vector, b"\0");
-        let own = listed(rt, &pending(rt, &update, &plan));
-        let text = reply(rt, &list(rt, structures), &own);
-        judges(rt, &mut self.record, two, &text)
+/// A user looks everywhere in its view.
+fn looks_around(rt: &impl Host, stage: &mut Stage, user: u8) {
+    for (owner, number) in &PLACES {
+        let_go(stage.looks(rt, user, *owner, *number));
     }
 }
 
-/// User 1's certificate and user 2's structure, which the server that showed them to nobody else may still show.
-#[derive(Drop)]
-struct Withheld {
-    update: Vec<u8>,
-    structure: Vec<u8>,
+/// A user goes on as these letters say, and looks around.
+fn goes_on(rt: &impl Host, stage: &mut Stage, user: u8, letters: &[u8]) {
+    stage.goes_on(rt, user, letters);
+    looks_around(rt, stage, user);
 }
 
-/// The operations A to D at one server. User 1 has declared E before D is placed; user 2 has signed C, which isn't
-/// committed.
-fn meet(
-    rt: &impl Host,
-    stage: &mut Stage,
-    server: &mut Server,
-    clients: Clients,
-) -> (Clients, Withheld) {
-    let Clients {
-        mut zero,
-        mut one,
-        mut two,
-    } = clients;
-    let _by_zero = stage.operates(rt, server, &mut zero, 0);
-    let _by_one = stage.operates(rt, server, &mut one, 1);
-    let structure = stage.signs(rt, server, &mut two, 2);
-    let (one, update) = stage.declares_and_restarts(rt, one, 4);
-    let _again = stage.operates(rt, server, &mut zero, 3);
-    (Clients { zero, one, two }, Withheld { update, structure })
+/// The operation of this place is declared, and goes on as these letters say.
+fn operates(rt: &impl Host, stage: &mut Stage, place: usize, letters: &[u8]) {
+    let operation = operation_at(rt, place);
+    stage.declares(rt, operation.user, operation.changes, NEVER);
+    goes_on(rt, stage, operation.user, letters);
 }
 
-/// E at one server, and C's commit at the other one.
-fn part(
-    rt: &impl Host,
-    stage: &mut Stage,
-    (server, other): (&mut Server, &mut Server),
-    clients: Clients,
-    withheld: Withheld,
-) -> Clients {
-    let Clients { zero, mut one, two } = clients;
-    stage.goes_on(rt, server, &mut one, &withheld.update);
-    let two = stage.restarts_and_commits(rt, other, two, &withheld.structure);
-    let_go(withheld);
-    Clients { zero, one, two }
+/// A to D at one server. User 2 signs C, which isn't committed; user 1 declares E before D is placed, and crashes.
+fn meet(rt: &impl Host, stage: &mut Stage) {
+    operates(rt, stage, 0, b"pasc");
+    operates(rt, stage, 1, b"pasc");
+    operates(rt, stage, 2, b"pas");
+    stage.operates(rt, 1, operation_at(rt, 4).changes, b"r");
+    is_in(rt, stage.client(rt, 1), Phase::Declared);
+    operates(rt, stage, 3, b"pasc");
 }
 
-/// G and I at one server: what is shown of them.
-fn go_on_here(
-    rt: &impl Host,
-    stage: &mut Stage,
-    server: &mut Server,
-    clients: &mut Clients,
-) -> (Vec<u8>, Vec<u8>) {
-    let by_zero = stage.operates(rt, server, &mut clients.zero, 6);
-    let by_one = stage.operates(rt, server, &mut clients.one, 8);
-    (shown(rt, &by_zero), shown(rt, &by_one))
+/// E, G and I at one server; C's commit, after a crash, F and H at the other one.
+fn part(rt: &impl Host, stage: &mut Stage) {
+    stage.forks(rt, 2);
+    goes_on(rt, stage, 1, b"pasc");
+    stage.goes_on(rt, 2, b"w");
+    is_in(rt, stage.client(rt, 2), Phase::Signed);
+    stage.goes_on(rt, 2, b"c");
+    for place in [6, 8, 5, 7] {
+        operates(rt, stage, place, b"pasc");
+    }
 }
 
-/// F and H at the other one: what is shown of them.
-fn go_on_there(
-    rt: &impl Host,
-    stage: &mut Stage,
-    other: &mut Server,
-    clients: &mut Clients,
-) -> Vec<u8> {
-    let _by_two = stage.operates(rt, other, &mut clients.two, 5);
-    shown(rt, &stage.operates(rt, other, &mut clients.two, 7))
+/// User 2 declares its fourth operation, and is shown together what was shown apart: the rule that is broken.
+fn is_shown_together(rt: &impl Host, stage: &mut Stage) -> Option<Rule> {
+    let (by_zero, by_one, by_two) = (stage.shown(rt, 0), stage.shown(rt, 1), stage.shown(rt, 2));
+    stage.goes_on(rt, 2, b"d");
+    let update = &place_in(rt, &mut stage.places, 2).update;
+    let vector = vector_of(rt, &[(0, 3), (1, 3), (2, 4), (64, 4)]);
+    let plan = plan(rt, 2, 4, &named(update), &vector, b"\0");
+    let own = listed(rt, &pending(rt, update, &plan));
+    let text = reply(rt, &list(rt, &[&by_zero, &by_one, &by_two]), &own);
+    stage.judges(rt, 2, &text)
 }
 
-/// At last user 2 is shown all together: the rule that is broken.
-fn go_on_apart(
-    rt: &impl Host,
-    stage: &mut Stage,
-    (server, other): (&mut Server, &mut Server),
-    clients: &mut Clients,
-) -> Option<Rule> {
-    let (by_zero, by_one) = go_on_here(rt, stage, server, clients);
-    let by_two = go_on_there(rt, stage, other, clients);
-    stage.is_shown_together(rt, &mut clients.two, &[&by_zero, &by_one, &by_two])
-}
-
-/// Three clients join a run.
-fn stage_of(rt: &impl Host, three: Three) -> (Stage, Clients) {
-    let Three {
-        zero,
-        one,
-        two,
-        pinned,
-        of_one,
-        of_two,
-    } = three;
-    let mut record = new_record(rt, pinned);
-    joins(rt, &mut record, &zero);
-    joins(rt, &mut record, &one);
-    joins(rt, &mut record, &two);
-    let keys = [pinned, of_one, of_two];
-    (Stage { keys, record }, Clients { zero, one, two })
-}
-
-/// What the clients do, before the fork and from it on.
-fn forks(rt: &impl Host, stage: &mut Stage, server: &mut Server, clients: Clients) {
-    let (clients, withheld) = meet(rt, stage, server, clients);
-    let mut other = fork_of(rt, server, stage.keys[0]);
-    let mut clients = part(rt, stage, (server, &mut other), clients, withheld);
-    let broken = go_on_apart(rt, stage, (server, &mut other), &mut clients);
-    let_go(other);
-    let_go(clients);
-    assert!(rt; broken == Some(Rule::Numbers), "{broken:?}");
-}
-
-/// The run, and the keys of users 0 to 2.
-fn instance(rt: &impl Host) -> (Ran, [PublicKey; 3]) {
-    let (mut stage, clients) = stage_of(rt, three_clients(rt));
-    let keys = stage.keys;
-    let mut server = server_of(rt, keys[0]);
-    forks(rt, &mut stage, &mut server, clients);
-    let_go(server);
-    (ran_as_told(rt, stage.record), keys)
+/// The premises hold of the run.
+fn are_met(rt: &impl Host, stage: &Stage) {
+    let (ran, keys) = (&stage.ran, &stage.keys);
+    let pinned = *found(rt, keys.first(), "a key");
+    check(rt, none_collide(rt, ran, pinned), "no collision");
+    check(rt, none_forged(rt, ran), "no forgery");
+    check(rt, leaves_sign_once(rt, ran), "one text a leaf");
+    check(rt, keys_are_true(rt, ran, keys), "true keys");
 }
 
 /// The premises hold of the run, each of its views is the world of its line, and isn't that of another one.
 #[test]
 fn premises_and_worlds_of_a_run(rt: HostRuntime) {
     let rt = &(rt, Here);
-    let (ran, keys) = instance(rt);
-    check(rt, none_collide(rt, &ran, keys[0]), "no collision");
-    check(rt, none_forged(rt, &ran), "no forgery");
-    check(rt, leaves_sign_once(rt, &ran), "one text a leaf");
-    check(rt, keys_are_true(rt, &ran, &keys), "true keys");
-    let looks = looks_into_worlds(rt, &ran, &keys, &OPERATIONS, &LINES);
+    let mut stage = new_stage(rt);
+    meet(rt, &mut stage);
+    part(rt, &mut stage);
+    let broken = is_shown_together(rt, &mut stage);
+    assert!(rt; broken == Some(Rule::Numbers), "{broken:?}");
+    stage.is_carried_out(rt);
+    are_met(rt, &stage);
+    let looks = looks_into_worlds(rt, &stage.ran, &stage.keys, &OPERATIONS, &LINES);
     let wanted = LINES.len().wrapping_mul(PLACES.len());
     assert!(rt; looks == Ok(wanted), "{looks:?}");
     for lines in [&WITHOUT_PENDING, &STILL_MEMBER] {
-        let looks = looks_into_worlds(rt, &ran, &keys, &OPERATIONS, lines);
+        let looks = looks_into_worlds(rt, &stage.ran, &stage.keys, &OPERATIONS, lines);
         check(rt, looks.is_err(), "another line");
     }
-    let_go(ran);
+    let_go(stage);
 }

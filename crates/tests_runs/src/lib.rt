@@ -1,6 +1,8 @@
 //! Tests of whole runs: what clients answer that stand alone, `fork_consistency::run` answers to the same steps, over
 //! crashes and over devices that fail, too; a run in which the premises of fork consistency hold, beside the worlds of
-//! its lines; what scripts print, byte for byte; and a small world in every order of its steps.
+//! its lines; what scripts print, byte for byte; a small world in every order of its steps; and what a server comes to
+//! that lies: each lie, sixty scripts with the rule by which each is refused, that in two scripts no two texts share a
+//! digest, and that it answers as the honest server where it doesn't lie.
 #![tactic(auto)]
 
 #[cfg(test)]
@@ -10,7 +12,7 @@ mod answers;
 #[cfg(test)]
 mod failing;
 #[cfg(test)]
-mod forks;
+mod hashed;
 #[cfg(test)]
 mod here;
 #[cfg(test)]
@@ -24,11 +26,15 @@ mod honest_play;
 #[cfg(test)]
 mod honest_random;
 #[cfg(test)]
+mod hostile_sixty;
+#[cfg(test)]
 mod instance;
+#[cfg(test)]
+mod lies;
 #[cfg(test)]
 mod lines;
 #[cfg(test)]
-mod openings;
+mod lying;
 #[cfg(test)]
 mod plain_world;
 #[cfg(test)]
@@ -38,14 +44,10 @@ mod premises;
 #[cfg(test)]
 mod refuted;
 #[cfg(test)]
-mod restarting;
-#[cfg(test)]
-mod rows;
-#[cfg(test)]
 mod runs;
 #[cfg(test)]
 mod scripts;
 #[cfg(test)]
 mod small_world;
 #[cfg(test)]
-mod steps;
+mod stage;

@@ -1,7 +1,7 @@
 //! A plain file tree that operations change in turn, told by the description of what changes do and of the formats
 //! alone: nothing of the product is called. Numbers are bytes here, and the one directory is user 0's root directory.
 
-use crate::planning::Row;
+use crate::planning::split;
 use lms_sign::PublicKey;
 use std::alloc::Global;
 use tests_aids::texts::joined;
@@ -10,7 +10,7 @@ use tests_aids::{Host, given};
 /// An operation of a user.
 pub(crate) struct Operation {
     pub(crate) user: u8,
-    pub(crate) changes: &'static [Row],
+    pub(crate) changes: &'static [u8],
 }
 
 /// An i-number of a principal.
@@ -79,11 +79,6 @@ pub(crate) struct World {
     number: u8,
 }
 
-/// Copies of these bytes.
-fn copy(rt: &impl Host, bytes: &[u8]) -> Vec<u8> {
-    joined(rt, &[bytes])
-}
-
 /// A number as four bytes.
 fn spelled(number: u8) -> [u8; 4] {
     u32::from(number).to_be_bytes()
@@ -130,10 +125,6 @@ impl World {
         self.users.iter().any(|row| row.user == user)
     }
 
-    fn has_name(&self, name: &[u8]) -> bool {
-        self.links.iter().any(|link| link.name.as_slice() == name)
-    }
-
     /// The bytes of the file of this place; not those of the table.
     pub(crate) fn file_at(&self, place: Place) -> Option<&[u8]> {
         for file in &self.files {
@@ -156,7 +147,7 @@ impl World {
 
     /// The principals whose i-numbers this user may change: itself, and its groups.
     fn own_principals(&self, rt: &impl Host, user: u8) -> Vec<u8> {
-        let mut own = copy(rt, &[user]);
+        let mut own = joined(rt, &[&[user]]);
         for row in &self.members {
             if row.user == user && row.until == 0 {
                 given(rt, own.push(row.group), "memory");
@@ -188,40 +179,26 @@ impl World {
         fits
     }
 
-    fn make(&mut self, rt: &impl Host, user: u8, place: Place, text: &[u8]) -> bool {
-        let is_own = place.principal < FIRST_GROUP || place.number / OF_ONE_USER == user;
-        let fits = is_own && !self.stands(place);
-        if fits {
-            let bytes = copy(rt, text);
-            given(rt, self.files.push(File { place, bytes }), "memory");
-        }
-        fits
+    /// A file of this text gets this place.
+    fn lay(&mut self, rt: &impl Host, place: Place, text: &[u8]) -> bool {
+        let bytes = joined(rt, &[text]);
+        given(rt, self.files.push(File { place, bytes }), "memory");
+        true
     }
 
-    fn put(&mut self, rt: &impl Host, place: Place, text: &[u8]) -> bool {
-        let fits = take_away(&mut self.files, place);
+    fn link(&mut self, rt: &impl Host, target: Place, name: &[u8]) -> bool {
+        let fits = !self.links.iter().any(|link| link.name.as_slice() == name);
         if fits {
-            let bytes = copy(rt, text);
-            given(rt, self.files.push(File { place, bytes }), "memory");
-        }
-        fits
-    }
-
-    fn link(&mut self, rt: &impl Host, place: Place, target: Place, name: &[u8]) -> bool {
-        let fits = place == ROOT && !self.has_name(name);
-        if fits {
-            let name = copy(rt, name);
+            let name = joined(rt, &[name]);
             given(rt, self.links.push(Link { name, target }), "memory");
         }
         fits
     }
 
-    fn unlink(&mut self, place: Place, name: &[u8]) -> bool {
-        let fits = place == ROOT && self.has_name(name);
-        if fits {
-            self.links.retain(|link| link.name.as_slice() != name);
-        }
-        fits
+    fn unlink(&mut self, name: &[u8]) -> bool {
+        let before = self.links.len();
+        self.links.retain(|link| link.name.as_slice() != name);
+        self.links.len() < before
     }
 
     /// A change at this place: whether it fits there. If so, it has its effect.
@@ -233,18 +210,19 @@ impl World {
         place: Place,
         rest: &[u8],
     ) -> bool {
+        let is_own = place.principal < FIRST_GROUP || place.number / OF_ONE_USER == user;
         match (letter, rest) {
-            (b'f', text) => self.make(rt, user, place, text),
-            (b'p', text) => self.put(rt, place, text),
+            (b'f', text) => is_own && !self.stands(place) && self.lay(rt, place, text),
+            (b'p', text) => take_away(&mut self.files, place) && self.lay(rt, place, text),
             (b'r', _) => take_away(&mut self.files, place),
             (b'l', [principal, number, name @ ..]) => {
                 let target = Place {
                     principal: *principal,
                     number: *number,
                 };
-                self.link(rt, place, target, name)
+                place == ROOT && self.link(rt, target, name)
             }
-            (_, name) => self.unlink(place, name),
+            (_, name) => place == ROOT && self.unlink(name),
         }
     }
 
@@ -277,7 +255,7 @@ impl World {
         let own = self.own_principals(rt, user);
         let mut lost = Vec::new(rt.alloc());
         let mut number = 0u8;
-        for row in operation.changes {
+        for row in &split(rt, operation.changes, b';') {
             number = number.wrapping_add(1);
             if !self.change(rt, user, &own, row) {
                 given(rt, lost.push(number), "memory");
@@ -286,35 +264,23 @@ impl World {
         lost
     }
 
-    /// The users of the table's text, after their count. They are added in the order of their numbers here.
-    fn users_text(&self, rt: &impl Host, keys: &[PublicKey]) -> Vec<u8> {
-        let [.., count] = self.users.len().to_be_bytes();
-        let mut text = copy(rt, &[count]);
+    /// The text of the table of principals, where these are the keys of the users from 0 on: its users, who are added
+    /// in the order of their numbers here, and its members, each after their count.
+    pub(crate) fn table_text(&self, rt: &impl Host, keys: &[PublicKey]) -> Vec<u8> {
+        let [.., users] = self.users.len().to_be_bytes();
+        let mut text = joined(rt, &[b"SPT1", &[users]]);
         for (row, key) in self.users.iter().zip(keys) {
             let row = joined(rt, &[&[row.user], &spelled(row.since), key.as_bytes()]);
             given(rt, text.extend_from_slice(&row), "memory");
         }
-        text
-    }
-
-    /// The members of the table's text, after their count.
-    fn members_text(&self, rt: &impl Host) -> Vec<u8> {
         let [.., high, low] = self.members.len().to_be_bytes();
-        let mut text = copy(rt, &[high, low]);
+        given(rt, text.extend_from_slice(&[high, low]), "memory");
         for row in &self.members {
             let (begins, until) = (spelled(row.begins), spelled(row.until));
             let row = joined(rt, &[&[row.group, row.user], &begins, &until]);
             given(rt, text.extend_from_slice(&row), "memory");
         }
         text
-    }
-
-    /// The text of the table of principals, where these are the keys of the users from 0 on.
-    pub(crate) fn table_text(&self, rt: &impl Host, keys: &[PublicKey]) -> Vec<u8> {
-        joined(
-            rt,
-            &[b"SPT1", &self.users_text(rt, keys), &self.members_text(rt)],
-        )
     }
 
     /// Whether this is the file that stands at this place, where these are the keys of the users from 0 on.

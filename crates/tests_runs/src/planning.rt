@@ -4,7 +4,8 @@ use layout::{Group, User};
 use lms_sign::PublicKey;
 use std::alloc::Global;
 use tests_aids::numbers::{entry, i_number, name, principal};
-use tests_aids::{Aided, found};
+use tests_aids::texts::key_of;
+use tests_aids::{Aided, found, given};
 use tests_client_aids::changes::{Planned, lay, nothing, plan_change};
 use update_cert::{Action, Change, TableChange};
 
@@ -18,15 +19,31 @@ fn group(rt: &impl Aided, number: u8) -> Group {
     found(rt, Group::new(number), "a group")
 }
 
-/// A change, as bytes. It begins with a letter.
-///
-/// To the table of principals: `u` and a user, who is listed; `m`, a group and a user, who becomes a member; `d`, a
-/// group and a user, who is a member no more.
-///
-/// At an i-number: the letter, the principal, the i-number, each in one byte; then for `f` the text of a file that is
-/// made, for `p` that of one that is put; nothing for `r`, where it is removed; for `l` the target's principal and
-/// i-number, and the name that links to it; for `n` the name that is unlinked.
-pub(crate) type Row = &'static [u8];
+/// The keys of so many users, from user 0 on.
+pub(crate) fn keys(rt: &impl Aided, count: u8) -> Vec<PublicKey> {
+    let mut keys = Vec::new(rt.alloc());
+    for number in 0..count {
+        given(rt, keys.push(key_of(rt, number).public()), "memory");
+    }
+    keys
+}
+
+/// The parts of a text between which this byte stands. The last one isn't empty.
+pub(crate) fn split<'a>(rt: &impl Aided, text: &'a [u8], between: u8) -> Vec<&'a [u8]> {
+    let mut parts = Vec::new(rt.alloc());
+    let mut first = 0;
+    for (place, byte) in text.iter().enumerate() {
+        if *byte == between {
+            let part = text.get(first..place).unwrap_or(&[]);
+            given(rt, parts.push(part), "memory");
+            first = place.wrapping_add(1);
+        }
+    }
+    if first < text.len() {
+        given(rt, parts.push(text.get(first..).unwrap_or(&[])), "memory");
+    }
+    parts
+}
 
 /// What is done at an i-number, by the letter and what follows the i-number. A file is laid out.
 fn action_of(rt: &impl Aided, planned: &mut Planned, letter: u8, rest: &[u8]) -> Action<Global> {
@@ -41,36 +58,47 @@ fn action_of(rt: &impl Aided, planned: &mut Planned, letter: u8, rest: &[u8]) ->
     }
 }
 
-/// Plans the change of a row, where these are the keys of the users from 0 on.
-fn plan_row(rt: &impl Aided, planned: &mut Planned, keys: &[PublicKey], row: &[u8]) {
+/// The change of a row, where these are the keys of the users from 0 on. A file is laid out.
+fn change_of(
+    rt: &impl Aided,
+    planned: &mut Planned,
+    keys: &[PublicKey],
+    row: &[u8],
+) -> Change<Global> {
     match row {
         [b'u', number] => {
             let key = found(rt, keys.get(usize::from(*number)), "a key");
-            let change = TableChange::AddUser(user(rt, *number), *key);
-            plan_change(rt, planned, Change::of_table(change));
+            Change::of_table(TableChange::AddUser(user(rt, *number), *key))
         }
         [b'm', of, number] => {
-            let change = TableChange::AddMember(group(rt, *of), user(rt, *number));
-            plan_change(rt, planned, Change::of_table(change));
+            Change::of_table(TableChange::AddMember(group(rt, *of), user(rt, *number)))
         }
         [b'd', of, number] => {
-            let change = TableChange::DropMember(group(rt, *of), user(rt, *number));
-            plan_change(rt, planned, Change::of_table(change));
+            Change::of_table(TableChange::DropMember(group(rt, *of), user(rt, *number)))
         }
         [letter, owner, number, rest @ ..] => {
             let action = action_of(rt, planned, *letter, rest);
             let (owner, number) = (principal(rt, *owner), i_number(rt, u16::from(*number)));
-            plan_change(rt, planned, Change::new(owner, number, action));
+            Change::new(owner, number, action)
         }
         _ => rt.fail("no change"),
     }
 }
 
-/// The changes of these rows, where these are the keys of the users from 0 on.
-pub(crate) fn planned_of(rt: &impl Aided, keys: &[PublicKey], rows: &[Row]) -> Planned {
+/// Changes, where these are the keys of the users from 0 on. They are told as bytes, with semicolons between them, and
+/// each begins with a letter.
+///
+/// To the table of principals: `u` and a user, who is listed; `m`, a group and a user, who becomes a member; `d`, a
+/// group and a user, who is a member no more.
+///
+/// At an i-number: the letter, the principal, the i-number, each in one byte; then for `f` the text of a file that is
+/// made, for `p` that of one that is put; nothing for `r`, where it is removed; for `l` the target's principal and
+/// i-number, and the name that links to it; for `n` the name that is unlinked.
+pub(crate) fn planned_of(rt: &impl Aided, keys: &[PublicKey], changes: &[u8]) -> Planned {
     let mut planned = nothing(rt);
-    for row in rows {
-        plan_row(rt, &mut planned, keys, row);
+    for row in &split(rt, changes, b';') {
+        let change = change_of(rt, &mut planned, keys, row);
+        plan_change(rt, &mut planned, change);
     }
     planned
 }

@@ -2,7 +2,11 @@
 //! are hashed have one digest; each signed text that a reply shows was released before by its user's client, and no
 //! client released two texts by one leaf; and user 0's client added each user with the user's own key.
 
-use crate::steps::Ran;
+use crate::hashed::{
+    Named, add, add_copies, add_named, add_reply, add_signed, before_signature, by_digest,
+    first_texts, share_a_name,
+};
+use crate::stage::Ran;
 use client_runs::{Act, Answer};
 use client_verify::{ClientError, Step};
 use layout::{Text, User};
@@ -10,10 +14,6 @@ use lms_sign::PublicKey;
 use pending_list::{PendingItem, Reply, Signed};
 use std::alloc::Global;
 use tests_aids::{Host, given};
-use tests_hashed::{
-    Named, add, add_copies, add_named, add_reply, add_signed, before_signature, by_digest,
-    first_texts, share_a_name,
-};
 use update_cert::{AnyAction, Cert, Change, TableChange};
 use version_order::Structure;
 

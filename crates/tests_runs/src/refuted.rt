@@ -1,20 +1,20 @@
 //! The tests of premises fail where a premise does.
 
+use crate::hashed::{add_named, by_digest, share_a_name};
 use crate::here::Here;
 use crate::planning::planned_of;
 use crate::premises::{
     add_by_leaf, hashed_texts, keys_are_true, leaves_sign_once, none_collide, none_forged,
 };
-use crate::steps::{Ran, carry_out};
-use client_runs::{Act, WorldStep};
+use crate::stage::{NEVER, Ran};
+use client_runs::Act;
 use layout::{User, digest, let_go};
 use lms_sign::{PrivateKey, PublicKey};
 use std::alloc::Global;
 use tests_aids::tables::FORM;
 use tests_aids::texts::{key_of, listed, plan, reply, shown, signed, structure};
-use tests_aids::{Host, check, found, given};
+use tests_aids::{Host, check, found};
 use tests_client_aids::changes::Planned;
-use tests_hashed::{add_named, by_digest, share_a_name};
 
 /// A reply that shows a structure of user 1's that its client never signed: the test does, with user 1's key.
 fn forged_reply(rt: &impl Host, key: &PrivateKey<Global>) -> Vec<u8> {
@@ -23,25 +23,15 @@ fn forged_reply(rt: &impl Host, key: &PrivateKey<Global>) -> Vec<u8> {
     reply(rt, &listed(rt, &shown(rt, &by_one)), b"\0")
 }
 
-/// Adds a step of user 0's client.
-fn add_step(rt: &impl Host, steps: &mut Vec<WorldStep<Global>>, act: Act<Global>) {
-    let step = WorldStep {
-        user: User::superuser(),
-        act,
-        ledger_fails: None,
-        journal_fails: None,
-    };
-    given(rt, steps.push(step), "memory");
-}
-
 /// User 0 adds user 1 with the second key, and is shown what user 1's client never signed.
 fn refuted(rt: &impl Host, key: &PrivateKey<Global>, added: PublicKey) -> Ran {
-    let Planned { changes, laid } = planned_of(rt, &[added, added], &[b"u\x01"]);
-    let mut steps = Vec::new(rt.alloc());
-    add_step(rt, &mut steps, Act::Open);
-    add_step(rt, &mut steps, Act::Begin(changes, laid));
-    add_step(rt, &mut steps, Act::Reply(forged_reply(rt, key)));
-    carry_out(rt, steps)
+    let Planned { changes, laid } = planned_of(rt, &[added, added], b"u\x01");
+    let mut ran = Ran::new(rt);
+    ran.add(rt, 0, Act::Open, NEVER);
+    ran.add(rt, 0, Act::Begin(changes, laid), NEVER);
+    ran.add(rt, 0, Act::Reply(forged_reply(rt, key)), NEVER);
+    ran.carry_out(rt);
+    ran
 }
 
 /// Two texts are named by one digest.

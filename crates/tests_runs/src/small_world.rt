@@ -2,7 +2,7 @@
 //! and are committed in every order. No reply of an honest server is refused, and each view shows what plain numbers
 //! say.
 
-use crate::scripts::{Host, prints};
+use crate::scripts::{ScriptHost, prints, script_of};
 use std::io::Write;
 
 /// What a change does; the texts of files are numbers.
@@ -64,25 +64,17 @@ fn new_member(user: u8) -> Member {
 }
 
 /// Before the story user 0 lists both users and makes them members of group 64, and each makes its file.
-const BEFORE: &[u8] = b"begin 0 adduser 1; adduser 2; addmember 64 1; addmember 64 2\n\
-    update 0 a\n\
-    commit 0 a\n\
-    begin 1 make 1 3 file 0\n\
-    update 1 a\n\
-    commit 1 a\n\
-    begin 2 make 2 3 file 0\n\
-    update 2 a\n\
-    commit 2 a\n";
-
-const LINES_BEFORE: &[u8] = b"0 begin 1\n\
-    0 accepted 1\n\
-    0 committed\n\
-    1 begin 1\n\
-    1 accepted 1\n\
-    1 committed\n\
-    2 begin 1\n\
-    2 accepted 1\n\
-    2 committed\n";
+const BEFORE: &str = "\
+begin 0 adduser 1; adduser 2; addmember 64 1; addmember 64 2 -> 0 begin 1
+update 0 a -> 0 accepted 1
+commit 0 a -> 0 committed
+begin 1 make 1 3 file 0 -> 1 begin 1
+update 1 a -> 1 accepted 1
+commit 1 a -> 1 committed
+begin 2 make 2 3 file 0 -> 2 begin 1
+update 2 a -> 2 accepted 1
+commit 2 a -> 2 committed
+";
 
 /// The changes of a user's operation: user 1 makes the group's file and writes it, user 2 writes it and removes it.
 fn tasks_of(user: u8, number: u32) -> &'static [Task] {
@@ -104,7 +96,7 @@ fn fits(task: Task, stands: bool) -> bool {
 }
 
 /// Writes a change as the script has it.
-fn write_task(rt: &impl Host, script: &mut Vec<u8>, user: u8, task: Task, text: u32) {
+fn write_task(rt: &impl ScriptHost, script: &mut Vec<u8>, user: u8, task: Task, text: u32) {
     let written = match task {
         Task::PutOwn => write!(script, " put {user} 3 {text}"),
         Task::MakeShared => write!(script, " make 64 65 file {text}"),
@@ -116,10 +108,11 @@ fn write_task(rt: &impl Host, script: &mut Vec<u8>, user: u8, task: Task, text: 
 
 impl Story {
     /// The beginning.
-    fn new(rt: &impl Host) -> Story {
+    fn new(rt: &impl ScriptHost) -> Story {
+        let (script, lines) = script_of(rt, BEFORE);
         Story {
-            script: Vec::from_slice(rt.alloc(), BEFORE).expect(rt, "memory"),
-            lines: Vec::from_slice(rt.alloc(), LINES_BEFORE).expect(rt, "memory"),
+            script,
+            lines,
             first: new_member(1),
             second: new_member(2),
             shared: None,
@@ -128,7 +121,7 @@ impl Story {
     }
 
     /// The user declares an operation, which writes a new text.
-    fn begin(&mut self, rt: &impl Host, member: Member) -> Member {
+    fn begin(&mut self, rt: &impl ScriptHost, member: Member) -> Member {
         let Member { user, number, .. } = member;
         let (number, text) = (number.wrapping_add(1), self.texts.wrapping_add(1));
         write!(self.script, "begin {user}").expect(rt, "memory");
@@ -159,7 +152,7 @@ impl Story {
     }
 
     /// The operation is placed: each change has its effect, or is told among the lost ones.
-    fn update(&mut self, rt: &impl Host, mut member: Member) -> Member {
+    fn update(&mut self, rt: &impl ScriptHost, mut member: Member) -> Member {
         let Member { user, number, .. } = member;
         write!(self.script, "update {user} a\n").expect(rt, "memory");
         write!(self.lines, "{user} accepted {number}").expect(rt, "memory");
@@ -181,7 +174,7 @@ impl Story {
     }
 
     /// The structure is committed.
-    fn commit(&mut self, rt: &impl Host, member: Member) -> Member {
+    fn commit(&mut self, rt: &impl ScriptHost, member: Member) -> Member {
         let user = member.user;
         write!(self.script, "commit {user} a\n").expect(rt, "memory");
         write!(self.lines, "{user} committed\n").expect(rt, "memory");
@@ -192,7 +185,7 @@ impl Story {
     }
 
     /// What the user sees of the three files.
-    fn look(&mut self, rt: &impl Host, user: u8) {
+    fn look(&mut self, rt: &impl ScriptHost, user: u8) {
         let (one, two) = (self.first.file, self.second.file);
         write!(
             self.script,
@@ -208,7 +201,7 @@ impl Story {
     }
 
     /// One user goes on by a step, and looks after an update.
-    fn go_on(&mut self, rt: &impl Host, is_second: bool) {
+    fn go_on(&mut self, rt: &impl ScriptHost, is_second: bool) {
         let member = if is_second { self.second } else { self.first };
         let (next, looks) = match member.step {
             Step::Begin => (self.begin(rt, member), false),
@@ -224,193 +217,114 @@ impl Story {
             self.look(rt, next.user);
         }
     }
+
+    /// The first steps in this order.
+    fn tell(&mut self, rt: &impl ScriptHost, steps: u32, order: u32) {
+        let mut left = order;
+        for _ in 0..steps {
+            self.go_on(rt, left % 2 == 1);
+            left /= 2;
+        }
+    }
 }
-
-/// Orders of the steps of some operations of both users. An order is a number: from its lowest bit on, 0 where user 1
-/// goes on and 1 where user 2 does.
-#[derive(Clone, Copy)]
-struct Shape {
-    /// How many steps there are, and how many of them are user 2's.
-    steps: u32,
-    second: u32,
-    /// The bits of the first steps that are told beforehand, and what they are.
-    fixed: u32,
-    first: u32,
-}
-
-/// One operation of each, and two of one: each order of all steps.
-static THREE: [Shape; 3] = [
-    Shape {
-        steps: 6,
-        second: 3,
-        fixed: 0,
-        first: 0,
-    },
-    Shape {
-        steps: 9,
-        second: 3,
-        fixed: 0,
-        first: 0,
-    },
-    Shape {
-        steps: 9,
-        second: 6,
-        fixed: 0,
-        first: 0,
-    },
-];
-
-/// Four operations of one user: they have one order, and its beginnings are those of fewer operations of that user.
-static FOUR_OF_ONE: [Shape; 2] = [
-    Shape {
-        steps: 12,
-        second: 0,
-        fixed: 0,
-        first: 0,
-    },
-    Shape {
-        steps: 12,
-        second: 12,
-        fixed: 0,
-        first: 0,
-    },
-];
-
-/// Four operations, by their first steps: two of each, three of user 1, and three of user 2. The orders of one
-/// beginning have a world of their own, at most 126 of them: a key signs 1,024 times, and the log of a script's server
-/// takes as many calls, two of each operation.
-const TWO_EACH: Shape = Shape {
-    steps: 12,
-    second: 6,
-    fixed: 7,
-    first: 0,
-};
-
-const THREE_OF_1: Shape = Shape {
-    steps: 12,
-    second: 3,
-    fixed: 3,
-    first: 0,
-};
-
-const THREE_OF_2: Shape = Shape {
-    steps: 12,
-    second: 9,
-    fixed: 3,
-    first: 0,
-};
 
 /// No story has more steps than twelve.
 const MOST_ORDERS: u32 = 4096;
 
-/// Whether an order is one of a shape.
-fn is_of_shape(shape: &Shape, order: u32) -> bool {
-    order.count_ones() == shape.second
-        && order.checked_shr(shape.steps) == Some(0)
-        && (order & shape.fixed) == shape.first
-}
-
-/// The steps in this order.
-fn tell(rt: &impl Host, story: &mut Story, shape: &Shape, order: u32) {
-    let mut left = order;
-    for _ in 0..shape.steps {
-        story.go_on(rt, left % 2 == 1);
-        left /= 2;
-    }
-}
-
-/// All orders of a shape, one after another in one world.
-fn tell_all(rt: &impl Host, shape: &Shape) {
+/// All orders of so many steps, of which so many are user 2's, one after another in one world. An order is a number:
+/// from its lowest bit on, 0 where user 1 goes on and 1 where user 2 does. Of the fixed bits it has these alone.
+fn tell_all(rt: &impl ScriptHost, (steps, second): (u32, u32), (fixed, first): (u32, u32)) {
     let mut story = Story::new(rt);
     for order in 0..MOST_ORDERS {
-        if is_of_shape(shape, order) {
-            tell(rt, &mut story, shape, order);
+        let fits = order.count_ones() == second && (order & fixed) == first;
+        if fits && order.checked_shr(steps) == Some(0) {
+            story.tell(rt, steps, order);
         }
     }
     prints(rt, &story.script, &story.lines);
 }
 
-/// All orders of a shape that begin with these steps.
-fn tell_from(rt: &impl Host, shape: Shape, first: u32) {
-    tell_all(rt, &Shape { first, ..shape });
-}
-
+/// One operation of each user, and two of one: each order of all steps. And four operations of one user: they have one
+/// order, and its beginnings are those of fewer operations of that user.
 #[test]
-fn three_operations_in_every_order(rt: HostRuntime) {
-    for shape in &THREE {
-        tell_all(&rt, shape);
+fn small_stories_in_every_order(rt: HostRuntime) {
+    for shape in [(6, 3), (9, 3), (9, 6), (12, 0), (12, 12)] {
+        tell_all(&rt, shape, (0, 0));
     }
 }
 
-#[test]
-fn four_operations_of_one_user(rt: HostRuntime) {
-    for shape in &FOUR_OF_ONE {
-        tell_all(&rt, shape);
-    }
-}
+// Four operations, by their first steps: two of each user, three of user 1, and three of user 2. The orders of one
+// beginning have a world of their own, at most 126 of them: a key signs 1,024 times, and the log of a script's server
+// takes as many calls, two of each operation.
 
-// Four operations of both users, of which the first steps are those of these users, the earliest one first.
+const TWO_EACH: (u32, u32) = (12, 6);
+
+const THREE_OF_1: (u32, u32) = (12, 3);
+
+const THREE_OF_2: (u32, u32) = (12, 9);
+
+// The first steps are those of these users, the earliest one first.
 
 #[test]
 fn two_each_after_1_1_1(rt: HostRuntime) {
-    tell_from(&rt, TWO_EACH, 0);
+    tell_all(&rt, TWO_EACH, (7, 0));
 }
 
 #[test]
 fn two_each_after_2_1_1(rt: HostRuntime) {
-    tell_from(&rt, TWO_EACH, 1);
+    tell_all(&rt, TWO_EACH, (7, 1));
 }
 
 #[test]
 fn two_each_after_1_2_1(rt: HostRuntime) {
-    tell_from(&rt, TWO_EACH, 2);
+    tell_all(&rt, TWO_EACH, (7, 2));
 }
 
 #[test]
 fn two_each_after_2_2_1(rt: HostRuntime) {
-    tell_from(&rt, TWO_EACH, 3);
+    tell_all(&rt, TWO_EACH, (7, 3));
 }
 
 #[test]
 fn two_each_after_1_1_2(rt: HostRuntime) {
-    tell_from(&rt, TWO_EACH, 4);
+    tell_all(&rt, TWO_EACH, (7, 4));
 }
 
 #[test]
 fn two_each_after_2_1_2(rt: HostRuntime) {
-    tell_from(&rt, TWO_EACH, 5);
+    tell_all(&rt, TWO_EACH, (7, 5));
 }
 
 #[test]
 fn two_each_after_1_2_2(rt: HostRuntime) {
-    tell_from(&rt, TWO_EACH, 6);
+    tell_all(&rt, TWO_EACH, (7, 6));
 }
 
 #[test]
 fn two_each_after_2_2_2(rt: HostRuntime) {
-    tell_from(&rt, TWO_EACH, 7);
+    tell_all(&rt, TWO_EACH, (7, 7));
 }
 
 #[test]
 fn three_of_1_after_1_1(rt: HostRuntime) {
-    tell_from(&rt, THREE_OF_1, 0);
+    tell_all(&rt, THREE_OF_1, (3, 0));
 }
 
 #[test]
 fn three_of_1_after_others(rt: HostRuntime) {
     for first in [1, 2, 3] {
-        tell_from(&rt, THREE_OF_1, first);
+        tell_all(&rt, THREE_OF_1, (3, first));
     }
 }
 
 #[test]
 fn three_of_2_after_2_2(rt: HostRuntime) {
-    tell_from(&rt, THREE_OF_2, 3);
+    tell_all(&rt, THREE_OF_2, (3, 3));
 }
 
 #[test]
 fn three_of_2_after_others(rt: HostRuntime) {
     for first in [0, 1, 2] {
-        tell_from(&rt, THREE_OF_2, first);
+        tell_all(&rt, THREE_OF_2, (3, first));
     }
 }

@@ -1,16 +1,14 @@
-//! The texts of a run that are hashed, for tests: of the beginning, of replies, and of what is signed; and whether two
-//! different texts have one digest.
-#![tactic(auto)]
+//! The texts of a run that are hashed: of the beginning, of replies, and of what is signed; and whether two different
+//! texts have one digest.
 
-use layout::{Digest, Text, digest};
+use layout::{Text, digest};
 use lms_sign::{PublicKey, SIGNATURE_SIZE};
-use pending_list::{PendingItem, Reply, Signed};
+use pending_list::Reply;
 use std::alloc::Global;
 use tests_aids::blocks::{EMPTY, EMPTY_INODE};
 use tests_aids::tables::texts_over;
 use tests_aids::texts::joined;
 use tests_aids::{Aided, given};
-use version_order::Structure;
 
 /// How many bytes the table of principals has at the beginning.
 const TABLE_SIZE: u32 = 68;
@@ -19,24 +17,24 @@ const TABLE_SIZE: u32 = 68;
 const PRINCIPAL_COUNT: u8 = 96;
 
 /// Adds a text.
-pub fn add(rt: &impl Aided, texts: &mut Vec<Vec<u8>>, text: Vec<u8>) {
+pub(crate) fn add(rt: &impl Aided, texts: &mut Vec<Vec<u8>>, text: Vec<u8>) {
     given(rt, texts.push(text), "memory");
 }
 
 /// Adds a copy of each of these texts.
-pub fn add_copies(rt: &impl Aided, texts: &mut Vec<Vec<u8>>, others: &[Vec<u8>]) {
+pub(crate) fn add_copies(rt: &impl Aided, texts: &mut Vec<Vec<u8>>, others: &[Vec<u8>]) {
     for text in others {
         add(rt, texts, joined(rt, &[text]));
     }
 }
 
 /// What stands before the signature of a signed text.
-pub fn before_signature(signed: &[u8]) -> &[u8] {
+pub(crate) fn before_signature(signed: &[u8]) -> &[u8] {
     &signed[..signed.len().saturating_sub(SIGNATURE_SIZE)]
 }
 
 /// Adds what stands before the signature of a signed text.
-pub fn add_signed(rt: &impl Aided, texts: &mut Vec<Vec<u8>>, signed: &[u8]) {
+pub(crate) fn add_signed(rt: &impl Aided, texts: &mut Vec<Vec<u8>>, signed: &[u8]) {
     add(rt, texts, joined(rt, &[before_signature(signed)]));
 }
 
@@ -46,44 +44,25 @@ fn add_value<T: Text<Global>>(rt: &impl Aided, texts: &mut Vec<Vec<u8>>, value: 
     add(rt, texts, text);
 }
 
-/// Adds structures, and their plans.
-fn add_structures(
-    rt: &impl Aided,
-    texts: &mut Vec<Vec<u8>>,
-    structures: &[Signed<Structure<Global>>],
-) {
-    for structure in structures {
+/// Adds all that a reply shows, structures with their plans, and certificates with theirs; nothing of a text that is no
+/// reply.
+pub(crate) fn add_reply(rt: &impl Aided, texts: &mut Vec<Vec<u8>>, text: &[u8]) {
+    let Ok(reply) = Reply::read(rt.alloc(), text) else {
+        return;
+    };
+    for structure in reply.structures() {
         add_value(rt, texts, &structure.value);
         add_value(rt, texts, structure.value.plan());
     }
-}
-
-/// Adds the certificates and plans of pending operations.
-fn add_pending(rt: &impl Aided, texts: &mut Vec<Vec<u8>>, pending: &[PendingItem<Global>]) {
-    for item in pending {
+    for item in reply.pending() {
         add_value(rt, texts, item.cert());
         add_value(rt, texts, item.plan());
     }
 }
 
-/// Adds all that a reply shows; nothing of a text that is no reply.
-pub fn add_reply(rt: &impl Aided, texts: &mut Vec<Vec<u8>>, text: &[u8]) {
-    if let Ok(reply) = Reply::read(rt.alloc(), text) {
-        add_structures(rt, texts, reply.structures());
-        add_pending(rt, texts, reply.pending());
-    }
-}
-
-/// Adds the roots of the empty i-tables.
-fn add_roots(rt: &impl Aided, texts: &mut Vec<Vec<u8>>) {
-    for principal in 1..PRINCIPAL_COUNT {
-        add(rt, texts, joined(rt, &[b"STR1", &[principal, 0]]));
-    }
-}
-
 /// The texts of the beginning, where this is user 0's key: the table of principals, the empty directory, what leads to
 /// them, and the roots of the empty i-tables.
-pub fn first_texts(rt: &impl Aided, pinned: PublicKey) -> Vec<Vec<u8>> {
+pub(crate) fn first_texts(rt: &impl Aided, pinned: PublicKey) -> Vec<Vec<u8>> {
     let table = joined(rt, &[b"SPT1\x01\0\0\0\0\0", pinned.as_bytes(), b"\0\0"]);
     let mut texts = Vec::new(rt.alloc());
     add(rt, &mut texts, table);
@@ -93,35 +72,27 @@ pub fn first_texts(rt: &impl Aided, pinned: PublicKey) -> Vec<Vec<u8>> {
     add(rt, &mut texts, leading.inode);
     add(rt, &mut texts, joined(rt, &[EMPTY]));
     add(rt, &mut texts, joined(rt, &[EMPTY_INODE]));
-    add_roots(rt, &mut texts);
-    texts
-}
-
-/// The text of this digest.
-pub fn text_of(texts: &[Vec<u8>], wanted: Digest) -> Option<&[u8]> {
-    for text in texts {
-        if digest(text) == wanted {
-            return Some(text);
-        }
+    for principal in 1..PRINCIPAL_COUNT {
+        add(rt, &mut texts, joined(rt, &[b"STR1", &[principal, 0]]));
     }
-    None
+    texts
 }
 
 /// A text, and what it is named by: no other text is to have this name.
 #[derive(Drop)]
-pub struct Named {
-    pub name: Vec<u8>,
-    pub text: Vec<u8>,
+pub(crate) struct Named {
+    name: Vec<u8>,
+    text: Vec<u8>,
 }
 
 /// Adds a text and its name.
-pub fn add_named(rt: &impl Aided, rows: &mut Vec<Named>, name: &[u8], text: &[u8]) {
+pub(crate) fn add_named(rt: &impl Aided, rows: &mut Vec<Named>, name: &[u8], text: &[u8]) {
     let (name, text) = (joined(rt, &[name]), joined(rt, &[text]));
     given(rt, rows.push(Named { name, text }), "memory");
 }
 
 /// The texts, each named by its digest.
-pub fn by_digest(rt: &impl Aided, texts: &[Vec<u8>]) -> Vec<Named> {
+pub(crate) fn by_digest(rt: &impl Aided, texts: &[Vec<u8>]) -> Vec<Named> {
     let mut rows = Vec::new(rt.alloc());
     for text in texts {
         add_named(rt, &mut rows, digest(text).as_bytes(), text);
@@ -136,6 +107,6 @@ fn is_shared(row: &Named, rows: &[Named]) -> bool {
 }
 
 /// Whether two different texts have one name.
-pub fn share_a_name(rows: &[Named]) -> bool {
+pub(crate) fn share_a_name(rows: &[Named]) -> bool {
     rows.iter().any(|row| is_shared(row, rows))
 }

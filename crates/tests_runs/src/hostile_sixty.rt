@@ -1,7 +1,7 @@
 //! Sixty scripts of a server that lies, and the rule by which each is refused. After most of them the same reply
 //! without the lie is accepted.
 
-use crate::scripts::{ScriptHost, prints};
+use crate::scripts::{ScriptHost, prints_beside};
 
 /// What scripts begin with: user 0 lists users 1 and 2.
 const BEGINNING: &str = "\
@@ -248,27 +248,22 @@ update W a -> W broken 13
 /// After the beginning each command prints the line beside it.
 fn prints_after_beginning(rt: &impl ScriptHost, table: &str) {
     let whole = format!(in rt.alloc(); "{BEGINNING}{table}").expect(rt, "memory");
-    prints(rt, &whole);
+    prints_beside(rt, &whole);
 }
 
-/// The edit prints the line beside it, and then the reply without it is accepted.
-fn is_refused(rt: &impl ScriptHost, family: &Family, edit: &str) {
+/// Each edit of the family prints the line beside it, and then the reply without it is accepted.
+fn are_refused(rt: &impl ScriptHost, family: &Family) {
     let Family {
         before,
         update,
         accepted,
-        ..
+        edits,
     } = family;
-    let table = format!(in rt.alloc(); "{before}{update} {edit}\n{update} -> {accepted}\n").expect(
-        rt, "memory",
-    );
-    prints_after_beginning(rt, &table);
-}
-
-/// Each edit of the family prints the line beside it, and the reply without it is accepted.
-fn are_refused(rt: &impl ScriptHost, family: &Family) {
-    for edit in family.edits.lines() {
-        is_refused(rt, family, edit);
+    for edit in edits.lines() {
+        let table = format!(in rt.alloc();
+            "{before}{update} {edit}\n{update} -> {accepted}\n"
+        ).expect(rt, "memory");
+        prints_after_beginning(rt, &table);
     }
 }
 
@@ -284,11 +279,6 @@ fn renamed(rt: &impl ScriptHost, table: &str, first: &str, second: &str) -> Stri
         written.expect(rt, "memory");
     }
     whole
-}
-
-/// The true structure of the first user is refused after the swap of its plan for the second.
-fn is_swapped(rt: &impl ScriptHost, first: &str, second: &str) {
-    prints(rt, &renamed(rt, SWAPPED_PLAN, first, second));
 }
 
 #[test]
@@ -328,6 +318,6 @@ fn hostile_sixty_joined_forks(rt: HostRuntime) {
 #[test]
 fn hostile_sixty_swapped_plans(rt: HostRuntime) {
     for (first, second) in [("1", "2"), ("2", "1"), ("1", "3"), ("3", "2"), ("5", "63")] {
-        is_swapped(&rt, first, second);
+        prints_beside(&rt, &renamed(&rt, SWAPPED_PLAN, first, second));
     }
 }

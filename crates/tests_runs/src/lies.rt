@@ -1,9 +1,10 @@
 //! What each lie comes to: what is no command, what finds nothing to do, and what a client sees of it.
 
-use crate::scripts::prints;
+use crate::scripts::prints_beside;
 
-/// What is no command, before what comes out of its phase.
-const NO_COMMANDS: &str = "\
+static LIES: [&str; 6] = [
+    // What is no command, before what comes out of its phase.
+    "\
 fork a -> error
 fork b a -> error
 fork a B -> error
@@ -33,10 +34,9 @@ commit 0 b -> 0 busy
 begin 0 link 0 2 a;b 0 3 -> 0 begin 1
 update 0 b -> 0 accepted 1
 show 0 0 2 -> 0 dir a;b 0:3
-";
-
-/// An entry is invented where both operations are there, also of the own one; its structure is pending no more.
-const INVENTED: &str = "\
+",
+    // An entry is invented where both operations are there, also of the own one; its structure is pending no more.
+    "\
 invent a 0 0 -> error
 begin 0 adduser 1 -> 0 begin 1
 update 0 a -> 0 accepted 1
@@ -52,10 +52,9 @@ force a 0 -> force
 commit 0 a -> 0 committed
 begin 0 -> 0 begin 3
 update 0 a -> 0 accepted 3
-";
-
-/// What was signed last is listed, before its commit and once more after it, also after a crash.
-const FORCED: &str = "\
+",
+    // What was signed last is listed, before its commit and once more after it, also after a crash.
+    "\
 force a 1 -> error
 begin 0 -> 0 begin 1
 force a 0 -> error
@@ -68,10 +67,9 @@ restart 0 -> 0 declared
 force a 0 -> force
 update 0 a -> 0 accepted 2
 show 0 0 3 -> 0 file x
-";
-
-/// An edit that finds nothing to change leaves the reply.
-const NOTHING_TO_CHANGE: &str = "\
+",
+    // An edit that finds nothing to change leaves the reply.
+    "\
 begin 0 adduser 1 -> 0 begin 1
 update 0 a drop 1 -> 0 accepted 1
 commit 0 a -> 0 committed
@@ -89,10 +87,9 @@ update 0 a cut 10000 -> 0 accepted 5
 commit 0 a -> 0 committed
 begin 0 -> 0 begin 6
 update 0 a flip 99999999999999999999999 -> 0 accepted 6
-";
-
-/// Two forks go on by themselves over the same blocks; then one becomes a copy of the other.
-const FORKED: &str = "\
+",
+    // Two forks go on by themselves over the same blocks; then one becomes a copy of the other.
+    "\
 begin 0 adduser 1; make 0 3 file hello -> 0 begin 1
 update 0 a -> 0 accepted 1
 commit 0 a -> 0 committed
@@ -113,10 +110,9 @@ fork b a -> fork
 commit 1 a -> 1 committed
 begin 0 -> 0 begin 3
 update 0 a -> 0 status 4
-";
-
-/// A copied server rolls back to what was listed before the copy was made.
-const ROLLED_BACK: &str = "\
+",
+    // A copied server rolls back to what was listed before the copy was made.
+    "\
 begin 0 adduser 1 -> 0 begin 1
 update 0 a -> 0 accepted 1
 commit 0 a -> 0 committed
@@ -131,34 +127,12 @@ commit 1 b -> 1 committed
 begin 0 -> 0 begin 3
 update 0 a old 0 1 -> 0 broken 3
 update 0 a -> 0 accepted 3
-";
+",
+];
 
 #[test]
-fn what_is_no_command(rt: HostRuntime) {
-    prints(&rt, NO_COMMANDS);
-}
-
-#[test]
-fn an_invented_entry(rt: HostRuntime) {
-    prints(&rt, INVENTED);
-}
-
-#[test]
-fn a_forced_structure(rt: HostRuntime) {
-    prints(&rt, FORCED);
-}
-
-#[test]
-fn edits_that_change_nothing(rt: HostRuntime) {
-    prints(&rt, NOTHING_TO_CHANGE);
-}
-
-#[test]
-fn two_forks(rt: HostRuntime) {
-    prints(&rt, FORKED);
-}
-
-#[test]
-fn a_copied_server_rolls_back(rt: HostRuntime) {
-    prints(&rt, ROLLED_BACK);
+fn what_lies_come_to(rt: HostRuntime) {
+    for table in &LIES {
+        prints_beside(&rt, table);
+    }
 }
