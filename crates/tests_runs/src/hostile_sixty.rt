@@ -1,7 +1,8 @@
 //! Sixty scripts of a server that lies, and the rule by which each is refused. After most of them the same reply
 //! without the lie is accepted.
 
-use crate::scripts::{ScriptHost, prints_beside};
+use crate::scripts::{ScriptHost, add_line, add_rows, prints, prints_beside, script_of};
+use std::slice;
 
 /// What scripts begin with: user 0 lists users 1 and 2.
 const BEGINNING: &str = "\
@@ -245,38 +246,39 @@ begin W -> W begin 2
 update W a -> W broken 13
 ";
 
-/// After the beginning each command prints the line beside it.
-fn prints_after_beginning(rt: &impl ScriptHost, table: &str) {
-    let whole = format!(in rt.alloc(); "{BEGINNING}{table}").expect(rt, "memory");
-    prints_beside(rt, &whole);
-}
+/// The users in the place of V and W.
+static SWAPPED: [(&[u8], &[u8]); 5] = [
+    (b"1", b"2"),
+    (b"2", b"1"),
+    (b"1", b"3"),
+    (b"3", b"2"),
+    (b"5", b"63"),
+];
 
 /// Each edit of the family prints the line beside it, and then the reply without it is accepted.
 fn are_refused(rt: &impl ScriptHost, family: &Family) {
-    let Family {
-        before,
-        update,
-        accepted,
-        edits,
-    } = family;
-    for edit in edits.lines() {
-        let table = format!(in rt.alloc();
-            "{before}{update} {edit}\n{update} -> {accepted}\n"
-        ).expect(rt, "memory");
-        prints_after_beginning(rt, &table);
+    for edit in family.edits.lines() {
+        let (mut script, mut lines) = script_of(rt, &[BEGINNING, family.before]);
+        let update = family.update.as_bytes();
+        script.extend_from_slice(update).expect(rt, "memory");
+        script.push(b' ').expect(rt, "memory");
+        add_rows(rt, &mut script, &mut lines, edit);
+        add_line(rt, &mut script, family.update);
+        add_line(rt, &mut lines, family.accepted);
+        prints(rt, &script, &lines);
     }
 }
 
-/// The table with these users in the place of V and W.
-fn renamed(rt: &impl ScriptHost, table: &str, first: &str, second: &str) -> String {
-    let mut whole = String::new(rt.alloc());
-    for letter in table.chars() {
-        let written = match letter {
-            'V' => whole.push_str(first),
-            'W' => whole.push_str(second),
-            _ => whole.push(letter),
+/// The text with these users in the place of V and W.
+fn renamed(rt: &impl ScriptHost, text: &[u8], first: &[u8], second: &[u8]) -> Vec<u8> {
+    let mut whole = Vec::new(rt.alloc());
+    for byte in text {
+        let written = match byte {
+            b'V' => first,
+            b'W' => second,
+            other => slice::from_ref(other),
         };
-        written.expect(rt, "memory");
+        whole.extend_from_slice(written).expect(rt, "memory");
     }
     whole
 }
@@ -311,13 +313,15 @@ fn hostile_sixty_after_others(rt: HostRuntime) {
 #[test]
 fn hostile_sixty_joined_forks(rt: HostRuntime) {
     for table in [JOINED, JOINED_LATER] {
-        prints_after_beginning(&rt, table);
+        prints_beside(&rt, &[BEGINNING, table]);
     }
 }
 
 #[test]
 fn hostile_sixty_swapped_plans(rt: HostRuntime) {
-    for (first, second) in [("1", "2"), ("2", "1"), ("1", "3"), ("3", "2"), ("5", "63")] {
-        prints_beside(&rt, &renamed(&rt, SWAPPED_PLAN, first, second));
+    let (script, lines) = script_of(&rt, &[SWAPPED_PLAN]);
+    for (first, second) in &SWAPPED {
+        let script = renamed(&rt, &script, first, second);
+        prints(&rt, &script, &renamed(&rt, &lines, first, second));
     }
 }

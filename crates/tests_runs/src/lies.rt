@@ -133,6 +133,6 @@ update 0 a -> 0 accepted 3
 #[test]
 fn what_lies_come_to(rt: HostRuntime) {
     for table in &LIES {
-        prints_beside(&rt, table);
+        prints_beside(&rt, &[table]);
     }
 }

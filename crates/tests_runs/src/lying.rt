@@ -74,19 +74,6 @@ impl Course {
         self.commits(rt, number);
     }
 
-    /// The plan of what user 1 has pending gains an entry of user 0's operation.
-    fn invents(&mut self, rt: &impl Host) {
-        let invented = self.lying.invent(user(rt, 1), user(rt, 0));
-        check(rt, given(rt, invented, "memory"), "an entry");
-    }
-
-    /// The server lists user 1's structure, unchecked.
-    fn forces(&mut self, rt: &impl Host) {
-        let place = place_in(rt, &mut self.stage.places, 1);
-        let forced = self.lying.force(&place.structure);
-        check(rt, given(rt, forced, "memory"), "a structure");
-    }
-
     /// User 2 refuses what the server shows it.
     fn refuses(&mut self, rt: &impl Host) {
         self.stage.goes_on(rt, 2, b"d");
@@ -105,7 +92,7 @@ impl Course {
     }
 }
 
-/// User 1's plan is swapped for user 2, and then its true structure shown.
+/// User 1's plan is swapped for user 2: it gains an entry of user 0's operation. Then its true structure is shown.
 #[test]
 fn texts_of_a_swapped_plan(rt: HostRuntime) {
     let rt = &(rt, Here);
@@ -113,9 +100,12 @@ fn texts_of_a_swapped_plan(rt: HostRuntime) {
     course.operates(rt, 0, LISTING);
     course.stage.goes_on(rt, 1, b"d");
     course.signs(rt, 1);
-    course.invents(rt);
+    let invented = course.lying.invent(user(rt, 1), user(rt, 0));
+    check(rt, given(rt, invented, "memory"), "an entry");
     course.operates(rt, 2, b"");
-    course.forces(rt);
+    let place = place_in(rt, &mut course.stage.places, 1);
+    let forced = course.lying.force(&place.structure);
+    check(rt, given(rt, forced, "memory"), "a structure");
     course.refuses(rt);
     course.shares_no_digest(rt);
     let_go(course);

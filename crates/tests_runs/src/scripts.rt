@@ -375,22 +375,34 @@ show 0 2 3 -> 0 file two
 ];
 
 /// Adds a line to a text.
-fn add_line(rt: &impl ScriptHost, text: &mut Vec<u8>, line: &str) {
+pub(crate) fn add_line(rt: &impl ScriptHost, text: &mut Vec<u8>, line: &str) {
     text.extend_from_slice(line.as_bytes()).expect(rt, "memory");
     text.push(b'\n').expect(rt, "memory");
 }
 
-/// The script of a table, and its lines.
-pub(crate) fn script_of(rt: &impl ScriptHost, table: &str) -> (Vec<u8>, Vec<u8>) {
-    let (mut script, mut lines) = (Vec::new(rt.alloc()), Vec::new(rt.alloc()));
+/// Adds the commands of a table to the script, and what they print to its lines.
+pub(crate) fn add_rows(
+    rt: &impl ScriptHost,
+    script: &mut Vec<u8>,
+    lines: &mut Vec<u8>,
+    table: &str,
+) {
     for row in table.lines() {
         match row.split_once(ARROW) {
             Some((command, line)) => {
-                add_line(rt, &mut script, command);
-                add_line(rt, &mut lines, line);
+                add_line(rt, script, command);
+                add_line(rt, lines, line);
             }
-            None => add_line(rt, &mut script, row),
+            None => add_line(rt, script, row),
         }
+    }
+}
+
+/// The script of these tables, and its lines.
+pub(crate) fn script_of(rt: &impl ScriptHost, tables: &[&str]) -> (Vec<u8>, Vec<u8>) {
+    let (mut script, mut lines) = (Vec::new(rt.alloc()), Vec::new(rt.alloc()));
+    for table in tables {
+        add_rows(rt, &mut script, &mut lines, table);
     }
     (script, lines)
 }
@@ -415,16 +427,16 @@ pub(crate) fn prints(rt: &impl ScriptHost, script: &[u8], lines: &[u8]) {
     prints_at(rt, &[CACHED_AT_FIRST, 1], script, lines);
 }
 
-/// Each command of the table prints the line beside it, whether a client's cache may have 1,024 blocks or one.
-pub(crate) fn prints_beside(rt: &impl ScriptHost, table: &str) {
-    let (script, lines) = script_of(rt, table);
+/// Each command of these tables prints the line beside it, whether a client's cache may have 1,024 blocks or one.
+pub(crate) fn prints_beside(rt: &impl ScriptHost, tables: &[&str]) {
+    let (script, lines) = script_of(rt, tables);
     prints(rt, &script, &lines);
 }
 
 #[test]
 fn scripts_of_one_user(rt: HostRuntime) {
     for table in &OF_ONE {
-        prints_beside(&rt, table);
+        prints_beside(&rt, &[table]);
     }
 }
 
@@ -432,7 +444,7 @@ fn scripts_of_one_user(rt: HostRuntime) {
 #[test]
 fn scripts_of_several_users(rt: HostRuntime) {
     for table in &OF_SEVERAL {
-        let (script, lines) = script_of(&rt, table);
+        let (script, lines) = script_of(&rt, &[table]);
         prints_at(&rt, &[CACHED_AT_FIRST, 1, 2], &script, &lines);
     }
 }

@@ -109,7 +109,7 @@ fn write_task(rt: &impl ScriptHost, script: &mut Vec<u8>, user: u8, task: Task, 
 impl Story {
     /// The beginning.
     fn new(rt: &impl ScriptHost) -> Story {
-        let (script, lines) = script_of(rt, BEFORE);
+        let (script, lines) = script_of(rt, &[BEFORE]);
         Story {
             script,
             lines,
@@ -253,78 +253,34 @@ fn small_stories_in_every_order(rt: HostRuntime) {
     }
 }
 
-// Four operations, by their first steps: two of each user, three of user 1, and three of user 2. The orders of one
-// beginning have a world of their own, at most 126 of them: a key signs 1,024 times, and the log of a script's server
-// takes as many calls, two of each operation.
-
-const TWO_EACH: (u32, u32) = (12, 6);
-
-const THREE_OF_1: (u32, u32) = (12, 3);
-
-const THREE_OF_2: (u32, u32) = (12, 9);
-
-// The first steps are those of these users, the earliest one first.
+// Four operations, by their first steps, the lowest bits: two of each user, three of user 1, and three of user 2. The
+// orders of one beginning have a world of their own, at most 126 of them: a key signs 1,024 times, and the log of a
+// script's server takes as many calls, two of each operation.
 
 #[test]
-fn two_each_after_1_1_1(rt: HostRuntime) {
-    tell_all(&rt, TWO_EACH, (7, 0));
-}
-
-#[test]
-fn two_each_after_2_1_1(rt: HostRuntime) {
-    tell_all(&rt, TWO_EACH, (7, 1));
-}
-
-#[test]
-fn two_each_after_1_2_1(rt: HostRuntime) {
-    tell_all(&rt, TWO_EACH, (7, 2));
-}
-
-#[test]
-fn two_each_after_2_2_1(rt: HostRuntime) {
-    tell_all(&rt, TWO_EACH, (7, 3));
-}
-
-#[test]
-fn two_each_after_1_1_2(rt: HostRuntime) {
-    tell_all(&rt, TWO_EACH, (7, 4));
-}
-
-#[test]
-fn two_each_after_2_1_2(rt: HostRuntime) {
-    tell_all(&rt, TWO_EACH, (7, 5));
-}
-
-#[test]
-fn two_each_after_1_2_2(rt: HostRuntime) {
-    tell_all(&rt, TWO_EACH, (7, 6));
-}
-
-#[test]
-fn two_each_after_2_2_2(rt: HostRuntime) {
-    tell_all(&rt, TWO_EACH, (7, 7));
-}
-
-#[test]
-fn three_of_1_after_1_1(rt: HostRuntime) {
-    tell_all(&rt, THREE_OF_1, (3, 0));
-}
-
-#[test]
-fn three_of_1_after_others(rt: HostRuntime) {
-    for first in [1, 2, 3] {
-        tell_all(&rt, THREE_OF_1, (3, first));
+fn two_operations_each_after_user_1(rt: HostRuntime) {
+    for first in [0, 2, 4, 6] {
+        tell_all(&rt, (12, 6), (7, first));
     }
 }
 
 #[test]
-fn three_of_2_after_2_2(rt: HostRuntime) {
-    tell_all(&rt, THREE_OF_2, (3, 3));
+fn two_operations_each_after_user_2(rt: HostRuntime) {
+    for first in [1, 3, 5, 7] {
+        tell_all(&rt, (12, 6), (7, first));
+    }
 }
 
 #[test]
-fn three_of_2_after_others(rt: HostRuntime) {
-    for first in [0, 1, 2] {
-        tell_all(&rt, THREE_OF_2, (3, first));
+fn three_operations_of_user_1(rt: HostRuntime) {
+    for first in 0..4 {
+        tell_all(&rt, (12, 3), (3, first));
+    }
+}
+
+#[test]
+fn three_operations_of_user_2(rt: HostRuntime) {
+    for first in 0..4 {
+        tell_all(&rt, (12, 9), (3, first));
     }
 }
