@@ -169,8 +169,8 @@ good_from run s r x good j back is by =
 
 pub taken : {A : Type 0} (run : List Event) (s : State) (r : Reply) (x : Lists) (step : Step A) (new : State) → IsJudged run (known s) r → of_lists x ≡ r → Taken s r x step new → StaysSound run s new
 taken run s r x (Need digest) new j back (inl h) = subst (λ (n : State). StaysSound run s n) (sym h.2) (reads run s new.blocks r h.0 j)
-taken {A} run s r x (Need digest) new j back (inr h) = goes {A = A} run s h.0 (Need digest) new (good_from run s r x h.0 j back h.1.0 h.1.2) h.2
-taken run s r x (Store texts) new j back h = goes run s h.0 (Store texts) new (good_from run s r x h.0 j back h.1.0 h.1.2) h.2
+taken {A} run s r x (Need digest) new j back (inr h) = goes {A = A} run s h.0 (Need digest) new (good_from run s r x h.0 j back h.1.0 (h.1.2 h.0.table h.0.void h.1.1)) h.2
+taken run s r x (Store texts) new j back h = goes run s h.0 (Store texts) new (good_from run s r x h.0 j back h.1.0 (h.1.2 h.0.table h.0.void h.1.1)) h.2
 taken run s r x (Broken rule) new j back h = absurd h
 
 some_taken : {A : Type 0} (run : List Event) (s : State) (r : Reply) (lists : Option Lists) (step : Step A) (new : State) → lists_of r ≡ lists → IsJudged run (known s) r → IsSomeAnd lists (λ x. Taken s r x step new) → StaysSound run s new

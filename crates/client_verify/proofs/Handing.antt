@@ -43,7 +43,7 @@ TakenOf s r st new = IsSomeAnd (lists_of r) (λ x. Taken s r x st new)
 
 -- the lists of a reply, which break no rule by this table, and what their own operation makes
 abbrev pub BreaksNoneAndMakes : {A : Type 0} → CheckedBlocks → List ℕ → Good → Written A → Lists → Type 0
-BreaksNoneAndMakes blocks key g w x = IsRead (known_blocks blocks) key x g.table g.void × (lists_break g.table x ≡ None) × IsWritten (known_blocks blocks) (view_over key g.table x) g.void w
+BreaksNoneAndMakes blocks key g w x = IsRead (known_blocks blocks) key x g.table g.void × ByTable (known_blocks blocks) key x None × IsWritten (known_blocks blocks) (view_over key g.table x) g.void w
 
 -- how far the reply comes by the blocks of the same state, and by the key that it knows
 pub reached_there : {A : Type 0} (inner old : State) (k : Known) (r : Reply) (f g : Reached A) → inner ≡ old → k ≡ known old → f ≡ g → IsSomeAnd (lists_of r) (λ x. IsReached (known_blocks inner.blocks) k.pinned x f)
@@ -85,7 +85,9 @@ pub good_written : {A : Type 0} (blocks : CheckedBlocks) (key : List ℕ) (r : R
 good_written {A} blocks key r g w lists reaches = (at_one (lists_of r) g.lists (BreaksNoneAndMakes {A = A} blocks key g w) lists reaches).2
 
 pub good_unbroken : {A : Type 0} (blocks : CheckedBlocks) (key : List ℕ) (r : Reply) (g : Good) (w : Written A) → lists_of r ≡ Some g.lists → IsSomeAnd (lists_of r) (BreaksNoneAndMakes blocks key g w) → lists_break g.table g.lists ≡ None
-good_unbroken {A} blocks key r g w lists reaches = (at_one (lists_of r) g.lists (BreaksNoneAndMakes {A = A} blocks key g w) lists reaches).1
+good_unbroken {A} blocks key r g w lists reaches =
+    let here = at_one (lists_of r) g.lists (BreaksNoneAndMakes {A = A} blocks key g w) lists reaches in
+    here.1 g.table g.void here.0
 
 pub taken_good : {A : Type 0} (s new : State) (r : Reply) (g : Good) (w : Written A) (st : Step A) → lists_of r ≡ Some g.lists → IsSomeAnd (lists_of r) (BreaksNoneAndMakes s.blocks s.pinned g w) → AsksOrAccepts s g st new → TakenOf s r st new
 taken_good {A} s new r g w st lists reaches goes =

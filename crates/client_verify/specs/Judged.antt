@@ -13,7 +13,7 @@ use Rattle.client_tree.specs.Tree.{IsLost, IsOutcome, IsWanted, Stored}
 use Rattle.reply_check.specs.declared.asked.Asked.{Asked}
 use Rattle.client_verify.specs.declared.step.Step.{Step}
 use Rattle.client_verify.specs.declared.step.Step.TheVariants.{Need, Store, Broken}
-use Rattle.reply_check.specs.FirstBroken.{ByTable, IsFirstBroken, IsRead, lists_break, lists_in, reply_breaks, reply_in}
+use Rattle.reply_check.specs.FirstBroken.{ByTable, IsFirstBroken, IsRead, lists_in, reply_breaks, reply_in}
 use Rattle.reply_check.specs.Good.{Good, record_over, view_of}
 use Rattle.client_verify.specs.State.{State, Checked, Reading, Writing, asked_of, blocks_with, holding, known}
 use Rattle.reply_check.specs.AskedBlock.{block_breaks}
@@ -45,10 +45,11 @@ AsksOrAccepts s x (Store texts) new =
     × (map vec_items texts.items ≡ own.texts ++ flat_map (λ g. g.texts) groups)
 AsksOrAccepts s x (Broken rule) new = ⊥
 
--- the table of principals of these lists, read from the blocks that are known, by which they break no rule
+-- The table of principals of these lists, read from the blocks that are known. By no table that can be read from these
+-- do they break a rule.
 abbrev pub IsGood : State → Lists → Good → Type 0
 IsGood s x good = (good.lists ≡ x) × IsRead (known_blocks s.blocks) s.pinned x good.table good.void
-    × (lists_break good.table x ≡ None)
+    × ByTable (known_blocks s.blocks) s.pinned x None
 
 -- Where the reply breaks none of the rules on itself: while the table of principals can't be read, a block of it is
 -- asked for, of which no text is known that its spot takes; once it is read and the lists break no rule by it, the

@@ -82,6 +82,21 @@ table_read blocks key pinned t void structures others own x same shown split tol
   pending = subst (λ (v : View). IsPending told.0 v void) (over_parts key pinned t structures others own x same shown split) told.2;
 }
 
+-- no other table can be read
+abbrev pub IsOnlyTable : Blocks → Key → List (Signed Structure) → List PendingItem → PendingItem → Table → List ℕ → Type 0
+IsOnlyTable blocks key structures others own t void =
+    (users other : Table) (numbers : List ℕ) → IsNamed blocks (handle_in key structures 0) users → IsPending users (view_of_parts key other structures others own) numbers
+    → (other ≡ t) × (numbers ≡ void)
+
+-- so the lists break no rule by any
+broken_by_none : (blocks : Blocks) (key pinned : Key) (t : Table) (void : List ℕ) (structures : List (Signed Structure)) (others : List PendingItem) (own : PendingItem) (x : Lists)
+    → key ≡ pinned → x.structures ≡ structures → (x.own ≡ own) × (x.others ≡ others) → IsOnlyTable blocks key structures others own t void → lists_break t x ≡ None
+    → ByTable blocks pinned x None
+broken_by_none blocks key pinned t void structures others own x same shown split only none = λ other numbers is.
+    let named = subst (λ (h : Handle). IsNamed blocks h is.users) (sym (handle_read key pinned structures x same shown)) is.named in
+    let pending = subst (λ (v : View). IsPending is.users v numbers) (sym (over_parts key pinned other structures others own x same shown split)) is.pending in
+    subst (λ (u : Table). lists_break u x ≡ None) (sym (only is.users other numbers named pending).0) none
+
 -- ---- what is made
 
 -- each group that the own operation raises has a version in its plan
@@ -133,9 +148,10 @@ reply_breaks (Some x) blocks key pinned t void structures others own first broke
 pub reply_goes : {A : Type 0} (o : Option Lists) (w : Written A) (blocks : Blocks) (key pinned : Key) (t : Table) (void : List ℕ) (structures : List (Signed Structure)) (others : List PendingItem) (own : PendingItem) (first : Option Rule)
     → key ≡ pinned → IsSomeAnd o (λ x. x.structures ≡ structures) → IsSomeAnd o (λ x. (x.own ≡ own) × (x.others ≡ others))
     → (users : Table) × IsNamed blocks (handle_in key structures 0) users × IsPending users (view_of_parts key t structures others own) void
+    → IsOnlyTable blocks key structures others own t void
     → IsSomeAnd o (λ x. first ≡ lists_break t x) → first ≡ None
     → IsSomeAnd o (λ x. IsWritten blocks (view_over pinned t x) void w)
-    → IsSomeAnd o (λ x. IsRead blocks pinned x t void × (lists_break t x ≡ None) × IsWritten blocks (view_over pinned t x) void w)
-reply_goes None w blocks key pinned t void structures others own first same shown split told judged is made = absurd shown
-reply_goes (Some x) w blocks key pinned t void structures others own first same shown split told judged is made =
-    (table_read blocks key pinned t void structures others own x same shown split told, sym judged ∙ is, made)
+    → IsSomeAnd o (λ x. IsRead blocks pinned x t void × ByTable blocks pinned x None × IsWritten blocks (view_over pinned t x) void w)
+reply_goes None w blocks key pinned t void structures others own first same shown split told only judged is made = absurd shown
+reply_goes (Some x) w blocks key pinned t void structures others own first same shown split told only judged is made =
+    (table_read blocks key pinned t void structures others own x same shown split told, broken_by_none blocks key pinned t void structures others own x same shown split only (sym judged ∙ is), made)

@@ -46,7 +46,7 @@ IsWritten blocks x void (written.Parts m) =
 abbrev pub IsReached : {A : Type 0} → Blocks → Key → Lists → Reached A → Type 0
 IsReached blocks key x (reached.Lacks a) = IsOfNamed blocks (handle_in key x.structures 0) a.digest a.spot × (lacks blocks a.digest a.spot ≡ true)
 IsReached blocks key x (reached.Breaks rule) = ByTable blocks key x (Some rule)
-IsReached blocks key x (reached.BreaksNone t w) = IsRead blocks key x t.table t.voids × (lists_break t.table x ≡ None) × IsWritten blocks (view_over key t.table x) t.voids w
+IsReached blocks key x (reached.BreaksNone t w) = IsRead blocks key x t.table t.voids × ByTable blocks key x None × IsWritten blocks (view_over key t.table x) t.voids w
 
 abbrev pub IsAnswer : {A : Type 0} → Blocks → View → Question → Shown A → Type 0
 IsAnswer blocks x q (shown.Lacks a) = IsAskedBy blocks x q a.digest a.spot × (lacks blocks a.digest a.spot ≡ true)

@@ -28,4 +28,4 @@ returns g c =
     let table = c.in-Ok.table in
     let written = subst (λ (k : Key). IsSomeAnd (lists_of c.args.reply.now) (λ x. IsWritten held (view_over k table.table x) table.voids c.in_ok-written.written)) c.pinned-pinned.ensures c.in_ok-written.ensures in
     reply_goes (lists_of c.args.reply.now) c.in_ok-written.written held c.as_bytes-key.result.now c.args.known.now.pinned table.table table.voids c.structures.result.now c.split.result.1.now c.split.result.0.now c.in_ok-rule.field-0
-    same c.structures.ensures c.split.ensures c.in-Ok.ensures.table c.in_ok-rule.ensures c.in_default.is written
+    same c.structures.ensures c.split.ensures c.in-Ok.ensures.table c.in-Ok.ensures.only c.in_ok-rule.ensures c.in_default.is written

@@ -12,7 +12,7 @@ use Rattle.client_verify.specs.Progress.{accepted_of, checked_of}
 use Rattle.client_verify.specs.State.{Reading, State, checked_in, holding}
 use Rattle.client_verify.proofs.Holds.{asking_holds, goes_holds, meanwhile_after}
 use Rattle.client_verify.proofs.Steps.{goes_from, if_some}
-use Rattle.client_verify.proofs.Handing.{asked_is, good_written, if_at, reached_taken, reads_broken, reads_taken, taken_good, taken_lacks}
+use Rattle.client_verify.proofs.Handing.{asked_is, good_unbroken, good_written, if_at, reached_taken, reads_broken, reads_taken, taken_good, taken_lacks}
 use Rattle.client_verify.proofs.client.Client.read_on.Goals as goal
 
 pub returns-in-Breaks-clause-goes : goal.returns-in-Breaks-clause-goes
@@ -62,6 +62,22 @@ go-requires-clause-written g c =
     let of_old = good_written (with_held old.blocks text) old.pinned s good w lists reaches in
     let of_blocks = subst (λ (f : Blocks). IsWritten f (view_of old.pinned good) good.void w) (sym taken.known) of_old in
     subst (λ (s : State). IsWritten (known_blocks b) (view_of s.pinned good) good.void w) (sym c.self.view_is) of_blocks
+
+pub invariant_of-go : goal.invariant_of-go
+invariant_of-go g c =
+    let old = c.args.self.now in
+    let text = c.args.text.now in
+    let k = c.take_checked-checked.result in
+    let s = c.in-Reading.reply in
+    let a = c.in-Reading.field-1 in
+    let t = c.in-BreaksNone.table in
+    let w = c.in-BreaksNone.written in
+    let there : old.checked ≡ Some k = ap (λ (s : State). s.checked) (sym c.self.view_is) ∙ c.take_checked-checked.ensures.taken in
+    let is : Reading s a ≡ k = sym (ap checked_in c.in-Reading.is) ∙ c.checked.view_is in
+    let reaches = reached_taken old text k s a c.in_ok-reached.reached (reached.BreaksNone t w) is c.in-BreaksNone.is (if_at old.checked k _ there c.in_ok-reached.ensures) in
+    let lists : lists_of s ≡ Some c.into_lists-lists.result = ap lists_of (sym c.in-Reading.reply-is) ∙ c.into_lists-lists.ensures in
+    let good : Good = record { lists = c.into_lists-lists.result; table = t.table; void = t.voids } in
+    good_unbroken (with_held old.blocks text) old.pinned s good w lists reaches
 
 pub returns-in-BreaksNone-clause-goes : goal.returns-in-BreaksNone-clause-goes
 returns-in-BreaksNone-clause-goes g c =
