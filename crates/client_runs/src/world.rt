@@ -49,7 +49,8 @@ pub struct WorldStep<A: Allocator> {
     pub user: User,
     /// What it is told to do.
     pub act: Act<A>,
-    /// How many calls of the ledger's device go well in this step before one fails, if one is to fail.
+    /// How many calls of the ledger's device go well in this step before one fails, if one is to fail. No clause says
+    /// that it fails then, nor that no other does: tests show it.
     pub ledger_fails: Option<u64>,
     /// And of the journal's.
     pub journal_fails: Option<u64>,

@@ -38,7 +38,8 @@ pub struct HonestStep<A: Allocator> {
     pub user: User,
     /// What happens.
     pub act: HonestAct<A>,
-    /// How many calls of the ledger's device go well in this step before one fails, if one is to fail.
+    /// How many calls of the ledger's device go well in this step before one fails, if one is to fail. No clause says
+    /// that it fails then, nor that no other does: tests show it.
     pub ledger_fails: Option<u64>,
     /// And of the journal's.
     pub journal_fails: Option<u64>,
