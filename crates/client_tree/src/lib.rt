@@ -15,7 +15,7 @@ mod view;
 
 pub use contents::{Seen, SeenKind};
 pub use genesis::{first_blocks, root_digest};
-pub use held::{Held, With};
+pub use held::Held;
 pub use named::{PendingTable, table_of};
 pub use questions::{Answer, Question};
 pub use tables::read_table;
