@@ -67,12 +67,23 @@ abbrev pub journal_of : Client → History
 journal_of (Closed p) = p.journal.history
 journal_of (Open s) = s.devices.journal.file
 
+-- the client that is closed, with these files and counts of faults
+abbrev pub closed_over : History → ℕ → History → ℕ → Client
+closed_over ledger ledger_faults journal journal_faults =
+    Closed (record {
+      ledger = record { history = ledger; faults = ledger_faults };
+      journal = record { history = journal; faults = journal_faults };
+    })
+
 -- whose client it is: the user, what the own key is made of, and user 0's public key
 pub record Owner : Type 0 where
   pub user : User
   pub seed : Bytes
   pub id : Bytes
   pub pinned : Key
+
+abbrev pub owner_of : User → Bytes → Bytes → Key → Owner
+owner_of user seed id pinned = record { user = user; seed = seed; id = id; pinned = pinned }
 
 abbrev pub own_key : Owner → Key
 own_key o = public_key_of o.seed o.id

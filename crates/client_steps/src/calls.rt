@@ -1,5 +1,6 @@
-//! The calls of an open client that a step makes, where it may.
+//! The calls of a client that a step makes, where it may.
 
+ghost use Rattle.std.specs.Prelude.{Err, IfErr, Ok};
 ghost use Rattle.std.specs.Prelude.{◌≡◌, ◌≢◌, ◌≤◌, IfOk, IfSome, IsSome, MatchOption, OnOk, false, map, true};
 ghost use Rattle.std.specs.Option.{option_copied};
 ghost use Rattle.std.specs.Vec.{vec_items};
@@ -7,18 +8,69 @@ ghost use Rattle.layout.specs.Format.{IsBytes};
 ghost use Rattle.client_tree.specs.declared.questions.Question.TheVariants.{At, Free, Kind};
 ghost use Rattle.client_steps.specs.Steps.{HasBegun, HasCached, HasCommitted, HasGiven, HasHeard, HasLooked};
 ghost use Rattle.client_steps.specs.Steps.{HasSigned, HasTaken};
-ghost use Rattle.client_steps.specs.Steps.{IsSound, Open};
+ghost use Rattle.client_steps.specs.Steps.{Closes, IsSound, IsStep, Open, Opens, Owner, closed_over, owner_of};
 ghost use Rattle.client_steps.specs.Anywhere.{asked, on_ok, seen};
 ghost use Rattle.client_steps.specs.NotCalled.{CantBegin, CantCache, CantCommit, CantGive, CantHear, CantLook};
 ghost use Rattle.client_steps.specs.NotCalled.{CantSign, CantTake};
 
 use checked_blocks::MOST_CACHED;
-use client_verify::{Client, ClientError, Look, Phase, Step, are_laid};
-use layout::{INumber, Memory, Principal, are_bytes};
+use client_verify::{Client, ClientError, Look, Parts, Phase, Step, are_laid};
+use layout::{INumber, Memory, Principal, User, are_bytes};
 use leaf_ledger::Device;
+use lms_sign::PublicKey;
 use std::alloc::Allocator;
 use update_cert::{Change, MOST_CHANGES};
 use wire::Status;
+
+/// Opens a closed client, or hands its parts back.
+pub fn open<L: Device, J: Device, A: Allocator + Copy>(
+    alloc: A,
+    user: User,
+    pinned: PublicKey,
+    parts: Parts<L, J, A>,
+) -> Result<Client<L, J, A>, (ClientError, Parts<L, J, A>)>
+    ensures opened { IfOk result (λ client. IsStep (owner_of user parts.key.seed parts.key.id pinned)
+        (closed_over (L.history parts.ledger) (L.fault_count parts.ledger) (J.history parts.journal)
+        (J.fault_count parts.journal)) (Opens (Ok tt)) (Open client)) }
+    ensures sound { IfOk result (λ client. IsSound (Open client)) }
+    ensures refused { IfErr result (λ e. IsStep (owner_of user parts.key.seed parts.key.id pinned)
+        (closed_over (L.history parts.ledger) (L.fault_count parts.ledger) (J.history parts.journal)
+        (J.fault_count parts.journal)) (Opens (Err e.0))
+        (closed_over (L.history e.1.ledger) (L.fault_count e.1.ledger) (J.history e.1.journal)
+        (J.fault_count e.1.journal))) }
+    ensures key { IfErr result (λ e. e.1.key ≡ parts.key) }
+{
+    let Parts {
+        key,
+        ledger,
+        journal,
+    } = parts;
+    let opened = Client::open(alloc, user, key, pinned, ledger, journal);
+    is_sound(&opened);
+    opened
+}
+
+/// What is true of a client that was opened. For the proofs of callers: it does nothing.
+fn is_sound<L: Device, J: Device, A: Allocator + Copy>(
+    opened: &Result<Client<L, J, A>, (ClientError, Parts<L, J, A>)>,
+)
+    ensures { IfOk opened.now (λ client. IsSound (Open client)) }
+{
+    match opened {
+        Ok(client) => client.type_invariant(),
+        Err(_) => {}
+    }
+}
+
+/// Closes an open client, and hands back what it was opened over.
+pub fn close<L: Device, J: Device, A: Allocator + Copy>(client: Client<L, J, A>) -> Parts<L, J, A>
+    ensures closed { (o : Owner) → IsStep o (Open client) Closes
+        (closed_over (L.history result.ledger) (L.fault_count result.ledger) (J.history result.journal)
+        (J.fault_count result.journal)) }
+    ensures key { (result.key.seed ≡ client.seed) × (result.key.id ≡ client.id) }
+{
+    client.close()
+}
 
 /// Whether no operation is under way.
 fn is_idle<L: Device, J: Device, A: Allocator + Copy>(client: &Client<L, J, A>) -> bool
