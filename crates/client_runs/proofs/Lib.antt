@@ -3,6 +3,7 @@ pub mod Replies
 pub mod Quiet
 pub mod Mirrors
 pub mod Once
+pub mod OfUsers
 pub mod Same
 pub mod OneMore
 pub mod NotTaken

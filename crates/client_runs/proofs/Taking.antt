@@ -1,30 +1,23 @@
 -- Steps that are taken: what a call ensures is what its step tells.
 use Rattle.std.proofs.Common.{◌≡◌, ℕ, ◌≤◌, Option, Ok, Err, Result, IfOk, option_map, refl, sym, ap, subst, ◌∙◌}
-use Rattle.std.specs.Prelude.{◌≢◌, ◌⊎◌}
 use Rattle.std.specs.Vec.{vec_items}
 use Rattle.std.specs.declared.vec.Vec.{Vec}
 use Rattle.layout.specs.Types.{Bytes, Digest, INumber, Key, Principal}
-use Rattle.lms_sign.specs.Keys.{public_key_of}
-use Rattle.leaf_ledger.specs.Device.{HasRisen, History, MayLeave, started}
-use Rattle.leaf_ledger.specs.Ledger.{IsForeign, UsedAsBefore}
-use Rattle.client_journal.specs.Records.{IsDamaged}
+use Rattle.leaf_ledger.specs.Device.{History, MayLeave, started}
 use Rattle.update_cert.specs.Change.{Change}
 use Rattle.client_tree.specs.declared.questions.Question.TheVariants as question
 use Rattle.wire.specs.declared.kinds.Status.{Status}
 use Rattle.client_releases.specs.declared.error.ClientError.{ClientError}
-use Rattle.client_releases.specs.declared.error.ClientError.TheVariants as error
 use Rattle.client_releases.specs.declared.phase.Phase.{Phase}
-use Rattle.client_releases.specs.Releasing.{IsOpening}
-use Rattle.client_releases.specs.Told.{IsToldBy, TellsOfOther}
 use Rattle.client_verify.specs.declared.look.Look.{Look}
 use Rattle.client_verify.specs.declared.step.Step.{Step}
-use Rattle.client_verify.specs.State.{State, opened, released}
+use Rattle.client_verify.specs.State.{State}
 use Rattle.client_runs.specs.declared.world.Accepted.{Accepted}
 use Rattle.client_runs.specs.declared.world.Act.{Act}
 use Rattle.client_runs.specs.declared.world.Act.TheVariants as act
 use Rattle.client_runs.specs.declared.world.Answer.{Answer}
 use Rattle.client_runs.specs.declared.world.Answer.TheVariants as answer
-use Rattle.client_steps.specs.Steps.{Begins, Caches, Client, Closed, Closes, Commits, Gives, HasBegun, HasCached, HasCommitted, HasGiven, HasHeard, HasLooked, HasSigned, HasTaken, Hears, IsHandedBack, IsOpened, IsRefused, IsSound, Looks, Open, Opens, Owner, Parts, Signs, Takes, journal_of, ledger_of, own_key}
+use Rattle.client_steps.specs.Steps.{Begins, Caches, Client, Closed, Closes, Commits, Gives, HasBegun, HasCached, HasCommitted, HasGiven, HasHeard, HasLooked, HasSigned, HasTaken, Hears, IsHandedBack, IsOpened, IsRefused, IsSound, Looks, Open, Opens, Owner, Parts, Signs, Takes, journal_of, ledger_of, owner_of}
 use Rattle.client_runs.specs.Carried.{ComesOf}
 use Rattle.client_runs.specs.NotTaken.{CantFromOpen, MayLeaveBoth}
 use Rattle.client_runs.specs.Slots.{AreSame}
@@ -156,52 +149,11 @@ module _ {A : Type 0} (o : Owner) (before : Client) (t : Act A) (ledger journal 
 
 -- ---- a closed client
 
+-- the owner of these is that one by another name
+pub same_owner : (o : Owner) (pinned : Key) (seed id : Bytes) → pinned ≡ o.pinned → seed ≡ o.seed → id ≡ o.id → owner_of o.user seed id pinned ≡ o
+same_owner o pinned seed id at_pinned at_seed at_id = rw (at_pinned, at_seed, at_id) refl
+
 module _ (o : Owner) (p : Parts) where
-  pub is_opened : (s : State) (pinned : Key) (seed id : Bytes) → pinned ≡ o.pinned → seed ≡ o.seed → id ≡ o.id
-      → s ≡ opened pinned (released s)
-      → (s.user ≡ o.user) × (s.seed ≡ seed) × (s.id ≡ id)
-      → IsToldBy p.journal.history.now.text (released s)
-      → IsOpening p.ledger.history p.journal.history s.devices.ledger.file s.devices.journal.file
-      → UsedAsBefore p.ledger.history.now.text s.devices.ledger.file.now.text
-      → (IsForeign (public_key_of seed id) p.ledger.history.now.text → ⊥)
-      → (p.ledger.faults ≤ s.devices.ledger.faults) × (p.journal.faults ≤ s.devices.journal.faults)
-      → IsOpened o p s
-  is_opened s pinned seed id at_pinned at_seed at_id state whose told moments used own later =
-      let key : own_key o ≡ public_key_of seed id = ap (λ (x : Bytes). public_key_of x o.id) (sym at_seed) ∙ ap (λ (x : Bytes). public_key_of seed x) (sym at_id) in
-      record {
-        state = state ∙ ap (λ (k : Key). opened k (released s)) at_pinned;
-        user = whose.0;
-        seed = whose.1 ∙ at_seed;
-        id = whose.2 ∙ at_id;
-        told = told;
-        moments = moments;
-        used = used;
-        own = λ is. own (subst (λ (k : Key). IsForeign k p.ledger.history.now.text) key is);
-        ledger_later = later.0;
-        journal_later = later.1;
-      }
-
-  pub is_refused : (e : ClientError) (q : Parts) (seed id : Bytes) → seed ≡ o.seed → id ≡ o.id
-      → IsOpening p.ledger.history p.journal.history q.ledger.history q.journal.history
-      → (e ≡ error.Foreign → IsForeign (public_key_of seed id) p.ledger.history.now.text)
-      → (e ≡ error.Damaged → IsDamaged p.journal.history.now.text ⊎ TellsOfOther o.user p.journal.history.now.text)
-      → (e ≡ error.Device → HasRisen p.ledger.faults q.ledger.faults ⊎ HasRisen p.journal.faults q.journal.faults)
-      → (e ≢ error.NoLeaf) × (e ≢ error.NoNumber)
-      → (p.ledger.faults ≤ q.ledger.faults) × (p.journal.faults ≤ q.journal.faults)
-      → IsRefused o p e q
-  is_refused e q seed id at_seed at_id moments foreign damaged device only later =
-      let key : public_key_of seed id ≡ own_key o = ap (λ (x : Bytes). public_key_of x id) at_seed ∙ ap (λ (x : Bytes). public_key_of o.seed x) at_id in
-      record {
-        moments = moments;
-        foreign = λ is. subst (λ (k : Key). IsForeign k p.ledger.history.now.text) key (foreign is);
-        damaged = damaged;
-        device = device;
-        leaves = only.0;
-        numbers = only.1;
-        ledger_later = later.0;
-        journal_later = later.1;
-      }
-
   pub opens : {A : Type 0} (s : State) (how : Phase) (text : Vec ℕ A) → IsOpened o p s → IsSound (Open s) → how ≡ s.phase → text.items ≡ resent s.phase s.text
       → ComesOf o (Closed p) act.Open (answer.Opened how text) (Open s)
   opens s how text is sound told_phase told_text = record { call = Opens (Ok tt); is_call = refl; told = (told_phase, told_text); step = is; sound = sound }

@@ -1,4 +1,5 @@
 pub mod Runs
+pub mod OfUsers
 pub mod Released
 pub mod UsedOnce
 pub mod Told

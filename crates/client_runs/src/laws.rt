@@ -1,5 +1,6 @@
 //! Laws of runs, for the proofs of callers: functions that do nothing.
 
+ghost use Rattle.client_runs.specs.OfUsers.{RunsAreSteps, StepsAreRuns};
 ghost use Rattle.client_runs.specs.UsedOnce.{CertificatesOnce, EachClient, LeavesOnce, StructuresOnce};
 
 /// Over every run of a user's client, with any crashes and failures of its devices, no two different texts that it
@@ -9,4 +10,11 @@ pub fn each_is_used_once()
     ensures leaves { EachClient LeavesOnce }
     ensures certificates { EachClient CertificatesOnce }
     ensures structures { EachClient StructuresOnce }
+{}
+
+/// Steps of each user's client, in any order, are a run of all clients; and in each run the steps of a user's client are
+/// steps of it from the beginning.
+pub fn users_steps_are_runs()
+    ensures runs { StepsAreRuns }
+    ensures steps { RunsAreSteps }
 {}

@@ -11,5 +11,5 @@ mod slot;
 mod world;
 
 pub use carrying::{Clients, run};
-pub use laws::each_is_used_once;
+pub use laws::{each_is_used_once, users_steps_are_runs};
 pub use world::{Accepted, Act, Answer, World, WorldStep};

@@ -15,7 +15,7 @@ use crate::answering::call;
 use crate::armed::{ArmedDevice, MemoryClient, Order};
 use crate::world::{Act, Answer};
 use client_steps::type_invariant;
-use client_verify::{Client, Parts, Phase};
+use client_verify::{Parts, Phase};
 use layout::{Memory, User, beside, let_go};
 use lms_sign::{PrivateKey, PublicKey};
 use std::alloc::Allocator;
@@ -132,14 +132,8 @@ fn open<A: Allocator + Copy>(
         (client_in r.0)) }
     ensures own { IfOk result (λ r. IsOf (owner script_keys user) r.0) }
 {
-    let Parts {
-        key,
-        ledger,
-        journal,
-    } = parts;
-    match Client::open(alloc, user, key, pinned, ledger, journal) {
+    match client_steps::open(alloc, user, pinned, parts) {
         Ok(client) => {
-            type_invariant(&client);
             let phase = client.phase();
             let text = resent(alloc, &client);
             let (client, text) = beside(client, text)?;
