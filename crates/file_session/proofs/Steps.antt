@@ -19,7 +19,7 @@ use Rattle.client_verify.specs.Standing.{HasMore, IsLacking, LookHoldsMore, Only
 use Rattle.client_verify.specs.Standing as client
 use Rattle.client_verify.specs.Holding.{LookHoldsAfter}
 use Rattle.client_verify.specs.Looked.{Looked}
-use Rattle.client_steps.specs.Steps.{FromOpen, Open, HasLooked, principal_of}
+use Rattle.client_steps.specs.Steps.{FromOpen, HasLooked, IsSound, Open, principal_of}
 use Rattle.client_steps.specs.Anywhere.{asked, on_ok, seen}
 use Rattle.client_steps.proofs.Anywhere.{look_holds, looked}
 use Rattle.client_tree.specs.declared.questions.Question.{Question}
@@ -28,13 +28,13 @@ use Rattle.file_session.specs.Calls.{AsksForLacking, Call, Gives, Hears, Leads, 
 use Rattle.file_session.specs.Sessions.{IsUnfinished}
 use Rattle.file_session.specs.Waits.{AsksFewer, AsksFewerAt, WaitsAt, left}
 
-pub leads : (s : State) (call : Call) (new : State) → FromOpen s (step_of call) (Open new) → TellsLost call new → AsksForLacking s call new → Leads s call new
+pub leads : (s : State) (call : Call) (new : State) → FromOpen s (step_of call) (Open new) → IsSound (Open new) → TellsLost call new → AsksForLacking s call new → Leads s call new
 unfolding Leads
-leads s call new h k more = (h, k, more)
+leads s call new h sound k more = (h, sound, k, more)
 
 pub asks_for_lacking : (s : State) (call : Call) (new : State) → Leads s call new → AsksForLacking s call new
 unfolding Leads
-asks_for_lacking s call new h = h.2
+asks_for_lacking s call new h = h.3
 
 -- ---- an operation is under way
 

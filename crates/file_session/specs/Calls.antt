@@ -11,7 +11,7 @@ use Rattle.tree_parts.specs.Spot.{lacks}
 use Rattle.checked_blocks.specs.CheckedBlocks.{known_blocks}
 use Rattle.client_verify.specs.Standing.{HasMore, IsLacking}
 use Rattle.client_verify.specs.State.{AcceptedView, State, asked_of}
-use Rattle.client_steps.specs.Steps.{Asks, Sees, FromOpen, Open}
+use Rattle.client_steps.specs.Steps.{Asks, Sees, FromOpen, IsSound, Open}
 use Rattle.client_steps.specs.Steps as steps
 
 -- A call of the client, with its answer. That of a structure to be signed with the numbers of the changes that the view
@@ -65,6 +65,7 @@ AsksForLacking s (Looks q (Ok (look.Need digest))) new = LookWaitsFor digest new
 AsksForLacking s (Gives q block (Ok (look.Need digest))) new = HasMore s new × LookWaitsFor digest new
 AsksForLacking s call new = Unit {0}
 
--- from this client, this call with its answer may lead to that one: it is a step of a run
+-- from this client, this call with its answer may lead to that one: it is a step of a run, which leaves a sound client
 unfoldable pub Leads : State → Call → State → Type 0
-Leads s call new = FromOpen s (step_of call) (Open new) × TellsLost call new × AsksForLacking s call new
+Leads s call new =
+    FromOpen s (step_of call) (Open new) × IsSound (Open new) × TellsLost call new × AsksForLacking s call new

@@ -32,7 +32,9 @@ pub(crate) fn begin<L: Device, J: Device, A: Allocator + Copy>(
     ensures declared { OnOk result (client.new.phase ≡ Phase.Declared) }
     ensures text { IfOk result (λ text. text.items ≡ client.new.text) }
 {
-    client.begin(changes, laid)
+    let text = client.begin(changes, laid);
+    client.type_invariant();
+    text
 }
 
 /// Hands the reply to the certificate in.
@@ -46,7 +48,9 @@ pub(crate) fn hear<L: Device, J: Device, A: Allocator + Copy>(
     ensures phase { client.new.phase ≡ client.old.phase }
 {
     are_bytes(text);
-    client.on_reply(text)
+    let step = client.on_reply(text);
+    client.type_invariant();
+    step
 }
 
 /// That a block is bytes, where there is one. For the proofs of callers: it does nothing.
@@ -88,7 +92,9 @@ pub(crate) fn sign<L: Device, J: Device, A: Allocator + Copy>(
     ensures unfinished { IsUnfinished client.new }
 {
     client.type_invariant();
-    client.sign()
+    let text = client.sign();
+    client.type_invariant();
+    text
 }
 
 /// Hands the status of the commit in.
@@ -102,7 +108,8 @@ pub(crate) fn tell<L: Device, J: Device, A: Allocator + Copy>(
     ensures unfinished { (status ≡ Status.Ok → ⊥) → IsUnfinished client.new }
     ensures view { client.new.view ≡ client.old.view }
 {
-    client.on_committed(status)
+    client.on_committed(status);
+    client.type_invariant();
 }
 
 /// Asks a question about the accepted view.
@@ -121,15 +128,21 @@ pub(crate) fn ask<L: Device, J: Device, A: Allocator + Copy>(
     match question {
         Question::At(principal, i_number) => {
             let _number = principal.get();
-            client.look(principal, i_number)
+            let look = client.look(principal, i_number);
+            client.type_invariant();
+            look
         }
         Question::Kind(principal, i_number) => {
             let _number = principal.get();
-            client.kind(principal, i_number)
+            let look = client.kind(principal, i_number);
+            client.type_invariant();
+            look
         }
         Question::Free(principal, first, last) => {
             let _number = principal.get();
-            client.free(principal, first, last)
+            let look = client.free(principal, first, last);
+            client.type_invariant();
+            look
         }
     }
 }

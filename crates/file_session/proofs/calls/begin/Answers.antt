@@ -10,10 +10,11 @@ use Rattle.file_session.proofs.calls.begin.Goals as goal
 
 pub returns-clause-leads : goal.returns-clause-leads
 returns-clause-leads g c =
-    let e = c.begin.ensures in
-    leads _ (Begins c.args.changes.now (map vec_items c.args.laid.now) (on_ok vec_items c.begin.result)) _
-    (begun c.args.client.now c.begin.new.self c.args.changes.now (map vec_items c.args.laid.now) c.begin.result c.requires.idle c.requires.few c.requires.laid
-    e.declared e.kept e.text e.fits e.any_moment e.tried e.no_leaf e.no_number e.rose e.fails e.kept_device e.fits_device e.only e.err) tt tt
+    let e = c.begin-text.ensures in
+    let after = c.type_invariant.ensures in
+    leads _ (Begins c.args.changes.now (map vec_items c.args.laid.now) (on_ok vec_items c.begin-text.result)) _
+    (begun c.args.client.now c.begin-text.new.self c.args.changes.now (map vec_items c.args.laid.now) c.begin-text.result c.requires.idle c.requires.few c.requires.laid
+    e.declared e.kept e.text e.fits e.any_moment e.tried e.no_leaf e.no_number e.rose e.fails e.kept_device e.fits_device e.only e.err) (after.released, after.replies) tt tt
 
 pub returns-clause-declared : goal.returns-clause-declared
-returns-clause-declared g c = on_ok_weaker c.begin.result (λ h. ap (λ (s : State). s.phase) h.2) c.begin.ensures.declared
+returns-clause-declared g c = on_ok_weaker c.begin-text.result (λ h. ap (λ (s : State). s.phase) h.2) c.begin-text.ensures.declared

@@ -10,9 +10,10 @@ use Rattle.file_session.proofs.calls.take.Goals as goal
 pub returns-clause-leads : goal.returns-clause-leads
 returns-clause-leads g c =
     let e = c.on_block-step.ensures in
+    let after = c.type_invariant.ensures in
     let old = c.args.client.now in
     leads _ (Takes (option_copied c.args.block) (on_ok asked c.on_block-step.result)) _
-    (taken old c.on_block-step.new.self (option_copied c.args.block) c.on_block-step.result (some_from (λ k. IsLacking old (asked_of k)) old.checked c.requires) c.is_bytes.ensures e.handed e.held e.told e.only_memory e.err) tt
+    (taken old c.on_block-step.new.self (option_copied c.args.block) c.on_block-step.result (some_from (λ k. IsLacking old (asked_of k)) old.checked c.requires) c.is_bytes.ensures e.handed e.held e.told e.only_memory e.err) (after.released, after.replies) tt
     (taken_more old c.on_block-step.new.self (option_copied c.args.block) c.on_block-step.result c.requires e.more e.stands)
 
 pub returns-clause-phase : goal.returns-clause-phase
