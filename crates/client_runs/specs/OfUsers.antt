@@ -1,4 +1,4 @@
--- A run as steps of each user's client: which the steps of one client are, and that users' steps in any order are a run.
+-- A run as steps of each user's client: which are the steps of one client, and that such steps in any order are a run.
 use Rattle.std.specs.Prelude.{List, [], ◌∷◌, ◌++◌, ◌==◌, if◌then◌else◌}
 use Rattle.layout.specs.Types.{User}
 use Rattle.client_steps.specs.Steps.{AreSteps, StepTaken, first}

@@ -12,8 +12,8 @@ pub fn each_is_used_once()
     ensures structures { EachClient StructuresOnce }
 {}
 
-/// Steps of each user's client, in any order, are a run of all clients; and in each run the steps of a user's client are
-/// steps of it from the beginning.
+/// Steps of each user's client, in any order, are a run of all clients; and in each run the steps of a user's client
+/// are steps of it from the beginning.
 pub fn users_steps_are_runs()
     ensures runs { StepsAreRuns }
     ensures steps { RunsAreSteps }
