@@ -1,0 +1,244 @@
+-- While a session looks, its client looks for the answer to the session's question.
+use Rattle.std.proofs.Common.{◌≡◌, ◌<◌, ℕ, List, [], ◌∷◌, Option, Some, None, Result, Ok, Err, IfOk, IfSome, IsSome, IsSomeAnd, refl, sym, ap, ◌∙◌, subst}
+use Rattle.layout.specs.Types.{Bytes, Digest}
+use Rattle.update_cert.specs.Change.{Change}
+use Rattle.client_tree.specs.declared.questions.Question.{Question}
+use Rattle.client_releases.specs.declared.error.ClientError.{ClientError}
+use Rattle.client_releases.specs.declared.phase.Phase.{Phase}
+use Rattle.client_releases.specs.declared.phase.Phase.TheVariants as phase
+use Rattle.client_verify.specs.declared.look.Look.TheVariants as look
+use Rattle.client_verify.specs.declared.step.Step.TheVariants as step
+use Rattle.client_verify.specs.declared.view.Looking.{Looking}
+use Rattle.client_verify.specs.Looked.{Given, Looked}
+use Rattle.client_verify.specs.State.{AcceptedView, State, holding}
+use Rattle.client_steps.specs.Steps.{Asks, HasGiven, HasLooked, Open, Sees, principal_of}
+use Rattle.transport.specs.declared.transport.TransportError.{TransportError}
+use Rattle.transport.specs.Asked.{Asked}
+use Rattle.wire.specs.declared.kinds.Status.{Status}
+use Rattle.wire.specs.declared.kinds.Status.TheVariants as status
+use Rattle.file_session.specs.declared.stop.Stop.{Stop}
+use Rattle.file_session.specs.Calls.{Begins, Call, Commits, Gives, Hears, Looks, Signs, Takes, step_of}
+use Rattle.file_session.specs.Calls as session
+use Rattle.file_session.specs.Order.{Calls, Commit, CommitNew, Fetch, FetchAt, Follows, GiveAt, Hear, LacksNumbers, LacksPlan, Move, Next, Over, Ready, Sends, Store, Take, Tell, Update}
+use Rattle.file_session.specs.Order as order
+use Rattle.file_session.specs.Replies.{block_in, payload_in, status_in}
+use Rattle.file_session.specs.Went.{Answering, At, IsMove}
+
+-- a look is under way for this question
+abbrev pub LooksFor : Question → State → Type 0
+LooksFor q s = (principal_of q < 96) × IsSomeAnd s.view (λ v. IsSomeAnd v.looking (λ l. l.question ≡ q))
+
+-- it is for the one that the session asked
+abbrev pub IsLooking : Next → State → Type 0
+IsLooking (FetchAt q digest) s = LooksFor q s
+IsLooking (GiveAt q block) s = LooksFor q s
+IsLooking other s = Unit {0}
+
+-- ---- what comes next where no look is under way
+
+abbrev IsNoLook : Next → Type 0
+IsNoLook (FetchAt q digest) = ⊥
+IsNoLook (GiveAt q block) = ⊥
+IsNoLook other = Unit {0}
+
+no_look : (n : Next) (s : State) → IsNoLook n → IsLooking n s
+no_look (FetchAt q digest) s none = absurd none
+no_look (GiveAt q block) s none = absurd none
+no_look other s none = tt
+
+at_next : (n m : Next) (s : State) → n ≡ m → IsLooking m s → IsLooking n s
+at_next n m s same is = subst (λ (x : Next). IsLooking x s) (sym same) is
+
+laying : (laid : List Bytes) (text : Bytes) (x : Result Bytes Stop) → IsNoLook (order.laying laid text x)
+laying laid text (Ok digest) = tt
+laying laid text (Err e) = tt
+
+declaring : (x : Result Bytes ClientError) → IsNoLook (order.declaring x)
+declaring (Ok text) = tt
+declaring (Err e) = tt
+
+hearing : (x : Result Bytes Stop) → IsNoLook (order.hearing x)
+hearing (Ok text) = tt
+hearing (Err e) = tt
+
+checking : (x : Result Asks ClientError) → IsNoLook (order.checking x)
+checking (Ok (step.Need digest)) = tt
+checking (Ok (step.Store texts)) = tt
+checking (Ok (step.Broken rule)) = tt
+checking (Err e) = tt
+
+taking : (x : Result (Option Bytes) Stop) → IsNoLook (order.taking x)
+taking (Ok block) = tt
+taking (Err e) = tt
+
+storing : (texts : List Bytes) (x : Result Bytes Stop) → IsNoLook (order.storing texts x)
+storing texts (Ok digest) = tt
+storing texts (Err e) = tt
+
+committing : (x : Result Bytes ClientError) (lost : List ℕ) → IsNoLook (order.committing x lost)
+committing (Ok text) lost = tt
+committing (Err e) lost = tt
+
+telling : (x : Result Status Stop) → IsNoLook (order.telling x)
+telling (Ok told) = tt
+telling (Err e) = tt
+
+committed : (st : Status) → IsNoLook (order.committed st)
+committed status.Ok = tt
+committed other = tt
+
+giving : (q : Question) (s : State) (x : Result (Option Bytes) Stop) → LooksFor q s → IsLooking (order.giving q x) s
+giving q s (Ok block) is = is
+giving q s (Err e) is = tt
+
+pub resuming : (p : Phase) (text : Bytes) (s : State) → IsLooking (order.resuming p text) s
+resuming phase.Idle text s = tt
+resuming phase.Declared text s = tt
+resuming phase.Signed text s = tt
+resuming phase.Failed text s = tt
+
+-- ---- exchanges
+
+pub sent : (n : Next) (r : Asked) (x : Result Bytes TransportError) (m : Next) (s : State) → Follows n (Sends r x) m → IsLooking n s → IsLooking m s
+sent (Ready laid) r x m s h is = at_next m _ s h.1 (no_look _ s (laying laid r.payload (payload_in x)))
+sent (Update text) r x m s h is = at_next m _ s h.1 (no_look _ s (hearing (payload_in x)))
+sent (Fetch digest) r x m s h is = at_next m _ s h.1 (no_look _ s (taking (block_in x)))
+sent (Store (text ∷ texts)) r x m s h is = at_next m _ s h.1 (no_look _ s (storing texts (payload_in x)))
+sent (Store []) r x m s h is = absurd h
+sent (CommitNew text lost) r x m s h is = at_next m _ s h.1 (no_look _ s (telling (status_in x)))
+sent (Commit text) r x m s h is = at_next m _ s h.1 (no_look _ s (telling (status_in x)))
+sent (FetchAt q digest) r x m s h is = at_next m _ s h.1 (giving q s (block_in x) is)
+sent (Over e) r x m s h is = absurd h
+sent (Hear text) r x m s h is = absurd h
+sent (Take block) r x m s h is = absurd h
+sent (Tell told) r x m s h is = absurd h
+sent (GiveAt q block) r x m s h is = absurd h
+
+-- ---- calls
+
+looked_for : (q p : Question) (s : State) (v : AcceptedView) (digest : Digest) (new : State) → q ≡ p → principal_of p < 96 → Looked {A = Unit {0}} s v q (look.Need digest) new → LooksFor p new
+looked_for q p s v digest new same low h =
+    (low, subst (λ (o : Option AcceptedView). IsSomeAnd o (λ w. IsSomeAnd w.looking (λ l. l.question ≡ p))) (sym (ap (λ (n : State). n.view) h.2)) same)
+
+looks_on : (q : Question) (s : State) (digest : Digest) (new : State) → HasLooked s q (Ok (look.Need digest)) new → LooksFor q new
+looks_on q s digest new h = go s.view h.sees h.looked
+  where
+    go : (o : Option AcceptedView) → IsSome o → IfSome o (λ v. Looked {A = Unit {0}} s v q (look.Need digest) new) → LooksFor q new
+    go None some is = absurd (cc some)
+    go (Some v) some is = looked_for q q s v digest new refl h.principal is
+
+gives_on : (q : Question) (s : State) (block : Option Bytes) (digest : Digest) (new : State) → LooksFor q s → HasGiven s block (Ok (look.Need digest)) new → LooksFor q new
+gives_on q s block digest new was h = go s.view was.1 h.given
+  where
+    on_block : (b : Option Bytes) (v : AcceptedView) (l : Looking) → l.question ≡ q → IsSomeAnd b (λ text. Looked {A = Unit {0}} (holding s text) v l.question (look.Need digest) new) → LooksFor q new
+    on_block None v l same is = absurd is
+    on_block (Some text) v l same is = looked_for l.question q (holding s text) v digest new same was.0 is
+
+    in_view : (v : AcceptedView) (o : Option Looking) → IsSomeAnd o (λ l. l.question ≡ q) → IfSome o (λ l. Given {A = Unit {0}} s v l block (look.Need digest) new) → LooksFor q new
+    in_view v None same is = absurd same
+    in_view v (Some l) same is = on_block block v l same is.1
+
+    go : (o : Option AcceptedView) → IsSomeAnd o (λ v. IsSomeAnd v.looking (λ l. l.question ≡ q)) → IfSome o (λ v. IfSome v.looking (λ l. Given {A = Unit {0}} s v l block (look.Need digest) new)) → LooksFor q new
+    go None same is = absurd same
+    go (Some v) same is = in_view v v.looking same is
+
+looking : (q : Question) (x : Result Sees ClientError) (new : State) → ((digest : Digest) → x ≡ Ok (look.Need digest) → LooksFor q new) → IsLooking (order.looking q x) new
+looking q (Ok (look.Need digest)) new on = on digest refl
+looking q (Ok (look.Broken rule)) new on = tt
+looking q (Ok (look.File bytes)) new on = tt
+looking q (Ok (look.Dir entries)) new on = tt
+looking q (Ok look.None) new on = tt
+looking q (Ok (look.Kind kind)) new on = tt
+looking q (Ok (look.Free found)) new on = tt
+looking q (Err e) new on = tt
+
+begins_next : (n : Next) (changes : List (Change Digest)) (texts : List Bytes) (x : Result Bytes ClientError) (m : Next) → Follows n (Calls (Begins changes texts x)) m → m ≡ order.declaring x
+begins_next (Ready laid) changes texts x m h = h.1
+begins_next (Store []) changes texts x m h = absurd h
+begins_next (Store (t ∷ ts)) changes texts x m h = absurd h
+begins_next other changes texts x m h = absurd h
+
+hears_next : (n : Next) (text : Bytes) (x : Result Asks ClientError) (m : Next) → Follows n (Calls (Hears text x)) m → m ≡ order.checking x
+hears_next (Hear told) text x m h = h.1
+hears_next (Store []) text x m h = absurd h
+hears_next (Store (t ∷ ts)) text x m h = absurd h
+hears_next other text x m h = absurd h
+
+takes_next : (n : Next) (block : Option Bytes) (x : Result Asks ClientError) (m : Next) → Follows n (Calls (Takes block x)) m → m ≡ order.checking x
+takes_next (Take told) block x m h = h.1
+takes_next (Store []) block x m h = absurd h
+takes_next (Store (t ∷ ts)) block x m h = absurd h
+takes_next other block x m h = absurd h
+
+signs_next : (n : Next) (x : Result Bytes ClientError) (lost : List ℕ) (m : Next) → Follows n (Calls (Signs x lost)) m → m ≡ order.committing x lost
+signs_next (Store []) x lost m h = h
+signs_next (Store (text ∷ texts)) x lost m h = absurd h
+signs_next other x lost m h = absurd h
+
+commits_next : (n : Next) (st : Status) (m : Next) → Follows n (Calls (Commits st)) m → m ≡ order.committed st
+commits_next (Tell told) st m h = h.1 ∙ ap order.committed (sym h.0)
+commits_next (Store []) st m h = absurd h
+commits_next (Store (t ∷ ts)) st m h = absurd h
+commits_next other st m h = absurd h
+
+looks_next : (n : Next) (q : Question) (x : Result Sees ClientError) (m : Next) → Follows n (Calls (Looks q x)) m → m ≡ order.looking q x
+looks_next (Ready laid) q x m h = h.1
+looks_next (Store []) q x m h = absurd h
+looks_next (Store (t ∷ ts)) q x m h = absurd h
+looks_next other q x m h = absurd h
+
+-- the question of a block that is handed in is the one of the look
+pub asked_for : (n : Next) (q : Question) (block : Option Bytes) (x : Result Sees ClientError) (m : Next) (s : State) → Follows n (Calls (Gives q block x)) m → IsLooking n s → LooksFor q s
+asked_for (GiveAt p told) q block x m s h is = subst (λ (r : Question). LooksFor r s) (sym h.0) is
+asked_for (Store []) q block x m s h is = absurd h
+asked_for (Store (t ∷ ts)) q block x m s h is = absurd h
+asked_for other q block x m s h is = absurd h
+
+gives_next : (n : Next) (q : Question) (block : Option Bytes) (x : Result Sees ClientError) (m : Next) → Follows n (Calls (Gives q block x)) m → m ≡ order.looking q x
+gives_next (GiveAt p told) q block x m h = h.2 ∙ ap (λ (r : Question). order.looking r x) (sym h.0)
+gives_next (Store []) q block x m h = absurd h
+gives_next (Store (t ∷ ts)) q block x m h = absurd h
+gives_next other q block x m h = absurd h
+
+-- ---- after a call
+
+pub after_call : (n m : Next) (call : Call) (s new : State) → session.Leads s call new → Follows n (Calls call) m → IsLooking n s → IsLooking m new
+unfolding session.Leads
+after_call n m (Begins changes texts x) s new leads h is = at_next m _ new (begins_next n changes texts x m h) (no_look _ new (declaring x))
+after_call n m (Hears text x) s new leads h is = at_next m _ new (hears_next n text x m h) (no_look _ new (checking x))
+after_call n m (Takes block x) s new leads h is = at_next m _ new (takes_next n block x m h) (no_look _ new (checking x))
+after_call n m (Signs x lost) s new leads h is = at_next m _ new (signs_next n x lost m h) (no_look _ new (committing x lost))
+after_call n m (Commits st) s new leads h is = at_next m _ new (commits_next n st m h) (no_look _ new (committed st))
+after_call n m (Looks q x) s new leads h is =
+    at_next m _ new (looks_next n q x m h)
+    (looking q x new (λ digest same. looks_on q s digest new (subst (λ (a : Result Sees ClientError). HasLooked s q a new) same leads.0)))
+after_call n m (Gives q block x) s new leads h is =
+    let was = asked_for n q block x m s h is in
+    at_next m _ new (gives_next n q block x m h)
+    (looking q x new (λ digest same. gives_on q s block digest new was (subst (λ (a : Result Sees ClientError). HasGiven s block a new) same leads.0)))
+
+-- ---- where memory is refused
+
+no_plan : (n m : Next) → Follows n LacksPlan m → IsNoLook m
+no_plan (Ready []) m h = subst IsNoLook (sym h) tt
+no_plan (Ready (t ∷ ts)) m h = absurd h
+no_plan (Store []) m h = absurd h
+no_plan (Store (t ∷ ts)) m h = absurd h
+no_plan (CommitNew text []) m h = absurd h
+no_plan (CommitNew text (k ∷ lost)) m h = absurd h
+no_plan other m h = absurd h
+
+no_numbers : (n m : Next) → Follows n LacksNumbers m → IsNoLook m
+no_numbers (CommitNew text (k ∷ lost)) m h = subst IsNoLook (sym h) tt
+no_numbers (CommitNew text []) m h = absurd h
+no_numbers (Ready []) m h = absurd h
+no_numbers (Ready (t ∷ ts)) m h = absurd h
+no_numbers (Store []) m h = absurd h
+no_numbers (Store (t ∷ ts)) m h = absurd h
+no_numbers other m h = absurd h
+
+pub lacks_plan : (n m : Next) (s : State) → Follows n LacksPlan m → IsLooking m s
+lacks_plan n m s h = no_look m s (no_plan n m h)
+
+pub lacks_numbers : (n m : Next) (s : State) → Follows n LacksNumbers m → IsLooking m s
+lacks_numbers n m s h = no_look m s (no_numbers n m h)

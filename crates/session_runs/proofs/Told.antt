@@ -1,0 +1,188 @@
+-- What sessions tell is so in the worlds of accepted views.
+use Rattle.std.proofs.Common.{◌≡◌, ◌<◌, ℕ, List, [], ◌∷◌, ◌++◌, Option, Some, None, Result, Ok, Err, IfSome, IsSome, IsSomeAnd, refl, sym, ap, ◌∙◌, subst, inl, option_map}
+use Rattle.std.specs.Option.{option_and_then}
+use Rattle.layout.specs.Types.{Bytes, Key, User}
+use Rattle.leaf_ledger.specs.Ledger.{LeafNumber}
+use Rattle.update_cert.specs.Reading.{Reading}
+use Rattle.update_cert.specs.World.{Tree}
+use Rattle.client_tree.specs.declared.questions.Question.{Question}
+use Rattle.client_tree.specs.declared.questions.Question.TheVariants as question
+use Rattle.client_releases.specs.declared.error.ClientError.{ClientError}
+use Rattle.client_releases.specs.Releasing.{IsKept, structure_record}
+use Rattle.client_verify.specs.declared.look.Look.TheVariants as look
+use Rattle.client_verify.specs.declared.view.Looking.{Looking}
+use Rattle.client_verify.specs.State.{AcceptedView, Ready, State, on, over, signed_over, signed_structure, signed_text}
+use Rattle.agreement.specs.Runs.{View}
+use Rattle.agreement.proofs.Members.{In, in-left, in-right, in_contains}
+use Rattle.client_runs.specs.Released.{in_hand, view_over}
+use Rattle.client_steps.specs.Steps.{Client, HasSigned, Open, Sees, StepTaken, principal_of}
+use Rattle.client_steps.specs.Steps as steps
+use Rattle.fork_consistency.specs.Shown.{IsOfWorld, IsTrueInWorld, IsTrueOf, answered}
+use Rattle.file_session.specs.Calls.{Begins, Call, Commits, Gives, Hears, Looks, Signs, Takes, lost_in, step_of}
+use Rattle.file_session.specs.Calls as session
+use Rattle.file_session.specs.Order.{Calls, Follows, LacksNumbers, LacksPlan, Move, Next, Sends}
+use Rattle.file_session.specs.Went.{Answering, At, Event, IsSeenIn, Moves, Saw, Signed, events, looks, seen_by as seen_in_call}
+use Rattle.session_runs.specs.Told.{AreTold, IsOwn, IsTextOf, Loses, seen_by, signed_by, signed_texts}
+use Rattle.session_runs.specs.Lives.{steps_in}
+use Rattle.session_runs.proofs.Along.{Along, Step}
+use Rattle.session_runs.proofs.Looking.{IsLooking, LooksFor, after_call, asked_for, lacks_numbers, lacks_plan, sent}
+
+-- ---- an answer
+
+-- it tells something
+abbrev IsAnswer : Sees → Type 0
+IsAnswer (look.Need digest) = ⊥
+IsAnswer (look.Broken rule) = ⊥
+IsAnswer other = Unit {0}
+
+seen_so : (w : Tree) (q : Question) (answer : Sees) → principal_of q < 96 → IsTrueOf w q answer → IsAnswer answer → IsSeenIn w q answer
+seen_so w (question.At p i) (look.File bytes) low is some = is low
+seen_so w (question.At p i) (look.Dir entries) low is some = is low
+seen_so w (question.At p i) look.None low is some = is low
+seen_so w (question.At p i) (look.Kind kind) low is some = absurd is
+seen_so w (question.At p i) (look.Free found) low is some = absurd is
+seen_so w (question.Kind p i) (look.Kind kind) low is some = is low
+seen_so w (question.Kind p i) (look.File bytes) low is some = absurd is
+seen_so w (question.Kind p i) (look.Dir entries) low is some = absurd is
+seen_so w (question.Kind p i) look.None low is some = absurd is
+seen_so w (question.Kind p i) (look.Free found) low is some = absurd is
+seen_so w (question.Free p first last) (look.Free found) low is some = is low
+seen_so w (question.Free p first last) (look.File bytes) low is some = absurd is
+seen_so w (question.Free p first last) (look.Dir entries) low is some = absurd is
+seen_so w (question.Free p first last) look.None low is some = absurd is
+seen_so w (question.Free p first last) (look.Kind kind) low is some = absurd is
+seen_so w q (look.Need digest) low is some = absurd some
+seen_so w q (look.Broken rule) low is some = absurd some
+
+module _ (reads : Reading) (key : Key) (accepted : List View) (u : User) (texts : List Bytes) where
+  abbrev Told : Option View → List Event → Type 0
+  Told = AreTold reads key accepted u texts
+
+  abbrev OwnStep : Option View → Client → StepTaken → Option View → Type 0
+  OwnStep = Step (IsTrueInWorld reads key accepted) (IsOfWorld reads key accepted) accepted u
+
+  abbrev OwnAlong : Option View → Client → List StepTaken → Option View → Client → Type 0
+  OwnAlong = Along (IsTrueInWorld reads key accepted) (IsOfWorld reads key accepted) accepted u
+
+  -- what is true of an answer is so in the world of the last view
+  some_seen : (last : Option View) (q : Question) (answer : Sees) → principal_of q < 96 → IsAnswer answer → IsSomeAnd last (λ x. IsTrueInWorld reads key accepted x q answer)
+      → IsSomeAnd last (λ x. IsSeenIn (seen_by reads key accepted x) q answer)
+  some_seen None q answer low some is = absurd is
+  some_seen (Some x) q answer low some is = seen_so (seen_by reads key accepted x) q answer low is some
+
+  -- what a look tells
+  look_told : (last : Option View) (q : Question) (x : Result Sees ClientError) (es : List Event) → principal_of q < 96
+      → ((answer : Sees) → x ≡ Ok answer → IsSomeAnd last (λ v. IsTrueInWorld reads key accepted v q answer)) → Told last es → Told last (looks (seen_in_call q x) ++ es)
+  look_told last q (Ok (look.Need digest)) es low is told = told
+  look_told last q (Ok (look.Broken rule)) es low is told = told
+  look_told last q (Ok (look.File bytes)) es low is told = (some_seen last q (look.File bytes) low tt (is (look.File bytes) refl), told)
+  look_told last q (Ok (look.Dir entries)) es low is told = (some_seen last q (look.Dir entries) low tt (is (look.Dir entries) refl), told)
+  look_told last q (Ok look.None) es low is told = (some_seen last q look.None low tt (is look.None refl), told)
+  look_told last q (Ok (look.Kind kind)) es low is told = (some_seen last q (look.Kind kind) low tt (is (look.Kind kind) refl), told)
+  look_told last q (Ok (look.Free found)) es low is told = (some_seen last q (look.Free found) low tt (is (look.Free found) refl), told)
+  look_told last q (Err e) es low is told = told
+
+  -- ---- a call
+
+  -- what a block tells is told of the question
+  given_is : (q : Question) (s : State) (answer : Sees) (last : Option View) → LooksFor q s
+      → IfSome (option_and_then (λ v. option_map (λ l. (l.question, answer)) v.looking) s.view) (λ (p, a). IsSomeAnd last (λ x. IsTrueInWorld reads key accepted x p a))
+      → IsSomeAnd last (λ x. IsTrueInWorld reads key accepted x q answer)
+  given_is q s answer last looks is = go s.view looks.1 is
+    where
+      in_view : (o : Option Looking) → IsSomeAnd o (λ l. l.question ≡ q) → IfSome (option_map (λ l. (l.question, answer)) o) (λ (p, a). IsSomeAnd last (λ x. IsTrueInWorld reads key accepted x p a))
+          → IsSomeAnd last (λ x. IsTrueInWorld reads key accepted x q answer)
+      in_view None same is = absurd same
+      in_view (Some l) same is = subst (λ (p : Question). IsSomeAnd last (λ x. IsTrueInWorld reads key accepted x p answer)) same is
+
+      go : (o : Option AcceptedView) → IsSomeAnd o (λ v. IsSomeAnd v.looking (λ l. l.question ≡ q))
+          → IfSome (option_and_then (λ v. option_map (λ l. (l.question, answer)) v.looking) o) (λ (p, a). IsSomeAnd last (λ x. IsTrueInWorld reads key accepted x p a))
+          → IsSomeAnd last (λ x. IsTrueInWorld reads key accepted x q answer)
+      go None same is = absurd same
+      go (Some v) same is = in_view v.looking same is
+
+  -- a client that signed has a view
+  has_view : (s new : State) (text : Bytes) → HasSigned s (Ok text) new → IsSome new.view
+  has_view s new text h = go s.accepted h.ready h.signed
+    where
+      go : (o : Option Ready) → IsSome o → IfSome o (λ r. (leaf : LeafNumber) × IsKept leaf (structure_record (signed_text s leaf r)) s.devices new.devices × (new ≡ over new.blocks (on new.devices (signed_over s leaf r)))) → IsSome new.view
+      go None some is = absurd (cc some)
+      go (Some r) some is = subst IsSome (sym (ap (λ (n : State). n.view) is.2)) refl
+
+  -- the text that was signed is of the view in hand
+  signed_text_of : (s new : State) (text : Bytes) (next : Option View) → HasSigned s (Ok text) new → (IsSome (in_hand (Open s)) → next ≡ in_hand (Open s)) → (x : View) → next ≡ Some x → IsTextOf text x
+  signed_text_of s new text next h hand x at = go s.accepted h.ready h.signed hand
+    where
+      of_ready : (r : Ready) (leaf : LeafNumber) → new ≡ over new.blocks (on new.devices (signed_over s leaf r)) → Some x ≡ Some (view_over s r) → IsTextOf text x
+      of_ready r leaf is same =
+          let here : x ≡ view_over s r = cc same in
+          (signed_structure s leaf r, sym (ap (λ (v : View). v.signed) here), h.text ∙ ap (λ (n : State). n.text) is)
+
+      go : (o : Option Ready) → IsSome o → IfSome o (λ r. (leaf : LeafNumber) × IsKept leaf (structure_record (signed_text s leaf r)) s.devices new.devices × (new ≡ over new.blocks (on new.devices (signed_over s leaf r))))
+          → (IsSome (option_map (view_over s) o) → next ≡ option_map (view_over s) o) → IsTextOf text x
+      go None some is hand = absurd (cc some)
+      go (Some r) some is hand = of_ready r is.0 is.2 (sym at ∙ hand refl)
+
+  -- the view that was signed, and what it loses
+  signed_told : (o : Option AcceptedView) (next : Option View) (lost : List ℕ) (es : List Event) → IsSome o → lost ≡ lost_in o → IfSome o (λ v. IsSomeAnd next (λ x. IsOfWorld reads key accepted x v))
+      → ((x : View) → next ≡ Some x → IsOwn accepted u texts x) → Told next es → (last : Option View) → Told last (Signed lost ∷ es)
+  signed_told None next lost es some is of own told last = absurd (cc some)
+  signed_told (Some v) None lost es some is of own told last = absurd of
+  signed_told (Some v) (Some x) lost es some is of own told last = (x, own x refl, (λ before at. is ∙ of.lost before at), told)
+
+  -- the last view stays where no other is accepted
+  told_as : (last mid : Option View) (es : List Event) → mid ≡ last → Told mid es → Told last es
+  told_as last mid es same told = subst (λ (l : Option View). Told l es) same told
+
+  call_told : (n m : Next) (s new : State) (call : Call) (last mid : Option View) (ms : List Move) → session.Leads s call new → Follows n (Calls call) m → IsLooking n s
+      → OwnStep last (Open s) (record { call = step_of call; after = Open new }) mid → ((t : Bytes) → In t (signed_by (Calls call)) → In t texts) → Told mid (events ms) → Told last (events (Calls call ∷ ms))
+  unfolding session.Leads
+  call_told n m s new (Begins changes texts x) last mid ms leads follows looking step inside told = told_as last mid (events ms) (step.same tt) told
+  call_told n m s new (Hears text x) last mid ms leads follows looking step inside told = told_as last mid (events ms) (step.same tt) told
+  call_told n m s new (Takes block x) last mid ms leads follows looking step inside told = told_as last mid (events ms) (step.same tt) told
+  call_told n m s new (Commits st) last mid ms leads follows looking step inside told = told_as last mid (events ms) (step.same tt) told
+  call_told n m s new (Signs (Err e) lost) last mid ms leads follows looking step inside told = told_as last mid (events ms) (step.same tt) told
+  call_told n m s new (Signs (Ok text) lost) last mid ms leads follows looking step inside told =
+      signed_told new.view mid lost (events ms) (has_view s new text leads.0) leads.2 step.view
+      (λ x at. record {
+        among = (step.own x at).among;
+        user = (step.own x at).user;
+        signed = (text, in_contains text texts (inside text (inl refl)), signed_text_of s new text mid leads.0 (step.hand tt) x at);
+      })
+      told last
+  call_told n m s new (Looks q x) last mid ms leads follows looking step inside told =
+      look_told last q x (events ms) leads.0.principal
+      (λ answer same. subst (λ (a : Result Sees ClientError). IfSome (answered (steps.Looks q a) (Open s)) (λ (p, b). IsSomeAnd last (λ v. IsTrueInWorld reads key accepted v p b))) same step.answer)
+      (told_as last mid (events ms) (step.same tt) told)
+  call_told n m s new (Gives q block x) last mid ms leads follows looking step inside told =
+      let looks = asked_for n q block x m s follows looking in
+      look_told last q x (events ms) looks.0
+      (λ answer same. given_is q s answer last looks
+      (subst (λ (a : Result Sees ClientError). IfSome (answered (steps.Gives block a) (Open s)) (λ (p, b). IsSomeAnd last (λ v. IsTrueInWorld reads key accepted v p b))) same step.answer))
+      (told_as last mid (events ms) (step.same tt) told)
+
+  -- ---- moves
+
+  module _ {T : Type 0} (answers : Answering T) where
+    -- an exchange leaves the client, and tells nothing
+    exchanged : (a mid : At T) (last next : Option View) (steps : List StepTaken) (after : Client) → mid.client ≡ a.client → OwnAlong last (Open a.client) steps next after → OwnAlong last (Open mid.client) steps next after
+    exchanged a mid last next steps after same along = subst (λ (s : State). OwnAlong last (Open s) steps next after) (sym same) along
+
+    looks_still : (a mid : At T) (n : Next) → mid.client ≡ a.client → IsLooking n a.client → IsLooking n mid.client
+    looks_still a mid n same is = subst (IsLooking n) (sym same) is
+
+    pub moves_told : (a : At T) (ms : List Move) (b : At T) → (run : Moves answers a ms b) → (last next : Option View) (after : Client) → OwnAlong last (Open a.client) (steps_in answers a ms b run) next after → IsLooking a.next a.client → ((t : Bytes) → In t (signed_texts ms) → In t texts) → Told last (events ms)
+    moves_told a [] b run last next after along looking inside = tt
+    moves_told a (Calls call ∷ ms) b (mid, one, more) last next after (m, step, rest) looking inside =
+        call_told a.next mid.next a.client mid.client call last m ms one.0 one.2 looking step
+        (λ t i. inside t (in-left t (signed_by (Calls call)) (signed_texts ms) i))
+        (moves_told mid ms b more m next after rest (after_call a.next mid.next call a.client mid.client one.0 one.2 looking) (λ t i. inside t (in-right t (signed_by (Calls call)) (signed_texts ms) i)))
+    moves_told a (Sends r x ∷ ms) b (mid, one, more) last next after along looking inside =
+        moves_told mid ms b more last next after (exchanged a mid last next (steps_in answers mid ms b more) after one.1 along)
+        (looks_still a mid mid.next one.1 (sent a.next r x mid.next a.client one.2 looking)) inside
+    moves_told a (LacksPlan ∷ ms) b (mid, one, more) last next after along looking inside =
+        moves_told mid ms b more last next after (exchanged a mid last next (steps_in answers mid ms b more) after one.0 along)
+        (looks_still a mid mid.next one.0 (lacks_plan a.next mid.next a.client one.2)) inside
+    moves_told a (LacksNumbers ∷ ms) b (mid, one, more) last next after along looking inside =
+        moves_told mid ms b more last next after (exchanged a mid last next (steps_in answers mid ms b more) after one.0 along)
+        (looks_still a mid mid.next one.0 (lacks_numbers a.next mid.next a.client one.2)) inside

@@ -1,0 +1,126 @@
+-- What sessions tell is so in the worlds of the lines of their users' accepted views.
+use Rattle.std.specs.Prelude.{◌≡◌, ◌⊎◌, ℕ, List, [], ◌∷◌, ◌++◌, Option, Some, None, Ok, IsSomeAnd}
+use Rattle.std.specs.List.{All, Contains, flat_map}
+use Rattle.layout.specs.Types.{Bytes, Key, User}
+use Rattle.version_order.specs.Structure.{Structure, structure}
+use Rattle.update_cert.specs.Cert.{Cert}
+use Rattle.update_cert.specs.Change.{Change}
+use Rattle.update_cert.specs.Reading.{Reading, void_read}
+use Rattle.update_cert.specs.World.{Content, Tree}
+use Rattle.pending_list.specs.declared.signed.Signed.{Signed}
+use Rattle.pending_list.specs.Signed.{signed}
+use Rattle.agreement.specs.Lines.{line}
+use Rattle.agreement.specs.Runs.{View, user_of}
+use Rattle.agreement.specs.Worlds.{actor_in, world}
+use Rattle.client_runs.specs.Released.{views}
+use Rattle.client_runs.specs.Runs.{Event, Keys, public_key}
+use Rattle.commands.specs.Answers.{Answer}
+use Rattle.commands.specs.Asked.{Tells, Writes, outcome, told_of_lost}
+use Rattle.commands.specs.declared.command.Command.{Command}
+use Rattle.fork_consistency.specs.Premises.{Premises}
+use Rattle.fork_consistency.specs.Shown.{seen_in}
+use Rattle.fork_consistency.specs.Worlds.{IsReadingOf}
+use Rattle.file_session.specs.Calls.{Signs}
+use Rattle.file_session.specs.Order.{Calls, Move}
+use Rattle.file_session.specs.Sessions.{Resumed}
+use Rattle.file_session.specs.Went.{Answering, Begun, Event as Tale, IsSeenIn, Saw, Signed as Numbers, Unplanned}
+use Rattle.file_session.specs.Went.{events}
+use Rattle.session_runs.specs.Lives.{AreLives, Carried, Carries, Deed, IsCut, Takes}
+
+-- the structures that a session signs, as it sends them
+abbrev pub signed_by : Move → List Bytes
+signed_by (Calls (Signs (Ok text) lost)) = text ∷ []
+signed_by move = []
+
+abbrev pub signed_texts : List Move → List Bytes
+signed_texts moves = flat_map signed_by moves
+
+-- the text of a structure that was signed over this view
+abbrev pub IsTextOf : Bytes → View → Type 0
+IsTextOf text x = (z : Signed Structure) × (z.value ≡ x.signed) × (text ≡ (signed structure).spell z)
+
+-- an accepted view of this user's, over which one of these texts was signed
+pub record IsOwn (accepted : List View) (u : User) (texts : List Bytes) (x : View) : Type 0 where
+  pub among : Contains accepted x
+  pub user : user_of x ≡ u
+  pub signed : (text : Bytes) × Contains texts text × IsTextOf text x
+
+-- ---- one view
+
+-- what is read in the world of the view's line
+abbrev pub seen_by : Reading → Key → List View → View → Tree
+seen_by reads key accepted x = seen_in reads key (line accepted x)
+
+-- these are the numbers of the void changes of the view's own operation, at its place in the line
+abbrev pub Loses : Reading → Key → List View → View → List ℕ → Type 0
+Loses reads key accepted x lost =
+    (before : List Cert) → line accepted x ≡ before ++ x.lists.own.cert ∷ []
+    → lost ≡ void_read reads (actor_in (world reads key before) x.lists.own.cert) x.lists.own.cert.changes
+    (world reads key before)
+
+-- ---- a session
+
+-- What a session that signs these texts tells, in turn, where its client signed over this view last: each look was
+-- answered as it is in the world of that view's line, and the numbers of the changes that a newly signed view loses are
+-- those of its void ones.
+abbrev pub AreTold : Reading → Key → List View → User → List Bytes → Option View → List Tale → Type 0
+AreTold reads key accepted u texts last [] = Unit {0}
+AreTold reads key accepted u texts last (Begun changes laid ∷ es) = AreTold reads key accepted u texts last es
+AreTold reads key accepted u texts last (Unplanned ∷ es) = AreTold reads key accepted u texts last es
+AreTold reads key accepted u texts last (Saw s ∷ es) =
+    IsSomeAnd last (λ x. IsSeenIn (seen_by reads key accepted x) s.question s.answer)
+    × AreTold reads key accepted u texts last es
+AreTold reads key accepted u texts last (Numbers lost ∷ es) =
+    (x : View) × IsOwn accepted u texts x × Loses reads key accepted x lost
+    × AreTold reads key accepted u texts (Some x) es
+
+-- from the view on that the client had
+abbrev pub AreToldFrom : Reading → Key → List View → User → List Bytes → List Tale → Type 0
+AreToldFrom reads key accepted u texts es = (last : Option View) × AreTold reads key accepted u texts last es
+
+abbrev pub MovesTell : Reading → Key → List View → User → List Move → Type 0
+MovesTell reads key accepted u moves = AreToldFrom reads key accepted u (signed_texts moves) (events moves)
+
+-- ---- a command
+
+-- the command asks for an operation in this tree, and these numbers of its void changes are told
+pub record AreWritten (reads : Reading) (key : Key) (accepted : List View) (u : User) (texts : List Bytes)
+    (c : Command) (tree : Tree) (answer : Answer) : Type 0 where
+  pub wanted : List (Change Content)
+  pub asked : outcome u c tree ≡ Writes wanted
+  pub view : View
+  pub own : IsOwn accepted u texts view
+  pub lost : List ℕ
+  pub loses : Loses reads key accepted view lost
+  pub told : answer ≡ told_of_lost lost
+
+-- In the world of the line of a view over which the session signed, the answer is what the command comes to; or the
+-- command asks there for an operation, and the answer tells which changes of the own operation of another such view are
+-- void at its place.
+pub record IsAnswered (reads : Reading) (key : Key) (accepted : List View) (u : User) (texts : List Bytes)
+    (c : Command) (answer : Answer) : Type 0 where
+  pub view : View
+  pub own : IsOwn accepted u texts view
+  pub comes : (outcome u c (seen_by reads key accepted view) ≡ Tells answer)
+      ⊎ AreWritten reads key accepted u texts c (seen_by reads key accepted view) answer
+
+-- a command that answered, and the operation that it finished first
+pub record TellsWorlds {T : Type 0} (answers : Answering T) (reads : Reading) (key : Key) (accepted : List View)
+    (u : User) (c : Carried answers) : Type 0 where
+  pub told : MovesTell reads key accepted u c.ran.moves
+  pub answer : (answer : Answer) → c.result ≡ Ok answer
+      → IsAnswered reads key accepted u (signed_texts c.ran.moves) c.command answer
+  pub resumed : (r : Resumed) → c.resumed ≡ Some r
+      → (x : View) × IsOwn accepted u (signed_texts c.ran.moves) x × Loses reads key accepted x r.lost
+
+-- so is what each deed tells, also of a session that is cut short
+abbrev pub IsTold : {T : Type 0} (answers : Answering T) → Reading → Key → List View → User → Deed answers → Type 0
+IsTold answers reads key accepted u (Carries c) = TellsWorlds answers reads key accepted u c
+IsTold answers reads key accepted u (IsCut c) = MovesTell reads key accepted u c.moves
+IsTold answers reads key accepted u (Takes s) = Unit {0}
+
+-- In lives that meet the premises of fork consistency, as each reading of the run's texts tells it.
+abbrev pub SessionsTellWorlds : {T : Type 0} → Answering T → Type 0
+SessionsTellWorlds answers = (keys : Keys) (lives : User → List (Deed answers)) (run : List Event)
+    → AreLives answers keys lives run → Premises keys run → (reads : Reading) → IsReadingOf keys run reads
+    → (u : User) → All (IsTold answers reads (public_key keys 0) (views run) u) (lives u)
