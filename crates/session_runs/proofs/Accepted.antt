@@ -1,6 +1,6 @@
 -- An accepted view is of the user whose client accepted it.
 use Rattle.std.proofs.Common.{◌≡◌, List, [], ◌∷◌, Option, Some, None, Ok, sym, ap, subst, inl, inr, option_map, option_to_list}
-use Rattle.layout.specs.Types.{Bytes, User}
+use Rattle.layout.specs.Types.{Bytes}
 use Rattle.version_order.specs.Structure.{Structure}
 use Rattle.client_releases.specs.declared.phase.Phase.{Phase}
 use Rattle.client_releases.specs.declared.phase.Phase.TheVariants as phase

@@ -1,5 +1,5 @@
 -- What the steps of one user's client tell of the view that it accepted last, along a run.
-use Rattle.std.proofs.Common.{◌≡◌, ℕ, Bool, true, false, ◌==◌, List, [], ◌∷◌, ◌++◌, find, Option, Some, None, Ok, Err, IfSome, IsSome, IsSomeAnd, option_to_list, refl, sym, ap, ◌∙◌, subst, inl, inr, if◌then◌else◌}
+use Rattle.std.proofs.Common.{◌≡◌, ℕ, Bool, true, false, ◌==◌, List, [], ◌∷◌, ◌++◌, find, Option, Some, None, Ok, IfSome, IsSome, IsSomeAnd, option_to_list, refl, sym, ap, ◌∙◌, subst, inl, inr, if◌then◌else◌}
 use Rattle.std.proofs.lemmas.Bool.{eq-eqb, eqb-true}
 use Rattle.std.specs.List.{Contains}
 use Rattle.layout.specs.Types.{User}
@@ -7,7 +7,7 @@ use Rattle.client_tree.specs.declared.questions.Question.{Question}
 use Rattle.client_verify.specs.State.{AcceptedView}
 use Rattle.agreement.specs.Runs.{View, user_of}
 use Rattle.agreement.proofs.Members.{In, in-right, in_contains}
-use Rattle.client_steps.specs.Steps.{AreSteps, Begins, Caches, Call, Client, Closes, Commits, Crashes, Gives, Hears, Looks, Open, Opens, Owner, Sees, Signs, StepTaken, Takes, first}
+use Rattle.client_steps.specs.Steps.{AreSteps, Call, Client, Opens, Owner, Sees, Signs, StepTaken, first}
 use Rattle.client_runs.specs.OfUsers.{step_in, steps_of}
 use Rattle.client_runs.specs.Released.{accepted_by, in_hand, tried_view, views}
 use Rattle.client_runs.specs.Runs.{Event, IsRun, Keys, client_of}

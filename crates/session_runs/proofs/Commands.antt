@@ -1,18 +1,16 @@
 -- What a command tells, by what its session's moves tell.
-use Rattle.std.proofs.Common.{◌≡◌, ℕ, List, [], ◌∷◌, ◌++◌, Option, Some, None, Result, Ok, Err, IsSomeAnd, refl, sym, ap, ◌∙◌, subst, inl, inr}
+use Rattle.std.proofs.Common.{◌≡◌, ℕ, List, [], ◌∷◌, ◌++◌, Option, Some, None, Result, Ok, refl, sym, ◌∙◌, subst, inl, inr}
 use Rattle.std.specs.Prelude.{◌⊎◌}
-use Rattle.layout.specs.Types.{Bytes, Digest, Key, User}
-use Rattle.update_cert.specs.Change.{Change}
+use Rattle.layout.specs.Types.{Bytes, Key, User}
 use Rattle.update_cert.specs.Reading.{Reading}
-use Rattle.update_cert.specs.World.{Content, Tree}
 use Rattle.agreement.specs.Runs.{View}
 use Rattle.client_verify.specs.State.{State}
 use Rattle.commands.specs.Answers.{Answer}
 use Rattle.commands.specs.Asked.{Tells, outcome}
 use Rattle.commands.specs.declared.command.Command.{Command}
 use Rattle.file_session.specs.declared.stop.Stop.{Stop}
-use Rattle.file_session.specs.Sessions.{IsCarriedOut, IsCommand, IsDone, IsResumed, IsWritten, Resumed}
-use Rattle.file_session.specs.Went.{Agrees, Answering, Begun, Event, Saw, Seen, Signed, Unplanned, events, looks, signs}
+use Rattle.file_session.specs.Sessions.{IsCarriedOut, IsCommand, IsDone, IsResumed, Resumed}
+use Rattle.file_session.specs.Went.{Agrees, Answering, Begun, Event, Saw, Seen, Signed, Unplanned, looks, signs}
 use Rattle.session_runs.specs.Lives.{Carried}
 use Rattle.session_runs.specs.Told.{AreTold, AreToldFrom, AreWritten, IsAnswered, IsOwn, Loses, MovesTell, TellsWorlds, seen_by, signed_texts}
 

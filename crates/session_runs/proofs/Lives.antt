@@ -1,18 +1,16 @@
 -- The deeds of a client are steps of it, and lives are runs.
-use Rattle.std.proofs.Common.{◌≡◌, List, [], ◌∷◌, ◌++◌, refl, sym, ap, subst}
+use Rattle.std.proofs.Common.{◌≡◌, List, [], ◌∷◌, sym, ap, subst}
 use Rattle.std.specs.List.{flat_map}
-use Rattle.layout.specs.Types.{User}
 use Rattle.client_steps.specs.Steps.{AreSteps, Client, FromOpen, IsSound, Open, Owner, StepTaken, first}
 use Rattle.client_steps.proofs.Joins.{steps_join}
 use Rattle.client_verify.specs.State.{State}
-use Rattle.client_runs.specs.OfUsers.{steps_of}
-use Rattle.client_runs.specs.Runs.{Event, IsRun, Keys, client_of, owner}
+use Rattle.client_runs.specs.Runs.{client_of, owner}
 use Rattle.client_runs.proofs.OfUsers.{steps_are_runs}
 use Rattle.file_session.specs.Calls.{Call, step_of}
 use Rattle.file_session.specs.Calls as session
 use Rattle.file_session.specs.Order.{Calls, LacksNumbers, LacksPlan, Move, Sends}
 use Rattle.file_session.specs.Went.{Answering, At, Moves}
-use Rattle.session_runs.specs.Lives.{AreLives, Carries, CutShort, Deed, IsCut, IsLife, Leads, LivesAreRuns, Takes, steps_by, steps_in}
+use Rattle.session_runs.specs.Lives.{Carries, Deed, IsCut, IsLife, Leads, LivesAreRuns, Takes, steps_by, steps_in}
 
 -- what a session's call is to its client
 pub call_steps : (s : State) (call : Call) (new : State) → session.Leads s call new → FromOpen s (step_of call) (Open new) × IsSound (Open new)

@@ -1,5 +1,5 @@
 -- While a session looks, its client looks for the answer to the session's question.
-use Rattle.std.proofs.Common.{◌≡◌, ◌<◌, ℕ, List, [], ◌∷◌, Option, Some, None, Result, Ok, Err, IfOk, IfSome, IsSome, IsSomeAnd, refl, sym, ap, ◌∙◌, subst}
+use Rattle.std.proofs.Common.{◌≡◌, ◌<◌, ℕ, List, [], ◌∷◌, Option, Some, None, Result, Ok, Err, IfSome, IsSome, IsSomeAnd, refl, sym, ap, ◌∙◌, subst}
 use Rattle.layout.specs.Types.{Bytes, Digest}
 use Rattle.update_cert.specs.Change.{Change}
 use Rattle.client_tree.specs.declared.questions.Question.{Question}
@@ -11,7 +11,7 @@ use Rattle.client_verify.specs.declared.step.Step.TheVariants as step
 use Rattle.client_verify.specs.declared.view.Looking.{Looking}
 use Rattle.client_verify.specs.Looked.{Given, Looked}
 use Rattle.client_verify.specs.State.{AcceptedView, State, holding}
-use Rattle.client_steps.specs.Steps.{Asks, HasGiven, HasLooked, Open, Sees, principal_of}
+use Rattle.client_steps.specs.Steps.{Asks, HasGiven, HasLooked, Sees, principal_of}
 use Rattle.transport.specs.declared.transport.TransportError.{TransportError}
 use Rattle.transport.specs.Asked.{Asked}
 use Rattle.wire.specs.declared.kinds.Status.{Status}
@@ -22,7 +22,6 @@ use Rattle.file_session.specs.Calls as session
 use Rattle.file_session.specs.Order.{Calls, Commit, CommitNew, Fetch, FetchAt, Follows, GiveAt, Hear, LacksNumbers, LacksPlan, Move, Next, Over, Ready, Sends, Store, Take, Tell, Update}
 use Rattle.file_session.specs.Order as order
 use Rattle.file_session.specs.Replies.{block_in, payload_in, status_in}
-use Rattle.file_session.specs.Went.{Answering, At, IsMove}
 
 -- a look is under way for this question
 abbrev pub LooksFor : Question → State → Type 0

@@ -21,8 +21,8 @@ use Rattle.fork_consistency.specs.Shown.{IsOfWorld, IsTrueInWorld, IsTrueOf, ans
 use Rattle.file_session.specs.Calls.{Begins, Call, Commits, Gives, Hears, Looks, Signs, Takes, lost_in, step_of}
 use Rattle.file_session.specs.Calls as session
 use Rattle.file_session.specs.Order.{Calls, Follows, LacksNumbers, LacksPlan, Move, Next, Sends}
-use Rattle.file_session.specs.Went.{Answering, At, Event, IsSeenIn, Moves, Saw, Signed, events, looks, seen_by as seen_in_call}
-use Rattle.session_runs.specs.Told.{AreTold, IsOwn, IsTextOf, Loses, seen_by, signed_by, signed_texts}
+use Rattle.file_session.specs.Went.{Answering, At, Event, IsSeenIn, Moves, Signed, events, looks, seen_by as seen_in_call}
+use Rattle.session_runs.specs.Told.{AreTold, IsOwn, IsTextOf, seen_by, signed_by, signed_texts}
 use Rattle.session_runs.specs.Lives.{steps_in}
 use Rattle.session_runs.proofs.Along.{Along, Step}
 use Rattle.session_runs.proofs.Looking.{IsLooking, LooksFor, after_call, asked_for, lacks_numbers, lacks_plan, sent}

@@ -1,5 +1,5 @@
 -- No step of a client makes it another user's.
-use Rattle.std.proofs.Common.{◌≡◌, ℕ, List, [], ◌∷◌, Option, Ok, Err, Result, refl, sym, ap, ◌∙◌, subst}
+use Rattle.std.proofs.Common.{◌≡◌, List, [], ◌∷◌, Ok, Err, Result, refl, sym, ap, ◌∙◌, subst}
 use Rattle.std.specs.Prelude.{IsErrOf}
 use Rattle.layout.specs.Types.{Bytes}
 use Rattle.wire.specs.declared.kinds.Status.{Status}
@@ -9,7 +9,7 @@ use Rattle.client_releases.specs.declared.error.ClientError.{ClientError}
 use Rattle.client_releases.specs.declared.error.ClientError.TheVariants as error
 use Rattle.client_releases.specs.Releasing.{IsKept, structure_record}
 use Rattle.client_verify.specs.State.{State, on, over, released, signed_over, signed_text}
-use Rattle.client_steps.specs.Steps.{AreSteps, Begins, Caches, Call, Client, Closed, Closes, Commits, Crashes, FromOpen, Gives, HasBegun, HasCommitted, HasSigned, Hears, IsStep, Looks, Open, Opens, Owner, Signs, StepTaken, Takes}
+use Rattle.client_steps.specs.Steps.{AreSteps, Begins, Caches, Call, Client, Closed, Closes, Commits, Crashes, FromOpen, Gives, HasCommitted, HasSigned, Hears, IsStep, Looks, Open, Opens, Owner, Signs, StepTaken, Takes}
 use Rattle.client_runs.proofs.Lowering.{if_ready, with_ready}
 use Rattle.client_runs.proofs.Quiet as quiet
 

@@ -1,20 +1,17 @@
 -- Each deed of each life tells what is so in the worlds of accepted views.
-use Rattle.std.proofs.Common.{◌≡◌, List, [], ◌∷◌, ◌++◌, Option, None, refl, sym, ◌∙◌, subst, inl, inr}
-use Rattle.std.specs.List.{All, flat_map}
+use Rattle.std.proofs.Common.{◌≡◌, List, [], ◌∷◌, Option, None, refl, sym, ◌∙◌, subst, inl, inr}
+use Rattle.std.specs.List.{flat_map}
 use Rattle.layout.specs.Types.{Key, User}
 use Rattle.update_cert.specs.Reading.{Reading}
 use Rattle.agreement.specs.Runs.{View}
 use Rattle.agreement.proofs.Members.{In, to_all}
 use Rattle.client_steps.specs.Steps.{Client, Open, Owner, StepTaken, first}
-use Rattle.client_runs.specs.OfUsers.{steps_of}
 use Rattle.client_runs.specs.Released.{views}
-use Rattle.client_runs.specs.Runs.{Event, IsRun, Keys, client_of, owner, public_key}
-use Rattle.fork_consistency.specs.ForkConsistent.{AreForkConsistent}
-use Rattle.fork_consistency.specs.Premises.{Premises}
+use Rattle.client_runs.specs.Runs.{IsRun, client_of, owner, public_key}
 use Rattle.fork_consistency.specs.Shown.{IsOfWorld, IsTrueInWorld, last_view}
 use Rattle.fork_consistency.proofs.Consistent.{consistent}
-use Rattle.file_session.specs.Went.{Answering, events}
-use Rattle.session_runs.specs.Lives.{AreLives, Carries, CutShort, Deed, IsCut, IsLife, Leads, Takes, start, steps_by}
+use Rattle.file_session.specs.Went.{Answering}
+use Rattle.session_runs.specs.Lives.{Carries, Deed, IsCut, IsLife, Leads, Takes, start, steps_by}
 use Rattle.session_runs.specs.Told.{IsTold, SessionsTellWorlds, signed_texts}
 use Rattle.session_runs.proofs.Along.{Along, along_run, in_two, same_end}
 use Rattle.session_runs.proofs.Commands.{command_tells}

@@ -1,5 +1,5 @@
 -- What sessions tell is so in the worlds of the lines of their users' accepted views.
-use Rattle.std.specs.Prelude.{◌≡◌, ◌⊎◌, ℕ, List, [], ◌∷◌, ◌++◌, Option, Some, None, Ok, IsSomeAnd}
+use Rattle.std.specs.Prelude.{◌≡◌, ◌⊎◌, ℕ, List, [], ◌∷◌, ◌++◌, Option, Some, Ok, IsSomeAnd}
 use Rattle.std.specs.List.{All, Contains, flat_map}
 use Rattle.layout.specs.Types.{Bytes, Key, User}
 use Rattle.version_order.specs.Structure.{Structure, structure}
