@@ -1,16 +1,21 @@
 -- Accepted views are signed, by the rules on signatures and on records.
-use Rattle.std.proofs.Common.{◌≡◌, Bool, true, false, ◌==◌, ◌&&◌, ◌||◌, not, List, [], ◌∷◌, Option, Some, None, IsSomeAnd, inl, inr, if◌then◌else◌}
+use Rattle.std.proofs.Common.{◌≡◌, ◌<◌, ◌≤◌, Bool, true, false, ◌==◌, ◌&&◌, ◌||◌, not, List, [], ◌∷◌, Option, Some, None, IsSomeAnd, refl, subst, inl, inr, if◌then◌else◌}
+use Rattle.std.specs.Prelude.{◌⊎◌}
 use Rattle.std.specs.List.{list_all}
 use Rattle.std.specs.Option.{option_map_or}
-use Rattle.std.proofs.lemmas.Bool.{and_parts}
-use Rattle.layout.specs.Types.{Bytes, Key, User}
+use Rattle.std.proofs.lemmas.Bool.{and_parts, eqb-true, le-ltb, lt-ltb}
+use Rattle.layout.specs.Types.{Bytes, Digest, Group, Key, User}
 use Rattle.lms_sign.specs.Signature.{valid}
 use Rattle.principals.specs.Table.{Table, is_member, key_of}
 use Rattle.version_order.specs.declared.structure.GroupRecord.{GroupRecord}
 use Rattle.version_order.specs.Structure.{Structure, structure}
 use Rattle.update_cert.specs.Cert.{cert}
+use Rattle.update_cert.specs.Change.{Change}
+use Rattle.update_cert.specs.World.{Actor, Content, fits, has_effect, permitted}
 use Rattle.pending_list.specs.declared.signed.Signed.{Signed}
 use Rattle.pending_list.specs.Groups.{groups}
+use Rattle.pending_list.specs.Reply.{PendingItem}
+use Rattle.client_tree.specs.View.{actor_of, newest, structure_of}
 use Rattle.reply_rules.specs.declared.rule.Rule.{Rule}
 use Rattle.reply_rules.specs.declared.rule.Rule.TheVariants as rule
 use Rattle.reply_rules.specs.Broken.{broken, later_rules}
@@ -18,7 +23,7 @@ use Rattle.reply_rules.specs.Lists.{Lists, items}
 use Rattle.reply_rules.specs.Rules.{entries, group_complete, group_records, link, numbers, of_member, record_holds, records_hold, records_once, table_within, unknown_user, vector, version_within}
 use Rattle.reply_check.specs.FirstBroken.{verifies}
 use Rattle.agreement.specs.Runs.{View}
-use Rattle.agreement.proofs.Members.{In, contains_in, in-append, to_all}
+use Rattle.agreement.proofs.Members.{In, contains_in, in-append, in_contains, to_all}
 use Rattle.agreement.proofs.Tests.{all_in, first_holds}
 use Rattle.client_runs.specs.Released.{accepted_by, tried_view, views}
 use Rattle.client_runs.specs.Runs.{Event, IsRun, Keys, client_of, owner, public_key}
@@ -27,7 +32,9 @@ use Rattle.fork_consistency.proofs.Judging.{cert_by_super, cert_verified, struct
 use Rattle.fork_consistency.proofs.Moves.{holds_at}
 use Rattle.client_runs.proofs.Replies.{of_lists}
 use Rattle.fork_consistency.proofs.Views.{over_here}
-use Rattle.fork_consistency.specs.Signed.{AreSigned, IsSigned, IsSignedBy}
+use Rattle.fork_consistency.proofs.AllWhole.{newest_in}
+use Rattle.fork_consistency.proofs.Lists.{found_in}
+use Rattle.fork_consistency.specs.Signed.{AreSigned, GroupIsAtFirst, IsSigned, IsSignedBy, StandsOnMembers, StandsOnOwn, UserIsAtFirst}
 
 -- what the rules try of a signature
 signed_by : (pinned : Key) (t : Table) (u : User) (text signature : Bytes) → verifies t u text signature ≡ true → (not (u == 0) || valid pinned text signature) ≡ true → IsSignedBy pinned t u text signature
@@ -60,20 +67,65 @@ of_members t x unbroken z r i j =
     let rest = (and_parts (version_within z.value.plan r) (table_within z.value.plan r && of_member t z.value.plan r) of_r).1 in
     (and_parts (table_within z.value.plan r) (of_member t z.value.plan r) rest).1
 
+-- ---- what parts stand on
+
+module _ (pinned : Key) (x : View)
+    (structures_signed : (z : Signed Structure) → In z x.lists.structures → IsSignedBy pinned x.table z.value.plan.user (structure.spell z.value) z.signature) where
+  user_stands : (u : User) → u < 64 → (o : Option (Signed Structure)) → structure_of u x.lists.structures ≡ o → StandsOnOwn pinned x u ⊎ UserIsAtFirst pinned x u
+  user_stands u low None at = inr (at, rw (lt-ltb u 64 low, at) refl)
+  user_stands u low (Some z) at =
+      let f = found_in (λ (z : Signed Structure). z.value.plan.user == u) x.lists.structures z at in
+      let user = eqb-true z.value.plan.user u f.1 in
+      inl (
+        z,
+        record {
+          there = in_contains z x.lists.structures f.0;
+          user = user;
+          signed = subst (λ (v : User). IsSignedBy pinned x.table v (structure.spell z.value) z.signature) user (structures_signed z f.0);
+        },
+        rw (lt-ltb u 64 low, at) refl,
+      )
+
+  group_stands : ((z : Signed Structure) (r : GroupRecord) → In z x.lists.structures → In r z.value.groups → is_member x.table r.group z.value.plan.user r.table ≡ true)
+      → (g : Group) → 64 ≤ g → (o : Option GroupRecord) → newest g x.lists.structures ≡ o → StandsOnMembers pinned x g ⊎ GroupIsAtFirst pinned x g
+  group_stands members g high None at = inr (at, rw (le-ltb g 64 high, at) refl)
+  group_stands members g high (Some r) at =
+      let (z, i, j, group) = newest_in g x.lists.structures r at in
+      inl (
+        r,
+        record {
+          newest = at;
+          group = group;
+          within = z;
+          there = in_contains z x.lists.structures i;
+          listed = in_contains r z.value.groups j;
+          signed = structures_signed z i;
+          member = subst (λ (h : Group). is_member x.table h z.value.plan.user r.table ≡ true) group (members z r i j);
+        },
+        rw (le-ltb g 64 high, at) refl,
+      )
+
+may_change : (actor : Actor) (c : Change Digest) (content : Option Content) → has_effect actor c content ≡ true → permitted actor c ≡ true
+unfolding has_effect
+may_change actor c content effect = (and_parts (permitted actor c) (fits actor.user c content) effect).0
+
 module _ (keys : Keys) where
   view_is : (older : List Event) (is : IsRun keys older) (u : User) (x : View) → IsTriedOver (owner keys u) (holds_at keys u older is).story older x → IsSigned (public_key keys 0) x
   view_is older is u x over =
       let r = of_lists x.lists in
       let rules = unbroken (known_in (owner keys u) (holds_at keys u older is).story) r over.good.judged.unbroken in
       let by = unbroken_by x.table x.lists over.good.by_table in
+      let structures_signed = λ (z : Signed Structure) (i : In z x.lists.structures).
+      signed_by (public_key keys 0) x.table z.value.plan.user (structure.spell z.value) z.signature (structure_verified x.table x.lists by.structures z i) (structure_by_super (public_key keys 0) r rules.by_super z i) in
+      let certificates_signed = λ (k : PendingItem) (i : In k (items x.lists)).
+      signed_by (public_key keys 0) x.table k.cert.user (cert.spell k.cert) k.signature (cert_verified x.table x.lists by.certs k i) (cert_by_super (public_key keys 0) r rules.by_super k i) in
       record {
-        structures = λ z has.
-            let i = contains_in z x.lists.structures has in
-            signed_by (public_key keys 0) x.table z.value.plan.user (structure.spell z.value) z.signature (structure_verified x.table x.lists by.structures z i) (structure_by_super (public_key keys 0) r rules.by_super z i);
-        certificates = λ k has.
-            let i = contains_in k (items x.lists) has in
-            signed_by (public_key keys 0) x.table k.cert.user (cert.spell k.cert) k.signature (cert_verified x.table x.lists by.certs k i) (cert_by_super (public_key keys 0) r rules.by_super k i);
+        structures = λ z has. structures_signed z (contains_in z x.lists.structures has);
+        certificates = λ k has. certificates_signed k (contains_in k (items x.lists) has);
         records = λ z g has_z has_g. of_members x.table x.lists by.rules z g (contains_in z x.lists.structures has_z) (contains_in g z.value.groups has_g);
+        users = λ u low. user_stands (public_key keys 0) x structures_signed u low (structure_of u x.lists.structures) refl;
+        groups = λ g high. group_stands (public_key keys 0) x structures_signed (of_members x.table x.lists by.rules) g high (newest g x.lists.structures) refl;
+        causes = λ i c content has_i has_c effect. (certificates_signed i (contains_in i (items x.lists) has_i), may_change (actor_of x.table i) c content effect);
       }
 
   each_signed : (run : List Event) → IsRun keys run → (x : View) → In x (views run) → IsSigned (public_key keys 0) x

@@ -68,7 +68,9 @@ pub record StandWhereStolen (stolen : User → Bool) (keys : Keys) (run : List E
   pub one_part : OnePart keys run
   -- each answer of a look is so in the tree of the view, and what a client tells of its view is that of the view;
   pub shown : ShowTrees keys run
-  -- and what a view stands on is signed under the keys that its table lists.
+  -- and what a view stands on is signed under the keys that its table lists: each user's part stands on a handle that
+  -- the user signed, each group's on one that a member did, and pending changes with effect are by those who may make
+  -- them.
   pub signed : AreSigned keys run
 
 -- ---- premises

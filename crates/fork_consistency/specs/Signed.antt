@@ -1,16 +1,21 @@
 -- What holds of each accepted view by its rules alone, whoever has whose keys.
-use Rattle.std.specs.Prelude.{◌≡◌, ◌==◌, true, List, Option, Some, IsSomeAnd, if◌then◌else◌}
+use Rattle.std.specs.Prelude.{◌≡◌, ◌⊎◌, ◌<◌, ◌≤◌, ◌==◌, true, List, Option, Some, None, IsSomeAnd, if◌then◌else◌}
 use Rattle.std.specs.List.{All, Contains}
-use Rattle.layout.specs.Types.{Bytes, Key, User}
+use Rattle.layout.specs.Types.{Bytes, Digest, Group, Key, User}
 use Rattle.lms_sign.specs.Signature.{valid}
 use Rattle.principals.specs.Table.{Table, is_member, key_of}
 use Rattle.version_order.specs.declared.structure.GroupRecord.{GroupRecord}
 use Rattle.version_order.specs.Structure.{Structure, structure}
 use Rattle.update_cert.specs.Cert.{cert}
+use Rattle.update_cert.specs.Change.{Change}
+use Rattle.update_cert.specs.World.{Content, has_effect, permitted}
 use Rattle.pending_list.specs.Reply.{PendingItem}
 use Rattle.pending_list.specs.declared.signed.Signed.{Signed}
 use Rattle.reply_rules.specs.Lists.{items}
+use Rattle.client_tree.specs.Genesis.{first_handle}
+use Rattle.client_tree.specs.View.{actor_of, handle_of, newest, structure_of}
 use Rattle.agreement.specs.Runs.{View}
+use Rattle.agreement.specs.Worlds.{view_in}
 use Rattle.client_runs.specs.Released.{views}
 use Rattle.client_runs.specs.Runs.{Event, IsRun, Keys, public_key}
 
@@ -22,17 +27,73 @@ key_by pinned t u = if u == 0 then Some pinned else key_of u t
 abbrev pub IsSignedBy : Key → Table → User → Bytes → Bytes → Type 0
 IsSignedBy pinned t u text signature = IsSomeAnd (key_by pinned t u) (λ k. valid k text signature ≡ true)
 
+-- ---- on which handles parts stand
+
+-- The structure of the view is this user's, and signed under the user's key.
+pub record IsUsersStructure (pinned : Key) (x : View) (u : User) (z : Signed Structure) : Type 0 where
+  pub there : Contains x.lists.structures z
+  pub user : z.value.plan.user ≡ u
+  pub signed : IsSignedBy pinned x.table u (structure.spell z.value) z.signature
+
+-- the user's part stands on the handle of such a structure
+abbrev pub StandsOnOwn : Key → View → User → Type 0
+StandsOnOwn pinned x u =
+    (z : Signed Structure) × IsUsersStructure pinned x u z × (handle_of (view_in pinned x) u ≡ z.value.handle)
+
+-- the view has no structure of the user, whose part stands on the handle of the beginning
+abbrev pub UserIsAtFirst : Key → View → User → Type 0
+UserIsAtFirst pinned x u =
+    (structure_of u x.lists.structures ≡ None) × (handle_of (view_in pinned x) u ≡ first_handle u pinned)
+
+-- The record is the group's newest in the view. It stands in a structure that is signed under the key of its user, who
+-- was a member at the record's table version.
+pub record IsMembersRecord (pinned : Key) (x : View) (g : Group) (r : GroupRecord) : Type 0 where
+  pub newest : newest g x.lists.structures ≡ Some r
+  pub group : r.group ≡ g
+  pub within : Signed Structure
+  pub there : Contains x.lists.structures within
+  pub listed : Contains within.value.groups r
+  pub signed : IsSignedBy pinned x.table within.value.plan.user (structure.spell within.value) within.signature
+  pub member : is_member x.table g within.value.plan.user r.table ≡ true
+
+-- the group's part stands on the handle of such a record
+abbrev pub StandsOnMembers : Key → View → Group → Type 0
+StandsOnMembers pinned x g =
+    (r : GroupRecord) × IsMembersRecord pinned x g r × (handle_of (view_in pinned x) g ≡ r.handle)
+
+-- the view has no record of the group, whose part stands on the handle of the beginning
+abbrev pub GroupIsAtFirst : Key → View → Group → Type 0
+GroupIsAtFirst pinned x g =
+    (newest g x.lists.structures ≡ None) × (handle_of (view_in pinned x) g ≡ first_handle g pinned)
+
+-- ---- what pending changes rest on
+
+-- A pending change that has effect, whatever stands at its place, is in a certificate that is signed under its user's
+-- key, and this user may change that part, where membership is judged at the operation's table version.
+abbrev pub HaveCauses : Key → View → Type 0
+HaveCauses pinned x =
+    (i : PendingItem) (c : Change Digest) (content : Option Content) → Contains (items x.lists) i
+    → Contains i.cert.changes c → has_effect (actor_of x.table i) c content ≡ true
+    → IsSignedBy pinned x.table i.cert.user (cert.spell i.cert) i.signature × (permitted (actor_of x.table i) c ≡ true)
+
+-- ---- accepted views
+
 pub record IsSigned (pinned : Key) (x : View) : Type 0 where
-  -- each structure is signed under its user's key; so the handle on which a user's part stands is
+  -- each structure is signed under its user's key,
   pub structures : (z : Signed Structure) → Contains x.lists.structures z
       → IsSignedBy pinned x.table z.value.plan.user (structure.spell z.value) z.signature
-  -- so is the certificate of each pending operation
+  -- and so is the certificate of each pending operation;
   pub certificates : (i : PendingItem) → Contains (items x.lists) i
       → IsSignedBy pinned x.table i.cert.user (cert.spell i.cert) i.signature
-  -- the record of a group is of a user who was a member at its table version; so the handle on which the group's part
-  -- stands is
+  -- the record of a group is of a user who was a member at its table version.
   pub records : (z : Signed Structure) (r : GroupRecord) → Contains x.lists.structures z → Contains z.value.groups r
       → is_member x.table r.group z.value.plan.user r.table ≡ true
+  -- So a user's part stands on a handle that the user signed, or on that of the beginning,
+  pub users : (u : User) → u < 64 → StandsOnOwn pinned x u ⊎ UserIsAtFirst pinned x u
+  -- a group's on one that a member signed, or on that of the beginning,
+  pub groups : (g : Group) → 64 ≤ g → StandsOnMembers pinned x g ⊎ GroupIsAtFirst pinned x g
+  -- and what is pending changes a part only by those who may.
+  pub causes : HaveCauses pinned x
 
 -- so it is with each accepted view
 abbrev pub AreSigned : Keys → List Event → Type 0

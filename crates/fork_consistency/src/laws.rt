@@ -68,7 +68,9 @@ pub fn looks_tell_of_one_tree()
 {}
 
 /// Whoever has whose keys: in each accepted view each structure and each pending certificate is signed under its user's
-/// key by the view's table, and the record of each group is of a user who was a member at its table version.
+/// key by the view's table, and the record of each group is of a user who was a member at its table version. So each
+/// user's part stands on a handle that the user signed, each group's on one that a member signed, or on that of the
+/// beginning; and a pending change that has effect is signed by a user who may make it.
 pub fn views_are_signed()
     ensures { EachRunAtAll AreSigned }
 {}
