@@ -1,5 +1,5 @@
 -- Runs are fork consistent.
-use Rattle.std.proofs.Common.{Bool, List, Result, Ok, Err, IfOk}
+use Rattle.std.proofs.Common.{Bool, List, Result, Ok, Err, IfOk, subst}
 use Rattle.fork_consistency.specs.Premises.{Premises}
 use Rattle.client_runs.specs.Carried.{AreCarriedOut, script_keys}
 use Rattle.client_runs.specs.Released.{views}
@@ -8,13 +8,14 @@ use Rattle.client_runs.specs.declared.world.Answer.{Answer}
 use Rattle.client_runs.specs.declared.world.WorldStep.{WorldStep}
 use Rattle.fork_consistency.proofs.Agreed.{agreed, all_released, are_accepted, ended, growing, numbered}
 use Rattle.fork_consistency.proofs.ScriptKeys.{pinned_fits}
-use Rattle.fork_consistency.specs.ForkConsistent.{AreForkConsistent, IsForkConsistent, RunPremises, StandWhereStolen, StolenPremises}
+use Rattle.fork_consistency.specs.ForkConsistent.{AreForkConsistent, AtEach, IsForkConsistent, RunPremises, StandWhereStolen, StolenPremises}
 use Rattle.fork_consistency.specs.OwnParts.{OthersAreHonest}
 use Rattle.fork_consistency.proofs.OwnParts.{own_keys_stand, own_parts, super_of}
 use Rattle.fork_consistency.proofs.Signed.{are_signed}
 use Rattle.layout.specs.Types.{User}
-use Rattle.fork_consistency.proofs.Growing.{only_grow}
+use Rattle.fork_consistency.proofs.Growing.{lines_stay, only_grow}
 use Rattle.fork_consistency.proofs.OneWorld.{one_part, one_world}
+use Rattle.fork_consistency.proofs.Premises.{is_before, others_before, premises_before}
 use Rattle.fork_consistency.proofs.RunWorlds.{are_worlds_in, can_be_read, can_read}
 use Rattle.fork_consistency.proofs.Shown.{show_trees, show_worlds}
 use Rattle.fork_consistency.proofs.ByCertificates.{by_certificates, super_honest}
@@ -27,6 +28,7 @@ consistent keys run is p = record {
   ended = ended keys run is p;
   released = all_released keys run is p;
   growing = only_grow (views run) (are_accepted keys run is p) (growing keys run is p);
+  staying = lines_stay run (are_accepted keys run is p);
   agreed = agreed keys run is p;
   worlds = are_worlds_in keys run is p;
   shown = show_worlds keys run is p;
@@ -34,6 +36,12 @@ consistent keys run is p = record {
   one_world = one_world keys run is p;
   tables = by_certificates keys run is (super_honest keys run p);
 }
+
+-- as they were at each moment
+pub at_each : (keys : Keys) (run : List Event) → IsRun keys run → Premises keys run → AtEach (AreForkConsistent keys) run
+at_each keys run is p later older at =
+    let whole = subst (IsRun keys) at is in
+    consistent keys older (is_before keys later older whole) (premises_before keys later older whole (subst (Premises keys) at p))
 
 -- the premises, with the one that is so of the keys of scripts
 all_premises : (run : List Event) → RunPremises run → Premises script_keys run
@@ -55,6 +63,11 @@ stands stolen keys run is others = record {
   signed = are_signed keys run is;
 }
 
+pub stands_at_each : (stolen : User → Bool) (keys : Keys) (run : List Event) → IsRun keys run → OthersAreHonest stolen keys run → AtEach (StandWhereStolen stolen keys) run
+stands_at_each stolen keys run is others later older at =
+    let whole = subst (IsRun keys) at is in
+    stands stolen keys older (is_before keys later older whole) (others_before keys stolen later older whole (subst (OthersAreHonest stolen keys) at others))
+
 stolen_premises : (stolen : User → Bool) (run : List Event) → StolenPremises stolen run → OthersAreHonest stolen script_keys run
 stolen_premises stolen run p = record {
   super = p.super;
@@ -74,7 +87,9 @@ carried steps answers c = record {
   certificates = c.certificates;
   structures = c.structures;
   consistent = λ p. consistent script_keys c.events c.is_run (all_premises c.events p);
+  at_each = λ p. at_each script_keys c.events c.is_run (all_premises c.events p);
   stolen = λ set p. stands set script_keys c.events c.is_run (stolen_premises set c.events p);
+  stolen_at_each = λ set p. stands_at_each set script_keys c.events c.is_run (stolen_premises set c.events p);
 }
 
 -- so is what a call answers with them

@@ -1,7 +1,8 @@
--- The line of each earlier view of a user is a beginning of that of a later one.
+-- The line of each earlier view of a user is a beginning of that of a later one; and a view's line stays as it is when more
+-- views are accepted.
 use Rattle.std.proofs.Common.{◌≡◌, ℕ, zero, suc, ◌+◌, ◌-◌, ◌≤◌, Bool, true, false, ◌==◌, List, [], ◌∷◌, ◌++◌, append_assoc, find, Option, Some, None, refl, sym, ap, ◌∙◌, subst, inl, inr, option_map, if◌then◌else◌, arith}
 use Rattle.std.specs.Option.{option_map_or}
-use Rattle.std.proofs.lemmas.Bool.{eq-eqb, eqb-true}
+use Rattle.std.proofs.lemmas.Bool.{and_left, and_right, cases_eq, eq-eqb, eqb-true, ne_eqb}
 use Rattle.layout.specs.Types.{User}
 use Rattle.version_order.specs.Plan.{Plan}
 use Rattle.version_order.specs.Structure.{Structure}
@@ -11,10 +12,12 @@ use Rattle.reply_rules.specs.Lists.{Lists, structure_of}
 use Rattle.reply_rules.specs.Lists as reply_lists
 use Rattle.agreement.specs.Lines.{Grow, IsBeginning, line, line_at}
 use Rattle.agreement.specs.Runs.{Accepted, IsRun as AreAccepted, View, last_signed, number_of, user_of}
-use Rattle.agreement.proofs.Members.{In, contains_in, in-right, in_contains}
+use Rattle.agreement.proofs.Members.{In, contains_in, in-right, in_contains, to_all}
 use Rattle.agreement.proofs.Runs.{signed_plan}
+use Rattle.client_runs.specs.Released.{accepted_by, tried_view, views}
+use Rattle.client_runs.specs.Runs.{Event, client_of}
 use Rattle.fork_consistency.proofs.Lists.{found_in}
-use Rattle.fork_consistency.specs.ForkConsistent.{OnlyGrow}
+use Rattle.fork_consistency.specs.ForkConsistent.{LinesStay, OnlyGrow}
 use Rattle.fork_consistency.proofs.Acting.{next_number}
 
 -- what a view met when it was accepted, and that those before it are of the run
@@ -156,3 +159,36 @@ only_grow run v growing later older x y at has user =
     let i = contains_in x older has in
     let within : (z : View) → In z (y ∷ older) → In z run = λ z j. subst (λ (vs : List View). In z vs) (sym at) (in-right z later (y ∷ older) j) in
     by_number run v growing x y (within x (inr i)) (within y (inl refl)) user (rises older y rest.0 rest.1 x i user)
+
+-- ---- lines stay
+
+-- one view more
+same_with : (older : List View) (y : View) → Accepted older y → AreAccepted older → (x : View) → In x older → line (y ∷ older) x ≡ line older x
+same_with older y accepted v x i =
+    elim (cases_eq (user_of y) (user_of x)) [
+      | inl same ↦ (
+          let l = last_of older v (user_of y) x (sym same) i in
+          let next = next_after older y l.last accepted v l.is_last in
+          let less = l.greatest in
+          rw (and_right (user_of y == user_of x) (number_of y == number_of x) (ne_eqb (number_of y) (number_of x) (λ m. omega (arith, next, less, m)))) refl)
+      | inr other ↦ rw (and_left (user_of y == user_of x) (number_of y == number_of x) (ne_eqb (user_of y) (user_of x) other)) refl
+    ]
+
+same_below : (later rest : List View) → AreAccepted (later ++ rest) → (x : View) → In x rest → line (later ++ rest) x ≡ line rest x
+same_below [] rest v x i = refl
+same_below (y ∷ later) rest v x i = same_with (later ++ rest) y v.0 v.1 x (in-right x later rest i) ∙ same_below later rest v.1 x i
+
+-- the views of a run end with those that it had before
+views_before : (later older : List Event) → (more : List View) × (views (later ++ older) ≡ more ++ views older)
+views_before [] older = ([], refl)
+views_before (e ∷ later) older =
+    let here = accepted_by e.call (client_of e.user (later ++ older)) e.after (tried_view e.user (later ++ older)) in
+    let r = views_before later older in
+    (here ++ r.0, ap (λ (vs : List View). here ++ vs) r.1 ∙ sym (append_assoc here r.0 (views older)))
+
+pub lines_stay : (run : List Event) → AreAccepted (views run) → LinesStay run
+lines_stay run v later older at =
+    let (more, cut) = views_before later older in
+    let same : views run ≡ more ++ views older = ap views at ∙ cut in
+    to_all (λ x. line (views run) x ≡ line (views older) x) (views older)
+    (λ x i. ap (λ (vs : List View). line vs x) same ∙ same_below more (views older) (subst AreAccepted same v) x i)

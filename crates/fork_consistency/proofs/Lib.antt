@@ -30,6 +30,7 @@ mod Shown
 mod Begun
 mod OneWorld
 mod Growing
+mod Premises
 pub mod Consistent
 mod OwnChanges
 mod OwnParts

@@ -1,7 +1,7 @@
 -- Fork consistency: whatever the server answered, each accepted view of the run is the world of its line of operations,
 -- a user's line only grows, and views that have a structure in common agree up to it.
 use Rattle.std.specs.Prelude.{◌≡◌, Bool, false, List, ◌∷◌, ◌++◌, reverse}
-use Rattle.std.specs.List.{Contains}
+use Rattle.std.specs.List.{All, Contains}
 use Rattle.layout.specs.Types.{User}
 use Rattle.agreement.specs.Lines.{Agree, AreNumbered, EndWithOwn, IsBeginning, line}
 use Rattle.agreement.specs.Runs.{IsRun as AreAccepted, View, user_of}
@@ -25,6 +25,12 @@ OnlyGrow accepted =
     (later older : List View) (x y : View) → accepted ≡ later ++ y ∷ older → Contains older x → user_of x ≡ user_of y
     → IsBeginning (line accepted x) (line accepted y)
 
+-- the line of a view stays as it was when the view was accepted
+abbrev pub LinesStay : List Event → Type 0
+LinesStay run =
+    (later older : List Event) → run ≡ later ++ older
+    → All (λ x. line (views run) x ≡ line (views older) x) (views older)
+
 -- What holds of the accepted views of a run of clients with these keys.
 pub record AreForkConsistent (keys : Keys) (run : List Event) : Type 0 where
   -- Each view is of a reply that breaks no rule: each structure in it was signed over an earlier view, the own one is
@@ -37,8 +43,9 @@ pub record AreForkConsistent (keys : Keys) (run : List Event) : Type 0 where
   pub numbered : AreNumbered (views run)
   pub ended : EndWithOwn (views run)
   pub released : AreReleased run
-  -- A user's line only grows.
+  -- A user's line only grows, and the line of a view stays as it is.
   pub growing : OnlyGrow (views run)
+  pub staying : LinesStay run
   -- Views that have a structure in common have one line up to it.
   pub agreed : Agree (views run)
   -- The view is the plain file tree of its line: as each reading of the run's texts tells it, what is read of it, its
@@ -73,6 +80,12 @@ pub record StandWhereStolen (stolen : User → Bool) (keys : Keys) (run : List E
   -- them.
   pub signed : AreSigned keys run
 
+-- ---- at each moment
+
+-- what holds of the run as it was at each moment
+abbrev pub AtEach : (List Event → Type 0) → List Event → Type 0
+AtEach holds run = (later older : List Event) → run ≡ later ++ older → holds older
+
 -- ---- premises
 
 -- No signature is forged, no digest collides, and user 0's client added each user with the user's own key. That user
@@ -90,11 +103,15 @@ pub record StolenPremises (stolen : User → Bool) (run : List Event) : Type 0 w
   pub no_collision : NoCollision script_keys run
   pub added : AddsOwnKeysOf (IsOutside stolen) script_keys run
 
+-- a set without users
+abbrev pub nobody : User → Bool
+nobody u = false
+
 -- ---- steps that are carried out
 
 -- The steps with their answers are a run of clients, in which each refusal names the first broken rule; what these
--- release is used once; under the premises the accepted views are fork consistent; and what holds of them where keys
--- are stolen.
+-- release is used once; under the premises the accepted views are fork consistent, as they were at each moment, by
+-- what was released then; and what holds of them, then, where keys are stolen.
 pub record IsForkConsistent {A : Type 0} (steps : List (WorldStep A)) (answers : List (Answer A)) : Type 0 where
   pub events : List Event
   pub is_run : IsRun script_keys events
@@ -103,4 +120,7 @@ pub record IsForkConsistent {A : Type 0} (steps : List (WorldStep A)) (answers :
   pub certificates : (u : User) → CertificatesOnce u events
   pub structures : (u : User) → StructuresOnce u events
   pub consistent : RunPremises events → AreForkConsistent script_keys events
+  pub at_each : RunPremises events → AtEach (AreForkConsistent script_keys) events
   pub stolen : (set : User → Bool) → StolenPremises set events → StandWhereStolen set script_keys events
+  pub stolen_at_each : (set : User → Bool) → StolenPremises set events
+      → AtEach (StandWhereStolen set script_keys) events

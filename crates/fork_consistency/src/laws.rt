@@ -1,10 +1,13 @@
 //! Laws of whole runs, for the proofs of callers: functions that do nothing.
 
+ghost use Rattle.std.specs.Prelude.{◌↔◌, List};
 ghost use Rattle.std.specs.List.{All};
 ghost use Rattle.client_runs.specs.Released.{views};
+ghost use Rattle.client_runs.specs.Runs.{Event};
 ghost use Rattle.fork_consistency.specs.ByCertificates.{AreByCertificates, EachHonestSuper, HaveTexts};
 ghost use Rattle.fork_consistency.specs.ByCertificates.{ListOwnKeysOf};
-ghost use Rattle.fork_consistency.specs.ForkConsistent.{AreForkConsistent, StandWhereStolen};
+ghost use Rattle.fork_consistency.specs.ForkConsistent.{AreForkConsistent, AtEach, RunPremises, StandWhereStolen};
+ghost use Rattle.fork_consistency.specs.ForkConsistent.{StolenPremises, nobody};
 ghost use Rattle.fork_consistency.specs.Handles.{AllAreWhole, FirstAreWhole, SignsItsTable};
 ghost use Rattle.fork_consistency.specs.OwnParts.{EachRunOfOthers};
 ghost use Rattle.fork_consistency.specs.Shown.{ShowTrees, ShowWorlds};
@@ -50,7 +53,9 @@ pub fn views_of_runs_are_worlds()
 /// client added each user with the user's own key, and user 0's key has the form of a key. Of servers nothing is
 /// assumed.
 pub fn runs_are_fork_consistent()
-    ensures { EachRun AreForkConsistent }
+    ensures consistent { EachRun AreForkConsistent }
+    // So each was at each of its moments, by what had been released by then.
+    ensures at_each { EachRun (λ keys run. AtEach (AreForkConsistent keys) run) }
 {}
 
 /// Where the server has the keys of some users, never of user 0: in each accepted view the part of each other user is
@@ -58,7 +63,14 @@ pub fn runs_are_fork_consistent()
 /// forged, no digest collides, and user 0's client added each of them with the user's own key. With what else holds of
 /// such a view.
 pub fn own_parts_stand()
-    ensures { EachRunOfOthers StandWhereStolen }
+    ensures stand { EachRunOfOthers StandWhereStolen }
+    // So it was at each moment of the run, by what had been released by then.
+    ensures at_each { EachRunOfOthers (λ stolen keys run. AtEach (StandWhereStolen stolen keys) run) }
+{}
+
+/// Where nobody's key is stolen, the premises of this are those of fork consistency.
+pub fn stolen_by_nobody()
+    ensures { (run : List Event) → StolenPremises nobody run ↔ RunPremises run }
 {}
 
 /// Whoever has whose keys, as long as no digest collides: each accepted view of a run has a tree, and what its client

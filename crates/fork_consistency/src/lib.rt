@@ -9,6 +9,6 @@ mod running;
 
 pub use laws::{
     handles_are_whole, looks_tell_of_one_tree, own_parts_stand, runs_are_fork_consistent,
-    tables_are_by_certificates, views_are_signed, views_of_runs_are_worlds,
+    stolen_by_nobody, tables_are_by_certificates, views_are_signed, views_of_runs_are_worlds,
 };
 pub use running::run;
