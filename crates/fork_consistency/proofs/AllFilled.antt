@@ -29,7 +29,7 @@ use Rattle.fork_consistency.specs.Premises.{HasReleased, Premises}
 use Rattle.fork_consistency.proofs.Agreed.{are_accepted, item_released}
 use Rattle.fork_consistency.proofs.AllWhole.{EachHandle, IsPlain, all_whole, low_all, names_by, part_by}
 use Rattle.fork_consistency.proofs.Backed.{IsBacked}
-use Rattle.fork_consistency.proofs.Begun.{IsBegun, begun_by_blocks}
+use Rattle.fork_consistency.proofs.Begun.{AmongThem, IsBegun, begun_by_blocks}
 use Rattle.fork_consistency.proofs.ByCertificates.{super_honest, view}
 use Rattle.fork_consistency.proofs.Certificates.{text_of}
 use Rattle.fork_consistency.proofs.Filled.{first_filled, part_filled}
@@ -111,10 +111,10 @@ module _ (keys : Keys) (run : List Event) (is : IsRun keys run) (premises : Prem
   pinned_fits = premises.true_keys.pinned
 
   -- a certificate that its user's client released was begun with contents that were laid out
-  begun : (c : Cert) → cert.Fits c → HasReleased c.user run (cert.spell c) → IsBegun texts c
+  begun : (c : Cert) → cert.Fits c → HasReleased c.user run (cert.spell c) → IsBegun (AmongThem texts) c
   begun c fits has =
       let t = text_of keys run is c.user c fits refl has in
-      subst (IsBegun texts) t.value (begun_by_blocks texts keys c.user run is inside t.text t.one t.there t.read)
+      subst (IsBegun (AmongThem texts)) t.value (begun_by_blocks texts keys c.user run is inside t.text t.one t.there t.read)
 
   made_released : (c : Cert) → cert.Fits c → HasReleased c.user run (cert.spell c) → (d : Digest) → IsMadeBy c.changes d → IsContent texts d
   made_released c fits has d made = begun_content texts pinned_key first c (begun c fits has) d made

@@ -14,6 +14,7 @@ use Rattle.fork_consistency.proofs.OwnParts.{own_keys_stand, own_parts, super_of
 use Rattle.fork_consistency.proofs.Signed.{are_signed}
 use Rattle.layout.specs.Types.{User}
 use Rattle.fork_consistency.proofs.Growing.{lines_stay, only_grow}
+use Rattle.fork_consistency.proofs.LaidFiles.{name_laid_files}
 use Rattle.fork_consistency.proofs.OneWorld.{one_part, one_world}
 use Rattle.fork_consistency.proofs.Premises.{is_before, others_before, premises_before}
 use Rattle.fork_consistency.proofs.RunWorlds.{are_worlds_in, can_be_read, can_read}
@@ -34,6 +35,7 @@ consistent keys run is p = record {
   shown = show_worlds keys run is p;
   readings = can_be_read keys run is p;
   one_world = one_world keys run is p;
+  laid = name_laid_files keys run is p;
   tables = by_certificates keys run is (super_honest keys run p);
 }
 

@@ -157,6 +157,7 @@ module _ (texts : List Bytes) (apart : NoneCollide texts texts) (laid : List Byt
   -- what the digest stands for
   pub record IsFile (digest : Digest) : Type 0 where
     pub bytes : Bytes
+    pub told : option_and_then (file_over (told_by_texts texts)) (inode_at (told_by_texts texts) digest) ≡ Some bytes
     pub stands : (reads : Reading) → Agrees (told_by_texts texts) reads → reads.content digest ≡ File bytes
 
   pub file_laid : (digest : Digest) → is_file_laid laid digest ≡ true → IsFile digest
@@ -178,4 +179,4 @@ module _ (texts : List Bytes) (apart : NoneCollide texts texts) (laid : List Byt
           let long : length j.bytes ≡ n.size = all_places n.size (length n.blocks) (length j.bytes) (count_told text n read) j.long in
           let over : file_over (told_by_texts texts) n ≡ Some j.bytes = ap (option_and_then (if_of_size n.size)) j.are ∙ (rw (eq-eqb (length j.bytes) n.size long) refl) in
           let there : inode_at (told_by_texts texts) digest ≡ Some n = ap (option_and_then (λ x. result_ok (whole inode x))) held ∙ ap result_ok read in
-          record { bytes = j.bytes; stands = λ reads agrees. file_is (told_by_texts texts) reads digest j.bytes n agrees there (kind_is n.kind parts.0) over }
+          record { bytes = j.bytes; told = ap (option_and_then (file_over (told_by_texts texts))) there ∙ over; stands = λ reads agrees. file_is (told_by_texts texts) reads digest j.bytes n agrees there (kind_is n.kind parts.0) over }

@@ -37,7 +37,7 @@ use Rattle.client_verify.specs.Laid.{are_blocks_laid, are_laid, has_text, is_fil
 use Rattle.std.specs.List.{flat_map}
 use Rattle.agreement.proofs.Members.{In, in-left, in-right}
 use Rattle.agreement.proofs.Tests.{all_in, any_in}
-use Rattle.fork_consistency.proofs.Begun.{IsBegun}
+use Rattle.fork_consistency.proofs.Begun.{AmongThem, IsBegun}
 use Rattle.fork_consistency.proofs.Contents.{count_told}
 use Rattle.fork_consistency.proofs.Served.{IsContent, IsLaidOut, IsTableFile}
 use Rattle.fork_consistency.proofs.Slots.{IsMadeBy, Lays}
@@ -241,5 +241,5 @@ module _ (texts : List Bytes) where
       unfolding are_laid
       changes_content cs are d (c, i, names) = action_content c.action d (all_in (λ (x : Change Digest). is_laid laid x.action) cs are c i) names
 
-    pub begun_content : (c : Cert) → IsBegun texts c → (d : Digest) → IsMadeBy c.changes d → IsContent texts d
+    pub begun_content : (c : Cert) → IsBegun (AmongThem texts) c → (d : Digest) → IsMadeBy c.changes d → IsContent texts d
     begun_content c begun d made = changes_content begun.laid begun.inside c.changes begun.are d made

@@ -29,6 +29,7 @@ pub mod LastViews
 mod Shown
 mod Begun
 mod OneWorld
+mod LaidFiles
 mod Growing
 mod Premises
 pub mod Consistent

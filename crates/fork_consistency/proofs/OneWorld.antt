@@ -36,7 +36,7 @@ use Rattle.fork_consistency.specs.Handles.{told_by_texts}
 use Rattle.fork_consistency.specs.OwnParts.{OnePart}
 use Rattle.fork_consistency.specs.Worlds.{IsReadingOf, OneWorld}
 use Rattle.fork_consistency.proofs.AllHonest.{apart_first, first_agrees}
-use Rattle.fork_consistency.proofs.Begun.{IsBegun, each_begun}
+use Rattle.fork_consistency.proofs.Begun.{AmongThem, IsBegun, each_begun}
 use Rattle.fork_consistency.proofs.Certificates.{text_of}
 use Rattle.fork_consistency.proofs.Contents.{file_laid}
 use Rattle.fork_consistency.proofs.Lists.{found_in, in-filter_map}
@@ -74,13 +74,13 @@ module _ (texts : List Bytes) (apart : NoneCollide texts texts) (a b : Reading) 
       let one : read_change a c ≡ read_change b c = ap (λ (x : Action Content). let y : Change Content = record { principal = c.principal; i_number = c.i_number; action = x } in y) (same_action laid inside c.action both.0) in
       ap (λ (x : Change Content). x ∷ read_changes a cs) one ∙ ap (λ (xs : List (Change Content)). read_change b c ∷ xs) (same_each laid inside cs both.1)
 
-  same_changes : (c : Cert) → IsBegun texts c → read_changes a c.changes ≡ read_changes b c.changes
+  same_changes : (c : Cert) → IsBegun (AmongThem texts) c → read_changes a c.changes ≡ read_changes b c.changes
   unfolding are_laid
   same_changes c begun = same_each begun.laid begun.inside c.changes begun.are
 
   -- ---- worlds
 
-  pub same_world : (l : List Cert) (w : Tree) → ((c : Cert) → In c l → IsBegun texts c) → world_from a w l ≡ world_from b w l
+  pub same_world : (l : List Cert) (w : Tree) → ((c : Cert) → In c l → IsBegun (AmongThem texts) c) → world_from a w l ≡ world_from b w l
   same_world [] w each = refl
   same_world (c ∷ cs) w each =
       ap (λ (changes : List (Change Content)). world_from a (after (actor_in w c) changes w) cs) (same_changes c (each c (inl refl)))
@@ -97,28 +97,28 @@ module _ (keys : Keys) (run : List Event) (is : IsRun keys run) (apart : NoColli
   inside t i = in-right t (flat_map hashed_at run) (first_texts key) i
 
   -- the empty directory
-  root_of : (reads : Reading) → IsReadingOf keys run reads → reads.content (inode_digest root_inode) ≡ Directory []
+  pub root_of : (reads : Reading) → IsReadingOf keys run reads → reads.content (inode_digest root_inode) ≡ Directory []
   root_of reads agrees =
       let same : Some (reads.content (inode_digest root_inode)) ≡ Some (Directory []) =
       has_genesis key (at_first (first_blocks key)) refl (apart_first texts apart key pinned inside reads agrees) reads (first_agrees texts apart key pinned inside reads agrees) 0 2 refl in
       cc same
 
   -- readings give one world to certificates that were begun
-  pub one_of : (l : List Cert) → ((c : Cert) → In c l → IsBegun texts c) → (a b : Reading) → IsReadingOf keys run a → IsReadingOf keys run b → (p : Principal) (n : INumber) → world a key l p n ≡ world b key l p n
+  pub one_of : (l : List Cert) → ((c : Cert) → In c l → IsBegun (AmongThem texts) c) → (a b : Reading) → IsReadingOf keys run a → IsReadingOf keys run b → (p : Principal) (n : INumber) → world a key l p n ≡ world b key l p n
   one_of l each a b of_a of_b p n =
       ap (λ (w : Tree). w p n) (same_world texts apart a b of_a of_b (root_of a of_a) (root_of b of_b) l (genesis key) each)
 
   -- what a user's client released was begun
-  of_user : (u : User) (a : Bytes) (o : Option (Signed Cert)) (c : Cert) → In a (released u run) → cert_in u a ≡ o → option_map (λ (s : Signed Cert). s.value) o ≡ Some c → IsBegun texts c
+  of_user : (u : User) (a : Bytes) (o : Option (Signed Cert)) (c : Cert) → In a (released u run) → cert_in u a ≡ o → option_map (λ (s : Signed Cert). s.value) o ≡ Some c → IsBegun (AmongThem texts) c
   of_user u a None c i at same = absurd (cc same)
   of_user u a (Some s) c i at same =
       let one : s.value ≡ c = cc same in
-      subst (IsBegun texts) one (each_begun texts keys u run is (λ y k. in-left y (flat_map hashed_at run) (first_texts key) k) a s i at)
+      subst (IsBegun (AmongThem texts)) one (each_begun texts keys u run is (λ y k. in-left y (flat_map hashed_at run) (first_texts key) k) a s i at)
 
   pub one_part : OnePart keys run
   one_part u n a b of_a of_b p i low = one_of (certificates_up_to n u run) each a b of_a of_b p i
     where
-      each : (c : Cert) → In c (certificates_up_to n u run) → IsBegun texts c
+      each : (c : Cert) → In c (certificates_up_to n u run) → IsBegun (AmongThem texts) c
       each c j =
           let (k, l, at) = in-filter_map (certificate u run) (range_with_len 1 n) c j in
           let m = found_in (λ (d : Cert). d.number == k) (certificates u run) c at in
@@ -127,16 +127,16 @@ module _ (keys : Keys) (run : List Event) (is : IsRun keys run) (apart : NoColli
 
 module _ (keys : Keys) (run : List Event) (is : IsRun keys run) (premises : Premises keys run) where
   -- each certificate of a line was begun
-  begun : (x : View) → In x (views run) → (c : Cert) → In c (line (views run) x) → cert.Fits c → IsBegun (hashed keys run) c
+  begun : (x : View) → In x (views run) → (c : Cert) → In c (line (views run) x) → cert.Fits c → IsBegun (AmongThem (hashed keys run)) c
   begun x i c j fits =
       let has = of_all (λ (d : Cert). HasReleased d.user run (cert.spell d)) (line (views run) x) (of_all (λ (y : View). All (λ (d : Cert). HasReleased d.user run (cert.spell d)) (line (views run) y)) (views run) (all_released keys run is premises) x i) c j in
       let t = text_of keys run is c.user c fits refl has in
-      subst (IsBegun (hashed keys run)) t.value (each_begun (hashed keys run) keys c.user run is (λ y k. in-left y (flat_map hashed_at run) (first_texts (public_key keys 0)) k) t.text t.one t.there t.read)
+      subst (IsBegun (AmongThem (hashed keys run))) t.value (each_begun (hashed keys run) keys c.user run is (λ y k. in-left y (flat_map hashed_at run) (first_texts (public_key keys 0)) k) t.text t.one t.there t.read)
 
   abbrev vs : List View
   vs = views run
 
-  line_fits : (x : View) (c : Cert) → In c (line vs x) → cert.Fits c
+  pub line_fits : (x : View) (c : Cert) → In c (line vs x) → cert.Fits c
   line_fits x c j =
       let k = subst (λ (l : List Cert). In c l) (sym (lines.line_certs vs (user_of x) (number_of x))) j in
       let (i, m, same) = in-map (λ (i : PendingItem). i.cert) (lines.items_at vs (user_of x) (number_of x)) c k in

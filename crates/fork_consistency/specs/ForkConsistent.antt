@@ -14,6 +14,7 @@ use Rattle.client_runs.specs.Released.{views}
 use Rattle.client_runs.specs.Runs.{Event, IsRun, Keys}
 use Rattle.client_runs.specs.UsedOnce.{CertificatesOnce, LeavesOnce, StructuresOnce}
 use Rattle.fork_consistency.specs.ByCertificates.{AreByCertificates, ListOwnKeysOf}
+use Rattle.fork_consistency.specs.LaidFiles.{NameLaidFiles}
 use Rattle.fork_consistency.specs.OwnParts.{IsOutside, OnePart, OwnPartsStand}
 use Rattle.fork_consistency.specs.Shown.{ShowTrees, ShowWorlds}
 use Rattle.fork_consistency.specs.Signed.{AreSigned}
@@ -57,6 +58,8 @@ pub record AreForkConsistent (keys : Keys) (run : List Event) : Type 0 where
   -- The run's texts can be read, and leave no choice of the world of a line.
   pub readings : CanBeRead keys run
   pub one_world : OneWorld keys run
+  -- What an operation makes or puts is, by each reading, the file that its user's client was handed for it.
+  pub laid : NameLaidFiles keys run
   -- The table of principals is that of the beginning, changed by user 0's certificates 1, 2, 3 and so on, up to some
   -- number.
   pub tables : AreByCertificates keys run

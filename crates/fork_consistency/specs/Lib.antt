@@ -6,3 +6,4 @@ pub mod Shown
 pub mod ForkConsistent
 pub mod OwnParts
 pub mod Signed
+pub mod LaidFiles

@@ -9,6 +9,7 @@ ghost use Rattle.fork_consistency.specs.ByCertificates.{ListOwnKeysOf};
 ghost use Rattle.fork_consistency.specs.ForkConsistent.{AreForkConsistent, AtEach, RunPremises, StandWhereStolen};
 ghost use Rattle.fork_consistency.specs.ForkConsistent.{StolenPremises, nobody};
 ghost use Rattle.fork_consistency.specs.Handles.{AllAreWhole, FirstAreWhole, SignsItsTable};
+ghost use Rattle.fork_consistency.specs.LaidFiles.{NameLaidFiles};
 ghost use Rattle.fork_consistency.specs.OwnParts.{EachRunOfOthers};
 ghost use Rattle.fork_consistency.specs.Shown.{ShowTrees, ShowWorlds};
 ghost use Rattle.fork_consistency.specs.Premises.{AddsOwnKeys, EachRun, EachRunApart, everybody};
@@ -45,6 +46,8 @@ pub fn views_of_runs_are_worlds()
     ensures readings { EachRun CanBeRead }
     // and all of them give one world to a line.
     ensures one { EachRun OneWorld }
+    // What an operation makes or puts is by each of them the file that its user's client was handed for it.
+    ensures laid { EachRun NameLaidFiles }
     // So what looks answer is, and what a client tells of its view.
     ensures shown { EachRun ShowWorlds }
 {}

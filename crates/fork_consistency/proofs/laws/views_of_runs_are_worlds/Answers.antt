@@ -1,3 +1,4 @@
+use Rattle.fork_consistency.proofs.LaidFiles.{name_laid_files}
 use Rattle.fork_consistency.proofs.OneWorld.{one_world}
 use Rattle.fork_consistency.proofs.RunWorlds.{are_worlds_in, can_be_read}
 use Rattle.fork_consistency.proofs.Shown.{show_worlds}
@@ -14,3 +15,6 @@ returns-clause-one c = one_world
 
 pub returns-clause-shown : goal.returns-clause-shown
 returns-clause-shown c = show_worlds
+
+pub returns-clause-laid : goal.returns-clause-laid
+returns-clause-laid c = name_laid_files

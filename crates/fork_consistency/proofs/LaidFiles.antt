@@ -1,0 +1,113 @@
+-- What the operations of a line name was laid out when their users' clients began them.
+use Rattle.std.proofs.Common.{◌≡◌, true, ◌||◌, List, [], Option, Ok, Err, IsSomeAnd, refl, sym, ap, ◌∙◌, subst, inl, inr}
+use Rattle.std.specs.Prelude.{◌⊎◌}
+use Rattle.std.specs.List.{All, flat_map}
+use Rattle.std.specs.Str.{bytes_eq}
+use Rattle.std.proofs.lemmas.Bool.{or_cases}
+use Rattle.std.proofs.lemmas.Slice.Eq.{bytes_eq-Decides}
+use Rattle.layout.specs.Types.{Bytes, Digest, User}
+use Rattle.itable.specs.File.{NoneCollide}
+use Rattle.update_cert.specs.Change.{Action, Make, Put, Remove, Link, Unlink, AddUser, AddMember, DropMember, Change}
+use Rattle.update_cert.specs.Cert.{Cert, cert}
+use Rattle.update_cert.specs.Reading.{Reading}
+use Rattle.update_cert.specs.World.{Directory, File}
+use Rattle.tree_parts.specs.Blocks.{Agrees}
+use Rattle.client_releases.specs.declared.error.ClientError.TheVariants as error
+use Rattle.client_tree.specs.Genesis.{first_texts, inode_digest, root_inode}
+use Rattle.client_verify.specs.Laid.{are_laid, is_file_laid, is_laid}
+use Rattle.client_steps.specs.Steps.{Begins, Call}
+use Rattle.client_runs.specs.Released.{hashed, hashed_at, views}
+use Rattle.client_runs.specs.Runs.{Event, IsRun, Keys, public_key}
+use Rattle.agreement.specs.Lines.{line}
+use Rattle.agreement.specs.Runs.{View}
+use Rattle.agreement.proofs.Members.{In, contains_in, in-left, in_contains, of_all, to_all}
+use Rattle.agreement.proofs.Tests.{all_in}
+use Rattle.fork_consistency.specs.Handles.{told_by_texts}
+use Rattle.fork_consistency.specs.LaidFiles.{NameLaidFiles, NamesLaid, NamesWhatWasLaid, StandsForFile, WereLaid}
+use Rattle.fork_consistency.specs.Premises.{HasReleased, Premises}
+use Rattle.fork_consistency.proofs.Agreed.{all_released}
+use Rattle.fork_consistency.proofs.Among.{agrees_within, are_within, of_are_among}
+use Rattle.fork_consistency.proofs.Begun.{AmongThem, IsBegun, LaysSuch, begun_where, in_run}
+use Rattle.fork_consistency.proofs.BlocksOf.{are_hashed, blocks_by}
+use Rattle.fork_consistency.proofs.Certificates.{text_of}
+use Rattle.fork_consistency.proofs.Contents.{file_laid}
+use Rattle.fork_consistency.proofs.OneWorld.{line_fits, root_of}
+
+-- ---- what texts that were laid out tell
+
+module _ (texts : List Bytes) (apart : NoneCollide texts texts) (reads : Reading) (agrees : Agrees (told_by_texts texts) reads) (root : reads.content (inode_digest root_inode) ≡ Directory [])
+    (laid : List Bytes) (inside : (t : Bytes) → In t laid → In t texts) where
+  laid_apart : NoneCollide laid laid
+  laid_apart a b has_a has_b same =
+      apart a b (in_contains a texts (inside a (contains_in a laid has_a))) (in_contains b texts (inside b (contains_in b laid has_b))) same
+
+  agrees_with_laid : Agrees (told_by_texts laid) reads
+  agrees_with_laid =
+      agrees_within (told_by_texts laid) (told_by_texts texts)
+      (are_within texts apart (told_by_texts laid) (λ digest text is. (let a = of_are_among laid digest text is in (inside text a.0, a.1)))) reads agrees
+
+  stands_for_file : (d : Digest) → is_file_laid laid d ≡ true → StandsForFile reads laid d
+  stands_for_file d is =
+      let f = file_laid laid laid_apart laid (λ t i. i) d is in
+      subst (λ (o : Option Bytes). IsSomeAnd o (λ bytes. reads.content d ≡ File bytes)) (sym f.told) (f.stands reads agrees_with_laid)
+
+  stands_for_made : (d : Digest) → (is_file_laid laid d || bytes_eq d (inode_digest root_inode)) ≡ true → StandsForFile reads laid d ⊎ (reads.content d ≡ Directory [])
+  stands_for_made d is =
+      elim (or_cases (is_file_laid laid d) (bytes_eq d (inode_digest root_inode)) is) [
+        | inl file ↦ inl (stands_for_file d file)
+        | inr empty ↦ inr (ap reads.content ((bytes_eq-Decides d (inode_digest root_inode)).0 empty) ∙ root)
+      ]
+
+  names_laid : (a : Action Digest) → is_laid laid a ≡ true → NamesLaid reads laid a
+  names_laid (Make d) is = stands_for_made d is
+  names_laid (Put d) is = stands_for_file d is
+  names_laid Remove is = tt
+  names_laid (Link entry) is = tt
+  names_laid (Unlink name) is = tt
+  names_laid (AddUser u key) is = tt
+  names_laid (AddMember g u) is = tt
+  names_laid (DropMember g u) is = tt
+
+  all_named : (cs : List (Change Digest)) → are_laid laid cs ≡ true → All (λ change. NamesLaid reads laid change.action) cs
+  unfolding are_laid
+  all_named cs are =
+      to_all (λ (c : Change Digest). NamesLaid reads laid c.action) cs (λ c i. names_laid c.action (all_in (λ (d : Change Digest). is_laid laid d.action) cs are c i))
+
+-- ---- over a run
+
+module _ (keys : Keys) (run : List Event) (is : IsRun keys run) (premises : Premises keys run) where
+  abbrev texts : List Bytes
+  texts = hashed keys run
+
+  into : (t : Bytes) → In t (flat_map hashed_at run) → In t texts
+  into t i = in-left t (flat_map hashed_at run) (first_texts (public_key keys 0)) i
+
+  -- texts that are among those of the run, and were laid out by the user
+  abbrev OfUser : User → List (Change Digest) → List Bytes → Type 0
+  OfUser u changes laid = AmongThem texts changes laid × WereLaid u run changes laid
+
+  lays : (e : Event) → In e run → (call : Call) → e.call ≡ call → ((t : Bytes) → In t (blocks_by call) → In t texts) → LaysSuch (OfUser e.user) call
+  lays e i (Begins changes laid (Ok text)) at among = (among, record { step = e; there = in_contains e run i; user = refl; answer = Ok text; begins = at })
+  lays e i (Begins changes laid (Err error.Device)) at among =
+      (among, record { step = e; there = in_contains e run i; user = refl; answer = Err error.Device; begins = at })
+  lays e i call at among = tt
+
+  lays_own : (u : User) (e : Event) → In e run → e.user ≡ u → LaysSuch (OfUser u) e.call
+  lays_own u e i user =
+      subst (λ (v : User). LaysSuch (OfUser v) e.call) user (lays e i e.call refl (in_run texts run (λ t j. into t (are_hashed run t j)) e i))
+
+  begun : (x : View) → In x (views run) → (c : Cert) → In c (line (views run) x) → IsBegun (OfUser c.user) c
+  begun x i c j =
+      let all = all_released keys run is premises in
+      let of_x = of_all (λ (y : View). All (λ (d : Cert). HasReleased d.user run (cert.spell d)) (line (views run) y)) (views run) all x i in
+      let has = of_all (λ (d : Cert). HasReleased d.user run (cert.spell d)) (line (views run) x) of_x c j in
+      let t = text_of keys run is c.user c (line_fits keys run is premises x c j) refl has in
+      subst (IsBegun (OfUser c.user)) t.value (begun_where (OfUser c.user) keys c.user run is (lays_own c.user) t.text t.one t.there t.read)
+
+  pub name_laid_files : NameLaidFiles keys run
+  name_laid_files reads agrees =
+      let root = root_of keys run is premises.no_collision premises.true_keys.pinned reads agrees in
+      to_all (λ x. All (NamesWhatWasLaid reads run) (line (views run) x)) (views run)
+      (λ x i. to_all (NamesWhatWasLaid reads run) (line (views run) x)
+      (λ c j. (let b = begun x i c j in
+      record { laid = b.laid; were_laid = b.inside.1; named = all_named texts premises.no_collision reads agrees root b.laid b.inside.0 c.changes b.are })))
