@@ -11,14 +11,14 @@ use Rattle.version_order.specs.Structure.{Structure}
 use Rattle.update_cert.specs.Cert.{Cert}
 use Rattle.pending_list.specs.declared.signed.Signed.{Signed}
 use Rattle.pending_list.specs.Reply.{PendingItem}
-use Rattle.reply_rules.specs.Lists.{Lists, items}
+use Rattle.reply_rules.specs.Lists.{Lists, items, pending, shown}
 use Rattle.reply_rules.specs.Rules.{above, is_above, items_above, top_plan}
 use Rattle.reply_rules.proofs.Above.{above_plans}
 use Rattle.agreement.specs.Runs.{IsRun, NoCollision, View, number_of, structures, user_of}
-use Rattle.agreement.specs.Lines.{Agree, AreNumbered, EndWithOwn, EndsWith, Grow, Has, IsBeginning, IsNumbered, line, line_at}
+use Rattle.agreement.specs.Lines.{Agree, AgreeByPlans, AreNumbered, EndWithOwn, EndsWith, Grow, Has, HasPlan, IsBeginning, IsNumbered, line, line_at}
 use Rattle.agreement.proofs.Plans
-use Rattle.agreement.proofs.Members.{In, contains_in, in-append, in-filter, in-left, in-map, in-middle, in-right, map-in, one, one-cases, to_all}
-use Rattle.agreement.proofs.ByPlans.{Count, plan_in_item, plan_shown, shape}
+use Rattle.agreement.proofs.Members.{In, contains_in, in_contains, in-append, in-filter, in-left, in-map, in-middle, in-right, map-in, one, one-cases, to_all}
+use Rattle.agreement.proofs.ByPlans.{Count, pending_plans, plan_in_item, plan_shown, shape}
 use Rattle.agreement.proofs.Runs.{IsPending, is_of_cert, names_cert, none_collide, of_view, same_cert, same_certs, signed_plan, valid_by_plans}
 
 abbrev pub cert_in_item : PendingItem → Cert
@@ -187,14 +187,30 @@ module _ (run : List View) (v : IsRun run) (nc : NoCollision run) where
 
   -- ---- agreement
 
-  has_plan : (x : View) (z : Structure) → In x run → Has x z → Plans.Stands Plan Entry shape z.plan (of_view x)
-  has_plan x z i has =
-      elim (in-append z (structures x) (x.signed ∷ []) (contains_in z (structures x ++ x.signed ∷ []) has)) [
+  -- a plan that a view has is one of its plans
+  has_plan : (x : View) (p : Plan) → HasPlan x p → Plans.OccursIn Plan Entry shape p (of_view x)
+  has_plan x p has =
+      elim (in-append p (shown x.lists) (pending x.lists) (contains_in p (shown x.lists ++ pending x.lists) has)) [
+        | inl j ↦ inl j
+        | inr j ↦ inr (subst (λ (ps : List Plan). In p ps) (pending_plans x.lists) j)
+      ]
+
+  -- the plan of a structure that a view has is one that it has
+  has_its_plan : (x : View) (z : Structure) → In x run → Has x z → HasPlan x z.plan
+  has_its_plan x z i has =
+      in_contains z.plan (shown x.lists ++ pending x.lists)
+      (elim (in-append z (structures x) (x.signed ∷ []) (contains_in z (structures x ++ x.signed ∷ []) has)) [
         | inl j ↦ (
             let (s, k, e) = in-map (λ (s : Signed Structure). s.value) x.lists.structures z j in
-            inl (subst (λ (p : Plan). In p (map plan_shown x.lists.structures)) (sym (ap (λ (z : Structure). z.plan) e)) (map-in plan_shown x.lists.structures s k)))
-        | inr j ↦ elim j [ inl e ↦ inr (ap (λ (z : Structure). z.plan) e ∙ signed_plan run v x i) | inr none ↦ absurd none ]
-      ]
+            in-left z.plan (shown x.lists) (pending x.lists)
+            (subst (λ (p : Plan). In p (shown x.lists)) (sym (ap (λ (z : Structure). z.plan) e)) (map-in plan_shown x.lists.structures s k)))
+        | inr j ↦ elim j [
+          | inl e ↦ (
+              let own = in-right x.lists.own.plan (shown x.lists) (pending x.lists) (map-in plan_in_item (items x.lists) x.lists.own (in-middle x.lists.own x.lists.others [])) in
+              subst (λ (p : Plan). In p (shown x.lists ++ pending x.lists)) (sym (ap (λ (z : Structure). z.plan) e ∙ signed_plan run v x i)) own)
+          | inr none ↦ absurd none
+        ]
+      ])
 
   -- a line begins with what is up to one of its operations
   begins : (l : List Cert) (is : List PendingItem) (front : List PendingItem) (o : PendingItem) (back : List PendingItem) (before : List Cert) (operation : Cert)
@@ -205,13 +221,13 @@ module _ (run : List View) (v : IsRun run) (nc : NoCollision run) where
         ∙ ap (λ (c : Cert). before ++ c ∷ map cert_in_item back) of_o ∙ sym (append_assoc before (operation ∷ []) (map cert_in_item back)),
   )
 
-  pub agreed : Agree run
-  agreed x y z i j h k =
+  pub agreed_by_plans : AgreeByPlans run
+  agreed_by_plans x y s i j h k =
       let ix = contains_in x run i in
       let iy = contains_in y run j in
-      let g = Plans.agreement Plan Entry shape (map of_view run) (valid_by_plans run v) (none_collide run v nc) (of_view x) (of_view y) (in_run x ix) (in_run y iy) z.plan (has_plan x z ix h) (has_plan y z iy k) in
-      let (b, o, a, cut, of_b, of_o, of_a) = unmap plan_in_item (line_items x) g.before z.plan g.after_a (plans x ∙ g.of_a) in
-      let (c, p, d, cut_y, of_c, of_p, of_d) = unmap plan_in_item (line_items y) g.before z.plan g.after_b (plans y ∙ g.of_b) in
+      let g = Plans.agreement Plan Entry shape (map of_view run) (valid_by_plans run v) (none_collide run v nc) (of_view x) (of_view y) (in_run x ix) (in_run y iy) s (has_plan x s h) (has_plan y s k) in
+      let (b, o, a, cut, of_b, of_o, of_a) = unmap plan_in_item (line_items x) g.before s g.after_a (plans x ∙ g.of_a) in
+      let (c, p, d, cut_y, of_c, of_p, of_d) = unmap plan_in_item (line_items y) g.before s g.after_b (plans y ∙ g.of_b) in
       let here = are_pending x o (subst (λ l. In o l) (sym cut) (in-middle o b a)) in
       let there = are_pending y p (subst (λ l. In p l) (sym cut_y) (in-middle p c d)) in
       let same : p.cert ≡ o.cert = same_cert run v nc p o there here (of_p ∙ sym of_o) in
@@ -229,3 +245,7 @@ module _ (run : List View) (v : IsRun run) (nc : NoCollision run) where
         one = begins (line run x) (line_items x) b o a (map cert_in_item b) o.cert (certs x) cut refl refl;
         other = begins (line run y) (line_items y) c p d (map cert_in_item b) o.cert (certs y) cut_y same_before same;
       }
+
+  -- so do views that have one structure: they have its plan
+  pub agreed : Agree run
+  agreed x y z i j h k = agreed_by_plans x y z.plan i j (has_its_plan x z (contains_in x run i) h) (has_its_plan y z (contains_in y run j) k)

@@ -166,9 +166,6 @@ module _ (Plan Entry : Type 0) (shape : Shape Plan Entry) where
   abbrev pub line : List (View Plan) → View Plan → List Plan
   line run x = line_at run (user x.own) (number x.own)
 
-  abbrev pub Stands : Plan → View Plan → Type 0
-  Stands s x = In s x.structures ⊎ (s ≡ x.own)
-
   pub record Agree (a b : List Plan) (s : Plan) : Type 0 where
     pub before : List Plan
     pub after_a : List Plan
@@ -921,13 +918,11 @@ module _ (Plan Entry : Type 0) (shape : Shape Plan Entry) where
                 r.2 ∙ same_step r.0 c w.0 w.1 r.1 p a d ih e' f w.2)
           ]
 
-    stands_in : (x : View Plan) → In x run → (s : Plan) → Stands s x → In s (line run x)
+    stands_in : (x : View Plan) → In x run → (s : Plan) → OccursIn s x → In s (line run x)
     stands_in x i s (inl k) = (is_line run v nc x i).has_structures s k
-    stands_in x i s (inr k) =
-        let g = is_line run v nc x i in
-        subst (λ z. In z (line run x)) (sym k) (g.has_pending x.own (own_in x g.rules))
+    stands_in x i s (inr k) = (is_line run v nc x i).has_pending s k
 
-    pub agreement : (x y : View Plan) → In x run → In y run → (s : Plan) → Stands s x → Stands s y → Agree (line run x) (line run y) s
+    pub agreement : (x y : View Plan) → In x run → In y run → (s : Plan) → OccursIn s x → OccursIn s y → Agree (line run x) (line run y) s
     agreement x y i j s h k =
         let (b, a, e) = in-split s (line run x) (stands_in x i s h) in
         let (c, d, f) = in-split s (line run y) (stands_in y j s k) in

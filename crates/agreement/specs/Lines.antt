@@ -4,8 +4,10 @@ use Rattle.std.specs.Prelude.{◌≡◌, ◌+◌, ◌==◌, ◌&&◌, List, [], 
 use Rattle.std.specs.List.{All, Contains}
 use Rattle.std.specs.Option.{option_map_or}
 use Rattle.layout.specs.Types.{User, Version}
+use Rattle.version_order.specs.Plan.{Plan}
 use Rattle.version_order.specs.Structure.{Structure}
 use Rattle.update_cert.specs.Cert.{Cert, digest_of}
+use Rattle.reply_rules.specs.Lists.{pending, shown}
 use Rattle.reply_rules.specs.Rules.{items_above, top_plan}
 use Rattle.agreement.specs.Runs.{View, number_of, structures, user_of}
 
@@ -35,13 +37,13 @@ EndsWith c l = (before : List Cert) × (l ≡ before ++ c ∷ [])
 abbrev pub IsBeginning : List Cert → List Cert → Type 0
 IsBeginning l m = (after : List Cert) × (m ≡ l ++ after)
 
--- The structure's operation stands in both lines, and up to it they are the same.
-pub record SameUpTo (z : Structure) (l m : List Cert) : Type 0 where
+-- The plan's operation stands in both lines, and up to it they are the same.
+pub record SameUpTo (p : Plan) (l m : List Cert) : Type 0 where
   pub before : List Cert
   pub operation : Cert
-  pub named : z.plan.certificate ≡ digest_of operation
-  pub user : z.plan.user ≡ operation.user
-  pub number : z.plan.number ≡ operation.number
+  pub named : p.certificate ≡ digest_of operation
+  pub user : p.user ≡ operation.user
+  pub number : p.number ≡ operation.number
   pub one : IsBeginning (before ++ operation ∷ []) l
   pub other : IsBeginning (before ++ operation ∷ []) m
 
@@ -61,6 +63,16 @@ Grow run =
     (x y : View) → Contains run x → Contains run y → user_of y ≡ user_of x → number_of y ≡ number_of x + 1
     → IsBeginning (line run x) (line run y)
 
+-- the plan is one of the view's: of a structure, or of a pending operation, the own one among them
+abbrev pub HasPlan : View → Plan → Type 0
+HasPlan x p = Contains (shown x.lists ++ pending x.lists) p
+
+-- views that have one plan, committed or pending, have the same line up to its operation
+abbrev pub AgreeByPlans : List View → Type 0
+AgreeByPlans run =
+    (x y : View) (p : Plan) → Contains run x → Contains run y → HasPlan x p → HasPlan y p
+    → SameUpTo p (line run x) (line run y)
+
 -- the structure is one of the view's, or its own new one
 abbrev pub Has : View → Structure → Type 0
 Has x z = Contains (structures x ++ x.signed ∷ []) z
@@ -69,4 +81,4 @@ Has x z = Contains (structures x ++ x.signed ∷ []) z
 abbrev pub Agree : List View → Type 0
 Agree run =
     (x y : View) (z : Structure) → Contains run x → Contains run y → Has x z → Has y z
-    → SameUpTo z (line run x) (line run y)
+    → SameUpTo z.plan (line run x) (line run y)

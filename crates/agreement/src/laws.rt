@@ -2,7 +2,7 @@
 
 ghost use Rattle.std.specs.Prelude.{◌≡◌, true};
 ghost use Rattle.agreement.specs.Runs.{EachRun};
-ghost use Rattle.agreement.specs.Lines.{Agree, AreNumbered, EndWithOwn, Grow};
+ghost use Rattle.agreement.specs.Lines.{Agree, AgreeByPlans, AreNumbered, EndWithOwn, Grow};
 ghost use Rattle.agreement.specs.Worlds.{AllListed, AreWorlds, EachHonestRun, IsGuarded, JudgeAsWorld, LoseVoid};
 ghost use Rattle.agreement.specs.AfterNewest.{OwnComesAfter, lists_in};
 ghost use Rattle.client_tree.specs.View.{View};
@@ -21,6 +21,8 @@ pub fn views_agree()
     ensures growing { EachRun Grow }
     // Views that have a structure in common agree up to it.
     ensures agreed { EachRun Agree }
+    // So do those that have a plan in common, committed or pending.
+    ensures planned { EachRun AgreeByPlans }
 {}
 
 /// What a client reads of an accepted view is the world of the view's line, whatever stands for the digests, as long as

@@ -1,4 +1,4 @@
-use Rattle.agreement.proofs.Lines.{agreed, ended, growing, numbered}
+use Rattle.agreement.proofs.Lines.{agreed, agreed_by_plans, ended, growing, numbered}
 use Rattle.agreement.proofs.laws.views_agree.Goals as goal
 
 pub returns-clause-numbered : goal.returns-clause-numbered
@@ -12,3 +12,6 @@ returns-clause-growing c = growing
 
 pub returns-clause-agreed : goal.returns-clause-agreed
 returns-clause-agreed c = agreed
+
+pub returns-clause-planned : goal.returns-clause-planned
+returns-clause-planned c = agreed_by_plans
