@@ -11,7 +11,7 @@ use Rattle.pending_list.specs.declared.signed.Signed.{Signed}
 use Rattle.pending_list.specs.Reply.{PendingItem}
 use Rattle.reply_rules.specs.Lists.{Lists, items, pending, structure_of, shown as plans_shown}
 use Rattle.client_tree.specs.Genesis.{first_texts}
-use Rattle.agreement.specs.Lines.{Agree, AreNumbered, EndWithOwn, Grow, line}
+use Rattle.agreement.specs.Lines.{Agree, AgreeByPlans, AreNumbered, EndWithOwn, Grow, line}
 use Rattle.agreement.specs.Runs.{Accepted, View, last_signed, number_of, texts_of, user_of, IsRun as AreAccepted, NoCollision as NoViewCollision, structures as structures_of}
 use Rattle.agreement.proofs.Lines as lines
 use Rattle.agreement.proofs.Members.{In, contains_in, flat_map-in, in-append, in-left, in-map, in-right, in_contains, map-in, to_all}
@@ -191,6 +191,9 @@ module _ (keys : Keys) (run : List Event) (is : IsRun keys run) (premises : Prem
 
   pub growing : Grow (views run)
   growing = lines.growing (views run) are_accepted apart
+
+  pub agreed_by_plans : AgreeByPlans (views run)
+  agreed_by_plans = lines.agreed_by_plans (views run) are_accepted apart
 
   pub agreed : Agree (views run)
   agreed = lines.agreed (views run) are_accepted apart

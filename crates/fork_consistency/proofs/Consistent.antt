@@ -6,7 +6,7 @@ use Rattle.client_runs.specs.Released.{views}
 use Rattle.client_runs.specs.Runs.{Event, IsRun, Keys}
 use Rattle.client_runs.specs.declared.world.Answer.{Answer}
 use Rattle.client_runs.specs.declared.world.WorldStep.{WorldStep}
-use Rattle.fork_consistency.proofs.Agreed.{agreed, all_released, are_accepted, ended, growing, numbered}
+use Rattle.fork_consistency.proofs.Agreed.{agreed, agreed_by_plans, all_released, are_accepted, ended, growing, numbered}
 use Rattle.fork_consistency.proofs.ScriptKeys.{pinned_fits}
 use Rattle.fork_consistency.specs.ForkConsistent.{AreForkConsistent, AtEach, IsForkConsistent, RunPremises, StandWhereStolen, StolenPremises}
 use Rattle.fork_consistency.specs.OwnParts.{OthersAreHonest}
@@ -30,6 +30,7 @@ consistent keys run is p = record {
   released = all_released keys run is p;
   growing = only_grow (views run) (are_accepted keys run is p) (growing keys run is p);
   staying = lines_stay run (are_accepted keys run is p);
+  planned = agreed_by_plans keys run is p;
   agreed = agreed keys run is p;
   worlds = are_worlds_in keys run is p;
   shown = show_worlds keys run is p;

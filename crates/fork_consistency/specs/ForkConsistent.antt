@@ -3,7 +3,7 @@
 use Rattle.std.specs.Prelude.{◌≡◌, Bool, false, List, ◌∷◌, ◌++◌, reverse}
 use Rattle.std.specs.List.{All, Contains}
 use Rattle.layout.specs.Types.{User}
-use Rattle.agreement.specs.Lines.{Agree, AreNumbered, EndWithOwn, IsBeginning, line}
+use Rattle.agreement.specs.Lines.{Agree, AgreeByPlans, AreNumbered, EndWithOwn, IsBeginning, line}
 use Rattle.agreement.specs.Runs.{IsRun as AreAccepted, View, user_of}
 use Rattle.client_runs.specs.declared.world.Answer.{Answer}
 use Rattle.client_runs.specs.declared.world.WorldStep.{WorldStep}
@@ -47,7 +47,9 @@ pub record AreForkConsistent (keys : Keys) (run : List Event) : Type 0 where
   -- A user's line only grows, and the line of a view stays as it is.
   pub growing : OnlyGrow (views run)
   pub staying : LinesStay run
-  -- Views that have a structure in common have one line up to it.
+  -- Views that have a plan in common, committed or pending, have one line up to its operation; and so have those with a
+  -- structure in common.
+  pub planned : AgreeByPlans (views run)
   pub agreed : Agree (views run)
   -- The view is the plain file tree of its line: as each reading of the run's texts tells it, what is read of it, its
   -- table and what it loses are those of the world of the line, in which each operation's user is listed before it, and
