@@ -1,5 +1,5 @@
 -- Runs are fork consistent.
-use Rattle.std.proofs.Common.{Bool, List, Result, Ok, Err, IfOk, subst}
+use Rattle.std.proofs.Common.{Bool, List, Result, Ok, Err, IfOk, reverse, subst}
 use Rattle.fork_consistency.specs.Premises.{Premises}
 use Rattle.client_runs.specs.Carried.{AreCarriedOut, script_keys}
 use Rattle.client_runs.specs.Released.{views}
@@ -18,6 +18,7 @@ use Rattle.fork_consistency.proofs.LaidFiles.{name_laid_files}
 use Rattle.fork_consistency.proofs.OneWorld.{one_part, one_world}
 use Rattle.fork_consistency.proofs.Premises.{is_before, others_before, premises_before}
 use Rattle.fork_consistency.proofs.RunWorlds.{are_worlds_in, can_be_read, can_read}
+use Rattle.fork_consistency.proofs.SameEvents.{same_events}
 use Rattle.fork_consistency.proofs.Shown.{show_trees, show_worlds}
 use Rattle.fork_consistency.proofs.ByCertificates.{by_certificates, super_honest}
 
@@ -86,6 +87,7 @@ carried steps answers c = record {
   events = c.events;
   is_run = c.is_run;
   kept = c.kept;
+  told = λ others are kept. same_events script_keys (reverse steps) (reverse answers) c.events others c.is_run are c.kept kept;
   leaves = c.leaves;
   certificates = c.certificates;
   structures = c.structures;

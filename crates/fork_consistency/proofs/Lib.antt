@@ -30,6 +30,7 @@ mod Shown
 mod Begun
 mod OneWorld
 mod LaidFiles
+mod SameEvents
 mod Growing
 mod Premises
 pub mod Consistent

@@ -16,6 +16,7 @@ use Rattle.client_runs.specs.UsedOnce.{CertificatesOnce, LeavesOnce, StructuresO
 use Rattle.fork_consistency.specs.ByCertificates.{AreByCertificates, ListOwnKeysOf}
 use Rattle.fork_consistency.specs.LaidFiles.{NameLaidFiles}
 use Rattle.fork_consistency.specs.OwnParts.{IsOutside, OnePart, OwnPartsStand}
+use Rattle.fork_consistency.specs.SameEvents.{AreTold}
 use Rattle.fork_consistency.specs.Shown.{ShowTrees, ShowWorlds}
 use Rattle.fork_consistency.specs.Signed.{AreSigned}
 use Rattle.fork_consistency.specs.Worlds.{AreWorldsIn, CanBeRead, OneWorld}
@@ -114,13 +115,14 @@ nobody u = false
 
 -- ---- steps that are carried out
 
--- The steps with their answers are a run of clients, in which each refusal names the first broken rule; what these
--- release is used once; under the premises the accepted views are fork consistent, as they were at each moment, by
+-- The steps with their answers are a run of clients, in which each refusal names the first broken rule, and leave no
+-- choice of its calls and of what these release; that is used once; under the premises the accepted views are fork consistent, as they were at each moment, by
 -- what was released then; and what holds of them, then, where keys are stolen.
 pub record IsForkConsistent {A : Type 0} (steps : List (WorldStep A)) (answers : List (Answer A)) : Type 0 where
   pub events : List Event
   pub is_run : IsRun script_keys events
   pub kept : Keep (reverse steps) (reverse answers) events
+  pub told : AreTold script_keys (reverse steps) (reverse answers) events
   pub leaves : (u : User) → LeavesOnce u events
   pub certificates : (u : User) → CertificatesOnce u events
   pub structures : (u : User) → StructuresOnce u events

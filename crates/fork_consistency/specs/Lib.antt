@@ -7,3 +7,4 @@ pub mod ForkConsistent
 pub mod OwnParts
 pub mod Signed
 pub mod LaidFiles
+pub mod SameEvents
