@@ -53,10 +53,11 @@ pub record AreForkConsistent (keys : Keys) (run : List Event) : Type 0 where
   pub planned : AgreeByPlans (views run)
   pub agreed : Agree (views run)
   -- The view is the plain file tree of its line: as each reading of the run's texts tells it, what is read of it, its
-  -- table and what it loses are those of the world of the line, in which each operation's user is listed before it, and
-  -- changes only the user's part, and those of groups of which the user is a member then;
+  -- table and what it loses are those of the world of the line, in which each operation's user is listed before it.
+  -- That an operation changes only the user's part, and those of groups of which the user is a member then, is so of
+  -- each world, by what changes do; that a client judges by it is said of trees, losses and members.
   pub worlds : AreWorldsIn keys run
-  -- and so is each answer of a look, and what a client tells of its view.
+  -- So is each answer of a look, and what a client tells of its view.
   pub shown : ShowWorlds keys run
   -- The run's texts can be read, and leave no choice of the world of a line.
   pub readings : CanBeRead keys run
@@ -116,8 +117,9 @@ nobody u = false
 -- ---- steps that are carried out
 
 -- The steps with their answers are a run of clients, in which each refusal names the first broken rule, and leave no
--- choice of its calls and of what these release; that is used once; under the premises the accepted views are fork consistent, as they were at each moment, by
--- what was released then; and what holds of them, then, where keys are stolen.
+-- choice of its calls and of what these release; that is used once; under the premises the accepted views are fork
+-- consistent, as they were at each moment, by what was released then; and what holds of them, then, where keys are
+-- stolen.
 pub record IsForkConsistent {A : Type 0} (steps : List (WorldStep A)) (answers : List (Answer A)) : Type 0 where
   pub events : List Event
   pub is_run : IsRun script_keys events

@@ -53,7 +53,7 @@ LosesVoid reads key accepted x =
     (world reads key before)
 
 -- along each line an operation changes only its user's part, and those of groups of which the user is a member in the
--- world before it
+-- world before it: as each operation does in each tree, by what changes do
 abbrev pub AllGuarded : Reading → Key → List View → Type 0
 AllGuarded reads key accepted =
     (x : View) → Contains accepted x → (before : List Cert) (c : Cert) (after : List Cert)
