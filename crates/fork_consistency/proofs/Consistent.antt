@@ -8,7 +8,7 @@ use Rattle.client_runs.specs.declared.world.Answer.{Answer}
 use Rattle.client_runs.specs.declared.world.WorldStep.{WorldStep}
 use Rattle.fork_consistency.proofs.Agreed.{agreed, agreed_by_plans, all_released, are_accepted, ended, growing, numbered}
 use Rattle.fork_consistency.proofs.ScriptKeys.{pinned_fits}
-use Rattle.fork_consistency.specs.ForkConsistent.{AreForkConsistent, AtEach, IsForkConsistent, RunPremises, StandWhereStolen, StolenPremises}
+use Rattle.fork_consistency.specs.ForkConsistent.{AreForkConsistent, AtEach, HaveLines, IsForkConsistent, RunPremises, StandWhereStolen, StolenPremises}
 use Rattle.fork_consistency.specs.OwnParts.{OthersAreHonest}
 use Rattle.fork_consistency.proofs.OwnParts.{own_keys_stand, own_parts, super_of}
 use Rattle.fork_consistency.proofs.Signed.{are_signed}
@@ -22,22 +22,28 @@ use Rattle.fork_consistency.proofs.SameEvents.{same_events}
 use Rattle.fork_consistency.proofs.Shown.{show_trees, show_worlds}
 use Rattle.fork_consistency.proofs.ByCertificates.{by_certificates, super_honest}
 
-pub consistent : (keys : Keys) (run : List Event) → IsRun keys run → Premises keys run → AreForkConsistent keys run
-consistent keys run is p = record {
-  accepted = are_accepted keys run is p;
-  signed = are_signed keys run is;
-  numbered = numbered keys run is p;
-  ended = ended keys run is p;
-  released = all_released keys run is p;
-  growing = only_grow (views run) (are_accepted keys run is p) (growing keys run is p);
-  staying = lines_stay run (are_accepted keys run is p);
-  planned = agreed_by_plans keys run is p;
-  agreed = agreed keys run is p;
-  worlds = are_worlds_in keys run is p;
+have_lines : (keys : Keys) (run : List Event) → IsRun keys run → Premises keys run → HaveLines keys run
+have_lines keys run is p = record {
   shown = show_worlds keys run is p;
   readings = can_be_read keys run is p;
   one_world = one_world keys run is p;
   laid = name_laid_files keys run is p;
+  numbered = numbered keys run is p;
+  ended = ended keys run is p;
+  released = all_released keys run is p;
+  listed = λ reads agrees. (are_worlds_in keys run is p reads agrees).listed;
+  growing = only_grow (views run) (are_accepted keys run is p) (growing keys run is p);
+  staying = lines_stay run (are_accepted keys run is p);
+  planned = agreed_by_plans keys run is p;
+  agreed = agreed keys run is p;
+}
+
+pub consistent : (keys : Keys) (run : List Event) → IsRun keys run → Premises keys run → AreForkConsistent keys run
+consistent keys run is p = record {
+  lines = have_lines keys run is p;
+  accepted = are_accepted keys run is p;
+  signed = are_signed keys run is;
+  worlds = are_worlds_in keys run is p;
   tables = by_certificates keys run is (super_honest keys run p);
 }
 

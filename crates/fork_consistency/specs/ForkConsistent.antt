@@ -19,7 +19,7 @@ use Rattle.fork_consistency.specs.OwnParts.{IsOutside, OnePart, OwnPartsStand}
 use Rattle.fork_consistency.specs.SameEvents.{AreTold}
 use Rattle.fork_consistency.specs.Shown.{ShowTrees, ShowWorlds}
 use Rattle.fork_consistency.specs.Signed.{AreSigned}
-use Rattle.fork_consistency.specs.Worlds.{AreWorldsIn, CanBeRead, OneWorld}
+use Rattle.fork_consistency.specs.Worlds.{AreWorldsIn, CanBeRead, ListUsers, OneWorld}
 
 -- the line of a view is a beginning of that of each view that its user accepts later
 abbrev pub OnlyGrow : List View → Type 0
@@ -33,18 +33,22 @@ LinesStay run =
     (later older : List Event) → run ≡ later ++ older
     → All (λ x. line (views run) x ≡ line (views older) x) (views older)
 
--- What holds of the accepted views of a run of clients with these keys.
-pub record AreForkConsistent (keys : Keys) (run : List Event) : Type 0 where
-  -- Each view is of a reply that breaks no rule: each structure in it was signed over an earlier view, the own one is
-  -- the last, and versions, entries and records are as they should be;
-  pub accepted : AreAccepted (views run)
-  -- and structures and certificates are signed under the keys that the view's table lists.
-  pub signed : AreSigned keys run
-  -- Each view has a line of operations. In it each user's numbers are 1, 2, 3 and so on, it ends with the own
-  -- operation, and each operation was released by its user.
+-- Each accepted view of a run of clients with these keys is the plain file tree of its line of operations.
+pub record HaveLines (keys : Keys) (run : List Event) : Type 0 where
+  -- What a client is told of its view, by looks and by what it tells itself, is so in the world of the view's line, as
+  -- each reading of the run's texts tells it.
+  pub shown : ShowWorlds keys run
+  -- The texts can be read, and leave no choice of the world of a line.
+  pub readings : CanBeRead keys run
+  pub one_world : OneWorld keys run
+  -- What an operation makes or puts is, by each reading, the file that its user's client was handed for it.
+  pub laid : NameLaidFiles keys run
+  -- In a line each user's numbers are 1, 2, 3 and so on. It ends with the own operation. Each operation was released by
+  -- its user, who is listed before it.
   pub numbered : AreNumbered (views run)
   pub ended : EndWithOwn (views run)
   pub released : AreReleased run
+  pub listed : ListUsers keys run
   -- A user's line only grows, and the line of a view stays as it is.
   pub growing : OnlyGrow (views run)
   pub staying : LinesStay run
@@ -52,18 +56,20 @@ pub record AreForkConsistent (keys : Keys) (run : List Event) : Type 0 where
   -- structure in common.
   pub planned : AgreeByPlans (views run)
   pub agreed : Agree (views run)
-  -- The view is the plain file tree of its line: as each reading of the run's texts tells it, what is read of it, its
-  -- table and what it loses are those of the world of the line, in which each operation's user is listed before it.
-  -- That an operation changes only the user's part, and those of groups of which the user is a member then, is so of
-  -- each world, by what changes do; that a client judges by it is said of trees, losses and members.
+
+-- What holds of the accepted views of a run: that they have lines, and beside that what judges them.
+pub record AreForkConsistent (keys : Keys) (run : List Event) : Type 0 where
+  pub lines : HaveLines keys run
+  -- Each view is of a reply that breaks no rule: each structure in it was signed over an earlier view, the own one is
+  -- the last, and versions, entries and records are as they should be;
+  pub accepted : AreAccepted (views run)
+  -- and structures and certificates are signed under the keys that the view's table lists.
+  pub signed : AreSigned keys run
+  -- As each reading of the run's texts tells it, all that is read of a view, its table and what it loses are those of
+  -- the world of the line. That an operation changes only the user's part, and those of groups of which the user is a
+  -- member then, is so of each world, by what changes do; that a client judges by it is said of trees, losses and
+  -- members.
   pub worlds : AreWorldsIn keys run
-  -- So is each answer of a look, and what a client tells of its view.
-  pub shown : ShowWorlds keys run
-  -- The run's texts can be read, and leave no choice of the world of a line.
-  pub readings : CanBeRead keys run
-  pub one_world : OneWorld keys run
-  -- What an operation makes or puts is, by each reading, the file that its user's client was handed for it.
-  pub laid : NameLaidFiles keys run
   -- The table of principals is that of the beginning, changed by user 0's certificates 1, 2, 3 and so on, up to some
   -- number.
   pub tables : AreByCertificates keys run

@@ -76,6 +76,11 @@ pub record AreWorldsBy (keys : Keys) (run : List Event) (reads : Reading) : Type
 abbrev pub AreWorldsIn : Keys → List Event → Type 0
 AreWorldsIn keys run = (reads : Reading) → IsReadingOf keys run reads → AreWorldsBy keys run reads
 
+-- as each reading tells it, the user of each operation of a line is listed in the world before it
+abbrev pub ListUsers : Keys → List Event → Type 0
+ListUsers keys run =
+    (reads : Reading) → IsReadingOf keys run reads → AllListed reads (public_key keys 0) (views run)
+
 -- there is a reading of the run
 abbrev pub CanBeRead : Keys → List Event → Type 0
 CanBeRead keys run = (reads : Reading) × IsReadingOf keys run reads

@@ -50,7 +50,7 @@ module _ {T : Type 0} (answers : Answering T) (reads : Reading) (key : Key) (acc
 pub sessions_tell_worlds : {T : Type 0} (answers : Answering T) → SessionsTellWorlds answers
 sessions_tell_worlds answers keys lives run are premises reads agrees u =
     let is : IsRun keys run = lives_are_runs answers keys lives run are in
-    let told = (consistent keys run is premises).shown reads agrees in
+    let told = (consistent keys run is premises).lines.shown reads agrees in
     let key = public_key keys 0 in
     let whole = along_run (IsTrueInWorld reads key (views run)) (IsOfWorld reads key (views run)) (views run) u keys run is told (λ x i. i) in
     to_all (IsTold answers reads key (views run) u) (lives u)
