@@ -35,21 +35,25 @@ use Rattle.client_runs.proofs.Quiet.{gives, hears, looks, takes}
 use Rattle.client_runs.proofs.Replies.{Kept}
 
 -- they are among these texts
-abbrev pub AmongThem : List Bytes → List (Change Digest) → List Bytes → Type 0
-AmongThem texts changes laid = (t : Bytes) → In t laid → In t texts
+abbrev pub AmongThem : List Bytes → Cert → List Bytes → Type 0
+AmongThem texts c laid = (t : Bytes) → In t laid → In t texts
 
-module _ (Inside : List (Change Digest) → List Bytes → Type 0) where
+module _ (Inside : Cert → List Bytes → Type 0) where
   -- the contents that the certificate's changes name were laid out, in such texts
   pub record IsBegun (c : Cert) : Type 0 where
     pub laid : List Bytes
-    pub inside : Inside c.changes laid
+    pub inside : Inside c laid
     pub are : are_laid laid c.changes ≡ true
 
-  -- where a call lays texts out, they are such
-  abbrev pub LaysSuch : Call → Type 0
-  LaysSuch (Begins changes laid (Ok text)) = Inside changes laid
-  LaysSuch (Begins changes laid (Err error.Device)) = Inside changes laid
-  LaysSuch call = Unit {0}
+  -- where a call of this client lays texts out, they are such
+  abbrev pub LaysSuch : Client → Call → Type 0
+  LaysSuch (Open s) (Begins changes laid (Ok text)) = Inside (next_cert s changes) laid
+  LaysSuch (Open s) (Begins changes laid (Err error.Device)) = Inside (next_cert s changes) laid
+  LaysSuch client call = Unit {0}
+
+  -- so it is with each call of the user in a run
+  abbrev pub AllLaySuch : User → List Event → Type 0
+  AllLaySuch u run = (later older : List Event) (e : Event) → run ≡ later ++ e ∷ older → e.user ≡ u → LaysSuch (client_of u older) e.call
 
   abbrev TriedIsBegun : Option Release → Type 0
   TriedIsBegun None = Unit {0}
@@ -129,7 +133,7 @@ module _ (Inside : List (Change Digest) → List Bytes → Type 0) where
     same_as : (s new : State) (sent : List Bytes) → Holds (Open s) sent → new ≡ s → Holds (Open new) sent
     same_as s new sent h is = same_released s new sent h (ap released_in_state is)
 
-    begins : (s new : State) (changes : List (Change Digest)) (laid : List Bytes) (text : Bytes) (sent : List Bytes) → Inside changes laid → Holds (Open s) sent → HasBegun s changes laid (Ok text) new → After sent (Begins changes laid (Ok text)) (Open new)
+    begins : (s new : State) (changes : List (Change Digest)) (laid : List Bytes) (text : Bytes) (sent : List Bytes) → Inside (next_cert s changes) laid → Holds (Open s) sent → HasBegun s changes laid (Ok text) new → After sent (Begins changes laid (Ok text)) (Open new)
     begins s new changes laid text sent inside h b =
         let k = declares (low_owner o) (Unit {0}) h.story h.tried sent (released_in_state s) h.low (next_cert s changes) (released_in_state new) text (low_begun s new changes laid text b) in
         record {
@@ -145,7 +149,7 @@ module _ (Inside : List (Change Digest) → List Bytes → Type 0) where
           last = tt;
         }
 
-    begin_fails : (s new : State) (changes : List (Change Digest)) (laid : List Bytes) (sent : List Bytes) → Inside changes laid → Holds (Open s) sent → HasBegun s changes laid (Err error.Device) new → Holds (Open new) sent
+    begin_fails : (s new : State) (changes : List (Change Digest)) (laid : List Bytes) (sent : List Bytes) → Inside (next_cert s changes) laid → Holds (Open s) sent → HasBegun s changes laid (Err error.Device) new → Holds (Open new) sent
     begin_fails s new changes laid sent inside h b =
         let k = declare_fails (low_owner o) (Unit {0}) h.story h.tried sent (released_in_state s) h.low (next_cert s changes) (released_in_state new) error.Device (low_begin_failed s new changes laid b) in
         record {
@@ -195,7 +199,7 @@ module _ (Inside : List (Change Digest) → List Bytes → Type 0) where
         (low_holds.commits (low_owner o) (Unit {0}) (Unit {0}) h.story h.tried sent (λ t. t) (released_in_state s) (released_in_state new) h.low (record { signed = b.signed; state = ap released_in_state b.state }))
     commits s new other sent h b = same_as s new sent h b.state
 
-    step : (before : Client) (call : Call) (after : Client) (sent : List Bytes) → LaysSuch call → IsSound before → Holds before sent → IsStep o before call after → IsSound after → After sent call after
+    step : (before : Client) (call : Call) (after : Client) (sent : List Bytes) → LaysSuch before call → IsSound before → Holds before sent → IsStep o before call after → IsSound after → After sent call after
     step (Closed p) (Opens (Ok x)) (Open s) sent into was h is sound = opens p s x sent h is sound
     step (Closed p) (Opens (Err e)) (Closed q) sent into was h is sound = refused p e q sent h is
     step (Closed p) Crashes (Closed q) sent into was h is sound = left (Closed p) sent q h is
@@ -238,19 +242,19 @@ module _ (Inside : List (Change Digest) → List Bytes → Type 0) where
         go true was = is.1
         go false was = was
 
-    begun_at : (run : List Event) → IsRun keys run → ((e : Event) → In e run → e.user ≡ u → LaysSuch e.call) → Holds (owner keys u) (client_of u run) (released u run)
+    begun_at : (run : List Event) → IsRun keys run → AllLaySuch u run → Holds (owner keys u) (client_of u run) (released u run)
     begun_at [] is into = at_first (owner keys u)
-    begun_at (e ∷ older) is into = go (e.user == u) refl (begun_at older is.2 (λ d i. into d (inr i)))
+    begun_at (e ∷ older) is into = go (e.user == u) refl (begun_at older is.2 (λ later oldest d at. into (e ∷ later) oldest d (ap (λ (l : List Event). e ∷ l) at)))
       where
         go : (b : Bool) → (e.user == u) ≡ b → Holds (owner keys u) (client_of u older) (released u older) → Holds (owner keys u) (if b then e.after else client_of u older) (if b then released_by e.call e.after ++ released u older else released u older)
         go true same h =
             let own_event = eqb-true e.user u same in
-            step (owner keys u) (client_of u older) e.call e.after (released u older) (into e (inl refl) own_event) (sound_at older is.2) h
+            step (owner keys u) (client_of u older) e.call e.after (released u older) (into [] older e refl own_event) (sound_at older is.2) h
             (subst (λ (v : User). IsStep (owner keys v) (client_of v older) e.call e.after) own_event is.0) is.1
         go false same h = h
 
     -- each text that is a certificate
-    pub begun_where : (run : List Event) → IsRun keys run → ((e : Event) → In e run → e.user ≡ u → LaysSuch e.call) → (a : Bytes) (s : Signed Cert) → In a (released u run) → cert_in u a ≡ Some s → IsBegun s.value
+    pub begun_where : (run : List Event) → IsRun keys run → AllLaySuch u run → (a : Bytes) (s : Signed Cert) → In a (released u run) → cert_in u a ≡ Some s → IsBegun s.value
     begun_where run is into a s i read =
         let h = begun_at run is into in
         let (r, j, at) = h.low.released a i in
@@ -266,11 +270,14 @@ module _ (Inside : List (Change Digest) → List Bytes → Type 0) where
 
 -- ---- among texts
 
+pub in_split : (run later older : List Event) (e : Event) → run ≡ later ++ e ∷ older → In e run
+in_split run later older e at = subst (In e) (sym at) (in-right e later (e ∷ older) (inl refl))
+
 module _ (texts : List Bytes) where
-  by_blocks : (call : Call) → ((t : Bytes) → In t (blocks_by call) → In t texts) → LaysSuch (AmongThem texts) call
-  by_blocks (Begins changes laid (Ok text)) into = into
-  by_blocks (Begins changes laid (Err error.Device)) into = into
-  by_blocks call into = tt
+  by_blocks : (client : Client) (call : Call) → ((t : Bytes) → In t (blocks_by call) → In t texts) → LaysSuch (AmongThem texts) client call
+  by_blocks (Open s) (Begins changes laid (Ok text)) into = into
+  by_blocks (Open s) (Begins changes laid (Err error.Device)) into = into
+  by_blocks client call into = tt
 
   pub in_run : (run : List Event) → ((t : Bytes) → In t (flat_map blocks_at run) → In t texts) → (e : Event) → In e run → (t : Bytes) → In t (blocks_by e.call) → In t texts
   in_run [] into e i t j = absurd i
@@ -279,7 +286,7 @@ module _ (texts : List Bytes) where
 
   module _ (keys : Keys) (u : User) where
     pub begun_by_blocks : (run : List Event) → IsRun keys run → ((t : Bytes) → In t (flat_map blocks_at run) → In t texts) → (a : Bytes) (s : Signed Cert) → In a (released u run) → cert_in u a ≡ Some s → IsBegun (AmongThem texts) s.value
-    begun_by_blocks run is into a s i read = begun_where (AmongThem texts) keys u run is (λ e j own. by_blocks e.call (in_run run into e j)) a s i read
+    begun_by_blocks run is into a s i read = begun_where (AmongThem texts) keys u run is (λ later older e at own. by_blocks (client_of u older) e.call (in_run run into e (in_split run later older e at))) a s i read
 
     pub each_begun : (run : List Event) → IsRun keys run → ((t : Bytes) → In t (flat_map hashed_at run) → In t texts) → (a : Bytes) (s : Signed Cert) → In a (released u run) → cert_in u a ≡ Some s → IsBegun (AmongThem texts) s.value
     each_begun run is into a s i read = begun_by_blocks run is (λ t j. into t (are_hashed run t j)) a s i read

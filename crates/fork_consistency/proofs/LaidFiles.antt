@@ -1,5 +1,5 @@
 -- What the operations of a line name was laid out when their users' clients began them.
-use Rattle.std.proofs.Common.{◌≡◌, true, ◌||◌, List, [], Option, Ok, Err, IsSomeAnd, refl, sym, ap, ◌∙◌, subst, inl, inr}
+use Rattle.std.proofs.Common.{◌≡◌, true, ◌||◌, List, [], ◌∷◌, ◌++◌, Option, Result, Ok, Err, IfErr, IsSomeAnd, refl, sym, ap, ◌∙◌, subst, inl, inr}
 use Rattle.std.specs.Prelude.{◌⊎◌}
 use Rattle.std.specs.List.{All, flat_map}
 use Rattle.std.specs.Str.{bytes_eq}
@@ -12,12 +12,14 @@ use Rattle.update_cert.specs.Cert.{Cert, cert}
 use Rattle.update_cert.specs.Reading.{Reading}
 use Rattle.update_cert.specs.World.{Directory, File}
 use Rattle.tree_parts.specs.Blocks.{Agrees}
+use Rattle.client_releases.specs.declared.error.ClientError.{ClientError}
 use Rattle.client_releases.specs.declared.error.ClientError.TheVariants as error
 use Rattle.client_tree.specs.Genesis.{first_texts, inode_digest, root_inode}
 use Rattle.client_verify.specs.Laid.{are_laid, is_file_laid, is_laid}
-use Rattle.client_steps.specs.Steps.{Begins, Call}
+use Rattle.client_verify.specs.State.{State, next_cert}
+use Rattle.client_steps.specs.Steps.{Begins, Call, Client, Open}
 use Rattle.client_runs.specs.Released.{hashed, hashed_at, views}
-use Rattle.client_runs.specs.Runs.{Event, IsRun, Keys, public_key}
+use Rattle.client_runs.specs.Runs.{Event, IsRun, Keys, client_of, public_key}
 use Rattle.agreement.specs.Lines.{line}
 use Rattle.agreement.specs.Runs.{View}
 use Rattle.agreement.proofs.Members.{In, contains_in, in-left, in_contains, of_all, to_all}
@@ -27,7 +29,7 @@ use Rattle.fork_consistency.specs.LaidFiles.{NameLaidFiles, NamesLaid, NamesWhat
 use Rattle.fork_consistency.specs.Premises.{HasReleased, Premises}
 use Rattle.fork_consistency.proofs.Agreed.{all_released}
 use Rattle.fork_consistency.proofs.Among.{agrees_within, are_within, of_are_among}
-use Rattle.fork_consistency.proofs.Begun.{AmongThem, IsBegun, LaysSuch, begun_where, in_run}
+use Rattle.fork_consistency.proofs.Begun.{AllLaySuch, AmongThem, IsBegun, LaysSuch, begun_where, in_run, in_split}
 use Rattle.fork_consistency.proofs.BlocksOf.{are_hashed, blocks_by}
 use Rattle.fork_consistency.proofs.Certificates.{text_of}
 use Rattle.fork_consistency.proofs.Contents.{file_laid}
@@ -83,18 +85,34 @@ module _ (keys : Keys) (run : List Event) (is : IsRun keys run) (premises : Prem
   into t i = in-left t (flat_map hashed_at run) (first_texts (public_key keys 0)) i
 
   -- texts that are among those of the run, and were laid out by the user
-  abbrev OfUser : User → List (Change Digest) → List Bytes → Type 0
-  OfUser u changes laid = AmongThem texts changes laid × WereLaid u run changes laid
+  abbrev OfUser : User → Cert → List Bytes → Type 0
+  OfUser u c laid = AmongThem texts c laid × (c.user ≡ u → WereLaid c run laid)
 
-  lays : (e : Event) → In e run → (call : Call) → e.call ≡ call → ((t : Bytes) → In t (blocks_by call) → In t texts) → LaysSuch (OfUser e.user) call
-  lays e i (Begins changes laid (Ok text)) at among = (among, record { step = e; there = in_contains e run i; user = refl; answer = Ok text; begins = at })
-  lays e i (Begins changes laid (Err error.Device)) at among =
-      (among, record { step = e; there = in_contains e run i; user = refl; answer = Err error.Device; begins = at })
-  lays e i call at among = tt
+  module _ (u : User) (later older : List Event) (e : Event) (split : run ≡ later ++ e ∷ older) (own : e.user ≡ u) where
+    were_laid : (s : State) → client_of u older ≡ Open s → (changes : List (Change Digest)) (laid : List Bytes) (answer : Result Bytes ClientError) → e.call ≡ Begins changes laid answer
+        → IfErr answer (λ e. e ≡ error.Device) → (next_cert s changes).user ≡ u → WereLaid (next_cert s changes) run laid
+    were_laid s was_open changes laid answer at tried user = record {
+      step = e;
+      later = later;
+      older = older;
+      at = split;
+      user = own ∙ sym user;
+      before = s;
+      was_open = ap (λ (v : User). client_of v older) user ∙ was_open;
+      operation = refl;
+      answer = answer;
+      begins = at;
+      tried = tried;
+    }
 
-  lays_own : (u : User) (e : Event) → In e run → e.user ≡ u → LaysSuch (OfUser u) e.call
-  lays_own u e i user =
-      subst (λ (v : User). LaysSuch (OfUser v) e.call) user (lays e i e.call refl (in_run texts run (λ t j. into t (are_hashed run t j)) e i))
+    lays : (client : Client) → client_of u older ≡ client → (call : Call) → e.call ≡ call → ((t : Bytes) → In t (blocks_by call) → In t texts) → LaysSuch (OfUser u) client call
+    lays (Open s) was_open (Begins changes laid (Ok text)) at among = (among, were_laid s was_open changes laid (Ok text) at tt)
+    lays (Open s) was_open (Begins changes laid (Err error.Device)) at among = (among, were_laid s was_open changes laid (Err error.Device) at refl)
+    lays client was_open call at among = tt
+
+  all_lay : (u : User) → AllLaySuch (OfUser u) u run
+  all_lay u later older e split own =
+      lays u later older e split own (client_of u older) refl e.call refl (in_run texts run (λ t j. into t (are_hashed run t j)) e (in_split run later older e split))
 
   begun : (x : View) → In x (views run) → (c : Cert) → In c (line (views run) x) → IsBegun (OfUser c.user) c
   begun x i c j =
@@ -102,12 +120,17 @@ module _ (keys : Keys) (run : List Event) (is : IsRun keys run) (premises : Prem
       let of_x = of_all (λ (y : View). All (λ (d : Cert). HasReleased d.user run (cert.spell d)) (line (views run) y)) (views run) all x i in
       let has = of_all (λ (d : Cert). HasReleased d.user run (cert.spell d)) (line (views run) x) of_x c j in
       let t = text_of keys run is c.user c (line_fits keys run is premises x c j) refl has in
-      subst (IsBegun (OfUser c.user)) t.value (begun_where (OfUser c.user) keys c.user run is (lays_own c.user) t.text t.one t.there t.read)
+      subst (IsBegun (OfUser c.user)) t.value (begun_where (OfUser c.user) keys c.user run is (all_lay c.user) t.text t.one t.there t.read)
+
+  names_what_was_laid : (c : Cert) → IsBegun (OfUser c.user) c → NamesWhatWasLaid keys run c
+  names_what_was_laid c b = record {
+    laid = b.laid;
+    were_laid = b.inside.1 refl;
+    named = λ reads agrees.
+        all_named texts premises.no_collision reads agrees (root_of keys run is premises.no_collision premises.true_keys.pinned reads agrees) b.laid b.inside.0 c.changes b.are;
+  }
 
   pub name_laid_files : NameLaidFiles keys run
-  name_laid_files reads agrees =
-      let root = root_of keys run is premises.no_collision premises.true_keys.pinned reads agrees in
-      to_all (λ x. All (NamesWhatWasLaid reads run) (line (views run) x)) (views run)
-      (λ x i. to_all (NamesWhatWasLaid reads run) (line (views run) x)
-      (λ c j. (let b = begun x i c j in
-      record { laid = b.laid; were_laid = b.inside.1; named = all_named texts premises.no_collision reads agrees root b.laid b.inside.0 c.changes b.are })))
+  name_laid_files =
+      to_all (λ x. All (NamesWhatWasLaid keys run) (line (views run) x)) (views run)
+      (λ x i. to_all (NamesWhatWasLaid keys run) (line (views run) x) (λ c j. names_what_was_laid c (begun x i c j)))

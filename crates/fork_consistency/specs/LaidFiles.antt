@@ -1,28 +1,37 @@
 -- What the changes of an operation name: the files that its user's client was handed when it began the operation.
-use Rattle.std.specs.Prelude.{◌≡◌, ◌⊎◌, List, [], Option, Result, IsSomeAnd}
-use Rattle.std.specs.List.{All, Contains}
+use Rattle.std.specs.Prelude.{◌≡◌, ◌⊎◌, List, [], ◌∷◌, ◌++◌, Option, Result, IfErr, IsSomeAnd}
+use Rattle.std.specs.List.{All}
 use Rattle.std.specs.Option.{option_and_then}
-use Rattle.layout.specs.Types.{Bytes, Digest, User}
-use Rattle.update_cert.specs.Change.{Action, Change, Make, Put}
+use Rattle.layout.specs.Types.{Bytes, Digest}
+use Rattle.update_cert.specs.Change.{Action, Make, Put}
 use Rattle.update_cert.specs.Cert.{Cert}
 use Rattle.update_cert.specs.Reading.{Reading}
 use Rattle.update_cert.specs.World.{Directory, File}
 use Rattle.tree_parts.specs.Blocks.{file_over, inode_at}
 use Rattle.client_releases.specs.declared.error.ClientError.{ClientError}
-use Rattle.client_steps.specs.Steps.{Begins}
+use Rattle.client_releases.specs.declared.error.ClientError.TheVariants as error
+use Rattle.client_verify.specs.State.{State, next_cert}
+use Rattle.client_steps.specs.Steps.{Begins, Open}
 use Rattle.agreement.specs.Lines.{line}
 use Rattle.client_runs.specs.Released.{views}
-use Rattle.client_runs.specs.Runs.{Event, Keys}
+use Rattle.client_runs.specs.Runs.{Event, Keys, client_of}
 use Rattle.fork_consistency.specs.Handles.{told_by_texts}
 use Rattle.fork_consistency.specs.Worlds.{IsReadingOf}
 
--- the user's client was handed these texts at a step at which it was to begin an operation of these changes
-pub record WereLaid (u : User) (run : List Event) (changes : List (Change Digest)) (laid : List Bytes) : Type 0 where
+-- Its user's client was handed these texts at a step at which it was to begin this very operation. It was open then.
+-- It did so, or a device failed, in which case the operation may be written all the same.
+pub record WereLaid (c : Cert) (run : List Event) (laid : List Bytes) : Type 0 where
   pub step : Event
-  pub there : Contains run step
-  pub user : step.user ≡ u
+  pub later : List Event
+  pub older : List Event
+  pub at : run ≡ later ++ step ∷ older
+  pub user : step.user ≡ c.user
+  pub before : State
+  pub was_open : client_of c.user older ≡ Open before
+  pub operation : next_cert before c.changes ≡ c
   pub answer : Result Bytes ClientError
-  pub begins : step.call ≡ Begins changes laid answer
+  pub begins : step.call ≡ Begins c.changes laid answer
+  pub tried : IfErr answer (λ e. e ≡ error.Device)
 
 -- the file whose i-node has this digest, where the i-node and its blocks are among the texts: what the blocks make
 abbrev pub file_in : List Bytes → Digest → Option Bytes
@@ -38,14 +47,13 @@ NamesLaid reads laid (Make digest) = StandsForFile reads laid digest ⊎ (reads.
 NamesLaid reads laid (Put digest) = StandsForFile reads laid digest
 NamesLaid reads laid other = Unit {0}
 
--- Each change of the operation names what the user's client was handed for it.
-pub record NamesWhatWasLaid (reads : Reading) (run : List Event) (c : Cert) : Type 0 where
+-- Each change of the operation names what the user's client was handed for it, as each reading of the run tells it.
+pub record NamesWhatWasLaid (keys : Keys) (run : List Event) (c : Cert) : Type 0 where
   pub laid : List Bytes
-  pub were_laid : WereLaid c.user run c.changes laid
-  pub named : All (λ change. NamesLaid reads laid change.action) c.changes
+  pub were_laid : WereLaid c run laid
+  pub named : (reads : Reading) → IsReadingOf keys run reads
+      → All (λ change. NamesLaid reads laid change.action) c.changes
 
--- so does each operation of the line of each accepted view, as each reading of the run tells it
+-- so does each operation of the line of each accepted view
 abbrev pub NameLaidFiles : Keys → List Event → Type 0
-NameLaidFiles keys run =
-    (reads : Reading) → IsReadingOf keys run reads
-    → All (λ x. All (NamesWhatWasLaid reads run) (line (views run) x)) (views run)
+NameLaidFiles keys run = All (λ x. All (NamesWhatWasLaid keys run) (line (views run) x)) (views run)
