@@ -41,7 +41,8 @@ pub record HaveLines (keys : Keys) (run : List Event) : Type 0 where
   -- The texts can be read, and leave no choice of the world of a line.
   pub readings : CanBeRead keys run
   pub one_world : OneWorld keys run
-  -- What an operation makes or puts is, by each reading, the file that its user's client was handed for it.
+  -- What an operation makes or puts is, by each reading, the file that its user's client was handed for it, or, of what
+  -- is made, the empty directory.
   pub laid : NameLaidFiles keys run
   -- In a line each user's numbers are 1, 2, 3 and so on. It ends with the own operation. Each operation was released by
   -- its user, who is listed before it.
@@ -88,9 +89,10 @@ pub record StandWhereStolen (stolen : User → Bool) (keys : Keys) (run : List E
   pub one_part : OnePart keys run
   -- each answer of a look is so in the tree of the view, and what a client tells of its view is that of the view;
   pub shown : ShowTrees keys run
-  -- and what a view stands on is signed under the keys that its table lists: each user's part stands on a handle that
-  -- the user signed, each group's on one that a member did, and pending changes with effect are by those who may make
-  -- them.
+  -- and what a view stands on is signed under the keys that its table lists: each user's part stands on a handle in a
+  -- structure signed under the user's key, each group's on one signed under the key of a user who was a member then, or
+  -- on that of the beginning, and pending changes with effect are in certificates signed under the keys of users who
+  -- may make them.
   pub signed : AreSigned keys run
 
 -- ---- at each moment

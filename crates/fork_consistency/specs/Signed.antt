@@ -88,9 +88,10 @@ pub record IsSigned (pinned : Key) (x : View) : Type 0 where
   -- the record of a group is of a user who was a member at its table version.
   pub records : (z : Signed Structure) (r : GroupRecord) → Contains x.lists.structures z → Contains z.value.groups r
       → is_member x.table r.group z.value.plan.user r.table ≡ true
-  -- So a user's part stands on a handle that the user signed, or on that of the beginning,
+  -- So a user's part stands on a handle in a structure signed under the user's key, or on that of the beginning,
   pub users : (u : User) → u < 64 → StandsOnOwn pinned x u ⊎ UserIsAtFirst pinned x u
-  -- a group's on one that a member signed, or on that of the beginning,
+  -- a group's on that of its newest record, in a structure signed under the key of a user who was a member at the
+  -- record's table version, or on that of the beginning,
   pub groups : (g : Group) → 64 ≤ g → StandsOnMembers pinned x g ⊎ GroupIsAtFirst pinned x g
   -- and what is pending changes a part only by those who may.
   pub causes : HaveCauses pinned x

@@ -46,10 +46,11 @@ pub fn views_of_runs_are_worlds()
     ensures readings { EachRun CanBeRead }
     // and all of them give one world to a line.
     ensures one { EachRun OneWorld }
-    // What an operation makes or puts is by each of them the file that its user's client was handed for it.
-    ensures laid { EachRun NameLaidFiles }
     // So what looks answer is, and what a client tells of its view.
     ensures shown { EachRun ShowWorlds }
+    // What an operation makes or puts is by each reading the file that its user's client was handed when it was to begin
+    // this operation, or, of what is made, the empty directory.
+    ensures laid { EachRun NameLaidFiles }
 {}
 
 /// Every run of all users' clients is fork consistent, as long as no digest collides, no signature is forged, user 0's
@@ -84,8 +85,9 @@ pub fn looks_tell_of_one_tree()
 
 /// Whoever has whose keys: in each accepted view each structure and each pending certificate is signed under its user's
 /// key by the view's table, and the record of each group is of a user who was a member at its table version. So each
-/// user's part stands on a handle that the user signed, each group's on one that a member signed, or on that of the
-/// beginning; and a pending change that has effect is signed by a user who may make it.
+/// user's part stands on a handle in a structure signed under the user's key, each group's on one in a structure signed
+/// under the key of a user who was a member at the record's table version, or on that of the beginning; and the
+/// certificate of a pending change that has effect is signed under the key of a user who may make it.
 pub fn views_are_signed()
     ensures { EachRunAtAll AreSigned }
 {}
