@@ -1,5 +1,5 @@
 -- The premises of a run hold of it as it was at each moment; and which premises follow from which.
-use Rattle.std.proofs.Common.{Bool, true, false, ◌==◌, List, [], ◌∷◌, ◌++◌, Option, Some, None, IfSome, refl, inl, inr, if◌then◌else◌}
+use Rattle.std.proofs.Common.{Bool, true, false, ◌==◌, List, [], ◌∷◌, ◌++◌, Option, Some, None, IfSome, inl, inr, if◌then◌else◌}
 use Rattle.std.specs.Prelude.{◌↔◌}
 use Rattle.std.specs.List.{All, Contains, flat_map}
 use Rattle.std.proofs.lemmas.List.Elements.{All-weaker}
@@ -15,7 +15,7 @@ use Rattle.client_runs.specs.Released.{Shown, hashed, hashed_at, released, relea
 use Rattle.client_runs.specs.Runs.{Event, IsRun, Keys, public_key}
 use Rattle.client_runs.specs.UsedOnce.{LeavesOnce}
 use Rattle.client_runs.proofs.Once.{leaves_once}
-use Rattle.fork_consistency.specs.ForkConsistent.{RunPremises, StolenPremises, nobody}
+use Rattle.fork_consistency.specs.ForkConsistent.{HasNoUser, RunPremises, StolenPremises}
 use Rattle.fork_consistency.specs.OwnParts.{IsOutside, OthersAreHonest}
 use Rattle.fork_consistency.specs.Premises.{AddsOwnKeysOf, GivesOwnKeyOf, IsGenuine, NoCollision, NoneForgedOf, Premises, TextAddsOwnKeysOf, everybody}
 use Rattle.fork_consistency.proofs.ByCertificates.{fewer_forged}
@@ -111,19 +111,37 @@ module _ (keys : Keys) (some few : User → Type 0) (among : (u : User) → few 
   fewer_added run added = All-weaker (TextAddsOwnKeysOf some keys) (TextAddsOwnKeysOf few keys) fewer_in_text (released 0 run) added
 
 -- where nobody's key is stolen the premises are those of fork consistency
-pub of_nobody : (run : List Event) → StolenPremises nobody run ↔ RunPremises run
-of_nobody run = (
+pub honest_of_nobody : (stolen : User → Bool) (keys : Keys) (run : List Event) → HasNoUser stolen → OthersAreHonest stolen keys run ↔ Premises keys run
+honest_of_nobody stolen keys run none = (
   (λ p.
       record {
-        no_forgery = fewer_forged (IsOutside nobody) everybody (λ u one. refl) script_keys run run p.no_forgery;
+        no_forgery = fewer_forged (IsOutside stolen) everybody (λ u one. none u) keys run run p.no_forgery;
         no_collision = p.no_collision;
-        added = fewer_added script_keys (IsOutside nobody) everybody (λ u one. refl) run p.added;
+        true_keys = record { pinned = p.pinned; added = fewer_added keys (IsOutside stolen) everybody (λ u one. none u) run p.added };
       }),
   (λ p.
       record {
-        super = refl;
-        no_forgery = fewer_forged everybody (IsOutside nobody) (λ u out. tt) script_keys run run p.no_forgery;
+        super = none 0;
+        no_forgery = fewer_forged everybody (IsOutside stolen) (λ u out. tt) keys run run p.no_forgery;
         no_collision = p.no_collision;
-        added = fewer_added script_keys everybody (IsOutside nobody) (λ u out. tt) run p.added;
+        pinned = p.true_keys.pinned;
+        added = fewer_added keys everybody (IsOutside stolen) (λ u out. tt) run p.true_keys.added;
+      }),
+)
+
+pub of_nobody : (stolen : User → Bool) (run : List Event) → HasNoUser stolen → StolenPremises stolen run ↔ RunPremises run
+of_nobody stolen run none = (
+  (λ p.
+      record {
+        no_forgery = fewer_forged (IsOutside stolen) everybody (λ u one. none u) script_keys run run p.no_forgery;
+        no_collision = p.no_collision;
+        added = fewer_added script_keys (IsOutside stolen) everybody (λ u one. none u) run p.added;
+      }),
+  (λ p.
+      record {
+        super = none 0;
+        no_forgery = fewer_forged everybody (IsOutside stolen) (λ u out. tt) script_keys run run p.no_forgery;
+        no_collision = p.no_collision;
+        added = fewer_added script_keys everybody (IsOutside stolen) (λ u out. tt) run p.added;
       }),
 )

@@ -118,9 +118,9 @@ pub record StolenPremises (stolen : User → Bool) (run : List Event) : Type 0 w
   pub no_collision : NoCollision script_keys run
   pub added : AddsOwnKeysOf (IsOutside stolen) script_keys run
 
--- a set without users
-abbrev pub nobody : User → Bool
-nobody u = false
+-- no user is in the set
+abbrev pub HasNoUser : (User → Bool) → Type 0
+HasNoUser stolen = (u : User) → stolen u ≡ false
 
 -- ---- steps that are carried out
 

@@ -1,18 +1,19 @@
 //! Laws of whole runs, for the proofs of callers: functions that do nothing.
 
-ghost use Rattle.std.specs.Prelude.{◌↔◌, List};
+ghost use Rattle.std.specs.Prelude.{◌↔◌, Bool, List};
 ghost use Rattle.std.specs.List.{All};
 ghost use Rattle.client_runs.specs.Released.{views};
-ghost use Rattle.client_runs.specs.Runs.{Event};
+ghost use Rattle.client_runs.specs.Runs.{Event, Keys};
+ghost use Rattle.layout.specs.Types.{User};
 ghost use Rattle.fork_consistency.specs.ByCertificates.{AreByCertificates, EachHonestSuper, HaveTexts};
 ghost use Rattle.fork_consistency.specs.ByCertificates.{ListOwnKeysOf};
 ghost use Rattle.fork_consistency.specs.ForkConsistent.{AreForkConsistent, AtEach, RunPremises, StandWhereStolen};
-ghost use Rattle.fork_consistency.specs.ForkConsistent.{StolenPremises, nobody};
+ghost use Rattle.fork_consistency.specs.ForkConsistent.{HasNoUser, StolenPremises};
 ghost use Rattle.fork_consistency.specs.Handles.{AllAreWhole, FirstAreWhole, SignsItsTable};
 ghost use Rattle.fork_consistency.specs.LaidFiles.{NameLaidFiles};
-ghost use Rattle.fork_consistency.specs.OwnParts.{EachRunOfOthers};
+ghost use Rattle.fork_consistency.specs.OwnParts.{EachRunOfOthers, OthersAreHonest};
 ghost use Rattle.fork_consistency.specs.Shown.{ShowTrees, ShowWorlds};
-ghost use Rattle.fork_consistency.specs.Premises.{AddsOwnKeys, EachRun, EachRunApart, everybody};
+ghost use Rattle.fork_consistency.specs.Premises.{AddsOwnKeys, EachRun, EachRunApart, Premises, everybody};
 ghost use Rattle.fork_consistency.specs.Signed.{AreSigned, EachRunAtAll};
 ghost use Rattle.fork_consistency.specs.Worlds.{AreWorldsIn, CanBeRead, OneWorld};
 
@@ -72,9 +73,14 @@ pub fn own_parts_stand()
     ensures at_each { EachRunOfOthers (λ stolen keys run. AtEach (StandWhereStolen stolen keys) run) }
 {}
 
-/// Where nobody's key is stolen, the premises of this are those of fork consistency.
+/// Where nobody's key is stolen, the premises of what `run` promises where keys are stolen are those of fork
+/// consistency;
 pub fn stolen_by_nobody()
-    ensures { (run : List Event) → StolenPremises nobody run ↔ RunPremises run }
+    ensures run { (stolen : User → Bool) (run : List Event) → HasNoUser stolen
+        → StolenPremises stolen run ↔ RunPremises run }
+    // and so are those of `own_parts_stand`.
+    ensures laws { (stolen : User → Bool) (keys : Keys) (run : List Event) → HasNoUser stolen
+        → OthersAreHonest stolen keys run ↔ Premises keys run }
 {}
 
 /// Whoever has whose keys, as long as no digest collides: each accepted view of a run has a tree, and what its client
