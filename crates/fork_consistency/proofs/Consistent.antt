@@ -8,7 +8,7 @@ use Rattle.client_runs.specs.declared.world.Answer.{Answer}
 use Rattle.client_runs.specs.declared.world.WorldStep.{WorldStep}
 use Rattle.fork_consistency.proofs.Agreed.{agreed, agreed_by_plans, all_released, are_accepted, ended, growing, numbered}
 use Rattle.fork_consistency.proofs.ScriptKeys.{pinned_fits}
-use Rattle.fork_consistency.specs.ForkConsistent.{AreForkConsistent, AtEach, HaveLines, IsForkConsistent, RunPremises, StandWhereStolen, StolenPremises}
+use Rattle.fork_consistency.specs.ForkConsistent.{AreForkConsistent, AtEachMoment, HaveLines, IsForkConsistent, RunPremises, StandWhereStolen, StolenPremises}
 use Rattle.fork_consistency.specs.OwnParts.{OthersAreHonest}
 use Rattle.fork_consistency.proofs.OwnParts.{own_keys_stand, own_parts, super_of}
 use Rattle.fork_consistency.proofs.Signed.{are_signed}
@@ -48,7 +48,7 @@ consistent keys run is p = record {
 }
 
 -- as they were at each moment
-pub at_each : (keys : Keys) (run : List Event) → IsRun keys run → Premises keys run → AtEach (AreForkConsistent keys) run
+pub at_each : (keys : Keys) (run : List Event) → IsRun keys run → Premises keys run → AtEachMoment (AreForkConsistent keys) run
 at_each keys run is p later older at =
     let whole = subst (IsRun keys) at is in
     consistent keys older (is_before keys later older whole) (premises_before keys later older whole (subst (Premises keys) at p))
@@ -73,7 +73,7 @@ stands stolen keys run is others = record {
   signed = are_signed keys run is;
 }
 
-pub stands_at_each : (stolen : User → Bool) (keys : Keys) (run : List Event) → IsRun keys run → OthersAreHonest stolen keys run → AtEach (StandWhereStolen stolen keys) run
+pub stands_at_each : (stolen : User → Bool) (keys : Keys) (run : List Event) → IsRun keys run → OthersAreHonest stolen keys run → AtEachMoment (StandWhereStolen stolen keys) run
 stands_at_each stolen keys run is others later older at =
     let whole = subst (IsRun keys) at is in
     stands stolen keys older (is_before keys later older whole) (others_before keys stolen later older whole (subst (OthersAreHonest stolen keys) at others))
@@ -98,9 +98,9 @@ carried steps answers c = record {
   certificates = c.certificates;
   structures = c.structures;
   consistent = λ p. consistent script_keys c.events c.is_run (all_premises c.events p);
-  at_each = λ p. at_each script_keys c.events c.is_run (all_premises c.events p);
-  stolen = λ set p. stands set script_keys c.events c.is_run (stolen_premises set c.events p);
-  stolen_at_each = λ set p. stands_at_each set script_keys c.events c.is_run (stolen_premises set c.events p);
+  consistent_at_each_moment = λ p. at_each script_keys c.events c.is_run (all_premises c.events p);
+  where_stolen = λ set p. stands set script_keys c.events c.is_run (stolen_premises set c.events p);
+  where_stolen_at_each_moment = λ set p. stands_at_each set script_keys c.events c.is_run (stolen_premises set c.events p);
 }
 
 -- so is what a call answers with them

@@ -34,7 +34,7 @@ use Rattle.client_runs.proofs.Replies.{of_lists}
 use Rattle.fork_consistency.proofs.Views.{over_here}
 use Rattle.fork_consistency.proofs.AllWhole.{newest_in}
 use Rattle.fork_consistency.proofs.Lists.{found_in}
-use Rattle.fork_consistency.specs.Signed.{AreSigned, GroupIsAtFirst, IsSigned, IsSignedBy, StandsOnMembers, StandsOnOwn, UserIsAtFirst}
+use Rattle.fork_consistency.specs.Signed.{AreSigned, StandsOnFirstOfGroup, IsSigned, IsSignedBy, StandsOnMembers, StandsOnOwn, StandsOnFirstOfUser}
 
 -- what the rules try of a signature
 signed_by : (pinned : Key) (t : Table) (u : User) (text signature : Bytes) → verifies t u text signature ≡ true → (not (u == 0) || valid pinned text signature) ≡ true → IsSignedBy pinned t u text signature
@@ -71,7 +71,7 @@ of_members t x unbroken z r i j =
 
 module _ (pinned : Key) (x : View)
     (structures_signed : (z : Signed Structure) → In z x.lists.structures → IsSignedBy pinned x.table z.value.plan.user (structure.spell z.value) z.signature) where
-  user_stands : (u : User) → u < 64 → (o : Option (Signed Structure)) → structure_of u x.lists.structures ≡ o → StandsOnOwn pinned x u ⊎ UserIsAtFirst pinned x u
+  user_stands : (u : User) → u < 64 → (o : Option (Signed Structure)) → structure_of u x.lists.structures ≡ o → StandsOnOwn pinned x u ⊎ StandsOnFirstOfUser pinned x u
   user_stands u low None at = inr (at, rw (lt-ltb u 64 low, at) refl)
   user_stands u low (Some z) at =
       let f = found_in (λ (z : Signed Structure). z.value.plan.user == u) x.lists.structures z at in
@@ -87,7 +87,7 @@ module _ (pinned : Key) (x : View)
       )
 
   group_stands : ((z : Signed Structure) (r : GroupRecord) → In z x.lists.structures → In r z.value.groups → is_member x.table r.group z.value.plan.user r.table ≡ true)
-      → (g : Group) → 64 ≤ g → (o : Option GroupRecord) → newest g x.lists.structures ≡ o → StandsOnMembers pinned x g ⊎ GroupIsAtFirst pinned x g
+      → (g : Group) → 64 ≤ g → (o : Option GroupRecord) → newest g x.lists.structures ≡ o → StandsOnMembers pinned x g ⊎ StandsOnFirstOfGroup pinned x g
   group_stands members g high None at = inr (at, rw (le-ltb g 64 high, at) refl)
   group_stands members g high (Some r) at =
       let (z, i, j, group) = newest_in g x.lists.structures r at in

@@ -98,8 +98,8 @@ pub record StandWhereStolen (stolen : User → Bool) (keys : Keys) (run : List E
 -- ---- at each moment
 
 -- what holds of the run as it was at each moment
-abbrev pub AtEach : (List Event → Type 0) → List Event → Type 0
-AtEach holds run = (later older : List Event) → run ≡ later ++ older → holds older
+abbrev pub AtEachMoment : (List Event → Type 0) → List Event → Type 0
+AtEachMoment holds run = (later older : List Event) → run ≡ later ++ older → holds older
 
 -- ---- premises
 
@@ -126,8 +126,8 @@ HasNoUser stolen = (u : User) → stolen u ≡ false
 
 -- The steps with their answers are a run of clients, in which each refusal names the first broken rule, and leave no
 -- choice of its calls and of what these release; that is used once; under the premises the accepted views are fork
--- consistent, as they were at each moment, by what was released then; and what holds of them, then, where keys are
--- stolen.
+-- consistent, as they were at each moment, by what was released then; and so is what holds where keys are stolen.
+-- `consistent` and `where_stolen` follow from the fields of each moment, of which the last is the whole run.
 pub record IsForkConsistent {A : Type 0} (steps : List (WorldStep A)) (answers : List (Answer A)) : Type 0 where
   pub events : List Event
   pub is_run : IsRun script_keys events
@@ -137,7 +137,7 @@ pub record IsForkConsistent {A : Type 0} (steps : List (WorldStep A)) (answers :
   pub certificates : (u : User) → CertificatesOnce u events
   pub structures : (u : User) → StructuresOnce u events
   pub consistent : RunPremises events → AreForkConsistent script_keys events
-  pub at_each : RunPremises events → AtEach (AreForkConsistent script_keys) events
-  pub stolen : (set : User → Bool) → StolenPremises set events → StandWhereStolen set script_keys events
-  pub stolen_at_each : (set : User → Bool) → StolenPremises set events
-      → AtEach (StandWhereStolen set script_keys) events
+  pub consistent_at_each_moment : RunPremises events → AtEachMoment (AreForkConsistent script_keys) events
+  pub where_stolen : (stolen : User → Bool) → StolenPremises stolen events → StandWhereStolen stolen script_keys events
+  pub where_stolen_at_each_moment : (stolen : User → Bool) → StolenPremises stolen events
+      → AtEachMoment (StandWhereStolen stolen script_keys) events

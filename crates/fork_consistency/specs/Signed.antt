@@ -41,8 +41,8 @@ StandsOnOwn pinned x u =
     (z : Signed Structure) × IsUsersStructure pinned x u z × (handle_of (view_in pinned x) u ≡ z.value.handle)
 
 -- the view has no structure of the user, whose part stands on the handle of the beginning
-abbrev pub UserIsAtFirst : Key → View → User → Type 0
-UserIsAtFirst pinned x u =
+abbrev pub StandsOnFirstOfUser : Key → View → User → Type 0
+StandsOnFirstOfUser pinned x u =
     (structure_of u x.lists.structures ≡ None) × (handle_of (view_in pinned x) u ≡ first_handle u pinned)
 
 -- The record is the group's newest in the view. It stands in a structure that is signed under the key of its user, who
@@ -62,8 +62,8 @@ StandsOnMembers pinned x g =
     (r : GroupRecord) × IsMembersRecord pinned x g r × (handle_of (view_in pinned x) g ≡ r.handle)
 
 -- the view has no record of the group, whose part stands on the handle of the beginning
-abbrev pub GroupIsAtFirst : Key → View → Group → Type 0
-GroupIsAtFirst pinned x g =
+abbrev pub StandsOnFirstOfGroup : Key → View → Group → Type 0
+StandsOnFirstOfGroup pinned x g =
     (newest g x.lists.structures ≡ None) × (handle_of (view_in pinned x) g ≡ first_handle g pinned)
 
 -- ---- what pending changes rest on
@@ -89,10 +89,10 @@ pub record IsSigned (pinned : Key) (x : View) : Type 0 where
   pub records : (z : Signed Structure) (r : GroupRecord) → Contains x.lists.structures z → Contains z.value.groups r
       → is_member x.table r.group z.value.plan.user r.table ≡ true
   -- So a user's part stands on a handle in a structure signed under the user's key, or on that of the beginning,
-  pub users : (u : User) → u < 64 → StandsOnOwn pinned x u ⊎ UserIsAtFirst pinned x u
+  pub users : (u : User) → u < 64 → StandsOnOwn pinned x u ⊎ StandsOnFirstOfUser pinned x u
   -- a group's on that of its newest record, in a structure signed under the key of a user who was a member at the
   -- record's table version, or on that of the beginning,
-  pub groups : (g : Group) → 64 ≤ g → StandsOnMembers pinned x g ⊎ GroupIsAtFirst pinned x g
+  pub groups : (g : Group) → 64 ≤ g → StandsOnMembers pinned x g ⊎ StandsOnFirstOfGroup pinned x g
   -- and what is pending changes a part only by those who may.
   pub causes : HaveCauses pinned x
 

@@ -7,8 +7,8 @@ ghost use Rattle.client_runs.specs.Runs.{Event, Keys};
 ghost use Rattle.layout.specs.Types.{User};
 ghost use Rattle.fork_consistency.specs.ByCertificates.{AreByCertificates, EachHonestSuper, HaveTexts};
 ghost use Rattle.fork_consistency.specs.ByCertificates.{ListOwnKeysOf};
-ghost use Rattle.fork_consistency.specs.ForkConsistent.{AreForkConsistent, AtEach, RunPremises, StandWhereStolen};
-ghost use Rattle.fork_consistency.specs.ForkConsistent.{HasNoUser, StolenPremises};
+ghost use Rattle.fork_consistency.specs.ForkConsistent.{AreForkConsistent, AtEachMoment, HasNoUser};
+ghost use Rattle.fork_consistency.specs.ForkConsistent.{RunPremises, StandWhereStolen, StolenPremises};
 ghost use Rattle.fork_consistency.specs.Handles.{AllAreWhole, FirstAreWhole, SignsItsTable};
 ghost use Rattle.fork_consistency.specs.LaidFiles.{NameLaidFiles};
 ghost use Rattle.fork_consistency.specs.OwnParts.{EachRunOfOthers, OthersAreHonest};
@@ -60,7 +60,7 @@ pub fn views_of_runs_are_worlds()
 pub fn runs_are_fork_consistent()
     ensures consistent { EachRun AreForkConsistent }
     // So each was at each of its moments, by what had been released by then.
-    ensures at_each { EachRun (λ keys run. AtEach (AreForkConsistent keys) run) }
+    ensures at_each { EachRun (λ keys run. AtEachMoment (AreForkConsistent keys) run) }
 {}
 
 /// Where the server has the keys of some users, never of user 0: in each accepted view the part of each other user is
@@ -70,7 +70,7 @@ pub fn runs_are_fork_consistent()
 pub fn own_parts_stand()
     ensures stand { EachRunOfOthers StandWhereStolen }
     // So it was at each moment of the run, by what had been released by then.
-    ensures at_each { EachRunOfOthers (λ stolen keys run. AtEach (StandWhereStolen stolen keys) run) }
+    ensures at_each { EachRunOfOthers (λ stolen keys run. AtEachMoment (StandWhereStolen stolen keys) run) }
 {}
 
 /// Where nobody's key is stolen, the premises of what `run` promises where keys are stolen are those of fork
