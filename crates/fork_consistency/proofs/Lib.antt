@@ -15,6 +15,7 @@ mod Acting
 mod SignedTable
 mod HonestViews
 mod Contents
+mod Causes
 mod Certificates
 pub mod BlocksOf
 pub mod Origins

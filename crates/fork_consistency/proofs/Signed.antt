@@ -4,18 +4,16 @@ use Rattle.std.specs.Prelude.{◌⊎◌}
 use Rattle.std.specs.List.{list_all}
 use Rattle.std.specs.Option.{option_map_or}
 use Rattle.std.proofs.lemmas.Bool.{and_parts, eqb-true, le-ltb, lt-ltb}
-use Rattle.layout.specs.Types.{Bytes, Digest, Group, Key, User}
+use Rattle.layout.specs.Types.{Bytes, Group, Key, User}
 use Rattle.lms_sign.specs.Signature.{valid}
 use Rattle.principals.specs.Table.{Table, is_member, key_of}
 use Rattle.version_order.specs.declared.structure.GroupRecord.{GroupRecord}
 use Rattle.version_order.specs.Structure.{Structure, structure}
 use Rattle.update_cert.specs.Cert.{cert}
-use Rattle.update_cert.specs.Change.{Change}
-use Rattle.update_cert.specs.World.{Actor, Content, fits, has_effect, permitted}
 use Rattle.pending_list.specs.declared.signed.Signed.{Signed}
 use Rattle.pending_list.specs.Groups.{groups}
 use Rattle.pending_list.specs.Reply.{PendingItem}
-use Rattle.client_tree.specs.View.{actor_of, newest, structure_of}
+use Rattle.client_tree.specs.View.{newest, structure_of}
 use Rattle.reply_rules.specs.declared.rule.Rule.{Rule}
 use Rattle.reply_rules.specs.declared.rule.Rule.TheVariants as rule
 use Rattle.reply_rules.specs.Broken.{broken, later_rules}
@@ -27,6 +25,7 @@ use Rattle.agreement.proofs.Members.{In, contains_in, in-append, in_contains, to
 use Rattle.agreement.proofs.Tests.{all_in, first_holds}
 use Rattle.client_runs.specs.Released.{accepted_by, tried_view, views}
 use Rattle.client_runs.specs.Runs.{Event, IsRun, Keys, client_of, owner, public_key}
+use Rattle.fork_consistency.proofs.Causes.{changes_are_caused}
 use Rattle.fork_consistency.proofs.Holds.{IsTriedOver, known_in}
 use Rattle.fork_consistency.proofs.Judging.{cert_by_super, cert_verified, structure_by_super, structure_verified, unbroken, unbroken_by}
 use Rattle.fork_consistency.proofs.Moves.{holds_at}
@@ -105,10 +104,6 @@ module _ (pinned : Key) (x : View)
         rw (le-ltb g 64 high, at) refl,
       )
 
-may_change : (actor : Actor) (c : Change Digest) (content : Option Content) → has_effect actor c content ≡ true → permitted actor c ≡ true
-unfolding has_effect
-may_change actor c content effect = (and_parts (permitted actor c) (fits actor.user c content) effect).0
-
 module _ (keys : Keys) where
   view_is : (older : List Event) (is : IsRun keys older) (u : User) (x : View) → IsTriedOver (owner keys u) (holds_at keys u older is).story older x → IsSigned (public_key keys 0) x
   view_is older is u x over =
@@ -125,7 +120,7 @@ module _ (keys : Keys) where
         records = λ z g has_z has_g. of_members x.table x.lists by.rules z g (contains_in z x.lists.structures has_z) (contains_in g z.value.groups has_g);
         users = λ u low. user_stands (public_key keys 0) x structures_signed u low (structure_of u x.lists.structures) refl;
         groups = λ g high. group_stands (public_key keys 0) x structures_signed (of_members x.table x.lists by.rules) g high (newest g x.lists.structures) refl;
-        causes = λ i c content has_i has_c effect. (certificates_signed i (contains_in i (items x.lists) has_i), may_change (actor_of x.table i) c content effect);
+        causes = changes_are_caused (public_key keys 0) x certificates_signed;
       }
 
   each_signed : (run : List Event) → IsRun keys run → (x : View) → In x (views run) → IsSigned (public_key keys 0) x

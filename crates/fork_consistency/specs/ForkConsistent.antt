@@ -91,8 +91,8 @@ pub record StandWhereStolen (stolen : User → Bool) (keys : Keys) (run : List E
   pub shown : ShowTrees keys run
   -- and what a view stands on is signed under the keys that its table lists: each user's part stands on a handle in a
   -- structure signed under the user's key, each group's on one signed under the key of a user who was a member then, or
-  -- on that of the beginning, and pending changes with effect are in certificates signed under the keys of users who
-  -- may make them.
+  -- on that of the beginning, and where the tree differs from that, a pending certificate is the cause, signed under
+  -- the key of a user who may make the change.
   pub signed : AreSigned keys run
 
 -- ---- at each moment

@@ -1,19 +1,20 @@
 -- What holds of each accepted view by its rules alone, whoever has whose keys.
 use Rattle.std.specs.Prelude.{◌≡◌, ◌⊎◌, ◌<◌, ◌≤◌, ◌==◌, true, List, Option, Some, None, IsSomeAnd, if◌then◌else◌}
 use Rattle.std.specs.List.{All, Contains}
-use Rattle.layout.specs.Types.{Bytes, Digest, Group, Key, User}
+use Rattle.layout.specs.Types.{Bytes, Digest, Group, INumber, Key, Principal, User}
 use Rattle.lms_sign.specs.Signature.{valid}
 use Rattle.principals.specs.Table.{Table, is_member, key_of}
 use Rattle.version_order.specs.declared.structure.GroupRecord.{GroupRecord}
 use Rattle.version_order.specs.Structure.{Structure, structure}
 use Rattle.update_cert.specs.Cert.{cert}
 use Rattle.update_cert.specs.Change.{Change}
-use Rattle.update_cert.specs.World.{Content, has_effect, permitted}
+use Rattle.update_cert.specs.Reading.{Reading}
+use Rattle.update_cert.specs.World.{permitted}
 use Rattle.pending_list.specs.Reply.{PendingItem}
 use Rattle.pending_list.specs.declared.signed.Signed.{Signed}
 use Rattle.reply_rules.specs.Lists.{items}
 use Rattle.client_tree.specs.Genesis.{first_handle}
-use Rattle.client_tree.specs.View.{actor_of, handle_of, newest, structure_of}
+use Rattle.client_tree.specs.View.{actor_of, handle_of, named, newest, structure_of, tree}
 use Rattle.agreement.specs.Runs.{View}
 use Rattle.agreement.specs.Worlds.{view_in}
 use Rattle.client_runs.specs.Released.{views}
@@ -68,13 +69,23 @@ StandsOnFirstOfGroup pinned x g =
 
 -- ---- what pending changes rest on
 
--- A pending change that has effect, whatever stands at its place, is in a certificate that is signed under its user's
--- key, and this user may change that part, where membership is judged at the operation's table version.
-abbrev pub HaveCauses : Key → View → Type 0
-HaveCauses pinned x =
-    (i : PendingItem) (c : Change Digest) (content : Option Content) → Contains (items x.lists) i
-    → Contains i.cert.changes c → has_effect (actor_of x.table i) c content ≡ true
-    → IsSignedBy pinned x.table i.cert.user (cert.spell i.cert) i.signature × (permitted (actor_of x.table i) c ≡ true)
+-- A pending change of this place stands in a certificate that is signed under its user's key, and this user may change
+-- that part, where membership is judged at the operation's table version.
+pub record HasCause (pinned : Key) (x : View) (p : Principal) (i : INumber) : Type 0 where
+  pub pending : PendingItem
+  pub there : Contains (items x.lists) pending
+  pub signed : IsSignedBy pinned x.table pending.cert.user (cert.spell pending.cert) pending.signature
+  pub change : Change Digest
+  pub listed : Contains pending.cert.changes change
+  pub principal : change.principal ≡ p
+  pub place : change.i_number ≡ i
+  pub may : permitted (actor_of x.table pending) change ≡ true
+
+-- At each place of the view's tree stands what the handles name there, or it has such a cause, as each reading tells it.
+abbrev pub ChangesAreCaused : Key → View → Type 0
+ChangesAreCaused pinned x =
+    (reads : Reading) (users : Table) (p : Principal) (i : INumber)
+    → (tree reads users (view_in pinned x) p i ≡ named reads users (view_in pinned x) p i) ⊎ HasCause pinned x p i
 
 -- ---- accepted views
 
@@ -93,8 +104,8 @@ pub record IsSigned (pinned : Key) (x : View) : Type 0 where
   -- a group's on that of its newest record, in a structure signed under the key of a user who was a member at the
   -- record's table version, or on that of the beginning,
   pub groups : (g : Group) → 64 ≤ g → StandsOnMembers pinned x g ⊎ StandsOnFirstOfGroup pinned x g
-  -- and what is pending changes a part only by those who may.
-  pub causes : HaveCauses pinned x
+  -- and where the tree differs from what these handles name, a pending change of one who may make it is the cause.
+  pub causes : ChangesAreCaused pinned x
 
 -- so it is with each accepted view
 abbrev pub AreSigned : Keys → List Event → Type 0

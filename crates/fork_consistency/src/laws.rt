@@ -92,8 +92,9 @@ pub fn looks_tell_of_one_tree()
 /// Whoever has whose keys: in each accepted view each structure and each pending certificate is signed under its user's
 /// key by the view's table, and the record of each group is of a user who was a member at its table version. So each
 /// user's part stands on a handle in a structure signed under the user's key, each group's on one in a structure signed
-/// under the key of a user who was a member at the record's table version, or on that of the beginning; and the
-/// certificate of a pending change that has effect is signed under the key of a user who may make it.
+/// under the key of a user who was a member at the record's table version, or on that of the beginning; and where the
+/// tree differs from what these handles name, a pending certificate has a change of that place, and is signed under the
+/// key of a user who may make it.
 pub fn views_are_signed()
     ensures { EachRunAtAll AreSigned }
 {}
