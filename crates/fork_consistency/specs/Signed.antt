@@ -81,7 +81,8 @@ pub record HasCause (pinned : Key) (x : View) (p : Principal) (i : INumber) : Ty
   pub place : change.i_number ≡ i
   pub may : permitted (actor_of x.table pending) change ≡ true
 
--- At each place of the view's tree stands what the handles name there, or it has such a cause, as each reading tells it.
+-- At each place of the view's tree stands what the handles name there, or it has such a cause: by whatever reading, and
+-- whatever table of principals user 0's handle names.
 abbrev pub ChangesAreCaused : Key → View → Type 0
 ChangesAreCaused pinned x =
     (reads : Reading) (users : Table) (p : Principal) (i : INumber)

@@ -49,8 +49,8 @@ pub fn views_of_runs_are_worlds()
     ensures one { EachRun OneWorld }
     // So what looks answer is, and what a client tells of its view.
     ensures shown { EachRun ShowWorlds }
-    // What an operation makes or puts is by each reading the file that its user's client was handed when it was to begin
-    // this operation, or, of what is made, the empty directory.
+    // What an operation makes or puts is by each reading the file that its user's client was handed for it, or, of what
+    // is made, the empty directory.
     ensures laid { EachRun NameLaidFiles }
 {}
 
