@@ -3,10 +3,13 @@
 
 mod connection;
 mod memory;
+mod reading;
+mod server_socket;
 mod socket;
 mod writing;
 
 pub use connection::{Connection, ConnectionFault};
 pub use memory::MemoryConnection;
+pub use server_socket::ServerSocket;
 pub use socket::Socket;
 pub use writing::{WriteFault, write_whole};

@@ -4,7 +4,8 @@ ghost use Rattle.std.specs.Prelude.{◌≤◌, None};
 ghost use Rattle.leaf_ledger.specs.Device.{HasRisen};
 
 use crate::connection::{Connection, ConnectionFault, fault};
-use std::io::{self, Read, Write};
+use crate::reading::read_some;
+use std::io::{self, Write};
 use std::net::TcpStream;
 use std::time::Duration;
 
@@ -42,7 +43,7 @@ impl Connection for Socket {
     ghost fault_count = { λ s. s.faults };
 
     fn read(&mut self, buffer: &mut [u8]) -> Result<usize, ConnectionFault> {
-        match self.stream.read(buffer) {
+        match read_some(&mut self.stream, buffer) {
             Ok(count) => {
                 self.ended = count == 0;
                 Ok(count)
