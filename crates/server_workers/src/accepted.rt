@@ -3,35 +3,69 @@
 ghost use Rattle.std.specs.Prelude.{◌≡◌, ◌+◌, MatchOption};
 ghost use Rattle.std.specs.Iterator.{at_most};
 
-use connection::Socket;
-use std::net::TcpListener;
+use connection::ServerSocket;
+use std::io::ErrorKind;
+use std::net::{TcpListener, TcpStream};
 use std::time::{Clock, Duration};
 use std::{io, thread};
 
-/// How long a fault of the listener is rested upon, in milliseconds.
-const REST: u64 = 10;
+/// How long a fault of the listener is rested upon first, and how long at most, in milliseconds.
+const FIRST_REST: u64 = 10;
 
-/// How often it is tried to accept one connection: for two minutes, in which clients that say nothing are let go.
-const TRIES: u32 = 12_000;
+const LONGEST_REST: u64 = 1_000;
 
-/// The connections that a listener accepts, so many at most. A fault that passes, as too many open files, is waited
-/// out. One that doesn't ends them: it is put where who made this finds it, and nothing is accepted from then on.
+/// How long a connection may say nothing between two requests, in seconds, unless it is said otherwise.
+const IDLE: u64 = 600;
+
+/// The system's numbers of the faults after which a listener can't listen any more: it is closed, doesn't listen, or is
+/// no socket.
+const CLOSED: i32 = 9;
+
+const NOT_LISTENING: i32 = 22;
+
+const NO_SOCKET: i32 = 88;
+
+/// Who is told of the faults of a listener.
+pub trait Watch: Drop {
+    /// Faults begin, of which this is the first. Meanwhile connections wait.
+    fn faults_begin(&self, fault: &io::Error);
+
+    /// The faults have ended: a connection was accepted.
+    fn faults_end(&self);
+}
+
+/// Nobody is told.
+#[derive(Clone, Copy, Debug)]
+pub struct Unwatched;
+
+impl Watch for Unwatched {
+    fn faults_begin(&self, _fault: &io::Error) {}
+
+    fn faults_end(&self) {}
+}
+
+/// The connections that a listener accepts, so many at most. A fault that may pass, as too many open files, is waited
+/// out, however long it lasts. Where the listener can't listen any more they end: the fault is put where who made this
+/// finds it, and nothing is accepted from then on.
 #[derive(Drop)]
-pub struct Accepted<'a, R: Clock> {
+pub struct Accepted<'a, R: Clock, N: Watch = Unwatched> {
     rt: &'a R,
     listener: &'a TcpListener,
     left: u32,
+    idle: u64,
+    watch: N,
     fault: &'a mut Option<io::Error>,
 }
 
-impl<'a, R: Clock> Accepted<'a, R> {
-    /// Nothing is accepted yet. What stands in `fault` stays unless a fault comes that doesn't pass.
+impl<'a, R: Clock> Accepted<'a, R, Unwatched> {
+    /// Nothing is accepted yet, a connection may say nothing for ten minutes, and nobody is told of faults. What stands
+    /// in `fault` stays unless the listener can't listen any more.
     pub fn new(
         rt: &'a R,
         listener: &'a TcpListener,
         most: u32,
         fault: &'a mut Option<io::Error>,
-    ) -> Accepted<'a, R>
+    ) -> Accepted<'a, R, Unwatched>
         ensures left { result.left ≡ most }
         ensures fault { result.fault ≡ fault.entry }
     {
@@ -39,41 +73,108 @@ impl<'a, R: Clock> Accepted<'a, R> {
             rt,
             listener,
             left: most,
+            idle: IDLE,
+            watch: Unwatched,
+            fault,
+        }
+    }
+
+    /// A connection may say nothing for so many seconds between two requests, one at least, and this one is told of
+    /// faults.
+    pub fn watched<N: Watch>(self, idle: u64, watch: N) -> Accepted<'a, R, N>
+        ensures left { result.left ≡ self.entry.left }
+        ensures fault { result.fault ≡ self.entry.fault }
+    {
+        let Accepted {
+            rt,
+            listener,
+            left,
+            idle: _,
+            watch: Unwatched,
+            fault,
+        } = self;
+        Accepted {
+            rt,
+            listener,
+            left,
+            idle: idle.max(1),
+            watch,
             fault,
         }
     }
 }
 
-/// The next connection.
-fn accept_once(listener: &TcpListener) -> io::Result<Socket> {
-    let (stream, _) = listener.accept()?;
-    Socket::new(stream)
+/// After this fault the listener can't listen any more.
+fn is_last(fault: &io::Error) -> bool {
+    matches!(
+        fault.raw_os_error(),
+        Some(CLOSED | NOT_LISTENING | NO_SOCKET)
+    )
 }
 
-/// The next connection, or the fault of the last try.
-fn accept<R: Clock>(rt: &R, listener: &TcpListener) -> io::Result<Socket> {
-    for _try in 1..TRIES {
-        if let Ok(socket) = accept_once(listener) {
-            return Ok(socket);
+/// This fault is of one try alone: a signal came, or the client went away before it was accepted.
+fn is_of_one_try(fault: &io::Error) -> bool {
+    matches!(
+        fault.kind(),
+        ErrorKind::Interrupted | ErrorKind::ConnectionAborted
+    )
+}
+
+impl<'a, R: Clock, N: Watch> Accepted<'a, R, N> {
+    /// The next stream, or the fault after which there is none.
+    fn accept(&self) -> io::Result<TcpStream> {
+        let mut rest = 0;
+        for _try in 0..u64::MAX {
+            match self.listener.accept() {
+                Ok((stream, _)) => {
+                    if rest > 0 {
+                        self.watch.faults_end();
+                    }
+                    return Ok(stream);
+                }
+                Err(fault) if is_last(&fault) => return Err(fault),
+                Err(fault) if is_of_one_try(&fault) => {}
+                Err(fault) => rest = self.rest(&fault, rest),
+            }
         }
-        thread::sleep(rt, Duration::from_millis(REST));
+        Err(ErrorKind::TimedOut.into())
     }
-    accept_once(listener)
+
+    /// Rests upon a fault, twice as long as the last time, and tells of the first one. The number is how long.
+    fn rest(&self, fault: &io::Error, last: u64) -> u64 {
+        if last == 0 {
+            self.watch.faults_begin(fault);
+        }
+        let rest = last.saturating_mul(2).clamp(FIRST_REST, LONGEST_REST);
+        thread::sleep(self.rt, Duration::from_millis(rest));
+        rest
+    }
+
+    /// The next connection, or the fault after which there is none. One that takes no time limit is let go.
+    fn accept_one(&self) -> io::Result<ServerSocket<'a, R>> {
+        for _try in 0..u64::MAX {
+            let stream = self.accept()?;
+            if let Ok(socket) = ServerSocket::new(self.rt, stream, self.idle) {
+                return Ok(socket);
+            }
+        }
+        Err(ErrorKind::TimedOut.into())
+    }
 }
 
-impl<'a, R: Clock> Iterator for Accepted<'a, R> {
-    type Item = Socket;
+impl<'a, R: Clock, N: Watch> Iterator for Accepted<'a, R, N> {
+    type Item = ServerSocket<'a, R>;
 
     // A connection takes one from what is left. After None nothing is left.
     ghost next_gives = { λ before given after. MatchOption given (after.left ≡ 0) (λ _. after.left + 1 ≡ before.left) };
 
     ghost remaining = { λ s. at_most s.left };
 
-    fn next(&mut self) -> Option<Socket> {
+    fn next(&mut self) -> Option<ServerSocket<'a, R>> {
         if self.left == 0 {
             return None;
         }
-        match accept(self.rt, self.listener) {
+        match self.accept_one() {
             Ok(socket) => {
                 self.left -= 1;
                 Some(socket)

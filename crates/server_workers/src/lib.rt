@@ -1,4 +1,5 @@
-//! The server's workers: a connection each, one order of calls under a lock, and a log of what it placed and committed.
+//! The server's workers: a connection each, so many at once; one order of calls under a lock; and a log of what it placed
+//! and committed.
 #![tactic(auto)]
 
 mod accepted;
@@ -8,6 +9,7 @@ mod flusher;
 mod gate;
 mod locked;
 mod new_queue;
+mod places;
 mod queue_log;
 mod reply;
 mod server;
@@ -16,13 +18,13 @@ mod tally;
 mod worker;
 mod writing;
 
-pub use accepted::Accepted;
+pub use accepted::{Accepted, Unwatched, Watch};
 pub use call_queue::{CallPass, CallQueue, ServerName};
 pub use ended::Ended;
 pub use flusher::Flusher;
 pub use gate::{Gate, OpenGate};
 pub use new_queue::empty_queue;
-pub use server::{Served, serve};
+pub use server::{Limits, Served, serve, serve_within};
 pub use shared::Shared;
 pub use tally::Tally;
 pub use worker::converse;

@@ -8,7 +8,7 @@ invariant-loop-k g l =
     g.I.Iterator.can_next l.connections
     × IsFinite (g.I.Iterator.remaining l.connections)
     × (l.all.share.parts + vec_len l.running ≡ g.L.Ledger.parts)
-    × (vec_len l.running ≤ l.k)
-    × (l.unserved ≤ l.k)
-    × (length l.unread + 1 ≡ g.L.Ledger.parts)
-    × (length l.unread ≤ vec_capacity l.running)
+    × (vec_len l.running ≤ length l.places)
+    × (l.unserved ≤ l._k)
+    × (length l.places + 1 ≡ g.L.Ledger.parts)
+    × (length l.places ≤ vec_capacity l.running)
