@@ -6,10 +6,10 @@ use clap::error::ErrorKind;
 use clap::{Arg, ArgAction, ArgMatches, Command, value_parser};
 use layout::{Memory, beside, let_go};
 use lms_sign::{KEY_SIZE, PublicKey};
-use server_workers::{Accepted, OpenGate, serve};
+use server_workers::{Accepted, Limits, OpenGate, Watch, serve_within};
 use std::alloc::{AllocError, Global};
 use std::env;
-use std::fs::File;
+use std::fs::{self, File, OpenOptions};
 use std::io::{self, Read};
 use std::net::{Net, TcpListener, TcpStream};
 use std::process::ExitCode;
@@ -36,29 +36,74 @@ enum Fault {
     Address(io::Error),
     #[error("the file of the log: {0}")]
     LogFile(io::Error),
+    #[error("the file of the log is a symbolic link, which isn't followed")]
+    LogLink,
+    #[error("the file of the log isn't empty, and is left as it is: move it away, or name another one")]
+    LogUsed,
     #[error("the next connection: {0}")]
     Connection(io::Error),
     #[error("the log wasn't written to its end")]
     Log,
 }
 
+/// What the help says at its end.
+const RESTART: &str =
+    "It keeps operations and blocks in memory alone, and reads no log back. So a server that is \
+    started again begins anew: clients of the one before can't go on with it, and need folders of their own for it.";
+
 /// A required option with a value.
-fn option<'a>(alloc: Global, name: &'a str, value: &'a str) -> Arg<'a> {
+fn option<'a>(alloc: Global, name: &'a str, value: &'a str, help: &'a str) -> Arg<'a> {
     Arg::new(alloc, name)
         .long(name)
         .value_name(value)
+        .help(help)
         .required(true)
         .action(ArgAction::Set)
 }
 
+/// An option with a number of at least 1, which is this one unless it is given.
+fn number<'a>(
+    alloc: Global,
+    name: &'a str,
+    value: &'a str,
+    usual: &'a str,
+    help: &'a str,
+) -> Arg<'a> {
+    option(alloc, name, value, help)
+        .required(false)
+        .default_value(usual)
+        .value_parser(value_parser!(u32).range(1..))
+}
+
+/// The options that name where it listens and its files.
+fn places<'a>(alloc: Global, command: Command<'a>) -> Result<Command<'a>, AllocError> {
+    let listen = "Where it listens: an address and a port, or port 0 for a free one";
+    let key = "The file of user 0's public key, of 56 bytes";
+    let log =
+        "The file of the log, which is made; one that has bytes is refused, and so is a symbolic link";
+    command
+        .arg(option(alloc, "listen", "ADDR", listen))?
+        .arg(option(alloc, "super", "FILE", key))?
+        .arg(option(alloc, "log", "FILE", log))
+}
+
+/// The options on connections.
+fn limits<'a>(alloc: Global, command: Command<'a>) -> Result<Command<'a>, AllocError> {
+    let connections = "How many connections it serves in all; then it ends";
+    let at_once = "How many it serves at once; further ones wait until one ends";
+    let idle = "How long a connection may say nothing between two requests";
+    command
+        .arg(option(alloc, "connections", "N", connections).value_parser(value_parser!(u32)))?
+        .arg(number(alloc, "at-once", "M", "256", at_once))?
+        .arg(number(alloc, "idle", "SECONDS", "600", idle))
+}
+
 /// The words that the program takes.
 fn command<'a>(alloc: Global) -> Result<Command<'a>, AllocError> {
-    Command::new(alloc, "sundrd")
+    let command = Command::new(alloc, "sundrd")
         .about("Serves the clients of a file system that needn't trust it")
-        .arg(option(alloc, "listen", "ADDR"))?
-        .arg(option(alloc, "super", "FILE"))?
-        .arg(option(alloc, "log", "FILE"))?
-        .arg(option(alloc, "connections", "N").value_parser(value_parser!(u32)))
+        .after_help(RESTART);
+    limits(alloc, places(alloc, command)?)
 }
 
 /// The words that it was given.
@@ -96,37 +141,90 @@ fn refuse<R: Runtime>(rt: &R, fault: &clap::Error) -> anyhow::Result<ExitCode> {
     Ok(ExitCode::SUCCESS)
 }
 
-/// What a server begins with: its listener, how many connections it serves, user 0's key, and the file of its log.
+/// The file of the log, in which nothing stands: a new one, or one that is empty. No byte of a file is ever destroyed.
+fn open_log<R: Files<File = File>>(rt: &R, name: &str) -> anyhow::Result<File> {
+    match OpenOptions::new()
+        .write(true)
+        .create_new(true)
+        .open(rt, name)
+    {
+        Err(fault) if fault.kind() == io::ErrorKind::AlreadyExists => open_empty(rt, name),
+        made => Ok(made.map_err(Fault::LogFile)?),
+    }
+}
+
+/// A file that is there and empty, and no symbolic link.
+fn open_empty<R: Files<File = File>>(rt: &R, name: &str) -> anyhow::Result<File> {
+    let found = fs::symlink_metadata(rt, name).map_err(Fault::LogFile)?;
+    if found.is_symlink() {
+        return Err(Fault::LogLink.into());
+    }
+    let file = OpenOptions::new()
+        .append(true)
+        .open(rt, name)
+        .map_err(Fault::LogFile)?;
+    if file.metadata().map_err(Fault::LogFile)?.len() != 0 {
+        return Err(Fault::LogUsed.into());
+    }
+    Ok(file)
+}
+
+/// Who tells of a listener's faults, on standard error.
+#[derive(Drop)]
+struct Telling<'a, R> {
+    rt: &'a R,
+}
+
+impl<'a, R: Eprint> Watch for Telling<'a, R> {
+    fn faults_begin(&self, fault: &io::Error) {
+        let rt = self.rt;
+        let _ = eprintln!(rt; "sundrd: the next connection is waited for: {fault}");
+    }
+
+    fn faults_end(&self) {
+        let rt = self.rt;
+        let _ = eprintln!(rt; "sundrd: connections come again");
+    }
+}
+
+/// What a server begins with: its listener, how many connections it serves, how many at once, for how many seconds one
+/// may say nothing, user 0's key, and the file of its log.
 #[derive(Drop)]
 struct Begun {
     listener: TcpListener,
     most: u32,
+    at_once: u32,
+    idle: u32,
     pinned: PublicKey,
     log: File,
 }
 
-/// Reads user 0's key, listens where the words say, empties the file of the log, and prints where it listens.
+/// Reads user 0's key, listens where the words say, makes the file of the log, and prints where it listens.
 fn begin<
     R: Runtime + AllocGlobal + Files<File = File> + Net<Listener = TcpListener, Stream = TcpStream>,
 >(rt: &R, matches: &ArgMatches) -> anyhow::Result<Begun> {
     let most = matches.get_one::<u32>("connections").unwrap_or(0);
+    let at_once = matches.get_one::<u32>("at-once").unwrap_or(1);
+    let idle = matches.get_one::<u32>("idle").unwrap_or(1);
     let pinned = read_key(rt, matches.get_str("super").unwrap_or(""))?;
-    // The log is emptied only once the port is ours.
+    // The log is made only once the port is ours.
     let address = matches.get_str("listen").unwrap_or("");
     let listener = TcpListener::bind(rt, address).map_err(Fault::Address)?;
-    let log = File::create(rt, matches.get_str("log").unwrap_or("")).map_err(Fault::LogFile)?;
+    let log = open_log(rt, matches.get_str("log").unwrap_or(""))?;
     println!(rt; "listening {}", listener.local_addr()?)?;
     Ok(Begun {
         listener,
         most,
+        at_once,
+        idle,
         pinned,
         log,
     })
 }
 
-/// Serves the connections that come, up to a fault of the listener, which is put there: whether the log was written to
-/// its end.
-fn serve_all<R: AllocGlobal + Clock + Threads + Wait + Sync>(
+/// Serves the connections that come, up to a fault after which the listener can't listen, which is put there: whether
+/// the log was written to its end.
+fn serve_all<R: AllocGlobal + Eprint + Clock + Threads + Wait + Sync>(
     rt: &R,
     begun: Begun,
     fault: &mut Option<io::Error>,
@@ -136,18 +234,33 @@ fn serve_all<R: AllocGlobal + Clock + Threads + Wait + Sync>(
     let Begun {
         listener,
         most,
+        at_once,
+        idle,
         pinned,
         log,
     } = begun;
-    let connections = Accepted::new(rt, &listener, most, fault);
-    let served = serve(rt, alloc, &OpenGate, connections, most, &store, pinned, log)?;
+    let limits = Limits { most, at_once };
+    let connections = Accepted::new(rt, &listener, most, fault).watched(
+        idle as u64,
+        Telling { rt },
+    );
+    let served = serve_within(
+        rt,
+        alloc,
+        &OpenGate,
+        connections,
+        limits,
+        &store,
+        pinned,
+        log,
+    )?;
     let flushed = served.flushed;
     let_go(served);
     Ok(flushed)
 }
 
 /// Serves the connections that come.
-fn serve_begun<R: AllocGlobal + Clock + Threads + Wait + Sync>(
+fn serve_begun<R: AllocGlobal + Eprint + Clock + Threads + Wait + Sync>(
     rt: &R,
     begun: Begun,
 ) -> anyhow::Result<ExitCode> {
