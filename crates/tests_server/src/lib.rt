@@ -15,6 +15,8 @@ mod full_log;
 #[cfg(test)]
 mod logs;
 #[cfg(test)]
+mod many;
+#[cfg(test)]
 mod operations;
 #[cfg(test)]
 mod overlap;

@@ -1,20 +1,21 @@
 //! Connections over TCP: what is accepted, and the bytes of a socket both ways.
 
-use connection::{Connection, Socket};
+use connection::{Connection, ServerSocket, Socket};
 use layout::let_go;
-use server_workers::Accepted;
+use server_workers::{Accepted, Watch};
 use std::io;
 use std::io::{ErrorKind, Read, Write};
 use std::net::{Net, Shutdown, SocketAddr, TcpListener, TcpStream};
+use std::os::fd::OwnedFd;
 use std::process::Abort;
-use std::time::{Clock, Duration};
+use std::sync::atomic::{AtomicU32, Ordering};
+use std::time::{Clock, Duration, Instant};
 
-/// A clock that makes a client knock where it should rest, or that doesn't rest at all.
+/// A clock that makes a client knock where it should rest, and tells no time.
 #[derive(Drop)]
 struct Knocking<'a, R: Net> {
     rt: &'a R,
     address: SocketAddr,
-    knocks: bool,
 }
 
 impl<'a, R: Net> Clock for Knocking<'a, R> {
@@ -27,9 +28,7 @@ impl<'a, R: Net> Clock for Knocking<'a, R> {
     }
 
     fn sleep(&self, _duration: Duration) {
-        if self.knocks {
-            let _stream = TcpStream::connect(self.rt, self.address);
-        }
+        let _stream = TcpStream::connect(self.rt, self.address);
     }
 }
 
@@ -41,63 +40,71 @@ fn knock<R: Abort + Net<Listener = TcpListener, Stream = TcpStream>>(
     TcpStream::connect(rt, address).expect(rt, "a connection")
 }
 
-/// Of at most so many connections so many are accepted by a listener that fails while nobody knocks, since it doesn't
-/// wait. The first clients knock before, or else whenever the clock should rest; then nobody does.
-fn accepts<R: Abort + Net<Listener = TcpListener, Stream = TcpStream>>(
-    rt: &R,
-    knocks: bool,
-    most: u32,
-    count: u32,
-) {
+/// How often somebody was told that faults begin, and that they ended.
+#[derive(Drop)]
+struct Counting<'a> {
+    begun: &'a AtomicU32,
+    ended: &'a AtomicU32,
+}
+
+impl<'a> Watch for Counting<'a> {
+    fn faults_begin(&self, _fault: &io::Error) {
+        self.begun.fetch_add(1, Ordering::SeqCst);
+    }
+
+    fn faults_end(&self) {
+        self.ended.fetch_add(1, Ordering::SeqCst);
+    }
+}
+
+/// A listener that fails while nobody knocks, since it doesn't wait, accepts as many connections as it may: each client
+/// knocks whenever the clock should rest upon the fault, of which is told once it begins and once it ends. Who knocks
+/// later isn't accepted.
+fn waits_out<R: Abort + Net<Listener = TcpListener, Stream = TcpStream>>(rt: &R, most: u32) {
     let listener = TcpListener::bind(rt, "127.0.0.1:0").expect(rt, "a port");
     listener.set_nonblocking(true).expect(rt, "it doesn't wait");
     let address = listener.local_addr().expect(rt, "its address");
-    let clock = Knocking {
-        rt,
-        address,
-        knocks,
+    let clock = Knocking { rt, address };
+    let (begun, ended) = (AtomicU32::new(0), AtomicU32::new(0));
+    let counting = Counting {
+        begun: &begun,
+        ended: &ended,
     };
     let mut fault = None;
-    let mut accepted = Accepted::new(&clock, &listener, most, &mut fault);
-    for turn in 0..count {
-        let _client = if knocks {
-            None
-        } else {
-            Some(knock(rt, address))
-        };
+    let mut accepted = Accepted::new(&clock, &listener, most, &mut fault).watched(9, counting);
+    for turn in 0..most {
         assert!(rt; accepted.next().is_some(), "{turn} of {most}");
     }
-    assert!(rt; accepted.next().is_none(), "past {count} of {most}");
-    // Who knocks now comes too late, and isn't accepted.
     let _late = knock(rt, address);
     assert!(rt; accepted.next().is_none(), "late, of {most}");
     assert!(rt; accepted.next().is_none(), "late again, of {most}");
     let_go(accepted);
     assert!(rt; listener.accept().is_ok(), "who came too late still waits");
-    let kind = match fault {
-        Some(fault) => Some(fault.kind()),
-        None => None,
-    };
-    let wanted = if knocks {
-        None
-    } else {
-        Some(ErrorKind::WouldBlock)
-    };
-    assert!(rt; kind == wanted, "the fault, of {most}");
+    assert!(rt; fault.is_none(), "a fault ended them, of {most}");
+    assert_eq!(rt; begun.load(Ordering::SeqCst), most);
+    assert_eq!(rt; ended.load(Ordering::SeqCst), most);
 }
 
 #[test]
 fn a_fault_that_passes_is_waited_out(rt: HostRuntime) {
     for most in 0..=3u32 {
-        accepts(&rt, true, most, most);
+        waits_out(&rt, most);
     }
 }
 
-/// Nobody knocks, or one client does.
+/// A stream is no listener.
 #[test]
-fn a_fault_that_stays_ends_them(rt: HostRuntime) {
-    accepts(&rt, false, 2, 0);
-    accepts(&rt, false, 3, 1);
+fn a_listener_that_cannot_listen_ends_them(rt: HostRuntime) {
+    let listener = TcpListener::bind(&rt, "127.0.0.1:0").expect(&rt, "a port");
+    let address = listener.local_addr().expect(&rt, "its address");
+    let stream = knock(&rt, address);
+    let deaf = TcpListener::from(OwnedFd::from(stream));
+    let mut fault = None;
+    let mut accepted = Accepted::new(&rt, &deaf, 2, &mut fault);
+    assert!(rt; accepted.next().is_none(), "a connection");
+    assert!(rt; accepted.next().is_none(), "another one");
+    let_go(accepted);
+    assert!(rt; fault.is_some(), "the fault is told");
 }
 
 /// What the client writes is read.
@@ -144,4 +151,66 @@ fn a_socket_brings_bytes_both_ways(rt: HostRuntime) {
     client.shutdown(Shutdown::Write).expect(&rt, "shut down");
     assert_eq!(rt; socket.read(&mut [0; 8]).ok(), Some(0));
     assert_eq!(rt; socket.faults(), 0);
+}
+
+/// A clock on which a minute and a second go by whenever it is read.
+#[derive(Drop)]
+struct Hasty {
+    minutes: AtomicU32,
+}
+
+impl Clock for Hasty {
+    fn monotonic(&self) -> io::Result<Duration> {
+        let minutes = self.minutes.fetch_add(1, Ordering::SeqCst);
+        Ok(Duration::from_secs(u64::from(minutes).wrapping_mul(61)))
+    }
+
+    fn since_1970(&self) -> io::Result<Duration> {
+        Err(ErrorKind::Unsupported.into())
+    }
+}
+
+/// The server's end of a stream, and the client's.
+fn ends<'a, R: Abort + Net<Listener = TcpListener, Stream = TcpStream>, C: Clock>(
+    rt: &R,
+    clock: &'a C,
+    idle: u64,
+) -> (ServerSocket<'a, C>, TcpStream) {
+    let listener = TcpListener::bind(rt, "127.0.0.1:0").expect(rt, "a port");
+    let client = knock(rt, listener.local_addr().expect(rt, "its address"));
+    let (stream, _) = listener.accept().expect(rt, "who knocked");
+    let socket = ServerSocket::new(clock, stream, idle).expect(rt, "a socket");
+    (socket, client)
+}
+
+/// A request that takes longer than a minute from its first byte is a fault, though its bytes are there; after a reply
+/// the next one has its time.
+#[test]
+fn a_request_has_a_minute(rt: HostRuntime) {
+    let clock = Hasty {
+        minutes: AtomicU32::new(0),
+    };
+    let (mut socket, mut client) = ends(&rt, &clock, 600);
+    for _turn in 0..2 {
+        client.write_all(b"ab").expect(&rt, "written");
+        let mut byte = [0];
+        assert_eq!(rt; socket.read(&mut byte).ok(), Some(1));
+        assert!(rt; socket.write(b"reply").is_ok(), "written");
+        assert_eq!(rt; socket.read(&mut byte).ok(), Some(1));
+        assert!(rt; socket.read(&mut byte).is_err(), "after a minute");
+        assert!(rt; socket.write(b"reply").is_ok(), "written");
+    }
+    assert_eq!(rt; socket.faults(), 2);
+}
+
+/// Who says nothing for a second is let go where a second is the limit.
+#[test]
+fn an_idle_client_is_let_go(rt: HostRuntime) {
+    let (mut socket, client) = ends(&rt, &rt, 1);
+    let start = Instant::now(&rt).expect(&rt, "the time");
+    assert!(rt; socket.read(&mut [0; 8]).is_err(), "nothing was said");
+    let gone = start.elapsed(&rt).expect(&rt, "the time");
+    assert!(rt; gone >= Duration::from_millis(900), "not before");
+    assert_eq!(rt; socket.faults(), 1);
+    let_go(client);
 }
