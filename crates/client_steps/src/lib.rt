@@ -1,5 +1,5 @@
-//! The steps of one user's client, over any devices: what each call of it may answer and leave, and the calls, each made
-//! where it may be.
+//! The steps of one user's client, over any devices: what each call of it may answer and leave, and the calls, each
+//! made where it may be.
 #![tactic(auto)]
 
 mod calls;

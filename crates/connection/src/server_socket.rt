@@ -15,7 +15,7 @@ const PATIENCE: u64 = 60;
 /// The server's end of a stream over TCP. It doesn't tell its bytes: no clause says what a socket holds or delivers.
 /// What comes between one reply and the next has to have come a minute after its first byte, and a reply has to be
 /// taken within a minute; between a reply and the first byte after it the other side may say nothing for so many
-/// seconds. What takes longer counts as a fault. Where the clock can't be read, each single read and write has its time.
+/// seconds. What takes longer counts as a fault. Where the clock can't be read, each read and write has its own time.
 #[derive(Drop)]
 pub struct ServerSocket<'a, R: Clock> {
     rt: &'a R,

@@ -1,5 +1,5 @@
-//! The server's workers: a connection each, so many at once; one order of calls under a lock; and a log of what it placed
-//! and committed.
+//! The server's workers: a connection each, so many at once; one order of calls under a lock; and a log of what it
+//! placed and committed.
 #![tactic(auto)]
 
 mod accepted;

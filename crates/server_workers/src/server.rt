@@ -320,9 +320,9 @@ pub struct Limits {
 /// How many connections are served at the same time, unless it is said otherwise.
 const AT_ONCE: u32 = 256;
 
-/// Serves at most `limits.most` connections, a worker each, which starts at once. At most `limits.at_once` are served at
-/// the same time: a further one is taken only once a worker has ended. Beside them a flusher writes the log. `pinned` is
-/// the key of user 0.
+/// Serves at most `limits.most` connections, a worker each, which starts at once. At most `limits.at_once` are served
+/// at the same time: a further one is taken only once a worker has ended. Beside them a flusher writes the log. `pinned`
+/// is the key of user 0.
 pub fn serve_within<
     A: Allocator + Copy + Send + Sync,
     G: Gate + Sync,

@@ -102,8 +102,8 @@ static CASES: [[u32; 4]; 5] = [
     [5, 0, 2, 0],
 ];
 
-/// Serves so many connections within these limits, of which so many are taken: each is answered, and no more are open at
-/// once than may be.
+/// Serves so many connections within these limits, of which so many are taken: each is answered, and no more are open
+/// at once than may be.
 fn are_taken<R: Host>(rt: &R, left: u32, limits: Limits, wanted: u32) {
     let counts = Counts {
         open: AtomicU32::new(0),
