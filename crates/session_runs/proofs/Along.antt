@@ -10,10 +10,12 @@ use Rattle.agreement.proofs.Members.{In, in-right, in_contains}
 use Rattle.client_steps.specs.Steps.{AreSteps, Call, Client, Opens, Owner, Sees, Signs, StepTaken, first}
 use Rattle.client_runs.specs.OfUsers.{step_in, steps_of}
 use Rattle.client_runs.specs.Released.{accepted_by, in_hand, tried_view, views}
-use Rattle.client_runs.specs.Runs.{Event, IsRun, Keys, client_of}
+use Rattle.client_runs.specs.Runs.{Event, IsRun, Keys, client_of, owner}
 use Rattle.fork_consistency.specs.Shown.{EachTells, answered, last_view, view_told}
 use Rattle.fork_consistency.proofs.Lists.{found_in}
+use Rattle.fork_consistency.proofs.Moves.{holds_at}
 use Rattle.session_runs.proofs.Accepted.{accepted_is_own}
+use Rattle.session_runs.proofs.Declared.{IsDeclaredIn, hand_declared}
 
 -- a call that accepts no view
 abbrev pub AcceptsNone : Call → Type 0
@@ -44,6 +46,7 @@ module _ (answers : View → Question → Sees → Type 0) (tells : View → Acc
     pub own : (x : View) → next ≡ Some x → IsOf x
     pub hand : IsSigned s.call → IsSome (in_hand before) → next ≡ in_hand before
     pub same : AcceptsNone s.call → next ≡ last
+    pub declared : IfSome (in_hand before) (IsDeclaredIn before)
 
   -- steps, one after another
   abbrev pub Along : Option View → Client → List StepTaken → Option View → Client → Type 0
@@ -114,6 +117,7 @@ module _ (answers : View → Question → Sees → Type 0) (tells : View → Acc
         own = own_view (e ∷ older) inside;
         hand = λ signs some. subst (λ (v : User). find (λ x. user_of x == u) (accepted_by e.call (client_of v older) e.after (tried_view v older) ++ views older) ≡ in_hand (client_of u older)) (sym at)
             (hand_first u e.call (client_of u older) e.after (tried_view u older) (views older) signs some (λ x i. own_of at x i));
+        declared = hand_declared (owner keys u) older (tried_view u older) (client_of u older) (holds_at keys u older is.2).own;
         same = λ none. ap (λ (l : List View). find (λ x. user_of x == u) (l ++ views older)) (accepts_none e.call (client_of e.user older) e.after (tried_view e.user older) none);
       }
 

@@ -151,36 +151,36 @@ looking q (Ok (look.Kind kind)) new on = tt
 looking q (Ok (look.Free found)) new on = tt
 looking q (Err e) new on = tt
 
-begins_next : (n : Next) (changes : List (Change Digest)) (texts : List Bytes) (x : Result Bytes ClientError) (m : Next) → Follows n (Calls (Begins changes texts x)) m → m ≡ order.declaring x
+pub begins_next : (n : Next) (changes : List (Change Digest)) (texts : List Bytes) (x : Result Bytes ClientError) (m : Next) → Follows n (Calls (Begins changes texts x)) m → m ≡ order.declaring x
 begins_next (Ready laid) changes texts x m h = h.1
 begins_next (Store []) changes texts x m h = absurd h
 begins_next (Store (t ∷ ts)) changes texts x m h = absurd h
 begins_next other changes texts x m h = absurd h
 
-hears_next : (n : Next) (text : Bytes) (x : Result Asks ClientError) (m : Next) → Follows n (Calls (Hears text x)) m → m ≡ order.checking x
+pub hears_next : (n : Next) (text : Bytes) (x : Result Asks ClientError) (m : Next) → Follows n (Calls (Hears text x)) m → m ≡ order.checking x
 hears_next (Hear told) text x m h = h.1
 hears_next (Store []) text x m h = absurd h
 hears_next (Store (t ∷ ts)) text x m h = absurd h
 hears_next other text x m h = absurd h
 
-takes_next : (n : Next) (block : Option Bytes) (x : Result Asks ClientError) (m : Next) → Follows n (Calls (Takes block x)) m → m ≡ order.checking x
+pub takes_next : (n : Next) (block : Option Bytes) (x : Result Asks ClientError) (m : Next) → Follows n (Calls (Takes block x)) m → m ≡ order.checking x
 takes_next (Take told) block x m h = h.1
 takes_next (Store []) block x m h = absurd h
 takes_next (Store (t ∷ ts)) block x m h = absurd h
 takes_next other block x m h = absurd h
 
-signs_next : (n : Next) (x : Result Bytes ClientError) (lost : List ℕ) (m : Next) → Follows n (Calls (Signs x lost)) m → m ≡ order.committing x lost
+pub signs_next : (n : Next) (x : Result Bytes ClientError) (lost : List ℕ) (m : Next) → Follows n (Calls (Signs x lost)) m → m ≡ order.committing x lost
 signs_next (Store []) x lost m h = h
 signs_next (Store (text ∷ texts)) x lost m h = absurd h
 signs_next other x lost m h = absurd h
 
-commits_next : (n : Next) (st : Status) (m : Next) → Follows n (Calls (Commits st)) m → m ≡ order.committed st
+pub commits_next : (n : Next) (st : Status) (m : Next) → Follows n (Calls (Commits st)) m → m ≡ order.committed st
 commits_next (Tell told) st m h = h.1 ∙ ap order.committed (sym h.0)
 commits_next (Store []) st m h = absurd h
 commits_next (Store (t ∷ ts)) st m h = absurd h
 commits_next other st m h = absurd h
 
-looks_next : (n : Next) (q : Question) (x : Result Sees ClientError) (m : Next) → Follows n (Calls (Looks q x)) m → m ≡ order.looking q x
+pub looks_next : (n : Next) (q : Question) (x : Result Sees ClientError) (m : Next) → Follows n (Calls (Looks q x)) m → m ≡ order.looking q x
 looks_next (Ready laid) q x m h = h.1
 looks_next (Store []) q x m h = absurd h
 looks_next (Store (t ∷ ts)) q x m h = absurd h
@@ -193,7 +193,7 @@ asked_for (Store []) q block x m s h is = absurd h
 asked_for (Store (t ∷ ts)) q block x m s h is = absurd h
 asked_for other q block x m s h is = absurd h
 
-gives_next : (n : Next) (q : Question) (block : Option Bytes) (x : Result Sees ClientError) (m : Next) → Follows n (Calls (Gives q block x)) m → m ≡ order.looking q x
+pub gives_next : (n : Next) (q : Question) (block : Option Bytes) (x : Result Sees ClientError) (m : Next) → Follows n (Calls (Gives q block x)) m → m ≡ order.looking q x
 gives_next (GiveAt p told) q block x m h = h.2 ∙ ap (λ (r : Question). order.looking r x) (sym h.0)
 gives_next (Store []) q block x m h = absurd h
 gives_next (Store (t ∷ ts)) q block x m h = absurd h

@@ -22,9 +22,11 @@ use Rattle.file_session.specs.Calls.{Begins, Call, Commits, Gives, Hears, Looks,
 use Rattle.file_session.specs.Calls as session
 use Rattle.file_session.specs.Order.{Calls, Follows, LacksNumbers, LacksPlan, Move, Next, Sends}
 use Rattle.file_session.specs.Went.{Answering, At, Event, IsSeenIn, Moves, Signed, events, looks, seen_by as seen_in_call}
-use Rattle.session_runs.specs.Told.{AreTold, IsOwn, IsTextOf, seen_by, signed_by, signed_texts}
+use Rattle.session_runs.specs.Told.{AreTold, IsOfChanges, IsOwn, IsTextOf, seen_by, signed_by, signed_texts}
 use Rattle.session_runs.specs.Lives.{steps_in}
 use Rattle.session_runs.proofs.Along.{Along, Step}
+use Rattle.session_runs.proofs.Begun.{Begun, IsUnderWay, after_call as after_begun, begun_after, lacks_numbers as way_lacks_numbers, lacks_plan as way_lacks_plan, sent as way_sent, signs_it, stays as way_stays}
+use Rattle.session_runs.proofs.Declared.{IsOwnText, of_begun}
 use Rattle.session_runs.proofs.Looking.{IsLooking, LooksFor, after_call, asked_for, lacks_numbers, lacks_plan, sent}
 
 -- ---- an answer
@@ -55,7 +57,7 @@ seen_so w q (look.Need digest) low is some = absurd some
 seen_so w q (look.Broken rule) low is some = absurd some
 
 module _ (reads : Reading) (key : Key) (accepted : List View) (u : User) (texts : List Bytes) where
-  abbrev Told : Option View → List Event → Type 0
+  abbrev Told : Option View → Begun → List Event → Type 0
   Told = AreTold reads key accepted u texts
 
   abbrev OwnStep : Option View → Client → StepTaken → Option View → Type 0
@@ -71,16 +73,16 @@ module _ (reads : Reading) (key : Key) (accepted : List View) (u : User) (texts 
   some_seen (Some x) q answer low some is = seen_so (seen_by reads key accepted x) q answer low is some
 
   -- what a look tells
-  look_told : (last : Option View) (q : Question) (x : Result Sees ClientError) (es : List Event) → principal_of q < 96
-      → ((answer : Sees) → x ≡ Ok answer → IsSomeAnd last (λ v. IsTrueInWorld reads key accepted v q answer)) → Told last es → Told last (looks (seen_in_call q x) ++ es)
-  look_told last q (Ok (look.Need digest)) es low is told = told
-  look_told last q (Ok (look.Broken rule)) es low is told = told
-  look_told last q (Ok (look.File bytes)) es low is told = (some_seen last q (look.File bytes) low tt (is (look.File bytes) refl), told)
-  look_told last q (Ok (look.Dir entries)) es low is told = (some_seen last q (look.Dir entries) low tt (is (look.Dir entries) refl), told)
-  look_told last q (Ok look.None) es low is told = (some_seen last q look.None low tt (is look.None refl), told)
-  look_told last q (Ok (look.Kind kind)) es low is told = (some_seen last q (look.Kind kind) low tt (is (look.Kind kind) refl), told)
-  look_told last q (Ok (look.Free found)) es low is told = (some_seen last q (look.Free found) low tt (is (look.Free found) refl), told)
-  look_told last q (Err e) es low is told = told
+  look_told : (last : Option View) (begun : Begun) (q : Question) (x : Result Sees ClientError) (es : List Event) → principal_of q < 96
+      → ((answer : Sees) → x ≡ Ok answer → IsSomeAnd last (λ v. IsTrueInWorld reads key accepted v q answer)) → Told last begun es → Told last begun (looks (seen_in_call q x) ++ es)
+  look_told last begun q (Ok (look.Need digest)) es low is told = told
+  look_told last begun q (Ok (look.Broken rule)) es low is told = told
+  look_told last begun q (Ok (look.File bytes)) es low is told = (some_seen last q (look.File bytes) low tt (is (look.File bytes) refl), told)
+  look_told last begun q (Ok (look.Dir entries)) es low is told = (some_seen last q (look.Dir entries) low tt (is (look.Dir entries) refl), told)
+  look_told last begun q (Ok look.None) es low is told = (some_seen last q look.None low tt (is look.None refl), told)
+  look_told last begun q (Ok (look.Kind kind)) es low is told = (some_seen last q (look.Kind kind) low tt (is (look.Kind kind) refl), told)
+  look_told last begun q (Ok (look.Free found)) es low is told = (some_seen last q (look.Free found) low tt (is (look.Free found) refl), told)
+  look_told last begun q (Err e) es low is told = told
 
   -- ---- a call
 
@@ -123,43 +125,55 @@ module _ (reads : Reading) (key : Key) (accepted : List View) (u : User) (texts 
       go None some is hand = absurd (cc some)
       go (Some r) some is hand = of_ready r is.0 is.2 (sym at ∙ hand refl)
 
-  -- the view that was signed, and what it loses
-  signed_told : (o : Option AcceptedView) (next : Option View) (lost : List ℕ) (es : List Event) → IsSome o → lost ≡ lost_in o → IfSome o (λ v. IsSomeAnd next (λ x. IsOfWorld reads key accepted x v))
-      → ((x : View) → next ≡ Some x → IsOwn accepted u texts x) → Told next es → (last : Option View) → Told last (Signed lost ∷ es)
-  signed_told None next lost es some is of own told last = absurd (cc some)
-  signed_told (Some v) None lost es some is of own told last = absurd of
-  signed_told (Some v) (Some x) lost es some is of own told last = (x, own x refl, (λ before at. is ∙ of.lost before at), told)
+  -- its own certificate is the client's text
+  own_in_hand : (s : State) (next : Option View) → IsSome s.accepted → (IsSome (in_hand (Open s)) → next ≡ in_hand (Open s)) → IfSome (in_hand (Open s)) (IsOwnText s) → (x : View) → next ≡ Some x → IsOwnText s x
+  own_in_hand s next ready hand own x at = go s.accepted ready hand own
+    where
+      go : (o : Option Ready) → IsSome o → (IsSome (option_map (view_over s) o) → next ≡ option_map (view_over s) o) → IfSome (option_map (view_over s) o) (IsOwnText s) → IsOwnText s x
+      go None some hand own = absurd (cc some)
+      go (Some r) some hand own =
+          let same : Some (view_over s r) ≡ Some x = sym (hand refl) ∙ at in
+          let here : view_over s r ≡ x = cc same in
+          subst (IsOwnText s) here own
+
+  -- the view that was signed, its own operation and what it loses
+  signed_told : (begun : Begun) (o : Option AcceptedView) (next : Option View) (lost : List ℕ) (es : List Event) → IsSome o → lost ≡ lost_in o → IfSome o (λ v. IsSomeAnd next (λ x. IsOfWorld reads key accepted x v))
+      → ((x : View) → next ≡ Some x → IsOwn accepted u texts x) → ((x : View) → next ≡ Some x → IfSome begun (λ changes. IsOfChanges changes x)) → Told next begun es → (last : Option View) → Told last begun (Signed lost ∷ es)
+  signed_told begun None next lost es some is of own changed told last = absurd (cc some)
+  signed_told begun (Some v) None lost es some is of own changed told last = absurd of
+  signed_told begun (Some v) (Some x) lost es some is of own changed told last = (x, own x refl, changed x refl, (λ before at. is ∙ of.lost before at), told)
 
   -- the last view stays where no other is accepted
-  told_as : (last mid : Option View) (es : List Event) → mid ≡ last → Told mid es → Told last es
-  told_as last mid es same told = subst (λ (l : Option View). Told l es) same told
+  told_as : (last mid : Option View) (begun : Begun) (es : List Event) → mid ≡ last → Told mid begun es → Told last begun es
+  told_as last mid begun es same told = subst (λ (l : Option View). Told l begun es) same told
 
-  call_told : (n m : Next) (s new : State) (call : Call) (last mid : Option View) (ms : List Move) → session.Leads s call new → Follows n (Calls call) m → IsLooking n s
-      → OwnStep last (Open s) (record { call = step_of call; after = Open new }) mid → ((t : Bytes) → In t (signed_by (Calls call)) → In t texts) → Told mid (events ms) → Told last (events (Calls call ∷ ms))
+  call_told : (n m : Next) (s new : State) (call : Call) (last mid : Option View) (begun : Begun) (ms : List Move) → session.Leads s call new → Follows n (Calls call) m → IsLooking n s → IsUnderWay n begun s
+      → OwnStep last (Open s) (record { call = step_of call; after = Open new }) mid → ((t : Bytes) → In t (signed_by (Calls call)) → In t texts) → Told mid (begun_after call begun) (events ms) → Told last begun (events (Calls call ∷ ms))
   unfolding session.Leads
-  call_told n m s new (Begins changes texts x) last mid ms leads follows looking step inside told = told_as last mid (events ms) (step.same tt) told
-  call_told n m s new (Hears text x) last mid ms leads follows looking step inside told = told_as last mid (events ms) (step.same tt) told
-  call_told n m s new (Takes block x) last mid ms leads follows looking step inside told = told_as last mid (events ms) (step.same tt) told
-  call_told n m s new (Commits st) last mid ms leads follows looking step inside told = told_as last mid (events ms) (step.same tt) told
-  call_told n m s new (Signs (Err e) lost) last mid ms leads follows looking step inside told = told_as last mid (events ms) (step.same tt) told
-  call_told n m s new (Signs (Ok text) lost) last mid ms leads follows looking step inside told =
-      signed_told new.view mid lost (events ms) (has_view s new text leads.0) leads.2 step.view
+  call_told n m s new (Begins changes texts x) last mid begun ms leads follows looking way step inside told = told_as last mid (Some changes) (events ms) (step.same tt) told
+  call_told n m s new (Hears text x) last mid begun ms leads follows looking way step inside told = told_as last mid begun (events ms) (step.same tt) told
+  call_told n m s new (Takes block x) last mid begun ms leads follows looking way step inside told = told_as last mid begun (events ms) (step.same tt) told
+  call_told n m s new (Commits st) last mid begun ms leads follows looking way step inside told = told_as last mid begun (events ms) (step.same tt) told
+  call_told n m s new (Signs (Err e) lost) last mid begun ms leads follows looking way step inside told = told_as last mid begun (events ms) (step.same tt) told
+  call_told n m s new (Signs (Ok text) lost) last mid begun ms leads follows looking way step inside told =
+      signed_told begun new.view mid lost (events ms) (has_view s new text leads.0) leads.2 step.view
       (λ x at. record {
         among = (step.own x at).among;
         user = (step.own x at).user;
         signed = (text, in_contains text texts (inside text (inl refl)), signed_text_of s new text mid leads.0 (step.hand tt) x at);
       })
+      (λ x at. of_begun begun s x (signs_it begun s n (Ok text) lost m follows way) (own_in_hand s mid leads.0.ready (step.hand tt) step.declared x at))
       told last
-  call_told n m s new (Looks q x) last mid ms leads follows looking step inside told =
-      look_told last q x (events ms) leads.0.principal
+  call_told n m s new (Looks q x) last mid begun ms leads follows looking way step inside told =
+      look_told last begun q x (events ms) leads.0.principal
       (λ answer same. subst (λ (a : Result Sees ClientError). IfSome (answered (steps.Looks q a) (Open s)) (λ (p, b). IsSomeAnd last (λ v. IsTrueInWorld reads key accepted v p b))) same step.answer)
-      (told_as last mid (events ms) (step.same tt) told)
-  call_told n m s new (Gives q block x) last mid ms leads follows looking step inside told =
+      (told_as last mid begun (events ms) (step.same tt) told)
+  call_told n m s new (Gives q block x) last mid begun ms leads follows looking way step inside told =
       let looks = asked_for n q block x m s follows looking in
-      look_told last q x (events ms) looks.0
+      look_told last begun q x (events ms) looks.0
       (λ answer same. given_is q s answer last looks
       (subst (λ (a : Result Sees ClientError). IfSome (answered (steps.Gives block a) (Open s)) (λ (p, b). IsSomeAnd last (λ v. IsTrueInWorld reads key accepted v p b))) same step.answer))
-      (told_as last mid (events ms) (step.same tt) told)
+      (told_as last mid begun (events ms) (step.same tt) told)
 
   -- ---- moves
 
@@ -171,18 +185,18 @@ module _ (reads : Reading) (key : Key) (accepted : List View) (u : User) (texts 
     looks_still : (a mid : At T) (n : Next) → mid.client ≡ a.client → IsLooking n a.client → IsLooking n mid.client
     looks_still a mid n same is = subst (IsLooking n) (sym same) is
 
-    pub moves_told : (a : At T) (ms : List Move) (b : At T) → (run : Moves answers a ms b) → (last next : Option View) (after : Client) → OwnAlong last (Open a.client) (steps_in answers a ms b run) next after → IsLooking a.next a.client → ((t : Bytes) → In t (signed_texts ms) → In t texts) → Told last (events ms)
-    moves_told a [] b run last next after along looking inside = tt
-    moves_told a (Calls call ∷ ms) b (mid, one, more) last next after (m, step, rest) looking inside =
-        call_told a.next mid.next a.client mid.client call last m ms one.0 one.2 looking step
+    pub moves_told : (a : At T) (ms : List Move) (b : At T) → (run : Moves answers a ms b) → (last next : Option View) (begun : Begun) (after : Client) → OwnAlong last (Open a.client) (steps_in answers a ms b run) next after → IsLooking a.next a.client → IsUnderWay a.next begun a.client → ((t : Bytes) → In t (signed_texts ms) → In t texts) → Told last begun (events ms)
+    moves_told a [] b run last next begun after along looking way inside = tt
+    moves_told a (Calls call ∷ ms) b (mid, one, more) last next begun after (m, step, rest) looking way inside =
+        call_told a.next mid.next a.client mid.client call last m begun ms one.0 one.2 looking way step
         (λ t i. inside t (in-left t (signed_by (Calls call)) (signed_texts ms) i))
-        (moves_told mid ms b more m next after rest (after_call a.next mid.next call a.client mid.client one.0 one.2 looking) (λ t i. inside t (in-right t (signed_by (Calls call)) (signed_texts ms) i)))
-    moves_told a (Sends r x ∷ ms) b (mid, one, more) last next after along looking inside =
-        moves_told mid ms b more last next after (exchanged a mid last next (steps_in answers mid ms b more) after one.1 along)
-        (looks_still a mid mid.next one.1 (sent a.next r x mid.next a.client one.2 looking)) inside
-    moves_told a (LacksPlan ∷ ms) b (mid, one, more) last next after along looking inside =
-        moves_told mid ms b more last next after (exchanged a mid last next (steps_in answers mid ms b more) after one.0 along)
-        (looks_still a mid mid.next one.0 (lacks_plan a.next mid.next a.client one.2)) inside
-    moves_told a (LacksNumbers ∷ ms) b (mid, one, more) last next after along looking inside =
-        moves_told mid ms b more last next after (exchanged a mid last next (steps_in answers mid ms b more) after one.0 along)
-        (looks_still a mid mid.next one.0 (lacks_numbers a.next mid.next a.client one.2)) inside
+        (moves_told mid ms b more m next (begun_after call begun) after rest (after_call a.next mid.next call a.client mid.client one.0 one.2 looking) (after_begun a.next mid.next call a.client mid.client begun one.0 one.2 way) (λ t i. inside t (in-right t (signed_by (Calls call)) (signed_texts ms) i)))
+    moves_told a (Sends r x ∷ ms) b (mid, one, more) last next begun after along looking way inside =
+        moves_told mid ms b more last next begun after (exchanged a mid last next (steps_in answers mid ms b more) after one.1 along)
+        (looks_still a mid mid.next one.1 (sent a.next r x mid.next a.client one.2 looking)) (way_stays mid.next begun a.client mid.client one.1 (way_sent begun a.client a.next r x mid.next one.2 way)) inside
+    moves_told a (LacksPlan ∷ ms) b (mid, one, more) last next begun after along looking way inside =
+        moves_told mid ms b more last next begun after (exchanged a mid last next (steps_in answers mid ms b more) after one.0 along)
+        (looks_still a mid mid.next one.0 (lacks_plan a.next mid.next a.client one.2)) (way_stays mid.next begun a.client mid.client one.0 (way_lacks_plan begun a.client a.next mid.next one.2)) inside
+    moves_told a (LacksNumbers ∷ ms) b (mid, one, more) last next begun after along looking way inside =
+        moves_told mid ms b more last next begun after (exchanged a mid last next (steps_in answers mid ms b more) after one.0 along)
+        (looks_still a mid mid.next one.0 (lacks_numbers a.next mid.next a.client one.2)) (way_stays mid.next begun a.client mid.client one.0 (way_lacks_numbers begun a.client a.next mid.next one.2)) inside

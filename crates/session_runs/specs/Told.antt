@@ -1,7 +1,7 @@
 -- What sessions tell is so in the worlds of the lines of their users' accepted views.
-use Rattle.std.specs.Prelude.{◌≡◌, ◌⊎◌, ℕ, List, [], ◌∷◌, ◌++◌, Option, Some, Ok, IsSomeAnd}
+use Rattle.std.specs.Prelude.{◌≡◌, ◌⊎◌, ℕ, List, [], ◌∷◌, ◌++◌, Option, Some, None, Ok, IfSome, IsSomeAnd}
 use Rattle.std.specs.List.{All, Contains, flat_map}
-use Rattle.layout.specs.Types.{Bytes, Key, User}
+use Rattle.layout.specs.Types.{Bytes, Digest, Key, User}
 use Rattle.version_order.specs.Structure.{Structure, structure}
 use Rattle.update_cert.specs.Cert.{Cert}
 use Rattle.update_cert.specs.Change.{Change}
@@ -21,6 +21,7 @@ use Rattle.fork_consistency.specs.Premises.{Premises}
 use Rattle.fork_consistency.specs.Shown.{seen_in}
 use Rattle.fork_consistency.specs.Worlds.{IsReadingOf}
 use Rattle.file_session.specs.Calls.{Signs}
+use Rattle.file_session.specs.Declaring.{all_declared}
 use Rattle.file_session.specs.Order.{Calls, Move}
 use Rattle.file_session.specs.Sessions.{Resumed}
 use Rattle.file_session.specs.Went.{Answering, Begun, Event as Tale, IsSeenIn, Saw, Signed as Numbers, Unplanned}
@@ -58,49 +59,58 @@ Loses reads key accepted x lost =
     → lost ≡ void_read reads (actor_in (world reads key before) x.lists.own.cert) x.lists.own.cert.changes
     (world reads key before)
 
+-- these are the changes of the view's own operation
+abbrev pub IsOfChanges : List (Change Digest) → View → Type 0
+IsOfChanges changes x = x.lists.own.cert.changes ≡ changes
+
 -- ---- a session
 
--- What a session that signs these texts tells, in turn, where its client signed over this view last: each look was
--- answered as it is in the world of that view's line, and the numbers of the changes that a newly signed view loses are
--- those of its void ones.
-abbrev pub AreTold : Reading → Key → List View → User → List Bytes → Option View → List Tale → Type 0
-AreTold reads key accepted u texts last [] = Unit {0}
-AreTold reads key accepted u texts last (Begun changes laid ∷ es) = AreTold reads key accepted u texts last es
-AreTold reads key accepted u texts last (Unplanned ∷ es) = AreTold reads key accepted u texts last es
-AreTold reads key accepted u texts last (Saw s ∷ es) =
+-- What a session that signs these texts tells, in turn, where its client signed over this view last, and the operation
+-- that it began last has these changes: each look was answered as it is in the world of that view's line; the own
+-- operation of a newly signed view is the one that was begun, and the numbers are those of its void changes.
+abbrev pub AreTold : Reading → Key → List View → User → List Bytes → Option View → Option (List (Change Digest))
+    → List Tale → Type 0
+AreTold reads key accepted u texts last begun [] = Unit {0}
+AreTold reads key accepted u texts last begun (Begun changes laid ∷ es) =
+    AreTold reads key accepted u texts last (Some changes) es
+AreTold reads key accepted u texts last begun (Unplanned ∷ es) = AreTold reads key accepted u texts last begun es
+AreTold reads key accepted u texts last begun (Saw s ∷ es) =
     IsSomeAnd last (λ x. IsSeenIn (seen_by reads key accepted x) s.question s.answer)
-    × AreTold reads key accepted u texts last es
-AreTold reads key accepted u texts last (Numbers lost ∷ es) =
-    (x : View) × IsOwn accepted u texts x × Loses reads key accepted x lost
-    × AreTold reads key accepted u texts (Some x) es
+    × AreTold reads key accepted u texts last begun es
+AreTold reads key accepted u texts last begun (Numbers lost ∷ es) =
+    (x : View) × IsOwn accepted u texts x × IfSome begun (λ changes. IsOfChanges changes x)
+    × Loses reads key accepted x lost × AreTold reads key accepted u texts (Some x) begun es
 
--- from the view on that the client had
+-- from the view on that the client had, where the session began nothing yet
 abbrev pub AreToldFrom : Reading → Key → List View → User → List Bytes → List Tale → Type 0
-AreToldFrom reads key accepted u texts es = (last : Option View) × AreTold reads key accepted u texts last es
+AreToldFrom reads key accepted u texts es = (last : Option View) × AreTold reads key accepted u texts last None es
 
 abbrev pub MovesTell : Reading → Key → List View → User → List Move → Type 0
 MovesTell reads key accepted u moves = AreToldFrom reads key accepted u (signed_texts moves) (events moves)
 
 -- ---- a command
 
--- the command asks for an operation in this tree, and these numbers of its void changes are told
+-- The command asks for an operation in this tree; it is the own one of a view over which the session signed, and the
+-- numbers of its void changes are told.
 pub record AreWritten (reads : Reading) (key : Key) (accepted : List View) (u : User) (texts : List Bytes)
     (c : Command) (tree : Tree) (answer : Answer) : Type 0 where
   pub wanted : List (Change Content)
   pub asked : outcome u c tree ≡ Writes wanted
   pub view : View
   pub own : IsOwn accepted u texts view
+  pub declared : IsOfChanges (all_declared wanted) view
   pub lost : List ℕ
   pub loses : Loses reads key accepted view lost
   pub told : answer ≡ told_of_lost lost
 
--- In the world of the line of a view over which the session signed, the answer is what the command comes to; or the
--- command asks there for an operation, and the answer tells which changes of the own operation of another such view are
--- void at its place.
+-- In the world of the line of a view over which the session signed, the own operation of which is a look, without
+-- changes, the answer is what the command comes to; or the command asks there for an operation, it is the own one of
+-- another such view, and the answer tells which of its changes are void at its place.
 pub record IsAnswered (reads : Reading) (key : Key) (accepted : List View) (u : User) (texts : List Bytes)
     (c : Command) (answer : Answer) : Type 0 where
   pub view : View
   pub own : IsOwn accepted u texts view
+  pub looked : IsOfChanges [] view
   pub comes : (outcome u c (seen_by reads key accepted view) ≡ Tells answer)
       ⊎ AreWritten reads key accepted u texts c (seen_by reads key accepted view) answer
 
