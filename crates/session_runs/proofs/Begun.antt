@@ -1,10 +1,11 @@
--- From the call that begins an operation to the one that signs, the client's text is the certificate that was begun.
-use Rattle.std.proofs.Common.{◌≡◌, ℕ, List, [], ◌∷◌, Option, Some, None, Result, Ok, Err, sym, ap, subst}
+-- From the call that begins an operation to the one that signs, it is the one that the client declared last.
+use Rattle.std.proofs.Common.{◌≡◌, ℕ, List, [], ◌∷◌, Option, Result, Ok, Err, refl, sym, subst}
 use Rattle.layout.specs.Types.{Bytes, Digest}
 use Rattle.update_cert.specs.Change.{Change}
 use Rattle.client_tree.specs.declared.questions.Question.{Question}
 use Rattle.client_releases.specs.declared.error.ClientError.{ClientError}
-use Rattle.client_releases.specs.Told.{Released}
+use Rattle.client_releases.specs.declared.phase.Phase.{Phase}
+use Rattle.client_releases.specs.declared.phase.Phase.TheVariants as phase
 use Rattle.client_verify.specs.declared.look.Look.TheVariants as look
 use Rattle.client_verify.specs.declared.step.Step.TheVariants as step
 use Rattle.client_verify.specs.State.{State}
@@ -20,61 +21,56 @@ use Rattle.file_session.specs.Calls as session
 use Rattle.file_session.specs.Order.{Calls, Commit, CommitNew, Fetch, FetchAt, Follows, GiveAt, Hear, LacksNumbers, LacksPlan, Next, Over, Ready, Sends, Store, Take, Tell, Update}
 use Rattle.file_session.specs.Order as order
 use Rattle.file_session.specs.Replies.{block_in, payload_in, status_in}
-use Rattle.session_runs.proofs.Declared.{HasText, begins, same_text}
+use Rattle.session_runs.specs.Told.{OfChanges, OfNumber, Operation}
+use Rattle.session_runs.proofs.Declared.{HasDeclared, begins, still_has}
 use Rattle.session_runs.proofs.Looking.{begins_next, commits_next, gives_next, looks_next, signs_next}
 
--- the changes that were begun last
-abbrev pub Begun : Type 0
-Begun = Option (List (Change Digest))
-
-abbrev pub begun_after : Call → Begun → Begun
-begun_after (Begins changes texts x) begun = Some changes
+abbrev pub begun_after : Call → Operation → Operation
+begun_after (Begins changes texts x) begun = OfChanges changes
 begun_after other begun = begun
 
--- while the operation is under way, its certificate is the client's text
-abbrev pub IsUnderWay : Next → Begun → State → Type 0
-IsUnderWay (Update text) begun s = HasText begun s
-IsUnderWay (Hear text) begun s = HasText begun s
-IsUnderWay (Fetch digest) begun s = HasText begun s
-IsUnderWay (Take block) begun s = HasText begun s
-IsUnderWay (Store texts) begun s = HasText begun s
+-- while the operation is under way, it is the one that the client declared last
+abbrev pub IsUnderWay : Next → Operation → State → Type 0
+IsUnderWay (Update text) begun s = HasDeclared begun s
+IsUnderWay (Hear text) begun s = HasDeclared begun s
+IsUnderWay (Fetch digest) begun s = HasDeclared begun s
+IsUnderWay (Take block) begun s = HasDeclared begun s
+IsUnderWay (Store texts) begun s = HasDeclared begun s
 IsUnderWay other begun s = Unit {0}
 
-pub none_begun : (n : Next) (s : State) → IsUnderWay n None s
-none_begun (Update text) s = tt
-none_begun (Hear text) s = tt
-none_begun (Fetch digest) s = tt
-none_begun (Take block) s = tt
-none_begun (Store texts) s = tt
-none_begun other s = tt
+pub at_start : (p : Phase) (text : Bytes) (s : State) → IsUnderWay (order.resuming p text) (OfNumber s.number) s
+at_start phase.Idle text s = tt
+at_start phase.Declared text s = refl
+at_start phase.Signed text s = tt
+at_start phase.Failed text s = tt
 
-at_next : (n m : Next) (begun : Begun) (s : State) → n ≡ m → IsUnderWay m begun s → IsUnderWay n begun s
+at_next : (n m : Next) (begun : Operation) (s : State) → n ≡ m → IsUnderWay m begun s → IsUnderWay n begun s
 at_next n m begun s same is = subst (λ (x : Next). IsUnderWay x begun s) (sym same) is
 
 -- where it stays so
-pub stays : (n : Next) (begun : Begun) (s new : State) → new ≡ s → IsUnderWay n begun s → IsUnderWay n begun new
+pub stays : (n : Next) (begun : Operation) (s new : State) → new ≡ s → IsUnderWay n begun s → IsUnderWay n begun new
 stays n begun s new same is = subst (IsUnderWay n begun) (sym same) is
 
-module _ (begun : Begun) (s : State) where
+module _ (begun : Operation) (s : State) where
   laying : (laid : List Bytes) (text : Bytes) (x : Result Bytes Stop) → IsUnderWay (order.laying laid text x) begun s
   laying laid text (Ok digest) = tt
   laying laid text (Err e) = tt
 
-  hearing : (x : Result Bytes Stop) → HasText begun s → IsUnderWay (order.hearing x) begun s
+  hearing : (x : Result Bytes Stop) → HasDeclared begun s → IsUnderWay (order.hearing x) begun s
   hearing (Ok text) has = has
   hearing (Err e) has = tt
 
-  checking : (x : Result Asks ClientError) → HasText begun s → IsUnderWay (order.checking x) begun s
+  checking : (x : Result Asks ClientError) → HasDeclared begun s → IsUnderWay (order.checking x) begun s
   checking (Ok (step.Need digest)) has = has
   checking (Ok (step.Store texts)) has = has
   checking (Ok (step.Broken rule)) has = tt
   checking (Err e) has = tt
 
-  taking : (x : Result (Option Bytes) Stop) → HasText begun s → IsUnderWay (order.taking x) begun s
+  taking : (x : Result (Option Bytes) Stop) → HasDeclared begun s → IsUnderWay (order.taking x) begun s
   taking (Ok block) has = has
   taking (Err e) has = tt
 
-  storing : (texts : List Bytes) (x : Result Bytes Stop) → HasText begun s → IsUnderWay (order.storing texts x) begun s
+  storing : (texts : List Bytes) (x : Result Bytes Stop) → HasDeclared begun s → IsUnderWay (order.storing texts x) begun s
   storing texts (Ok digest) has = has
   storing texts (Err e) has = tt
 
@@ -144,40 +140,37 @@ module _ (begun : Begun) (s : State) where
   -- ---- calls
 
   -- a structure is signed while the operation is under way
-  pub signs_it : (n : Next) (x : Result Bytes ClientError) (lost : List ℕ) (m : Next) → Follows n (Calls (Signs x lost)) m → IsUnderWay n begun s → HasText begun s
+  pub signs_it : (n : Next) (x : Result Bytes ClientError) (lost : List ℕ) (m : Next) → Follows n (Calls (Signs x lost)) m → IsUnderWay n begun s → HasDeclared begun s
   signs_it (Store []) x lost m h is = is
   signs_it (Store (text ∷ texts)) x lost m h is = absurd h
   signs_it other x lost m h is = absurd h
 
-  hears_it : (n : Next) (text : Bytes) (x : Result Asks ClientError) (m : Next) → Follows n (Calls (Hears text x)) m → IsUnderWay n begun s → (m ≡ order.checking x) × HasText begun s
+  hears_it : (n : Next) (text : Bytes) (x : Result Asks ClientError) (m : Next) → Follows n (Calls (Hears text x)) m → IsUnderWay n begun s → (m ≡ order.checking x) × HasDeclared begun s
   hears_it (Hear told) text x m h is = (h.1, is)
   hears_it (Store []) text x m h is = absurd h
   hears_it (Store (t ∷ ts)) text x m h is = absurd h
   hears_it other text x m h is = absurd h
 
-  takes_it : (n : Next) (block : Option Bytes) (x : Result Asks ClientError) (m : Next) → Follows n (Calls (Takes block x)) m → IsUnderWay n begun s → (m ≡ order.checking x) × HasText begun s
+  takes_it : (n : Next) (block : Option Bytes) (x : Result Asks ClientError) (m : Next) → Follows n (Calls (Takes block x)) m → IsUnderWay n begun s → (m ≡ order.checking x) × HasDeclared begun s
   takes_it (Take told) block x m h is = (h.1, is)
   takes_it (Store []) block x m h is = absurd h
   takes_it (Store (t ∷ ts)) block x m h is = absurd h
   takes_it other block x m h is = absurd h
 
-begun_next : (s new : State) (changes : List (Change Digest)) (laid : List Bytes) (x : Result Bytes ClientError) → HasBegun s changes laid x new → IsUnderWay (order.declaring x) (Some changes) new
+begun_next : (s new : State) (changes : List (Change Digest)) (laid : List Bytes) (x : Result Bytes ClientError) → HasBegun s changes laid x new → IsUnderWay (order.declaring x) (OfChanges changes) new
 begun_next s new changes laid (Ok text) b = begins s new changes laid text b
 begun_next s new changes laid (Err e) b = tt
 
-text_stays : (s new : State) → quiet.IsQuiet s new → new.text ≡ s.text
-text_stays s new same = ap (λ (r : Released). r.text) same
-
-pub after_call : (n m : Next) (call : Call) (s new : State) (begun : Begun) → session.Leads s call new → Follows n (Calls call) m → IsUnderWay n begun s → IsUnderWay m (begun_after call begun) new
+pub after_call : (n m : Next) (call : Call) (s new : State) (begun : Operation) → session.Leads s call new → Follows n (Calls call) m → IsUnderWay n begun s → IsUnderWay m (begun_after call begun) new
 unfolding session.Leads
 after_call n m (Begins changes laid x) s new begun leads h is =
-    at_next m _ (Some changes) new (begins_next n changes laid x m h) (begun_next s new changes laid x leads.0)
+    at_next m _ (OfChanges changes) new (begins_next n changes laid x m h) (begun_next s new changes laid x leads.0)
 after_call n m (Hears text x) s new begun leads h is =
     let was = hears_it begun s n text x m h is in
-    at_next m _ begun new was.0 (checking begun new x (same_text begun s new (text_stays s new (quiet.hears s text x new leads.0)) was.1))
+    at_next m _ begun new was.0 (checking begun new x (still_has begun s new (quiet.hears s text x new leads.0) was.1))
 after_call n m (Takes block x) s new begun leads h is =
     let was = takes_it begun s n block x m h is in
-    at_next m _ begun new was.0 (checking begun new x (same_text begun s new (text_stays s new (quiet.takes s block x new leads.0)) was.1))
+    at_next m _ begun new was.0 (checking begun new x (still_has begun s new (quiet.takes s block x new leads.0) was.1))
 after_call n m (Signs x lost) s new begun leads h is = at_next m _ begun new (signs_next n x lost m h) (committing begun new x lost)
 after_call n m (Commits st) s new begun leads h is = at_next m _ begun new (commits_next n st m h) (committed begun new st)
 after_call n m (Looks q x) s new begun leads h is = at_next m _ begun new (looks_next n q x m h) (looking begun new q x)

@@ -22,10 +22,10 @@ use Rattle.file_session.specs.Calls.{Begins, Call, Commits, Gives, Hears, Looks,
 use Rattle.file_session.specs.Calls as session
 use Rattle.file_session.specs.Order.{Calls, Follows, LacksNumbers, LacksPlan, Move, Next, Sends}
 use Rattle.file_session.specs.Went.{Answering, At, Event, IsSeenIn, Moves, Signed, events, looks, seen_by as seen_in_call}
-use Rattle.session_runs.specs.Told.{AreTold, IsOfChanges, IsOwn, IsTextOf, seen_by, signed_by, signed_texts}
+use Rattle.session_runs.specs.Told.{AreTold, IsOwn, IsOwnOperation, IsTextOf, OfChanges, Operation, seen_by, signed_by, signed_texts}
 use Rattle.session_runs.specs.Lives.{steps_in}
 use Rattle.session_runs.proofs.Along.{Along, Step}
-use Rattle.session_runs.proofs.Begun.{Begun, IsUnderWay, after_call as after_begun, begun_after, lacks_numbers as way_lacks_numbers, lacks_plan as way_lacks_plan, sent as way_sent, signs_it, stays as way_stays}
+use Rattle.session_runs.proofs.Begun.{IsUnderWay, after_call as after_begun, begun_after, lacks_numbers as way_lacks_numbers, lacks_plan as way_lacks_plan, sent as way_sent, signs_it, stays as way_stays}
 use Rattle.session_runs.proofs.Declared.{IsOwnText, of_begun}
 use Rattle.session_runs.proofs.Looking.{IsLooking, LooksFor, after_call, asked_for, lacks_numbers, lacks_plan, sent}
 
@@ -57,7 +57,7 @@ seen_so w q (look.Need digest) low is some = absurd some
 seen_so w q (look.Broken rule) low is some = absurd some
 
 module _ (reads : Reading) (key : Key) (accepted : List View) (u : User) (texts : List Bytes) where
-  abbrev Told : Option View → Begun → List Event → Type 0
+  abbrev Told : Option View → Operation → List Event → Type 0
   Told = AreTold reads key accepted u texts
 
   abbrev OwnStep : Option View → Client → StepTaken → Option View → Type 0
@@ -73,7 +73,7 @@ module _ (reads : Reading) (key : Key) (accepted : List View) (u : User) (texts 
   some_seen (Some x) q answer low some is = seen_so (seen_by reads key accepted x) q answer low is some
 
   -- what a look tells
-  look_told : (last : Option View) (begun : Begun) (q : Question) (x : Result Sees ClientError) (es : List Event) → principal_of q < 96
+  look_told : (last : Option View) (begun : Operation) (q : Question) (x : Result Sees ClientError) (es : List Event) → principal_of q < 96
       → ((answer : Sees) → x ≡ Ok answer → IsSomeAnd last (λ v. IsTrueInWorld reads key accepted v q answer)) → Told last begun es → Told last begun (looks (seen_in_call q x) ++ es)
   look_told last begun q (Ok (look.Need digest)) es low is told = told
   look_told last begun q (Ok (look.Broken rule)) es low is told = told
@@ -137,20 +137,20 @@ module _ (reads : Reading) (key : Key) (accepted : List View) (u : User) (texts 
           subst (IsOwnText s) here own
 
   -- the view that was signed, its own operation and what it loses
-  signed_told : (begun : Begun) (o : Option AcceptedView) (next : Option View) (lost : List ℕ) (es : List Event) → IsSome o → lost ≡ lost_in o → IfSome o (λ v. IsSomeAnd next (λ x. IsOfWorld reads key accepted x v))
-      → ((x : View) → next ≡ Some x → IsOwn accepted u texts x) → ((x : View) → next ≡ Some x → IfSome begun (λ changes. IsOfChanges changes x)) → Told next begun es → (last : Option View) → Told last begun (Signed lost ∷ es)
+  signed_told : (begun : Operation) (o : Option AcceptedView) (next : Option View) (lost : List ℕ) (es : List Event) → IsSome o → lost ≡ lost_in o → IfSome o (λ v. IsSomeAnd next (λ x. IsOfWorld reads key accepted x v))
+      → ((x : View) → next ≡ Some x → IsOwn accepted u texts x) → ((x : View) → next ≡ Some x → IsOwnOperation begun x) → Told next begun es → (last : Option View) → Told last begun (Signed lost ∷ es)
   signed_told begun None next lost es some is of own changed told last = absurd (cc some)
   signed_told begun (Some v) None lost es some is of own changed told last = absurd of
   signed_told begun (Some v) (Some x) lost es some is of own changed told last = (x, own x refl, changed x refl, (λ before at. is ∙ of.lost before at), told)
 
   -- the last view stays where no other is accepted
-  told_as : (last mid : Option View) (begun : Begun) (es : List Event) → mid ≡ last → Told mid begun es → Told last begun es
+  told_as : (last mid : Option View) (begun : Operation) (es : List Event) → mid ≡ last → Told mid begun es → Told last begun es
   told_as last mid begun es same told = subst (λ (l : Option View). Told l begun es) same told
 
-  call_told : (n m : Next) (s new : State) (call : Call) (last mid : Option View) (begun : Begun) (ms : List Move) → session.Leads s call new → Follows n (Calls call) m → IsLooking n s → IsUnderWay n begun s
+  call_told : (n m : Next) (s new : State) (call : Call) (last mid : Option View) (begun : Operation) (ms : List Move) → session.Leads s call new → Follows n (Calls call) m → IsLooking n s → IsUnderWay n begun s
       → OwnStep last (Open s) (record { call = step_of call; after = Open new }) mid → ((t : Bytes) → In t (signed_by (Calls call)) → In t texts) → Told mid (begun_after call begun) (events ms) → Told last begun (events (Calls call ∷ ms))
   unfolding session.Leads
-  call_told n m s new (Begins changes texts x) last mid begun ms leads follows looking way step inside told = told_as last mid (Some changes) (events ms) (step.same tt) told
+  call_told n m s new (Begins changes texts x) last mid begun ms leads follows looking way step inside told = told_as last mid (OfChanges changes) (events ms) (step.same tt) told
   call_told n m s new (Hears text x) last mid begun ms leads follows looking way step inside told = told_as last mid begun (events ms) (step.same tt) told
   call_told n m s new (Takes block x) last mid begun ms leads follows looking way step inside told = told_as last mid begun (events ms) (step.same tt) told
   call_told n m s new (Commits st) last mid begun ms leads follows looking way step inside told = told_as last mid begun (events ms) (step.same tt) told
@@ -185,7 +185,7 @@ module _ (reads : Reading) (key : Key) (accepted : List View) (u : User) (texts 
     looks_still : (a mid : At T) (n : Next) → mid.client ≡ a.client → IsLooking n a.client → IsLooking n mid.client
     looks_still a mid n same is = subst (IsLooking n) (sym same) is
 
-    pub moves_told : (a : At T) (ms : List Move) (b : At T) → (run : Moves answers a ms b) → (last next : Option View) (begun : Begun) (after : Client) → OwnAlong last (Open a.client) (steps_in answers a ms b run) next after → IsLooking a.next a.client → IsUnderWay a.next begun a.client → ((t : Bytes) → In t (signed_texts ms) → In t texts) → Told last begun (events ms)
+    pub moves_told : (a : At T) (ms : List Move) (b : At T) → (run : Moves answers a ms b) → (last next : Option View) (begun : Operation) (after : Client) → OwnAlong last (Open a.client) (steps_in answers a ms b run) next after → IsLooking a.next a.client → IsUnderWay a.next begun a.client → ((t : Bytes) → In t (signed_texts ms) → In t texts) → Told last begun (events ms)
     moves_told a [] b run last next begun after along looking way inside = tt
     moves_told a (Calls call ∷ ms) b (mid, one, more) last next begun after (m, step, rest) looking way inside =
         call_told a.next mid.next a.client mid.client call last m begun ms one.0 one.2 looking way step

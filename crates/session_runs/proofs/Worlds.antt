@@ -10,12 +10,11 @@ use Rattle.client_runs.specs.Released.{views}
 use Rattle.client_runs.specs.Runs.{IsRun, client_of, owner, public_key}
 use Rattle.fork_consistency.specs.Shown.{IsOfWorld, IsTrueInWorld, last_view}
 use Rattle.fork_consistency.proofs.Consistent.{consistent}
-use Rattle.file_session.specs.Order.{resuming as at_first}
 use Rattle.file_session.specs.Went.{Answering}
 use Rattle.session_runs.specs.Lives.{Carries, Deed, IsCut, IsLife, Leads, Takes, start, steps_by}
-use Rattle.session_runs.specs.Told.{IsTold, SessionsTellWorlds, signed_texts}
+use Rattle.session_runs.specs.Told.{IsTold, OfNumber, SessionsTellWorlds, signed_texts}
 use Rattle.session_runs.proofs.Along.{Along, along_run, in_two, same_end}
-use Rattle.session_runs.proofs.Begun.{none_begun}
+use Rattle.session_runs.proofs.Begun.{at_start}
 use Rattle.session_runs.proofs.Commands.{command_tells}
 use Rattle.session_runs.proofs.Lives.{deed_is_steps, lives_are_runs}
 use Rattle.session_runs.proofs.Looking.{resuming}
@@ -33,9 +32,9 @@ module _ {T : Type 0} (answers : Answering T) (reads : Reading) (key : Key) (acc
   deed_told : (before : Client) (d : Deed answers) (mid : Client) (last next : Option View) (after : Client) → Leads answers o before d mid → IsUsers o before → OwnAlong last before (steps_by answers d) next after → IsTold answers reads key accepted u d
   deed_told before (Carries c) mid last next after leads own along =
       command_tells reads key accepted u answers c (subst (IsUsers o) leads.0 own ∙ whose)
-      (last, moves_told reads key accepted u (signed_texts c.ran.moves) answers (start c.before c.over) c.ran.moves _ c.ran.run last next None after (from before (Open c.before) last next (steps_by answers (Carries c)) after leads.0 along) (resuming c.before.phase c.before.text c.before) (none_begun (at_first c.before.phase c.before.text) c.before) (λ t i. i))
+      (last, moves_told reads key accepted u (signed_texts c.ran.moves) answers (start c.before c.over) c.ran.moves _ c.ran.run last next (OfNumber c.before.number) after (from before (Open c.before) last next (steps_by answers (Carries c)) after leads.0 along) (resuming c.before.phase c.before.text c.before) (at_start c.before.phase c.before.text c.before) (λ t i. i))
   deed_told before (IsCut c) mid last next after leads own along =
-      (last, moves_told reads key accepted u (signed_texts c.moves) answers (start c.before c.over) c.moves c.reached c.run last next None after (from before (Open c.before) last next (steps_by answers (IsCut c)) after leads.0 along) (resuming c.before.phase c.before.text c.before) (none_begun (at_first c.before.phase c.before.text) c.before) (λ t i. i))
+      (last, moves_told reads key accepted u (signed_texts c.moves) answers (start c.before c.over) c.moves c.reached c.run last next (OfNumber c.before.number) after (from before (Open c.before) last next (steps_by answers (IsCut c)) after leads.0 along) (resuming c.before.phase c.before.text c.before) (at_start c.before.phase c.before.text c.before) (λ t i. i))
   deed_told before (Takes s) mid last next after leads own along = tt
 
   life_told : (before : Client) (deeds : List (Deed answers)) (end : Client) (last next : Option View) (after : Client) → IsLife answers o before deeds end → IsUsers o before → OwnAlong last before (flat_map (steps_by answers) deeds) next after

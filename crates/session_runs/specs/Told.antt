@@ -1,7 +1,7 @@
 -- What sessions tell is so in the worlds of the lines of their users' accepted views.
-use Rattle.std.specs.Prelude.{◌≡◌, ◌⊎◌, ℕ, List, [], ◌∷◌, ◌++◌, Option, Some, None, Ok, IfSome, IsSomeAnd}
+use Rattle.std.specs.Prelude.{◌≡◌, ◌⊎◌, ℕ, List, [], ◌∷◌, ◌++◌, Option, Some, Ok, IsSomeAnd}
 use Rattle.std.specs.List.{All, Contains, flat_map}
-use Rattle.layout.specs.Types.{Bytes, Digest, Key, User}
+use Rattle.layout.specs.Types.{Bytes, Digest, Key, User, Version}
 use Rattle.version_order.specs.Structure.{Structure, structure}
 use Rattle.update_cert.specs.Cert.{Cert}
 use Rattle.update_cert.specs.Change.{Change}
@@ -59,34 +59,43 @@ Loses reads key accepted x lost =
     → lost ≡ void_read reads (actor_in (world reads key before) x.lists.own.cert) x.lists.own.cert.changes
     (world reads key before)
 
--- these are the changes of the view's own operation
-abbrev pub IsOfChanges : List (Change Digest) → View → Type 0
-IsOfChanges changes x = x.lists.own.cert.changes ≡ changes
+-- ---- its own operation
+
+-- an operation: by its number the one that was declared before a session, and by its changes one that the session began
+pub data Operation : Type 0 where
+  OfNumber : Version → Operation
+  OfChanges : List (Change Digest) → Operation
+
+-- the view's own operation is this one
+abbrev pub IsOwnOperation : Operation → View → Type 0
+IsOwnOperation (OfNumber number) x = x.lists.own.cert.number ≡ number
+IsOwnOperation (OfChanges changes) x = x.lists.own.cert.changes ≡ changes
 
 -- ---- a session
 
--- What a session that signs these texts tells, in turn, where its client signed over this view last, and the operation
--- that it began last has these changes: each look was answered as it is in the world of that view's line; the own
--- operation of a newly signed view is the one that was begun, and the numbers are those of its void changes.
-abbrev pub AreTold : Reading → Key → List View → User → List Bytes → Option View → Option (List (Change Digest))
-    → List Tale → Type 0
+-- What a session that signs these texts tells, in turn, where its client signed over this view last, and this is the
+-- operation that was begun last: each look was answered as it is in the world of that view's line; the own operation of
+-- a newly signed view is the one that was begun, and the numbers are those of its void changes.
+abbrev pub AreTold : Reading → Key → List View → User → List Bytes → Option View → Operation → List Tale → Type 0
 AreTold reads key accepted u texts last begun [] = Unit {0}
 AreTold reads key accepted u texts last begun (Begun changes laid ∷ es) =
-    AreTold reads key accepted u texts last (Some changes) es
+    AreTold reads key accepted u texts last (OfChanges changes) es
 AreTold reads key accepted u texts last begun (Unplanned ∷ es) = AreTold reads key accepted u texts last begun es
 AreTold reads key accepted u texts last begun (Saw s ∷ es) =
     IsSomeAnd last (λ x. IsSeenIn (seen_by reads key accepted x) s.question s.answer)
     × AreTold reads key accepted u texts last begun es
 AreTold reads key accepted u texts last begun (Numbers lost ∷ es) =
-    (x : View) × IsOwn accepted u texts x × IfSome begun (λ changes. IsOfChanges changes x)
-    × Loses reads key accepted x lost × AreTold reads key accepted u texts (Some x) begun es
+    (x : View) × IsOwn accepted u texts x × IsOwnOperation begun x × Loses reads key accepted x lost
+    × AreTold reads key accepted u texts (Some x) begun es
 
--- from the view on that the client had, where the session began nothing yet
-abbrev pub AreToldFrom : Reading → Key → List View → User → List Bytes → List Tale → Type 0
-AreToldFrom reads key accepted u texts es = (last : Option View) × AreTold reads key accepted u texts last None es
+-- from the view on that the client had, and its operation of this number
+abbrev pub AreToldFrom : Reading → Key → List View → User → List Bytes → Version → List Tale → Type 0
+AreToldFrom reads key accepted u texts number es =
+    (last : Option View) × AreTold reads key accepted u texts last (OfNumber number) es
 
-abbrev pub MovesTell : Reading → Key → List View → User → List Move → Type 0
-MovesTell reads key accepted u moves = AreToldFrom reads key accepted u (signed_texts moves) (events moves)
+abbrev pub MovesTell : Reading → Key → List View → User → Version → List Move → Type 0
+MovesTell reads key accepted u number moves =
+    AreToldFrom reads key accepted u (signed_texts moves) number (events moves)
 
 -- ---- a command
 
@@ -98,35 +107,36 @@ pub record AreWritten (reads : Reading) (key : Key) (accepted : List View) (u : 
   pub asked : outcome u c tree ≡ Writes wanted
   pub view : View
   pub own : IsOwn accepted u texts view
-  pub declared : IsOfChanges (all_declared wanted) view
+  pub declared : IsOwnOperation (OfChanges (all_declared wanted)) view
   pub lost : List ℕ
   pub loses : Loses reads key accepted view lost
   pub told : answer ≡ told_of_lost lost
 
 -- In the world of the line of a view over which the session signed, the own operation of which is a look, without
--- changes, the answer is what the command comes to; or the command asks there for an operation, it is the own one of
--- another such view, and the answer tells which of its changes are void at its place.
+-- changes, the answer is what the command comes to; or the command asks there for an operation, it is the own one of a
+-- view over which the session signed, too, and the answer tells which of its changes are void at its place.
 pub record IsAnswered (reads : Reading) (key : Key) (accepted : List View) (u : User) (texts : List Bytes)
     (c : Command) (answer : Answer) : Type 0 where
   pub view : View
   pub own : IsOwn accepted u texts view
-  pub looked : IsOfChanges [] view
+  pub looked : IsOwnOperation (OfChanges []) view
   pub comes : (outcome u c (seen_by reads key accepted view) ≡ Tells answer)
       ⊎ AreWritten reads key accepted u texts c (seen_by reads key accepted view) answer
 
 -- a command that answered, and the operation that it finished first
 pub record TellsWorlds {T : Type 0} (answers : Answering T) (reads : Reading) (key : Key) (accepted : List View)
     (u : User) (c : Carried answers) : Type 0 where
-  pub told : MovesTell reads key accepted u c.ran.moves
+  pub told : MovesTell reads key accepted u c.before.number c.ran.moves
   pub answer : (answer : Answer) → c.result ≡ Ok answer
       → IsAnswered reads key accepted u (signed_texts c.ran.moves) c.command answer
   pub resumed : (r : Resumed) → c.resumed ≡ Some r
-      → (x : View) × IsOwn accepted u (signed_texts c.ran.moves) x × Loses reads key accepted x r.lost
+      → (x : View) × IsOwn accepted u (signed_texts c.ran.moves) x × IsOwnOperation (OfNumber r.number) x
+      × Loses reads key accepted x r.lost
 
 -- so is what each deed tells, also of a session that is cut short
 abbrev pub IsTold : {T : Type 0} (answers : Answering T) → Reading → Key → List View → User → Deed answers → Type 0
 IsTold answers reads key accepted u (Carries c) = TellsWorlds answers reads key accepted u c
-IsTold answers reads key accepted u (IsCut c) = MovesTell reads key accepted u c.moves
+IsTold answers reads key accepted u (IsCut c) = MovesTell reads key accepted u c.before.number c.moves
 IsTold answers reads key accepted u (Takes s) = Unit {0}
 
 -- In lives that meet the premises of fork consistency, as each reading of the run's texts tells it.
