@@ -22,8 +22,8 @@ pub fn sessions_are_fork_consistent<T: Transport<A>, A: Allocator + Copy>()
 /// What sessions tell is so in the worlds of the lines of accepted views, as each reading of the run's texts tells it,
 /// under the same premises: the answer of a command is what the command comes to in the world of the line of a view of
 /// its user, over which the session signed, where that view's own operation is a look; or the command asks for an
-/// operation there, which is the own one of a view over which the session signed, too, and the answer tells which of its
-/// changes are void. So it is told of the operation that was finished first, by its number.
+/// operation there, which is the own one of a view over which the session signed, too, and the answer tells which of
+/// its changes are void. So it is told of the operation that was finished first, by its number.
 pub fn sessions_tell_worlds<T: Transport<A>, A: Allocator + Copy>()
     ensures { SessionsTellWorlds T.answers }
 {}
