@@ -9,9 +9,10 @@ use lms_sign::{KEY_SIZE, PublicKey};
 use server_workers::{Accepted, Limits, OpenGate, Watch, serve_within};
 use std::alloc::{AllocError, Global};
 use std::env;
-use std::fs::{self, File, OpenOptions};
+use std::fs::{self, File, OpenOptions, TryLockError};
 use std::io::{self, Read};
 use std::net::{Net, TcpListener, TcpStream};
+use std::os::unix::fs::MetadataExt;
 use std::process::ExitCode;
 use std::rt::{Files, Runtime};
 use std::sync::Wait;
@@ -38,6 +39,12 @@ enum Fault {
     LogFile(io::Error),
     #[error("the file of the log is a symbolic link, which isn't followed")]
     LogLink,
+    #[error("the file of the log isn't a regular file")]
+    LogKind,
+    #[error("the file of the log was replaced by another one while it was opened")]
+    LogReplaced,
+    #[error("the file of the log is locked: another server writes it")]
+    LogLocked,
     #[error("the file of the log isn't empty, and is left as it is: move it away, or name another one")]
     LogUsed,
     #[error("the next connection: {0}")]
@@ -141,32 +148,57 @@ fn refuse<R: Runtime>(rt: &R, fault: &clap::Error) -> anyhow::Result<ExitCode> {
     Ok(ExitCode::SUCCESS)
 }
 
-/// The file of the log, in which nothing stands: a new one, or one that is empty. No byte of a file is ever destroyed.
-fn open_log<R: Files<File = File>>(rt: &R, name: &str) -> anyhow::Result<File> {
-    match OpenOptions::new()
-        .write(true)
+/// The file of the log, in which nothing stands and which no other server writes: a new one, or one that is empty. No
+/// byte of a file is ever destroyed.
+fn open_log<R: Eprint + Files<File = File>>(rt: &R, name: &str) -> anyhow::Result<File> {
+    let file = match OpenOptions::new()
+        .append(true)
         .create_new(true)
         .open(rt, name)
     {
-        Err(fault) if fault.kind() == io::ErrorKind::AlreadyExists => open_empty(rt, name),
-        made => Ok(made.map_err(Fault::LogFile)?),
+        Err(fault) if fault.kind() == io::ErrorKind::AlreadyExists => open_present(rt, name)?,
+        made => made.map_err(Fault::LogFile)?,
+    };
+    lock_log(rt, &file)?;
+    if file.metadata().map_err(Fault::LogFile)?.len() != 0 {
+        return Err(Fault::LogUsed.into());
     }
+    Ok(file)
 }
 
-/// A file that is there and empty, and no symbolic link.
-fn open_empty<R: Files<File = File>>(rt: &R, name: &str) -> anyhow::Result<File> {
+/// The regular file that is there under a name, and no other one that a link leads to.
+fn open_present<R: Files<File = File>>(rt: &R, name: &str) -> anyhow::Result<File> {
     let found = fs::symlink_metadata(rt, name).map_err(Fault::LogFile)?;
     if found.is_symlink() {
         return Err(Fault::LogLink.into());
+    }
+    if !found.is_file() {
+        return Err(Fault::LogKind.into());
     }
     let file = OpenOptions::new()
         .append(true)
         .open(rt, name)
         .map_err(Fault::LogFile)?;
-    if file.metadata().map_err(Fault::LogFile)?.len() != 0 {
-        return Err(Fault::LogUsed.into());
+    let opened = file.metadata().map_err(Fault::LogFile)?;
+    if opened.dev() != found.dev() || opened.ino() != found.ino() {
+        return Err(Fault::LogReplaced.into());
     }
     Ok(file)
+}
+
+/// Locks the file of the log until it is closed. Where the system knows no locks, that is told, and all goes on.
+fn lock_log<R: Eprint>(rt: &R, file: &File) -> Result<(), Fault> {
+    match file.try_lock() {
+        Ok(()) => Ok(()),
+        Err(TryLockError::WouldBlock) => Err(Fault::LogLocked),
+        Err(TryLockError::Error(fault)) if fault.kind() == io::ErrorKind::Unsupported => {
+            let _ = eprintln!(rt;
+                "sundrd: the file of the log can't be locked: no other server may write it"
+            );
+            Ok(())
+        }
+        Err(TryLockError::Error(fault)) => Err(Fault::LogFile(fault)),
+    }
 }
 
 /// Who tells of a listener's faults, on standard error.
