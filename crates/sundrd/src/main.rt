@@ -23,6 +23,9 @@ use thiserror::Error;
 /// The status where the words are at fault.
 const WORDS: u8 = 5;
 
+/// The most connections that can be served at once: each has a thread, and a place.
+const AT_ONCE_MOST: u32 = 4096;
+
 /// What is printed where memory runs out while the words are read.
 const MEMORY: &str = "memory";
 
@@ -68,26 +71,27 @@ fn option<'a>(alloc: Global, name: &'a str, value: &'a str, help: &'a str) -> Ar
         .action(ArgAction::Set)
 }
 
-/// An option with a number of at least 1, which is this one unless it is given.
+/// An option with a number from 1 up to the most, which is the usual one unless it is given.
 fn number<'a>(
     alloc: Global,
     name: &'a str,
     value: &'a str,
     usual: &'a str,
+    most: u32,
     help: &'a str,
 ) -> Arg<'a> {
     option(alloc, name, value, help)
         .required(false)
         .default_value(usual)
-        .value_parser(value_parser!(u32).range(1..))
+        .value_parser(value_parser!(u32).range(1..=most as i64))
 }
 
 /// The options that name where it listens and its files.
-fn places<'a>(alloc: Global, command: Command<'a>) -> Result<Command<'a>, AllocError> {
+fn locations<'a>(alloc: Global, command: Command<'a>) -> Result<Command<'a>, AllocError> {
     let listen = "Where it listens: an address and a port, or port 0 for a free one";
     let key = "The file of user 0's public key, of 56 bytes";
     let log =
-        "The file of the log, which is made; one that has bytes is refused, and so is a symbolic link";
+        "The file of the log, which is made; one that has bytes is refused, and so is what isn't a regular file";
     command
         .arg(option(alloc, "listen", "ADDR", listen))?
         .arg(option(alloc, "super", "FILE", key))?
@@ -96,13 +100,13 @@ fn places<'a>(alloc: Global, command: Command<'a>) -> Result<Command<'a>, AllocE
 
 /// The options on connections.
 fn limits<'a>(alloc: Global, command: Command<'a>) -> Result<Command<'a>, AllocError> {
-    let connections = "How many connections it serves in all; then it ends";
-    let at_once = "How many it serves at once; further ones wait until one ends";
+    let connections = "How many connections it serves in all; once all of them have ended, it ends";
+    let at_once = "How many it serves at once, from 1 to 4096; further ones wait until one ends";
     let idle = "How long a connection may say nothing between two requests";
     command
         .arg(option(alloc, "connections", "N", connections).value_parser(value_parser!(u32)))?
-        .arg(number(alloc, "at-once", "M", "256", at_once))?
-        .arg(number(alloc, "idle", "SECONDS", "600", idle))
+        .arg(number(alloc, "at-once", "M", "256", AT_ONCE_MOST, at_once))?
+        .arg(number(alloc, "idle", "SECONDS", "600", u32::MAX, idle))
 }
 
 /// The words that the program takes.
@@ -110,7 +114,7 @@ fn command<'a>(alloc: Global) -> Result<Command<'a>, AllocError> {
     let command = Command::new(alloc, "sundrd")
         .about("Serves the clients of a file system that needn't trust it")
         .after_help(RESTART);
-    limits(alloc, places(alloc, command)?)
+    limits(alloc, locations(alloc, command)?)
 }
 
 /// The words that it was given.
@@ -254,6 +258,15 @@ fn begin<
     })
 }
 
+/// Tells how many connections were dropped, if any were.
+fn tell_unserved<R: Eprint>(rt: &R, unserved: usize) {
+    if unserved != 0 {
+        let _ = eprintln!(rt;
+            "sundrd: connections dropped, since no thread could be started for them: {unserved}"
+        );
+    }
+}
+
 /// Serves the connections that come, up to a fault after which the listener can't listen, which is put there: whether
 /// the log was written to its end.
 fn serve_all<R: AllocGlobal + Eprint + Clock + Threads + Wait + Sync>(
@@ -286,8 +299,9 @@ fn serve_all<R: AllocGlobal + Eprint + Clock + Threads + Wait + Sync>(
         pinned,
         log,
     )?;
-    let flushed = served.flushed;
+    let (flushed, unserved) = (served.flushed, served.unserved);
     let_go(served);
+    tell_unserved(rt, unserved);
     Ok(flushed)
 }
 
