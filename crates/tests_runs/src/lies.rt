@@ -2,7 +2,7 @@
 
 use crate::scripts::prints_beside;
 
-static LIES: [&str; 6] = [
+static LIES: [&str; 7] = [
     // What is no command, before what comes out of its phase.
     "\
 fork a -> error
@@ -127,6 +127,34 @@ commit 1 b -> 1 committed
 begin 0 -> 0 begin 3
 update 0 a old 0 1 -> 0 broken 3
 update 0 a -> 0 accepted 3
+",
+    // One certificate is placed by two servers, at two places: with effect in one line, and without in the other.
+    "\
+begin 0 adduser 1; adduser 2; make 0 3 file old -> 0 begin 1
+update 0 a -> 0 accepted 1
+commit 0 a -> 0 committed
+begin 1 make 1 1 file old -> 1 begin 1
+update 1 a -> 1 accepted 1
+commit 1 a -> 1 committed
+begin 0 addmember 64 1 -> 0 begin 2
+update 0 a -> 0 accepted 2
+commit 0 a -> 0 committed
+begin 1 make 64 64 file old -> 1 begin 2
+update 1 a -> 1 accepted 2
+commit 1 a -> 1 committed
+fork a b -> fork
+begin 0 dropmember 64 1 -> 0 begin 3
+update 0 b -> 0 accepted 3
+commit 0 b -> 0 committed
+begin 1 put 64 64 new -> 1 begin 3
+update 1 b cut 0 -> 1 broken 1
+update 1 a -> 1 accepted 3
+commit 1 a -> 1 committed
+show 1 64 64 -> 1 file new
+begin 0 -> 0 begin 4
+update 0 b -> 0 accepted 4
+commit 0 b -> 0 committed
+show 0 64 64 -> 0 file old
 ",
 ];
 
