@@ -213,27 +213,10 @@ outcome user (command.AddUser who key) tree = Writes (of_table (AddUser who key)
 outcome user (command.AddMember group who) tree = Writes (of_table (AddMember group who) ∷ [])
 outcome user (command.DropMember group who) tree = Writes (of_table (DropMember group who) ∷ [])
 
--- ---- its two readings
-
--- the changes that are asked for
-abbrev pub asked_of : Outcome → List (Change Content)
-asked_of (Tells answer) = []
-asked_of (Writes changes) = changes
-
-abbrev pub asked : User → Command → Tree → List (Change Content)
-asked user c tree = asked_of (outcome user c tree)
-
 -- what is told of an operation, by the numbers of its changes that had no effect
 abbrev pub told_of_lost : List ℕ → Answer
 told_of_lost [] = Done
 told_of_lost (n ∷ ns) = Lost (n ∷ ns)
-
-abbrev pub told_of : Outcome → List ℕ → Answer
-told_of (Tells answer) lost = answer
-told_of (Writes changes) lost = told_of_lost lost
-
-abbrev pub told : User → Command → Tree → List ℕ → Answer
-told user c tree lost = told_of (outcome user c tree) lost
 
 -- ---- what is told of the command alone, before anything is sent
 
