@@ -20,7 +20,7 @@ use Rattle.pending_list.specs.Reply.{PendingItem, outranks, reply, pending_item,
 use Rattle.pending_list.specs.ReplyLaws.{pending_row_fits, reply_fits, structure_row_fits}
 use Rattle.reply_rules.specs.Broken.{broken}
 use Rattle.reply_rules.specs.Rules.{entries, every_below, group_records, link, lists, numbers, unknown_user, vector}
-use Rattle.agreement.specs.Runs.{Accepted, IsRun, View, reply_of}
+use Rattle.agreement.specs.Runs.{Accepted, AreAccepted, View, reply_of}
 use Rattle.agreement.specs.Lines.{line}
 use Rattle.std.proofs.lemmas.List.{length-replicate}
 use Rattle.layout.specs.Laws.{in_range_fits, listed_fits}
@@ -152,7 +152,7 @@ accepted_1 = record {
   released = All-cons (Contains (structure_over 0 vector_0 ∷ [])) (structure_over 0 vector_0) [] (0, omega arith, refl) (All-nil (Contains (structure_over 0 vector_0 ∷ [])));
 }
 
-is_run : IsRun (view_1 ∷ view_0 ∷ [])
+is_run : AreAccepted (view_1 ∷ view_0 ∷ [])
 is_run = (accepted_1, (accepted_0, tt))
 
 -- the line of user 1's view has both operations

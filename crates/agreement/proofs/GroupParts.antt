@@ -24,7 +24,7 @@ use Rattle.reply_rules.proofs.Above.{above_plans}
 use Rattle.reply_rules.proofs.SameVector.{same_vector_is}
 use Rattle.client_tree.specs.Genesis.{first_handle}
 use Rattle.client_tree.specs.View.{actor_of, comes_after, handle_of, named, newest, record_of, tree, tree_before}
-use Rattle.agreement.specs.Runs.{IsRun, NoCollision, View, number_of, reply_of, user_of}
+use Rattle.agreement.specs.Runs.{AreAccepted, NoViewCollision, View, number_of, reply_of, user_of}
 use Rattle.agreement.specs.Worlds.{IsHonest, NameFirst, Names, view_in, world}
 use Rattle.agreement.proofs.Plans
 use Rattle.agreement.proofs.Members.{Ascends, In, ascends_kept, ascends_same, in-filter, in-kept, in-left, in-map, in-middle, in-right, in-split, map-in}
@@ -61,7 +61,7 @@ item_found (j ∷ is) i k o =
 pub signed_at : ℕ → ℕ → List View → Option Structure
 signed_at u n run = option_map (λ y. y.signed) (find (λ y. (user_of y == u) && (number_of y == n)) run)
 
-signed_found : (run : List View) → IsRun run → (y : View) → In y run → signed_at (user_of y) (number_of y) run ≡ Some y.signed
+signed_found : (run : List View) → AreAccepted run → (y : View) → In y run → signed_at (user_of y) (number_of y) run ≡ Some y.signed
 unfolding signed_at
 signed_found [] v y i = absurd i
 signed_found (x ∷ older) v y (inl i) =
@@ -93,7 +93,7 @@ kept_same f h (i ∷ is) each =
     ap (λ b. if b then i ∷ filter f is else filter f is) (each i (inl refl))
     ∙ ap (λ (l : List PendingItem). if h i then i ∷ l else l) (kept_same f h is (λ j k. each j (inr k)))
 
-module _ (reads : Reading) (key : Key) (run : List View) (first : NameFirst reads key) (v : IsRun run) (nc : NoCollision run) (all : (x : View) → In x run → IsHonest reads key x) where
+module _ (reads : Reading) (key : Key) (run : List View) (first : NameFirst reads key) (v : AreAccepted run) (nc : NoViewCollision run) (all : (x : View) → In x run → IsHonest reads key x) where
   pub pending_in_line : (x : View) → In x run → (i : PendingItem) → In i (operations x) → In i (whole run x)
   pending_in_line x k i ki =
       let h = is_line run v nc x k in

@@ -9,7 +9,7 @@ use Rattle.version_order.specs.Plan.{Plan}
 use Rattle.update_cert.specs.Cert.{Cert}
 use Rattle.pending_list.specs.Reply.{PendingItem}
 use Rattle.reply_rules.specs.Lists.{items}
-use Rattle.agreement.specs.Runs.{IsRun, NoCollision, View, number_of, user_of}
+use Rattle.agreement.specs.Runs.{AreAccepted, NoViewCollision, View, number_of, user_of}
 use Rattle.agreement.specs.Lines.{line}
 use Rattle.agreement.proofs.Plans
 use Rattle.agreement.proofs.Members.{In, in-filter, in-left, in-map, in-middle, in-right, map-in}
@@ -60,7 +60,7 @@ map_length (i ∷ is) = ap suc (map_length is)
 pub whole_length : (run : List View) (x : View) → length (whole run x) ≡ length (plan_line run x)
 whole_length run x = sym (map_length (whole run x)) ∙ ap length (whole_plans run x)
 
-module _ (run : List View) (v : IsRun run) (nc : NoCollision run) where
+module _ (run : List View) (v : AreAccepted run) (nc : NoViewCollision run) where
   -- an operation that is pending in a view of the run
   abbrev pub IsOperation : PendingItem → Type 0
   IsOperation i = (j : PendingItem) × IsPending run j × (i ≡ bare j)

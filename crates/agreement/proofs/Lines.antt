@@ -14,7 +14,7 @@ use Rattle.pending_list.specs.Reply.{PendingItem}
 use Rattle.reply_rules.specs.Lists.{Lists, items, pending, shown}
 use Rattle.reply_rules.specs.Rules.{above, is_above, items_above, top_plan}
 use Rattle.reply_rules.proofs.Above.{above_plans}
-use Rattle.agreement.specs.Runs.{IsRun, NoCollision, View, number_of, structures, user_of}
+use Rattle.agreement.specs.Runs.{AreAccepted, NoViewCollision, View, number_of, structures, user_of}
 use Rattle.agreement.specs.Lines.{Agree, AgreeByPlans, AreNumbered, EndWithOwn, EndsWith, Grow, Has, HasPlan, IsBeginning, IsNumbered, line, line_at}
 use Rattle.agreement.proofs.Plans
 use Rattle.agreement.proofs.Members.{In, contains_in, in_contains, in-append, in-filter, in-left, in-map, in-middle, in-right, map-in, one, one-cases, to_all}
@@ -101,7 +101,7 @@ line_pending (x ∷ older) u n i h = go ((user_of x == u) && (number_of x == n))
 
 -- ---- the laws
 
-module _ (run : List View) (v : IsRun run) (nc : NoCollision run) where
+module _ (run : List View) (v : AreAccepted run) (nc : NoViewCollision run) where
   abbrev line_items : View → List PendingItem
   line_items x = items_at run (user_of x) (number_of x)
 

@@ -16,7 +16,7 @@ use Rattle.pending_list.specs.declared.signed.Signed.{Signed}
 use Rattle.pending_list.specs.Reply.{PendingItem}
 use Rattle.reply_rules.specs.Lists.{items, pending, shown, structure_of}
 use Rattle.reply_rules.specs.Rules.{is_planned, names_certificate, names_last}
-use Rattle.agreement.specs.Runs.{Accepted, IsRun, NoCollision, View, last_signed, reply_of, structures, texts_of, user_of}
+use Rattle.agreement.specs.Runs.{Accepted, AreAccepted, NoViewCollision, View, last_signed, reply_of, structures, texts_of, user_of}
 use Rattle.agreement.proofs.Plans
 use Rattle.agreement.proofs.Members.{In, contains_in, flat_map-in, in-left, in-map, in-right, in_contains, map-in, of_all}
 use Rattle.agreement.proofs.Tests.{all_in}
@@ -27,12 +27,12 @@ use Rattle.agreement.proofs.ByPlans.{by_plans, option_plan, parts, pending_fits,
 abbrev pub of_view : View → Plans.View Plan
 of_view x = by_plans x.lists
 
-pub accepted_in : (run : List View) → IsRun run → (y : View) → In y run → (older : List View) × Accepted older y
+pub accepted_in : (run : List View) → AreAccepted run → (y : View) → In y run → (older : List View) × Accepted older y
 accepted_in [] v y i = absurd i
 accepted_in (x ∷ older) v y (inl i) = (older, subst (λ w. Accepted older w) (sym i) v.0)
 accepted_in (x ∷ older) v y (inr i) = accepted_in older v.1 y i
 
-pub signed_plan : (run : List View) → IsRun run → (y : View) → In y run → y.signed.plan ≡ y.lists.own.plan
+pub signed_plan : (run : List View) → AreAccepted run → (y : View) → In y run → y.signed.plan ≡ y.lists.own.plan
 signed_plan run v y i = (accepted_in run v y i).1.signed
 
 -- ---- by plans
@@ -44,7 +44,7 @@ plan_of_structure : (o : Option (Signed Structure)) → option_plan o ≡ plan_s
 plan_of_structure None = refl
 plan_of_structure (Some z) = refl
 
-last_by_plans : (u : ℕ) (run : List View) → IsRun run → Plans.last_own Plan Entry shape u (map of_view run) ≡ plan_signed (last_signed u run)
+last_by_plans : (u : ℕ) (run : List View) → AreAccepted run → Plans.last_own Plan Entry shape u (map of_view run) ≡ plan_signed (last_signed u run)
 last_by_plans u [] v = refl
 last_by_plans u (y ∷ ys) v =
     elim (cases_eq u y.lists.own.plan.user) [
@@ -53,14 +53,14 @@ last_by_plans u (y ∷ ys) v =
     ]
 
 -- a structure's plan is the own one of an earlier view
-released_plan : (older : List View) (x : View) → IsRun older → Accepted older x → (p : Plan) → In p (shown x.lists) → Plans.IsReleased Plan Entry shape (map of_view older) p
+released_plan : (older : List View) (x : View) → AreAccepted older → Accepted older x → (p : Plan) → In p (shown x.lists) → Plans.IsReleased Plan Entry shape (map of_view older) p
 released_plan older x v a p i =
     let (z, j, e) = in-map plan_shown x.lists.structures p i in
     let there = of_all (Contains (map (λ (y : View). y.signed) older)) (structures x) a.released z.value (map-in (λ (z : Signed Structure). z.value) x.lists.structures z j) in
     let (y, k, same) = in-map (λ (y : View). y.signed) older z.value (contains_in z.value (map (λ (y : View). y.signed) older) there) in
     (of_view y, map-in of_view older y k, sym (signed_plan older v y k) ∙ ap (λ (z : Structure). z.plan) (sym same) ∙ sym e)
 
-accepted_by_plans : (older : List View) (x : View) → IsRun older → Accepted older x → Plans.Accepted Plan Entry shape (map of_view older) (of_view x)
+accepted_by_plans : (older : List View) (x : View) → AreAccepted older → Accepted older x → Plans.Accepted Plan Entry shape (map of_view older) (of_view x)
 accepted_by_plans older x v a =
     record {
       rules = rules_of x.table x.lists a.read a.lists a.rules;
@@ -70,7 +70,7 @@ accepted_by_plans older x v a =
       released = λ p i. released_plan older x v a p i;
     }
 
-pub valid_by_plans : (run : List View) → IsRun run → Plans.Valid Plan Entry shape (map of_view run)
+pub valid_by_plans : (run : List View) → AreAccepted run → Plans.Valid Plan Entry shape (map of_view run)
 valid_by_plans [] v = tt
 valid_by_plans (x ∷ older) v = (accepted_by_plans older x v.1 v.0, valid_by_plans older v.1)
 
@@ -80,7 +80,7 @@ valid_by_plans (x ∷ older) v = (accepted_by_plans older x v.1 v.0, valid_by_pl
 abbrev pub IsPending : List View → PendingItem → Type 0
 IsPending run i = (y : View) × In y run × In i (items y.lists)
 
-module _ (run : List View) (v : IsRun run) (nc : NoCollision run) where
+module _ (run : List View) (v : AreAccepted run) (nc : NoViewCollision run) where
   -- texts of the run with one digest are the same
   same_text : (x y : View) → In x run → In y run → (s t : List ℕ) → In s (texts_of x) → In t (texts_of y) → hash s ≡ hash t → s ≡ t
   same_text x y i j s t k l e =

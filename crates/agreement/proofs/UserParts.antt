@@ -22,7 +22,7 @@ use Rattle.pending_list.specs.Reply.{PendingItem}
 use Rattle.reply_rules.specs.Lists.{shown, structure_of}
 use Rattle.client_tree.specs.Genesis.{first_handle}
 use Rattle.client_tree.specs.View.{actor_of, acts_for, after_items, comes_after, handle_of, named, tree, tree_before}
-use Rattle.agreement.specs.Runs.{IsRun, NoCollision, View, structures}
+use Rattle.agreement.specs.Runs.{AreAccepted, NoViewCollision, View, structures}
 use Rattle.agreement.specs.Lines.{line}
 use Rattle.agreement.specs.Worlds.{IsHonest, NameFirst, Names, NamesTable, actor_in, acts_in, table_in, view_in, world}
 use Rattle.agreement.proofs.Plans
@@ -220,8 +220,8 @@ module _ (reads : Reading) (key : Key) where
         ∙ ap (λ z. parts_after reads (actor_of x.table) u z (world reads key (map cert_in_item front) u)) (alike_before x line u (of_user reads key x u) (of_user reads key x u) (named reads honest.users (view_in key x) u) b)
         ∙ ap (parts_after reads (actor_of x.table) u (filter (of_user reads key x u) (map bare x.lists.others))) b.starts)
 
-  module _ (run : List View) (first : NameFirst reads key) (v : IsRun run) (nc : NoCollision run) (all : (x : View) → In x run → IsHonest reads key x) where
-    released_in : (some : List View) → IsRun some → (x : View) → In x some → (z : Structure) → In z (structures x) → (y : View) × In y some × (y.signed ≡ z)
+  module _ (run : List View) (first : NameFirst reads key) (v : AreAccepted run) (nc : NoViewCollision run) (all : (x : View) → In x run → IsHonest reads key x) where
+    released_in : (some : List View) → AreAccepted some → (x : View) → In x some → (z : Structure) → In z (structures x) → (y : View) × In y some × (y.signed ≡ z)
     released_in [] w x i z k = absurd i
     released_in (x' ∷ older) w x (inl i) z k =
         let there = of_all (Contains (map (λ (y : View). y.signed) older)) (structures x') w.0.released z (subst (λ (w : View). In z (structures w)) i k) in

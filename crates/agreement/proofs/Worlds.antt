@@ -15,7 +15,7 @@ use Rattle.update_cert.specs.World.{Actor, Content, Tree, after_change, content_
 use Rattle.pending_list.specs.Reply.{PendingItem}
 use Rattle.reply_rules.specs.Lists.{items, pending}
 use Rattle.client_tree.specs.View.{actor_of, handle_of, lost, tree, tree_before}
-use Rattle.agreement.specs.Runs.{IsRun, NoCollision, View, reply_of}
+use Rattle.agreement.specs.Runs.{AreAccepted, NoViewCollision, View, reply_of}
 use Rattle.agreement.specs.Lines.{line}
 use Rattle.agreement.specs.Worlds.{AreWorlds, IsGuarded, JudgeAsWorld, acts_in, IsHonest, LoseVoid, NameFirst, actor_in, view_in, world, AllListed, table_in}
 use Rattle.agreement.proofs.Plans
@@ -84,7 +84,7 @@ void_same reads n a (c ∷ cs) w u each same =
 
 -- ---- trees
 
-module _ (reads : Reading) (key : Key) (run : List View) (first : NameFirst reads key) (v : IsRun run) (nc : NoCollision run) (all : (x : View) → In x run → IsHonest reads key x) where
+module _ (reads : Reading) (key : Key) (run : List View) (first : NameFirst reads key) (v : AreAccepted run) (nc : NoViewCollision run) (all : (x : View) → In x run → IsHonest reads key x) where
   -- by induction on the length of the line
   group_world : (n : ℕ) (x : View) → (i : In x run) → length (whole run x) ≤ n → (g : ℕ) → 64 ≤ g → g < 96
       → tree reads (all x i).users (view_in key x) g ≡ world reads key (map cert_in_item (whole run x)) g

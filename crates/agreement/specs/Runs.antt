@@ -54,18 +54,18 @@ pub record Accepted (older : List View) (x : View) : Type 0 where
   pub released : All (Contains (map (λ y. y.signed) older)) (structures x)
 
 -- each view is accepted after those before it
-abbrev pub IsRun : List View → Type 0
-IsRun [] = Unit {0}
-IsRun (x ∷ older) = Accepted older x × IsRun older
+abbrev pub AreAccepted : List View → Type 0
+AreAccepted [] = Unit {0}
+AreAccepted (x ∷ older) = Accepted older x × AreAccepted older
 
 -- the texts of which plans, entries and certificates have digests
 abbrev pub texts_of : View → List Bytes
 texts_of x = map (λ p. plan.spell p) (shown x.lists ++ pending x.lists) ++ map (λ i. cert.spell i.cert) (items x.lists)
 
 -- no two plans or certificates of the run have one digest
-abbrev pub NoCollision : List View → Type 0
-NoCollision run = NoneCollide (flat_map texts_of run) (flat_map texts_of run)
+abbrev pub NoViewCollision : List View → Type 0
+NoViewCollision run = NoneCollide (flat_map texts_of run) (flat_map texts_of run)
 
 -- what holds of each run without collisions
-abbrev pub EachRun : (List View → Type 0) → Type 0
-EachRun holds = (run : List View) → IsRun run → NoCollision run → holds run
+abbrev pub EachAccepted : (List View → Type 0) → Type 0
+EachAccepted holds = (run : List View) → AreAccepted run → NoViewCollision run → holds run

@@ -17,7 +17,7 @@ use Rattle.reply_rules.specs.Lists.{items, structure_of}
 use Rattle.client_tree.specs.Genesis.{first_handle}
 use Rattle.client_tree.specs.View.{acts_for, handle_of, lost, record_of, tree}
 use Rattle.client_tree.specs.View as tree_spec
-use Rattle.agreement.specs.Runs.{IsRun, NoCollision, View, user_of}
+use Rattle.agreement.specs.Runs.{AreAccepted, NoViewCollision, View, user_of}
 use Rattle.agreement.specs.Lines.{line}
 
 -- ---- worlds
@@ -87,7 +87,7 @@ pub record IsHonest (reads : Reading) (key : Key) (x : View) : Type 0 where
 -- what holds of each run without collisions, all of whose views are honest
 abbrev pub EachHonestRun : (Reading → Key → List View → Type 0) → Type 0
 EachHonestRun holds =
-    (reads : Reading) (key : Key) (run : List View) → NameFirst reads key → IsRun run → NoCollision run
+    (reads : Reading) (key : Key) (run : List View) → NameFirst reads key → AreAccepted run → NoViewCollision run
     → All (IsHonest reads key) run → holds reads key run
 
 -- ---- views are worlds

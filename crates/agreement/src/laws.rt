@@ -1,7 +1,7 @@
 //! Laws of accepted views, for the proofs of callers: functions that do nothing.
 
 ghost use Rattle.std.specs.Prelude.{◌≡◌, true};
-ghost use Rattle.agreement.specs.Runs.{EachRun};
+ghost use Rattle.agreement.specs.Runs.{EachAccepted};
 ghost use Rattle.agreement.specs.Lines.{Agree, AgreeByPlans, AreNumbered, EndWithOwn, Grow};
 ghost use Rattle.agreement.specs.Worlds.{AllListed, AreWorlds, EachHonestRun, IsGuarded, JudgeAsWorld, LoseVoid};
 ghost use Rattle.agreement.specs.AfterNewest.{OwnComesAfter, lists_in};
@@ -14,15 +14,15 @@ ghost use Rattle.update_cert.specs.World.{Tree};
 /// Accepted views agree, as long as no digest collides and no signature is forged. Of the server nothing is assumed.
 pub fn views_agree()
     // In each line each user's numbers are 1, 2, 3 and so on.
-    ensures numbered { EachRun AreNumbered }
+    ensures numbered { EachAccepted AreNumbered }
     // A line ends with the own operation.
-    ensures ended { EachRun EndWithOwn }
+    ensures ended { EachAccepted EndWithOwn }
     // A user's line only grows.
-    ensures growing { EachRun Grow }
+    ensures growing { EachAccepted Grow }
     // Views that have a structure in common agree up to it.
-    ensures agreed { EachRun Agree }
+    ensures agreed { EachAccepted Agree }
     // So do those that have a plan in common, committed or pending.
-    ensures planned { EachRun AgreeByPlans }
+    ensures planned { EachAccepted AgreeByPlans }
 {}
 
 /// What a client reads of an accepted view is the world of the view's line, whatever stands for the digests, as long as

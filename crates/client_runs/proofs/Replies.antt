@@ -25,11 +25,15 @@ use Rattle.checked_blocks.specs.CheckedBlocks.{CheckedBlocks}
 use Rattle.client_verify.specs.State.{Checked, Reading, Ready, State, Writing, holding, known, released}
 use Rattle.client_verify.specs.Judged.{AsksOrAccepts, GoesOn, Handed, Judged, Taken}
 use Rattle.client_runs.specs.Runs.{Event}
-use Rattle.client_runs.specs.Released.{Shown, hashed_at, hashed_by, reply_texts, shown, shown_by, shown_in}
+use Rattle.client_runs.specs.Released.{Shown, hashed_at, hashed_by, reply_texts, shown_by, shown_in}
 
 -- the reply with these lists
 abbrev pub of_lists : Lists → Reply
 of_lists x = record { structures = x.structures; pending = items x }
+
+-- all texts that are shown in a run with a signature
+abbrev pub shown : List Event → List Shown
+shown run = flat_map (λ e. shown_by e.call) run
 
 -- It was read from bytes that were shown in the run, and breaks no rule on itself.
 pub record IsJudged (run : List Event) (k : Known) (r : Reply) : Type 0 where

@@ -21,7 +21,7 @@ use Rattle.agreement.specs.Runs.{View}
 use Rattle.release_runs.specs.Released.{found_text, unsigned}
 use Rattle.client_verify.specs.State.{Ready, State, next_structure}
 use Rattle.client_steps.specs.Steps.{Asks, Call, Opens, Begins, Hears, Takes, Signs, Gives, Client, Closed, Open}
-use Rattle.client_runs.specs.Runs.{Event, Keys, client_of, public_key}
+use Rattle.client_runs.specs.Runs.{Event, Keys, client_of, pinned}
 
 -- ---- released texts
 
@@ -114,9 +114,6 @@ abbrev pub shown_by : Call → List Shown
 shown_by (Hears text answer) = unless_memory answer (option_map_or shown_in (reply_in text) [])
 shown_by call = []
 
-abbrev pub shown : List Event → List Shown
-shown run = flat_map (λ e. shown_by e.call) run
-
 -- ---- texts of which digests are taken
 
 abbrev pub structure_texts : Signed Structure → List Bytes
@@ -147,4 +144,4 @@ hashed_at e = hashed_by e.call ++ map unsigned (released_by e.call e.after)
 
 -- those of the beginning, too
 abbrev pub hashed : Keys → List Event → List Bytes
-hashed keys run = flat_map hashed_at run ++ first_texts (public_key keys 0)
+hashed keys run = flat_map hashed_at run ++ first_texts (pinned keys)

@@ -1,6 +1,6 @@
 -- Runs of the clients of all users: steps of any of them in any order, the latest first, with failed calls of devices,
 -- crashes and restarts. Of servers and stores nothing is said: replies and blocks are any bytes.
-use Rattle.std.specs.Prelude.{List, [], ◌∷◌, ◌==◌, if◌then◌else◌}
+use Rattle.std.specs.Prelude.{◌≡◌, List, [], ◌∷◌, ◌==◌, if◌then◌else◌}
 use Rattle.layout.specs.Types.{Key, User}
 use Rattle.lms_sign.specs.Keys.{Secret, public_key_of}
 use Rattle.client_steps.specs.Steps.{Call, Client, IsSound, IsStep, Owner, first}
@@ -12,9 +12,16 @@ Keys = User → Secret
 abbrev pub public_key : Keys → User → Key
 public_key keys u = public_key_of (keys u).seed (keys u).id
 
--- every client knows user 0's public key
+-- user 0's public key, which every client knows
+abbrev pub pinned : Keys → Key
+pinned keys = public_key keys 0
+
+-- this is the user's own public key
+abbrev pub IsOwnKey : Keys → User → Key → Type 0
+IsOwnKey keys u key = key ≡ public_key keys u
+
 abbrev pub owner : Keys → User → Owner
-owner keys u = record { user = u; seed = (keys u).seed; id = (keys u).id; pinned = public_key keys 0 }
+owner keys u = record { user = u; seed = (keys u).seed; id = (keys u).id; pinned = pinned keys }
 
 -- a step of a user's client, and the client after it
 pub record Event : Type 0 where

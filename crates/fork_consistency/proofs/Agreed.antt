@@ -12,14 +12,14 @@ use Rattle.pending_list.specs.Reply.{PendingItem}
 use Rattle.reply_rules.specs.Lists.{Lists, items, pending, structure_of, shown as plans_shown}
 use Rattle.client_tree.specs.Genesis.{first_texts}
 use Rattle.agreement.specs.Lines.{Agree, AgreeByPlans, AreNumbered, EndWithOwn, Grow, line}
-use Rattle.agreement.specs.Runs.{Accepted, View, last_signed, number_of, texts_of, user_of, IsRun as AreAccepted, NoCollision as NoViewCollision, structures as structures_of}
+use Rattle.agreement.specs.Runs.{Accepted, View, last_signed, number_of, texts_of, user_of, AreAccepted, NoViewCollision, structures as structures_of}
 use Rattle.agreement.proofs.Lines as lines
 use Rattle.agreement.proofs.Members.{In, contains_in, flat_map-in, in-append, in-left, in-map, in-right, in_contains, map-in, to_all}
 use Rattle.release_runs.specs.Steps as low
 use Rattle.release_runs.proofs.Stories.{IsStory, OfCert, OfStructure, Release, last_in}
 use Rattle.client_runs.specs.Runs.{Event, IsRun, Keys, client_of, owner, public_key}
 use Rattle.client_runs.specs.Released.{accepted_by, hashed, hashed_at, pending_texts, reply_texts, shown_cert, shown_structure, structure_texts, tried_view, views}
-use Rattle.fork_consistency.specs.Premises.{AreReleased, HasReleased, Premises, everybody}
+use Rattle.fork_consistency.specs.Premises.{AreReleased, HasReleased, PinnedIsKey, Premises, everybody}
 use Rattle.fork_consistency.proofs.Genuine.{AllGenuine, all_genuine, genuine, released_later, released_structure}
 use Rattle.fork_consistency.proofs.Holds.{IsTriedOver, known_in, signed_in}
 use Rattle.fork_consistency.proofs.Judging.{cert_by_super, cert_verified, own_last_is, structure_by_super, structure_fits, structure_verified, unbroken, unbroken_by, value_of, verified}
@@ -165,12 +165,12 @@ module _ (keys : Keys) where
 
 -- ---- the laws
 
-module _ (keys : Keys) (run : List Event) (is : IsRun keys run) (premises : Premises keys run) where
+module _ (keys : Keys) (run : List Event) (is : IsRun keys run) (is_key : PinnedIsKey keys) (premises : Premises keys run) where
   all_released_texts : AllGenuine keys run
   all_released_texts = all_genuine keys run is premises.no_forgery
 
   all_true : (x : View) → In x (views run) → IsTrueTable keys x
-  all_true x i u k at = own_key_listed everybody keys run is (super_honest keys run premises) premises.true_keys.added x i u k tt at
+  all_true x i u k at = own_key_listed everybody keys run is (super_honest keys run is_key premises) premises.added x i u k tt at
 
   pub are_accepted : AreAccepted (views run)
   are_accepted = accepted keys run is all_released_texts all_true

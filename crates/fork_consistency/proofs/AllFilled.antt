@@ -19,13 +19,13 @@ use Rattle.client_tree.specs.Genesis.{first_texts}
 use Rattle.client_tree.specs.Tree.{IsStored, IsUntouched, Stored}
 use Rattle.client_tree.specs.View.{handle_in, newest, structure_of as shown_structure_of}
 use Rattle.client_tree.specs.View as tree_spec
-use Rattle.agreement.specs.Runs.{View, structures, IsRun as AreAccepted}
+use Rattle.agreement.specs.Runs.{View, structures, AreAccepted}
 use Rattle.agreement.proofs.Formed.{cert_fits}
 use Rattle.agreement.proofs.Members.{In, contains_in, in-left, in-map, in-right, map-in, of_all}
 use Rattle.client_runs.specs.Released.{Shown, shown_cert, shown_in, shown_structure, views}
 use Rattle.client_runs.specs.Runs.{Event, IsRun, Keys, public_key}
 use Rattle.client_runs.proofs.Replies.{of_lists}
-use Rattle.fork_consistency.specs.Premises.{HasReleased, Premises}
+use Rattle.fork_consistency.specs.Premises.{HasReleased, PinnedIsKey, Premises}
 use Rattle.fork_consistency.proofs.Agreed.{are_accepted, item_released}
 use Rattle.fork_consistency.proofs.AllWhole.{EachHandle, IsPlain, all_whole, low_all, names_by, part_by}
 use Rattle.fork_consistency.proofs.Backed.{IsBacked}
@@ -103,12 +103,12 @@ module _ (texts : List Bytes) (apart : NoneCollide texts texts) (key : Key) (fir
 
 -- ---- over a run
 
-module _ (keys : Keys) (run : List Event) (is : IsRun keys run) (premises : Premises keys run) (texts : List Bytes) (apart : NoneCollide texts texts) (first : (t : Bytes) → In t (first_texts (public_key keys 0)) → In t texts) (inside : AreBlocks keys texts apart first run) where
+module _ (keys : Keys) (run : List Event) (is : IsRun keys run) (is_key : PinnedIsKey keys) (premises : Premises keys run) (texts : List Bytes) (apart : NoneCollide texts texts) (first : (t : Bytes) → In t (first_texts (public_key keys 0)) → In t texts) (inside : AreBlocks keys texts apart first run) where
   abbrev pinned_key : Key
   pinned_key = public_key keys 0
 
   abbrev pinned_fits : key_form.Fits (public_key keys 0)
-  pinned_fits = premises.true_keys.pinned
+  pinned_fits = is_key
 
   -- a certificate that its user's client released was begun with contents that were laid out
   begun : (c : Cert) → cert.Fits c → HasReleased c.user run (cert.spell c) → IsBegun (AmongThem texts) c
@@ -120,18 +120,18 @@ module _ (keys : Keys) (run : List Event) (is : IsRun keys run) (premises : Prem
   made_released c fits has d made = begun_content texts pinned_key first c (begun c fits has) d made
 
   accepted : AreAccepted (views run)
-  accepted = are_accepted keys run is premises
+  accepted = are_accepted keys run is is_key premises
 
   plain_views : (x : View) → In x (views run) → IsPlain texts apart pinned_key first x
   plain_views x i = (all_whole texts apart pinned_key first (views run) accepted (views_known keys texts apart first run is inside) x i).0
 
   made_in_view : (x : View) → In x (views run) → AreMade texts apart pinned_key first pinned_fits x.lists
-  made_in_view x n i j d made = made_released i.cert ((plain_views x n).read i j) (item_released keys run is premises x n i j) d made
+  made_in_view x n i j d made = made_released i.cert ((plain_views x n).read i j) (item_released keys run is is_key premises x n i j) d made
 
   views_filled : (x : View) → In x (views run) → IsNamedAfter texts apart pinned_key first pinned_fits x
   views_filled =
       all_filled texts apart pinned_key first pinned_fits (views run) accepted (views_known keys texts apart first run is inside) made_in_view
-      (λ x i. (view keys run is (super_honest keys run premises) x i).at.fits)
+      (λ x i. (view keys run is (super_honest keys run is_key premises) x i).at.fits)
 
   -- the parts of an accepted view
   pub view_backed : (x : View) → In x (views run) → IsBacked texts (view_over pinned_key x.table x.lists)

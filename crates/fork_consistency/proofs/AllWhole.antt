@@ -25,7 +25,7 @@ use Rattle.client_tree.specs.Tree.{IsStored, IsUntouched, Stored}
 use Rattle.client_tree.specs.View.{handle_in, newer, newest, record_of, structure_of as shown_structure}
 use Rattle.client_tree.specs.View as tree_spec
 use Rattle.client_verify.specs.State.{groups as groups_of, with_records}
-use Rattle.agreement.specs.Runs.{Accepted, View, reply_of, structures, user_of, IsRun as AreAccepted}
+use Rattle.agreement.specs.Runs.{Accepted, View, reply_of, structures, user_of, AreAccepted}
 use Rattle.agreement.proofs.Formed.{cert_fits, cert_user}
 use Rattle.agreement.proofs.Members.{In, contains_in, in-append, in-filter, in-map, in-right, map-in, of_all, to_all}
 use Rattle.fork_consistency.proofs.Judging.{value_of}

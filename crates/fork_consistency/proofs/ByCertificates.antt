@@ -1,5 +1,5 @@
 -- The laws on tables of principals by certificates.
-use Rattle.std.proofs.Common.{◌≡◌, List, [], ◌∷◌, ap, ◌∙◌}
+use Rattle.std.proofs.Common.{◌≡◌, List, [], ◌∷◌, ap, ◌∙◌, refl}
 use Rattle.std.specs.List.{All, flat_map}
 use Rattle.std.proofs.lemmas.List.Elements.{All-weaker}
 use Rattle.layout.specs.Types.{Bytes, User}
@@ -7,13 +7,13 @@ use Rattle.principals.specs.TableText.{table}
 use Rattle.client_tree.specs.Genesis.{first_texts}
 use Rattle.agreement.specs.Runs.{View}
 use Rattle.agreement.proofs.Members.{In, in-left, in-right, to_all}
-use Rattle.fork_consistency.specs.Premises.{IsGenuine, NoneForgedOf, Premises, everybody}
+use Rattle.fork_consistency.specs.Premises.{IsGenuine, NoCollision, NoneForgedOf, PinnedIsKey, Premises, everybody}
 use Rattle.client_runs.specs.Released.{Shown, hashed, hashed_at, shown_by, views}
 use Rattle.client_runs.specs.Runs.{Event, IsRun, Keys, public_key}
 use Rattle.client_runs.specs.UsedOnce.{LeavesOnce}
 use Rattle.fork_consistency.proofs.Genuine.{IsReleasedText}
 use Rattle.client_runs.proofs.Once.{leaves_once}
-use Rattle.fork_consistency.specs.ByCertificates.{AreByCertificates, HaveTexts, IsByCertificates, SuperIsHonest}
+use Rattle.fork_consistency.specs.ByCertificates.{AreByCertificates, HaveTexts, IsByCertificates}
 use Rattle.fork_consistency.specs.Handles.{SignsItsTable}
 use Rattle.fork_consistency.proofs.Tables.{IsView, SuperGenuine, all_views}
 
@@ -23,7 +23,7 @@ module _ (keys : Keys) (whole : List Event) (once : (u : User) → LeavesOnce u 
   super_genuine : (run : List Event) → NoneForgedOf (λ u. u ≡ 0) keys whole run → SuperGenuine keys run
   super_genuine [] none = tt
   super_genuine (e ∷ older) none =
-      (All-weaker (λ (t : Shown). t.user ≡ 0 → IsGenuine keys whole older t) (λ (t : Shown). t.user ≡ 0 → IsReleasedText keys older t) (λ t g zero. g zero (once t.user)) (shown_by e.call) none.0, super_genuine older none.1)
+      (All-weaker (λ (t : Shown). t.user ≡ 0 → IsGenuine keys whole older t) (λ (t : Shown). t.user ≡ 0 → IsReleasedText keys older t) (λ t g zero v. g zero (once t.user) (public_key keys t.user) refl v) (shown_by e.call) none.0, super_genuine older none.1)
 
 -- where none is forged of some users, none is of some of these
 pub fewer_forged : (some few : User → Type 0) → ((u : User) → few u → some u) → (keys : Keys) (whole run : List Event) → NoneForgedOf some keys whole run → NoneForgedOf few keys whole run
@@ -31,8 +31,14 @@ fewer_forged some few among keys whole [] none = tt
 fewer_forged some few among keys whole (e ∷ older) none =
     (All-weaker (λ (t : Shown). some t.user → IsGenuine keys whole older t) (λ (t : Shown). few t.user → IsGenuine keys whole older t) (λ t g one. g (among t.user one)) (shown_by e.call) none.0, fewer_forged some few among keys whole older none.1)
 
-pub super_honest : (keys : Keys) (run : List Event) → Premises keys run → SuperIsHonest keys run
-super_honest keys run p = record { no_forgery = fewer_forged everybody (λ u. u ≡ 0) (λ u zero. tt) keys run run p.no_forgery; no_collision = p.no_collision; pinned = p.true_keys.pinned }
+-- No signature of user 0's is forged, and no digest collides; user 0's key has the form of a key.
+pub record SuperIsHonest (keys : Keys) (run : List Event) : Type 0 where
+  pub no_forgery : NoneForgedOf (λ u. u ≡ 0) keys run run
+  pub no_collision : NoCollision keys run
+  pub pinned : PinnedIsKey keys
+
+pub super_honest : (keys : Keys) (run : List Event) → PinnedIsKey keys → Premises keys run → SuperIsHonest keys run
+super_honest keys run is_key p = record { no_forgery = fewer_forged everybody (λ u. u ≡ 0) (λ u zero. tt) keys run run p.no_forgery; no_collision = p.no_collision; pinned = is_key }
 
 -- ---- the laws
 

@@ -1,6 +1,6 @@
 -- Runs are fork consistent.
 use Rattle.std.proofs.Common.{Bool, List, Result, Ok, Err, IfOk, reverse, subst}
-use Rattle.fork_consistency.specs.Premises.{Premises}
+use Rattle.fork_consistency.specs.Premises.{PinnedIsKey, Premises, PremisesOf, everybody}
 use Rattle.client_runs.specs.Carried.{AreCarriedOut, script_keys}
 use Rattle.client_runs.specs.Released.{views}
 use Rattle.client_runs.specs.Runs.{Event, IsRun, Keys}
@@ -8,84 +8,67 @@ use Rattle.client_runs.specs.declared.world.Answer.{Answer}
 use Rattle.client_runs.specs.declared.world.WorldStep.{WorldStep}
 use Rattle.fork_consistency.proofs.Agreed.{agreed, agreed_by_plans, all_released, are_accepted, ended, growing, numbered}
 use Rattle.fork_consistency.proofs.ScriptKeys.{pinned_fits}
-use Rattle.fork_consistency.specs.ForkConsistent.{AreForkConsistent, AtEachMoment, HaveLines, IsForkConsistent, RunPremises, StandWhereStolen, StolenPremises}
-use Rattle.fork_consistency.specs.OwnParts.{OthersAreHonest}
+use Rattle.fork_consistency.specs.ForkConsistent.{AreForkConsistent, AtEachMoment, HaveLines, IsForkConsistent, StandWhereStolen}
+use Rattle.fork_consistency.specs.OwnParts.{IsOutside, StolenPremises}
 use Rattle.fork_consistency.proofs.OwnParts.{own_keys_stand, own_parts, super_of}
 use Rattle.fork_consistency.proofs.Signed.{are_signed}
 use Rattle.layout.specs.Types.{User}
 use Rattle.fork_consistency.proofs.Growing.{lines_stay, only_grow}
 use Rattle.fork_consistency.proofs.LaidFiles.{name_laid_files}
 use Rattle.fork_consistency.proofs.OneWorld.{one_part, one_world}
-use Rattle.fork_consistency.proofs.Premises.{is_before, others_before, premises_before}
+use Rattle.fork_consistency.proofs.Premises.{is_before, premises_before}
 use Rattle.fork_consistency.proofs.RunWorlds.{are_worlds_in, can_be_read, can_read}
 use Rattle.fork_consistency.proofs.SameEvents.{same_events}
 use Rattle.fork_consistency.proofs.Shown.{show_trees, show_worlds}
 use Rattle.fork_consistency.proofs.ByCertificates.{by_certificates, super_honest}
 
-have_lines : (keys : Keys) (run : List Event) → IsRun keys run → Premises keys run → HaveLines keys run
-have_lines keys run is p = record {
-  shown = show_worlds keys run is p;
-  readings = can_be_read keys run is p;
-  one_world = one_world keys run is p;
-  laid = name_laid_files keys run is p;
-  numbered = numbered keys run is p;
-  ended = ended keys run is p;
-  released = all_released keys run is p;
-  listed = λ reads agrees. (are_worlds_in keys run is p reads agrees).listed;
-  growing = only_grow (views run) (are_accepted keys run is p) (growing keys run is p);
-  staying = lines_stay run (are_accepted keys run is p);
-  planned = agreed_by_plans keys run is p;
-  agreed = agreed keys run is p;
+have_lines : (keys : Keys) (run : List Event) → IsRun keys run → PinnedIsKey keys → Premises keys run → HaveLines keys run
+have_lines keys run is is_key p = record {
+  shown = show_worlds keys run is is_key p;
+  readings = can_be_read keys run is is_key p;
+  one_world = one_world keys run is is_key p;
+  laid = name_laid_files keys run is is_key p;
+  numbered = numbered keys run is is_key p;
+  ended = ended keys run is is_key p;
+  released = all_released keys run is is_key p;
+  listed = λ reads agrees. (are_worlds_in keys run is is_key p reads agrees).listed;
+  growing = only_grow (views run) (are_accepted keys run is is_key p) (growing keys run is is_key p);
+  staying = lines_stay run (are_accepted keys run is is_key p);
+  planned = agreed_by_plans keys run is is_key p;
+  agreed = agreed keys run is is_key p;
 }
 
-pub consistent : (keys : Keys) (run : List Event) → IsRun keys run → Premises keys run → AreForkConsistent keys run
-consistent keys run is p = record {
-  lines = have_lines keys run is p;
-  accepted = are_accepted keys run is p;
+pub consistent : (keys : Keys) (run : List Event) → IsRun keys run → PinnedIsKey keys → Premises keys run → AreForkConsistent keys run
+consistent keys run is is_key p = record {
+  lines = have_lines keys run is is_key p;
+  accepted = are_accepted keys run is is_key p;
   signed = are_signed keys run is;
-  worlds = are_worlds_in keys run is p;
-  tables = by_certificates keys run is (super_honest keys run p);
+  worlds = are_worlds_in keys run is is_key p;
+  tables = by_certificates keys run is (super_honest keys run is_key p);
 }
 
 -- as they were at each moment
-pub at_each : (keys : Keys) (run : List Event) → IsRun keys run → Premises keys run → AtEachMoment (AreForkConsistent keys) run
-at_each keys run is p later older at =
+pub at_each : (keys : Keys) (run : List Event) → IsRun keys run → PinnedIsKey keys → Premises keys run → AtEachMoment (AreForkConsistent keys) run
+at_each keys run is is_key p later older at =
     let whole = subst (IsRun keys) at is in
-    consistent keys older (is_before keys later older whole) (premises_before keys later older whole (subst (Premises keys) at p))
-
--- the premises, with the one that is so of the keys of scripts
-all_premises : (run : List Event) → RunPremises run → Premises script_keys run
-all_premises run p = record {
-  no_forgery = p.no_forgery;
-  no_collision = p.no_collision;
-  true_keys = record { pinned = pinned_fits; added = p.added };
-}
+    consistent keys older (is_before keys later older whole) is_key (premises_before keys everybody later older whole (subst (Premises keys) at p))
 
 -- where keys are stolen
-pub stands : (stolen : User → Bool) (keys : Keys) (run : List Event) → IsRun keys run → OthersAreHonest stolen keys run → StandWhereStolen stolen keys run
-stands stolen keys run is others = record {
-  tables = by_certificates keys run is (super_of stolen keys run others);
-  keys_are = own_keys_stand stolen keys run is others;
-  parts = own_parts stolen keys run is others;
+pub stands : (stolen : User → Bool) (keys : Keys) (run : List Event) → IsRun keys run → PinnedIsKey keys → StolenPremises stolen keys run → StandWhereStolen stolen keys run
+stands stolen keys run is is_key others = record {
+  tables = by_certificates keys run is (super_of stolen keys run is_key others);
+  keys_are = own_keys_stand stolen keys run is is_key others;
+  parts = own_parts stolen keys run is is_key others;
   readings = can_read keys run;
-  one_part = one_part keys run is others.no_collision others.pinned;
-  shown = show_trees keys run is others.no_collision;
+  one_part = one_part keys run is others.1.no_collision is_key;
+  shown = show_trees keys run is others.1.no_collision;
   signed = are_signed keys run is;
 }
 
-pub stands_at_each : (stolen : User → Bool) (keys : Keys) (run : List Event) → IsRun keys run → OthersAreHonest stolen keys run → AtEachMoment (StandWhereStolen stolen keys) run
-stands_at_each stolen keys run is others later older at =
+pub stands_at_each : (stolen : User → Bool) (keys : Keys) (run : List Event) → IsRun keys run → PinnedIsKey keys → StolenPremises stolen keys run → AtEachMoment (StandWhereStolen stolen keys) run
+stands_at_each stolen keys run is is_key others later older at =
     let whole = subst (IsRun keys) at is in
-    stands stolen keys older (is_before keys later older whole) (others_before keys stolen later older whole (subst (OthersAreHonest stolen keys) at others))
-
-stolen_premises : (stolen : User → Bool) (run : List Event) → StolenPremises stolen run → OthersAreHonest stolen script_keys run
-stolen_premises stolen run p = record {
-  super = p.super;
-  no_forgery = p.no_forgery;
-  no_collision = p.no_collision;
-  pinned = pinned_fits;
-  added = p.added;
-}
+    stands stolen keys older (is_before keys later older whole) is_key (others.0, premises_before keys (IsOutside stolen) later older whole (subst (PremisesOf (IsOutside stolen) keys) at others.1))
 
 -- steps that were carried out
 pub carried : {A : Type 0} (steps : List (WorldStep A)) (answers : List (Answer A)) → AreCarriedOut steps answers → IsForkConsistent steps answers
@@ -97,10 +80,10 @@ carried steps answers c = record {
   leaves = c.leaves;
   certificates = c.certificates;
   structures = c.structures;
-  consistent = λ p. consistent script_keys c.events c.is_run (all_premises c.events p);
-  consistent_at_each_moment = λ p. at_each script_keys c.events c.is_run (all_premises c.events p);
-  where_stolen = λ set p. stands set script_keys c.events c.is_run (stolen_premises set c.events p);
-  where_stolen_at_each_moment = λ set p. stands_at_each set script_keys c.events c.is_run (stolen_premises set c.events p);
+  consistent = λ p. consistent script_keys c.events c.is_run pinned_fits p;
+  consistent_at_each_moment = λ p. at_each script_keys c.events c.is_run pinned_fits p;
+  where_stolen = λ set p. stands set script_keys c.events c.is_run pinned_fits p;
+  where_stolen_at_each_moment = λ set p. stands_at_each set script_keys c.events c.is_run pinned_fits p;
 }
 
 -- so is what a call answers with them

@@ -1,5 +1,5 @@
 -- Where no signature is forged, what is shown with a valid signature was released.
-use Rattle.std.proofs.Common.{◌≡◌, ℕ, Bool, true, false, ◌==◌, List, [], ◌∷◌, ◌++◌, map, sym, ap, ◌∙◌, subst, inl, inr, if◌then◌else◌}
+use Rattle.std.proofs.Common.{◌≡◌, ℕ, Bool, true, false, ◌==◌, List, [], ◌∷◌, ◌++◌, map, refl, sym, ap, ◌∙◌, subst, inl, inr, if◌then◌else◌}
 use Rattle.std.specs.List.{All, Contains}
 use Rattle.layout.specs.Types.{Bytes, User}
 use Rattle.lms_sign.specs.Signature.{signature_of, valid}
@@ -16,7 +16,8 @@ use Rattle.release_runs.proofs.Once.{came}
 use Rattle.release_runs.proofs.Stories.{IsStory, OfCert, OfStructure, Release, cert_of, message, text as release_text}
 use Rattle.release_runs.proofs.Texts.{no_cert, unsigned_of}
 use Rattle.client_runs.specs.Runs.{Event, IsRun, Keys, owner, public_key}
-use Rattle.client_runs.specs.Released.{Shown, released, released_by, shown, shown_by}
+use Rattle.client_runs.specs.Released.{Shown, released, released_by, shown_by}
+use Rattle.client_runs.proofs.Replies.{shown}
 use Rattle.fork_consistency.specs.Premises.{HasReleased, IsGenuine, NoForgery, NoneForgedOf, everybody}
 use Rattle.client_runs.specs.UsedOnce.{LeavesOnce}
 use Rattle.fork_consistency.proofs.Holds.{structures}
@@ -52,7 +53,7 @@ module _ (keys : Keys) (whole : List Event) (once : (u : User) → LeavesOnce u 
   each_genuine : (run : List Event) → NoneForgedOf everybody keys whole run → AllGenuine keys run
   each_genuine [] none = tt
   each_genuine (e ∷ older) none =
-      (to_all (IsReleasedText keys older) (shown_by e.call) (λ t j. of_all (λ (x : Shown). everybody x.user → IsGenuine keys whole older x) (shown_by e.call) none.0 t j tt (once t.user)), each_genuine older none.1)
+      (to_all (IsReleasedText keys older) (shown_by e.call) (λ t j. of_all (λ (x : Shown). everybody x.user → IsGenuine keys whole older x) (shown_by e.call) none.0 t j tt (once t.user) (public_key keys t.user) refl), each_genuine older none.1)
 
 pub all_genuine : (keys : Keys) (run : List Event) → IsRun keys run → NoForgery keys run → AllGenuine keys run
 all_genuine keys run is none = each_genuine keys run (λ u. leaves_once keys run u is) run none

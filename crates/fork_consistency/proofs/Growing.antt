@@ -11,7 +11,7 @@ use Rattle.pending_list.specs.declared.signed.Signed.{Signed}
 use Rattle.reply_rules.specs.Lists.{Lists, structure_of}
 use Rattle.reply_rules.specs.Lists as reply_lists
 use Rattle.agreement.specs.Lines.{Grow, IsBeginning, line, line_at}
-use Rattle.agreement.specs.Runs.{Accepted, IsRun as AreAccepted, View, last_signed, number_of, user_of}
+use Rattle.agreement.specs.Runs.{Accepted, AreAccepted, View, last_signed, number_of, user_of}
 use Rattle.agreement.proofs.Members.{In, contains_in, in-right, in_contains, to_all}
 use Rattle.agreement.proofs.Runs.{signed_plan}
 use Rattle.client_runs.specs.Released.{accepted_by, tried_view, views}

@@ -26,7 +26,7 @@ use Rattle.agreement.proofs.Members.{In, contains_in, in-left, in_contains, of_a
 use Rattle.agreement.proofs.Tests.{all_in}
 use Rattle.fork_consistency.specs.Handles.{told_by_texts}
 use Rattle.fork_consistency.specs.LaidFiles.{NameLaidFiles, NamesLaid, NamesWhatWasLaid, StandsForFile, WereLaid}
-use Rattle.fork_consistency.specs.Premises.{HasReleased, Premises}
+use Rattle.fork_consistency.specs.Premises.{HasReleased, PinnedIsKey, Premises}
 use Rattle.fork_consistency.proofs.Agreed.{all_released}
 use Rattle.fork_consistency.proofs.Among.{agrees_within, are_within, of_are_among}
 use Rattle.fork_consistency.proofs.Begun.{AllLaySuch, AmongThem, IsBegun, LaysSuch, begun_where, in_run, in_split}
@@ -77,7 +77,7 @@ module _ (texts : List Bytes) (apart : NoneCollide texts texts) (reads : Reading
 
 -- ---- over a run
 
-module _ (keys : Keys) (run : List Event) (is : IsRun keys run) (premises : Premises keys run) where
+module _ (keys : Keys) (run : List Event) (is : IsRun keys run) (is_key : PinnedIsKey keys) (premises : Premises keys run) where
   abbrev texts : List Bytes
   texts = hashed keys run
 
@@ -116,10 +116,10 @@ module _ (keys : Keys) (run : List Event) (is : IsRun keys run) (premises : Prem
 
   begun : (x : View) → In x (views run) → (c : Cert) → In c (line (views run) x) → IsBegun (OfUser c.user) c
   begun x i c j =
-      let all = all_released keys run is premises in
+      let all = all_released keys run is is_key premises in
       let of_x = of_all (λ (y : View). All (λ (d : Cert). HasReleased d.user run (cert.spell d)) (line (views run) y)) (views run) all x i in
       let has = of_all (λ (d : Cert). HasReleased d.user run (cert.spell d)) (line (views run) x) of_x c j in
-      let t = text_of keys run is c.user c (line_fits keys run is premises x c j) refl has in
+      let t = text_of keys run is c.user c (line_fits keys run is is_key premises x c j) refl has in
       subst (IsBegun (OfUser c.user)) t.value (begun_where (OfUser c.user) keys c.user run is (all_lay c.user) t.text t.one t.there t.read)
 
   names_what_was_laid : (c : Cert) → IsBegun (OfUser c.user) c → NamesWhatWasLaid keys run c
@@ -127,7 +127,7 @@ module _ (keys : Keys) (run : List Event) (is : IsRun keys run) (premises : Prem
     laid = b.laid;
     were_laid = b.inside.1 refl;
     named = λ reads agrees.
-        all_named texts premises.no_collision reads agrees (root_of keys run is premises.no_collision premises.true_keys.pinned reads agrees) b.laid b.inside.0 c.changes b.are;
+        all_named texts premises.no_collision reads agrees (root_of keys run is premises.no_collision is_key reads agrees) b.laid b.inside.0 c.changes b.are;
   }
 
   pub name_laid_files : NameLaidFiles keys run

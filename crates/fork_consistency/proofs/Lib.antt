@@ -2,7 +2,7 @@ pub mod Holds
 pub mod Judging
 pub mod Moves
 pub mod Genuine
-mod Views
+pub mod Views
 pub mod Among
 mod Listings
 pub mod ScriptKeys

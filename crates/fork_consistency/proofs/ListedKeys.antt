@@ -18,8 +18,8 @@ use Rattle.agreement.proofs.Members.{In, of_all, to_all}
 use Rattle.client_runs.specs.Released.{released, views}
 use Rattle.client_runs.specs.Runs.{Event, IsRun, Keys, public_key}
 use Rattle.fork_consistency.specs.Premises.{AddsOwnKeysOf, GivesOwnKeyOf, TextAddsOwnKeysOf}
-use Rattle.fork_consistency.specs.ByCertificates.{HasAllUpTo, ListOwnKeysOf, SuperIsHonest, certificate, certificates_up_to, tables_after}
-use Rattle.fork_consistency.proofs.ByCertificates.{view}
+use Rattle.fork_consistency.specs.ByCertificates.{HasAllUpTo, ListOwnKeysOf, certificate, certificates_up_to, tables_after}
+use Rattle.fork_consistency.proofs.ByCertificates.{SuperIsHonest, view}
 use Rattle.fork_consistency.proofs.Certificates.{IsReleased, all_before, one_more, released_cert, tables_more}
 
 -- ---- listings

@@ -27,7 +27,7 @@ use Rattle.agreement.proofs.Lines as lines
 use Rattle.agreement.proofs.Members.{In, in-left, in-map, in-right, of_all, to_all}
 use Rattle.agreement.proofs.Formed.{cert_fits}
 use Rattle.agreement.proofs.Runs.{accepted_in}
-use Rattle.fork_consistency.specs.Premises.{HasReleased, NoCollision, Premises}
+use Rattle.fork_consistency.specs.Premises.{HasReleased, NoCollision, PinnedIsKey, Premises}
 use Rattle.client_runs.specs.Released.{hashed, hashed_at, released, views}
 use Rattle.client_runs.specs.Runs.{Event, IsRun, Keys, public_key}
 use Rattle.fork_consistency.proofs.Agreed.{all_released, are_accepted}
@@ -125,11 +125,11 @@ module _ (keys : Keys) (run : List Event) (is : IsRun keys run) (apart : NoColli
           let (text, q, is_cert) = in-filter_map (λ (t : Bytes). option_map (λ (s : Signed Cert). s.value) (cert_in u t)) (released u run) c m.0 in
           of_user u text (cert_in u text) c q refl is_cert
 
-module _ (keys : Keys) (run : List Event) (is : IsRun keys run) (premises : Premises keys run) where
+module _ (keys : Keys) (run : List Event) (is : IsRun keys run) (is_key : PinnedIsKey keys) (premises : Premises keys run) where
   -- each certificate of a line was begun
   begun : (x : View) → In x (views run) → (c : Cert) → In c (line (views run) x) → cert.Fits c → IsBegun (AmongThem (hashed keys run)) c
   begun x i c j fits =
-      let has = of_all (λ (d : Cert). HasReleased d.user run (cert.spell d)) (line (views run) x) (of_all (λ (y : View). All (λ (d : Cert). HasReleased d.user run (cert.spell d)) (line (views run) y)) (views run) (all_released keys run is premises) x i) c j in
+      let has = of_all (λ (d : Cert). HasReleased d.user run (cert.spell d)) (line (views run) x) (of_all (λ (y : View). All (λ (d : Cert). HasReleased d.user run (cert.spell d)) (line (views run) y)) (views run) (all_released keys run is is_key premises) x i) c j in
       let t = text_of keys run is c.user c fits refl has in
       subst (IsBegun (AmongThem (hashed keys run))) t.value (each_begun (hashed keys run) keys c.user run is (λ y k. in-left y (flat_map hashed_at run) (first_texts (public_key keys 0)) k) t.text t.one t.there t.read)
 
@@ -141,9 +141,9 @@ module _ (keys : Keys) (run : List Event) (is : IsRun keys run) (premises : Prem
       let k = subst (λ (l : List Cert). In c l) (sym (lines.line_certs vs (user_of x) (number_of x))) j in
       let (i, m, same) = in-map (λ (i : PendingItem). i.cert) (lines.items_at vs (user_of x) (number_of x)) c k in
       let (y, n, p) = lines.line_pending vs (user_of x) (number_of x) i m in
-      subst cert.Fits (sym same) (cert_fits (reply_of y) (accepted_in vs (are_accepted keys run is premises) y n).1.read i p)
+      subst cert.Fits (sym same) (cert_fits (reply_of y) (accepted_in vs (are_accepted keys run is is_key premises) y n).1.read i p)
 
   pub one_world : OneWorld keys run
   one_world a b of_a of_b =
       to_all (λ x. (p : Principal) (n : INumber) → p < 96 → world a (public_key keys 0) (line vs x) p n ≡ world b (public_key keys 0) (line vs x) p n) vs
-      (λ x i p n low. one_of keys run is premises.no_collision premises.true_keys.pinned (line vs x) (λ c j. begun x i c j (line_fits x c j)) a b of_a of_b p n)
+      (λ x i p n low. one_of keys run is premises.no_collision is_key (line vs x) (λ c j. begun x i c j (line_fits x c j)) a b of_a of_b p n)

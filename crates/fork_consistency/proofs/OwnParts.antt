@@ -32,8 +32,8 @@ use Rattle.agreement.specs.Runs.{View}
 use Rattle.agreement.specs.Worlds.{Names, actor_in, view_in, world}
 use Rattle.agreement.proofs.Formed.{cert_fits}
 use Rattle.agreement.proofs.Members.{In, in-append, in-filter, in-left, in-map, in-right, map-in, of_all, to_all}
-use Rattle.fork_consistency.specs.Premises.{HasReleased, IsGenuine, NoneForgedOf}
-use Rattle.client_runs.specs.Released.{Shown, accepted_by, hashed, hashed_at, shown, shown_by, shown_cert, shown_structure, tried_view, views}
+use Rattle.fork_consistency.specs.Premises.{HasReleased, IsGenuine, NoneForgedOf, PinnedIsKey}
+use Rattle.client_runs.specs.Released.{Shown, accepted_by, hashed, hashed_at, shown_by, shown_cert, shown_structure, tried_view, views}
 use Rattle.client_runs.specs.Runs.{Event, IsRun, Keys, client_of, owner, public_key}
 use Rattle.client_runs.specs.UsedOnce.{LeavesOnce}
 use Rattle.fork_consistency.proofs.Genuine.{IsReleasedText, released_later, released_structure}
@@ -41,14 +41,14 @@ use Rattle.fork_consistency.proofs.Holds.{IsTriedOver, known_in, signed_in}
 use Rattle.fork_consistency.proofs.Judging.{IsUnbroken, IsUnbrokenBy, cert_by_super, cert_verified, structure_by_super, structure_fits, structure_verified, unbroken, unbroken_by}
 use Rattle.fork_consistency.proofs.Moves.{holds_at}
 use Rattle.client_runs.proofs.Once.{leaves_once}
-use Rattle.client_runs.proofs.Replies.{of_lists}
+use Rattle.client_runs.proofs.Replies.{of_lists, shown}
 use Rattle.fork_consistency.proofs.Views.{in_views, over_here}
-use Rattle.fork_consistency.specs.ByCertificates.{HasAllUpTo, ListOwnKeysOf, SuperIsHonest, certificate, certificates_up_to}
+use Rattle.fork_consistency.specs.ByCertificates.{HasAllUpTo, ListOwnKeysOf, certificate, certificates_up_to}
 use Rattle.fork_consistency.specs.Handles.{IsWhole, told_by_texts}
-use Rattle.fork_consistency.specs.OwnParts.{IsOutside, IsOwnPart, OthersAreHonest, OwnPartsStand}
+use Rattle.fork_consistency.specs.OwnParts.{IsOutside, IsOwnPart, OwnPartsStand, StolenPremises}
 use Rattle.fork_consistency.proofs.Acting.{at_most_one, filter_none, next_number, none_before, once_front, ordered}
 use Rattle.fork_consistency.proofs.AllHonest.{first_names}
-use Rattle.fork_consistency.proofs.ByCertificates.{fewer_forged}
+use Rattle.fork_consistency.proofs.ByCertificates.{SuperIsHonest, fewer_forged}
 use Rattle.fork_consistency.proofs.ListedKeys.{list_own_keys, own_key_listed}
 use Rattle.fork_consistency.proofs.Certificates.{all_more, found, none_first, one_more}
 use Rattle.fork_consistency.proofs.Firsts.{first_whole}
@@ -61,11 +61,11 @@ use Rattle.fork_consistency.proofs.Whole.{part_whole}
 -- ---- user 0
 
 -- what user 0 signed is genuine, since its key isn't stolen
-pub super_of : (stolen : User → Bool) (keys : Keys) (run : List Event) → OthersAreHonest stolen keys run → SuperIsHonest keys run
-super_of stolen keys run others = record {
-  no_forgery = fewer_forged (IsOutside stolen) (λ u. u ≡ 0) (λ u zero. ap stolen zero ∙ others.super) keys run run others.no_forgery;
-  no_collision = others.no_collision;
-  pinned = others.pinned;
+pub super_of : (stolen : User → Bool) (keys : Keys) (run : List Event) → PinnedIsKey keys → StolenPremises stolen keys run → SuperIsHonest keys run
+super_of stolen keys run is_key others = record {
+  no_forgery = fewer_forged (IsOutside stolen) (λ u. u ≡ 0) (λ u zero. ap stolen zero ∙ others.0) keys run run others.1.no_forgery;
+  no_collision = others.1.no_collision;
+  pinned = is_key;
 }
 
 -- ---- what the user signed
@@ -356,17 +356,17 @@ module _ (keys : Keys) (whole : List Event) (is_whole : IsRun keys whole) (pinne
 user_genuine : (stolen : User → Bool) (u : User) → stolen u ≡ false → (keys : Keys) (whole : List Event) → ((w : User) → LeavesOnce w whole) → (run : List Event) → NoneForgedOf (IsOutside stolen) keys whole run → UserGenuine u keys run
 user_genuine stolen u out keys whole once [] none = tt
 user_genuine stolen u out keys whole once (e ∷ older) none =
-    (All-weaker (λ (t : Shown). stolen t.user ≡ false → IsGenuine keys whole older t) (λ (t : Shown). t.user ≡ u → IsReleasedText keys older t) (λ t g same. g (ap stolen same ∙ out) (once t.user)) (shown_by e.call) none.0, user_genuine stolen u out keys whole once older none.1)
+    (All-weaker (λ (t : Shown). stolen t.user ≡ false → IsGenuine keys whole older t) (λ (t : Shown). t.user ≡ u → IsReleasedText keys older t) (λ t g same. g (ap stolen same ∙ out) (once t.user) (public_key keys t.user) refl) (shown_by e.call) none.0, user_genuine stolen u out keys whole once older none.1)
 
-pub own_parts : (stolen : User → Bool) (keys : Keys) (run : List Event) → IsRun keys run → OthersAreHonest stolen keys run → OwnPartsStand stolen keys run
-own_parts stolen keys run is others =
+pub own_parts : (stolen : User → Bool) (keys : Keys) (run : List Event) → IsRun keys run → PinnedIsKey keys → StolenPremises stolen keys run → OwnPartsStand stolen keys run
+own_parts stolen keys run is is_key others =
     to_all (λ x. (u : User) → u < 64 → stolen u ≡ false → IsOwnPart keys run u x) (views run)
     (λ x i u low out. (
     let first = λ (t : Bytes) (j : In t (first_texts (public_key keys 0))). in-right t (flat_map hashed_at run) (first_texts (public_key keys 0)) j in
     let v =
-    all_views keys run is others.pinned u low (hashed keys run) others.no_collision first run is (user_genuine stolen u out keys run (λ w. leaves_once keys run w is) run others.no_forgery) (λ text has. has)
-    (λ t j. in-left t (flat_map hashed_at run) (first_texts (public_key keys 0)) j) (λ y j k at. own_key_listed (IsOutside stolen) keys run is (super_of stolen keys run others) others.added y j u k out at) x i in
+    all_views keys run is is_key u low (hashed keys run) others.1.no_collision first run is (user_genuine stolen u out keys run (λ w. leaves_once keys run w is) run others.1.no_forgery) (λ text has. has)
+    (λ t j. in-left t (flat_map hashed_at run) (first_texts (public_key keys 0)) j) (λ y j k at. own_key_listed (IsOutside stolen) keys run is (super_of stolen keys run is_key others) others.1.added y j u k out at) x i in
     record { number = v.number; released = v.released; part = v.part }))
 
-pub own_keys_stand : (stolen : User → Bool) (keys : Keys) (run : List Event) → IsRun keys run → OthersAreHonest stolen keys run → ListOwnKeysOf (IsOutside stolen) keys run
-own_keys_stand stolen keys run is others = list_own_keys (IsOutside stolen) keys run is (super_of stolen keys run others) others.added
+pub own_keys_stand : (stolen : User → Bool) (keys : Keys) (run : List Event) → IsRun keys run → PinnedIsKey keys → StolenPremises stolen keys run → ListOwnKeysOf (IsOutside stolen) keys run
+own_keys_stand stolen keys run is is_key others = list_own_keys (IsOutside stolen) keys run is (super_of stolen keys run is_key others) others.1.added

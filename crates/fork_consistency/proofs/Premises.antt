@@ -10,14 +10,13 @@ use Rattle.pending_list.specs.declared.signed.Signed.{Signed}
 use Rattle.client_releases.specs.Told.{cert_in}
 use Rattle.client_tree.specs.Genesis.{first_texts}
 use Rattle.agreement.proofs.Members.{In, contains_in, in-append, in-left, in-right, in_contains, of_all, to_all}
-use Rattle.client_runs.specs.Carried.{script_keys}
 use Rattle.client_runs.specs.Released.{Shown, hashed, hashed_at, released, released_by, shown_by}
 use Rattle.client_runs.specs.Runs.{Event, IsRun, Keys, public_key}
 use Rattle.client_runs.specs.UsedOnce.{LeavesOnce}
 use Rattle.client_runs.proofs.Once.{leaves_once}
-use Rattle.fork_consistency.specs.ForkConsistent.{HasNoUser, RunPremises, StolenPremises}
-use Rattle.fork_consistency.specs.OwnParts.{IsOutside, OthersAreHonest}
-use Rattle.fork_consistency.specs.Premises.{AddsOwnKeysOf, GivesOwnKeyOf, IsGenuine, NoCollision, NoneForgedOf, Premises, TextAddsOwnKeysOf, everybody}
+use Rattle.fork_consistency.specs.ForkConsistent.{HasNoUser}
+use Rattle.fork_consistency.specs.OwnParts.{IsOutside, StolenPremises}
+use Rattle.fork_consistency.specs.Premises.{AddsOwnKeysOf, GivesOwnKeyOf, IsGenuine, NoCollision, NoneForgedOf, Premises, PremisesOf, TextAddsOwnKeysOf, everybody}
 use Rattle.fork_consistency.proofs.ByCertificates.{fewer_forged}
 
 -- ---- at an earlier moment
@@ -69,20 +68,11 @@ module _ (keys : Keys) where
   added_before some later older added =
       to_all (TextAddsOwnKeysOf some keys) (released 0 older) (λ a i. of_all (TextAddsOwnKeysOf some keys) (released 0 (later ++ older)) added a (released_before 0 later older a i))
 
-  pub premises_before : (later older : List Event) → IsRun keys (later ++ older) → Premises keys (later ++ older) → Premises keys older
-  premises_before later older is p = record {
-    no_forgery = none_forged_before everybody later older is p.no_forgery;
+  pub premises_before : (some : User → Type 0) (later older : List Event) → IsRun keys (later ++ older) → PremisesOf some keys (later ++ older) → PremisesOf some keys older
+  premises_before some later older is p = record {
+    no_forgery = none_forged_before some later older is p.no_forgery;
     no_collision = no_collision_before later older p.no_collision;
-    true_keys = record { pinned = p.true_keys.pinned; added = added_before everybody later older p.true_keys.added };
-  }
-
-  pub others_before : (stolen : User → Bool) (later older : List Event) → IsRun keys (later ++ older) → OthersAreHonest stolen keys (later ++ older) → OthersAreHonest stolen keys older
-  others_before stolen later older is others = record {
-    super = others.super;
-    no_forgery = none_forged_before (IsOutside stolen) later older is others.no_forgery;
-    no_collision = no_collision_before later older others.no_collision;
-    pinned = others.pinned;
-    added = added_before (IsOutside stolen) later older others.added;
+    added = added_before some later older p.added;
   }
 
 -- ---- of fewer users
@@ -110,38 +100,16 @@ module _ (keys : Keys) (some few : User → Type 0) (among : (u : User) → few 
   fewer_added : (run : List Event) → AddsOwnKeysOf some keys run → AddsOwnKeysOf few keys run
   fewer_added run added = All-weaker (TextAddsOwnKeysOf some keys) (TextAddsOwnKeysOf few keys) fewer_in_text (released 0 run) added
 
--- where nobody's key is stolen the premises are those of fork consistency
-pub honest_of_nobody : (stolen : User → Bool) (keys : Keys) (run : List Event) → HasNoUser stolen → OthersAreHonest stolen keys run ↔ Premises keys run
-honest_of_nobody stolen keys run none = (
-  (λ p.
-      record {
-        no_forgery = fewer_forged (IsOutside stolen) everybody (λ u one. none u) keys run run p.no_forgery;
-        no_collision = p.no_collision;
-        true_keys = record { pinned = p.pinned; added = fewer_added keys (IsOutside stolen) everybody (λ u one. none u) run p.added };
-      }),
-  (λ p.
-      record {
-        super = none 0;
-        no_forgery = fewer_forged everybody (IsOutside stolen) (λ u out. tt) keys run run p.no_forgery;
-        no_collision = p.no_collision;
-        pinned = p.true_keys.pinned;
-        added = fewer_added keys everybody (IsOutside stolen) (λ u out. tt) run p.true_keys.added;
-      }),
-)
+  pub fewer_assumed : (run : List Event) → PremisesOf some keys run → PremisesOf few keys run
+  fewer_assumed run p = record {
+    no_forgery = fewer_forged some few among keys run run p.no_forgery;
+    no_collision = p.no_collision;
+    added = fewer_added run p.added;
+  }
 
-pub of_nobody : (stolen : User → Bool) (run : List Event) → HasNoUser stolen → StolenPremises stolen run ↔ RunPremises run
-of_nobody stolen run none = (
-  (λ p.
-      record {
-        no_forgery = fewer_forged (IsOutside stolen) everybody (λ u one. none u) script_keys run run p.no_forgery;
-        no_collision = p.no_collision;
-        added = fewer_added script_keys (IsOutside stolen) everybody (λ u one. none u) run p.added;
-      }),
-  (λ p.
-      record {
-        super = none 0;
-        no_forgery = fewer_forged everybody (IsOutside stolen) (λ u out. tt) script_keys run run p.no_forgery;
-        no_collision = p.no_collision;
-        added = fewer_added script_keys everybody (IsOutside stolen) (λ u out. tt) run p.added;
-      }),
+-- where nobody's key is stolen the premises are those of fork consistency
+pub of_nobody : (stolen : User → Bool) (keys : Keys) (run : List Event) → HasNoUser stolen → StolenPremises stolen keys run ↔ Premises keys run
+of_nobody stolen keys run none = (
+  (λ p. fewer_assumed keys (IsOutside stolen) everybody (λ u one. none u) run p.1),
+  (λ p. (none 0, fewer_assumed keys everybody (IsOutside stolen) (λ u out. tt) run p)),
 )

@@ -16,16 +16,15 @@ use Rattle.agreement.specs.Worlds.{IsHonest, NameFirst, view_in, world}
 use Rattle.agreement.proofs.Formed.{same_spelled}
 use Rattle.agreement.proofs.Members.{In, in-left, in-right, in_contains, to_all}
 use Rattle.agreement.proofs.Worlds.{all_listed, are_worlds, guarded as any_guarded, judge_as_world, lose_void}
-use Rattle.fork_consistency.specs.Premises.{Premises}
+use Rattle.fork_consistency.specs.Premises.{PinnedIsKey, Premises}
 use Rattle.client_runs.specs.Released.{hashed, hashed_at, views}
 use Rattle.client_runs.specs.Runs.{Event, IsRun, Keys, public_key}
 use Rattle.fork_consistency.proofs.Agreed.{apart, are_accepted}
-use Rattle.fork_consistency.specs.ByCertificates.{SuperIsHonest}
 use Rattle.fork_consistency.specs.Handles.{AllAreWhole, FirstAreWhole, NamesWhole, told_by_texts}
-use Rattle.fork_consistency.specs.Worlds.{HasUsers, AreWorldsBy, AreWorldsIn, CanBeRead, IsReadingOf, IsUsersOf, LosesVoid, TableIsWorlds, TreeIsWorld}
+use Rattle.fork_consistency.specs.Worlds.{HasUsers, AreWorldsBy, AreWorldsIn, CanBeRead, IsReadingOf, IsUsersOf, LosesVoid, IsWorldsTable, TreeIsWorld}
 use Rattle.fork_consistency.proofs.AllHonest.{is_honest, name_first}
 use Rattle.fork_consistency.proofs.AllWhole.{IsPlain, all_whole, low_all}
-use Rattle.fork_consistency.proofs.ByCertificates.{super_honest, view}
+use Rattle.fork_consistency.proofs.ByCertificates.{SuperIsHonest, super_honest, view}
 use Rattle.fork_consistency.proofs.Firsts.{first_whole}
 use Rattle.fork_consistency.proofs.Origins.{IsKnown, all_known}
 use Rattle.fork_consistency.proofs.Tables.{first_table_named}
@@ -34,7 +33,7 @@ use Rattle.fork_consistency.proofs.Tables.{first_table_named}
 pub can_read : (keys : Keys) (run : List Event) → CanBeRead keys run
 can_read keys run = some_reading (told_by_texts (hashed keys run))
 
-module _ (keys : Keys) (run : List Event) (is : IsRun keys run) (premises : Premises keys run) where
+module _ (keys : Keys) (run : List Event) (is : IsRun keys run) (is_key : PinnedIsKey keys) (premises : Premises keys run) where
   abbrev key : Key
   key = public_key keys 0
 
@@ -42,7 +41,7 @@ module _ (keys : Keys) (run : List Event) (is : IsRun keys run) (premises : Prem
   texts = hashed keys run
 
   honest : SuperIsHonest keys run
-  honest = super_honest keys run premises
+  honest = super_honest keys run is_key premises
 
   inside : (t : Bytes) → In t (first_texts key) → In t texts
   inside t i = in-right t (flat_map hashed_at run) (first_texts key) i
@@ -51,7 +50,7 @@ module _ (keys : Keys) (run : List Event) (is : IsRun keys run) (premises : Prem
   known x i = all_known keys texts premises.no_collision inside run is (λ t j. in-left t (flat_map hashed_at run) (first_texts key) j) x i
 
   plain_and_whole : (x : View) → In x (views run) → IsPlain texts premises.no_collision key inside x × NamesWhole texts x.signed
-  plain_and_whole = all_whole texts premises.no_collision key inside (views run) (are_accepted keys run is premises) known
+  plain_and_whole = all_whole texts premises.no_collision key inside (views run) (are_accepted keys run is is_key premises) known
 
   pub first_are_whole : FirstAreWhole keys run
   first_are_whole p low = first_whole key texts inside p low
@@ -66,20 +65,20 @@ module _ (keys : Keys) (run : List Event) (is : IsRun keys run) (premises : Prem
 
   module _ (reads : Reading) (agrees : IsReadingOf keys run reads) where
     first_named : NameFirst reads key
-    first_named = name_first texts premises.no_collision key premises.true_keys.pinned inside reads agrees (first_table_named keys run is premises.true_keys.pinned texts premises.no_collision inside)
+    first_named = name_first texts premises.no_collision key is_key inside reads agrees (first_table_named keys run is is_key texts premises.no_collision inside)
 
     honest_view : (x : View) → In x (views run) → IsHonest reads key x
     honest_view x i =
         let p = (plain_and_whole x i).0 in
         let w = view keys run is honest x i in
-        is_honest texts premises.no_collision key premises.true_keys.pinned inside reads agrees x (known x i) p.user (low_all texts premises.no_collision key inside x (known x i) p.read p.user p.plan p.each) p.each
+        is_honest texts premises.no_collision key is_key inside reads agrees x (known x i) p.user (low_all texts premises.no_collision key inside x (known x i) p.read p.user p.plan p.each) p.each
         (λ zero. (w.named (ap (λ p. p.user) p.plan ∙ zero), w.at.fits))
 
     abbrev vs : List View
     vs = views run
 
     world_of : (x : View) → (i : In x vs) → (p : Principal) (n : ℕ) → p < 96 → tree reads (honest_view x i).users (view_in key x) p n ≡ world reads key (line vs x) p n
-    world_of x i p n low = are_worlds reads key vs first_named (are_accepted keys run is premises) (apart keys run is premises) honest_view x (in_contains x vs i) (honest_view x i) p n low
+    world_of x i p n low = are_worlds reads key vs first_named (are_accepted keys run is is_key premises) (apart keys run is is_key premises) honest_view x (in_contains x vs i) (honest_view x i) p n low
 
     -- user 0's handle names one table
     users_are : (x : View) → (i : In x vs) → (users : Table) → IsUsersOf reads key x users → users ≡ (honest_view x i).users
@@ -97,25 +96,25 @@ module _ (keys : Keys) (run : List Event) (is : IsRun keys run) (premises : Prem
         to_all (TreeIsWorld reads key vs) vs
         (λ x i users of p n low. ap (λ (t : Table). tree reads t (view_in key x) p n) (users_are x i users of) ∙ world_of x i p n low)
 
-    tables : All (TableIsWorlds reads key vs) vs
-    tables = to_all (TableIsWorlds reads key vs) vs (λ x i. ap table_of (sym (honest_view x i).pending ∙ world_of x i 0 1 (omega arith)))
+    tables : All (λ x. IsWorldsTable reads key vs x x.table) vs
+    tables = to_all (λ x. IsWorldsTable reads key vs x x.table) vs (λ x i. ap table_of (sym (honest_view x i).pending ∙ world_of x i 0 1 (omega arith)))
 
     losses : All (LosesVoid reads key vs) vs
     losses =
         to_all (LosesVoid reads key vs) vs
         (λ x i users of before e. (
         ap (λ (t : Table). lost reads t (view_in key x)) (users_are x i users of)
-        ∙ lose_void reads key vs first_named (are_accepted keys run is premises) (apart keys run is premises) honest_view x (in_contains x vs i) (honest_view x i) before e))
+        ∙ lose_void reads key vs first_named (are_accepted keys run is is_key premises) (apart keys run is is_key premises) honest_view x (in_contains x vs i) (honest_view x i) before e))
 
     pub worlds_by : AreWorldsBy keys run reads
     worlds_by = record {
       users = users;
-      listed = all_listed reads key vs first_named (are_accepted keys run is premises) (apart keys run is premises) honest_view;
+      listed = all_listed reads key vs first_named (are_accepted keys run is is_key premises) (apart keys run is is_key premises) honest_view;
       guarded = λ x i before c after e. any_guarded reads (world reads key before) c;
       trees = trees;
       tables = tables;
       losses = losses;
-      judged = judge_as_world reads key vs first_named (are_accepted keys run is premises) (apart keys run is premises) honest_view;
+      judged = judge_as_world reads key vs first_named (are_accepted keys run is is_key premises) (apart keys run is is_key premises) honest_view;
     }
 
   pub are_worlds_in : AreWorldsIn keys run

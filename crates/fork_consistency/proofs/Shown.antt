@@ -32,9 +32,9 @@ use Rattle.client_steps.specs.Steps.{Call, Client, Closed, Gives, HasGiven, HasL
 use Rattle.client_runs.specs.Released.{accepted_by, hashed, hashed_at, hashed_by, tried_view, views}
 use Rattle.client_runs.specs.Runs.{Event, IsRun, Keys, client_of, owner, public_key}
 use Rattle.fork_consistency.specs.Handles.{told_by_texts}
-use Rattle.fork_consistency.specs.Premises.{NoCollision, Premises}
+use Rattle.fork_consistency.specs.Premises.{NoCollision, PinnedIsKey, Premises}
 use Rattle.fork_consistency.specs.Shown.{EachTells, HaveTrees, IsOfView, IsOfWorld, IsTrueInView, IsTrueInWorld, IsTrueOf, ShowTrees, ShowWorlds, answered, last_view, seen_in, view_told}
-use Rattle.fork_consistency.specs.Worlds.{AreWorldsBy, HasUsers, IsReadingOf, IsUsersOf, LosesVoid, TableIsWorlds, TreeIsWorld}
+use Rattle.fork_consistency.specs.Worlds.{AreWorldsBy, HasUsers, IsReadingOf, IsUsersOf, LosesVoid, IsWorldsTable, TreeIsWorld}
 use Rattle.fork_consistency.proofs.Among.{AreAmong, agrees_within, among_kept, are_within}
 use Rattle.fork_consistency.proofs.LastViews.{HasLastView, IsOf, has_last_view}
 use Rattle.fork_consistency.proofs.Lists.{found_in}
@@ -272,18 +272,18 @@ module _ (accepted : List View) (P Q : View → Question → Sees → Type 0) (R
 
 -- ---- the worlds of lines
 
-module _ (keys : Keys) (run : List Event) (is : IsRun keys run) (premises : Premises keys run) (reads : Reading) (agrees : IsReadingOf keys run reads) where
+module _ (keys : Keys) (run : List Event) (is : IsRun keys run) (is_key : PinnedIsKey keys) (premises : Premises keys run) (reads : Reading) (agrees : IsReadingOf keys run reads) where
   abbrev pinned : Key
   pinned = public_key keys 0
 
   by_reading : AreWorldsBy keys run reads
-  by_reading = worlds_by keys run is premises reads agrees
+  by_reading = worlds_by keys run is is_key premises reads agrees
 
   abbrev seen : View → Tree
   seen x = seen_in reads pinned (line (views run) x)
 
-  table_is : (x : View) → In x (views run) → TableIsWorlds reads pinned (views run) x
-  table_is x i = of_all (TableIsWorlds reads pinned (views run)) (views run) by_reading.tables x i
+  table_is : (x : View) → In x (views run) → IsWorldsTable reads pinned (views run) x x.table
+  table_is x i = of_all (λ y. IsWorldsTable reads pinned (views run) y y.table) (views run) by_reading.tables x i
 
   -- what is shown of a view is what is seen in the world of its line
   shown_is : (x : View) → In x (views run) → (users : Table) → IsUsersOf reads pinned x users → (p : Principal) (n : INumber) → p < 96 → shown reads users (view_in pinned x) p n ≡ seen x p n
@@ -315,5 +315,5 @@ module _ (keys : Keys) (run : List Event) (is : IsRun keys run) (premises : Prem
       in_other_words (views run) (IsTrueInView reads pinned) (IsTrueInWorld reads pinned (views run)) (IsOfView reads pinned) (IsOfWorld reads pinned (views run)) answer_in_world view_in_world run (λ x i. i)
       (show_trees keys run is premises.no_collision reads agrees).told
 
-pub show_worlds : (keys : Keys) (run : List Event) → IsRun keys run → Premises keys run → ShowWorlds keys run
-show_worlds keys run is premises reads agrees = each_world keys run is premises reads agrees
+pub show_worlds : (keys : Keys) (run : List Event) → IsRun keys run → PinnedIsKey keys → Premises keys run → ShowWorlds keys run
+show_worlds keys run is is_key premises reads agrees = each_world keys run is is_key premises reads agrees

@@ -42,14 +42,14 @@ use Rattle.agreement.specs.Runs.{View}
 use Rattle.agreement.proofs.Formed.{cert_fits, same_spelled}
 use Rattle.agreement.proofs.Members.{In, in-append, in-filter, in-left, in-map, in-right, map-in, of_all}
 use Rattle.fork_consistency.specs.Premises.{HasReleased}
-use Rattle.client_runs.specs.Released.{Shown, accepted_by, hashed_at, shown, shown_by, shown_cert, shown_structure, tried_view, views}
+use Rattle.client_runs.specs.Released.{Shown, accepted_by, hashed_at, shown_by, shown_cert, shown_structure, tried_view, views}
 use Rattle.client_runs.specs.Runs.{Event, IsRun, Keys, client_of, owner, public_key}
 use Rattle.fork_consistency.proofs.Genuine.{IsReleasedText, released_later, released_structure}
 use Rattle.fork_consistency.proofs.Holds.{IsTriedOver, known_in, signed_in}
 use Rattle.fork_consistency.proofs.Judging.{IsUnbroken, cert_by_super, structure_by_super, structure_fits, unbroken, unbroken_by}
 use Rattle.fork_consistency.proofs.Listings.{text_size}
 use Rattle.fork_consistency.proofs.Moves.{holds_at}
-use Rattle.client_runs.proofs.Replies.{of_lists}
+use Rattle.client_runs.proofs.Replies.{of_lists, shown}
 use Rattle.fork_consistency.proofs.Views.{in_views, over_here}
 use Rattle.fork_consistency.proofs.Lists.{found_in}
 use Rattle.fork_consistency.specs.ByCertificates.{HasAllUpTo, certificate, certificates_up_to, tables_after}

@@ -5,13 +5,13 @@ use Rattle.std.specs.List.{All, range_with_len}
 use Rattle.std.specs.Option.{option_map}
 use Rattle.layout.specs.Types.{Key, User, Version}
 use Rattle.principals.specs.Table.{Table, genesis as first_table, key_of}
-use Rattle.principals.specs.TableText.{key as key_form, table}
+use Rattle.principals.specs.TableText.{table}
 use Rattle.update_cert.specs.Cert.{Cert}
 use Rattle.update_cert.specs.Tables.{table_after}
 use Rattle.client_releases.specs.Told.{cert_in}
-use Rattle.fork_consistency.specs.Premises.{NoCollision, NoneForgedOf}
+use Rattle.fork_consistency.specs.Premises.{NoCollision, NoneForgedOf, PinnedIsKey}
 use Rattle.client_runs.specs.Released.{released, views}
-use Rattle.client_runs.specs.Runs.{Event, IsRun, Keys, public_key}
+use Rattle.client_runs.specs.Runs.{Event, IsOwnKey, IsRun, Keys, pinned}
 
 -- ---- certificates of a user
 
@@ -46,20 +46,16 @@ pub record IsByCertificates (key : Key) (run : List Event) (t : Table) : Type 0 
 
 -- ---- runs
 
--- No signature of user 0's is forged, and no digest collides; user 0's key has the form of a key. The keys of other
--- users may be anybody's.
-pub record SuperIsHonest (keys : Keys) (run : List Event) : Type 0 where
-  pub no_forgery : NoneForgedOf (λ u. u ≡ 0) keys run run
-  pub no_collision : NoCollision keys run
-  pub pinned : key_form.Fits (public_key keys 0)
-
--- what holds of each run in which that is so
+-- what holds of each run in which no signature of user 0's is forged, and no digest collides: the keys of other users
+-- may be anybody's
 abbrev pub EachHonestSuper : (Keys → List Event → Type 0) → Type 0
-EachHonestSuper holds = (keys : Keys) (run : List Event) → IsRun keys run → SuperIsHonest keys run → holds keys run
+EachHonestSuper holds =
+    (keys : Keys) (run : List Event) → IsRun keys run → PinnedIsKey keys → NoneForgedOf (λ u. u ≡ 0) keys run run
+    → NoCollision keys run → holds keys run
 
 -- the tables of accepted views are by certificates
 abbrev pub AreByCertificates : Keys → List Event → Type 0
-AreByCertificates keys run = All (λ x. IsByCertificates (public_key keys 0) run x.table) (views run)
+AreByCertificates keys run = All (λ x. IsByCertificates (pinned keys) run x.table) (views run)
 
 -- they have texts
 abbrev pub HaveTexts : Keys → List Event → Type 0
@@ -68,4 +64,4 @@ HaveTexts keys run = All (λ x. table.Fits x.table) (views run)
 -- they list none of these users with a key but the user's own
 abbrev pub ListOwnKeysOf : (User → Type 0) → Keys → List Event → Type 0
 ListOwnKeysOf some keys run =
-    All (λ x. (u : User) (k : Key) → some u → key_of u x.table ≡ Some k → k ≡ public_key keys u) (views run)
+    All (λ x. (u : User) (k : Key) → some u → key_of u x.table ≡ Some k → IsOwnKey keys u k) (views run)

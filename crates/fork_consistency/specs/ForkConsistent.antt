@@ -4,18 +4,17 @@ use Rattle.std.specs.Prelude.{◌≡◌, Bool, false, List, ◌∷◌, ◌++◌,
 use Rattle.std.specs.List.{All, Contains}
 use Rattle.layout.specs.Types.{User}
 use Rattle.agreement.specs.Lines.{Agree, AgreeByPlans, AreNumbered, EndWithOwn, IsBeginning, line}
-use Rattle.agreement.specs.Runs.{IsRun as AreAccepted, View, user_of}
+use Rattle.agreement.specs.Runs.{AreAccepted, View, user_of}
 use Rattle.client_runs.specs.declared.world.Answer.{Answer}
 use Rattle.client_runs.specs.declared.world.WorldStep.{WorldStep}
-use Rattle.fork_consistency.specs.Premises.{AddsOwnKeys, AddsOwnKeysOf, NoCollision, NoForgery, NoneForgedOf}
-use Rattle.fork_consistency.specs.Premises.{AreReleased}
+use Rattle.fork_consistency.specs.Premises.{AreReleased, Premises}
 use Rattle.client_runs.specs.Carried.{Keep, script_keys}
 use Rattle.client_runs.specs.Released.{views}
 use Rattle.client_runs.specs.Runs.{Event, IsRun, Keys}
 use Rattle.client_runs.specs.UsedOnce.{CertificatesOnce, LeavesOnce, StructuresOnce}
 use Rattle.fork_consistency.specs.ByCertificates.{AreByCertificates, ListOwnKeysOf}
 use Rattle.fork_consistency.specs.LaidFiles.{NameLaidFiles}
-use Rattle.fork_consistency.specs.OwnParts.{IsOutside, OnePart, OwnPartsStand}
+use Rattle.fork_consistency.specs.OwnParts.{IsOutside, OnePart, OwnPartsStand, StolenPremises}
 use Rattle.fork_consistency.specs.SameEvents.{AreTold}
 use Rattle.fork_consistency.specs.Shown.{ShowTrees, ShowWorlds}
 use Rattle.fork_consistency.specs.Signed.{AreSigned}
@@ -101,23 +100,6 @@ pub record StandWhereStolen (stolen : User → Bool) (keys : Keys) (run : List E
 abbrev pub AtEachMoment : (List Event → Type 0) → List Event → Type 0
 AtEachMoment holds run = (later older : List Event) → run ≡ later ++ older → holds older
 
--- ---- premises
-
--- No signature is forged, no digest collides, and user 0's client added each user with the user's own key. That user
--- 0's key has the form of a key is no premise: of the keys of scripts it is proved.
-pub record RunPremises (run : List Event) : Type 0 where
-  pub no_forgery : NoForgery script_keys run
-  pub no_collision : NoCollision script_keys run
-  pub added : AddsOwnKeys script_keys run
-
--- Where keys are stolen: user 0's isn't, no signature of a user outside the set is forged, no digest collides, and user
--- 0's client added each such user with the user's own key.
-pub record StolenPremises (stolen : User → Bool) (run : List Event) : Type 0 where
-  pub super : stolen 0 ≡ false
-  pub no_forgery : NoneForgedOf (IsOutside stolen) script_keys run run
-  pub no_collision : NoCollision script_keys run
-  pub added : AddsOwnKeysOf (IsOutside stolen) script_keys run
-
 -- no user is in the set
 abbrev pub HasNoUser : (User → Bool) → Type 0
 HasNoUser stolen = (u : User) → stolen u ≡ false
@@ -126,7 +108,8 @@ HasNoUser stolen = (u : User) → stolen u ≡ false
 
 -- The steps with their answers are a run of clients, in which each refusal names the first broken rule, and leave no
 -- choice of its calls and of what these release; that is used once; under the premises the accepted views are fork
--- consistent, as they were at each moment, by what was released then; and so is what holds where keys are stolen.
+-- consistent, as they were at each moment, by what was released then; and so is what holds where keys are stolen. That
+-- user 0's key has the form of a key is no premise: of the keys of scripts it is proved.
 -- `consistent` and `where_stolen` follow from the fields of each moment, of which the last is the whole run.
 pub record IsForkConsistent {A : Type 0} (steps : List (WorldStep A)) (answers : List (Answer A)) : Type 0 where
   pub events : List Event
@@ -136,8 +119,9 @@ pub record IsForkConsistent {A : Type 0} (steps : List (WorldStep A)) (answers :
   pub leaves : (u : User) → LeavesOnce u events
   pub certificates : (u : User) → CertificatesOnce u events
   pub structures : (u : User) → StructuresOnce u events
-  pub consistent : RunPremises events → AreForkConsistent script_keys events
-  pub consistent_at_each_moment : RunPremises events → AtEachMoment (AreForkConsistent script_keys) events
-  pub where_stolen : (stolen : User → Bool) → StolenPremises stolen events → StandWhereStolen stolen script_keys events
-  pub where_stolen_at_each_moment : (stolen : User → Bool) → StolenPremises stolen events
+  pub consistent : Premises script_keys events → AreForkConsistent script_keys events
+  pub consistent_at_each_moment : Premises script_keys events → AtEachMoment (AreForkConsistent script_keys) events
+  pub where_stolen : (stolen : User → Bool) → StolenPremises stolen script_keys events
+      → StandWhereStolen stolen script_keys events
+  pub where_stolen_at_each_moment : (stolen : User → Bool) → StolenPremises stolen script_keys events
       → AtEachMoment (StandWhereStolen stolen script_keys) events

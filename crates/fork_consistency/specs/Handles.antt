@@ -15,7 +15,7 @@ use Rattle.client_tree.specs.Genesis.{first_handle}
 use Rattle.agreement.specs.Runs.{View, user_of}
 use Rattle.agreement.specs.Worlds.{NamesTable}
 use Rattle.client_runs.specs.Released.{hashed, views}
-use Rattle.client_runs.specs.Runs.{Event, Keys, public_key}
+use Rattle.client_runs.specs.Runs.{Event, Keys, pinned}
 
 -- the text of a digest among these
 abbrev pub told_by_texts : List Bytes → Blocks
@@ -55,7 +55,7 @@ NamesTableAmong texts handle t = ForEachReading (told_by_texts texts) (λ reads.
 
 -- the handles of the beginning are whole among the texts of the run
 abbrev pub FirstAreWhole : Keys → List Event → Type 0
-FirstAreWhole keys run = (p : Principal) → p < 96 → IsWhole (hashed keys run) p (first_handle p (public_key keys 0))
+FirstAreWhole keys run = (p : Principal) → p < 96 → IsWhole (hashed keys run) p (first_handle p (pinned keys))
 
 -- so are those of each structure that was signed over an accepted view
 abbrev pub AllAreWhole : Keys → List Event → Type 0

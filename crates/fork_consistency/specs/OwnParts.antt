@@ -3,15 +3,14 @@ use Rattle.std.specs.Prelude.{◌≡◌, ◌<◌, Bool, false, List}
 use Rattle.std.specs.List.{All}
 use Rattle.layout.specs.Types.{INumber, Principal, User, Version}
 use Rattle.principals.specs.Table.{Table}
-use Rattle.principals.specs.TableText.{key as key_form}
 use Rattle.update_cert.specs.Reading.{Reading}
 use Rattle.update_cert.specs.World.{is_table}
 use Rattle.client_tree.specs.View.{tree}
 use Rattle.agreement.specs.Runs.{View}
 use Rattle.agreement.specs.Worlds.{view_in, world}
 use Rattle.client_runs.specs.Released.{views}
-use Rattle.client_runs.specs.Runs.{Event, IsRun, Keys, public_key}
-use Rattle.fork_consistency.specs.Premises.{AddsOwnKeysOf, NoCollision, NoneForgedOf}
+use Rattle.client_runs.specs.Runs.{Event, IsRun, Keys, pinned}
+use Rattle.fork_consistency.specs.Premises.{PinnedIsKey, PremisesOf}
 use Rattle.fork_consistency.specs.ByCertificates.{HasAllUpTo, certificates_up_to}
 use Rattle.fork_consistency.specs.Worlds.{IsReadingOf}
 
@@ -21,13 +20,9 @@ use Rattle.fork_consistency.specs.Worlds.{IsReadingOf}
 abbrev pub IsOutside : (User → Bool) → User → Type 0
 IsOutside stolen u = stolen u ≡ false
 
--- The keys of the users of this set may be anybody's. User 0's is never among them.
-pub record OthersAreHonest (stolen : User → Bool) (keys : Keys) (run : List Event) : Type 0 where
-  pub super : stolen 0 ≡ false
-  pub no_forgery : NoneForgedOf (IsOutside stolen) keys run run
-  pub no_collision : NoCollision keys run
-  pub pinned : key_form.Fits (public_key keys 0)
-  pub added : AddsOwnKeysOf (IsOutside stolen) keys run
+-- The keys of the users of this set may be anybody's. User 0's is never among them; of the others is what is assumed.
+abbrev pub StolenPremises : (User → Bool) → Keys → List Event → Type 0
+StolenPremises stolen keys run = IsOutside stolen 0 × PremisesOf (IsOutside stolen) keys run
 
 -- ---- parts
 
@@ -37,8 +32,8 @@ pub record IsOwnPart (keys : Keys) (run : List Event) (u : User) (x : View) : Ty
   pub number : Version
   pub released : HasAllUpTo number u run
   pub part : (reads : Reading) → IsReadingOf keys run reads → (users : Table) (i : INumber) → is_table u i ≡ false
-      → tree reads users (view_in (public_key keys 0) x) u i
-      ≡ world reads (public_key keys 0) (certificates_up_to number u run) u i
+      → tree reads users (view_in (pinned keys) x) u i
+      ≡ world reads (pinned keys) (certificates_up_to number u run) u i
 
 -- so is that of each user outside the set, in each accepted view
 abbrev pub OwnPartsStand : (User → Bool) → Keys → List Event → Type 0
@@ -50,11 +45,10 @@ abbrev pub OnePart : Keys → List Event → Type 0
 OnePart keys run =
     (u : User) (n : Version) (a b : Reading) → IsReadingOf keys run a → IsReadingOf keys run b
     → (p : Principal) (i : INumber) → p < 96
-    → world a (public_key keys 0) (certificates_up_to n u run) p i
-    ≡ world b (public_key keys 0) (certificates_up_to n u run) p i
+    → world a (pinned keys) (certificates_up_to n u run) p i ≡ world b (pinned keys) (certificates_up_to n u run) p i
 
 -- over each run
 abbrev pub EachRunOfOthers : ((User → Bool) → Keys → List Event → Type 0) → Type 0
 EachRunOfOthers holds =
-    (stolen : User → Bool) (keys : Keys) (run : List Event) → IsRun keys run → OthersAreHonest stolen keys run
-    → holds stolen keys run
+    (stolen : User → Bool) (keys : Keys) (run : List Event) → IsRun keys run → PinnedIsKey keys
+    → StolenPremises stolen keys run → holds stolen keys run

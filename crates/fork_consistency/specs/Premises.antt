@@ -2,7 +2,7 @@
 -- collides, and user 0's client added each user with the user's own key.
 use Rattle.std.specs.Prelude.{◌≡◌, List, [], ◌∷◌, IfSome, true, map}
 use Rattle.std.specs.List.{All, Contains}
-use Rattle.layout.specs.Types.{Bytes, Digest, User}
+use Rattle.layout.specs.Types.{Bytes, Digest, Key, User}
 use Rattle.lms_sign.specs.Signature.{valid}
 use Rattle.itable.specs.File.{NoneCollide}
 use Rattle.principals.specs.TableText.{key as key_form}
@@ -11,7 +11,7 @@ use Rattle.update_cert.specs.Cert.{cert}
 use Rattle.client_releases.specs.Told.{cert_in}
 use Rattle.agreement.specs.Lines.{line}
 use Rattle.release_runs.specs.Released.{unsigned}
-use Rattle.client_runs.specs.Runs.{Event, IsRun, Keys, public_key}
+use Rattle.client_runs.specs.Runs.{Event, IsOwnKey, IsRun, Keys, pinned}
 use Rattle.client_runs.specs.Released.{Shown, hashed, released, shown_by, views}
 use Rattle.client_runs.specs.UsedOnce.{LeavesOnce}
 
@@ -21,11 +21,12 @@ use Rattle.client_runs.specs.UsedOnce.{LeavesOnce}
 abbrev pub HasReleased : User → List Event → Bytes → Type 0
 HasReleased u run text = Contains (map unsigned (released u run)) text
 
--- what verifies under the user's key was released by the user's client, if no two texts that this client released in
--- the whole run carry one leaf number
+-- what verifies under the user's own key was released by the user's client, if no two texts that this client released
+-- in the whole run carry one leaf number
 abbrev pub IsGenuine : Keys → List Event → List Event → Shown → Type 0
 IsGenuine keys whole older t =
-    LeavesOnce t.user whole → valid (public_key keys t.user) t.text t.signature ≡ true → HasReleased t.user older t.text
+    LeavesOnce t.user whole → (key : Key) → IsOwnKey keys t.user key → valid key t.text t.signature ≡ true
+    → HasReleased t.user older t.text
 
 -- all users
 abbrev pub everybody : User → Type 0
@@ -45,7 +46,7 @@ NoCollision keys run = NoneCollide (hashed keys run) (hashed keys run)
 
 -- an action that adds one of these users gives the user's own key
 abbrev pub GivesOwnKeyOf : (User → Type 0) → Keys → Action Digest → Type 0
-GivesOwnKeyOf some keys (AddUser u key) = some u → key ≡ public_key keys u
+GivesOwnKeyOf some keys (AddUser u key) = some u → IsOwnKey keys u key
 GivesOwnKeyOf some keys other = Unit {0}
 
 -- each change of this text does so, if it is a certificate of user 0's
@@ -60,19 +61,24 @@ AddsOwnKeysOf some keys run = All (TextAddsOwnKeysOf some keys) (released 0 run)
 abbrev pub AddsOwnKeys : Keys → List Event → Type 0
 AddsOwnKeys keys run = AddsOwnKeysOf everybody keys run
 
--- that is so, and user 0's key, which every client knows, has the form of a key
-pub record KeysTrue (keys : Keys) (run : List Event) : Type 0 where
-  pub pinned : key_form.Fits (public_key keys 0)
-  pub added : AddsOwnKeys keys run
-
-pub record Premises (keys : Keys) (run : List Event) : Type 0 where
-  pub no_forgery : NoForgery keys run
+-- No signature of these users is forged, no digest collides, and user 0's client added each of them with the user's own
+-- key.
+pub record PremisesOf (some : User → Type 0) (keys : Keys) (run : List Event) : Type 0 where
+  pub no_forgery : NoneForgedOf some keys run run
   pub no_collision : NoCollision keys run
-  pub true_keys : KeysTrue keys run
+  pub added : AddsOwnKeysOf some keys run
+
+abbrev pub Premises : Keys → List Event → Type 0
+Premises keys run = PremisesOf everybody keys run
+
+-- user 0's key, which every client knows, has the form of a key
+abbrev pub PinnedIsKey : Keys → Type 0
+PinnedIsKey keys = key_form.Fits (pinned keys)
 
 -- what holds of each run that meets them
 abbrev pub EachRun : (Keys → List Event → Type 0) → Type 0
-EachRun holds = (keys : Keys) (run : List Event) → IsRun keys run → Premises keys run → holds keys run
+EachRun holds =
+    (keys : Keys) (run : List Event) → IsRun keys run → PinnedIsKey keys → Premises keys run → holds keys run
 
 -- and of each run in which no digest collides, whoever has whose keys
 abbrev pub EachRunApart : (Keys → List Event → Type 0) → Type 0

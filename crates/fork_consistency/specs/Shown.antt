@@ -1,6 +1,6 @@
 -- What a client is told of its accepted view, by looks and by what it tells itself, is so in the tree of that view, and
 -- in the world of the view's line.
-use Rattle.std.specs.Prelude.{◌≡◌, ◌<◌, ◌==◌, List, [], ◌∷◌, ◌++◌, Option, Some, None, Ok, IfSome, IsSomeAnd, find}
+use Rattle.std.specs.Prelude.{◌≡◌, ◌<◌, ◌==◌, List, [], ◌∷◌, Option, Some, None, Ok, IfSome, IsSomeAnd, find}
 use Rattle.std.specs.Prelude.{if◌then◌else◌}
 use Rattle.std.specs.List.{All}
 use Rattle.std.specs.Option.{option_and_then, option_map}
@@ -8,7 +8,7 @@ use Rattle.layout.specs.Types.{Key, User}
 use Rattle.principals.specs.Table.{Table}
 use Rattle.principals.specs.TableText.{table}
 use Rattle.update_cert.specs.Cert.{Cert}
-use Rattle.update_cert.specs.Reading.{Reading, void_read}
+use Rattle.update_cert.specs.Reading.{Reading}
 use Rattle.update_cert.specs.World.{Directory, File, Tree, is_table}
 use Rattle.pending_list.specs.declared.signed.Signed.{Signed}
 use Rattle.version_order.specs.Structure.{Structure}
@@ -21,11 +21,11 @@ use Rattle.client_verify.specs.State.{AcceptedView}
 use Rattle.client_verify.specs.declared.look.Look.TheVariants as look
 use Rattle.agreement.specs.Lines.{line}
 use Rattle.agreement.specs.Runs.{View, user_of}
-use Rattle.agreement.specs.Worlds.{actor_in, table_in, view_in, world}
+use Rattle.agreement.specs.Worlds.{table_in, view_in, world}
 use Rattle.client_steps.specs.Steps.{Call, Client, Closed, Gives, Looks, Open, Sees}
 use Rattle.client_runs.specs.Released.{views}
-use Rattle.client_runs.specs.Runs.{Event, Keys, client_of, public_key}
-use Rattle.fork_consistency.specs.Worlds.{HasUsers, IsReadingOf, IsUsersOf}
+use Rattle.client_runs.specs.Runs.{Event, Keys, client_of, pinned}
+use Rattle.fork_consistency.specs.Worlds.{AreLost, HasUsers, IsReadingOf, IsUsersOf, IsWorldsTable}
 
 -- the view that a user's client accepted last
 abbrev pub last_view : User → List Event → Option View
@@ -88,8 +88,8 @@ pub record IsOfView (reads : Reading) (key : Key) (x : View) (v : AcceptedView) 
 
 -- each accepted view has a tree, and what clients are told is so in those of their views
 pub record HaveTrees (keys : Keys) (run : List Event) (reads : Reading) : Type 0 where
-  pub users : All (HasUsers reads (public_key keys 0)) (views run)
-  pub told : EachTells (IsTrueInView reads (public_key keys 0)) (IsOfView reads (public_key keys 0)) run
+  pub users : All (HasUsers reads (pinned keys)) (views run)
+  pub told : EachTells (IsTrueInView reads (pinned keys)) (IsOfView reads (pinned keys)) run
 
 -- as each reading of the run tells them
 abbrev pub ShowTrees : Keys → List Event → Type 0
@@ -110,13 +110,11 @@ IsTrueInWorld reads key accepted x q answer = IsTrueOf (seen_in reads key (line 
 -- own operation at its place.
 pub record IsOfWorld (reads : Reading) (key : Key) (accepted : List View) (x : View) (v : AcceptedView) : Type 0 where
   pub structures : AreWithOwn x v.structures
-  pub table : v.table ≡ table_in (world reads key (line accepted x))
-  pub lost : (before : List Cert) → line accepted x ≡ before ++ x.lists.own.cert ∷ []
-      → v.lost ≡ void_read reads (actor_in (world reads key before) x.lists.own.cert) x.lists.own.cert.changes
-      (world reads key before)
+  pub table : IsWorldsTable reads key accepted x v.table
+  pub lost : AreLost reads key accepted x v.lost
 
 -- what clients are told is so in the worlds of the lines of their accepted views, as each reading of the run tells them
 abbrev pub ShowWorlds : Keys → List Event → Type 0
 ShowWorlds keys run = (reads : Reading) → IsReadingOf keys run reads
-    → EachTells (IsTrueInWorld reads (public_key keys 0) (views run))
-    (IsOfWorld reads (public_key keys 0) (views run)) run
+    → EachTells (IsTrueInWorld reads (pinned keys) (views run))
+    (IsOfWorld reads (pinned keys) (views run)) run

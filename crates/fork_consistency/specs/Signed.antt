@@ -18,7 +18,7 @@ use Rattle.client_tree.specs.View.{actor_of, handle_of, named, newest, structure
 use Rattle.agreement.specs.Runs.{View}
 use Rattle.agreement.specs.Worlds.{view_in}
 use Rattle.client_runs.specs.Released.{views}
-use Rattle.client_runs.specs.Runs.{Event, IsRun, Keys, public_key}
+use Rattle.client_runs.specs.Runs.{Event, IsRun, Keys, pinned}
 
 -- the key of a user: of user 0 the one that every client knows, of another the one that the table lists
 abbrev pub key_by : Key → Table → User → Option Key
@@ -110,7 +110,7 @@ pub record IsSigned (pinned : Key) (x : View) : Type 0 where
 
 -- so it is with each accepted view
 abbrev pub AreSigned : Keys → List Event → Type 0
-AreSigned keys run = All (IsSigned (public_key keys 0)) (views run)
+AreSigned keys run = All (IsSigned (pinned keys)) (views run)
 
 -- over each run, without any premise
 abbrev pub EachRunAtAll : (Keys → List Event → Type 0) → Type 0

@@ -1,6 +1,6 @@
 -- Views are worlds: what an accepted view of a run tells, by any reading that the run's texts allow, is the world of
 -- the view's line.
-use Rattle.std.specs.Prelude.{◌≡◌, ◌<◌, List, [], ◌∷◌, ◌++◌}
+use Rattle.std.specs.Prelude.{◌≡◌, ◌<◌, ℕ, List, [], ◌∷◌, ◌++◌}
 use Rattle.std.specs.List.{All, Contains}
 use Rattle.layout.specs.Types.{INumber, Key, Principal}
 use Rattle.principals.specs.Table.{Table}
@@ -13,7 +13,7 @@ use Rattle.agreement.specs.Lines.{line}
 use Rattle.agreement.specs.Runs.{View}
 use Rattle.agreement.specs.Worlds.{AllListed, IsGuarded, JudgeAsWorld, NamesTable, actor_in, table_in, view_in, world}
 use Rattle.client_runs.specs.Released.{hashed, views}
-use Rattle.client_runs.specs.Runs.{Event, Keys, public_key}
+use Rattle.client_runs.specs.Runs.{Event, Keys, pinned}
 use Rattle.fork_consistency.specs.Handles.{told_by_texts}
 
 -- ---- readings of a run
@@ -39,18 +39,21 @@ TreeIsWorld reads key accepted x =
     (users : Table) → IsUsersOf reads key x users → (p : Principal) (i : INumber) → p < 96
     → tree reads users (view_in key x) p i ≡ world reads key (line accepted x) p i
 
--- the table is the one of that world
-abbrev pub TableIsWorlds : Reading → Key → List View → View → Type 0
-TableIsWorlds reads key accepted x = x.table ≡ table_in (world reads key (line accepted x))
+-- this is the table of that world
+abbrev pub IsWorldsTable : Reading → Key → List View → View → Table → Type 0
+IsWorldsTable reads key accepted x users = users ≡ table_in (world reads key (line accepted x))
 
--- the numbers that it loses are those of the void changes of the own operation at its place
+-- these are the numbers of the void changes of the own operation, at its place in the line
+abbrev pub AreLost : Reading → Key → List View → View → List ℕ → Type 0
+AreLost reads key accepted x numbers =
+    (before : List Cert) → line accepted x ≡ before ++ x.lists.own.cert ∷ []
+    → numbers ≡ void_read reads (actor_in (world reads key before) x.lists.own.cert) x.lists.own.cert.changes
+    (world reads key before)
+
+-- those that the view loses are
 abbrev pub LosesVoid : Reading → Key → List View → View → Type 0
 LosesVoid reads key accepted x =
-    (users : Table) → IsUsersOf reads key x users → (before : List Cert)
-    → line accepted x ≡ before ++ x.lists.own.cert ∷ []
-    → lost reads users (view_in key x)
-    ≡ void_read reads (actor_in (world reads key before) x.lists.own.cert) x.lists.own.cert.changes
-    (world reads key before)
+    (users : Table) → IsUsersOf reads key x users → AreLost reads key accepted x (lost reads users (view_in key x))
 
 -- along each line an operation changes only its user's part, and those of groups of which the user is a member in the
 -- world before it: as each operation does in each tree, by what changes do
@@ -62,15 +65,15 @@ AllGuarded reads key accepted =
 -- The accepted views of a run are the worlds of their lines, as this reading tells it.
 pub record AreWorldsBy (keys : Keys) (run : List Event) (reads : Reading) : Type 0 where
   -- user 0's handle names a table of principals
-  pub users : All (HasUsers reads (public_key keys 0)) (views run)
+  pub users : All (HasUsers reads (pinned keys)) (views run)
   -- each operation's user is listed in the world before it
-  pub listed : AllListed reads (public_key keys 0) (views run)
-  pub guarded : AllGuarded reads (public_key keys 0) (views run)
-  pub trees : All (TreeIsWorld reads (public_key keys 0) (views run)) (views run)
-  pub tables : All (TableIsWorlds reads (public_key keys 0) (views run)) (views run)
-  pub losses : All (LosesVoid reads (public_key keys 0) (views run)) (views run)
+  pub listed : AllListed reads (pinned keys) (views run)
+  pub guarded : AllGuarded reads (pinned keys) (views run)
+  pub trees : All (TreeIsWorld reads (pinned keys) (views run)) (views run)
+  pub tables : All (λ x. IsWorldsTable reads (pinned keys) (views run) x x.table) (views run)
+  pub losses : All (LosesVoid reads (pinned keys) (views run)) (views run)
   -- who is a member by the view's table at an operation's table version is one in the world before the operation
-  pub judged : JudgeAsWorld reads (public_key keys 0) (views run)
+  pub judged : JudgeAsWorld reads (pinned keys) (views run)
 
 -- they are, as each reading of the run tells it
 abbrev pub AreWorldsIn : Keys → List Event → Type 0
@@ -79,7 +82,7 @@ AreWorldsIn keys run = (reads : Reading) → IsReadingOf keys run reads → AreW
 -- as each reading tells it, the user of each operation of a line is listed in the world before it
 abbrev pub ListUsers : Keys → List Event → Type 0
 ListUsers keys run =
-    (reads : Reading) → IsReadingOf keys run reads → AllListed reads (public_key keys 0) (views run)
+    (reads : Reading) → IsReadingOf keys run reads → AllListed reads (pinned keys) (views run)
 
 -- there is a reading of the run
 abbrev pub CanBeRead : Keys → List Event → Type 0
@@ -90,5 +93,5 @@ abbrev pub OneWorld : Keys → List Event → Type 0
 OneWorld keys run =
     (a b : Reading) → IsReadingOf keys run a → IsReadingOf keys run b
     → All (λ x. (p : Principal) (i : INumber) → p < 96
-    → world a (public_key keys 0) (line (views run) x) p i ≡ world b (public_key keys 0) (line (views run) x) p i)
+    → world a (pinned keys) (line (views run) x) p i ≡ world b (pinned keys) (line (views run) x) p i)
     (views run)

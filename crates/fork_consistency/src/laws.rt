@@ -8,10 +8,10 @@ ghost use Rattle.layout.specs.Types.{User};
 ghost use Rattle.fork_consistency.specs.ByCertificates.{AreByCertificates, EachHonestSuper, HaveTexts};
 ghost use Rattle.fork_consistency.specs.ByCertificates.{ListOwnKeysOf};
 ghost use Rattle.fork_consistency.specs.ForkConsistent.{AreForkConsistent, AtEachMoment, HasNoUser};
-ghost use Rattle.fork_consistency.specs.ForkConsistent.{RunPremises, StandWhereStolen, StolenPremises};
+ghost use Rattle.fork_consistency.specs.ForkConsistent.{StandWhereStolen};
 ghost use Rattle.fork_consistency.specs.Handles.{AllAreWhole, FirstAreWhole, SignsItsTable};
 ghost use Rattle.fork_consistency.specs.LaidFiles.{NameLaidFiles};
-ghost use Rattle.fork_consistency.specs.OwnParts.{EachRunOfOthers, OthersAreHonest};
+ghost use Rattle.fork_consistency.specs.OwnParts.{EachRunOfOthers, StolenPremises};
 ghost use Rattle.fork_consistency.specs.Shown.{ShowTrees, ShowWorlds};
 ghost use Rattle.fork_consistency.specs.Premises.{AddsOwnKeys, EachRun, EachRunApart, Premises, everybody};
 ghost use Rattle.fork_consistency.specs.Signed.{AreSigned, EachRunAtAll};
@@ -73,14 +73,10 @@ pub fn own_parts_stand()
     ensures at_each { EachRunOfOthers (λ stolen keys run. AtEachMoment (StandWhereStolen stolen keys) run) }
 {}
 
-/// Where nobody's key is stolen, the premises of what `run` promises where keys are stolen are those of fork
-/// consistency;
+/// Where nobody's key is stolen, the premises of what holds where keys are stolen are those of fork consistency.
 pub fn stolen_by_nobody()
-    ensures run { (stolen : User → Bool) (run : List Event) → HasNoUser stolen
-        → StolenPremises stolen run ↔ RunPremises run }
-    // and so are those of `own_parts_stand`.
-    ensures laws { (stolen : User → Bool) (keys : Keys) (run : List Event) → HasNoUser stolen
-        → OthersAreHonest stolen keys run ↔ Premises keys run }
+    ensures { (stolen : User → Bool) (keys : Keys) (run : List Event) → HasNoUser stolen
+        → StolenPremises stolen keys run ↔ Premises keys run }
 {}
 
 /// Whoever has whose keys, as long as no digest collides: each accepted view of a run has a tree, and what its client

@@ -22,13 +22,13 @@ use Rattle.checked_blocks.specs.CheckedBlocks.{known_blocks}
 use Rattle.client_verify.specs.declared.view.Looking.{Looking}
 use Rattle.client_verify.specs.State.{AcceptedView, Checked, Reading, State, Writing, asked_of, known, lists_under}
 use Rattle.client_steps.specs.Steps.{Call, Client, Closed, Gives, Hears, IsSound, IsStep, Looks, Open, StepTaken, Takes, principal_of}
-use Rattle.client_runs.specs.Released.{Shown, hashed, hashed_at, released, released_by, shown, shown_by, shown_in, tried_view, views}
+use Rattle.client_runs.specs.Released.{Shown, hashed, hashed_at, released, released_by, shown_by, shown_in, tried_view, views}
 use Rattle.client_runs.specs.Runs.{Event, IsRun, Keys, client_of, owner, public_key}
-use Rattle.client_runs.proofs.Replies.{IsJudged, IsUnder, lists_back, of_lists}
+use Rattle.client_runs.proofs.Replies.{IsJudged, IsUnder, lists_back, of_lists, shown}
 use Rattle.agreement.specs.Runs.{View, user_of}
 use Rattle.agreement.proofs.Formed.{cert_fits}
 use Rattle.agreement.proofs.Members.{In, contains_in, in-append, in-left, in-right, in_contains, of_all, to_all}
-use Rattle.fork_consistency.specs.Premises.{HasReleased, KeysTrue, NoCollision, Premises, TextAddsOwnKeysOf, everybody}
+use Rattle.fork_consistency.specs.Premises.{HasReleased, NoCollision, Premises, TextAddsOwnKeysOf, everybody}
 use Rattle.fork_consistency.specs.Shown.{last_view}
 use Rattle.fork_consistency.proofs.AllFilled.{lists_backed, view_backed}
 use Rattle.fork_consistency.proofs.Among.{AreAmong}
@@ -44,7 +44,7 @@ use Rattle.fork_consistency.proofs.Serving.{AsksServed, CountsOn, HasKnown, IsIn
 use Rattle.honest_runs.specs.HonestRuns.{HonestEvent, IsFound, IsHandedIn, IsHonestRun, events, history, looked_for_by, put_with, stored, wanted_by}
 use Rattle.honest_runs.proofs.Events.{are_runs, events_with, with_step}
 use Rattle.honest_line.proofs.Genuine.{history_released, reply_handed, shown_here}
-use Rattle.honest_line.proofs.Naming.{premises}
+use Rattle.honest_line.proofs.Naming.{KeysTrue, premises}
 use Rattle.honest_line.proofs.Put.{blocks_put, call_put, put_texts, stored_has}
 use Rattle.honest_line.proofs.Shown.{ShowsReleased}
 use Rattle.honest_line.specs.OneLine.{all_texts}

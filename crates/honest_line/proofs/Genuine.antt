@@ -110,7 +110,7 @@ module _ (keys : Keys) where
           → NoneForgedOf everybody keys whole (events_with h.user s (events older))
       go None handed ih = ih
       go (Some s) handed ih = (
-        to_all (λ (t : Shown). everybody t.user → IsGenuine keys whole (events older) t) (shown_by s.call) (λ t i one once v.
+        to_all (λ (t : Shown). everybody t.user → IsGenuine keys whole (events older) t) (shown_by s.call) (λ t i one once k own v.
             shown_here (events older) (are_runs keys older is.1) (history older) before h.user (held (stored older)) h.exchange is.0.sent is.0.answered s.call handed t i),
         ih,
       )

@@ -20,13 +20,13 @@ use Rattle.honest_runs.specs.HonestRuns.{HonestEvent, IsHonestRun, events, histo
 use Rattle.honest_runs.proofs.Events.{are_runs}
 use Rattle.honest_line.specs.Naming.{naming_of}
 use Rattle.honest_line.specs.Answered.{AreAnswered}
-use Rattle.honest_line.specs.OneLine.{HonestPremises, IsUnbroken}
-use Rattle.honest_line.proofs.Naming.{all_hashed, is_naming, one_named, signed_named, super_is_honest}
+use Rattle.honest_line.specs.OneLine.{IsUnbroken}
+use Rattle.honest_line.proofs.Naming.{IsAssumed, all_hashed, is_naming, one_named, signed_named, super_is_honest}
 use Rattle.honest_line.proofs.Blocks.{IsGoodRun, apart_hashed, no_block_refused}
 use Rattle.honest_line.proofs.Promises.{each}
 use Rattle.honest_line.proofs.Simulated.{Grounds, KeepsTo, Simulates, simulates}
 
-module _ (keys : Keys) (run : List HonestEvent) (is : IsHonestRun keys run) (p : HonestPremises keys run) where
+module _ (keys : Keys) (run : List HonestEvent) (is : IsHonestRun keys run) (p : IsAssumed keys run) where
   abbrev es : List Event
   es = events run
 

@@ -1,10 +1,11 @@
 -- What user 0's handles name in a run: no handle names two tables, and what a client reads on a handle from its blocks is
 -- the table that the handle names.
 use Rattle.std.proofs.Common.{◌≡◌, ℕ, ◌==◌, List, ◌∷◌, Option, Some, None, Ok, refl, sym, ap, ◌∙◌, subst, inl, inr, option_to_list}
-use Rattle.std.specs.Prelude.{filter}
+use Rattle.std.specs.Prelude.{filter, length}
 use Rattle.std.specs.List.{flat_map}
 use Rattle.std.proofs.lemmas.Bool.{eq-eqb, eqb-true}
 use Rattle.layout.specs.Types.{Bytes, Handle, Key, User}
+use Rattle.itable.specs.File.{NoneCollide}
 use Rattle.principals.specs.Table.{Table, genesis}
 use Rattle.principals.specs.TableText.{table}
 use Rattle.tree_parts.specs.Blocks.{Blocks}
@@ -20,28 +21,39 @@ use Rattle.agreement.proofs.Members.{In, contains_in, in-filter, in-kept, in-lef
 use Rattle.client_steps.specs.Steps.{Asks, Client, Open, Takes}
 use Rattle.client_runs.specs.Released.{hashed, hashed_at, views}
 use Rattle.client_runs.specs.Runs.{Event, IsRun, Keys, client_of, public_key}
-use Rattle.fork_consistency.specs.ByCertificates.{SuperIsHonest}
 use Rattle.fork_consistency.specs.Handles.{NamesTableAmong, told_by_texts}
-use Rattle.fork_consistency.specs.Premises.{KeysTrue, NoCollision, Premises}
+use Rattle.fork_consistency.specs.Premises.{AddsOwnKeys, NoCollision, PinnedIsKey, Premises}
 use Rattle.fork_consistency.proofs.Among.{AreAmong, agrees_within, among_kept, are_within}
-use Rattle.fork_consistency.proofs.ByCertificates.{first_in, super_honest, view}
+use Rattle.fork_consistency.proofs.ByCertificates.{SuperIsHonest, first_in, super_honest, view}
 use Rattle.fork_consistency.proofs.Origins.{Knows, KnowsClient, known_at}
 use Rattle.fork_consistency.proofs.TableTexts.{first_fits}
 use Rattle.fork_consistency.proofs.Tables.{first_table_named, one_table}
 use Rattle.honest_history.specs.Honest.{NamedTable, Names}
 use Rattle.honest_dialogues.specs.Dialogue.{IsNaming}
 use Rattle.honest_runs.specs.HonestRuns.{HonestEvent, IsHonestRun, events}
+use Rattle.honest_line.specs.OneLine.{all_texts}
 use Rattle.honest_line.specs.Naming.{first_named, named_by, naming_of}
 use Rattle.honest_line.proofs.Genuine.{nothing_forged}
 
 -- ---- premises
 
+-- User 0's key has the form of a key, and user 0's client added each user with the user's own key.
+pub record KeysTrue (keys : Keys) (run : List Event) : Type 0 where
+  pub pinned : PinnedIsKey keys
+  pub added : AddsOwnKeys keys run
+
+-- What is assumed of an honest run and its keys.
+pub record IsAssumed (keys : Keys) (run : List HonestEvent) : Type 0 where
+  pub no_collision : NoneCollide (all_texts keys run) (all_texts keys run)
+  pub true_keys : KeysTrue keys (events run)
+  pub identifiers : (u : User) → length (keys u).id ≡ 16
+
 -- of an honest run the premise on forgery is none
 pub premises : (keys : Keys) (run : List HonestEvent) → IsHonestRun keys run → NoCollision keys (events run) → KeysTrue keys (events run) → Premises keys (events run)
-premises keys run is apart true_keys = record { no_forgery = nothing_forged keys run is; no_collision = apart; true_keys = true_keys }
+premises keys run is apart true_keys = record { no_forgery = nothing_forged keys run is; no_collision = apart; added = true_keys.added }
 
 pub super_is_honest : (keys : Keys) (run : List HonestEvent) → IsHonestRun keys run → NoCollision keys (events run) → KeysTrue keys (events run) → SuperIsHonest keys (events run)
-super_is_honest keys run is apart true_keys = super_honest keys (events run) (premises keys run is apart true_keys)
+super_is_honest keys run is apart true_keys = super_honest keys (events run) true_keys.pinned (premises keys run is apart true_keys)
 
 -- ---- hashed texts
 

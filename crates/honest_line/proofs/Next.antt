@@ -24,13 +24,14 @@ use Rattle.fork_consistency.proofs.Moves.{holds_at, signed_of}
 use Rattle.honest_runs.specs.HonestRuns.{HonestEvent, IsHandedIn, IsHonestRun, IsHonestStep, events, history, put_with, stored}
 use Rattle.honest_runs.proofs.Events.{are_runs, with_step}
 use Rattle.honest_line.specs.GoingOn.{CanGoOn, ClientCanGoOn, HasGoodBlock, LooksAtGoodBlock}
-use Rattle.honest_line.specs.OneLine.{HonestPremises, IsUnbroken, all_texts}
+use Rattle.honest_line.specs.OneLine.{IsUnbroken, all_texts}
+use Rattle.honest_line.proofs.Naming.{IsAssumed}
 use Rattle.honest_line.proofs.Blocks.{asked_of_look, asked_of_reply, fewer_collide}
 use Rattle.honest_line.proofs.Line.{good, grounds, keeps, naming, promised, simulated, texts}
 use Rattle.honest_line.proofs.Promises.{next_commit, next_reply}
 use Rattle.honest_line.proofs.Put.{put_texts, stored_among}
 
-module _ (keys : Keys) (run : List HonestEvent) (is : IsHonestRun keys run) (p : HonestPremises keys run) (u : User) (s : State) (open_is : client_of u (events run) ≡ Open s) where
+module _ (keys : Keys) (run : List HonestEvent) (is : IsHonestRun keys run) (p : IsAssumed keys run) (u : User) (s : State) (open_is : client_of u (events run) ≡ Open s) where
   abbrev es : List Event
   es = events run
 
@@ -73,7 +74,7 @@ module _ (keys : Keys) (run : List HonestEvent) (is : IsHonestRun keys run) (p :
           go true j = subst (λ (ts : List Bytes). In t (ts ++ released 0 es)) silent j
           go false j = j
 
-      premises : HonestPremises keys (h ∷ run)
+      premises : IsAssumed keys (h ∷ run)
       premises = record {
         no_collision = fewer_collide (all_texts keys run) (all_texts keys (h ∷ run)) no_more p.no_collision;
         true_keys = record {
@@ -144,7 +145,7 @@ module _ (keys : Keys) (run : List HonestEvent) (is : IsHonestRun keys run) (p :
       of_view None of w = tt
       of_view (Some v) of w = of_look v of v.looking refl w
 
-pub each_can_go_on : (keys : Keys) (run : List HonestEvent) → IsHonestRun keys run → HonestPremises keys run → (u : User) → ClientCanGoOn keys run u (client_of u (events run))
+pub each_can_go_on : (keys : Keys) (run : List HonestEvent) → IsHonestRun keys run → IsAssumed keys run → (u : User) → ClientCanGoOn keys run u (client_of u (events run))
 each_can_go_on keys run is p u = go (client_of u (events run)) refl
   where
     go : (c : Client) → client_of u (events run) ≡ c → ClientCanGoOn keys run u c

@@ -15,13 +15,13 @@ use Rattle.honest_runs.specs.declared.step.HonestStep.{HonestStep}
 use Rattle.honest_runs.specs.HonestRuns.{HonestEvent, IsHonestRun, events, history}
 use Rattle.honest_runs.specs.Served.{AreServed}
 use Rattle.honest_runs.proofs.Events.{are_runs}
-use Rattle.honest_line.specs.OneLine.{AreOnOneLine, EachHonestRun, HonestPremises, IsOneLine, RunPremises}
+use Rattle.honest_line.specs.OneLine.{AreKeys, AreOnOneLine, EachHonestRun, IsOneLine}
 use Rattle.honest_line.proofs.GoingOn.{all_lead_on}
 use Rattle.honest_line.proofs.Line.{apart, line_of, promised}
-use Rattle.honest_line.proofs.Naming.{premises}
+use Rattle.honest_line.proofs.Naming.{IsAssumed, premises}
 use Rattle.honest_line.proofs.Next.{each_can_go_on}
 
-on_one_line : (keys : Keys) (run : List HonestEvent) → IsHonestRun keys run → HonestPremises keys run → AreOnOneLine keys run
+on_one_line : (keys : Keys) (run : List HonestEvent) → IsHonestRun keys run → IsAssumed keys run → AreOnOneLine keys run
 on_one_line keys run is p =
     let steps = promised keys run is p in
     record {
@@ -30,20 +30,20 @@ on_one_line keys run is p =
       next = each_can_go_on keys run is p;
       lead_on = all_lead_on keys run is steps.0;
       lines = to_all (λ x. IsBeginning (line (views (events run)) x) (placed (public_key keys 0) (history run))) (views (events run)) (line_of keys run is p);
-      consistent = consistent keys (events run) (are_runs keys run is) (premises keys run is (apart keys run is p) p.true_keys);
+      consistent = consistent keys (events run) (are_runs keys run is) p.true_keys.pinned (premises keys run is (apart keys run is p) p.true_keys);
     }
 
 pub each_honest_run : EachHonestRun
-each_honest_run = on_one_line
+each_honest_run keys run is are p = on_one_line keys run is (record {
+  no_collision = p.no_collision;
+  true_keys = record { pinned = are.pinned; added = p.added };
+  identifiers = are.identifiers;
+})
 
 -- ---- steps that are carried out
 
-all_premises : (run : List HonestEvent) → RunPremises run → HonestPremises script_keys run
-all_premises run p = record {
-  no_collision = p.no_collision;
-  true_keys = record { pinned = pinned_fits; added = p.added };
-  identifiers = λ u. length-replicate {A = ℕ} 16 u;
-}
+script_keys_are : AreKeys script_keys
+script_keys_are = record { pinned = pinned_fits; identifiers = λ u. length-replicate {A = ℕ} 16 u }
 
 carried : {A : Type 0} (steps : List (HonestStep A)) (answers : List (Answer A)) → AreServed steps answers → IsOneLine steps answers
 carried steps answers c =
@@ -55,7 +55,7 @@ carried steps answers c =
       leaves = λ u. leaves_once script_keys (events c.run) u run;
       certificates = λ u. certificates_once script_keys (events c.run) u run;
       structures = λ u. structures_once script_keys (events c.run) u run;
-      one_line = λ p. on_one_line script_keys c.run c.is_run (all_premises c.run p);
+      one_line = each_honest_run script_keys c.run c.is_run script_keys_are;
     }
 
 -- so is what a call answers with them

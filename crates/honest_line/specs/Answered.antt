@@ -11,7 +11,7 @@ use Rattle.consistency_server.specs.declared.call.CallKind.TheVariants.{Update}
 use Rattle.consistency_server.specs.State.{state_after, table_after}
 use Rattle.consistency_server.specs.Answers.{Call, at_limit}
 use Rattle.consistency_server.specs.History.{events}
-use Rattle.client_runs.specs.Runs.{Keys, public_key}
+use Rattle.client_runs.specs.Runs.{Keys, pinned}
 use Rattle.honest_runs.specs.HonestRuns.{HonestEvent, history}
 
 -- after these calls the server's table of principals lists the user
@@ -41,5 +41,5 @@ MayAnswer pinned calls u x other = ⊥
 abbrev pub AreAnswered : Keys → List HonestEvent → Type 0
 AreAnswered keys [] = Unit {0}
 AreAnswered keys (h ∷ older) =
-    IfSome h.exchange (λ x. MayAnswer (public_key keys 0) (history older) h.user x.call x.answer.status)
+    IfSome h.exchange (λ x. MayAnswer (pinned keys) (history older) h.user x.call x.answer.status)
     × AreAnswered keys older

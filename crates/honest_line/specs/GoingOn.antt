@@ -13,7 +13,7 @@ use Rattle.client_verify.specs.declared.step.Step.TheVariants as step
 use Rattle.client_verify.specs.declared.view.Looking.{Looking}
 use Rattle.client_verify.specs.State.{Checked, State, asked_of}
 use Rattle.client_steps.specs.Steps.{Begins, Call, Client, Closed, Commits, HasGiven, HasHeard, HasTaken, Hears, Open, Signs, Takes}
-use Rattle.client_runs.specs.Runs.{Keys, client_of, public_key}
+use Rattle.client_runs.specs.Runs.{Keys, client_of, pinned}
 use Rattle.consistency_server.specs.Answers.{Call as ServerCall}
 use Rattle.consistency_server.specs.History.{answer_of, commit_of, update_of}
 use Rattle.honest_runs.specs.HonestRuns.{HonestEvent, events, history, stored}
@@ -42,15 +42,15 @@ LooksAtGoodBlock run s l =
 -- An open client of a user can go on after these steps.
 pub record CanGoOn (keys : Keys) (run : List HonestEvent) (u : User) (s : State) : Type 0 where
   -- A declared operation has a good reply, if its user is listed, and it is at the limit of no version;
-  pub update : s.phase ≡ phase.Declared → is_listed (public_key keys 0) (history run) u ≡ true
-      → ((c : Signed Cert) → (signed cert).spell c ≡ s.text → is_at_limit (public_key keys 0) (history run) c ≡ false)
-      → HasGoodReply (public_key keys 0) (history run) s
+  pub update : s.phase ≡ phase.Declared → is_listed (pinned keys) (history run) u ≡ true
+      → ((c : Signed Cert) → (signed cert).spell c ≡ s.text → is_at_limit (pinned keys) (history run) c ≡ false)
+      → HasGoodReply (pinned keys) (history run) s
   -- blocks that are asked for are good;
   pub block : IfSome s.checked (HasGoodBlock run s)
   pub look : IfSome s.view (λ v. IfSome v.looking (LooksAtGoodBlock run s))
   -- and a signed structure would be taken.
   pub commit : s.phase ≡ phase.Signed
-      → (answer_of (public_key keys 0) (history run) (commit_of s.text)).status ≡ status.Ok
+      → (answer_of (pinned keys) (history run) (commit_of s.text)).status ≡ status.Ok
 
 -- so can each client that is open
 abbrev pub ClientCanGoOn : Keys → List HonestEvent → User → Client → Type 0

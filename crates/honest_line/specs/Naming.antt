@@ -6,7 +6,7 @@ use Rattle.principals.specs.Table.{genesis}
 use Rattle.client_tree.specs.Genesis.{first_handle}
 use Rattle.agreement.specs.Runs.{View, user_of}
 use Rattle.client_runs.specs.Released.{views}
-use Rattle.client_runs.specs.Runs.{Event, Keys, public_key}
+use Rattle.client_runs.specs.Runs.{Event, Keys, pinned}
 use Rattle.honest_history.specs.Honest.{NamedTable, Naming}
 
 -- the handle of the beginning, with the table of the beginning
@@ -19,4 +19,4 @@ named_by x = record { handle = x.signed.handle; table = x.table }
 
 -- the first, and those of user 0's accepted views
 abbrev pub naming_of : Keys → List Event → Naming
-naming_of keys run = first_named (public_key keys 0) ∷ map named_by (filter (λ x. user_of x == 0) (views run))
+naming_of keys run = first_named (pinned keys) ∷ map named_by (filter (λ x. user_of x == 0) (views run))

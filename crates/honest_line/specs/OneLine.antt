@@ -11,11 +11,11 @@ use Rattle.client_steps.specs.Steps.{Call, Gives, Hears, Looks, Takes}
 use Rattle.client_runs.specs.declared.world.Answer.{Answer}
 use Rattle.client_runs.specs.Carried.{script_keys}
 use Rattle.client_runs.specs.Released.{hashed, views}
-use Rattle.client_runs.specs.Runs.{Keys, client_of, public_key}
+use Rattle.client_runs.specs.Runs.{Keys, client_of, pinned}
 use Rattle.client_runs.specs.UsedOnce.{CertificatesOnce, LeavesOnce, StructuresOnce}
 use Rattle.agreement.specs.Lines.{IsBeginning, line}
 use Rattle.fork_consistency.specs.ForkConsistent.{AreForkConsistent}
-use Rattle.fork_consistency.specs.Premises.{AddsOwnKeys, KeysTrue}
+use Rattle.fork_consistency.specs.Premises.{AddsOwnKeys, PinnedIsKey}
 use Rattle.honest_history.specs.Placed.{placed}
 use Rattle.honest_runs.specs.declared.step.HonestStep.{HonestStep}
 use Rattle.honest_runs.specs.HonestRuns.{HonestEvent, IsHonestRun, events, history}
@@ -53,33 +53,31 @@ pub record AreOnOneLine (keys : Keys) (run : List HonestEvent) : Type 0 where
   -- and what was taken led on.
   pub lead_on : AllLeadOn run
   -- The line of each accepted view is a beginning of what the server placed,
-  pub lines : All (λ x. IsBeginning (line (views (events run)) x) (placed (public_key keys 0) (history run)))
+  pub lines : All (λ x. IsBeginning (line (views (events run)) x) (placed (pinned keys) (history run)))
       (views (events run))
   -- and what it shows is the world of that line.
   pub consistent : AreForkConsistent keys (events run)
 
--- No digest collides, user 0's key has the form of a key, user 0's client added each user with the user's own key, and
--- each key's identifier has 16 bytes.
+-- No digest collides, and user 0's client added each user with the user's own key.
 pub record HonestPremises (keys : Keys) (run : List HonestEvent) : Type 0 where
   pub no_collision : NoneCollide (all_texts keys run) (all_texts keys run)
-  pub true_keys : KeysTrue keys (events run)
+  pub added : AddsOwnKeys keys (events run)
+
+-- User 0's key has the form of a key, and each key's identifier has 16 bytes.
+pub record AreKeys (keys : Keys) : Type 0 where
+  pub pinned : PinnedIsKey keys
   pub identifiers : (u : User) → length (keys u).id ≡ 16
 
 -- so it is over each honest run
 abbrev pub EachHonestRun : Type 0
 EachHonestRun =
-    (keys : Keys) (run : List HonestEvent) → IsHonestRun keys run → HonestPremises keys run → AreOnOneLine keys run
+    (keys : Keys) (run : List HonestEvent) → IsHonestRun keys run → AreKeys keys → HonestPremises keys run
+    → AreOnOneLine keys run
 
 -- ---- steps that are carried out
 
--- No digest collides, and user 0's client added each user with the user's own key. That the keys of scripts have the
--- form of keys, and identifiers of 16 bytes, is no premise: it is proved.
-pub record RunPremises (run : List HonestEvent) : Type 0 where
-  pub no_collision : NoneCollide (all_texts script_keys run) (all_texts script_keys run)
-  pub added : AddsOwnKeys script_keys (events run)
-
 -- The steps with their answers are an honest run; what its clients release is used once; and under the premises all
--- stand in one line.
+-- stand in one line. That the keys of scripts are keys is no premise: it is proved.
 pub record IsOneLine {A : Type 0} (steps : List (HonestStep A)) (answers : List (Answer A)) : Type 0 where
   pub run : List HonestEvent
   pub is_run : IsHonestRun script_keys run
@@ -87,4 +85,4 @@ pub record IsOneLine {A : Type 0} (steps : List (HonestStep A)) (answers : List 
   pub leaves : (u : User) → LeavesOnce u (events run)
   pub certificates : (u : User) → CertificatesOnce u (events run)
   pub structures : (u : User) → StructuresOnce u (events run)
-  pub one_line : RunPremises run → AreOnOneLine script_keys run
+  pub one_line : HonestPremises script_keys run → AreOnOneLine script_keys run

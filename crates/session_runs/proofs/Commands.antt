@@ -12,7 +12,8 @@ use Rattle.file_session.specs.declared.stop.Stop.{Stop}
 use Rattle.file_session.specs.Sessions.{IsCarriedOut, IsCommand, IsDone, IsResumed, Resumed}
 use Rattle.file_session.specs.Went.{Agrees, Answering, Begun, Event, Saw, Seen, Signed, Unplanned, looks, signs}
 use Rattle.session_runs.specs.Lives.{Carried}
-use Rattle.session_runs.specs.Told.{AreTold, AreWritten, IsAnswered, IsOwn, IsOwnOperation, Loses, MovesTell, OfChanges, OfNumber, Operation, TellsWorlds, seen_by, signed_texts}
+use Rattle.fork_consistency.specs.Worlds.{AreLost}
+use Rattle.session_runs.specs.Told.{AreTold, AreWritten, IsAnswered, IsOwn, IsOwnOperation, MovesTell, OfChanges, OfNumber, Operation, TellsWorlds, seen_by, signed_texts}
 
 module _ (reads : Reading) (key : Key) (accepted : List View) (u : User) (texts : List Bytes) where
   abbrev Told : Option View → Operation → List Event → Type 0
@@ -70,13 +71,13 @@ module _ (reads : Reading) (key : Key) (accepted : List View) (u : User) (texts 
   -- the numbers of the operation that was finished first
   resumed_told : (s : State) (signed : List (List ℕ)) (es : List Event) (result : Result Answer Stop) (resumed : Option Resumed) (new : State) → IsResumed s signed es result resumed new
       → (last : Option View) → Told last (OfNumber s.number) (signs signed ++ es) → (r : Resumed) → resumed ≡ Some r
-      → (x : View) × IsOwn accepted u texts x × IsOwnOperation (OfNumber r.number) x × Loses reads key accepted x r.lost
+      → (x : View) × IsOwn accepted u texts x × IsOwnOperation (OfNumber r.number) x × AreLost reads key accepted x r.lost
   resumed_told s signed [] result resumed new is last told r at = absurd (let none : None ≡ Some r = sym is.1 ∙ at in cc none)
   resumed_told s signed (e ∷ es) result None new is last told r at = absurd (cc at)
   resumed_told s signed (e ∷ es) result (Some q) new is last told r at =
       let same : q ≡ r = cc at in
       let of : Told last (OfNumber s.number) (Signed q.lost ∷ (e ∷ es)) = subst (λ (l : List (List ℕ)). Told last (OfNumber s.number) (signs l ++ (e ∷ es))) is.2 told in
-      (of.0, of.1, of.2 ∙ sym is.1 ∙ ap (λ (y : Resumed). y.number) same, subst (λ (y : Resumed). Loses reads key accepted of.0 y.lost) same of.3)
+      (of.0, of.1, of.2 ∙ sym is.1 ∙ ap (λ (y : Resumed). y.number) same, subst (λ (y : Resumed). AreLost reads key accepted of.0 y.lost) same of.3)
 
 -- ---- a command
 

@@ -8,7 +8,7 @@ use Rattle.client_runs.specs.OfUsers.{steps_of}
 use Rattle.client_runs.specs.Runs.{Event, IsRun, Keys, client_of, owner}
 use Rattle.commands.specs.Answers.{Answer}
 use Rattle.commands.specs.declared.command.Command.{Command}
-use Rattle.fork_consistency.specs.Premises.{Premises}
+use Rattle.fork_consistency.specs.Premises.{PinnedIsKey, Premises}
 use Rattle.file_session.specs.declared.stop.Stop.{Stop}
 use Rattle.file_session.specs.Calls.{step_of}
 use Rattle.file_session.specs.Order.{Calls, Move, resuming}
@@ -93,4 +93,4 @@ LivesAreRuns answers = (keys : Keys) (lives : User → List (Deed answers)) (run
 -- what holds of each of them that meets the premises
 abbrev pub EachLives : {T : Type 0} → Answering T → (Keys → List Event → Type 0) → Type 0
 EachLives answers holds = (keys : Keys) (lives : User → List (Deed answers)) (run : List Event)
-    → AreLives answers keys lives run → Premises keys run → holds keys run
+    → AreLives answers keys lives run → PinnedIsKey keys → Premises keys run → holds keys run

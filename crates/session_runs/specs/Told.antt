@@ -3,23 +3,21 @@ use Rattle.std.specs.Prelude.{◌≡◌, ◌⊎◌, ℕ, List, [], ◌∷◌, �
 use Rattle.std.specs.List.{All, Contains, flat_map}
 use Rattle.layout.specs.Types.{Bytes, Digest, Key, User, Version}
 use Rattle.version_order.specs.Structure.{Structure, structure}
-use Rattle.update_cert.specs.Cert.{Cert}
 use Rattle.update_cert.specs.Change.{Change}
-use Rattle.update_cert.specs.Reading.{Reading, void_read}
+use Rattle.update_cert.specs.Reading.{Reading}
 use Rattle.update_cert.specs.World.{Content, Tree}
 use Rattle.pending_list.specs.declared.signed.Signed.{Signed}
 use Rattle.pending_list.specs.Signed.{signed}
 use Rattle.agreement.specs.Lines.{line}
 use Rattle.agreement.specs.Runs.{View, user_of}
-use Rattle.agreement.specs.Worlds.{actor_in, world}
 use Rattle.client_runs.specs.Released.{views}
-use Rattle.client_runs.specs.Runs.{Event, Keys, public_key}
+use Rattle.client_runs.specs.Runs.{Event, Keys, pinned}
 use Rattle.commands.specs.Answers.{Answer}
 use Rattle.commands.specs.Asked.{Tells, Writes, outcome, told_of_lost}
 use Rattle.commands.specs.declared.command.Command.{Command}
-use Rattle.fork_consistency.specs.Premises.{Premises}
+use Rattle.fork_consistency.specs.Premises.{PinnedIsKey, Premises}
 use Rattle.fork_consistency.specs.Shown.{seen_in}
-use Rattle.fork_consistency.specs.Worlds.{IsReadingOf}
+use Rattle.fork_consistency.specs.Worlds.{AreLost, IsReadingOf}
 use Rattle.file_session.specs.Calls.{Signs}
 use Rattle.file_session.specs.Declaring.{all_declared}
 use Rattle.file_session.specs.Order.{Calls, Move}
@@ -52,13 +50,6 @@ pub record IsOwn (accepted : List View) (u : User) (texts : List Bytes) (x : Vie
 abbrev pub seen_by : Reading → Key → List View → View → Tree
 seen_by reads key accepted x = seen_in reads key (line accepted x)
 
--- these are the numbers of the void changes of the view's own operation, at its place in the line
-abbrev pub Loses : Reading → Key → List View → View → List ℕ → Type 0
-Loses reads key accepted x lost =
-    (before : List Cert) → line accepted x ≡ before ++ x.lists.own.cert ∷ []
-    → lost ≡ void_read reads (actor_in (world reads key before) x.lists.own.cert) x.lists.own.cert.changes
-    (world reads key before)
-
 -- ---- its own operation
 
 -- an operation: by its number the one that was declared before a session, and by its changes one that the session began
@@ -85,7 +76,7 @@ AreTold reads key accepted u texts last begun (Saw s ∷ es) =
     IsSomeAnd last (λ x. IsSeenIn (seen_by reads key accepted x) s.question s.answer)
     × AreTold reads key accepted u texts last begun es
 AreTold reads key accepted u texts last begun (Numbers lost ∷ es) =
-    (x : View) × IsOwn accepted u texts x × IsOwnOperation begun x × Loses reads key accepted x lost
+    (x : View) × IsOwn accepted u texts x × IsOwnOperation begun x × AreLost reads key accepted x lost
     × AreTold reads key accepted u texts (Some x) begun es
 
 -- from the view on that the client had, and its operation of this number
@@ -109,7 +100,7 @@ pub record AreWritten (reads : Reading) (key : Key) (accepted : List View) (u : 
   pub own : IsOwn accepted u texts view
   pub declared : IsOwnOperation (OfChanges (all_declared wanted)) view
   pub lost : List ℕ
-  pub loses : Loses reads key accepted view lost
+  pub loses : AreLost reads key accepted view lost
   pub told : answer ≡ told_of_lost lost
 
 -- In the world of the line of a view over which the session signed, the own operation of which is a look, without
@@ -131,7 +122,7 @@ pub record TellsWorlds {T : Type 0} (answers : Answering T) (reads : Reading) (k
       → IsAnswered reads key accepted u (signed_texts c.ran.moves) c.command answer
   pub resumed : (r : Resumed) → c.resumed ≡ Some r
       → (x : View) × IsOwn accepted u (signed_texts c.ran.moves) x × IsOwnOperation (OfNumber r.number) x
-      × Loses reads key accepted x r.lost
+      × AreLost reads key accepted x r.lost
 
 -- so is what each deed tells, also of a session that is cut short
 abbrev pub IsTold : {T : Type 0} (answers : Answering T) → Reading → Key → List View → User → Deed answers → Type 0
@@ -142,5 +133,5 @@ IsTold answers reads key accepted u (Takes s) = Unit {0}
 -- In lives that meet the premises of fork consistency, as each reading of the run's texts tells it.
 abbrev pub SessionsTellWorlds : {T : Type 0} → Answering T → Type 0
 SessionsTellWorlds answers = (keys : Keys) (lives : User → List (Deed answers)) (run : List Event)
-    → AreLives answers keys lives run → Premises keys run → (reads : Reading) → IsReadingOf keys run reads
-    → (u : User) → All (IsTold answers reads (public_key keys 0) (views run) u) (lives u)
+    → AreLives answers keys lives run → PinnedIsKey keys → Premises keys run → (reads : Reading)
+    → IsReadingOf keys run reads → (u : User) → All (IsTold answers reads (pinned keys) (views run) u) (lives u)

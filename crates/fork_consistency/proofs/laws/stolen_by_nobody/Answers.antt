@@ -1,8 +1,5 @@
-use Rattle.fork_consistency.proofs.Premises.{honest_of_nobody, of_nobody}
+use Rattle.fork_consistency.proofs.Premises.{of_nobody}
 use Rattle.fork_consistency.proofs.laws.stolen_by_nobody.Goals as goal
 
-pub returns-clause-run : goal.returns-clause-run
-returns-clause-run c = of_nobody
-
-pub returns-clause-laws : goal.returns-clause-laws
-returns-clause-laws c = honest_of_nobody
+pub returns : goal.returns
+returns c = of_nobody
