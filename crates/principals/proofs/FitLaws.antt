@@ -1,7 +1,7 @@
 -- What is changed at a number that is no less than those before still has a text.
 use Rattle.std.proofs.Common.{◌≡◌, ◌≢◌, ℕ, ◌+◌, ◌-◌, ◌<◌, ◌≤◌, Bool, true, false, cond, ◌||◌, ◌⊎◌, List, [], ◌∷◌, ◌++◌, length, Option, Some, None, refl, sym, ap, subst, ◌∙◌, append_assoc, inl, inr, arith, map}
 use Rattle.std.specs.Prelude.{◌==◌, is_some, nat_le}
-use Rattle.std.specs.Int.{w16, w32}
+use Rattle.std.specs.Int.{w8, w16, w32}
 use Rattle.std.specs.List.{All, list_any, slice_get}
 use Rattle.std.specs.Option.{option_map, option_map_or}
 use Rattle.std.specs.Ordering.{nat_cmp, is_eq}
@@ -11,16 +11,16 @@ use Rattle.std.proofs.lemmas.List.{append-nil, length-append, length-map, map-ap
 use Rattle.std.proofs.lemmas.List.Elements.{All-head, All-tail}
 use Rattle.std.proofs.lemmas.Option.{slice_get-map, slice_get_cases}
 use Rattle.layout.specs.Format.{FitRows, uint_in}
-use Rattle.layout.specs.Laws.{in_range_fits}
+use Rattle.layout.specs.Laws.{in_range, in_range_fits}
 use Rattle.layout.specs.Ranges.{user, group, version}
 use Rattle.layout.specs.Ascending.{row_at, with_row}
 use Rattle.layout.specs.AscendingLaws.{row_at-with_row}
 use Rattle.principals.specs.declared.table.Listing.{Listing}
 use Rattle.principals.specs.declared.table.Row.{Row}
 use Rattle.principals.specs.Table.{user_of, lists_user, is_open, is_member_now, ended}
-use Rattle.principals.specs.TableText.{users, row, member_rows, last_begins, may_end, table}
+use Rattle.principals.specs.TableText.{key, users, row, member_rows, last_begins, may_end, table}
 use Rattle.principals.proofs.Parts.{made}
-use Rattle.principals.proofs.Users.{found_is, lists_is}
+use Rattle.principals.proofs.Users.{fits_added, found_is, lists_is, positive, with_first}
 use Rattle.principals.proofs.MarksLaws.{others_open}
 
 -- ---- more users
@@ -49,6 +49,17 @@ rows_of_more us vs before (r ∷ rows) more fits =
 pub user_fits : (s : Listing) (os : List Listing) (rows : List Row) (l : Listing) → table.Fits (made (s ∷ os) rows) → users.Fits (s ∷ with_row nat_cmp user_of os l) → table.Fits (made (s ∷ with_row nat_cmp user_of os l) rows)
 user_fits s os rows l fits new =
     (new, (fits.1.0, (refl, rows_of_more (s ∷ os) (s ∷ with_row nat_cmp user_of os l) [] rows (λ u. or_more (s.user == u) (list_any (λ x. x.user == u) os) (list_any (λ x. x.user == u) (with_row nat_cmp user_of os l)) (more_listed os l u)) fits.1.1.1)))
+
+neither : (a b : Bool) → (a || b) ≡ false → a ≡ false
+neither true b e = absurd (cc e)
+neither false b e = refl
+
+-- a user is listed that wasn't
+pub listed_fits : (us : List Listing) (rows : List Row) (l : Listing) → table.Fits (made us rows) → user.Fits l.user → version.Fits l.since → key.Fits l.key → lists_user (made us rows) l.user ≡ false → table.Fits (made (with_row nat_cmp user_of us l) rows)
+listed_fits [] rows l fits u n k none = absurd (let range = in_range w8 1 255 0 fits.0.0 in omega (arith, range.0))
+listed_fits (s ∷ os) rows l fits u n k none =
+    let above = positive s os l.user fits.0 (neither (s.user == l.user) (list_any (λ x. x.user == l.user) os) none) in
+    subst (λ (us : List Listing). table.Fits (made us rows)) (sym (with_first s os l fits.0 above)) (user_fits s os rows l fits (fits_added s os l fits.0 (u, n, k) above))
 
 -- ---- one more row
 

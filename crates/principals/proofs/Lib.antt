@@ -1,9 +1,10 @@
 mod Bools
-mod FitLaws
+pub mod FitLaws
 mod InTurn
+pub mod Keys
 mod LineLaws
 mod MarksLaws
 mod OpenLaws
-mod Parts
-mod SizeLaws
-mod Users
+pub mod Parts
+pub mod SizeLaws
+pub mod Users

@@ -1,14 +1,14 @@
 -- How long the text of a table is.
-use Rattle.std.proofs.Common.{◌≡◌, ℕ, ◌+◌, ◌*◌, ◌≤◌, List, [], ◌∷◌, ◌++◌, length, Option, Some, None, refl, sym, ap, ◌∙◌, arith}
+use Rattle.std.proofs.Common.{◌≡◌, ℕ, ◌*◌, ◌≤◌, List, [], ◌∷◌, ◌++◌, length, Option, Some, None, refl, ◌∙◌, arith}
 use Rattle.std.specs.Int.{Width, w8, w16, w32, byte_len}
 use Rattle.std.proofs.lemmas.List.{length-append}
-use Rattle.layout.specs.Format.{be, spell_rows, uint_in}
+use Rattle.layout.specs.Format.{be, spell_rows}
 use Rattle.layout.specs.Laws.{IsWide, wide8, wide16, wide32}
 use Rattle.layout.specs.Sizes.{AtMost, at_most_guarded, at_most_listed, at_most_mapped, at_most_pair, at_most_raw, at_most_uint_in}
 use Rattle.principals.specs.declared.table.Listing.{Listing}
 use Rattle.principals.specs.declared.table.Row.{Row}
 use Rattle.principals.specs.Table.{Table}
-use Rattle.principals.specs.TableText.{key, listing, listed_at, member_rows, table, users, who, with_next, without_rows}
+use Rattle.principals.specs.TableText.{listing, listed_at, member_rows, table, users, who, with_next, without_rows}
 
 be_size : (w : Width) → IsWide w → (n : ℕ) → length (be w n) ≡ byte_len w
 unfolding be

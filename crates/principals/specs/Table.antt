@@ -1,7 +1,7 @@
 -- The table of principals: who is a user, since when and by which key, and who is a member of which group.
 use Rattle.std.specs.Prelude.{◌≡◌, ◌⊎◌, Bool, not, List, [], ◌∷◌, ◌++◌, length, Option, Some, None, Result, Ok, Err, ◌==◌, ◌&&◌, ◌||◌, nat_lt, nat_le, find, map, if◌then◌else◌}
 use Rattle.std.specs.List.{list_any}
-use Rattle.std.specs.Option.{option_map}
+use Rattle.std.specs.Option.{option_and_then, option_map}
 use Rattle.std.specs.Ordering.{nat_cmp}
 use Rattle.layout.specs.Ascending.{with_row}
 use Rattle.layout.specs.Types.{Group, Key, Principal, User, Version}
@@ -27,6 +27,14 @@ listing_of user table = find (λ l. l.user == user) table.users
 
 abbrev pub key_of : User → Table → Option Key
 key_of user table = option_map (λ l. l.key) (listing_of user table)
+
+-- the key of a listing, where it is since this number of user 0's or before
+abbrev pub listed_key_at : Version → Listing → Option Key
+listed_key_at version l = if nat_le l.since version then Some l.key else None
+
+-- the key of a user at this number of user 0's
+abbrev pub key_at : User → Version → Table → Option Key
+key_at user version table = option_and_then (listed_key_at version) (listing_of user table)
 
 -- the number of user 0's that listed the user
 abbrev pub since : User → Table → Option Version

@@ -6,7 +6,7 @@ ghost use Rattle.std.specs.Option.{option_copied};
 ghost use Rattle.std.specs.List.{list_any};
 ghost use Rattle.std.specs.Ordering.{nat_cmp};
 ghost use Rattle.layout.specs.Ascending.{Ascends, Stands, IsFree, row_at};
-ghost use Rattle.principals.specs.Table.{user_of, listing_of, user_refused, ended, Told};
+ghost use Rattle.principals.specs.Table.{user_of, listing_of, listed_key_at, user_refused, ended, Told};
 ghost use Rattle.principals.specs.TableText.{key as key_format, users, without_rows};
 ghost use Rattle.principals.specs.declared.error.TableError.TheVariants as table_error;
 
@@ -82,6 +82,16 @@ fn is_since(others: &[Listing], user: User, number: u32) -> bool
     others
         .iter()
         .any(|listing| listing.user == user && listing.since <= number)
+}
+
+/// The key of a listing, where it is since this number or before.
+fn listed_key_at(listing: &Listing, version: u32) -> Option<PublicKey>
+    ensures { result ≡ listed_key_at version listing.now }
+{
+    if version < listing.since {
+        return None;
+    }
+    Some(listing.key)
 }
 
 /// Where a user stands among the others, or where it would stand.
@@ -176,7 +186,7 @@ impl<A: Allocator + Copy> Table<A> {
 }
 
 impl<A: Allocator> Table<A> {
-    ghost use Rattle.principals.specs.Table.{key_of, since, is_listed, lists_user, is_member, is_member_now};
+    ghost use Rattle.principals.specs.Table.{key_of, key_at, since, is_listed, lists_user, is_member, is_member_now};
     ghost use Rattle.principals.specs.Table.{user_added, member_added, member_dropped, member_refused, drop_refused};
     ghost use Rattle.principals.specs.TableText.{table as table_format, with_next, last_begins, NoneAfter};
 
@@ -199,6 +209,14 @@ impl<A: Allocator> Table<A> {
     {
         let listing = self.listing_of(user)?;
         Some(listing.key)
+    }
+
+    /// The key of a user at this number of user 0's. None where it is listed later, or not at all.
+    pub fn key_at(&self, user: User, version: u32) -> Option<PublicKey>
+        ensures { result ≡ key_at user version self.now }
+    {
+        let listing = self.listing_of(user)?;
+        listed_key_at(listing, version)
     }
 
     /// The number of user 0's operation that listed a user; 0 for user 0 itself. None where it isn't listed.

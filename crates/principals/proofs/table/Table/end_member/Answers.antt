@@ -1,4 +1,4 @@
-use Rattle.std.proofs.Common.{◌≡◌, ◌≢◌, ◌∷◌, length, map, arith}
+use Rattle.std.proofs.Common.{◌≢◌, ◌∷◌, arith}
 use Rattle.std.specs.Int.{w32}
 use Rattle.std.proofs.lemmas.List.{length-map}
 use Rattle.layout.specs.Laws.{in_range_fits}
