@@ -168,20 +168,20 @@ with_effect : (a : Actor) (c : Change Content) (x : Option Content) → has_effe
 unfolding content_after
 with_effect a c x e = rw e refl
 
-table_becomes : (u n p i : ℕ) (t : Table) (a : Action Content) → action_fits u p i a (Some (Principals t)) ≡ true
+table_becomes : (actor : Actor) (n p i : ℕ) (t : Table) (a : Action Content) → action_fits actor p i a (Some (Principals t)) ≡ true
     → (w : Table) × (becomes n a (Some (Principals t)) ≡ Some (Principals w)) × Grows n t w
-table_becomes u n p i t (Make new) h = absurd (false≢true h)
-table_becomes u n p i t (Put new) h = absurd (false≢true h)
-table_becomes u n p i t Remove h = absurd (false≢true h)
-table_becomes u n p i t (Link entry) h = absurd (false≢true h)
-table_becomes u n p i t (Unlink name) h = absurd (false≢true h)
-table_becomes u n p i t (AddUser v key) h = (user_added n v key t, refl, grows_user n v key t (not-true (lists_user t v) (and_parts (is_table p i) (not (lists_user t v)) h).1))
-table_becomes u n p i t (AddMember g v) h = (member_added n g v t, refl, grows_member n g v t)
-table_becomes u n p i t (DropMember g v) h = (member_dropped n g v t, refl, grows_drop n g v t)
+table_becomes actor n p i t (Make new) h = absurd (false≢true h)
+table_becomes actor n p i t (Put new) h = absurd (false≢true h)
+table_becomes actor n p i t Remove h = absurd (false≢true h)
+table_becomes actor n p i t (Link entry) h = absurd (false≢true h)
+table_becomes actor n p i t (Unlink name) h = absurd (false≢true h)
+table_becomes actor n p i t (AddUser v key) h = (user_added n v key t, refl, grows_user n v key t (not-true (lists_user t v) (and_parts (is_table p i) (not (lists_user t v)) h).1))
+table_becomes actor n p i t (AddMember g v) h = (member_added n g v t, refl, grows_member n g v t)
+table_becomes actor n p i t (DropMember g v) h = (member_dropped n g v t, refl, grows_drop n g v t)
 
-does_fit : (a : Actor) (c : Change Content) (x : Option Content) → has_effect a c x ≡ true → fits a.user c x ≡ true
+does_fit : (a : Actor) (c : Change Content) (x : Option Content) → has_effect a c x ≡ true → fits a c x ≡ true
 unfolding has_effect
-does_fit a c x h = (and_parts (permitted a c) (fits a.user c x) h).1
+does_fit a c x h = (and_parts (permitted a c) (fits a c x) h).1
 
 -- a change of what is a table leaves one
 pub table_stays : (a : Actor) (c : Change Content) (t : Table) → (w : Table) × (content_after a c (Some (Principals t)) ≡ Some (Principals w)) × Grows a.number t w
@@ -189,6 +189,6 @@ table_stays a c t =
     elim (cases_Bool (has_effect a c (Some (Principals t)))) [
       | inr f ↦ (t, without_effect a c (Some (Principals t)) f, grows_same a.number t)
       | inl e ↦ (
-          let k = table_becomes a.user a.number c.principal c.i_number t c.action (does_fit a c (Some (Principals t)) e) in
+          let k = table_becomes a a.number c.principal c.i_number t c.action (does_fit a c (Some (Principals t)) e) in
           (k.0, with_effect a c (Some (Principals t)) e ∙ k.1, k.2))
     ]

@@ -4,7 +4,6 @@ use Rattle.std.specs.Prelude.{◌⊎◌}
 use Rattle.std.proofs.lemmas.Bool.{and_parts, eqb-true}
 use Rattle.layout.specs.Types.{Digest, INumber, Key, Principal}
 use Rattle.principals.specs.Table.{Table}
-use Rattle.update_cert.specs.Cert.{cert}
 use Rattle.update_cert.specs.Change.{Change}
 use Rattle.update_cert.specs.Reading.{Reading, after_read, read_change}
 use Rattle.update_cert.specs.World.{Actor, Content, Tree, after, after_change, becomes, content_after, fits, has_effect, permitted}
@@ -14,7 +13,7 @@ use Rattle.reply_rules.specs.Lists.{items}
 use Rattle.agreement.specs.Runs.{View}
 use Rattle.agreement.specs.Worlds.{view_in}
 use Rattle.agreement.proofs.Members.{In, in-filter, in-left, in-right, in_contains}
-use Rattle.fork_consistency.specs.Signed.{ChangesAreCaused, HasCause, IsSignedBy}
+use Rattle.fork_consistency.specs.Signed.{ChangesAreCaused, HasCause, IsCertSignedByItsUser}
 
 module _ (p : Principal) (i : INumber) where
   -- among the changes one of this place, that this actor may make
@@ -27,7 +26,7 @@ module _ (p : Principal) (i : INumber) where
 
   may_change : (actor : Actor) (c : Change Content) (content : Option Content) → has_effect actor c content ≡ true → permitted actor c ≡ true
   unfolding has_effect
-  may_change actor c content effect = (and_parts (permitted actor c) (fits actor.user c content) effect).0
+  may_change actor c content effect = (and_parts (permitted actor c) (fits actor c content) effect).0
 
   one_change : (actor : Actor) (reads : Reading) (c : Change Digest) (cs : List (Change Digest)) (tree : Tree) → (after_change actor (read_change reads c) tree p i ≡ tree p i) ⊎ IsAmong actor (c ∷ cs)
   unfolding content_after
@@ -71,7 +70,7 @@ module _ (p : Principal) (i : INumber) where
         | inr found ↦ inr (record { item = found.item; within = inr found.within; among = found.among })
       ]
 
-module _ (pinned : Key) (x : View) (certificates : (k : PendingItem) → In k (items x.lists) → IsSignedBy pinned x.table k.cert.user (cert.spell k.cert) k.signature) where
+module _ (pinned : Key) (x : View) (certificates : (k : PendingItem) → In k (items x.lists) → IsCertSignedByItsUser pinned x.table k) where
   cause : (p : Principal) (i : INumber) (k : PendingItem) → In k (items x.lists) → IsAmong p i (actor_of x.table k) k.cert.changes → HasCause pinned x p i
   cause p i k within a = record {
     pending = k;

@@ -85,12 +85,12 @@ edit_step reads c s made es es2 false true at makes is = ap (λ (x : List Entry)
 edit_step reads c s made es es2 false false at makes is = refl
 
 -- in a directory that is opened
-pub edit_acts : (reads : Reading) (user : ℕ) (c : Change Digest) (old new : Part) (made es es2 : List Entry) (fitted : Bool) → IsPart old → opened_at old c.i_number ≡ Some es → fitted ≡ fits user c (Some (Directory es))
-    → ((i : ℕ) → slot_here new i ≡ (if c.i_number == i then Some (Changed (laid_under (slot_here old i)) es2) else slot_here old i)) → Makes reads c.action es made → es2 ≡ (if fitted then made else es) → Acts reads user c old new fitted
-edit_acts reads user c old new made es es2 fitted part there fit news makes is =
+pub edit_acts : (reads : Reading) (actor : Actor) (c : Change Digest) (old new : Part) (made es es2 : List Entry) (fitted : Bool) → IsPart old → opened_at old c.i_number ≡ Some es → fitted ≡ fits actor c (Some (Directory es))
+    → ((i : ℕ) → slot_here new i ≡ (if c.i_number == i then Some (Changed (laid_under (slot_here old i)) es2) else slot_here old i)) → Makes reads c.action es made → es2 ≡ (if fitted then made else es) → Acts reads actor c old new fitted
+edit_acts reads actor c old new made es es2 fitted part there fit news makes is =
     let here : slot_here old c.i_number ≡ Some (Changed (laid_under (slot_here old c.i_number)) es) = slot_opened es (opened_at old c.i_number) (digest_at old.table c.i_number) there (part.mapped c.i_number (ap is_some there)) in
     record {
-      is_fit = fit ∙ ap (λ (s : Option Slot). fits user c (content_in reads s)) (sym here);
+      is_fit = fit ∙ ap (λ (s : Option Slot). fits actor c (content_in reads s)) (sym here);
       slots = λ i. news i ∙ edit_step reads c (slot_here old i) made es es2 fitted (c.i_number == i) (λ t. subst (λ (k : ℕ). slot_here old k ≡ Some (Changed (laid_under (slot_here old k)) es)) (eqb-true c.i_number i t) here) makes is;
     }
 
@@ -100,16 +100,16 @@ open_step reads c s made es es2 true at makes is = ap (λ (x : List Entry). Some
 open_step reads c s made es es2 false at makes is = refl
 
 -- in one that wasn't: it is opened
-pub open_acts : (reads : Reading) (user : ℕ) (c : Change Digest) (old new : Part) (made es es2 : List Entry) → stands_here reads old c.i_number ≡ Some (Directory es) → true ≡ fits user c (Some (Directory es))
-    → ((i : ℕ) → slot_here new i ≡ (if c.i_number == i then Some (Changed (laid_under (slot_here old i)) es2) else slot_here old i)) → Makes reads c.action es made → es2 ≡ made → Acts reads user c old new true
-open_acts reads user c old new made es es2 here fit news makes is = record {
-  is_fit = fit ∙ ap (fits user c) (sym here);
+pub open_acts : (reads : Reading) (actor : Actor) (c : Change Digest) (old new : Part) (made es es2 : List Entry) → stands_here reads old c.i_number ≡ Some (Directory es) → true ≡ fits actor c (Some (Directory es))
+    → ((i : ℕ) → slot_here new i ≡ (if c.i_number == i then Some (Changed (laid_under (slot_here old i)) es2) else slot_here old i)) → Makes reads c.action es made → es2 ≡ made → Acts reads actor c old new true
+open_acts reads actor c old new made es es2 here fit news makes is = record {
+  is_fit = fit ∙ ap (fits actor c) (sym here);
   slots = λ i. news i ∙ open_step reads c (slot_here old i) made es es2 (c.i_number == i) (λ t. sym (ap (stands_here reads old) (eqb-true c.i_number i t)) ∙ here) makes is;
 }
 
 -- where it doesn't fit, all stays
-pub void_acts : (reads : Reading) (user : ℕ) (c : Change Digest) (part : Part) → fits user c (stands_here reads part c.i_number) ≡ false → Acts reads user c part part false
-void_acts reads user c part fit = record { is_fit = sym fit; slots = λ i. refl }
+pub void_acts : (reads : Reading) (actor : Actor) (c : Change Digest) (part : Part) → fits actor c (stands_here reads part c.i_number) ≡ false → Acts reads actor c part part false
+void_acts reads actor c part fit = record { is_fit = sym fit; slots = λ i. refl }
 
 pub no_room : (name : List ℕ) (content : Option Content) → None ≡ listed content → has_room name content ≡ false
 no_room name None none = refl
@@ -176,21 +176,21 @@ is_so true is = refl
 is_so false is = absurd cc
 
 -- where it doesn't matter what stands at a place, no action of a part fits there
-none_fits : (user p i : ℕ) (a : Action Digest) (content : Option Content) → is_table p i ≡ false → needs_slot user p i a ≡ false → action_fits user p i a content ≡ false
-none_fits user p i (Make new) content place none = rw none (and-false (not (is_some content)))
-none_fits user p i (Put new) content place none = absurd cc
-none_fits user p i Remove content place none = let root : is_root p i ≡ true = is_so (is_root p i) none in rw (place, root) (and-false (is_removable content))
-none_fits user p i (Link entry) content place none = absurd cc
-none_fits user p i (Unlink name) content place none = absurd cc
-none_fits user p i (AddUser u key) content place none = rw place refl
-none_fits user p i (AddMember g u) content place none = rw place refl
-none_fits user p i (DropMember g u) content place none = rw place refl
+none_fits : (actor : Actor) (p i : ℕ) (a : Action Digest) (content : Option Content) → is_table p i ≡ false → needs_slot actor.user p i a ≡ false → action_fits actor p i a content ≡ false
+none_fits actor p i (Make new) content place none = rw none (and-false (not (is_some content)))
+none_fits actor p i (Put new) content place none = absurd cc
+none_fits actor p i Remove content place none = let root : is_root p i ≡ true = is_so (is_root p i) none in rw (place, root) (and-false (is_removable content))
+none_fits actor p i (Link entry) content place none = absurd cc
+none_fits actor p i (Unlink name) content place none = absurd cc
+none_fits actor p i (AddUser u key) content place none = rw place refl
+none_fits actor p i (AddMember g u) content place none = rw place refl
+none_fits actor p i (DropMember g u) content place none = rw place refl
 
 pub unneeded : (reads : Reading) (actor : Actor) (c : Change Digest) (s : Option Slot) → is_table c.principal c.i_number ≡ false → needs_slot actor.user c.principal c.i_number c.action ≡ false → slot_changes reads actor c s ≡ false
 unfolding slot_changes has_effect
 unneeded reads actor c s place none =
     rw place
-    (ap (λ (t : Bool). permitted actor c && t) (none_fits actor.user c.principal c.i_number c.action (content_in reads s) place none) ∙ and-false (permitted actor c))
+    (ap (λ (t : Bool). permitted actor c && t) (none_fits actor c.principal c.i_number c.action (content_in reads s) place none) ∙ and-false (permitted actor c))
 
 unchanged : (reads : Reading) (actor : Actor) (c : Change Digest) (s : Option Slot) → slot_changes reads actor c s ≡ false → slot_after_change reads actor c s ≡ s
 unfolding slot_after_change
@@ -205,18 +205,18 @@ pub slots_still : (reads : Reading) (actor : Actor) (c : Change Digest) (s : Opt
 slots_still reads actor c s i not = either (c.i_number == i) (slot_after_change reads actor c s) s (unchanged reads actor c s not)
 
 -- all else has effect where it fits
-changes_fits : (reads : Reading) (actor : Actor) (c : Change Digest) (s : Option Slot) (user : ℕ) → is_table c.principal c.i_number ≡ false → permitted actor c ≡ true → actor.user ≡ user → slot_changes reads actor c s ≡ fits user c (content_in reads s)
+changes_fits : (reads : Reading) (actor : Actor) (c : Change Digest) (s : Option Slot) → is_table c.principal c.i_number ≡ false → permitted actor c ≡ true → slot_changes reads actor c s ≡ fits actor c (content_in reads s)
 unfolding slot_changes has_effect
-changes_fits reads actor c s user place may is = rw (place, may, is) refl
+changes_fits reads actor c s place may = rw (place, may) refl
 
 -- an action at a loaded i-number, said of the slots at all i-numbers
-pub record Follows (reads : Reading) (user : ℕ) (c : Change Digest) (old new : Part) (fitted : Bool) : Type 0 where
-  pub is_fit : fitted ≡ fits user c (stands_at reads old c.i_number)
+pub record Follows (reads : Reading) (actor : Actor) (c : Change Digest) (old new : Part) (fitted : Bool) : Type 0 where
+  pub is_fit : fitted ≡ fits actor c (stands_at reads old c.i_number)
   pub slots : (i : ℕ) → slot_at reads new i ≡ (if fitted && (c.i_number == i) then slot_becomes reads c.action (slot_at reads old i) else slot_at reads old i)
 
-pub has_acted : (reads : Reading) (user : ℕ) (actor : Actor) (c : Change Digest) (old new : Part) (fitted : Bool) → is_table c.principal c.i_number ≡ false → permitted actor c ≡ true → actor.user ≡ user → Follows reads user c old new fitted
+pub has_acted : (reads : Reading) (actor : Actor) (c : Change Digest) (old new : Part) (fitted : Bool) → is_table c.principal c.i_number ≡ false → permitted actor c ≡ true → Follows reads actor c old new fitted
     → fitted ≡ slot_changes reads actor c (slot_at reads old c.i_number)
-has_acted reads user actor c old new fitted place may is acts = acts.is_fit ∙ sym (changes_fits reads actor c (slot_at reads old c.i_number) user place may is)
+has_acted reads actor c old new fitted place may acts = acts.is_fit ∙ sym (changes_fits reads actor c (slot_at reads old c.i_number) place may)
 
 change_step : (reads : Reading) (actor : Actor) (c : Change Digest) (s : Option Slot) (fitted t : Bool) → (t ≡ true → fitted ≡ slot_changes reads actor c s) → (if fitted && t then slot_becomes reads c.action s else s) ≡ (if t then slot_after_change reads actor c s else s)
 unfolding slot_after_change
@@ -225,11 +225,11 @@ change_step reads actor c s false true is = rw (sym (is refl)) refl
 change_step reads actor c s true false is = refl
 change_step reads actor c s false false is = refl
 
-pub slots_acted : (reads : Reading) (user : ℕ) (actor : Actor) (c : Change Digest) (old new : Part) (fitted : Bool) (i : ℕ) → is_table c.principal c.i_number ≡ false → permitted actor c ≡ true → actor.user ≡ user → Follows reads user c old new fitted
+pub slots_acted : (reads : Reading) (actor : Actor) (c : Change Digest) (old new : Part) (fitted : Bool) (i : ℕ) → is_table c.principal c.i_number ≡ false → permitted actor c ≡ true → Follows reads actor c old new fitted
     → slot_at reads new i ≡ (if c.i_number == i then slot_after_change reads actor c (slot_at reads old i) else slot_at reads old i)
-slots_acted reads user actor c old new fitted i place may is acts =
+slots_acted reads actor c old new fitted i place may acts =
     acts.slots i
-    ∙ change_step reads actor c (slot_at reads old i) fitted (c.i_number == i) (λ t. has_acted reads user actor c old new fitted place may is acts ∙ ap (λ (k : ℕ). slot_changes reads actor c (slot_at reads old k)) (eqb-true c.i_number i t))
+    ∙ change_step reads actor c (slot_at reads old i) fitted (c.i_number == i) (λ t. has_acted reads actor c old new fitted place may acts ∙ ap (λ (k : ℕ). slot_changes reads actor c (slot_at reads old k)) (eqb-true c.i_number i t))
 
 -- ---- the table of principals stays a table
 
@@ -240,20 +240,20 @@ chosen : (fit : Bool) (new old : Table) → IsTableContent (if fit then Some (Pr
 chosen true new old = (new, refl)
 chosen false new old = (old, refl)
 
-table_stays : (number user p i : ℕ) (may : Bool) (a : Action Content) (t : Table) → IsTableContent (if may && action_fits user p i a (Some (Principals t)) then becomes number a (Some (Principals t)) else Some (Principals t))
-table_stays number user p i false a t = (t, refl)
-table_stays number user p i true (Make new) t = (t, refl)
-table_stays number user p i true (Put new) t = (t, refl)
-table_stays number user p i true Remove t = (t, refl)
-table_stays number user p i true (Link entry) t = (t, refl)
-table_stays number user p i true (Unlink name) t = (t, refl)
-table_stays number user p i true (AddUser u key) t = chosen _ (user_added number u key t) t
-table_stays number user p i true (AddMember g u) t = chosen _ (member_added number g u t) t
-table_stays number user p i true (DropMember g u) t = chosen _ (member_dropped number g u t) t
+table_stays : (number : ℕ) (actor : Actor) (p i : ℕ) (may : Bool) (a : Action Content) (t : Table) → IsTableContent (if may && action_fits actor p i a (Some (Principals t)) then becomes number a (Some (Principals t)) else Some (Principals t))
+table_stays number actor p i false a t = (t, refl)
+table_stays number actor p i true (Make new) t = (t, refl)
+table_stays number actor p i true (Put new) t = (t, refl)
+table_stays number actor p i true Remove t = (t, refl)
+table_stays number actor p i true (Link entry) t = (t, refl)
+table_stays number actor p i true (Unlink name) t = (t, refl)
+table_stays number actor p i true (AddUser u key) t = chosen _ (user_added number u key t) t
+table_stays number actor p i true (AddMember g u) t = chosen _ (member_added number g u t) t
+table_stays number actor p i true (DropMember g u) t = chosen _ (member_dropped number g u t) t
 
 table_after : (actor : Actor) (c : Change Content) (content : Option Content) → IsTableContent content → IsTableContent (content_after actor c content)
 unfolding content_after has_effect
-table_after actor c content (t, is) = rw is (table_stays actor.number actor.user c.principal c.i_number (permitted actor c) c.action t)
+table_after actor c content (t, is) = rw is (table_stays actor.number actor c.principal c.i_number (permitted actor c) c.action t)
 
 kept_if : (t : Bool) (new old : Option Content) → IsTableContent new → IsTableContent old → IsTableContent (if t then new else old)
 kept_if true new old changed stays = changed
@@ -264,33 +264,33 @@ has_table_after actor c tree has = kept_if ((0 == c.principal) && (1 == c.i_numb
 
 no_effect_there : (actor : Actor) (c : Change Digest) (content : Option Content) → changes_table c.action ≡ false → IsTableContent content → has_effect actor c content ≡ false
 unfolding has_effect
-no_effect_there actor c content other (t, is) = rw is (rw (other_void actor.user c.principal c.i_number c.action t other) (and-false (permitted actor c)))
+no_effect_there actor c content other (t, is) = rw is (rw (other_void actor c.principal c.i_number c.action t other) (and-false (permitted actor c)))
 
 -- ---- what stands, from the slots
 
-content_becomes : (reads : Reading) (number user p i : ℕ) (a : Action Digest) (s : Option Slot) → is_table p i ≡ false → action_fits user p i a (content_in reads s) ≡ true → content_in reads (slot_becomes reads a s) ≡ becomes number (read_action reads a) (content_in reads s)
-content_becomes reads number user p i (Make inode) s place fit = refl
-content_becomes reads number user p i (Put inode) s place fit = refl
-content_becomes reads number user p i Remove s place fit = refl
-content_becomes reads number user p i (Link entry) s place fit = refl
-content_becomes reads number user p i (Unlink name) s place fit = refl
-content_becomes reads number user p i (AddUser u key) s place fit = let clash = rw place at fit in absurd cc
-content_becomes reads number user p i (AddMember g u) s place fit = let clash = rw place at fit in absurd cc
-content_becomes reads number user p i (DropMember g u) s place fit = let clash = rw place at fit in absurd cc
+content_becomes : (reads : Reading) (number : ℕ) (actor : Actor) (p i : ℕ) (a : Action Digest) (s : Option Slot) → is_table p i ≡ false → action_fits actor p i a (content_in reads s) ≡ true → content_in reads (slot_becomes reads a s) ≡ becomes number (read_action reads a) (content_in reads s)
+content_becomes reads number actor p i (Make inode) s place fit = refl
+content_becomes reads number actor p i (Put inode) s place fit = refl
+content_becomes reads number actor p i Remove s place fit = refl
+content_becomes reads number actor p i (Link entry) s place fit = refl
+content_becomes reads number actor p i (Unlink name) s place fit = refl
+content_becomes reads number actor p i (AddUser u key) s place fit = let clash = rw place at fit in absurd cc
+content_becomes reads number actor p i (AddMember g u) s place fit = let clash = rw place at fit in absurd cc
+content_becomes reads number actor p i (DropMember g u) s place fit = let clash = rw place at fit in absurd cc
 
-content_step : (reads : Reading) (number user p i : ℕ) (a : Action Digest) (s : Option Slot) (may : Bool) → is_table p i ≡ false
-    → content_in reads (if may && action_fits user p i a (content_in reads s) then slot_becomes reads a s else s)
-    ≡ (if may && action_fits user p i a (content_in reads s) then becomes number (read_action reads a) (content_in reads s) else content_in reads s)
-content_step reads number user p i a s false place = refl
-content_step reads number user p i a s true place = elim (action_fits user p i a (content_in reads s)) as (λ t. (action_fits user p i a (content_in reads s) ≡ t) → content_in reads (if t then slot_becomes reads a s else s) ≡ (if t then becomes number (read_action reads a) (content_in reads s) else content_in reads s)) [
-  | true ↦ λ fit. content_becomes reads number user p i a s place fit
+content_step : (reads : Reading) (number : ℕ) (actor : Actor) (p i : ℕ) (a : Action Digest) (s : Option Slot) (may : Bool) → is_table p i ≡ false
+    → content_in reads (if may && action_fits actor p i a (content_in reads s) then slot_becomes reads a s else s)
+    ≡ (if may && action_fits actor p i a (content_in reads s) then becomes number (read_action reads a) (content_in reads s) else content_in reads s)
+content_step reads number actor p i a s false place = refl
+content_step reads number actor p i a s true place = elim (action_fits actor p i a (content_in reads s)) as (λ t. (action_fits actor p i a (content_in reads s) ≡ t) → content_in reads (if t then slot_becomes reads a s else s) ≡ (if t then becomes number (read_action reads a) (content_in reads s) else content_in reads s)) [
+  | true ↦ λ fit. content_becomes reads number actor p i a s place fit
   | false ↦ λ fit. refl
 ] refl
 
 content_is_after : (reads : Reading) (actor : Actor) (c : Change Digest) (s : Option Slot) → is_table c.principal c.i_number ≡ false → content_in reads (slot_after_change reads actor c s) ≡ content_after actor (read_change reads c) (content_in reads s)
 unfolding slot_after_change slot_changes content_after has_effect
 content_is_after reads actor c s place =
-    rw (place, fits_read reads actor.user c.principal c.i_number c.action (content_in reads s)) (content_step reads actor.number actor.user c.principal c.i_number c.action s (permitted actor c) place)
+    rw (place, fits_read reads actor c.principal c.i_number c.action (content_in reads s)) (content_step reads actor.number actor c.principal c.i_number c.action s (permitted actor c) place)
 
 followed_step : (reads : Reading) (actor : Actor) (c : Change Digest) (s : Option Slot) (content : Option Content) (t : Bool) → (t ≡ true → is_table c.principal c.i_number ≡ false) → content ≡ content_in reads s
     → (if t then content_after actor (read_change reads c) content else content) ≡ content_in reads (if t then slot_after_change reads actor c s else s)

@@ -20,7 +20,7 @@ use Rattle.itable.specs.ITable.{ITable, IsTable, IsListed, digest_at, digest_in,
 use Rattle.itable.proofs.Runs.{other_key, same_key}
 use Rattle.itable.proofs.RootLaws.{lists, unloaded_listed}
 use Rattle.update_cert.specs.Change.{Action, Change}
-use Rattle.update_cert.specs.World.{fits}
+use Rattle.update_cert.specs.World.{Actor, fits}
 use Rattle.update_cert.specs.Reading.{Reading}
 use Rattle.tree_parts.specs.Blocks.{Blocks, Agrees, chunk_held, inode_told, root_at, told_by}
 use Rattle.tree_parts.specs.Spot.{lacks}
@@ -350,7 +350,7 @@ module _ (blocks : Blocks) (r : Root) (part : Part) (held : root_at blocks (hand
 
 -- ---- an action at a loaded i-number, said of all i-numbers
 
-module _ (reads : Reading) (user i : ℕ) (a : Action Digest) (first old new : Part) (fitted : Bool) (whose : old.table.principal ≡ first.table.principal) (here : loaded old.table i ≡ true) (slots : (k : ℕ) → slot_at reads old k ≡ slot_at reads first k)
+module _ (reads : Reading) (actor : Actor) (i : ℕ) (a : Action Digest) (first old new : Part) (fitted : Bool) (whose : old.table.principal ≡ first.table.principal) (here : loaded old.table i ≡ true) (slots : (k : ℕ) → slot_at reads old k ≡ slot_at reads first k)
     (same : OnSame old new) where
   abbrev there : Change Digest
   there = change_at first i a
@@ -364,7 +364,7 @@ module _ (reads : Reading) (user i : ℕ) (a : Action Digest) (first old new : P
   slot_first : (k : ℕ) → loaded old.table k ≡ true → slot_here old k ≡ slot_at reads first k
   slot_first k at = sym (slot_loaded reads old k at) ∙ slots k
 
-  follow_step : (k : ℕ) (t : Bool) → loaded old.table k ≡ t → Acts reads user there old new fitted
+  follow_step : (k : ℕ) (t : Bool) → loaded old.table k ≡ t → Acts reads actor there old new fitted
       → slot_at reads new k ≡ (if fitted && (i == k) then slot_becomes reads a (slot_at reads first k) else slot_at reads first k)
   follow_step k true at acts =
       slot_loaded reads new k (loaded_still k ∙ at)
@@ -379,17 +379,17 @@ module _ (reads : Reading) (user i : ℕ) (a : Action Digest) (first old new : P
       ∙ slots k
       ∙ sym (ap (λ (t : Bool). if t then slot_becomes reads a (slot_at reads first k) else slot_at reads first k) stays)
 
-  followed : Acts reads user there old new fitted → Follows reads user there first new fitted
+  followed : Acts reads actor there old new fitted → Follows reads actor there first new fitted
   followed acts = record {
-    is_fit = acts.is_fit ∙ ap (λ (s : Option Slot). fits user there (content_in reads s)) (slot_first i here);
+    is_fit = acts.is_fit ∙ ap (λ (s : Option Slot). fits actor there (content_in reads s)) (slot_first i here);
     slots = λ k. follow_step k (loaded old.table k) refl acts;
   }
 
-  pub follows : Acts reads user (change_at old i a) old new fitted → Follows reads user there first new fitted
-  follows acts = followed (subst (λ (p : ℕ). Acts reads user (record { principal = p; i_number = i; action = a }) old new fitted) whose acts)
+  pub follows : Acts reads actor (change_at old i a) old new fitted → Follows reads actor there first new fitted
+  follows acts = followed (subst (λ (p : ℕ). Acts reads actor (record { principal = p; i_number = i; action = a }) old new fitted) whose acts)
 
 -- of what was tried
-pub tried : (reads : Reading) (user i : ℕ) (a : Action Digest) (first old new : Part) (r : Result Bool ApplyError) → old.table.principal ≡ first.table.principal → loaded old.table i ≡ true → ((k : ℕ) → slot_at reads old k ≡ slot_at reads first k) → OnOk r (OnSame old new)
-    → IfOk r (λ fitted. Acts reads user (change_at old i a) old new fitted) → IfOk r (λ fitted. Follows reads user (change_at first i a) first new fitted)
-tried reads user i a first old new (Ok fitted) whose here slots same acts = follows reads user i a first old new fitted whose here slots same acts
-tried reads user i a first old new (Err e) whose here slots same acts = tt
+pub tried : (reads : Reading) (actor : Actor) (i : ℕ) (a : Action Digest) (first old new : Part) (r : Result Bool ApplyError) → old.table.principal ≡ first.table.principal → loaded old.table i ≡ true → ((k : ℕ) → slot_at reads old k ≡ slot_at reads first k) → OnOk r (OnSame old new)
+    → IfOk r (λ fitted. Acts reads actor (change_at old i a) old new fitted) → IfOk r (λ fitted. Follows reads actor (change_at first i a) first new fitted)
+tried reads actor i a first old new (Ok fitted) whose here slots same acts = follows reads actor i a first old new fitted whose here slots same acts
+tried reads actor i a first old new (Err e) whose here slots same acts = tt

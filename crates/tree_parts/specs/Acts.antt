@@ -5,7 +5,7 @@ use Rattle.std.specs.Option.{option_map, option_map_or}
 use Rattle.itable.specs.Inode.{Inode}
 use Rattle.directory.specs.Directory.{Entry}
 use Rattle.update_cert.specs.Change.{Action, Change}
-use Rattle.layout.specs.Types.{Digest, INumber, Principal, User}
+use Rattle.layout.specs.Types.{Digest, INumber, Principal}
 use Rattle.update_cert.specs.World.{Content, File, Directory, Principals, Actor, Tree, fits, has_effect, is_of}
 use Rattle.update_cert.specs.Reading.{Reading}
 use Rattle.tree_parts.specs.Blocks.{Blocks, ForEachReading}
@@ -34,10 +34,10 @@ pub record OnSame (old new : Part) : Type 0 where
 abbrev pub change_at : Part → INumber → Action Digest → Change Digest
 change_at part i action = record { principal = part.table.principal; i_number = i; action = action }
 
--- The answer tells whether the change fits what stands at its i-number, whose chunk is loaded. Where it does, the slot
--- there is what the action makes of it; all else is as before.
-pub record Acts (reads : Reading) (user : User) (c : Change Digest) (old new : Part) (fitted : Bool) : Type 0 where
-  pub is_fit : fitted ≡ fits user c (stands_here reads old c.i_number)
+-- The answer tells whether the change, of this actor's operation, fits what stands at its i-number, whose chunk is
+-- loaded. Where it does, the slot there is what the action makes of it; all else is as before.
+pub record Acts (reads : Reading) (actor : Actor) (c : Change Digest) (old new : Part) (fitted : Bool) : Type 0 where
+  pub is_fit : fitted ≡ fits actor c (stands_here reads old c.i_number)
   pub slots : (i : INumber) → slot_here new i ≡ (if fitted && (c.i_number == i) then slot_becomes reads c.action (slot_here old i) else slot_here old i)
 
 -- the change is done in this principal's part, and has no effect on the tree

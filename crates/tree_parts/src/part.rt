@@ -139,8 +139,8 @@ impl<A: Allocator> Part<A> {
     /// What the i-node of this digest is of stands at an i-number from now on, if nothing stood there.
     fn make(&mut self, user: User, i_number: INumber, digest: Digest) -> Result<bool, Memory>
         requires loaded { loaded self.old.table i_number ≡ true }
-        ensures acts { (reads : Reading)
-            → IfOk result (λ fitted. Acts reads user (change_at self.old i_number (Make digest)) self.old self.new
+        ensures acts { (reads : Reading) (actor : Actor) → actor.user ≡ user
+            → IfOk result (λ fitted. Acts reads actor (change_at self.old i_number (Make digest)) self.old self.new
             fitted) }
         ensures same { OnOk result (OnSame self.old self.new) }
     {
@@ -300,8 +300,8 @@ impl<A: Allocator + Copy> Part<A> {
     ) -> Result<bool, ApplyError>
         requires loaded { loaded self.old.table i_number ≡ true }
         ensures acts { ForEachReading (B.held blocks.now) (λ reads.
-            (user : ℕ) → IfOk result (λ fitted.
-            Acts reads user (change_at self.old i_number (Put digest)) self.old self.new fitted)) }
+            (actor : Actor) → IfOk result (λ fitted.
+            Acts reads actor (change_at self.old i_number (Put digest)) self.old self.new fitted)) }
         ensures same { OnOk result (OnSame self.old self.new) }
         ensures missing { IfErr result
             (Lacks (B.held blocks.now) (LiesAt (B.held blocks.now) self.old i_number false)) }
@@ -329,8 +329,8 @@ impl<A: Allocator + Copy> Part<A> {
     ) -> Result<bool, ApplyError>
         requires loaded { loaded self.old.table i_number ≡ true }
         ensures acts { ForEachReading (B.held blocks.now) (λ reads.
-            (user : ℕ) → IfOk result (λ fitted.
-            Acts reads user (change_at self.old i_number Remove) self.old self.new fitted)) }
+            (actor : Actor) → IfOk result (λ fitted.
+            Acts reads actor (change_at self.old i_number Remove) self.old self.new fitted)) }
         ensures same { OnOk result (OnSame self.old self.new) }
         // The root directory stays, whatever is held.
         ensures missing { IfErr result
@@ -375,8 +375,8 @@ impl<A: Allocator + Copy> Part<A> {
     ) -> Result<bool, ApplyError>
         requires loaded { loaded self.old.table i_number ≡ true }
         ensures acts { ForEachReading (B.held blocks.now) (λ reads.
-            (user : ℕ) → IfOk result (λ fitted.
-            Acts reads user (change_at self.old i_number (Link entry.now)) self.old self.new fitted)) }
+            (actor : Actor) → IfOk result (λ fitted.
+            Acts reads actor (change_at self.old i_number (Link entry.now)) self.old self.new fitted)) }
         ensures same { OnOk result (OnSame self.old self.new) }
         ensures missing { IfErr result
             (Lacks (B.held blocks.now) (LiesAt (B.held blocks.now) self.old i_number true)) }
@@ -411,8 +411,8 @@ impl<A: Allocator + Copy> Part<A> {
     ) -> Result<bool, ApplyError>
         requires loaded { loaded self.old.table i_number ≡ true }
         ensures acts { ForEachReading (B.held blocks.now) (λ reads.
-            (user : ℕ) → IfOk result (λ fitted.
-            Acts reads user (change_at self.old i_number (Unlink name.now)) self.old self.new fitted)) }
+            (actor : Actor) → IfOk result (λ fitted.
+            Acts reads actor (change_at self.old i_number (Unlink name.now)) self.old self.new fitted)) }
         ensures same { OnOk result (OnSame self.old self.new) }
         ensures missing { IfErr result
             (Lacks (B.held blocks.now) (LiesAt (B.held blocks.now) self.old i_number true)) }
@@ -444,7 +444,8 @@ impl<A: Allocator + Copy> Part<A> {
     ) -> Result<bool, ApplyError>
         requires loaded { loaded self.old.table i_number ≡ true }
         ensures acts { ForEachReading (B.held blocks.now) (λ reads.
-            IfOk result (λ fitted. Acts reads user (change_at self.old i_number (action_of action.now)) self.old
+            (actor : Actor) → actor.user ≡ user
+            → IfOk result (λ fitted. Acts reads actor (change_at self.old i_number (action_of action.now)) self.old
             self.new fitted)) }
         ensures same { OnOk result (OnSame self.old self.new) }
         ensures missing { IfErr result

@@ -9,19 +9,19 @@ use Rattle.update_cert.specs.World.{Content, Principals, Actor, permitted, has_e
 use Rattle.update_cert.specs.Reading.{Reading, read_action, read_change}
 
 -- whether a change fits doesn't depend on what its digest stands for
-pub fits_read : (reads : Reading) (user p i : ℕ) (a : Action Digest) (content : Option Content) → action_fits user p i (read_action reads a) content ≡ action_fits user p i a content
-fits_read reads user p i (Make new) content = refl
-fits_read reads user p i (Put new) content = refl
-fits_read reads user p i Remove content = refl
-fits_read reads user p i (Link entry) content = refl
-fits_read reads user p i (Unlink name) content = refl
-fits_read reads user p i (AddUser u key) content = refl
-fits_read reads user p i (AddMember g u) content = refl
-fits_read reads user p i (DropMember g u) content = refl
+pub fits_read : (reads : Reading) (actor : Actor) (p i : ℕ) (a : Action Digest) (content : Option Content) → action_fits actor p i (read_action reads a) content ≡ action_fits actor p i a content
+fits_read reads actor p i (Make new) content = refl
+fits_read reads actor p i (Put new) content = refl
+fits_read reads actor p i Remove content = refl
+fits_read reads actor p i (Link entry) content = refl
+fits_read reads actor p i (Unlink name) content = refl
+fits_read reads actor p i (AddUser u key) content = refl
+fits_read reads actor p i (AddMember g u) content = refl
+fits_read reads actor p i (DropMember g u) content = refl
 
 pub effect_read : (reads : Reading) (actor : Actor) (c : Change Digest) (content : Option Content) → has_effect actor (read_change reads c) content ≡ has_effect actor c content
 unfolding has_effect
-effect_read reads actor c content = ap (λ (t : Bool). permitted actor c && t) (fits_read reads actor.user c.principal c.i_number c.action content)
+effect_read reads actor c content = ap (λ (t : Bool). permitted actor c && t) (fits_read reads actor c.principal c.i_number c.action content)
 
 -- nor whether it is one of the table
 pub kind_read : (reads : Reading) (a : Action Digest) → changes_table (read_action reads a) ≡ changes_table a
@@ -35,15 +35,15 @@ kind_read reads (AddMember g u) = refl
 kind_read reads (DropMember g u) = refl
 
 -- no change but those of the table fits where the table of principals stands
-pub other_void : {C : Type 0} (user p i : ℕ) (a : Action C) (t : Table) → changes_table a ≡ false → action_fits user p i a (Some (Principals t)) ≡ false
-other_void user p i (Make new) t other = refl
-other_void user p i (Put new) t other = refl
-other_void user p i Remove t other = refl
-other_void user p i (Link entry) t other = refl
-other_void user p i (Unlink name) t other = refl
-other_void user p i (AddUser u key) t other = absurd cc
-other_void user p i (AddMember g u) t other = absurd cc
-other_void user p i (DropMember g u) t other = absurd cc
+pub other_void : {C : Type 0} (actor : Actor) (p i : ℕ) (a : Action C) (t : Table) → changes_table a ≡ false → action_fits actor p i a (Some (Principals t)) ≡ false
+other_void actor p i (Make new) t other = refl
+other_void actor p i (Put new) t other = refl
+other_void actor p i Remove t other = refl
+other_void actor p i (Link entry) t other = refl
+other_void actor p i (Unlink name) t other = refl
+other_void actor p i (AddUser u key) t other = absurd cc
+other_void actor p i (AddMember g u) t other = absurd cc
+other_void actor p i (DropMember g u) t other = absurd cc
 
 pub table_place : (p i : ℕ) → is_table p i ≡ true → (p ≡ 0) × (i ≡ 1)
 table_place p i is = grind (arith, nat_tests)

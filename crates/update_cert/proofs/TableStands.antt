@@ -38,15 +38,15 @@ or_false false = refl
 may_change : (actor : Actor) (c : Change Digest) → c.principal ≡ 0 → permitted actor c ≡ (actor.user == 0)
 may_change actor c of = rw of (or_false (0 == actor.user) ∙ zero_test actor.user)
 
-fits_is : (user p i : ℕ) (a : Action Digest) (t : Table) → is_table p i ≡ true → changes_table a ≡ true → action_fits user p i a (Some (Principals t)) ≡ alters a t
-fits_is user p i (Make new) t place is = absurd cc
-fits_is user p i (Put new) t place is = absurd cc
-fits_is user p i Remove t place is = absurd cc
-fits_is user p i (Link entry) t place is = absurd cc
-fits_is user p i (Unlink name) t place is = absurd cc
-fits_is user p i (AddUser u key) t place is = rw place refl
-fits_is user p i (AddMember g u) t place is = rw place refl
-fits_is user p i (DropMember g u) t place is = rw place refl
+fits_is : (actor : Actor) (p i : ℕ) (a : Action Digest) (t : Table) → is_table p i ≡ true → changes_table a ≡ true → action_fits actor p i a (Some (Principals t)) ≡ alters a t
+fits_is actor p i (Make new) t place is = absurd cc
+fits_is actor p i (Put new) t place is = absurd cc
+fits_is actor p i Remove t place is = absurd cc
+fits_is actor p i (Link entry) t place is = absurd cc
+fits_is actor p i (Unlink name) t place is = absurd cc
+fits_is actor p i (AddUser u key) t place is = rw place refl
+fits_is actor p i (AddMember g u) t place is = rw place refl
+fits_is actor p i (DropMember g u) t place is = rw place refl
 
 becomes_is : (reads : Reading) (number : ℕ) (a : Action Digest) (t : Table) → changes_table a ≡ true → becomes number (read_action reads a) (Some (Principals t)) ≡ Some (Principals (table_becomes number a t))
 becomes_is reads number (Make new) t is = absurd cc
@@ -63,11 +63,11 @@ tables_effect : (actor : Actor) (c : Change Digest) (t : Table) → is_table c.p
 unfolding has_effect
 tables_effect actor c t place is =
     let of = (table_place c.principal c.i_number place).0 in
-    rw (fits_is actor.user c.principal c.i_number c.action t place is, may_change actor c of) refl
+    rw (fits_is actor c.principal c.i_number c.action t place is, may_change actor c of) refl
 
 others_effect : (actor : Actor) (c : Change Digest) (t : Table) → changes_table c.action ≡ false → has_effect actor c (Some (Principals t)) ≡ false
 unfolding has_effect
-others_effect actor c t other = rw (other_void actor.user c.principal c.i_number c.action t other) (and-false (permitted actor c))
+others_effect actor c t other = rw (other_void actor c.principal c.i_number c.action t other) (and-false (permitted actor c))
 
 content_if : (e : Bool) (new : Option Content) (made t : Table) → new ≡ Some (Principals made) → (if e then new else Some (Principals t)) ≡ Some (Principals (if e then made else t))
 content_if true new made t is = is

@@ -98,23 +98,23 @@ has_member g u (Some (File bytes)) = false
 has_member g u (Some (Directory entries)) = false
 has_member g u (Some (Principals table)) = is_member_now table g u
 
--- an action at an i-number of a principal fits what stands there
-abbrev pub action_fits : {C : Type 0} → User → Principal → INumber → Action C → Option Content → Bool
-action_fits user p i (Make new) content = not (is_some content) && may_make user p i
-action_fits user p i (Put new) content = is_file content && not (is_table p i)
-action_fits user p i Remove content = is_removable content && not (is_table p i || is_root p i)
-action_fits user p i (Link entry) content = has_room entry.name content
-action_fits user p i (Unlink name) content = has_name name content
-action_fits user p i (AddUser u key) content = is_table p i && lacks_user u content
-action_fits user p i (AddMember g u) content = is_table p i && lacks_member g u content
-action_fits user p i (DropMember g u) content = is_table p i && has_member g u content
+-- an action at an i-number of a principal, in this actor's operation, fits what stands there
+abbrev pub action_fits : {C : Type 0} → Actor → Principal → INumber → Action C → Option Content → Bool
+action_fits actor p i (Make new) content = not (is_some content) && may_make actor.user p i
+action_fits actor p i (Put new) content = is_file content && not (is_table p i)
+action_fits actor p i Remove content = is_removable content && not (is_table p i || is_root p i)
+action_fits actor p i (Link entry) content = has_room entry.name content
+action_fits actor p i (Unlink name) content = has_name name content
+action_fits actor p i (AddUser u key) content = is_table p i && lacks_user u content
+action_fits actor p i (AddMember g u) content = is_table p i && lacks_member g u content
+action_fits actor p i (DropMember g u) content = is_table p i && has_member g u content
 
-abbrev pub fits : {C : Type 0} → User → Change C → Option Content → Bool
-fits user c content = action_fits user c.principal c.i_number c.action content
+abbrev pub fits : {C : Type 0} → Actor → Change C → Option Content → Bool
+fits actor c content = action_fits actor c.principal c.i_number c.action content
 
 -- the change has effect: it is permitted, and fits what stands at its i-number
 unfoldable pub has_effect : {C : Type 0} → Actor → Change C → Option Content → Bool
-has_effect actor c content = permitted actor c && fits actor.user c content
+has_effect actor c content = permitted actor c && fits actor c content
 
 -- ---- after
 

@@ -7,9 +7,9 @@ use Rattle.tree_parts.proofs.AskedLaws.{each_for, has_for, has_removed}
 use Rattle.tree_parts.proofs.part.Part.act.Goals as goal
 
 pub returns-in_ok-make-in-Make-clause-acts : goal.returns-in_ok-make-in-Make-clause-acts
-returns-in_ok-make-in-Make-clause-acts g c = λ reads agrees.
+returns-in_ok-make-in-Make-clause-acts g c = λ reads agrees actor of.
     let old = c.args.self.now in
-    subst (λ (a : Action Digest). Acts reads c.args.user (change_at old c.args.i_number a) old c.make.new.self c.in_ok-make-in-Make.field-0) (sym (ap action_of c.in-Make.is)) (c.in_ok-make-in-Make.ensures.acts reads)
+    subst (λ (a : Action Digest). Acts reads actor (change_at old c.args.i_number a) old c.make.new.self c.in_ok-make-in-Make.field-0) (sym (ap action_of c.in-Make.is)) (c.in_ok-make-in-Make.ensures.acts reads actor of)
 
 pub returns-in-Unlink-clause-missing : goal.returns-in-Unlink-clause-missing
 returns-in-Unlink-clause-missing g c =

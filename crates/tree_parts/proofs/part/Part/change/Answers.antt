@@ -105,8 +105,8 @@ returns-clause-effect g c = λ reads agrees actor of is.
     let change = change_at part c.args.i_number action in
     let may : permitted actor change ≡ true = permitted_is actor change part.table.principal c.args.user c.args.is_member refl of is ∙ rw c.principal.ensures.same at (sym c.is_permitted.ensures ∙ c.if-not-is_permitted.false) in
     let place : is_table change.principal change.i_number ≡ false = ap (λ p. is_table p change.i_number) (sym c.principal-2.ensures.same) ∙ sym c.is_table.ensures ∙ c.if-is_table.false in
-    let acts = tried reads c.args.user c.args.i_number action part held c.act.new.self c.act.result c.in_ok-load.ensures.principal c.in_ok-load.ensures.loaded (c.in_ok-load.ensures.slots reads agrees) c.act.ensures.same (c.act.ensures.acts reads agrees) in
-    IfOk-weaker c.act.result _ _ (λ fitted done. has_acted reads c.args.user actor change part c.act.new.self fitted place may of done) acts
+    let acts = tried reads actor c.args.i_number action part held c.act.new.self c.act.result c.in_ok-load.ensures.principal c.in_ok-load.ensures.loaded (c.in_ok-load.ensures.slots reads agrees) c.act.ensures.same (c.act.ensures.acts reads agrees actor of) in
+    IfOk-weaker c.act.result _ _ (λ fitted done. has_acted reads actor change part c.act.new.self fitted place may done) acts
 
 pub returns-clause-slots : goal.returns-clause-slots
 returns-clause-slots g c = λ reads agrees actor of is.
@@ -116,8 +116,8 @@ returns-clause-slots g c = λ reads agrees actor of is.
     let change = change_at part c.args.i_number action in
     let may : permitted actor change ≡ true = permitted_is actor change part.table.principal c.args.user c.args.is_member refl of is ∙ rw c.principal.ensures.same at (sym c.is_permitted.ensures ∙ c.if-not-is_permitted.false) in
     let place : is_table change.principal change.i_number ≡ false = ap (λ p. is_table p change.i_number) (sym c.principal-2.ensures.same) ∙ sym c.is_table.ensures ∙ c.if-is_table.false in
-    let acts = tried reads c.args.user c.args.i_number action part held c.act.new.self c.act.result c.in_ok-load.ensures.principal c.in_ok-load.ensures.loaded (c.in_ok-load.ensures.slots reads agrees) c.act.ensures.same (c.act.ensures.acts reads agrees) in
-    IfOk-weaker c.act.result _ _ (λ fitted done i. slots_acted reads c.args.user actor change part c.act.new.self fitted i place may of done) acts
+    let acts = tried reads actor c.args.i_number action part held c.act.new.self c.act.result c.in_ok-load.ensures.principal c.in_ok-load.ensures.loaded (c.in_ok-load.ensures.slots reads agrees) c.act.ensures.same (c.act.ensures.acts reads agrees actor of) in
+    IfOk-weaker c.act.result _ _ (λ fitted done i. slots_acted reads actor change part c.act.new.self fitted i place may done) acts
 
 pub returns-clause-missing : goal.returns-clause-missing
 returns-clause-missing g c = λ actor of is.

@@ -28,7 +28,7 @@ invariant_of-self-in-Ok g c =
     is_part_edited old c.args.i_number c.in-Ok.place c.index_mut.result.now c.link.new.self at here c.link.ensures.i_number c.self.invariant
 
 pub returns-in-Ok-clause-acts : goal.returns-in-Ok-clause-acts
-returns-in-Ok-clause-acts g c = λ reads agrees user.
+returns-in-Ok-clause-acts g c = λ reads agrees actor.
     let old : Part = record { before = c.self.inside.before; table = c.self.inside.table; opened = c.self.inside.opened.items } in
     let i = c.args.i_number in
     let d = c.index_mut.result.now in
@@ -37,21 +37,21 @@ returns-in-Ok-clause-acts g c = λ reads agrees user.
     let here : d ≡ slice_index_or c.self.inside.opened.items c.in-Ok.place d = search rules in
     let there = opened_there old i c.in-Ok.place d o at here c.link.ensures.i_number in
     let slots = slot_edited old i c.in-Ok.place d o at here c.link.ensures.i_number c.self.invariant in
-    rw (← c.self.view_is) (edit_acts reads user (change_at old i (Link c.args.entry.now)) old _ (linked d.entries c.args.entry.now) d.entries o.entries c.in_ok-fitted-in-Ok.fitted c.self.invariant there c.in_ok-fitted-in-Ok.ensures.room slots (makes_linked reads d.entries c.args.entry.now) c.in_ok-fitted-in-Ok.ensures.entries)
+    rw (← c.self.view_is) (edit_acts reads actor (change_at old i (Link c.args.entry.now)) old _ (linked d.entries c.args.entry.now) d.entries o.entries c.in_ok-fitted-in-Ok.fitted c.self.invariant there c.in_ok-fitted-in-Ok.ensures.room slots (makes_linked reads d.entries c.args.entry.now) c.in_ok-fitted-in-Ok.ensures.entries)
 
 -- no directory stands there
 pub returns-in_default-clause-acts : goal.returns-in_default-clause-acts
-returns-in_default-clause-acts g c = λ reads agrees user.
+returns-in_default-clause-acts g c = λ reads agrees actor.
     let part = c.args.self.now in
     let i = c.args.i_number in
     let free = rw c.deref.ensures.value at c.in-Err.ensures in
     let none : opened_at part i ≡ None = rw (← c.self.view_is) (ap (option_map (λ x. x.entries)) free.found) in
     let nothing = sym c.in_default.is ∙ c.in_ok-directory.ensures.found reads agrees ∙ ap listed (sym (closed reads part i none)) in
-    void_acts reads user (change_at part i (Link c.args.entry.now)) part (no_room c.args.entry.now.name (stands_here reads part i) nothing)
+    void_acts reads actor (change_at part i (Link c.args.entry.now)) part (no_room c.args.entry.now.name (stands_here reads part i) nothing)
 
 -- what was read doesn't take it
 pub returns-then-not-branch-clause-acts : goal.returns-then-not-branch-clause-acts
-returns-then-not-branch-clause-acts g c = λ reads agrees user.
+returns-then-not-branch-clause-acts g c = λ reads agrees actor.
     let part = c.args.self.now in
     let i = c.args.i_number in
     let es = c.in-Some.directory in
@@ -59,12 +59,12 @@ returns-then-not-branch-clause-acts g c = λ reads agrees user.
     let none : opened_at part i ≡ None = rw (← c.self.view_is) (ap (option_map (λ x. x.entries)) free.found) in
     let here = stands_closed reads part i es none (sym c.in-Some.is ∙ c.in_ok-directory.ensures.found reads agrees) in
     let entries = ap (λ o. o.entries) c.new-open.ensures in
-    void_acts reads user (change_at part i (Link c.args.entry.now)) part
+    void_acts reads actor (change_at part i (Link c.args.entry.now)) part
     (ap (has_room c.args.entry.now.name) here ∙ ap (λ (xs : List Entry). has_room c.args.entry.now.name (Some (Directory xs))) (sym entries) ∙ sym c.in_ok-link.ensures.room ∙ c.if-not-branch.true)
 
 -- or it does
 pub returns-clause-acts : goal.returns-clause-acts
-returns-clause-acts g c = λ reads agrees user.
+returns-clause-acts g c = λ reads agrees actor.
     let part = c.args.self.now in
     let i = c.args.i_number in
     let es = c.in-Some.directory in
@@ -76,7 +76,7 @@ returns-clause-acts g c = λ reads agrees user.
     let key = c.in_ok-link.ensures.i_number ∙ ap (λ x. x.i_number) c.new-open.ensures in
     let fit = sym c.if-not-branch.false ∙ c.in_ok-link.ensures.room ∙ ap (λ (xs : List Entry). has_room c.args.entry.now.name (Some (Directory xs))) entries in
     let made : o.entries ≡ linked es c.args.entry.now = c.in_ok-link.ensures.entries ∙ ap (λ t. if t then linked c.new-open.result.entries c.args.entry.now else c.new-open.result.entries) c.if-not-branch.false ∙ ap (λ (xs : List Entry). linked xs c.args.entry.now) entries in
-    open_acts reads user (change_at part i (Link c.args.entry.now)) part _ (linked es c.args.entry.now) es o.entries here fit (rw key at c.in_ok-open_at.ensures.slots) (makes_linked reads es c.args.entry.now) made
+    open_acts reads actor (change_at part i (Link c.args.entry.now)) part _ (linked es c.args.entry.now) es o.entries here fit (rw key at c.in_ok-open_at.ensures.slots) (makes_linked reads es c.args.entry.now) made
 
 -- ---- nothing of it is missing
 

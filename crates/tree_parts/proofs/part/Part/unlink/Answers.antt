@@ -21,7 +21,7 @@ invariant_of-self g c =
     is_part_edited old c.args.i_number c.in-Ok.place c.index_mut.result.now c.unlink.new.self at here c.unlink.ensures.i_number c.self.invariant
 
 pub returns-in-Ok-clause-acts : goal.returns-in-Ok-clause-acts
-returns-in-Ok-clause-acts g c = λ reads agrees user.
+returns-in-Ok-clause-acts g c = λ reads agrees actor.
     let old : Part = record { before = c.self.inside.before; table = c.self.inside.table; opened = c.self.inside.opened.items } in
     let i = c.args.i_number in
     let d = c.index_mut.result.now in
@@ -30,21 +30,21 @@ returns-in-Ok-clause-acts g c = λ reads agrees user.
     let here : d ≡ slice_index_or c.self.inside.opened.items c.in-Ok.place d = search rules in
     let there = opened_there old i c.in-Ok.place d o at here c.unlink.ensures.i_number in
     let slots = slot_edited old i c.in-Ok.place d o at here c.unlink.ensures.i_number c.self.invariant in
-    rw (← c.self.view_is) (edit_acts reads user (change_at old i (Unlink c.args.name.now)) old _ (unlinked d.entries c.args.name.now) d.entries o.entries c.unlink.result c.self.invariant there c.unlink.ensures.had slots (makes_unlinked reads d.entries c.args.name.now) c.unlink.ensures.entries)
+    rw (← c.self.view_is) (edit_acts reads actor (change_at old i (Unlink c.args.name.now)) old _ (unlinked d.entries c.args.name.now) d.entries o.entries c.unlink.result c.self.invariant there c.unlink.ensures.had slots (makes_unlinked reads d.entries c.args.name.now) c.unlink.ensures.entries)
 
 -- no directory stands there
 pub returns-in_default-clause-acts : goal.returns-in_default-clause-acts
-returns-in_default-clause-acts g c = λ reads agrees user.
+returns-in_default-clause-acts g c = λ reads agrees actor.
     let part = c.args.self.now in
     let i = c.args.i_number in
     let free = rw c.deref.ensures.value at c.in-Err.ensures in
     let none : opened_at part i ≡ None = rw (← c.self.view_is) (ap (option_map (λ x. x.entries)) free.found) in
     let nothing = sym c.in_default.is ∙ c.in_ok-directory.ensures.found reads agrees ∙ ap listed (sym (closed reads part i none)) in
-    void_acts reads user (change_at part i (Unlink c.args.name.now)) part (no_name c.args.name.now (stands_here reads part i) nothing)
+    void_acts reads actor (change_at part i (Unlink c.args.name.now)) part (no_name c.args.name.now (stands_here reads part i) nothing)
 
 -- what was read doesn't take it
 pub returns-then-not-unlink-clause-acts : goal.returns-then-not-unlink-clause-acts
-returns-then-not-unlink-clause-acts g c = λ reads agrees user.
+returns-then-not-unlink-clause-acts g c = λ reads agrees actor.
     let part = c.args.self.now in
     let i = c.args.i_number in
     let es = c.in-Some.directory in
@@ -52,12 +52,12 @@ returns-then-not-unlink-clause-acts g c = λ reads agrees user.
     let none : opened_at part i ≡ None = rw (← c.self.view_is) (ap (option_map (λ x. x.entries)) free.found) in
     let here = stands_closed reads part i es none (sym c.in-Some.is ∙ c.in_ok-directory.ensures.found reads agrees) in
     let entries = ap (λ o. o.entries) c.new-open.ensures in
-    void_acts reads user (change_at part i (Unlink c.args.name.now)) part
+    void_acts reads actor (change_at part i (Unlink c.args.name.now)) part
     (ap (has_name c.args.name.now) here ∙ ap (λ (xs : List Entry). has_name c.args.name.now (Some (Directory xs))) (sym entries) ∙ sym c.unlink-2.ensures.had ∙ c.if-not-unlink.true)
 
 -- or it does
 pub returns-clause-acts : goal.returns-clause-acts
-returns-clause-acts g c = λ reads agrees user.
+returns-clause-acts g c = λ reads agrees actor.
     let part = c.args.self.now in
     let i = c.args.i_number in
     let es = c.in-Some.directory in
@@ -69,7 +69,7 @@ returns-clause-acts g c = λ reads agrees user.
     let key = c.unlink-2.ensures.i_number ∙ ap (λ x. x.i_number) c.new-open.ensures in
     let fit = sym c.if-not-unlink.false ∙ c.unlink-2.ensures.had ∙ ap (λ (xs : List Entry). has_name c.args.name.now (Some (Directory xs))) entries in
     let made : o.entries ≡ unlinked es c.args.name.now = c.unlink-2.ensures.entries ∙ ap (λ t. if t then unlinked c.new-open.result.entries c.args.name.now else c.new-open.result.entries) c.if-not-unlink.false ∙ ap (λ (xs : List Entry). unlinked xs c.args.name.now) entries in
-    open_acts reads user (change_at part i (Unlink c.args.name.now)) part _ (unlinked es c.args.name.now) es o.entries here fit (rw key at c.in_ok-open_at.ensures.slots) (makes_unlinked reads es c.args.name.now) made
+    open_acts reads actor (change_at part i (Unlink c.args.name.now)) part _ (unlinked es c.args.name.now) es o.entries here fit (rw key at c.in_ok-open_at.ensures.slots) (makes_unlinked reads es c.args.name.now) made
 
 -- ---- nothing of it is missing
 
