@@ -9,6 +9,7 @@ use Rattle.layout.specs.Types.{Bytes, Digest, Key}
 use Rattle.itable.specs.File.{NoneCollide}
 use Rattle.principals.specs.Table.{Table}
 use Rattle.principals.specs.TableText.{table, key as key_form}
+use Rattle.principals.proofs.SizeLaws.{text_size}
 use Rattle.version_order.specs.Structure.{Structure}
 use Rattle.update_cert.specs.Cert.{Cert, cert}
 use Rattle.pending_list.specs.declared.signed.Signed.{Signed}
@@ -36,7 +37,6 @@ use Rattle.fork_consistency.proofs.Filled.{first_filled, part_filled}
 use Rattle.fork_consistency.proofs.Genuine.{released_structure}
 use Rattle.fork_consistency.proofs.Judging.{structure_fits}
 use Rattle.fork_consistency.proofs.LaidOut.{begun_content}
-use Rattle.fork_consistency.proofs.Listings.{text_size}
 use Rattle.fork_consistency.proofs.Origins.{AreBlocks, IsKnown, IsMade, views_known}
 use Rattle.fork_consistency.proofs.Served.{IsContent, IsFilled}
 use Rattle.fork_consistency.proofs.Slots.{IsMadeBy}

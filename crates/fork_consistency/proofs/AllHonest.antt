@@ -14,6 +14,7 @@ use Rattle.itable.specs.File.{NoneCollide}
 use Rattle.itable.specs.ITable.{digest_at}
 use Rattle.principals.specs.Table.{Table, genesis as first_users}
 use Rattle.principals.specs.TableText.{key as key_form, table}
+use Rattle.principals.proofs.Users.{first_fits}
 use Rattle.version_order.specs.declared.structure.GroupRecord.{GroupRecord}
 use Rattle.version_order.specs.Structure.{Structure, group_of}
 use Rattle.version_order.specs.Vector.{version_of}
@@ -42,7 +43,6 @@ use Rattle.fork_consistency.proofs.Judging.{value_of}
 use Rattle.fork_consistency.specs.Handles.{NamesTableAmong, NamesWhole, told_by_texts}
 use Rattle.fork_consistency.proofs.AllWhole.{part_before}
 use Rattle.fork_consistency.proofs.Firsts.{first_told}
-use Rattle.fork_consistency.proofs.TableTexts.{first_fits}
 use Rattle.fork_consistency.proofs.HonestViews.{part_names}
 use Rattle.fork_consistency.proofs.Origins.{IsKnown, IsMade}
 

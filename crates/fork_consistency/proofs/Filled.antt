@@ -15,6 +15,7 @@ use Rattle.itable.specs.ITable.{digest_at, digest_in, loaded, new_texts}
 use Rattle.directory.specs.Directory.{Entry}
 use Rattle.principals.specs.Table.{genesis}
 use Rattle.principals.specs.TableText.{table, key as key_form}
+use Rattle.principals.proofs.Users.{first_fits}
 use Rattle.update_cert.specs.World.{is_table}
 use Rattle.tree_parts.specs.Blocks.{Blocks, inode_told}
 use Rattle.tree_parts.specs.Part.{Open, Slot, Laid, Changed, number_of, slot_here, slot_of}
@@ -36,7 +37,6 @@ use Rattle.fork_consistency.proofs.Firsts.{first_file_in, first_text, first_told
 use Rattle.fork_consistency.proofs.LaidOut.{directory_content, root_content, table_content}
 use Rattle.fork_consistency.proofs.Served.{IsContent, IsFilled, IsTableFile}
 use Rattle.fork_consistency.proofs.SignedTable.{file_in, held_in}
-use Rattle.fork_consistency.proofs.TableTexts.{first_fits}
 use Rattle.fork_consistency.proofs.Whole.{part_whole, told_after, told_unloaded}
 
 row_in : {T : Type 0} (key : T → ℕ) (xs : List T) (k : ℕ) (x : T) → row_at nat_cmp key xs k ≡ Some x → In x xs

@@ -4,11 +4,10 @@ pub mod Moves
 pub mod Genuine
 pub mod Views
 pub mod Among
-mod Listings
 pub mod ScriptKeys
 pub mod Lists
 mod Chunks
-pub mod TableTexts
+mod TableTexts
 mod Whole
 mod Firsts
 mod Acting

@@ -16,6 +16,8 @@ use Rattle.principals.specs.declared.table.Row.{Row}
 use Rattle.principals.specs.Table.{Table, genesis}
 use Rattle.principals.specs.TableText.{NoneAfter, key as key_form, table}
 use Rattle.principals.specs.TableTextLaws.{lawful_table}
+use Rattle.principals.proofs.SizeLaws.{text_size}
+use Rattle.principals.proofs.Users.{first_fits}
 use Rattle.version_order.specs.declared.structure.GroupRecord.{GroupRecord}
 use Rattle.version_order.specs.Plan.{Plan}
 use Rattle.version_order.specs.Structure.{Structure, structure}
@@ -47,7 +49,6 @@ use Rattle.client_runs.specs.Runs.{Event, IsRun, Keys, client_of, owner, public_
 use Rattle.fork_consistency.proofs.Genuine.{IsReleasedText, released_later, released_structure}
 use Rattle.fork_consistency.proofs.Holds.{IsTriedOver, known_in, signed_in}
 use Rattle.fork_consistency.proofs.Judging.{IsUnbroken, cert_by_super, structure_by_super, structure_fits, unbroken, unbroken_by}
-use Rattle.fork_consistency.proofs.Listings.{text_size}
 use Rattle.fork_consistency.proofs.Moves.{holds_at}
 use Rattle.client_runs.proofs.Replies.{of_lists, shown}
 use Rattle.fork_consistency.proofs.Views.{in_views, over_here}
@@ -59,7 +60,7 @@ use Rattle.fork_consistency.proofs.Certificates.{all_more, found, none_first, on
 use Rattle.fork_consistency.proofs.Firsts.{first_file_in, first_text, first_told, first_whole}
 use Rattle.fork_consistency.proofs.Origins.{IsKnown, IsMade, IsTold, all_known}
 use Rattle.fork_consistency.proofs.SignedTable.{signs_table, table_named}
-use Rattle.fork_consistency.proofs.TableTexts.{after_fits, first_fits}
+use Rattle.fork_consistency.proofs.TableTexts.{after_fits}
 use Rattle.fork_consistency.proofs.Whole.{part_whole}
 
 -- ---- signatures

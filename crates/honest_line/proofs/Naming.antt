@@ -8,6 +8,7 @@ use Rattle.layout.specs.Types.{Bytes, Handle, Key, User}
 use Rattle.itable.specs.File.{NoneCollide}
 use Rattle.principals.specs.Table.{Table, genesis}
 use Rattle.principals.specs.TableText.{table}
+use Rattle.principals.proofs.Users.{first_fits}
 use Rattle.tree_parts.specs.Blocks.{Blocks}
 use Rattle.client_tree.specs.Genesis.{first_handle}
 use Rattle.checked_blocks.specs.CheckedBlocks.{holding, known_blocks}
@@ -26,7 +27,6 @@ use Rattle.fork_consistency.specs.Premises.{AddsOwnKeys, NoCollision, PinnedIsKe
 use Rattle.fork_consistency.proofs.Among.{AreAmong, agrees_within, among_kept, are_within}
 use Rattle.fork_consistency.proofs.ByCertificates.{SuperIsHonest, first_in, super_honest, view}
 use Rattle.fork_consistency.proofs.Origins.{Knows, KnowsClient, known_at}
-use Rattle.fork_consistency.proofs.TableTexts.{first_fits}
 use Rattle.fork_consistency.proofs.Tables.{first_table_named, one_table}
 use Rattle.honest_history.specs.Honest.{NamedTable, Names}
 use Rattle.honest_dialogues.specs.Dialogue.{IsNaming}
