@@ -2,10 +2,11 @@
 use Rattle.std.proofs.Common.{◌≡◌, List, [], ◌∷◌, ◌++◌, map, Some, IfSome, refl, sym, ap, ◌∙◌, subst, inl, inr, option_map}
 use Rattle.std.specs.Prelude.{◌⊎◌}
 use Rattle.std.specs.List.{All, Contains, flat_map}
-use Rattle.layout.specs.Types.{Bytes, Key, User}
-use Rattle.principals.specs.Table.{key_of}
+use Rattle.layout.specs.Types.{Bytes, Key, User, Version}
+use Rattle.principals.specs.Table.{key_at}
 use Rattle.version_order.specs.Plan.{Plan, plan}
 use Rattle.version_order.specs.Structure.{Structure, structure}
+use Rattle.version_order.specs.Vector.{version_of}
 use Rattle.update_cert.specs.Cert.{Cert, cert}
 use Rattle.pending_list.specs.declared.signed.Signed.{Signed}
 use Rattle.pending_list.specs.Reply.{PendingItem}
@@ -27,7 +28,7 @@ use Rattle.client_runs.proofs.Lowering.{low_owner}
 use Rattle.fork_consistency.proofs.Moves.{holds_at}
 use Rattle.client_runs.proofs.Replies.{of_lists}
 use Rattle.fork_consistency.proofs.ByCertificates.{super_honest}
-use Rattle.fork_consistency.proofs.ListedKeys.{own_key_listed}
+use Rattle.fork_consistency.proofs.ListedKeys.{own_key_at}
 use Rattle.fork_consistency.proofs.Views.{first_in, first_of, in_views, last_view, one_at_most, over_here}
 
 last_fits : (o : low.Owner) (story : List Release) → IsStory o story → IfSome (last_in o story) (λ z. structure.Fits z.value)
@@ -71,7 +72,7 @@ view_text x t i =
 
 -- the view's table lists no key but a user's own
 abbrev IsTrueTable : Keys → View → Type 0
-IsTrueTable keys x = (u : User) (k : Key) → key_of u x.table ≡ Some k → k ≡ public_key keys u
+IsTrueTable keys x = (u : User) (v : Version) (k : Key) → key_at u v x.table ≡ Some k → k ≡ public_key keys u
 
 module _ (keys : Keys) where
   -- ---- an accepted view
@@ -97,7 +98,7 @@ module _ (keys : Keys) where
           over.good.judged.was_shown (shown_structure s)
           (in-left (shown_structure s) (map shown_structure x.lists.structures) (map shown_cert (items x.lists)) (map-in shown_structure x.lists.structures s j)) in
           let signature =
-          verified (public_key keys) x.table own w (structure.spell s.value) s.signature (structure_verified x.table x.lists by.structures s j) (structure_by_super (public_key keys 0) r rules.by_super s j) in
+          verified (public_key keys) x.table own w (version_of 0 s.value.plan.vector) (structure.spell s.value) s.signature (structure_verified x.table x.lists by.structures s j) (structure_by_super (public_key keys 0) r rules.by_super s j) in
           in_views keys w older s.value (released_structure keys older is w s.value (structure_fits r over.good.judged.fits s j) (genuine keys older none (shown_structure s) was signature))
 
       accepted_over : Accepted (views older) x
@@ -123,7 +124,7 @@ module _ (keys : Keys) where
           let was =
           over.good.judged.was_shown (shown_cert i) (in-right (shown_cert i) (map shown_structure x.lists.structures) (map shown_cert (items x.lists)) (map-in shown_cert (items x.lists) i j)) in
           let signature =
-          verified (public_key keys) x.table own i.cert.user (cert.spell i.cert) i.signature (cert_verified x.table x.lists by.certs i j) (cert_by_super (public_key keys 0) r rules.by_super i j) in
+          verified (public_key keys) x.table own i.cert.user (version_of 0 i.plan.vector) (cert.spell i.cert) i.signature (cert_verified x.table x.lists by.certs i j) (cert_by_super (public_key keys 0) r rules.by_super i j) in
           genuine keys older none (shown_cert i) was signature
 
   -- ---- runs
@@ -170,7 +171,7 @@ module _ (keys : Keys) (run : List Event) (is : IsRun keys run) (is_key : Pinned
   all_released_texts = all_genuine keys run is premises.no_forgery
 
   all_true : (x : View) → In x (views run) → IsTrueTable keys x
-  all_true x i u k at = own_key_listed everybody keys run is (super_honest keys run is_key premises) premises.added x i u k tt at
+  all_true x i u v k at = own_key_at everybody keys run is (super_honest keys run is_key premises) premises.added x i u v k tt at
 
   pub are_accepted : AreAccepted (views run)
   are_accepted = accepted keys run is all_released_texts all_true

@@ -4,12 +4,11 @@ use Rattle.std.specs.Option.{option_map_or}
 use Rattle.std.proofs.lemmas.Bool.{eqb-true, and_parts}
 use Rattle.std.proofs.lemmas.Slice.Eq.{bytes_eq-Decides}
 use Rattle.layout.specs.Format.{Answer, Format, FitRows, after_row}
-use Rattle.layout.specs.Types.{Bytes, Key, User}
+use Rattle.layout.specs.Types.{Bytes, Key, User, Version}
 use Rattle.lms_sign.specs.Signature.{valid}
-use Rattle.principals.specs.Table.{Table, key_of}
+use Rattle.principals.specs.Table.{Table, key_at}
 use Rattle.version_order.specs.Structure.{Structure, structure}
 use Rattle.version_order.specs.StructureLaws.{lawful_structure}
-use Rattle.update_cert.specs.Cert.{cert}
 use Rattle.pending_list.specs.declared.signed.Signed.{Signed}
 use Rattle.pending_list.specs.Reply.{PendingItem, Reply, reply, signed_structure}
 use Rattle.reply_rules.specs.declared.rule.Rule.{Rule}
@@ -17,7 +16,7 @@ use Rattle.reply_rules.specs.declared.rule.Rule.TheVariants as rule
 use Rattle.reply_rules.specs.Lists.{Lists, items}
 use Rattle.reply_rules.specs.Rules.{lists, unknown_user}
 use Rattle.reply_rules.specs.Broken.{broken, later_rules, least}
-use Rattle.reply_check.specs.FirstBroken.{Known, cert_verifies, certificates, lists_break, of_reply, own_last, own_pending, same_bytes, shown_of, signatures, structure_sent, structure_verifies, super_signature, verifies}
+use Rattle.reply_check.specs.FirstBroken.{Known, cert_is_signed, cert_verifies, certificates, lists_break, of_reply, own_last, own_pending, same_bytes, shown_of, signatures, structure_is_signed, structure_sent, structure_verifies, super_signature, verifies}
 use Rattle.agreement.proofs.Members.{In}
 use Rattle.agreement.proofs.Tests.{all_in, first_holds}
 
@@ -105,25 +104,25 @@ unbroken_by t x e =
 -- ---- signatures
 
 -- what verifies by a table that lists the users' own keys does so by these
-pub verified : (key : User → Key) (t : Table) → ((u : User) (k : Key) → key_of u t ≡ Some k → k ≡ key u) → (u : User) (text signature : Bytes)
-    → verifies t u text signature ≡ true → (not (u == 0) || valid (key 0) text signature) ≡ true → valid (key u) text signature ≡ true
-verified key t own u text signature by_table by_super = go (u == 0) refl by_table by_super
+pub verified : (key : User → Key) (t : Table) → ((u : User) (v : Version) (k : Key) → key_at u v t ≡ Some k → k ≡ key u) → (u : User) (v : Version) (text signature : Bytes)
+    → verifies t u v text signature ≡ true → (not (u == 0) || valid (key 0) text signature) ≡ true → valid (key u) text signature ≡ true
+verified key t own u v text signature by_table by_super = go (u == 0) refl by_table by_super
   where
-    listed : (k : Option Key) → key_of u t ≡ k → option_map_or (λ k. valid k text signature) k false ≡ true → valid (key u) text signature ≡ true
+    listed : (k : Option Key) → key_at u v t ≡ k → option_map_or (λ k. valid k text signature) k false ≡ true → valid (key u) text signature ≡ true
     listed None is h = absurd (cc h)
-    listed (Some k) is h = ap (λ j. valid j text signature) (sym (own u k is)) ∙ h
+    listed (Some k) is h = ap (λ j. valid j text signature) (sym (own u v k is)) ∙ h
 
-    go : (b : Bool) → (u == 0) ≡ b → (b || option_map_or (λ k. valid k text signature) (key_of u t) false) ≡ true → (not b || valid (key 0) text signature) ≡ true → valid (key u) text signature ≡ true
-    go true zero_is h g = ap (λ v. valid (key v) text signature) (eqb-true u 0 zero_is) ∙ g
-    go false other h g = listed (key_of u t) refl h
+    go : (b : Bool) → (u == 0) ≡ b → (b || option_map_or (λ k. valid k text signature) (key_at u v t) false) ≡ true → (not b || valid (key 0) text signature) ≡ true → valid (key u) text signature ≡ true
+    go true zero_is h g = ap (λ w. valid (key w) text signature) (eqb-true u 0 zero_is) ∙ g
+    go false other h g = listed (key_at u v t) refl h
 
-pub structure_verified : (t : Table) (x : Lists) → signatures t x ≡ true → (z : Signed Structure) → In z x.structures → verifies t z.value.plan.user (structure.spell z.value) z.signature ≡ true
+pub structure_verified : (t : Table) (x : Lists) → signatures t x ≡ true → (z : Signed Structure) → In z x.structures → structure_is_signed t z ≡ true
 unfolding signatures
-structure_verified t x e z i = all_in (λ (y : Signed Structure). verifies t y.value.plan.user (structure.spell y.value) y.signature) x.structures e z i
+structure_verified t x e z i = all_in (structure_is_signed t) x.structures e z i
 
-pub cert_verified : (t : Table) (x : Lists) → certificates t x ≡ true → (i : PendingItem) → In i (items x) → verifies t i.cert.user (cert.spell i.cert) i.signature ≡ true
+pub cert_verified : (t : Table) (x : Lists) → certificates t x ≡ true → (i : PendingItem) → In i (items x) → cert_is_signed t i ≡ true
 unfolding certificates
-cert_verified t x e i j = all_in (λ (y : PendingItem). verifies t y.cert.user (cert.spell y.cert) y.signature) (items x) e i j
+cert_verified t x e i j = all_in (cert_is_signed t) (items x) e i j
 
 pub structure_by_super : (key : Key) (r : Reply) → super_signature key r ≡ true → (z : Signed Structure) → In z r.structures → structure_verifies key z ≡ true
 unfolding super_signature

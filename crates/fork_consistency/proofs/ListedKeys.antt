@@ -8,7 +8,8 @@ use Rattle.std.proofs.lemmas.List.Elements.{All-cons, All-head, All-nil, All-tai
 use Rattle.layout.specs.AscendingLaws.{all_with_row}
 use Rattle.layout.specs.Types.{Digest, Key, User, Version}
 use Rattle.principals.specs.declared.table.Listing.{Listing}
-use Rattle.principals.specs.Table.{Table, genesis as first_users, key_of, user_of as listed_user}
+use Rattle.principals.specs.Table.{Table, genesis as first_users, key_at, key_of, user_of as listed_user}
+use Rattle.principals.proofs.Keys.{key_stays}
 use Rattle.update_cert.specs.Change.{Action, Make, Put, Remove, Link, Unlink, AddUser, AddMember, DropMember, Change}
 use Rattle.update_cert.specs.Cert.{Cert}
 use Rattle.update_cert.specs.Tables.{table_after, table_after_change, table_becomes, table_effect}
@@ -115,6 +116,10 @@ module _ (some : User → Type 0) (keys : Keys) (run : List Event) (is : IsRun k
   own_key_listed x i u k out at =
       let w = view keys run is honest x i in
       key_in some own_keys x.table.users u k out (subst (λ (t : Table). All (IsOwn some own_keys) t.users) (sym w.at.is) (lists_own w.number w.at.released)) at
+
+  -- nor at whatever number of user 0's
+  pub own_key_at : (x : View) → In x (views run) → (u : User) (v : Version) (k : Key) → some u → key_at u v x.table ≡ Some k → k ≡ own_keys u
+  own_key_at x i u v k out at = own_key_listed x i u k out (key_stays u v x.table k at)
 
   pub list_own_keys : ListOwnKeysOf some keys run
   list_own_keys =

@@ -5,10 +5,10 @@ use Rattle.std.specs.List.{All, flat_map}
 use Rattle.std.specs.Option.{option_map_or}
 use Rattle.std.proofs.lemmas.Bool.{cases_eq, eqb-true, lt-ltb}
 use Rattle.std.proofs.lemmas.List.Elements.{All-head, All-weaker}
-use Rattle.layout.specs.Types.{Bytes, Handle, Key, Principal, User}
+use Rattle.layout.specs.Types.{Bytes, Handle, Key, Principal, User, Version}
 use Rattle.lms_sign.specs.Signature.{valid}
 use Rattle.itable.specs.File.{NoneCollide}
-use Rattle.principals.specs.Table.{Table, key_of}
+use Rattle.principals.specs.Table.{Table, key_at}
 use Rattle.principals.specs.TableText.{key as key_form}
 use Rattle.version_order.specs.declared.structure.GroupRecord.{GroupRecord}
 use Rattle.version_order.specs.Plan.{Plan}
@@ -49,7 +49,7 @@ use Rattle.fork_consistency.specs.OwnParts.{IsOutside, IsOwnPart, OwnPartsStand,
 use Rattle.fork_consistency.proofs.Acting.{at_most_one, filter_none, next_number, none_before, once_front, ordered}
 use Rattle.fork_consistency.proofs.AllHonest.{first_names}
 use Rattle.fork_consistency.proofs.ByCertificates.{SuperIsHonest, fewer_forged}
-use Rattle.fork_consistency.proofs.ListedKeys.{list_own_keys, own_key_listed}
+use Rattle.fork_consistency.proofs.ListedKeys.{list_own_keys, own_key_at}
 use Rattle.fork_consistency.proofs.Certificates.{all_more, found, none_first, one_more}
 use Rattle.fork_consistency.proofs.Firsts.{first_whole}
 use Rattle.fork_consistency.proofs.HonestViews.{part_names}
@@ -84,17 +84,17 @@ genuine u keys (e ∷ older) none t i same v =
     ]
 
 -- what verifies by a table that lists the user's own key does so by that
-verified_one : (own : Key) (super : Key) (t : Table) (u : User) (text signature : Bytes) → ((k : Key) → key_of u t ≡ Some k → k ≡ own) → (u ≡ 0 → super ≡ own)
-    → verifies t u text signature ≡ true → (not (u == 0) || valid super text signature) ≡ true → valid own text signature ≡ true
-verified_one own super t u text signature listed pinned by_table by_super = go (u == 0) refl by_table by_super
+verified_one : (own : Key) (super : Key) (t : Table) (u : User) (v : Version) (text signature : Bytes) → ((v : Version) (k : Key) → key_at u v t ≡ Some k → k ≡ own) → (u ≡ 0 → super ≡ own)
+    → verifies t u v text signature ≡ true → (not (u == 0) || valid super text signature) ≡ true → valid own text signature ≡ true
+verified_one own super t u v text signature listed pinned by_table by_super = go (u == 0) refl by_table by_super
   where
-    of_table : (k : Option Key) → key_of u t ≡ k → option_map_or (λ k. valid k text signature) k false ≡ true → valid own text signature ≡ true
+    of_table : (k : Option Key) → key_at u v t ≡ k → option_map_or (λ k. valid k text signature) k false ≡ true → valid own text signature ≡ true
     of_table None at h = absurd (cc h)
-    of_table (Some k) at h = ap (λ j. valid j text signature) (sym (listed k at)) ∙ h
+    of_table (Some k) at h = ap (λ j. valid j text signature) (sym (listed v k at)) ∙ h
 
-    go : (b : Bool) → (u == 0) ≡ b → (b || option_map_or (λ k. valid k text signature) (key_of u t) false) ≡ true → (not b || valid super text signature) ≡ true → valid own text signature ≡ true
+    go : (b : Bool) → (u == 0) ≡ b → (b || option_map_or (λ k. valid k text signature) (key_at u v t) false) ≡ true → (not b || valid super text signature) ≡ true → valid own text signature ≡ true
     go true zero_is h g = ap (λ j. valid j text signature) (sym (pinned (eqb-true u 0 zero_is))) ∙ g
-    go false other h g = of_table (key_of u t) refl h
+    go false other h g = of_table (key_at u v t) refl h
 
 user_comes : (v : tree_spec.View) (u : User) (i : PendingItem) → u < 64 → comes_after v u i ≡ true → i.cert.user ≡ u
 unfolding comes_after
@@ -280,7 +280,7 @@ module _ (keys : Keys) (whole : List Event) (is_whole : IsRun keys whole) (pinne
     pub handle : x.signed.plan.user ≡ u → IsHandleAt x.signed.plan.number x.signed.handle
 
   module _ (older : List Event) (is : IsRun keys older) (none : UserGenuine u keys older) (within : (text : Bytes) → HasReleased u older text → HasReleased u whole text) (before : (y : View) → In y (views older) → IsView y) (w : User) (x : View)
-      (over : IsTriedOver (owner keys w) (holds_at keys w older is).story older x) (known : IsKnown texts apart key x) (own : (k : Key) → key_of u x.table ≡ Some k → k ≡ public_key keys u) where
+      (over : IsTriedOver (owner keys w) (holds_at keys w older is).story older x) (known : IsKnown texts apart key x) (own : (v : Version) (k : Key) → key_at u v x.table ≡ Some k → k ≡ public_key keys u) where
     abbrev r : Reply
     r = of_lists x.lists
 
@@ -296,9 +296,9 @@ module _ (keys : Keys) (whole : List Event) (is_whole : IsRun keys whole) (pinne
         let was =
         over.good.judged.was_shown (shown_structure z)
         (in-left (shown_structure z) (map shown_structure x.lists.structures) (map shown_cert (items x.lists)) (map-in shown_structure x.lists.structures z j)) in
-        let by_table = subst (λ (y : User). verifies x.table y text z.signature ≡ true) same (structure_verified x.table x.lists by.structures z j) in
+        let by_table = subst (λ (y : User). verifies x.table y (version_of 0 z.value.plan.vector) text z.signature ≡ true) same (structure_verified x.table x.lists by.structures z j) in
         let by_super = subst (λ (y : User). (not (y == 0) || valid key text z.signature) ≡ true) same (structure_by_super key r rules.by_super z j) in
-        let signature = verified_one (public_key keys u) key x.table u text z.signature own (λ zero. ap (public_key keys) (sym zero)) by_table by_super in
+        let signature = verified_one (public_key keys u) key x.table u (version_of 0 z.value.plan.vector) text z.signature own (λ zero. ap (public_key keys) (sym zero)) by_table by_super in
         let has = genuine u keys older none (shown_structure z) was same (ap (λ (y : User). valid (public_key keys y) text z.signature) same ∙ signature) in
         let k = in_views keys z.value.plan.user older z.value (released_structure keys older is z.value.plan.user z.value (structure_fits r over.good.judged.fits z j) has) in
         let (y, m, equal) = in-map signed_in (views older) z.value k in
@@ -309,9 +309,9 @@ module _ (keys : Keys) (whole : List Event) (is_whole : IsRun keys whole) (pinne
         let text = cert.spell i.cert in
         let was =
         over.good.judged.was_shown (shown_cert i) (in-right (shown_cert i) (map shown_structure x.lists.structures) (map shown_cert (items x.lists)) (map-in shown_cert (items x.lists) i j)) in
-        let by_table = subst (λ (y : User). verifies x.table y text i.signature ≡ true) same (cert_verified x.table x.lists by.certs i j) in
+        let by_table = subst (λ (y : User). verifies x.table y (version_of 0 i.plan.vector) text i.signature ≡ true) same (cert_verified x.table x.lists by.certs i j) in
         let by_super = subst (λ (y : User). (not (y == 0) || valid key text i.signature) ≡ true) same (cert_by_super key r rules.by_super i j) in
-        let signature = verified_one (public_key keys u) key x.table u text i.signature own (λ zero. ap (public_key keys) (sym zero)) by_table by_super in
+        let signature = verified_one (public_key keys u) key x.table u (version_of 0 i.plan.vector) text i.signature own (λ zero. ap (public_key keys) (sym zero)) by_table by_super in
         let has = genuine u keys older none (shown_cert i) was same (ap (λ (y : User). valid (public_key keys y) text i.signature) same ∙ signature) in
         within text (subst (λ (y : User). HasReleased y older text) same has)
 
@@ -339,7 +339,7 @@ module _ (keys : Keys) (whole : List Event) (is_whole : IsRun keys whole) (pinne
             (signed_at x.lists x.table item_is (ordered r rules.in_order).once (part_at x.lists shown_at) x.signed.handle known.records known.lost known.made of)
 
   pub all_views : (run : List Event) → IsRun keys run → UserGenuine u keys run → ((text : Bytes) → HasReleased u run text → HasReleased u whole text) → ((t : Bytes) → In t (flat_map hashed_at run) → In t texts)
-      → ((x : View) → In x (views run) → (k : Key) → key_of u x.table ≡ Some k → k ≡ public_key keys u) → (x : View) → In x (views run) → IsView x
+      → ((x : View) → In x (views run) → (v : Version) (k : Key) → key_at u v x.table ≡ Some k → k ≡ public_key keys u) → (x : View) → In x (views run) → IsView x
   all_views [] is none within inside own x i = absurd i
   all_views (e ∷ older) is none within inside own x i =
       let later = λ (t : Bytes) (j : In t (flat_map hashed_at older)). inside t (in-right t (hashed_at e) (flat_map hashed_at older) j) in
@@ -365,7 +365,7 @@ own_parts stolen keys run is is_key others =
     let first = λ (t : Bytes) (j : In t (first_texts (public_key keys 0))). in-right t (flat_map hashed_at run) (first_texts (public_key keys 0)) j in
     let v =
     all_views keys run is is_key u low (hashed keys run) others.1.no_collision first run is (user_genuine stolen u out keys run (λ w. leaves_once keys run w is) run others.1.no_forgery) (λ text has. has)
-    (λ t j. in-left t (flat_map hashed_at run) (first_texts (public_key keys 0)) j) (λ y j k at. own_key_listed (IsOutside stolen) keys run is (super_of stolen keys run is_key others) others.1.added y j u k out at) x i in
+    (λ t j. in-left t (flat_map hashed_at run) (first_texts (public_key keys 0)) j) (λ y j v k at. own_key_at (IsOutside stolen) keys run is (super_of stolen keys run is_key others) others.1.added y j u v k out at) x i in
     record { number = v.number; released = v.released; part = v.part }))
 
 pub own_keys_stand : (stolen : User → Bool) (keys : Keys) (run : List Event) → IsRun keys run → PinnedIsKey keys → StolenPremises stolen keys run → ListOwnKeysOf (IsOutside stolen) keys run

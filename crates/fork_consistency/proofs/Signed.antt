@@ -4,11 +4,12 @@ use Rattle.std.specs.Prelude.{◌⊎◌}
 use Rattle.std.specs.List.{list_all}
 use Rattle.std.specs.Option.{option_map_or}
 use Rattle.std.proofs.lemmas.Bool.{and_parts, eqb-true, le-ltb, lt-ltb}
-use Rattle.layout.specs.Types.{Bytes, Group, Key, User}
+use Rattle.layout.specs.Types.{Bytes, Group, Key, User, Version}
 use Rattle.lms_sign.specs.Signature.{valid}
-use Rattle.principals.specs.Table.{Table, is_member, key_of}
+use Rattle.principals.specs.Table.{Table, is_member, key_at}
 use Rattle.version_order.specs.declared.structure.GroupRecord.{GroupRecord}
 use Rattle.version_order.specs.Structure.{Structure, structure}
+use Rattle.version_order.specs.Vector.{version_of}
 use Rattle.update_cert.specs.Cert.{cert}
 use Rattle.pending_list.specs.declared.signed.Signed.{Signed}
 use Rattle.pending_list.specs.Groups.{groups}
@@ -33,19 +34,19 @@ use Rattle.client_runs.proofs.Replies.{of_lists}
 use Rattle.fork_consistency.proofs.Views.{over_here}
 use Rattle.fork_consistency.proofs.AllWhole.{newest_in}
 use Rattle.fork_consistency.proofs.Lists.{found_in}
-use Rattle.fork_consistency.specs.Signed.{AreSigned, StandsOnFirstOfGroup, IsSigned, IsSignedBy, StandsOnMembers, StandsOnOwn, StandsOnFirstOfUser}
+use Rattle.fork_consistency.specs.Signed.{AreSigned, StandsOnFirstOfGroup, IsSigned, IsSignedBy, IsSignedByItsUser, StandsOnMembers, StandsOnOwn, StandsOnFirstOfUser}
 
 -- what the rules try of a signature
-signed_by : (pinned : Key) (t : Table) (u : User) (text signature : Bytes) → verifies t u text signature ≡ true → (not (u == 0) || valid pinned text signature) ≡ true → IsSignedBy pinned t u text signature
-signed_by pinned t u text signature by_table by_super = go (u == 0) by_table by_super
+signed_by : (pinned : Key) (t : Table) (u : User) (v : Version) (text signature : Bytes) → verifies t u v text signature ≡ true → (not (u == 0) || valid pinned text signature) ≡ true → IsSignedBy pinned t u v text signature
+signed_by pinned t u v text signature by_table by_super = go (u == 0) by_table by_super
   where
     listed : (k : Option Key) → option_map_or (λ k. valid k text signature) k false ≡ true → IsSomeAnd k (λ k. valid k text signature ≡ true)
     listed None e = absurd (cc e)
     listed (Some k) e = e
 
-    go : (b : Bool) → (b || option_map_or (λ k. valid k text signature) (key_of u t) false) ≡ true → (not b || valid pinned text signature) ≡ true → IsSomeAnd (if b then Some pinned else key_of u t) (λ k. valid k text signature ≡ true)
+    go : (b : Bool) → (b || option_map_or (λ k. valid k text signature) (key_at u v t) false) ≡ true → (not b || valid pinned text signature) ≡ true → IsSomeAnd (if b then Some pinned else key_at u v t) (λ k. valid k text signature ≡ true)
     go true e f = f
-    go false e f = listed (key_of u t) e
+    go false e f = listed (key_at u v t) e
 
 -- what they try of records
 of_members : (t : Table) (x : Lists) → broken t x ≡ None → (z : Signed Structure) (r : GroupRecord) → In z x.structures → In r z.value.groups → is_member t r.group z.value.plan.user r.table ≡ true
@@ -69,7 +70,7 @@ of_members t x unbroken z r i j =
 -- ---- what parts stand on
 
 module _ (pinned : Key) (x : View)
-    (structures_signed : (z : Signed Structure) → In z x.lists.structures → IsSignedBy pinned x.table z.value.plan.user (structure.spell z.value) z.signature) where
+    (structures_signed : (z : Signed Structure) → In z x.lists.structures → IsSignedByItsUser pinned x.table z) where
   user_stands : (u : User) → u < 64 → (o : Option (Signed Structure)) → structure_of u x.lists.structures ≡ o → StandsOnOwn pinned x u ⊎ StandsOnFirstOfUser pinned x u
   user_stands u low None at = inr (at, rw (lt-ltb u 64 low, at) refl)
   user_stands u low (Some z) at =
@@ -80,7 +81,7 @@ module _ (pinned : Key) (x : View)
         record {
           there = in_contains z x.lists.structures f.0;
           user = user;
-          signed = subst (λ (v : User). IsSignedBy pinned x.table v (structure.spell z.value) z.signature) user (structures_signed z f.0);
+          signed = structures_signed z f.0;
         },
         rw (lt-ltb u 64 low, at) refl,
       )
@@ -111,9 +112,9 @@ module _ (keys : Keys) where
       let rules = unbroken (known_in (owner keys u) (holds_at keys u older is).story) r over.good.judged.unbroken in
       let by = unbroken_by x.table x.lists over.good.by_table in
       let structures_signed = λ (z : Signed Structure) (i : In z x.lists.structures).
-      signed_by (public_key keys 0) x.table z.value.plan.user (structure.spell z.value) z.signature (structure_verified x.table x.lists by.structures z i) (structure_by_super (public_key keys 0) r rules.by_super z i) in
+      signed_by (public_key keys 0) x.table z.value.plan.user (version_of 0 z.value.plan.vector) (structure.spell z.value) z.signature (structure_verified x.table x.lists by.structures z i) (structure_by_super (public_key keys 0) r rules.by_super z i) in
       let certificates_signed = λ (k : PendingItem) (i : In k (items x.lists)).
-      signed_by (public_key keys 0) x.table k.cert.user (cert.spell k.cert) k.signature (cert_verified x.table x.lists by.certs k i) (cert_by_super (public_key keys 0) r rules.by_super k i) in
+      signed_by (public_key keys 0) x.table k.cert.user (version_of 0 k.plan.vector) (cert.spell k.cert) k.signature (cert_verified x.table x.lists by.certs k i) (cert_by_super (public_key keys 0) r rules.by_super k i) in
       record {
         structures = λ z has. structures_signed z (contains_in z x.lists.structures has);
         certificates = λ k has. certificates_signed k (contains_in k (items x.lists) has);

@@ -1,11 +1,12 @@
 -- What holds of each accepted view by its rules alone, whoever has whose keys.
 use Rattle.std.specs.Prelude.{◌≡◌, ◌⊎◌, ◌<◌, ◌≤◌, ◌==◌, true, List, Option, Some, None, IsSomeAnd, if◌then◌else◌}
 use Rattle.std.specs.List.{All, Contains}
-use Rattle.layout.specs.Types.{Bytes, Digest, Group, INumber, Key, Principal, User}
+use Rattle.layout.specs.Types.{Bytes, Digest, Group, INumber, Key, Principal, User, Version}
 use Rattle.lms_sign.specs.Signature.{valid}
-use Rattle.principals.specs.Table.{Table, is_member, key_of}
+use Rattle.principals.specs.Table.{Table, is_member, key_at}
 use Rattle.version_order.specs.declared.structure.GroupRecord.{GroupRecord}
 use Rattle.version_order.specs.Structure.{Structure, structure}
+use Rattle.version_order.specs.Vector.{version_of}
 use Rattle.update_cert.specs.Cert.{cert}
 use Rattle.update_cert.specs.Change.{Change}
 use Rattle.update_cert.specs.Reading.{Reading}
@@ -20,13 +21,25 @@ use Rattle.agreement.specs.Worlds.{view_in}
 use Rattle.client_runs.specs.Released.{views}
 use Rattle.client_runs.specs.Runs.{Event, IsRun, Keys, pinned}
 
--- the key of a user: of user 0 the one that every client knows, of another the one that the table lists
-abbrev pub key_by : Key → Table → User → Option Key
-key_by pinned t u = if u == 0 then Some pinned else key_of u t
+-- the key of a user at a number of user 0's: of user 0 the one that every client knows, of another the one that the
+-- table lists
+abbrev pub key_by : Key → Table → User → Version → Option Key
+key_by pinned t u version = if u == 0 then Some pinned else key_at u version t
 
--- the text is signed under the user's key
-abbrev pub IsSignedBy : Key → Table → User → Bytes → Bytes → Type 0
-IsSignedBy pinned t u text signature = IsSomeAnd (key_by pinned t u) (λ k. valid k text signature ≡ true)
+-- the text is signed under the user's key at this number of user 0's
+abbrev pub IsSignedBy : Key → Table → User → Version → Bytes → Bytes → Type 0
+IsSignedBy pinned t u version text signature =
+    IsSomeAnd (key_by pinned t u version) (λ k. valid k text signature ≡ true)
+
+-- the structure is signed under its user's key at its plan's version of user 0
+abbrev pub IsSignedByItsUser : Key → Table → Signed Structure → Type 0
+IsSignedByItsUser pinned t z =
+    IsSignedBy pinned t z.value.plan.user (version_of 0 z.value.plan.vector) (structure.spell z.value) z.signature
+
+-- and so is the certificate of a pending operation
+abbrev pub IsCertSignedByItsUser : Key → Table → PendingItem → Type 0
+IsCertSignedByItsUser pinned t i =
+    IsSignedBy pinned t i.cert.user (version_of 0 i.plan.vector) (cert.spell i.cert) i.signature
 
 -- ---- on which handles parts stand
 
@@ -34,7 +47,7 @@ IsSignedBy pinned t u text signature = IsSomeAnd (key_by pinned t u) (λ k. vali
 pub record IsUsersStructure (pinned : Key) (x : View) (u : User) (z : Signed Structure) : Type 0 where
   pub there : Contains x.lists.structures z
   pub user : z.value.plan.user ≡ u
-  pub signed : IsSignedBy pinned x.table u (structure.spell z.value) z.signature
+  pub signed : IsSignedByItsUser pinned x.table z
 
 -- the user's part stands on the handle of such a structure
 abbrev pub StandsOnOwn : Key → View → User → Type 0
@@ -54,7 +67,7 @@ pub record IsMembersRecord (pinned : Key) (x : View) (g : Group) (r : GroupRecor
   pub within : Signed Structure
   pub there : Contains x.lists.structures within
   pub listed : Contains within.value.groups r
-  pub signed : IsSignedBy pinned x.table within.value.plan.user (structure.spell within.value) within.signature
+  pub signed : IsSignedByItsUser pinned x.table within
   pub member : is_member x.table g within.value.plan.user r.table ≡ true
 
 -- the group's part stands on the handle of such a record
@@ -74,7 +87,7 @@ StandsOnFirstOfGroup pinned x g =
 pub record HasCause (pinned : Key) (x : View) (p : Principal) (i : INumber) : Type 0 where
   pub pending : PendingItem
   pub there : Contains (items x.lists) pending
-  pub signed : IsSignedBy pinned x.table pending.cert.user (cert.spell pending.cert) pending.signature
+  pub signed : IsCertSignedByItsUser pinned x.table pending
   pub change : Change Digest
   pub listed : Contains pending.cert.changes change
   pub principal : change.principal ≡ p
@@ -92,11 +105,9 @@ ChangesAreCaused pinned x =
 
 pub record IsSigned (pinned : Key) (x : View) : Type 0 where
   -- each structure is signed under its user's key,
-  pub structures : (z : Signed Structure) → Contains x.lists.structures z
-      → IsSignedBy pinned x.table z.value.plan.user (structure.spell z.value) z.signature
+  pub structures : (z : Signed Structure) → Contains x.lists.structures z → IsSignedByItsUser pinned x.table z
   -- and so is the certificate of each pending operation;
-  pub certificates : (i : PendingItem) → Contains (items x.lists) i
-      → IsSignedBy pinned x.table i.cert.user (cert.spell i.cert) i.signature
+  pub certificates : (i : PendingItem) → Contains (items x.lists) i → IsCertSignedByItsUser pinned x.table i
   -- the record of a group is of a user who was a member at its table version.
   pub records : (z : Signed Structure) (r : GroupRecord) → Contains x.lists.structures z → Contains z.value.groups r
       → is_member x.table r.group z.value.plan.user r.table ≡ true

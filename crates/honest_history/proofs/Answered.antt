@@ -11,6 +11,7 @@ use Rattle.layout.specs.Types.{Bytes, Key}
 use Rattle.lms_sign.specs.Signature.{valid}
 use Rattle.principals.specs.declared.table.Listing.{Listing}
 use Rattle.principals.specs.Table.{key_of, lists_user}
+use Rattle.principals.proofs.Keys.{key_stays}
 use Rattle.version_order.specs.Plan.{Plan, plan}
 use Rattle.version_order.specs.Structure.{Structure, structure}
 use Rattle.version_order.specs.StructureLaws.{lawful_structure}
@@ -157,13 +158,13 @@ module _ (naming : Naming) (pinned : Key) (es : List Event) (z : Signed Structur
         | inl last ↦ (
             let r = find_some (λ (y : Signed Structure). y.value.plan.user == z.value.plan.user) (committed es) z last in
             let s = g.signed z r.0 in
-            (s.0, s.1))
+            (s.0, key_stays z.value.plan.user _ now.table s.0 s.1))
         | inr honest ↦ (
             let own = next_item (state_after pinned honest.earlier) honest.cert in
             let here = honest_open pinned es z.value naming g honest in
             let s = g.tabled.signed own here.0 in
             let of_user : own.cert.user ≡ z.value.plan.user = ap (λ (p : Plan). p.user) (sym honest.over.plan) in
-            (s.0, ap (λ u. key_of u now.table) (sym of_user) ∙ s.1))
+            (s.0, ap (λ u. key_of u now.table) (sym of_user) ∙ key_stays own.cert.user _ now.table s.0 s.1))
       ]
 
   -- it comes to the test whether its operation is pending

@@ -14,7 +14,7 @@ use Rattle.honest_history.proofs.Chains.{Descending}
 use Rattle.honest_history.proofs.Entries.{Commits, Entries, Links}
 use Rattle.honest_history.proofs.Members.{in_reverse, in_unreverse}
 use Rattle.honest_history.proofs.Tabled.{IsStructureSigned, RecordsOf, Tabled, latest_vector}
-use Rattle.honest_history.proofs.Tables.{key_for, since_first}
+use Rattle.honest_history.proofs.Tables.{first_key, key_for, since_first}
 use Rattle.honest_history.proofs.Timeline.{Latest, Placing, number, user}
 use Rattle.honest_history.proofs.Vectors.{none_listed}
 
@@ -109,7 +109,7 @@ good_start pinned =
       tabled = record { listed = λ i h. absurd h; since = since_first pinned; follows = tt; signed = λ i h. absurd h };
       descending = tt;
       signed = λ z h. absurd h;
-      super_key = λ v. refl;
+      super_key = first_key pinned;
       recorded = λ u z e. cc;
       waiting = refl;
     }

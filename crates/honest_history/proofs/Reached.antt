@@ -9,6 +9,9 @@ use Rattle.std.proofs.lemmas.List.Elements.{All-head, All-tail}
 use Rattle.layout.specs.Format.{IsBytes, whole}
 use Rattle.layout.specs.Laws.{in_range}
 use Rattle.layout.specs.Types.{Bytes, Key}
+use Rattle.principals.specs.Table.{key_at}
+use Rattle.principals.proofs.Keys.{key_since, key_stays}
+use Rattle.version_order.specs.Plan.{Plan}
 use Rattle.version_order.specs.Structure.{Structure, structure}
 use Rattle.version_order.specs.StructureLaws.{lawful_structure}
 use Rattle.version_order.specs.Vector.{can_raise_all, version_of}
@@ -16,6 +19,7 @@ use Rattle.update_cert.specs.Cert.{Cert, cert}
 use Rattle.update_cert.specs.CertLaws.{lawful_cert}
 use Rattle.pending_list.specs.declared.signed.Signed.{Signed}
 use Rattle.pending_list.specs.Signed.{signed}
+use Rattle.pending_list.specs.Groups.{table_version}
 use Rattle.pending_list.specs.Reply.{digest_of_last}
 use Rattle.consistency_server.specs.declared.call.CallKind.{CallKind}
 use Rattle.consistency_server.specs.declared.call.CallKind.TheVariants.{Update, Commit}
@@ -30,7 +34,7 @@ use Rattle.honest_history.proofs.Committing.{good_committed}
 use Rattle.honest_history.proofs.Events.{latests_after}
 use Rattle.honest_history.proofs.Good.{Good, good_start, is_committed, item_of, items, pending_in}
 use Rattle.honest_history.proofs.Members.{bytes_true}
-use Rattle.honest_history.proofs.Outcomes.{IsCert, NewCommit, NewUpdate, NoCommit, NoUpdate, SameCommit, SameUpdate, commit_cases, read_whole, update_cases}
+use Rattle.honest_history.proofs.Outcomes.{IsCert, IsStructure, NewCommit, NewUpdate, NoCommit, NoUpdate, SameCommit, SameUpdate, commit_cases, read_whole, update_cases}
 use Rattle.honest_history.proofs.Placing.{CanPlace, good_placed}
 use Rattle.honest_history.proofs.Signing.{sign_records}
 use Rattle.honest_history.proofs.Tabled.{IsStructureSigned}
@@ -92,8 +96,9 @@ module _ (names : Naming) (pinned : Key) where
 
   -- ---- calls
 
-  pub can_place : (es : List Event) (text : Bytes) (c : Signed Cert) → IsBytes text → IsCert (state_after pinned es) text c → is_next (state_after pinned es) c.value ≡ true → at_limit (state_after pinned es) c.value ≡ false → CanPlace pinned es c × (signed cert).Fits c
-  can_place es text c bytes is next limit =
+  pub can_place : (es : List Event) (text : Bytes) (c : Signed Cert) → IsBytes text → IsCert (state_after pinned es) text c → is_next (state_after pinned es) c.value ≡ true → at_limit (state_after pinned es) c.value ≡ false
+      → Good pinned es → CanPlace pinned es c × (signed cert).Fits c
+  can_place es text c bytes is next limit good =
       let fits = (read_whole cert lawful_cert text c bytes is.read).0 in
       let below : c.value.user < 64 = omega (arith, (in_range w8 0 63 c.value.user fits.0.0).1) in
       let state : State = state_after pinned es in
@@ -102,7 +107,7 @@ module _ (names : Naming) (pinned : Key) where
         record {
           users = below;
           key = is.key;
-          has = is.has;
+          has = key_since c.value.user (version_of 0 state.vector) state.table good.tabled.since ∙ is.has;
           signed = is.signed;
           number = eqb-true c.value.number (version_of c.value.user state.vector + 1) n.0;
           last = bytes_true c.value.last (digest_of_last (structure_of c.value.user state)) m.1 ∙ ap digest_of_last ((latests_after es).of_user c.value.user below);
@@ -111,6 +116,18 @@ module _ (names : Naming) (pinned : Key) where
         },
         fits,
       )
+
+  -- the structure of an operation that was placed is signed under the key by which its certificate was
+  structure_signed : (es : List Event) (text : Bytes) (z : Signed Structure) → IsStructure (state_after pinned es) text z → Good pinned es → IsHonest names pinned es z.value → IsStructureSigned (table_after pinned es) z
+  structure_signed es text z is good honest =
+      let own = next_item (state_after pinned honest.earlier) honest.cert in
+      let (there, opened) = honest_open pinned es z.value names good honest in
+      let u = z.value.plan.user in
+      let v = table_version z.value.plan in
+      let (k, has, sign) = good.tabled.signed own there in
+      let user : own.cert.user ≡ u = sym (ap (λ (p : Plan). p.user) honest.over.plan ∙ good.placing.planned_user own there) in
+      let at : key_at u v (table_after pinned es) ≡ Some k = ap (λ w. key_at w v (table_after pinned es)) (sym user) ∙ ap (λ (p : Plan). key_at own.cert.user (table_version p) (table_after pinned es)) honest.over.plan ∙ has in
+      (is.key, at ∙ sym (key_stays u v (table_after pinned es) k at) ∙ is.has, is.signed)
 
   abbrev Goes : List Event → Outcome → Type 0
   Goes es o = AreHonest names pinned (happened o ++ es) → Reached names pinned es → Reached names pinned (happened o ++ es)
@@ -121,13 +138,13 @@ module _ (names : Naming) (pinned : Key) where
       elim (update_cases (state_after pinned es) text (whole (signed cert) text) refl) [
         | NoUpdate s refused e ↦ subst (Goes es) (sym e) (λ h r. r)
         | SameUpdate c w is f e ↦ subst (Goes es) (sym e) (λ h r. r)
-        | NewUpdate c is n l e ↦ subst (Goes es) (sym e) (λ h r. let can = can_place es text c bytes is n l in (can.0, can.1, r))
+        | NewUpdate c is n l e ↦ subst (Goes es) (sym e) (λ h r. let can = can_place es text c bytes is n l (reached es r).0 in (can.0, can.1, r))
       ]
   by_call es text Commit bytes =
       elim (commit_cases (state_after pinned es) text (whole (signed structure) text) refl) [
         | NoCommit s e ↦ subst (Goes es) (sym e) (λ h r. r)
         | SameCommit e ↦ subst (Goes es) (sym e) (λ h r. r)
-        | NewCommit z is p e ↦ subst (Goes es) (sym e) (λ h r. ((is.key, is.has, is.signed), (read_whole structure lawful_structure text z bytes is.read).0, h.0, r))
+        | NewCommit z is p e ↦ subst (Goes es) (sym e) (λ h r. (structure_signed es text z is (reached es r).0 h.0, (read_whole structure lawful_structure text z bytes is.read).0, h.0, r))
       ]
 
   honest_before : (es : List Event) (o : Outcome) → AreHonest names pinned (happened o ++ es) → AreHonest names pinned es

@@ -159,7 +159,7 @@ module _ (naming : Naming) (pinned : Key) (first : NamesFirst naming pinned) whe
               served_again c w (is.read, here.1) here.0 f now (sym (same_payload w.reply payload a)))
           | NewUpdate c is n l e ↦ subst Answers (sym e) (λ a now.
               let here = read_whole cert lawful_cert text c bytes is.read in
-              let can = can_place naming pinned es text c bytes is n l in
+              let can = can_place naming pinned es text c bytes is n l (reached naming pinned es r).0 in
               served_new c (is.read, here.1) can.0 can.1 now (sym (same_payload (text_to es c) payload a)))
         ]
 

@@ -3,7 +3,7 @@
 use Rattle.std.proofs.Common.{◌≡◌, ◌≢◌, ℕ, ◌<◌, ◌≤◌, List, [], ◌∷◌, ◌++◌, map, Option, Some, None, Bool, true, false, cond, refl, sym, ap, ◌∙◌, subst, inl, inr, arith}
 use Rattle.std.specs.Prelude.{◌==◌, ◌&&◌, ◌||◌, find, nat_le}
 use Rattle.std.specs.List.{All, list_any}
-use Rattle.std.specs.Option.{option_map}
+use Rattle.std.specs.Option.{option_and_then}
 use Rattle.std.specs.Ordering.{is_eq, is_lt, nat_cmp}
 use Rattle.std.proofs.lemmas.Bool.{eqb-true, ne_eqb, lt-ltb, le-leb, lt-leb, leb-true, cases_Bool, and_parts, and_from, and_left, and_right, not-true, or_left, or_parts, or_right, true≢false}
 use Rattle.std.proofs.lemmas.Cmp.{nat_cmp_total}
@@ -13,7 +13,8 @@ use Rattle.layout.specs.AscendingKeys.{key_test}
 use Rattle.layout.specs.AscendingLaws.{all_with_row}
 use Rattle.principals.specs.declared.table.Listing.{Listing}
 use Rattle.principals.specs.declared.table.Row.{Row}
-use Rattle.principals.specs.Table.{Table, counts_at, ended, genesis, is_listed, is_member, is_open, is_row_of, key_of, lists_user, user_of}
+use Rattle.principals.specs.Table.{Table, counts_at, ended, genesis, is_listed, is_member, is_open, is_row_of, key_at, listed_key_at, lists_user, user_of}
+use Rattle.principals.proofs.Keys.{key_since}
 use Rattle.update_cert.specs.Change.{Action, Make, Put, Remove, Link, Unlink, AddUser, AddMember, DropMember, Change}
 use Rattle.update_cert.specs.Tables.{alters, table_after, table_after_change, table_becomes, table_effect}
 use Rattle.update_cert.specs.Cert.{Cert}
@@ -174,31 +175,38 @@ listed_since n u t h e =
 
 -- ---- keys
 
--- The key under which an operation of this user is signed, where user 0's number is this one before it: a user has one
--- key.
+-- the key under which an operation of this user is signed, where user 0's number is this one before it
 abbrev pub key_for : Table → ℕ → ℕ → Option (List ℕ)
-key_for t user version = key_of user t
+key_for t user version = key_at user version t
+
+-- user 0 has its key from the beginning on
+pub first_key : (key : List ℕ) (v : ℕ) → key_for (genesis key) 0 v ≡ Some key
+first_key key v = key_since 0 v (genesis key) (All-cons (λ l. l.since ≤ v) (record { user = 0; since = 0; key = key }) [] (omega arith) (All-nil (λ l. l.since ≤ v)))
 
 pub key_listed : (t : Table) (u v : ℕ) (k : List ℕ) → key_for t u v ≡ Some k → lists_user t u ≡ true
 key_listed t u v k h = go (find (λ l. l.user == u) t.users) refl h
   where
-    go : (o : Option Listing) → find (λ l. l.user == u) t.users ≡ o → option_map (λ l. l.key) o ≡ Some k → lists_user t u ≡ true
-    go None e m = cc
+    go : (o : Option Listing) → find (λ l. l.user == u) t.users ≡ o → option_and_then (listed_key_at v) o ≡ Some k → lists_user t u ≡ true
+    go None e m = absurd (cc m)
     go (Some l) e m = let r = find_some (λ (l : Listing). l.user == u) t.users l e in any_from (λ (l : Listing). l.user == u) t.users l r.0 r.1
 
-key_becomes : (n u : ℕ) (k : List ℕ) (a : Action (List ℕ)) (t : Table) → alters a t ≡ true → key_of u t ≡ Some k → key_of u (table_becomes n a t) ≡ Some k
-key_becomes n u k (Make new) t e h = h
-key_becomes n u k (Put new) t e h = h
-key_becomes n u k Remove t e h = h
-key_becomes n u k (Link entry) t e h = h
-key_becomes n u k (Unlink name) t e h = h
-key_becomes n u k (AddUser w key) t e h =
+key_becomes : (n u v : ℕ) (k : List ℕ) (a : Action (List ℕ)) (t : Table) → alters a t ≡ true → key_at u v t ≡ Some k → key_at u v (table_becomes n a t) ≡ Some k
+key_becomes n u v k (Make new) t e h = h
+key_becomes n u v k (Put new) t e h = h
+key_becomes n u v k Remove t e h = h
+key_becomes n u v k (Link entry) t e h = h
+key_becomes n u v k (Unlink name) t e h = h
+key_becomes n u v k (AddUser w key) t e h =
     let none : lists_user t w ≡ false = not-true (lists_user t w) e in
-    let other : (w == u) ≡ false = ne_eqb w u (λ same. true≢false (sym (key_listed t u 0 k h) ∙ ap (lists_user t) (sym same) ∙ none)) in
-    ap (option_map (λ (l : Listing). l.key)) (find_with (λ l. l.user == u) t.users (record { user = w; since = n; key = key }) other none) ∙ h
-key_becomes n u k (AddMember g w) t e h = h
-key_becomes n u k (DropMember g w) t e h = h
+    let other : (w == u) ≡ false = ne_eqb w u (λ same. true≢false (sym (key_listed t u v k h) ∙ ap (lists_user t) (sym same) ∙ none)) in
+    ap (option_and_then (listed_key_at v)) (find_with (λ l. l.user == u) t.users (record { user = w; since = n; key = key }) other none) ∙ h
+key_becomes n u v k (AddMember g w) t e h = h
+key_becomes n u v k (DropMember g w) t e h = h
+
+-- a user has one key, so an operation leaves the keys
+pub key_kept : (c : Cert) (t : Table) (u v : ℕ) (k : List ℕ) → key_for t u v ≡ Some k → key_for (after_operation c t) u v ≡ Some k
+key_kept c t u v k h = all_keep (λ w. key_for w u v ≡ Some k) c.user c.number (λ zero a w e. key_becomes c.number u v k a w e) c.changes t h
 
 -- an operation of user 0 leaves the keys for numbers before its own
 pub key_stays : (c : Cert) (t : Table) (u v : ℕ) (k : List ℕ) → (c.user ≡ 0 → v < c.number) → key_for t u v ≡ Some k → key_for (after_operation c t) u v ≡ Some k
-key_stays c t u v k below h = all_keep (λ w. key_for w u v ≡ Some k) c.user c.number (λ zero a w e. key_becomes c.number u k a w e) c.changes t h
+key_stays c t u v k below h = key_kept c t u v k h

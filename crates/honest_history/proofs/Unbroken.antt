@@ -3,16 +3,18 @@ use Rattle.std.proofs.Common.{◌≡◌, ℕ, List, Option, Some, None, true, fa
 use Rattle.std.specs.Prelude.{◌==◌, ◌||◌, not}
 use Rattle.std.specs.Option.{option_map, option_map_or}
 use Rattle.std.specs.Str.{bytes_eq}
-use Rattle.std.proofs.lemmas.Bool.{ne_eqb, cases_eq, and_from, or_left, or_right}
+use Rattle.std.proofs.lemmas.Bool.{eq-eqb, ne_eqb, cases_eq, and_from, or_left, or_right}
 use Rattle.lms_sign.specs.Signature.{valid}
-use Rattle.principals.specs.Table.{Table}
+use Rattle.principals.specs.Table.{Table, key_at}
+use Rattle.version_order.specs.Plan.{Plan}
 use Rattle.version_order.specs.Structure.{Structure, structure}
+use Rattle.version_order.specs.Vector.{version_of}
 use Rattle.update_cert.specs.Cert.{cert}
 use Rattle.pending_list.specs.declared.signed.Signed.{Signed}
 use Rattle.pending_list.specs.Groups.{table_version}
 use Rattle.pending_list.specs.Reply.{PendingItem, Reply}
 use Rattle.reply_rules.specs.Lists.{Lists, items}
-use Rattle.reply_check.specs.FirstBroken.{cert_sent, cert_verifies, certificates, lists_break, of_reply, own_last, own_pending, same_bytes, signatures, structure_sent, structure_verifies, super_signature, verifies}
+use Rattle.reply_check.specs.FirstBroken.{cert_is_signed, cert_sent, cert_verifies, certificates, lists_break, of_reply, own_last, own_pending, same_bytes, signatures, structure_is_signed, structure_sent, structure_verifies, super_signature, verifies}
 use Rattle.reply_check.proofs.ListsLaws.{last_one}
 use Rattle.honest_history.proofs.EntryRules.{entries_hold}
 use Rattle.honest_history.proofs.ListRules.{known_hold, lists_hold, numbers_hold}
@@ -25,8 +27,15 @@ use Rattle.honest_history.proofs.Timeline.{user}
 use Rattle.honest_history.proofs.Tops.{Snapshot, item_in, lists_at}
 
 -- what is signed under the key that the table has verifies by it
-verifies_signed : (t : Table) (u v : ℕ) (text signature : List ℕ) → IsSigned t u v text signature → verifies t u text signature ≡ true
-verifies_signed t u v text signature h = or_right (u == 0) _ (ap (λ o. option_map_or (λ key. valid key text signature) o false) h.1 ∙ h.2)
+verifies_signed : (t : Table) (p : Plan) (u : ℕ) (text signature : List ℕ) → p.user ≡ u → IsSigned t u (table_version p) text signature → verifies t u (version_of 0 p.vector) text signature ≡ true
+verifies_signed t p u text signature of h =
+    elim (cases_eq u 0) [
+      | inl zero ↦ or_left (u == 0) _ (eq-eqb u 0 zero)
+      | inr other ↦ (
+          let at : table_version p ≡ version_of 0 p.vector = rw (ne_eqb p.user 0 (λ e. other (sym of ∙ e))) refl in
+          let has : key_at u (version_of 0 p.vector) t ≡ Some h.0 = ap (λ v. key_at u v t) (sym at) ∙ h.1 in
+          or_right (u == 0) _ (ap (λ o. option_map_or (λ key. valid key text signature) o false) has ∙ h.2))
+    ]
 
 -- and user 0's under the key that every client knows
 verifies_super : (t : Table) (pinned : List ℕ) (u v : ℕ) (text signature : List ℕ) → ((v : ℕ) → key_for t 0 v ≡ Some pinned) → IsSigned t u v text signature → (not (u == 0) || valid pinned text signature) ≡ true
@@ -54,14 +63,14 @@ module _ (s : Snapshot) where
   signatures_hold : signatures s.table x ≡ true
   unfolding signatures
   signatures_hold =
-      all_from (λ (z : Signed Structure). verifies s.table z.value.plan.user (structure.spell z.value) z.signature) s.structures
-      (λ z h. verifies_signed s.table z.value.plan.user (table_version z.value.plan) (structure.spell z.value) z.signature (s.signed z h))
+      all_from (structure_is_signed s.table) s.structures
+      (λ z h. verifies_signed s.table z.value.plan z.value.plan.user (structure.spell z.value) z.signature refl (s.signed z h))
 
   certificates_hold : certificates s.table x ≡ true
   unfolding certificates
   certificates_hold =
-      all_from (λ (i : PendingItem). verifies s.table i.cert.user (cert.spell i.cert) i.signature) (items x)
-      (λ i h. verifies_signed s.table i.cert.user (table_version i.plan) (cert.spell i.cert) i.signature (s.tabled.signed i (item_in s i h).0))
+      all_from (cert_is_signed s.table) (items x)
+      (λ i h. verifies_signed s.table i.plan i.cert.user (cert.spell i.cert) i.signature (s.placing.planned_user i (item_in s i h).0) (s.tabled.signed i (item_in s i h).0))
 
   super_hold : (pinned : List ℕ) → ((v : ℕ) → key_for s.table 0 v ≡ Some pinned) → super_signature pinned reply_at ≡ true
   unfolding super_signature

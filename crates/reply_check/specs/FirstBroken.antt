@@ -6,14 +6,15 @@ use Rattle.std.specs.Option.{option_and_then, option_map, option_map_or}
 use Rattle.std.specs.Result.{result_ok}
 use Rattle.std.specs.Str.{bytes_eq}
 use Rattle.layout.specs.Format.{whole}
-use Rattle.layout.specs.Types.{Bytes, Key, User}
+use Rattle.layout.specs.Types.{Bytes, Key, User, Version}
 use Rattle.lms_sign.specs.Signature.{valid}
 use Rattle.version_order.specs.Structure.{Structure, structure}
+use Rattle.version_order.specs.Vector.{version_of}
 use Rattle.update_cert.specs.Cert.{cert}
 use Rattle.pending_list.specs.declared.signed.Signed.{Signed}
 use Rattle.pending_list.specs.Signed.{signed}
 use Rattle.pending_list.specs.Reply.{PendingItem, Reply, reply}
-use Rattle.principals.specs.Table.{Table, key_of}
+use Rattle.principals.specs.Table.{Table, key_at}
 use Rattle.tree_parts.specs.Blocks.{Blocks}
 use Rattle.client_tree.specs.View.{View, handle_in}
 use Rattle.client_tree.specs.Principals.{IsNamed, IsPending}
@@ -93,15 +94,26 @@ reply_breaks k text = if form text then option_and_then (of_reply k) (reply_in t
 
 -- ---- the rules by the table of principals
 
--- a signature of another user than user 0 verifies under the key that the table has of the user
-abbrev pub verifies : Table → User → Bytes → Bytes → Bool
-verifies t user text signature = (user == 0) || option_map_or (λ key. valid key text signature) (key_of user t) false
+-- a signature of another user than user 0 verifies under the key that the table has of the user at this number of
+-- user 0's
+abbrev pub verifies : Table → User → Version → Bytes → Bytes → Bool
+verifies t user version text signature =
+    (user == 0) || option_map_or (λ key. valid key text signature) (key_at user version t) false
+
+-- that of a structure, at its plan's version of user 0
+abbrev pub structure_is_signed : Table → Signed Structure → Bool
+structure_is_signed t z =
+    verifies t z.value.plan.user (version_of 0 z.value.plan.vector) (structure.spell z.value) z.signature
+
+-- and that of a pending certificate
+abbrev pub cert_is_signed : Table → PendingItem → Bool
+cert_is_signed t i = verifies t i.cert.user (version_of 0 i.plan.vector) (cert.spell i.cert) i.signature
 
 unfoldable pub signatures : Table → Lists → Bool
-signatures t x = list_all (λ z. verifies t z.value.plan.user (structure.spell z.value) z.signature) x.structures
+signatures t x = list_all (structure_is_signed t) x.structures
 
 unfoldable pub certificates : Table → Lists → Bool
-certificates t x = list_all (λ i. verifies t i.cert.user (cert.spell i.cert) i.signature) (items x)
+certificates t x = list_all (cert_is_signed t) (items x)
 
 -- the first of them that the lists break
 abbrev pub lists_break : Table → Lists → Option Rule

@@ -3,34 +3,41 @@
 ghost use Rattle.std.specs.Prelude.{◌≡◌, IfOk, IsSomeAnd};
 ghost use Rattle.std.specs.List.{list_all};
 ghost use Rattle.reply_rules.specs.Lists.{lists_of};
-ghost use Rattle.update_cert.specs.Cert.{cert};
-ghost use Rattle.version_order.specs.Structure.{structure};
-ghost use Rattle.reply_check.specs.FirstBroken.{lists_break, verifies};
+ghost use Rattle.version_order.specs.Vector.{version_of};
+ghost use Rattle.reply_check.specs.FirstBroken.{cert_is_signed, lists_break, structure_is_signed};
 
 use crate::known::Known;
 use crate::lists::Admitted;
-use layout::{Memory, User};
+use layout::{Memory, Principal, User};
 use pending_list::{PendingItem, Signed};
 use principals::Table;
 use reply_rules::Rule;
 use std::alloc::Allocator;
-use version_order::Structure;
+use version_order::{Plan, Structure};
 
-/// Whether a structure of another user than user 0 is signed by the key that the table has of the user.
+/// The version of user 0 in a plan.
+pub(crate) fn supers_version<A: Allocator>(plan: &Plan<A>) -> u32
+    ensures { result ≡ version_of 0 plan.now.vector }
+{
+    plan.vector().version_of(Principal::from(User::superuser()))
+}
+
+/// Whether a structure of another user than user 0 is signed by the key that the table has of the user at its plan's
+/// version of user 0.
 fn structure_is_signed<A: Allocator + Copy>(
     alloc: A,
     known: &Known<'_, A>,
     table: &Table<A>,
     shown: &Signed<Structure<A>>,
 ) -> Result<bool, Memory>
-    ensures { IfOk result (λ is. is
-        ≡ verifies table.now shown.now.value.plan.user (structure.spell shown.now.value) shown.now.signature) }
+    ensures { IfOk result (λ is. is ≡ structure_is_signed table.now shown.now) }
 {
     let user = shown.value.plan().user();
     if user == User::superuser() {
         return Ok(true);
     }
-    match table.key_of(user) {
+    let version = supers_version(shown.value.plan());
+    match table.key_at(user, version) {
         Some(key) => known.structure_is_signed(alloc, &key, shown),
         None => Ok(false),
     }
@@ -43,14 +50,14 @@ fn cert_is_signed<A: Allocator + Copy>(
     table: &Table<A>,
     item: &PendingItem<A>,
 ) -> Result<bool, Memory>
-    ensures { IfOk result (λ is. is
-        ≡ verifies table.now item.now.cert.user (cert.spell item.now.cert) item.now.signature) }
+    ensures { IfOk result (λ is. is ≡ cert_is_signed table.now item.now) }
 {
     let user = item.cert().user();
     if user == User::superuser() {
         return Ok(true);
     }
-    match table.key_of(user) {
+    let version = supers_version(item.plan());
+    match table.key_at(user, version) {
         Some(key) => known.cert_is_signed(alloc, &key, item),
         None => Ok(false),
     }
@@ -63,8 +70,7 @@ fn structures_are_signed<A: Allocator + Copy>(
     table: &Table<A>,
     structures: &[Signed<Structure<A>>],
 ) -> Result<bool, Memory>
-    ensures { IfOk result (λ are. are
-        ≡ list_all (λ z. verifies table.now z.value.plan.user (structure.spell z.value) z.signature) structures.now) }
+    ensures { IfOk result (λ are. are ≡ list_all (structure_is_signed table.now) structures.now) }
 {
     for shown in structures {
         if !structure_is_signed(alloc, known, table, shown)? {
@@ -81,8 +87,7 @@ fn certs_are_signed<A: Allocator + Copy>(
     table: &Table<A>,
     pending: &[PendingItem<A>],
 ) -> Result<bool, Memory>
-    ensures { IfOk result (λ are. are
-        ≡ list_all (λ i. verifies table.now i.cert.user (cert.spell i.cert) i.signature) pending.now) }
+    ensures { IfOk result (λ are. are ≡ list_all (cert_is_signed table.now) pending.now) }
 {
     for item in pending {
         if !cert_is_signed(alloc, known, table, item)? {

@@ -5,8 +5,9 @@ ghost use Rattle.std.specs.Option.{option_copied};
 ghost use Rattle.lms_sign.specs.Signature.{valid};
 ghost use Rattle.update_cert.specs.Cert.{cert};
 ghost use Rattle.version_order.specs.Structure.{structure};
-ghost use Rattle.reply_check.specs.Verified.{AreOf};
+ghost use Rattle.reply_check.specs.Verified.{IsJudgedBy};
 
+use crate::by_table::supers_version;
 use crate::lists::{Lists, pending_of, shown_of};
 use client_tree::PendingTable;
 use layout::User;
@@ -54,14 +55,14 @@ impl<A: Allocator> Good<A> {
         &self.table.table
     }
 
-    /// Whether the signatures of this user in the lists were verified under this key.
-    fn has_key(&self, user: User, key: &PublicKey) -> bool
-        ensures { result ≡ true → AreOf self.now.lists user key.now }
+    /// Whether what the lists show of this user, at this version of user 0, was verified under this key.
+    fn has_key(&self, user: User, version: u32, key: &PublicKey) -> bool
+        ensures { result ≡ true → IsJudgedBy self.now.lists self.now.table user version key.now }
     {
         if user == User::superuser() {
             return self.lists.has_pinned(key);
         }
-        match self.table.table.key_of(user) {
+        match self.table.table.key_at(user, version) {
             Some(listed) => listed == *key,
             None => false,
         }
@@ -71,21 +72,21 @@ impl<A: Allocator> Good<A> {
     pub(crate) fn structure_of(&self, key: &PublicKey, user: User) -> Option<&Signed<Structure<A>>>
         ensures { IfSome (option_copied result) (λ z. valid key.now (structure.spell z.value) z.signature ≡ true) }
     {
-        if self.has_key(user, key) {
-            shown_of(user, self.lists.structures())
-        } else {
-            None
+        let shown = shown_of(user, self.lists.structures())?;
+        if !self.has_key(user, supers_version(shown.value.plan()), key) {
+            return None;
         }
+        Some(shown)
     }
 
     /// The pending certificate of this user, not the own one, where it was verified under this key.
     pub(crate) fn cert_of(&self, key: &PublicKey, user: User) -> Option<&Signed<Cert<A>>>
         ensures { IfSome (option_copied result) (λ c. valid key.now (cert.spell c.value) c.signature ≡ true) }
     {
-        if !self.has_key(user, key) {
+        let item = pending_of(user, self.lists.others())?;
+        if !self.has_key(user, supers_version(item.plan()), key) {
             return None;
         }
-        let item = pending_of(user, self.lists.others())?;
         Some(item.signed_cert())
     }
 }
