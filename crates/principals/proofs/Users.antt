@@ -16,7 +16,8 @@ use Rattle.layout.specs.AscendingLaws.{Ordered, ascends_from_fits, fits_from_asc
 use Rattle.principals.specs.declared.error.TableError.TheVariants.{Listed}
 use Rattle.principals.specs.declared.table.Listing.{Listing}
 use Rattle.principals.specs.Table.{user_of, genesis, user_refused}
-use Rattle.principals.specs.TableText.{key, listing, later_listing, users, table, without_rows}
+use Rattle.principals.specs.TableText.{key, listing, users, table, without_rows}
+use Rattle.principals.specs.TableTextLaws.{later_listing}
 use Rattle.principals.proofs.Bools.{or_true}
 
 -- a user other than user 0, wherever it stands

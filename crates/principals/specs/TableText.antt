@@ -37,10 +37,6 @@ listed_at (Some before) = uint_in w32 1 4294967295
 abbrev pub listing : RowAfter Listing
 listing before = listing_of (who before) (listed_at before)
 
--- a listing other than the first
-abbrev pub later_listing : RowAfter Listing
-later_listing before = listing_of (guarded user (above nat_cmp user_of before) Order) (uint_in w32 1 4294967295)
-
 abbrev pub users : Format (List Listing)
 users = listed (uint_in w8 1 255) listing
 
