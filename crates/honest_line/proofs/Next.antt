@@ -86,7 +86,7 @@ module _ (keys : Keys) (run : List HonestEvent) (is : IsHonestRun keys run) (p :
         identifiers = p.identifiers;
       }
 
-      honest : IsStep (owner keys u) (Open s) call (Open new) → IsHandedIn (Open s) (held (stored run)) None call → new ≡ s → IsHonestStep keys (client_of u es) (history run) (stored run) h
+      honest : IsStep (owner keys u) (Open s) call (Open new) → IsHandedIn (Open s) (held (stored run)) None call → new ≡ s → IsHonestStep keys run h
       honest taken handed same = record {
         sent = tt;
         answered = tt;

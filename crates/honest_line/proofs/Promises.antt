@@ -24,7 +24,7 @@ use Rattle.reply_rules.specs.declared.rule.Rule.{Rule}
 use Rattle.reply_rules.specs.declared.rule.Rule.TheVariants as rule
 use Rattle.wire.specs.declared.kinds.Status.{Status}
 use Rattle.wire.specs.declared.kinds.Status.TheVariants as status
-use Rattle.client_tree.specs.Held.{Block, held}
+use Rattle.client_tree.specs.Held.{held}
 use Rattle.checked_blocks.specs.CheckedBlocks.{known_blocks}
 use Rattle.client_releases.specs.declared.phase.Phase.{Phase}
 use Rattle.client_releases.specs.declared.phase.Phase.TheVariants as phase
@@ -332,7 +332,13 @@ module _ (keys : Keys) (naming : Naming) (texts : List Bytes) (g : Grounds keys 
 
   -- ---- a step
 
-  module _ (sent : List ServerCall) (es : List Event) (blocks : List Block) (s : Simulates keys naming texts g sent es) (h : HonestEvent) (is : IsHonestStep keys (client_of h.user es) sent blocks h) (k : KeepsTo keys naming texts es) where
+  module _ (older : List HonestEvent) (s : Simulates keys naming texts g (history older) (events older)) (h : HonestEvent) (is : IsHonestStep keys older h) (k : KeepsTo keys naming texts (events older)) where
+    abbrev sent : List ServerCall
+    sent = history older
+
+    abbrev es : List Event
+    es = events older
+
     pub statuses : IfSome h.exchange (λ x. MayAnswer (pk 0) sent h.user x.call x.answer.status)
     statuses = go h.exchange is.sent is.answered
       where
@@ -344,7 +350,7 @@ module _ (keys : Keys) (naming : Naming) (texts : List Bytes) (g : Grounds keys 
     abbrev AreIn : Call → Client → Type 0
     AreIn call after = (x : Bytes) → In x (hashed_at (record { user = h.user; call = call; after = after })) → In x texts
 
-    by_call : (before : Client) → client_of h.user es ≡ before → (call : Call) (after : Client) → IsStep (owner keys h.user) before call after → IsHandedIn before (held blocks) h.exchange call → AreIn call after → IsRight before call → IsUnbroken call
+    by_call : (before : Client) → client_of h.user es ≡ before → (call : Call) (after : Client) → IsStep (owner keys h.user) before call after → IsHandedIn before (held (stored older)) h.exchange call → AreIn call after → IsRight before call → IsUnbroken call
     by_call (Closed p) same (Hears text answer) after step handed inside right = absurd step
     by_call (Closed p) same (Takes block answer) after step handed inside right = absurd step
     by_call (Closed p) same (Looks q answer) after step handed inside right = absurd step
@@ -370,7 +376,7 @@ module _ (keys : Keys) (naming : Naming) (texts : List Bytes) (g : Grounds keys 
     pub unbroken_step : (AreHashedIn : (t : StepTaken) → h.step ≡ Some t → AreIn t.call t.after) → IfSome h.step (λ t. IsRight (client_of h.user es) t.call) → IfSome h.step (λ t. IsUnbroken t.call)
     unbroken_step inside right = go h.step refl is.taken is.handed_in right
       where
-        go : (o : Option StepTaken) → h.step ≡ o → IfSome o (λ t. IsStep (owner keys h.user) (client_of h.user es) t.call t.after × IsSound t.after) → IfSome o (λ t. IsHandedIn (client_of h.user es) (held blocks) h.exchange t.call) → IfSome o (λ t. IsRight (client_of h.user es) t.call) → IfSome o (λ t. IsUnbroken t.call)
+        go : (o : Option StepTaken) → h.step ≡ o → IfSome o (λ t. IsStep (owner keys h.user) (client_of h.user es) t.call t.after × IsSound t.after) → IfSome o (λ t. IsHandedIn (client_of h.user es) (held (stored older)) h.exchange t.call) → IfSome o (λ t. IsRight (client_of h.user es) t.call) → IfSome o (λ t. IsUnbroken t.call)
         go None at taken handed right = tt
         go (Some t) at taken handed right = by_call (client_of h.user es) refl t.call t.after taken.0 handed (inside t at) right
 
@@ -386,6 +392,6 @@ module _ (keys : Keys) (naming : Naming) (texts : List Bytes) (g : Grounds keys 
       let rest = each older is.1 before right.1 in
       let inside : (t : StepTaken) → h.step ≡ Some t → (x : Bytes) → In x (hashed_at (record { user = h.user; call = t.call; after = t.after })) → In x texts =
       λ t at x i. (let kept = subst (λ (o : Option StepTaken). KeepsTo keys naming texts (events_with h.user o (events older))) at now in kept.hashed_in x (in-left x (hashed_at (record { user = h.user; call = t.call; after = t.after })) (flat_map hashed_at (events older)) i)) in (
-        All-cons (λ (h : HonestEvent). IfSome h.step (λ t. IsUnbroken t.call)) h older (unbroken_step (history older) (events older) (stored older) s h is.0 before inside right.0) rest.0,
-        (statuses (history older) (events older) (stored older) s h is.0 before, rest.1),
+        All-cons (λ (h : HonestEvent). IfSome h.step (λ t. IsUnbroken t.call)) h older (unbroken_step older s h is.0 before inside right.0) rest.0,
+        (statuses older s h is.0 before, rest.1),
       )

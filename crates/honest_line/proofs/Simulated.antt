@@ -17,7 +17,7 @@ use Rattle.reply_rules.specs.Lists.{Lists, items}
 use Rattle.reply_rules.specs.Rules.{lists}
 use Rattle.wire.specs.declared.kinds.Status.TheVariants as status
 use Rattle.client_tree.specs.Genesis.{first_texts}
-use Rattle.client_tree.specs.Held.{Block, held}
+use Rattle.client_tree.specs.Held.{held}
 use Rattle.client_tree.specs.View.{handle_in}
 use Rattle.client_releases.specs.declared.error.ClientError.{ClientError}
 use Rattle.client_releases.specs.declared.error.ClientError.TheVariants as error
@@ -501,7 +501,13 @@ module _ (keys : Keys) (naming : Naming) (texts : List Bytes) (g : Grounds keys 
 
   -- ---- an honest step
 
-  module _ (sent : List ServerCall) (es : List Event) (blocks : List Block) (s : Simulates sent es) (h : HonestEvent) (is : IsHonestStep keys (client_of h.user es) sent blocks h) where
+  module _ (older : List HonestEvent) (s : Simulates (history older) (events older)) (h : HonestEvent) (is : IsHonestStep keys older h) where
+    abbrev sent : List ServerCall
+    sent = history older
+
+    abbrev es : List Event
+    es = events older
+
     abbrev more : List ServerCall
     more = option_to_list (option_and_then carried_out h.exchange)
 
@@ -530,7 +536,7 @@ module _ (keys : Keys) (naming : Naming) (texts : List Bytes) (g : Grounds keys 
       silently : (call : Call) (after : Client) → KeepsNow call after → IsStep (owner keys h.user) (client_of h.user es) call after → IsSound after → IsSilent call (client_of h.user es) after → Then call after
       silently call after k step sound silent = silent_step (more ++ sent) es after_exchange h.user call after k step sound silent
 
-      step_of : (before : Client) → client_of h.user es ≡ before → (call : Call) (after : Client) → KeepsNow call after → IsStep (owner keys h.user) before call after → IsSound after → IsHandedIn before (held blocks) h.exchange call → Then call after
+      step_of : (before : Client) → client_of h.user es ≡ before → (call : Call) (after : Client) → KeepsNow call after → IsStep (owner keys h.user) before call after → IsSound after → IsHandedIn before (held (stored older)) h.exchange call → Then call after
       step_of before same (Opens answer) after k step sound handed = silently (Opens answer) after k (subst (λ (c : Client). IsStep (owner keys h.user) c (Opens answer) after) (sym same) step) sound tt
       step_of before same Closes after k step sound handed = silently Closes after k (subst (λ (c : Client). IsStep (owner keys h.user) c Closes after) (sym same) step) sound tt
       step_of before same (Begins changes laid answer) after k step sound handed = silently (Begins changes laid answer) after k (subst (λ (c : Client). IsStep (owner keys h.user) c (Begins changes laid answer) after) (sym same) step) sound tt
@@ -568,7 +574,7 @@ module _ (keys : Keys) (naming : Naming) (texts : List Bytes) (g : Grounds keys 
     honest_step None at k = after_exchange
     honest_step (Some t) at k =
         let taken = subst (λ (o : Option StepTaken). IfSome o (λ t. IsStep (owner keys h.user) (client_of h.user es) t.call t.after × IsSound t.after)) at is.taken in
-        let handed = subst (λ (o : Option StepTaken). IfSome o (λ t. IsHandedIn (client_of h.user es) (held blocks) h.exchange t.call)) at is.handed_in in
+        let handed = subst (λ (o : Option StepTaken). IfSome o (λ t. IsHandedIn (client_of h.user es) (held (stored older)) h.exchange t.call)) at is.handed_in in
         step_of t (client_of h.user es) refl t.call t.after k taken.0 taken.1 handed
 
   -- ---- runs
@@ -584,4 +590,4 @@ module _ (keys : Keys) (naming : Naming) (texts : List Bytes) (g : Grounds keys 
       let s = simulates older is.1 (keeps_with h.user h.step (events older) now) in
       subst (λ (cs : List ServerCall). Simulates cs (events (h ∷ older))) (sym (with_exchange h older))
       (subst (λ (es : List Event). Simulates (option_to_list (option_and_then carried_out h.exchange) ++ history older) es) (sym (with_step h older))
-      (honest_step (history older) (events older) (stored older) s h is.0 h.step refl now))
+      (honest_step older s h is.0 h.step refl now))

@@ -13,7 +13,7 @@ use Rattle.client_runs.specs.declared.world.Act.{Act}
 use Rattle.client_runs.specs.declared.world.Act.TheVariants as act
 use Rattle.client_runs.specs.declared.world.Answer.{Answer}
 use Rattle.client_runs.specs.declared.world.Answer.TheVariants as answer
-use Rattle.client_runs.specs.Runs.{owner, public_key}
+use Rattle.client_runs.specs.Runs.{client_of, owner, public_key}
 use Rattle.client_runs.specs.Told.{call_of}
 use Rattle.client_runs.specs.Carried.{script_keys}
 use Rattle.client_runs.specs.Clients.{client_at}
@@ -26,9 +26,9 @@ use Rattle.honest_runs.specs.declared.step.HonestAct.{HonestAct}
 use Rattle.honest_runs.specs.declared.step.HonestAct.TheVariants as honest
 use Rattle.honest_runs.specs.declared.step.HonestStep.{HonestStep}
 use Rattle.honest_runs.specs.declared.town.Town.{Town}
-use Rattle.honest_runs.specs.HonestRuns.{Exchange, HonestEvent, IsAnswered, IsHandedIn, carried_out, sent_by}
+use Rattle.honest_runs.specs.HonestRuns.{Exchange, HonestEvent, IsAnswered, IsHandedIn, IsHonestStep, carried_out, events, put_with, sent_by, stored}
 use Rattle.honest_runs.specs.Served.{Comes, laid_by, laid_for}
-use Rattle.honest_runs.specs.Town.{Acknowledges, AreNoted, ComesTo, Happens, Hears, IsSent, IsTold, exchange_of, handed_out, hands_in, wanted_at}
+use Rattle.honest_runs.specs.Town.{Acknowledges, AreNoted, ComesTo, Happens, Hears, IsSent, IsTold, LeadsTo, exchange_of, handed_out, hands_in, wanted_at}
 use Rattle.honest_runs.proofs.Telling.{IsDone, acknowledged, alone_handed, block_handed, does_alone, given_handed, is_done, not_alone, reply_handed, status_handed}
 
 -- nothing more is kept of no texts
@@ -49,6 +49,21 @@ if_some (Some x) P Q p follows = follows x p
 if_both : {X : Type 0} (o : Option X) (P Q R : X → Type 0) → IfSome o P → IfSome o Q → ((x : X) → P x → Q x → R x) → IfSome o R
 if_both None P Q R p q follows = tt
 if_both (Some x) P Q R p q follows = follows x p q
+
+-- what is a step in this town is one after each run that leads to it
+step_after : {A : Type 0} (old : Town A) (h : HonestEvent) → IfSome h.exchange (λ x. sent_by (client_at old.clients h.user) x.call.kind ≡ Some x.call.text) → IfSome h.exchange (IsAnswered (public_key script_keys 0) old.server)
+    → IfSome h.step (λ s. IsStep (owner script_keys h.user) (client_at old.clients h.user) s.call s.after × IsSound s.after) → IfSome h.step (λ s. IsHandedIn (client_at old.clients h.user) (held old.store) h.exchange s.call)
+    → IfSome h.step (λ s. h.put ≡ put_with s.call) → (older : List HonestEvent) → LeadsTo older old → IsHonestStep script_keys older h
+step_after old h sent answered taken handed put older l =
+    let same : client_at old.clients h.user ≡ client_of h.user (events older) = sym (l.clients h.user) in
+    record {
+      sent = subst (λ (c : Client). IfSome h.exchange (λ x. sent_by c x.call.kind ≡ Some x.call.text)) same sent;
+      answered = subst (λ (cs : List Call). IfSome h.exchange (IsAnswered (public_key script_keys 0) cs)) (sym l.calls) answered;
+      taken = subst (λ (c : Client). IfSome h.step (λ s. IsStep (owner script_keys h.user) c s.call s.after × IsSound s.after)) same taken;
+      handed_in = subst (λ (c : Client). IfSome h.step (λ s. IsHandedIn c (held (stored older)) h.exchange s.call)) same
+          (subst (λ (b : List Block). IfSome h.step (λ s. IsHandedIn (client_at old.clients h.user) (held b) h.exchange s.call)) (sym l.blocks) handed);
+      put = put;
+    }
 
 module _ {A : Type 0} (todo : HonestStep A) (old new : Town A) where
   abbrev now : Client
@@ -71,7 +86,7 @@ module _ {A : Type 0} (todo : HonestStep A) (old new : Town A) where
         → Happens todo a old new
     happens_by t told d handed comes laid stored = record {
       event = event_by (laid_by t ++ handed_out told) d.step;
-      is_step = record { sent = sent; answered = answered; taken = d.taken; handed_in = handed; put = d.put };
+      is_step = step_after old (event_by (laid_by t ++ handed_out told) d.step) sent answered d.taken handed d.put;
       is_event = record { user = refl; comes = comes; laid = laid };
       client = d.client;
       others = others;
@@ -84,7 +99,7 @@ module _ {A : Type 0} (todo : HonestStep A) (old new : Town A) where
     untold : Comes now todo.act (event_by [] None) a → [] ≡ laid_for todo.act → client_at new.clients todo.user ≡ now → new.store ≡ old.store → Happens todo a old new
     untold comes laid same stored = record {
       event = event_by [] None;
-      is_step = record { sent = sent; answered = answered; taken = tt; handed_in = tt; put = tt };
+      is_step = step_after old (event_by [] None) sent answered tt tt tt;
       is_event = record { user = refl; comes = comes; laid = λ w. laid };
       client = same;
       others = others;

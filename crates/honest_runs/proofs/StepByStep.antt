@@ -13,9 +13,9 @@ use Rattle.client_runs.specs.Clients.{client_at}
 use Rattle.consistency_server.specs.Answers.{Call}
 use Rattle.honest_runs.specs.declared.step.HonestStep.{HonestStep}
 use Rattle.honest_runs.specs.declared.town.Town.{Town}
-use Rattle.honest_runs.specs.HonestRuns.{HonestEvent, IsHonestRun, IsHonestStep, carried_out, events, history, stored}
+use Rattle.honest_runs.specs.HonestRuns.{HonestEvent, IsHonestRun, carried_out, events}
 use Rattle.honest_runs.specs.Served.{AreServed, IsEventOf, Keep}
-use Rattle.honest_runs.specs.Town.{Happens, client_after}
+use Rattle.honest_runs.specs.Town.{Happens, LeadsTo, client_after}
 use Rattle.honest_runs.proofs.Events.{events_with, with_exchange, with_step}
 
 -- The steps so far with their answers are an honest run, after which clients, server and store are those in memory.
@@ -23,14 +23,12 @@ pub record StandsSoFar {A : Type 0} (steps : List (HonestStep A)) (answers : Lis
   pub run : List HonestEvent
   pub is_run : IsHonestRun script_keys run
   pub kept : Keep (reverse steps) (reverse answers) run
-  pub clients : (u : User) → client_of u (events run) ≡ client_at town.clients u
-  pub calls : history run ≡ town.server
-  pub blocks : stored run ≡ town.store
+  pub leads : LeadsTo run town
 
 pub none_yet : {A : Type 0} (answers : List (Answer A)) (town : Town A) → answers ≡ [] → ((u : ℕ) → client_at town.clients u ≡ first) → town.store ≡ [] → town.server ≡ []
     → StandsSoFar [] answers town
 none_yet {A} answers town none firsts blocks calls =
-    let stands : StandsSoFar [] [] town = record { run = []; is_run = tt; kept = tt; clients = λ u. sym (firsts u); calls = sym calls; blocks = sym blocks } in
+    let stands : StandsSoFar [] [] town = record { run = []; is_run = tt; kept = tt; leads = record { clients = λ u. sym (firsts u); calls = sym calls; blocks = sym blocks } } in
     subst (λ (given : List (Answer A)). StandsSoFar [] given town) (sym none) stands
 
 pub served : {A : Type 0} (steps : List (HonestStep A)) (answers : List (Answer A)) (town : Town A) → StandsSoFar steps answers town → AreServed steps answers
@@ -60,33 +58,27 @@ module _ {A : Type 0} (steps : List (HonestStep A)) (answers : List (Answer A)) 
   abbrev e : HonestEvent
   e = h.event
 
-  -- the step by what there was then
-  step_then : IsHonestStep script_keys (client_of e.user (events s.run)) (history s.run) (stored s.run) e
-  step_then =
-      let same : client_at old.clients t.user ≡ client_of e.user (events s.run) = sym (s.clients t.user) ∙ ap (λ (u : User). client_of u (events s.run)) (sym h.is_event.user) in
-      subst (λ (b : List Block). IsHonestStep script_keys (client_of e.user (events s.run)) (history s.run) b e) (sym s.blocks)
-      (subst (λ (c : List Call). IsHonestStep script_keys (client_of e.user (events s.run)) c old.store e) (sym s.calls)
-      (subst (λ (c : Client). IsHonestStep script_keys c old.server old.store e) same h.is_step))
-
   keep_more : Keep (reverse (steps ++ t ∷ [])) (reverse (answers ++ a ∷ [])) (e ∷ s.run)
   keep_more =
-      let event : IsEventOf (client_of t.user (events s.run)) t a e = subst (λ (c : Client). IsEventOf c t a e) (sym (s.clients t.user)) h.is_event in
+      let event : IsEventOf (client_of t.user (events s.run)) t a e = subst (λ (c : Client). IsEventOf c t a e) (sym (s.leads.clients t.user)) h.is_event in
       subst (λ (ss : List (HonestStep A)). Keep ss (reverse (answers ++ a ∷ [])) (e ∷ s.run)) (sym (last_first steps t))
       (subst (λ (as' : List (Answer A)). Keep (t ∷ reverse steps) as' (e ∷ s.run)) (sym (last_first answers a)) (event, s.kept))
 
   clients_then : (u : User) → client_of u (events (e ∷ s.run)) ≡ client_at new.clients u
   clients_then u =
       ap (λ (es : List Event). client_of u es) (with_step e s.run ∙ ap (λ (v : User). events_with v e.step (events s.run)) h.is_event.user)
-      ∙ next_client t old new h.others e.step (events s.run) h.client s.clients u
+      ∙ next_client t old new h.others e.step (events s.run) h.client s.leads.clients u
 
   more : StandsSoFar (steps ++ t ∷ []) (answers ++ a ∷ []) new
   more = record {
     run = e ∷ s.run;
-    is_run = (step_then, s.is_run);
+    is_run = (h.is_step s.run s.leads, s.is_run);
     kept = keep_more;
-    clients = clients_then;
-    calls = with_exchange e s.run ∙ ap (λ (c : List Call). option_to_list (option_and_then carried_out e.exchange) ++ c) s.calls ∙ sym h.calls;
-    blocks = ap (λ (b : List Block). keeping_all b e.put) s.blocks ∙ sym h.stored;
+    leads = record {
+      clients = clients_then;
+      calls = with_exchange e s.run ∙ ap (λ (c : List Call). option_to_list (option_and_then carried_out e.exchange) ++ c) s.leads.calls ∙ sym h.calls;
+      blocks = ap (λ (b : List Block). keeping_all b e.put) s.leads.blocks ∙ sym h.stored;
+    };
   }
 
 -- the first steps, with the next one, and the answers with its answer

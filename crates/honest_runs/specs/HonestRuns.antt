@@ -98,22 +98,25 @@ put_with (Hears text answer) = stored_texts answer
 put_with (Takes block answer) = stored_texts answer
 put_with call = []
 
--- a step, where the user's client is this, the server carried out these calls, and these blocks are stored
-pub record IsHonestStep (keys : Keys) (client : Client) (calls : List Call) (blocks : List Block)
-    (h : HonestEvent) : Type 0 where
+-- the client whose step comes after these
+abbrev pub client_before : HonestEvent → List HonestEvent → Client
+client_before h older = client_of h.user (events older)
+
+-- a step after these
+pub record IsHonestStep (keys : Keys) (older : List HonestEvent) (h : HonestEvent) : Type 0 where
   -- The client sends its own text, and the server answers it.
-  pub sent : IfSome h.exchange (λ x. sent_by client x.call.kind ≡ Some x.call.text)
-  pub answered : IfSome h.exchange (IsAnswered (public_key keys 0) calls)
+  pub sent : IfSome h.exchange (λ x. sent_by (client_before h older) x.call.kind ≡ Some x.call.text)
+  pub answered : IfSome h.exchange (IsAnswered (public_key keys 0) (history older))
   -- What the client does is a step of it.
-  pub taken : IfSome h.step (λ s. IsStep (owner keys h.user) client s.call s.after × IsSound s.after)
-  pub handed_in : IfSome h.step (λ s. IsHandedIn client (held blocks) h.exchange s.call)
+  pub taken : IfSome h.step (λ s. IsStep (owner keys h.user) (client_before h older) s.call s.after × IsSound s.after)
+  pub handed_in : IfSome h.step
+      (λ s. IsHandedIn (client_before h older) (held (stored older)) h.exchange s.call)
   pub put : IfSome h.step (λ s. h.put ≡ put_with s.call)
 
--- each is a step by what there was then
+-- each is a step after those before it
 abbrev pub IsHonestRun : Keys → List HonestEvent → Type 0
 IsHonestRun keys [] = Unit {0}
-IsHonestRun keys (h ∷ older) = IsHonestStep keys (client_of h.user (events older)) (history older) (stored older) h
-    × IsHonestRun keys older
+IsHonestRun keys (h ∷ older) = IsHonestStep keys older h × IsHonestRun keys older
 
 -- what its clients do is a run, so all that is proved of runs with any server holds of it
 abbrev pub AreRuns : Type 0

@@ -12,7 +12,7 @@ use Rattle.client_runs.specs.declared.world.Act.{Act}
 use Rattle.client_runs.specs.declared.world.Act.TheVariants as act
 use Rattle.client_runs.specs.declared.world.Answer.{Answer}
 use Rattle.client_runs.specs.declared.world.Answer.TheVariants.{Asks, Sees, Served}
-use Rattle.client_runs.specs.Runs.{owner, public_key}
+use Rattle.client_runs.specs.Runs.{client_of, owner, public_key}
 use Rattle.client_runs.specs.Told.{texts_in}
 use Rattle.client_runs.specs.Carried.{ComesOf, script_keys}
 use Rattle.client_runs.specs.Clients.{client_at}
@@ -22,7 +22,7 @@ use Rattle.consistency_server.specs.History.{call_of}
 use Rattle.honest_runs.specs.declared.step.HonestStep.{HonestStep}
 use Rattle.honest_runs.specs.declared.town.Town.{Town}
 use Rattle.honest_runs.specs.declared.wanted.Wanted.{Wanted}
-use Rattle.honest_runs.specs.HonestRuns.{Exchange, HonestEvent, IsAnswered, IsHonestStep, carried_out, looked_for_by, sent_by, wanted_by}
+use Rattle.honest_runs.specs.HonestRuns.{Exchange, HonestEvent, IsAnswered, IsHonestStep, carried_out, events, history, looked_for_by, sent_by, stored, wanted_by}
 use Rattle.honest_runs.specs.Served.{IsEventOf}
 
 -- ---- what clients ask for
@@ -109,10 +109,16 @@ abbrev pub client_after : Client → Option StepTaken → Client
 client_after before None = before
 client_after before (Some s) = s.after
 
+-- these steps lead to this town
+pub record LeadsTo {A : Type 0} (run : List HonestEvent) (town : Town A) : Type 0 where
+  pub clients : (u : User) → client_of u (events run) ≡ client_at town.clients u
+  pub calls : history run ≡ town.server
+  pub blocks : stored run ≡ town.store
+
 -- what happens in a step, and what is there after it
 pub record Happens {A : Type 0} (todo : HonestStep A) (answer : Answer A) (old new : Town A) : Type 0 where
   pub event : HonestEvent
-  pub is_step : IsHonestStep script_keys (client_at old.clients todo.user) old.server old.store event
+  pub is_step : (older : List HonestEvent) → LeadsTo older old → IsHonestStep script_keys older event
   pub is_event : IsEventOf (client_at old.clients todo.user) todo answer event
   pub client : client_at new.clients todo.user ≡ client_after (client_at old.clients todo.user) event.step
   pub others : (v : ℕ) → v ≢ todo.user → client_at new.clients v ≡ client_at old.clients v
