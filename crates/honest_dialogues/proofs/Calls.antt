@@ -29,10 +29,10 @@ use Rattle.honest_history.proofs.Fitting.{fitted}
 use Rattle.honest_history.proofs.Outcomes.{NewUpdate, NoUpdate, SameUpdate, update_cases}
 use Rattle.honest_history.proofs.Reached.{reach, reached}
 use Rattle.honest_history.proofs.Replies.{each_reply}
-use Rattle.honest_dialogues.specs.Dialogue.{IsReply, Keys, commit_by, update_by}
+use Rattle.honest_dialogues.specs.Dialogue.{Keys, commit_by, update_by}
 use Rattle.honest_dialogues.specs.OneLine.{IsGoodCommit, IsGoodUpdate, known_to}
 use Rattle.honest_dialogues.proofs.OwnKeys.{AreOwn, own_key}
-use Rattle.honest_dialogues.proofs.Stages.{Free, IsDeclaredAt, IsHeard, IsSealedAt}
+use Rattle.honest_dialogues.proofs.Stages.{Free, IsDeclaredAt, IsSealedAt}
 
 -- a text that is valid under the user's own key is so under the one that the table has of the user
 under_table : (keys : Keys) (t : Table) (u : ℕ) (text signature : Bytes) → AreOwn keys t → valid (keys u) text signature ≡ true → IfSome (key_of u t) (λ key. valid key text signature ≡ true)
@@ -94,20 +94,6 @@ module _ (keys : Keys) (naming : Naming) (history : List Call) (h : IsHonestHist
           | SameUpdate other w is f e ↦ inl (ap (λ o. happened o ++ es) e)
           | NewUpdate other is n l e ↦ inr (ap (λ o. happened o ++ es) e ∙ ap (λ (other : Signed Cert). Placed other ∷ es) (spelled other is.read))
         ]
-
-    -- the lists that are heard are those of the reply to the operation
-    pub update_heard : (x : Lists) → IsReply keys history c x → IsHeard pinned (events pinned (update_by c ∷ history)) c x
-    update_heard x r =
-        let s = served r.payload r.answered in
-        let is = spelled s.cert s.declared in
-        let later = events pinned (update_by c ∷ history) in
-        let same : Some x ≡ Some (lists_to pinned s.earlier s.cert) = sym r.lists ∙ s.unbroken.lists in
-        subst (λ (c' : Signed Cert). IsHeard pinned later c' x) is (record {
-          earlier = s.earlier;
-          since = s.since;
-          pending = s.pending;
-          lists = cc;
-        })
 
   -- ---- COMMIT
 

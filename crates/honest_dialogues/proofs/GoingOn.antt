@@ -10,9 +10,9 @@ use Rattle.consistency_server.specs.State.{state_after, table_after}
 use Rattle.consistency_server.specs.Answers.{Answer, at_limit}
 use Rattle.consistency_server.specs.History.{answer_of}
 use Rattle.honest_history.specs.Honest.{Naming}
-use Rattle.honest_dialogues.specs.Dialogue.{Accepts, Act, Declared, Declares, Ends, Hears, Idle, IsDialogue, IsNaming, IsNextCert, IsReply, Keys, MayMove, Move, Sealed, Stage, calls, stage_of, update_by, views}
+use Rattle.honest_dialogues.specs.Dialogue.{Accepts, Act, Commits, Declared, Declares, Ends, Hears, Idle, IsDialogue, IsNaming, IsNextCert, IsReply, Keys, MayMove, Move, Sealed, Stage, Updates, calls, commit_by, stage_of, update_by, views}
 use Rattle.honest_dialogues.specs.OneLine.{IsGoodUpdate}
-use Rattle.honest_dialogues.specs.GoingOn.{GoesThrough, accepts, declares, events_of, hears}
+use Rattle.honest_dialogues.specs.GoingOn.{GoesThrough, accepts, commits, declares, events_of, hears, updates}
 use Rattle.honest_dialogues.proofs.Calls.{good_commit, good_update}
 use Rattle.honest_dialogues.proofs.Dialogues.{in_step}
 use Rattle.honest_dialogues.proofs.Stages.{StandsAt}
@@ -57,18 +57,25 @@ module _ (keys : Keys) (naming : Naming) (is : IsNaming keys naming) where
     pub goes_through : GoesThrough keys naming moves u last c
     goes_through =
         let (x, t, unbroken) = good.unbroken answer.payload answered in
-        let reply : IsReply keys (calls moves) c x = record { payload = answer.payload; answered = answered; lists = unbroken.lists } in
-        let second : List Move = hears u last c x ∷ first in
-        let heard : IsDialogue keys naming second = further first u (Declared last c None) Hears (Declared last c (Some x)) declared (own_stage u Declares (Declared last c None) moves) (refl, refl, reply) in
+        let placed : List Move = updates u last c ∷ first in
+        let sent : IsDialogue keys naming placed = further first u (Declared last c None) Updates (Declared last c None) declared (own_stage u Declares (Declared last c None) moves) refl in
+        let reply : IsReply keys (calls placed) c x = record { payload = answer.payload; answered = inl (refl, answered); lists = unbroken.lists } in
+        let second : List Move = hears u last c x ∷ placed in
+        let heard : IsDialogue keys naming second = further placed u (Declared last c None) Hears (Declared last c (Some x)) sent (own_stage u Updates (Declared last c None) first) (refl, refl, reply) in
         record {
           lists = x;
           heard = heard;
           ended = λ v z sealed.
               (let third : List Move = accepts u v z ∷ second in
-              let accepted : IsDialogue keys naming third = further second u (Declared last c (Some x)) (Accepts v) (Sealed z) heard (own_stage u Hears (Declared last c (Some x)) first) sealed in
+              let accepted : IsDialogue keys naming third = further second u (Declared last c (Some x)) (Accepts v) (Sealed z) heard (own_stage u Hears (Declared last c (Some x)) placed) sealed in
               let s = in_step keys naming is third accepted in
               let here = subst (StandsAt keys naming (events_of keys third) (views third) u) (own_stage u (Accepts v) (Sealed z) second) (s.stands u) in
-              further third u (Sealed z) Ends (Idle (Some z)) accepted (own_stage u (Accepts v) (Sealed z) second) (refl, good_commit keys naming (calls third) s.honest s.own_keys (views third) u z here));
+              let good = good_commit keys naming (calls third) s.honest s.own_keys (views third) u z here in
+              let taken : Answer = answer_of (keys 0) (calls third) (commit_by z) in
+              let fourth : List Move = commits u z ∷ third in
+              let committed : IsDialogue keys naming fourth = further third u (Sealed z) Commits (Sealed z) accepted (own_stage u (Accepts v) (Sealed z) second) refl in
+              further fourth u (Sealed z) Ends (Idle (Some z)) committed (own_stage u Commits (Sealed z) third)
+              (refl, taken.payload, inl (refl, ap (λ s. record { status = s; payload = taken.payload }) good)));
         }
 
 pub each_goes_through : (keys : Keys) (naming : Naming) (moves : List Move) → IsNaming keys naming → IsDialogue keys naming moves → (u : ℕ) (last : Option (Signed Structure)) (c : Signed Cert)

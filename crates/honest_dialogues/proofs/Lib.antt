@@ -1,6 +1,7 @@
 pub mod OwnKeys
 pub mod Stages
 pub mod Calls
+pub mod Earlier
 pub mod Moves
 pub mod Accepting
 pub mod Dialogues

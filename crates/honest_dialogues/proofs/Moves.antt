@@ -24,12 +24,12 @@ use Rattle.honest_history.proofs.Answered.{commits_honest, updates_honest}
 use Rattle.honest_history.proofs.Committing.{none_left}
 use Rattle.honest_history.proofs.Good.{item_of}
 use Rattle.honest_history.proofs.Reached.{Reached, can_commit, reach, reached}
-use Rattle.honest_dialogues.specs.Dialogue.{Act, Declared, Idle, IsNaming, IsNextCert, IsReply, Keys, Move, Sealed, Stage, calls, commit_by, stage_of, update_by, views}
+use Rattle.honest_dialogues.specs.Dialogue.{Act, Declared, IsNaming, IsNextCert, Keys, Move, Sealed, Stage, calls, commit_by, stage_of, update_by, views}
 use Rattle.honest_dialogues.specs.OneLine.{AreGood, IsGoodAnswer}
 use Rattle.honest_dialogues.specs.GoingOn.{events_of}
-use Rattle.honest_dialogues.proofs.Calls.{commit_leads, is_sent, update_heard, update_leads}
+use Rattle.honest_dialogues.proofs.Calls.{commit_leads, is_sent, update_leads}
 use Rattle.honest_dialogues.proofs.OwnKeys.{AreOwn, own_after}
-use Rattle.honest_dialogues.proofs.Stages.{Free, IsDeclaredAt, IsIdleAt, IsSealedAt, Leaves, StandsAt, leaves_committed, leaves_placed, leaves_same, none_pending, stands_stays}
+use Rattle.honest_dialogues.proofs.Stages.{Free, IsDeclaredAt, IsHeard, IsIdleAt, IsSealedAt, Leaves, StandsAt, leaves_committed, leaves_placed, leaves_same, none_pending, stands_stays}
 
 -- a structure that a client signed over one of these views
 abbrev pub IsShown : List View → Structure → Type 0
@@ -93,6 +93,19 @@ module _ (keys : Keys) (naming : Naming) (is : IsNaming keys naming) where
         heard_is = λ x e. cc;
       }
 
+  -- a reply is heard
+  pub hears : (es : List Event) (u : ℕ) (last : Option (Signed Structure)) (c : Signed Cert) (heard : Option Lists) (x : Lists) → IsDeclaredAt keys es u last c heard → IsHeard pinned es c x → IsDeclaredAt keys es u last c (Some x)
+  hears es u last c heard x d is =
+      record { next = d.next; last_is = d.last_is; alone = d.alone; heard_is = λ y e. let same : x ≡ y = cc in subst (IsHeard pinned es c) same is }
+
+  -- it is heard that a structure was taken
+  pub ends : (es : List Event) (vs : List View) (u : ℕ) (z : Signed Structure) → IsSealedAt keys naming es vs u z → (last_of u es ≡ Some z) × Free pinned es u → IsIdleAt keys naming es vs u (Some z)
+  ends es vs u z d is = record {
+    last_is = sym is.0;
+    free = is.1;
+    signed_is = λ y e. let same : z ≡ y = cc in subst (IsSealedAt keys naming es vs u) same d;
+  }
+
   pub forgets : (es : List Event) (u : ℕ) (last : Option (Signed Structure)) (c : Signed Cert) (heard : Option Lists) → IsDeclaredAt keys es u last c heard → IsDeclaredAt keys es u last c None
   forgets es u last c heard d = record { next = d.next; last_is = d.last_is; alone = d.alone; heard_is = λ x e. cc }
 
@@ -140,28 +153,21 @@ module _ (keys : Keys) (naming : Naming) (is : IsNaming keys naming) where
         refl,
       )
 
-  pub updates : (older : List Move) (u : ℕ) (act : Act) (last : Option (Signed Structure)) (c : Signed Cert) (heard now : Option Lists) → InStep keys naming older → IsDeclaredAt keys (events_of keys older) u last c heard
-      → calls (record { user = u; act = act; after = Declared last c now } ∷ older) ≡ update_by c ∷ calls older → views (record { user = u; act = act; after = Declared last c now } ∷ older) ≡ views older
+  pub updates : (older : List Move) (u : ℕ) (act : Act) (last : Option (Signed Structure)) (c : Signed Cert) (heard : Option Lists) → InStep keys naming older → IsDeclaredAt keys (events_of keys older) u last c heard
+      → calls (record { user = u; act = act; after = Declared last c heard } ∷ older) ≡ update_by c ∷ calls older → views (record { user = u; act = act; after = Declared last c heard } ∷ older) ≡ views older
       → IsGoodAnswer keys naming (calls older) u (stage_of u older) act
-      → ((x : Lists) → now ≡ Some x → (heard ≡ Some x) ⊎ IsReply keys (calls older) c x)
-      → InStep keys naming (record { user = u; act = act; after = Declared last c now } ∷ older)
-  updates older u act last c heard now s d same_calls same_views good heard_now =
-      let m : Move = record { user = u; act = act; after = Declared last c now } in
+      → InStep keys naming (record { user = u; act = act; after = Declared last c heard } ∷ older)
+  updates older u act last c heard s d same_calls same_views good =
+      let m : Move = record { user = u; act = act; after = Declared last c heard } in
       let es = events_of keys older in
       let later = events pinned (update_by c ∷ calls older) in
       let (goes, still, same) = update_goes es later u last c heard s.own_keys d (update_leads keys naming (calls older) s.honest s.own_keys u last c heard d) in
-      let mine : IsDeclaredAt keys later u last c now = record {
-        next = still.next;
-        last_is = still.last_is;
-        alone = still.alone;
-        heard_is = λ x e. elim (heard_now x e) [ inl k ↦ still.heard_is x k | inr k ↦ update_heard keys naming (calls older) s.honest s.own_keys u last c heard d x k ];
-      } in
       record {
         honest = subst (IsHonestHistory naming pinned) (sym same_calls) (updates_honest naming pinned (calls older) s.honest ((signed cert).spell c) d.next.bytes);
         own_keys = subst (λ h. AreOwn keys (table_after pinned (events pinned h))) (sym same_calls) goes.own_keys;
         stands = subst (λ h. (v : ℕ) → StandsAt keys naming (events pinned h) (views (m ∷ older)) v (stage_of v (m ∷ older))) (sym same_calls)
             (subst (λ vs. (v : ℕ) → StandsAt keys naming later vs v (stage_of v (m ∷ older))) (sym same_views)
-            (others_stand es later (views older) (views older) older m mine (λ v n. stands_stays keys naming es later v (goes.others v n) (views older) (stage_of v older) (s.stands v))));
+            (others_stand es later (views older) (views older) older m still (λ v n. stands_stays keys naming es later v (goes.others v n) (views older) (stage_of v older) (s.stands v))));
         over = subst (λ h. AreOver pinned (events pinned h) (views (m ∷ older))) (sym same_calls) (subst (AreOver pinned later) (sym same_views) (over_since pinned es later (views older) goes.since s.over));
         shown = subst (λ h. (z : Signed Structure) → In z (committed (events pinned h)) → IsShown (views (m ∷ older)) z.value) (sym same_calls)
             (subst (λ vs. (z : Signed Structure) → In z (committed later) → IsShown vs z.value) (sym same_views) (λ z i. s.shown z (subst (In z) same i)));
@@ -193,13 +199,12 @@ module _ (keys : Keys) (naming : Naming) (is : IsNaming keys naming) where
         λ y i. i,
       )
 
-  -- the client may know that its structure is committed, or not
-  pub commits_to : (older : List Move) (u : ℕ) (act : Act) (z : Signed Structure) (after : Stage) → InStep keys naming older → IsSealedAt keys naming (events_of keys older) (views older) u z
-      → calls (record { user = u; act = act; after = after } ∷ older) ≡ commit_by z ∷ calls older → views (record { user = u; act = act; after = after } ∷ older) ≡ views older
-      → IsGoodAnswer keys naming (calls older) u (stage_of u older) act → (after ≡ Sealed z) ⊎ (after ≡ Idle (Some z))
-      → InStep keys naming (record { user = u; act = act; after = after } ∷ older)
-  commits_to older u act z after s d same_calls same_views good end =
-      let m : Move = record { user = u; act = act; after = after } in
+  pub commits_to : (older : List Move) (u : ℕ) (act : Act) (z : Signed Structure) → InStep keys naming older → IsSealedAt keys naming (events_of keys older) (views older) u z
+      → calls (record { user = u; act = act; after = Sealed z } ∷ older) ≡ commit_by z ∷ calls older → views (record { user = u; act = act; after = Sealed z } ∷ older) ≡ views older
+      → IsGoodAnswer keys naming (calls older) u (stage_of u older) act
+      → InStep keys naming (record { user = u; act = act; after = Sealed z } ∷ older)
+  commits_to older u act z s d same_calls same_views good =
+      let m : Move = record { user = u; act = act; after = Sealed z } in
       let es = events_of keys older in
       let later = events pinned (commit_by z ∷ calls older) in
       let r = reach naming pinned (calls older) s.honest.bytes s.honest.honest in
@@ -208,21 +213,12 @@ module _ (keys : Keys) (naming : Naming) (is : IsNaming keys naming) where
       let r' = reach naming pinned (commit_by z ∷ calls older) honest.bytes honest.honest in
       let (goes, last, free, new) = commit_goes es later (views older) u z r s.own_keys d leads r' in
       let mine : IsSealedAt keys naming later (views older) u z = record { user_is = d.user_is; fits = d.fits; bytes = d.bytes; is_signed = d.is_signed; seen = d.seen; sent = inl (last, free) } in
-      let idle : IsIdleAt keys naming later (views older) u (Some z) = record {
-        last_is = sym last;
-        free = free;
-        signed_is = λ y e. let same : z ≡ y = cc in subst (IsSealedAt keys naming later (views older) u) same mine;
-      } in
-      let here : StandsAt keys naming later (views older) u after = elim end [
-        | inl e ↦ subst (StandsAt keys naming later (views older) u) (sym e) mine
-        | inr e ↦ subst (StandsAt keys naming later (views older) u) (sym e) idle
-      ] in
       record {
         honest = subst (IsHonestHistory naming pinned) (sym same_calls) honest;
         own_keys = subst (λ h. AreOwn keys (table_after pinned (events pinned h))) (sym same_calls) goes.own_keys;
         stands = subst (λ h. (v : ℕ) → StandsAt keys naming (events pinned h) (views (m ∷ older)) v (stage_of v (m ∷ older))) (sym same_calls)
             (subst (λ vs. (v : ℕ) → StandsAt keys naming later vs v (stage_of v (m ∷ older))) (sym same_views)
-            (others_stand es later (views older) (views older) older m here (λ v n. stands_stays keys naming es later v (goes.others v n) (views older) (stage_of v older) (s.stands v))));
+            (others_stand es later (views older) (views older) older m mine (λ v n. stands_stays keys naming es later v (goes.others v n) (views older) (stage_of v older) (s.stands v))));
         over = subst (λ h. AreOver pinned (events pinned h) (views (m ∷ older))) (sym same_calls) (subst (AreOver pinned later) (sym same_views) (over_since pinned es later (views older) goes.since s.over));
         shown = subst (λ h. (z : Signed Structure) → In z (committed (events pinned h)) → IsShown (views (m ∷ older)) z.value) (sym same_calls)
             (subst (λ vs. (y : Signed Structure) → In y (committed later) → IsShown vs y.value) (sym same_views) (λ y i. elim (new y i) [

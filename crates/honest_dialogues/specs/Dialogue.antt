@@ -1,7 +1,7 @@
 -- Dialogues of the clients of all users with one server: moves of any of them, in any order, the latest first. What a
--- client sends comes to the server, whether or not the answer comes back, and it may be opened again between any two
--- moves. The blocks of the tree, and the devices of the clients, are left out.
-use Rattle.std.specs.Prelude.{◌≡◌, ◌+◌, ◌==◌, List, [], ◌∷◌, ◌++◌, Option, Some, None, true, if◌then◌else◌}
+-- client sends comes to the server. The answer comes back at once or later, once or more often, or never, and a client
+-- may be opened again between any two moves. The blocks of the tree, and the devices of the clients, are left out.
+use Rattle.std.specs.Prelude.{◌≡◌, ◌⊎◌, ◌+◌, ◌==◌, List, [], ◌∷◌, ◌++◌, Option, Some, None, true, if◌then◌else◌}
 use Rattle.std.specs.List.{All}
 use Rattle.layout.specs.Format.{IsBytes}
 use Rattle.layout.specs.Types.{Bytes, Digest, Handle, Key, User}
@@ -16,7 +16,7 @@ use Rattle.pending_list.specs.Reply.{digest_of_last}
 use Rattle.wire.specs.declared.kinds.Status.TheVariants as status
 use Rattle.reply_rules.specs.Lists.{Lists}
 use Rattle.reply_check.specs.FirstBroken.{lists_in}
-use Rattle.consistency_server.specs.Answers.{Call}
+use Rattle.consistency_server.specs.Answers.{Answer, Call}
 use Rattle.consistency_server.specs.History.{answer_of, commit_of, update_of}
 use Rattle.agreement.specs.Runs.{View}
 use Rattle.honest_history.specs.Honest.{Names, Naming, SignsOver, number_in}
@@ -36,15 +36,17 @@ pub data Stage : Type 0 where
 pub data Act : Type 0 where
   -- an operation is declared
   Declares : Act
-  -- UPDATE is sent, and the answer is lost; or the reply is heard
+  -- UPDATE is sent
   Updates : Act
+  -- a reply to it is heard, which the server gave before
   Hears : Act
   -- what was heard is forgotten, as when the client is opened again
   Forgets : Act
   -- the reply is accepted, and a structure signed over it
   Accepts : View → Act
-  -- COMMIT is sent, and the answer is lost; or it is heard to be done
+  -- COMMIT is sent
   Commits : Act
+  -- it is heard that the server took it
   Ends : Act
   -- the client is opened again, and doesn't know that its structure was committed
   Reopens : Act
@@ -71,15 +73,23 @@ commit_by z = commit_of ((signed structure).spell z)
 -- the call that a move sends, if it sends one
 abbrev pub call_by : Act → Stage → List Call
 call_by Updates (Declared last c heard) = update_by c ∷ []
-call_by Hears (Declared last c heard) = update_by c ∷ []
 call_by Commits (Sealed z) = commit_by z ∷ []
-call_by Ends (Idle (Some z)) = commit_by z ∷ []
 call_by act stage = []
 
 -- all calls that the server got, the latest first
 abbrev pub calls : List Move → List Call
 calls [] = []
 calls (m ∷ older) = call_by m.act m.after ++ calls older
+
+-- among these calls was this one, and it was answered so
+abbrev pub WasAnswered : Key → List Call → Call → Answer → Type 0
+WasAnswered pinned [] call a = ⊥
+WasAnswered pinned (x ∷ earlier) call a =
+    ((x ≡ call) × (answer_of pinned earlier call ≡ a)) ⊎ WasAnswered pinned earlier call a
+
+-- with success, and this payload
+abbrev pub success : Bytes → Answer
+success payload = record { status = status.Ok; payload = payload }
 
 -- ---- views
 
@@ -109,10 +119,10 @@ pub record IsNextCert (keys : Keys) (u : User) (last : Option (Signed Structure)
   pub is_signed : valid (keys u) (cert.spell c.value) c.signature ≡ true
   pub true_keys : u ≡ 0 → All (λ change. GivesOwnKey keys change.action) c.value.changes
 
--- what UPDATE with this certificate is answered after these calls has these lists
+-- UPDATE with this certificate was answered among these calls with a reply that has these lists
 pub record IsReply (keys : Keys) (history : List Call) (c : Signed Cert) (x : Lists) : Type 0 where
   pub payload : Bytes
-  pub answered : answer_of (keys 0) history (update_by c) ≡ record { status = status.Ok; payload = payload }
+  pub answered : WasAnswered (keys 0) history (update_by c) (success payload)
   pub lists : lists_in payload ≡ Some x
 
 -- The structure is signed over these lists as an honest client does, by the table of principals that user 0's handle
@@ -137,7 +147,7 @@ MayMove keys naming history u (Declared last c heard) Forgets after = after ≡ 
 MayMove keys naming history u (Declared last c (Some x)) (Accepts v) (Sealed z) = IsSealed keys naming u last x v z
 MayMove keys naming history u (Sealed z) Commits after = after ≡ Sealed z
 MayMove keys naming history u (Sealed z) Ends after =
-    (after ≡ Idle (Some z)) × ((answer_of (keys 0) history (commit_by z)).status ≡ status.Ok)
+    (after ≡ Idle (Some z)) × (payload : Bytes) × WasAnswered (keys 0) history (commit_by z) (success payload)
 MayMove keys naming history u (Idle (Some z)) Reopens after = after ≡ Sealed z
 MayMove keys naming history u stage act after = ⊥
 

@@ -12,7 +12,7 @@ use Rattle.consistency_server.specs.Answers.{at_limit}
 use Rattle.consistency_server.specs.History.{events}
 use Rattle.agreement.specs.Runs.{View}
 use Rattle.honest_history.specs.Honest.{Naming}
-use Rattle.honest_dialogues.specs.Dialogue.{Accepts, Declared, Declares, Ends, Hears, Idle, IsDialogue, IsNaming, IsNextCert, IsSealed, Keys, Move, Sealed, calls, stage_of}
+use Rattle.honest_dialogues.specs.Dialogue.{Accepts, Commits, Declared, Declares, Ends, Hears, Idle, IsDialogue, IsNaming, IsNextCert, IsSealed, Keys, Move, Sealed, Updates, calls, stage_of}
 
 -- what the server placed and committed
 abbrev pub events_of : Keys → List Move → List Event
@@ -23,24 +23,31 @@ events_of keys moves = events (keys 0) (calls moves)
 abbrev pub declares : User → Option (Signed Structure) → Signed Cert → Move
 declares u last c = record { user = u; act = Declares; after = Declared last c None }
 
+abbrev pub updates : User → Option (Signed Structure) → Signed Cert → Move
+updates u last c = record { user = u; act = Updates; after = Declared last c None }
+
 abbrev pub hears : User → Option (Signed Structure) → Signed Cert → Lists → Move
 hears u last c x = record { user = u; act = Hears; after = Declared last c (Some x) }
 
 abbrev pub accepts : User → View → Signed Structure → Move
 accepts u v z = record { user = u; act = Accepts v; after = Sealed z }
 
+abbrev pub commits : User → Signed Structure → Move
+commits u z = record { user = u; act = Commits; after = Sealed z }
+
 abbrev pub ends : User → Signed Structure → Move
 ends u z = record { user = u; act = Ends; after = Idle (Some z) }
 
 -- ---- going through
 
--- It is declared and its reply heard; and each structure that an honest client signs over that is committed.
+-- It is declared and sent, and its reply heard; and each structure that an honest client signs over that is committed.
 pub record GoesThrough (keys : Keys) (naming : Naming) (moves : List Move) (u : User) (last : Option (Signed Structure))
     (c : Signed Cert) : Type 0 where
   pub lists : Lists
-  pub heard : IsDialogue keys naming (hears u last c lists ∷ declares u last c ∷ moves)
+  pub heard : IsDialogue keys naming (hears u last c lists ∷ updates u last c ∷ declares u last c ∷ moves)
   pub ended : (v : View) (z : Signed Structure) → IsSealed keys naming u last lists v z
-      → IsDialogue keys naming (ends u z ∷ accepts u v z ∷ hears u last c lists ∷ declares u last c ∷ moves)
+      → IsDialogue keys naming
+      (ends u z ∷ commits u z ∷ accepts u v z ∷ hears u last c lists ∷ updates u last c ∷ declares u last c ∷ moves)
 
 -- After each dialogue the next operation of a user goes through who has none, is listed, and isn't at the limit of a
 -- version.

@@ -20,7 +20,7 @@ use Rattle.honest_history.specs.Placed.{placed}
 use Rattle.honest_history.specs.Honest.{Naming}
 use Rattle.honest_history.specs.Served.{IsUnbroken}
 use Rattle.honest_history.specs.Answered.{IsUpdateStatus}
-use Rattle.honest_dialogues.specs.Dialogue.{Act, Commits, Declared, Ends, Hears, IsDialogue, IsNaming, Keys, Move, Sealed, Stage, Updates, calls, commit_by, stage_of, update_by, views}
+use Rattle.honest_dialogues.specs.Dialogue.{Act, Commits, Declared, Hears, IsDialogue, IsNaming, Keys, Move, Sealed, Stage, Updates, WasAnswered, calls, commit_by, stage_of, success, update_by, views}
 
 -- what a user's client knows that declared this certificate after this last structure
 abbrev pub known_to : Keys → User → Option (Signed Structure) → Signed Cert → Known
@@ -33,19 +33,24 @@ pub record IsGoodUpdate (keys : Keys) (naming : Naming) (history : List Call) (u
   pub answered : IsUpdateStatus (keys 0) (events (keys 0) history) c.value
       (answer_of (keys 0) history (update_by c)).status
   pub unbroken : (payload : Bytes)
-      → answer_of (keys 0) history (update_by c) ≡ record { status = status.Ok; payload = payload }
+      → answer_of (keys 0) history (update_by c) ≡ success payload
       → (x : Lists) × (t : Table) × IsUnbroken naming (known_to keys u last c) payload x t
+
+-- in each reply with which UPDATE was answered the client finds no rule broken
+abbrev pub AreUnbroken : Keys → Naming → List Call → User → Option (Signed Structure) → Signed Cert → Type 0
+AreUnbroken keys naming history u last c =
+    (payload : Bytes) → WasAnswered (keys 0) history (update_by c) (success payload)
+    → (x : Lists) × (t : Table) × IsUnbroken naming (known_to keys u last c) payload x t
 
 -- COMMIT is answered with success
 abbrev pub IsGoodCommit : Keys → List Call → Signed Structure → Type 0
 IsGoodCommit keys history z = (answer_of (keys 0) history (commit_by z)).status ≡ status.Ok
 
--- what the server answers to a client that is so far, if it sends a call
+-- what the server answers to a client that is so far, if it sends a call, or answered before, if it hears of one
 abbrev pub IsGoodAnswer : Keys → Naming → List Call → User → Stage → Act → Type 0
 IsGoodAnswer keys naming history u (Declared last c heard) Updates = IsGoodUpdate keys naming history u last c
-IsGoodAnswer keys naming history u (Declared last c heard) Hears = IsGoodUpdate keys naming history u last c
+IsGoodAnswer keys naming history u (Declared last c heard) Hears = AreUnbroken keys naming history u last c
 IsGoodAnswer keys naming history u (Sealed z) Commits = IsGoodCommit keys history z
-IsGoodAnswer keys naming history u (Sealed z) Ends = IsGoodCommit keys history z
 IsGoodAnswer keys naming history u stage act = Unit {0}
 
 -- so is each answer

@@ -5,17 +5,18 @@ ghost use Rattle.honest_dialogues.specs.OneLine.{EachDialogueIsOneLine};
 ghost use Rattle.honest_dialogues.specs.Reading.{EachReadTableIsNamed};
 ghost use Rattle.honest_dialogues.specs.Signing.{EachSignsOver};
 
-/// Over every dialogue of honest clients with one server, in any order of their moves, with lost answers and clients
-/// that are opened again, each UPDATE is answered with a reply in which its client finds no rule broken but those on
-/// blocks, or its user isn't listed or can go no further; each COMMIT is answered with success; and the line of each
-/// accepted view is a beginning of what the server placed. Of digests it is assumed that no handle of user 0's names
-/// two tables; of signatures nothing.
+/// Over every dialogue of honest clients with one server, in any order of their moves, with answers that are lost, come
+/// late or come again, and clients that are opened again, each UPDATE is answered with a reply in which its client
+/// finds no rule broken but those on blocks, or its user isn't listed or can go no further; each COMMIT is answered
+/// with success; and the line of each accepted view is a beginning of what the server placed. Of digests it is assumed
+/// that no handle of user 0's names two tables; of signatures nothing.
 pub fn clients_stand_in_one_line()
     ensures { EachDialogueIsOneLine }
 {}
 
 /// After each such dialogue the next operation of a user goes through who has none, is listed, and isn't at the limit
-/// of a version: it is declared, its reply heard, and whatever structure an honest client signs over that committed.
+/// of a version: it is declared and sent, its reply heard, and whatever structure an honest client signs over that is
+/// sent, and heard to be committed.
 pub fn operations_go_through()
     ensures { EachOperationGoesThrough }
 {}

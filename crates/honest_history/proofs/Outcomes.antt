@@ -78,29 +78,29 @@ pub record IsStructure (state : State) (text : Bytes) (z : Signed Structure) : T
 
 -- a refusal; the structure that was committed last; or it is committed
 pub data CommitCases (state : State) (text : Bytes) (o : Outcome) : Type 0 where
-  NoCommit : (s : Status) → o ≡ Refused s → CommitCases state text o
-  SameCommit : o ≡ Repeated [] → CommitCases state text o
+  NoCommit : (s : Status) → (s ≡ status.Ok → ⊥) → o ≡ Refused s → CommitCases state text o
+  SameCommit : (z : Signed Structure) → IsStructure state text z → option_map_or (same_structure z) (structure_of z.value.plan.user state) false ≡ true → o ≡ Repeated [] → CommitCases state text o
   NewCommit : (z : Signed Structure) → IsStructure state text z → is_pending state z.value ≡ true → o ≡ Happens (Committed z) [] → CommitCases state text o
 
 module _ (state : State) (text : Bytes) where
   pending_cases : (z : Signed Structure) → IsStructure state text z → CommitCases state text (committing state z)
   pending_cases z is =
       elim (cases_Bool (option_map_or (same_structure z) (structure_of z.value.plan.user state) false)) [
-        | inl e ↦ SameCommit (rw e refl)
+        | inl e ↦ SameCommit z is e (rw e refl)
         | inr e ↦ elim (cases_Bool (is_pending state z.value)) [
           | inl p ↦ NewCommit z is p (rw (e, p) refl)
-          | inr p ↦ NoCommit status.NotPending (rw (e, p) refl)
+          | inr p ↦ NoCommit status.NotPending (λ e. cc) (rw (e, p) refl)
         ]
       ]
 
   checked_cases : (z : Signed Structure) → whole (signed structure) text ≡ Ok z → (o : Option Bytes) → key_of z.value.plan.user state.table ≡ o → CommitCases state text (verified_commit state z o)
-  checked_cases z read None e = NoCommit status.UnknownUser refl
+  checked_cases z read None e = NoCommit status.UnknownUser (λ e. cc) refl
   checked_cases z read (Some key) e =
       elim (cases_Bool (valid key (structure.spell z.value) z.signature)) [
         | inl v ↦ rw v (pending_cases z (record { read = read; key = key; has = e; signed = v }))
-        | inr v ↦ rw v (NoCommit status.BadSignature refl)
+        | inr v ↦ rw v (NoCommit status.BadSignature (λ e. cc) refl)
       ]
 
   pub commit_cases : (r : Result (Signed Structure) ReadError) → whole (signed structure) text ≡ r → CommitCases state text (read_commit state r)
-  commit_cases (Err e) read = NoCommit status.Form refl
+  commit_cases (Err e) read = NoCommit status.Form (λ e. cc) refl
   commit_cases (Ok z) read = checked_cases z read (key_of z.value.plan.user state.table) refl

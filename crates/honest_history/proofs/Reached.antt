@@ -142,12 +142,12 @@ module _ (names : Naming) (pinned : Key) where
       ]
   by_call es text Commit bytes =
       elim (commit_cases (state_after pinned es) text (whole (signed structure) text) refl) [
-        | NoCommit s e ↦ subst (Goes es) (sym e) (λ h r. r)
-        | SameCommit e ↦ subst (Goes es) (sym e) (λ h r. r)
+        | NoCommit s refused e ↦ subst (Goes es) (sym e) (λ h r. r)
+        | SameCommit z is f e ↦ subst (Goes es) (sym e) (λ h r. r)
         | NewCommit z is p e ↦ subst (Goes es) (sym e) (λ h r. (structure_signed es text z is (reached es r).0 h.0, (read_whole structure lawful_structure text z bytes is.read).0, h.0, r))
       ]
 
-  honest_before : (es : List Event) (o : Outcome) → AreHonest names pinned (happened o ++ es) → AreHonest names pinned es
+  pub honest_before : (es : List Event) (o : Outcome) → AreHonest names pinned (happened o ++ es) → AreHonest names pinned es
   honest_before es (Refused s) h = h
   honest_before es (Repeated text) h = h
   honest_before es (Happens (Placed c) text) h = h

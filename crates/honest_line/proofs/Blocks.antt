@@ -41,9 +41,9 @@ use Rattle.fork_consistency.proofs.Lists.{found_in}
 use Rattle.fork_consistency.proofs.Moves.{holds_at, signed_of}
 use Rattle.fork_consistency.proofs.Origins.{KnowsClient, known_by_blocks}
 use Rattle.fork_consistency.proofs.Serving.{AsksServed, CountsOn, HasKnown, IsInHand, ServesClient, handed_right, serves_more, step}
-use Rattle.honest_runs.specs.HonestRuns.{HonestEvent, IsFound, IsHandedIn, IsHonestRun, events, history, looked_for_by, put_with, stored, wanted_by}
+use Rattle.honest_runs.specs.HonestRuns.{HonestEvent, IsFound, IsHandedIn, IsHonestRun, events, looked_for_by, put_with, stored, wanted_by}
 use Rattle.honest_runs.proofs.Events.{are_runs, events_with, with_step}
-use Rattle.honest_line.proofs.Genuine.{history_released, reply_handed, shown_here}
+use Rattle.honest_line.proofs.Genuine.{reply_released, shown_here}
 use Rattle.honest_line.proofs.Naming.{KeysTrue, premises}
 use Rattle.honest_line.proofs.Put.{blocks_put, call_put, put_texts, stored_has}
 use Rattle.honest_line.proofs.Shown.{ShowsReleased}
@@ -144,14 +144,14 @@ module _ (keys : Keys) where
       subst (λ (es : List Event). HasReleased t.user es t.text) (sym (with_step h older))
       (go h.step is.0.handed_in (subst (λ (es : List Event). In t (shown es)) (with_step h older) i) (shown_released older is.1 t))
     where
-      go : (s : Option StepTaken) → IfSome s (λ s. IsHandedIn (client_of h.user (events older)) (held (stored older)) h.exchange s.call) → In t (shown (events_with h.user s (events older)))
+      go : (s : Option StepTaken) → IfSome s (λ s. IsHandedIn (h ∷ older) (client_of h.user (events older)) (held (stored older)) s.call) → In t (shown (events_with h.user s (events older)))
           → (In t (shown (events older)) → HasReleased t.user (events older) t.text) → HasReleased t.user (events_with h.user s (events older)) t.text
       go None handed j ih = ih j
       go (Some s) handed j ih =
           let e : Event = record { user = h.user; call = s.call; after = s.after } in
           elim (in-append t (shown_by s.call) (shown (events older)) j) [
             | inl here ↦ released_later e (events older) t.user t.text
-                (shown_here keys (events older) (are_runs keys older is.1) (history older) (history_released keys older is.1) h.user (held (stored older)) h.exchange is.0.sent is.0.answered s.call handed t here)
+                (shown_here keys h older is (client_of h.user (events older)) (held (stored older)) s.call handed t here)
             | inr before ↦ released_later e (events older) t.user t.text (ih before)
           ]
 
@@ -240,11 +240,11 @@ module _ (keys : Keys) where
         go None has = tt
         go (Some v) has = of v (last_view h.user es) refl has
 
-    counts_on : (client : Client) → client_of h.user es ≡ client → (call : Call) (after : Client) → IsStep (owner keys h.user) client call after → IsHandedIn client (held (stored older)) h.exchange call
+    counts_on : (client : Client) → client_of h.user es ≡ client → (call : Call) (after : Client) → IsStep (owner keys h.user) client call after → IsHandedIn (h ∷ older) client (held (stored older)) call
         → CountsOn put key apart_now client call
     counts_on (Open s) is (Hears text answer) (Closed p) taken handed = absurd taken
     counts_on (Open s) is (Hears text answer) (Open new) taken handed =
-        hand_heard text taken.bytes (reply_handed keys es run_is (history older) (history_released keys older g.is_run.1) h.user h.exchange g.is_run.0.sent g.is_run.0.answered text handed)
+        hand_heard text taken.bytes (reply_released keys h older g.is_run (Open s) text handed)
     counts_on (Open s) is (Takes block answer) after taken handed = hand_checked s is
     counts_on (Open s) is (Looks q answer) after taken handed = view_now s is
     counts_on (Open s) is (Gives block answer) after taken handed = view_now s is
@@ -257,7 +257,7 @@ module _ (keys : Keys) where
         go (Closed p) k = tt
         go (Open s) k = (k.pinned, k.among)
 
-    next : (s : Option StepTaken) → h.step ≡ s → IfSome s (λ s. IsStep (owner keys h.user) (client_of h.user es) s.call s.after × IsSound s.after) → IfSome s (λ s. IsHandedIn (client_of h.user es) (held (stored older)) h.exchange s.call)
+    next : (s : Option StepTaken) → h.step ≡ s → IfSome s (λ s. IsStep (owner keys h.user) (client_of h.user es) s.call s.after × IsSound s.after) → IfSome s (λ s. IsHandedIn (h ∷ older) (client_of h.user es) (held (stored older)) s.call)
         → ((u : User) → ServesClient put key apart_now (client_of u es)) → (u : User) → ServesClient put key apart_now (client_of u (events_with h.user s es))
     next None at taken handed k u = k u
     next (Some s) at taken handed k u = go (h.user == u) refl
@@ -331,12 +331,12 @@ module _ (keys : Keys) where
           of_view None w f = tt
           of_view (Some v) w f = of_look v.looking w f
 
-    right_call : (client : Client) → client_of h.user (events older) ≡ client → (call : Call) → IsHandedIn client (held (stored older)) h.exchange call → IsRight client call
+    right_call : (client : Client) → client_of h.user (events older) ≡ client → (call : Call) → IsHandedIn (h ∷ older) client (held (stored older)) call → IsRight client call
     right_call (Open s) is (Takes block answer) handed = takes_right s is block handed
     right_call (Open s) is (Gives block answer) handed = gives_right s is block handed
     right_call client is call handed = tt
 
-    right_step : (s : Option StepTaken) → IfSome s (λ s. IsHandedIn (client_of h.user (events older)) (held (stored older)) h.exchange s.call) → IfSome s (λ s. IsRight (client_of h.user (events older)) s.call)
+    right_step : (s : Option StepTaken) → IfSome s (λ s. IsHandedIn (h ∷ older) (client_of h.user (events older)) (held (stored older)) s.call) → IfSome s (λ s. IsRight (client_of h.user (events older)) s.call)
     right_step None handed = tt
     right_step (Some s) handed = right_call (client_of h.user (events older)) refl s.call handed
 

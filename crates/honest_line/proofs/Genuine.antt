@@ -1,7 +1,7 @@
 -- In an honest run nothing is forged: what a client is shown, in the reply that it is handed, was released by the user's
 -- client whose it is.
-use Rattle.std.proofs.Common.{◌≡◌, Bool, true, false, List, [], ◌∷◌, ◌++◌, Option, Some, None, Result, Ok, Err, IfSome, sym, ap, ◌∙◌, subst, option_to_list}
-use Rattle.std.specs.Prelude.{IsSomeAnd, if◌then◌else◌}
+use Rattle.std.proofs.Common.{◌≡◌, Bool, true, false, List, [], ◌∷◌, ◌++◌, Option, Some, None, Result, Ok, Err, IfSome, sym, ap, ◌∙◌, subst, option_to_list, inl, inr}
+use Rattle.std.specs.Prelude.{if◌then◌else◌}
 use Rattle.std.specs.Option.{option_and_then, option_map_or}
 use Rattle.layout.specs.Types.{Bytes, Key, User}
 use Rattle.update_cert.specs.Cert.{cert}
@@ -9,10 +9,9 @@ use Rattle.version_order.specs.Structure.{structure}
 use Rattle.reply_check.specs.FirstBroken.{reply_in}
 use Rattle.tree_parts.specs.Blocks.{Blocks}
 use Rattle.client_tree.specs.Held.{held}
-use Rattle.wire.specs.declared.kinds.Status.TheVariants as status
 use Rattle.client_releases.specs.declared.error.ClientError.{ClientError}
 use Rattle.client_releases.specs.declared.error.ClientError.TheVariants as error
-use Rattle.client_steps.specs.Steps.{Call as ClientCall, Hears, StepTaken}
+use Rattle.client_steps.specs.Steps.{Call as ClientCall, Client, Hears, StepTaken}
 use Rattle.client_runs.specs.Released.{Shown, shown_by, shown_in, unless_memory}
 use Rattle.client_runs.specs.Runs.{Event, IsRun, Keys, client_of, public_key}
 use Rattle.consistency_server.specs.declared.call.CallKind.{CallKind}
@@ -25,9 +24,11 @@ use Rattle.consistency_server.specs.History.{is_carried_out}
 use Rattle.agreement.proofs.Members.{In, to_all}
 use Rattle.fork_consistency.specs.Premises.{HasReleased, IsGenuine, NoneForgedOf, everybody}
 use Rattle.fork_consistency.proofs.Genuine.{released_later}
-use Rattle.honest_runs.specs.HonestRuns.{Exchange, HonestEvent, IsAnswered, IsHandedIn, IsHonestRun, carried_out, events, history, sent_by, stored}
+use Rattle.honest_runs.specs.HonestRuns.{Exchange, HonestEvent, IsAnswered, IsHandedIn, IsHonestRun, TookPlace, WasTold, carried_out, events, history, sent_by, stored}
 use Rattle.honest_runs.proofs.Events.{are_runs, events_with, with_exchange, with_step}
+use Rattle.honest_dialogues.specs.Dialogue.{success}
 use Rattle.honest_line.specs.Genuine.{NothingIsForged}
+use Rattle.honest_line.proofs.Answering.{told_of}
 use Rattle.honest_line.proofs.Sent.{sent_cert, sent_structure}
 use Rattle.honest_line.proofs.Shown.{AreReleased, IsOfReleased, ShowsReleased, answer_shows, still_released}
 
@@ -48,6 +49,11 @@ module _ (keys : Keys) where
   released_with u None older es are = are
   released_with u (Some s) older es are = released_then (record { user = u; call = s.call; after = s.after }) older es are
 
+  -- so does what a reply shows
+  shows_with : (u : User) (s : Option StepTaken) (older : List Event) (text : Bytes) → ShowsReleased key older text → ShowsReleased key (events_with u s older) text
+  shows_with u None older text shows t i = shows t i
+  shows_with u (Some s) older text shows t i = released_later (record { user = u; call = s.call; after = s.after }) older t.user t.text (shows t i)
+
   -- ---- a call of the server
 
   module _ (older : List Event) (is : IsRun keys older) (calls : List Call) (are : AreReleased key older (server.events key calls)) (u : User) where
@@ -67,23 +73,12 @@ module _ (keys : Keys) where
         go true = still_released key older calls are x.call (of_client x.call.kind x.call.text sent)
         go false = are
 
-    -- so was all that is shown in what a client is handed
-    some_shown : {A : Type 0} (answer : Result A ClientError) (texts : List Shown) (t : Shown) → In t (unless_memory answer texts) → In t texts
-    some_shown (Ok x) texts t i = i
-    some_shown (Err error.Memory) texts t i = absurd i
-    some_shown (Err other) texts t i = i
-
-    pub reply_handed : (exchange : Option Exchange) → Sent exchange → IfSome exchange (IsAnswered key calls) → (text : Bytes) → IsSomeAnd exchange (λ x. x.answer ≡ record { status = status.Ok; payload = text }) → ShowsReleased key older text
-    reply_handed None sent answered text handed = absurd handed
-    reply_handed (Some x) sent answered text handed =
-        let done : is_carried_out x.answer.status ≡ true = ap (λ (a : Answer). is_carried_out a.status) handed in
-        answer_shows key older calls are x.call (of_client x.call.kind x.call.text sent) text (sym (answered.carried_out done) ∙ handed)
-
-    pub shown_here : (blocks : Blocks) (exchange : Option Exchange) → Sent exchange → IfSome exchange (IsAnswered key calls) → (call : ClientCall) → IsHandedIn (client_of u older) blocks exchange call
-        → (t : Shown) → In t (shown_by call) → HasReleased t.user older t.text
-    shown_here blocks exchange sent answered (Hears text answer) handed t i =
-        reply_handed exchange sent answered text handed t (some_shown answer (option_map_or shown_in (reply_in text) []) t i)
-    shown_here blocks exchange sent answered call handed t i = absurd i
+    answer_released : (exchange : Option Exchange) → Sent exchange → IfSome exchange (IsAnswered key calls) → (x : Exchange) → exchange ≡ Some x → (text : Bytes) → x.answer ≡ success text → ShowsReleased key older text
+    answer_released exchange sent answered x is text ok =
+        let own = of_client x.call.kind x.call.text (subst Sent is sent) in
+        let done : is_carried_out x.answer.status ≡ true = ap (λ (a : Answer). is_carried_out a.status) ok in
+        let answer = (subst (λ (o : Option Exchange). IfSome o (IsAnswered key calls)) is answered).carried_out done in
+        answer_shows key older calls are x.call own text (sym answer ∙ ok)
 
   -- ---- runs
 
@@ -98,20 +93,45 @@ module _ (keys : Keys) where
       subst (λ (es : List Event). AreReleased key es (server.events key (history (h ∷ older)))) (sym (with_step h older))
       (released_with h.user h.step (events older) (server.events key (history (h ∷ older))) called)
 
+  -- ---- what a client is handed
+
+  -- a reply of a step, or of an earlier one
+  took_released : (h : HonestEvent) (older : List HonestEvent) → IsHonestRun keys (h ∷ older) → (x : Exchange) → TookPlace (h ∷ older) x → (text : Bytes) → x.answer ≡ success text → ShowsReleased key (events older) text
+  took_released h older is x (inl now) text ok =
+      answer_released (events older) (are_runs keys older is.1) (history older) (history_released older is.1) h.user h.exchange is.0.sent is.0.answered x now text ok
+  took_released h (g ∷ older) is x (inr before) text ok =
+      subst (λ (es : List Event). ShowsReleased key es text) (sym (with_step g older))
+      (shows_with g.user g.step (events older) text (took_released g older is.1 x before text ok))
+  took_released h [] is x (inr before) text ok = absurd before
+
+  pub reply_released : (h : HonestEvent) (older : List HonestEvent) → IsHonestRun keys (h ∷ older) → (client : Client) (text : Bytes) → WasTold (h ∷ older) client Update (success text) → ShowsReleased key (events older) text
+  reply_released h older is client text was =
+      let told = told_of (h ∷ older) (sent_by client Update) Update (success text) was in
+      took_released h older is told.0 told.1 text told.2
+
+  -- so was all that is shown in what a client is handed
+  some_shown : {A : Type 0} (answer : Result A ClientError) (texts : List Shown) (t : Shown) → In t (unless_memory answer texts) → In t texts
+  some_shown (Ok x) texts t i = i
+  some_shown (Err error.Memory) texts t i = absurd i
+  some_shown (Err other) texts t i = i
+
+  pub shown_here : (h : HonestEvent) (older : List HonestEvent) → IsHonestRun keys (h ∷ older) → (client : Client) (blocks : Blocks) (call : ClientCall) → IsHandedIn (h ∷ older) client blocks call
+      → (t : Shown) → In t (shown_by call) → HasReleased t.user (events older) t.text
+  shown_here h older is client blocks (Hears text answer) handed t i =
+      reply_released h older is client text handed t (some_shown answer (option_map_or shown_in (reply_in text) []) t i)
+  shown_here h older is client blocks call handed t i = absurd i
+
   none_forged : (whole : List Event) (run : List HonestEvent) → IsHonestRun keys run → NoneForgedOf everybody keys whole (events run)
   none_forged whole [] is = tt
   none_forged whole (h ∷ older) is =
       subst (λ (es : List Event). NoneForgedOf everybody keys whole es) (sym (with_step h older)) (go h.step is.0.handed_in (none_forged whole older is.1))
     where
-      before : AreReleased key (events older) (server.events key (history older))
-      before = history_released older is.1
-
-      go : (s : Option StepTaken) → IfSome s (λ t. IsHandedIn (client_of h.user (events older)) (held (stored older)) h.exchange t.call) → NoneForgedOf everybody keys whole (events older)
+      go : (s : Option StepTaken) → IfSome s (λ t. IsHandedIn (h ∷ older) (client_of h.user (events older)) (held (stored older)) t.call) → NoneForgedOf everybody keys whole (events older)
           → NoneForgedOf everybody keys whole (events_with h.user s (events older))
       go None handed ih = ih
       go (Some s) handed ih = (
         to_all (λ (t : Shown). everybody t.user → IsGenuine keys whole (events older) t) (shown_by s.call) (λ t i one once k own v.
-            shown_here (events older) (are_runs keys older is.1) (history older) before h.user (held (stored older)) h.exchange is.0.sent is.0.answered s.call handed t i),
+            shown_here h older is (client_of h.user (events older)) (held (stored older)) s.call handed t i),
         ih,
       )
 

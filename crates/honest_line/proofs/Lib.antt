@@ -3,6 +3,7 @@ pub mod SignatureBytes
 pub mod Spelled
 pub mod Sent
 pub mod Shown
+pub mod Answering
 pub mod Genuine
 pub mod Naming
 pub mod Follows

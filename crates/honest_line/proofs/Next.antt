@@ -86,16 +86,16 @@ module _ (keys : Keys) (run : List HonestEvent) (is : IsHonestRun keys run) (p :
         identifiers = p.identifiers;
       }
 
-      honest : IsStep (owner keys u) (Open s) call (Open new) → IsHandedIn (Open s) (held (stored run)) None call → new ≡ s → IsHonestStep keys run h
+      honest : IsStep (owner keys u) (Open s) call (Open new) → IsHandedIn (h ∷ run) (Open s) (held (stored run)) call → new ≡ s → IsHonestStep keys run h
       honest taken handed same = record {
         sent = tt;
         answered = tt;
         taken = (subst (λ (c : Client). IsStep (owner keys u) c call (Open new)) (sym open_is) taken, subst (λ (n : State). IsSound (Open n)) (sym same) sound);
-        handed_in = subst (λ (c : Client). IsHandedIn c (held (stored run)) None call) (sym open_is) handed;
+        handed_in = subst (λ (c : Client). IsHandedIn (h ∷ run) c (held (stored run)) call) (sym open_is) handed;
         put = sym put;
       }
 
-      finds_none_broken : IsStep (owner keys u) (Open s) call (Open new) → IsHandedIn (Open s) (held (stored run)) None call → new ≡ s → IsUnbroken call
+      finds_none_broken : IsStep (owner keys u) (Open s) call (Open new) → IsHandedIn (h ∷ run) (Open s) (held (stored run)) call → new ≡ s → IsUnbroken call
       finds_none_broken taken handed same =
           All-head (λ (h : HonestEvent). IfSome h.step (λ s. IsUnbroken s.call)) h run (promised keys (h ∷ run) (honest taken handed same, is) premises).0
 

@@ -54,34 +54,35 @@ use Rattle.fork_consistency.proofs.Origins.{IsTold}
 use Rattle.fork_consistency.specs.Handles.{told_by_texts}
 use Rattle.honest_history.specs.Honest.{Naming}
 use Rattle.honest_history.specs.Served.{IsTableOf}
-use Rattle.honest_dialogues.specs.Dialogue.{Commits, Declared, MayMove, Move, Sealed, Stage, Updates, calls, commit_by, stage_of, update_by, views as shown_views}
+use Rattle.honest_dialogues.specs.Dialogue.{Commits, Declared, MayMove, Move, Sealed, Stage, Updates, WasAnswered, calls, commit_by, stage_of, success, update_by, views as shown_views}
 use Rattle.honest_dialogues.specs.GoingOn.{events_of}
 use Rattle.honest_dialogues.specs.OneLine.{IsGoodAnswer, IsGoodCommit, IsGoodUpdate, known_to}
 use Rattle.honest_dialogues.proofs.Accepting.{one_table}
-use Rattle.honest_dialogues.proofs.Dialogues.{in_step, one_line}
+use Rattle.honest_dialogues.proofs.Dialogues.{in_step, one_line, replies_unbroken}
 use Rattle.honest_dialogues.proofs.Stages.{StandsAt}
-use Rattle.honest_runs.specs.HonestRuns.{Exchange, HonestEvent, IsAnswered, IsHandedIn, IsHonestRun, IsHonestStep, events, history, sent_by, stored}
+use Rattle.honest_runs.specs.HonestRuns.{Exchange, HonestEvent, IsAnswered, IsHandedIn, IsHonestRun, events, history, sent_by, stored}
 use Rattle.honest_runs.proofs.Events.{events_with, with_step}
 use Rattle.honest_line.specs.Answered.{AreAnswered, MayAnswer, is_at_limit, is_listed}
 use Rattle.honest_line.specs.GoingOn.{HasGoodReply}
 use Rattle.honest_line.specs.OneLine.{IsUnbroken}
+use Rattle.honest_line.proofs.Answering.{reply_answered}
 use Rattle.honest_line.proofs.Blocks.{AreRight, IsRight}
 use Rattle.honest_line.proofs.Follows.{Follows, in_phase_at, signed_cert, signed_structure}
-use Rattle.honest_line.proofs.Simulated.{Grounds, KeepsTo, Simulates, keeps_with, knows, own, placed_table, simulates, table_read, table_then, unbroken_then, update_is}
+use Rattle.honest_line.proofs.Simulated.{Grounds, KeepsTo, Simulates, keeps_with, knows, own, after_exchange, call_sent, placed_table, simulates, table_read, table_then, unbroken_then}
 
 -- ---- statuses
 
-late : (pinned : Key) (sent : List ServerCall) (u : User) (x : ServerCall) (st : Status) → is_carried_out st ≡ false → MayAnswer pinned sent u x st
-late pinned sent u x status.Busy is = tt
-late pinned sent u x status.Memory is = tt
-late pinned sent u x status.Ok is = absurd (true≢false is)
-late pinned sent u x status.Form is = absurd (true≢false is)
-late pinned sent u x status.UnknownUser is = absurd (true≢false is)
-late pinned sent u x status.BadSignature is = absurd (true≢false is)
-late pinned sent u x status.WrongNumber is = absurd (true≢false is)
-late pinned sent u x status.NotPending is = absurd (true≢false is)
-late pinned sent u x status.TooLarge is = absurd (true≢false is)
-late pinned sent u x status.Absent is = absurd (true≢false is)
+not_carried_out : (pinned : Key) (sent : List ServerCall) (u : User) (x : ServerCall) (st : Status) → is_carried_out st ≡ false → MayAnswer pinned sent u x st
+not_carried_out pinned sent u x status.Busy is = tt
+not_carried_out pinned sent u x status.Memory is = tt
+not_carried_out pinned sent u x status.Ok is = absurd (true≢false is)
+not_carried_out pinned sent u x status.Form is = absurd (true≢false is)
+not_carried_out pinned sent u x status.UnknownUser is = absurd (true≢false is)
+not_carried_out pinned sent u x status.BadSignature is = absurd (true≢false is)
+not_carried_out pinned sent u x status.WrongNumber is = absurd (true≢false is)
+not_carried_out pinned sent u x status.NotPending is = absurd (true≢false is)
+not_carried_out pinned sent u x status.TooLarge is = absurd (true≢false is)
+not_carried_out pinned sent u x status.Absent is = absurd (true≢false is)
 
 -- ---- the lists of a reply
 
@@ -197,7 +198,7 @@ module _ (keys : Keys) (naming : Naming) (texts : List Bytes) (g : Grounds keys 
     status_is x sends answered = go (is_carried_out x.answer.status) refl
       where
         go : (b : Bool) → is_carried_out x.answer.status ≡ b → MayAnswer (pk 0) sent u x.call x.answer.status
-        go false is = late (pk 0) sent u x.call x.answer.status is
+        go false is = not_carried_out (pk 0) sent u x.call x.answer.status is
         go true is =
             let same : x.answer ≡ answer_of (pk 0) (calls s.moves) x.call = answered.carried_out is ∙ ap (λ (cs : List ServerCall). answer_of (pk 0) cs x.call) (sym s.calls_are) in
             subst (λ (cs : List ServerCall). MayAnswer (pk 0) cs u x.call x.answer.status) s.calls_are
@@ -206,15 +207,15 @@ module _ (keys : Keys) (naming : Naming) (texts : List Bytes) (g : Grounds keys 
     -- ---- refusals
 
     -- a reply that was answered breaks none
-    hears_unbroken : (t new : State) → client_of u es ≡ Open t → (text : Bytes) (rule : Rule) → HasHeard t text (Ok (step.Broken rule)) new → (x : Exchange) → sent_by (Open t) x.call.kind ≡ Some x.call.text
-        → IsAnswered (pk 0) sent x → x.answer ≡ record { status = status.Ok; payload = text } → ⊥
-    hears_unbroken t new is text rule b x sends answered handed =
+    hears_unbroken : (t new : State) → client_of u es ≡ Open t → (text : Bytes) (rule : Rule) → HasHeard t text (Ok (step.Broken rule)) new → WasAnswered (pk 0) sent (update_of t.text) (success text) → ⊥
+    hears_unbroken t new is text rule b was =
         let f = follows t is in
         let d = in_phase_at keys naming u t stage phase.Declared b.declared f.own.in_phase in
         let c = signed_cert keys naming u d.0 d.1 in
-        let call_is : x.call ≡ update_by c = update_is t x sends b.declared ∙ ap update_of d.4 in
-        let same : x.answer ≡ answer_of (pk 0) (calls s.moves) x.call = answer_is t is x answered (ap (λ (a : Answer). is_carried_out a.status) handed) in
-        let good = (good_update t is t.last c d.2 d.3).unbroken text (ap (answer_of (pk 0) (calls s.moves)) (sym call_is) ∙ sym same ∙ handed) in
+        let was_own : WasAnswered (pk 0) (calls s.moves) (update_by c) (success text) =
+        subst (λ (own : Bytes). WasAnswered (pk 0) (calls s.moves) (update_of own) (success text)) d.4
+        (subst (λ (cs : List ServerCall). WasAnswered (pk 0) cs (update_of t.text) (success text)) (sym s.calls_are) was) in
+        let good = replies_unbroken pk naming g.is_naming s.moves s.is u t.last c d.2 d.3 text was_own in
         let y = good.0 in
         let table = good.1 in
         let unbroken = good.2 in
@@ -227,37 +228,6 @@ module _ (keys : Keys) (naming : Naming) (texts : List Bytes) (g : Grounds keys 
         let lists = subst (λ (o : Option Lists). IsSomeAnd o (λ y. ByTable (known_blocks t.blocks) t.pinned y (Some rule))) unbroken.lists first in
         let by = subst (λ (p : Key). ByTable (known_blocks t.blocks) p y (Some rule)) (knows keys naming texts g sent es s k u t is).pinned lists in
         none_by_table (known_blocks t.blocks) (knows keys naming texts g sent es s k u t is).among y (in_order (known t) text y b.bytes itself unbroken.lists) table unbroken.table unbroken.by_table rule by
-
-    -- what comes next of an open client: the reply to a declared operation is good
-    pub next_reply : (t : State) → client_of u es ≡ Open t → t.phase ≡ phase.Declared → is_listed (pk 0) sent u ≡ true
-        → ((c : Signed Cert) → (signed cert).spell c ≡ t.text → is_at_limit (pk 0) sent c ≡ false) → HasGoodReply (pk 0) sent t
-    next_reply t is at listed below =
-        let d = in_phase_at keys naming u t stage phase.Declared at (follows t is).own.in_phase in
-        let c = signed_cert keys naming u d.0 d.1 in
-        let good = good_update t is t.last c d.2 d.3 in
-        let answer = answer_of (pk 0) (calls s.moves) (update_by c) in
-        let by_calls = λ (v : User). ap (λ (cs : List ServerCall). is_listed (pk 0) cs v) s.calls_are in
-        let succeeds : answer.status ≡ status.Ok =
-        elim good.answered [
-          | inl ok ↦ ok
-          | inr (inl unknown) ↦ absurd (true≢false (sym listed ∙ sym (by_calls u) ∙ ap (λ (v : User). is_listed (pk 0) (calls s.moves) v) (sym (user_then t is t.last c d.2 d.3)) ∙ unknown.1))
-          | inr (inr large) ↦ absurd (true≢false (sym large.1 ∙ ap (λ (cs : List ServerCall). is_at_limit (pk 0) cs c) s.calls_are ∙ below c (sym d.4)))
-        ] in
-        let told : answer ≡ record { status = status.Ok; payload = answer.payload } = ap (λ (st : Status). record { status = st; payload = answer.payload }) succeeds in
-        let same : answer_of (pk 0) sent (update_of t.text) ≡ record { status = status.Ok; payload = answer.payload } =
-        ap (λ (cs : List ServerCall). answer_of (pk 0) cs (update_of t.text)) (sym s.calls_are) ∙ ap (λ (b : Bytes). answer_of (pk 0) (calls s.moves) (update_of b)) d.4 ∙ told in
-        let x : Exchange = record { call = update_of t.text; answer = record { status = status.Ok; payload = answer.payload } } in
-        let answered : IsAnswered (pk 0) sent x = record {
-          carried_out = λ w. sym same;
-          bare = λ w. absurd (true≢false w);
-          full = λ w. absurd (cc w);
-          logged_it = λ w. absurd (cc w);
-        } in
-        let sends : certificate_in t.phase t.text ≡ Some t.text = ap (λ (f : Phase). certificate_in f t.text) at in (
-          answer.payload,
-          same,
-          λ rule new b. hears_unbroken t new is answer.payload rule b x sends answered refl,
-        )
 
     -- and a signed structure is taken
     pub next_commit : (t : State) → client_of u es ≡ Open t → t.phase ≡ phase.Signed → (answer_of (pk 0) sent (commit_of t.text)).status ≡ status.Ok
@@ -330,27 +300,57 @@ module _ (keys : Keys) (naming : Naming) (texts : List Bytes) (g : Grounds keys 
     with_block t is None here = (knows keys naming texts g sent es s k u t is).among
     with_block t is (Some x) here = among_kept texts t.blocks x (here x (inl refl)) (knows keys naming texts g sent es s k u t is).among
 
+  -- what comes next of an open client: the reply to a declared operation is good
+  module _ (sent : List ServerCall) (es : List Event) (s : Simulates keys naming texts g sent es) (k : KeepsTo keys naming texts es) (u : User) (t : State) (is : client_of u es ≡ Open t) where
+    pub next_reply : t.phase ≡ phase.Declared → is_listed (pk 0) sent u ≡ true
+        → ((c : Signed Cert) → (signed cert).spell c ≡ t.text → is_at_limit (pk 0) sent c ≡ false) → HasGoodReply (pk 0) sent t
+    next_reply at listed below =
+        let d = in_phase_at keys naming u t (stage_of u s.moves) phase.Declared at (follows sent es s k u t is).own.in_phase in
+        let c = signed_cert keys naming u d.0 d.1 in
+        let good = good_update sent es s k u t is t.last c d.2 d.3 in
+        let answer = answer_of (pk 0) (calls s.moves) (update_by c) in
+        let by_calls = λ (v : User). ap (λ (cs : List ServerCall). is_listed (pk 0) cs v) s.calls_are in
+        let succeeds : answer.status ≡ status.Ok =
+        elim good.answered [
+          | inl ok ↦ ok
+          | inr (inl unknown) ↦ absurd (true≢false (sym listed ∙ sym (by_calls u) ∙ ap (λ (v : User). is_listed (pk 0) (calls s.moves) v) (sym (user_then sent es s k u t is t.last c d.2 d.3)) ∙ unknown.1))
+          | inr (inr large) ↦ absurd (true≢false (sym large.1 ∙ ap (λ (cs : List ServerCall). is_at_limit (pk 0) cs c) s.calls_are ∙ below c (sym d.4)))
+        ] in
+        let told : answer ≡ success answer.payload = ap (λ (st : Status). record { status = st; payload = answer.payload }) succeeds in
+        let same : answer_of (pk 0) sent (update_of t.text) ≡ success answer.payload =
+        ap (λ (cs : List ServerCall). answer_of (pk 0) cs (update_of t.text)) (sym s.calls_are) ∙ ap (λ (b : Bytes). answer_of (pk 0) (calls s.moves) (update_of b)) d.4 ∙ told in
+        let sends : certificate_in t.phase t.text ≡ Some t.text = ap (λ (f : Phase). certificate_in f t.text) at in
+        let once_sent = call_sent keys naming texts g sent es s u (Open t) is Update t.text sends in (
+          answer.payload,
+          same,
+          λ rule new b. hears_unbroken (update_of t.text ∷ sent) es once_sent k u t new is answer.payload rule b (inl (refl, same)),
+        )
+
   -- ---- a step
 
-  module _ (older : List HonestEvent) (s : Simulates keys naming texts g (history older) (events older)) (h : HonestEvent) (is : IsHonestStep keys older h) (k : KeepsTo keys naming texts (events older)) where
-    abbrev sent : List ServerCall
-    sent = history older
-
+  module _ (older : List HonestEvent) (s : Simulates keys naming texts g (history older) (events older)) (h : HonestEvent) (is : IsHonestRun keys (h ∷ older)) (k : KeepsTo keys naming texts (events older)) where
     abbrev es : List Event
     es = events older
 
-    pub statuses : IfSome h.exchange (λ x. MayAnswer (pk 0) sent h.user x.call x.answer.status)
-    statuses = go h.exchange is.sent is.answered
+    pub statuses : IfSome h.exchange (λ x. MayAnswer (pk 0) (history older) h.user x.call x.answer.status)
+    statuses = go h.exchange is.0.sent is.0.answered
       where
-        go : (o : Option Exchange) → IfSome o (λ x. sent_by (client_of h.user es) x.call.kind ≡ Some x.call.text) → IfSome o (IsAnswered (public_key keys 0) sent) → IfSome o (λ x. MayAnswer (pk 0) sent h.user x.call x.answer.status)
+        go : (o : Option Exchange) → IfSome o (λ x. sent_by (client_of h.user es) x.call.kind ≡ Some x.call.text) → IfSome o (IsAnswered (public_key keys 0) (history older)) → IfSome o (λ x. MayAnswer (pk 0) (history older) h.user x.call x.answer.status)
         go None sends answered = tt
-        go (Some x) sends answered = status_is sent es s k h.user x sends answered
+        go (Some x) sends answered = status_is (history older) es s k h.user x sends answered
+
+    -- once the client has sent what it sends
+    abbrev sent : List ServerCall
+    sent = history (h ∷ older)
+
+    abbrev once_sent : Simulates keys naming texts g (history (h ∷ older)) (events older)
+    once_sent = after_exchange keys naming texts g older s h is
 
     -- the texts of a step are among the texts
     abbrev AreIn : Call → Client → Type 0
     AreIn call after = (x : Bytes) → In x (hashed_at (record { user = h.user; call = call; after = after })) → In x texts
 
-    by_call : (before : Client) → client_of h.user es ≡ before → (call : Call) (after : Client) → IsStep (owner keys h.user) before call after → IsHandedIn before (held (stored older)) h.exchange call → AreIn call after → IsRight before call → IsUnbroken call
+    by_call : (before : Client) → client_of h.user es ≡ before → (call : Call) (after : Client) → IsStep (owner keys h.user) before call after → IsHandedIn (h ∷ older) before (held (stored older)) call → AreIn call after → IsRight before call → IsUnbroken call
     by_call (Closed p) same (Hears text answer) after step handed inside right = absurd step
     by_call (Closed p) same (Takes block answer) after step handed inside right = absurd step
     by_call (Closed p) same (Looks q answer) after step handed inside right = absurd step
@@ -359,24 +359,19 @@ module _ (keys : Keys) (naming : Naming) (texts : List Bytes) (g : Grounds keys 
     by_call (Open t) same (Takes block answer) (Closed q) step handed inside right = absurd step
     by_call (Open t) same (Looks q answer) (Closed p) step handed inside right = absurd step
     by_call (Open t) same (Gives block answer) (Closed q) step handed inside right = absurd step
-    by_call (Open t) same (Hears text (Ok (step.Broken rule))) (Open new) taken handed inside right = go h.exchange is.sent is.answered handed
-      where
-        go : (o : Option Exchange) → IfSome o (λ x. sent_by (client_of h.user es) x.call.kind ≡ Some x.call.text) → IfSome o (IsAnswered (public_key keys 0) sent)
-            → IsSomeAnd o (λ x. x.answer ≡ record { status = status.Ok; payload = text }) → ⊥
-        go None sends answered some = absurd some
-        go (Some x) sends answered some =
-            hears_unbroken sent es s k h.user t new same text rule taken x (subst (λ (c : Client). sent_by c x.call.kind ≡ Some x.call.text) same sends) answered some
+    by_call (Open t) same (Hears text (Ok (step.Broken rule))) (Open new) taken handed inside right =
+        hears_unbroken sent es once_sent k h.user t new same text rule taken (reply_answered keys (h ∷ older) is t text taken.declared handed)
     by_call (Open t) same (Takes block (Ok (step.Broken rule))) (Open new) taken handed inside right =
-        takes_unbroken sent es s k h.user t new same block rule
-        (with_block sent es s k h.user t same block (λ x i. inside x (in-left x _ _ (in-left x (option_to_list block) _ i)))) right taken
-    by_call (Open t) same (Looks q (Ok (look.Broken rule))) (Open new) taken handed inside right = looks_unbroken sent es s k h.user t new q rule taken
-    by_call (Open t) same (Gives block (Ok (look.Broken rule))) (Open new) taken handed inside right = gives_unbroken sent es s k h.user t new block rule right taken
+        takes_unbroken sent es once_sent k h.user t new same block rule
+        (with_block sent es once_sent k h.user t same block (λ x i. inside x (in-left x _ _ (in-left x (option_to_list block) _ i)))) right taken
+    by_call (Open t) same (Looks q (Ok (look.Broken rule))) (Open new) taken handed inside right = looks_unbroken sent es once_sent k h.user t new q rule taken
+    by_call (Open t) same (Gives block (Ok (look.Broken rule))) (Open new) taken handed inside right = gives_unbroken sent es once_sent k h.user t new block rule right taken
     by_call before same call after taken handed inside right = tt
 
     pub unbroken_step : (AreHashedIn : (t : StepTaken) → h.step ≡ Some t → AreIn t.call t.after) → IfSome h.step (λ t. IsRight (client_of h.user es) t.call) → IfSome h.step (λ t. IsUnbroken t.call)
-    unbroken_step inside right = go h.step refl is.taken is.handed_in right
+    unbroken_step inside right = go h.step refl is.0.taken is.0.handed_in right
       where
-        go : (o : Option StepTaken) → h.step ≡ o → IfSome o (λ t. IsStep (owner keys h.user) (client_of h.user es) t.call t.after × IsSound t.after) → IfSome o (λ t. IsHandedIn (client_of h.user es) (held (stored older)) h.exchange t.call) → IfSome o (λ t. IsRight (client_of h.user es) t.call) → IfSome o (λ t. IsUnbroken t.call)
+        go : (o : Option StepTaken) → h.step ≡ o → IfSome o (λ t. IsStep (owner keys h.user) (client_of h.user es) t.call t.after × IsSound t.after) → IfSome o (λ t. IsHandedIn (h ∷ older) (client_of h.user es) (held (stored older)) t.call) → IfSome o (λ t. IsRight (client_of h.user es) t.call) → IfSome o (λ t. IsUnbroken t.call)
         go None at taken handed right = tt
         go (Some t) at taken handed right = by_call (client_of h.user es) refl t.call t.after taken.0 handed (inside t at) right
 
@@ -392,6 +387,6 @@ module _ (keys : Keys) (naming : Naming) (texts : List Bytes) (g : Grounds keys 
       let rest = each older is.1 before right.1 in
       let inside : (t : StepTaken) → h.step ≡ Some t → (x : Bytes) → In x (hashed_at (record { user = h.user; call = t.call; after = t.after })) → In x texts =
       λ t at x i. (let kept = subst (λ (o : Option StepTaken). KeepsTo keys naming texts (events_with h.user o (events older))) at now in kept.hashed_in x (in-left x (hashed_at (record { user = h.user; call = t.call; after = t.after })) (flat_map hashed_at (events older)) i)) in (
-        All-cons (λ (h : HonestEvent). IfSome h.step (λ t. IsUnbroken t.call)) h older (unbroken_step older s h is.0 before inside right.0) rest.0,
-        (statuses older s h is.0 before, rest.1),
+        All-cons (λ (h : HonestEvent). IfSome h.step (λ t. IsUnbroken t.call)) h older (unbroken_step older s h is before inside right.0) rest.0,
+        (statuses older s h is before, rest.1),
       )

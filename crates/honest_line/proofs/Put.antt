@@ -82,7 +82,7 @@ module _ (keys : Keys) where
     found_block (Some digest) (Some x) found t (inl e) =
         subst (λ (y : Bytes). In y now) (sym e) (in-right x h.put (put_texts older) (stored_among older digest x found).0)
 
-    pub call_put : (call : Call) → IsHandedIn client (held (stored older)) h.exchange call → h.put ≡ put_with call → (t : Bytes) → In t (blocks_by call) → In t now
+    pub call_put : (call : Call) → IsHandedIn (h ∷ older) client (held (stored older)) call → h.put ≡ put_with call → (t : Bytes) → In t (blocks_by call) → In t now
     call_put (Begins changes laid answer) handed put t i = in-left t h.put (put_texts older) (subst (λ (ts : List Bytes). In t ts) (sym put) (in_answer answer laid t i))
     call_put (Hears text answer) handed put t i = in-left t h.put (put_texts older) (subst (λ (ts : List Bytes). In t ts) (sym put) i)
     call_put (Takes block answer) handed put t i =
@@ -105,7 +105,7 @@ module _ (keys : Keys) where
   blocks_put (h ∷ older) is t i =
       go h.step is.0.handed_in is.0.put (subst (λ (es : List Event). In t (flat_map blocks_at es)) (with_step h older) i) (blocks_put older is.1 t)
     where
-      go : (s : Option StepTaken) → IfSome s (λ s. IsHandedIn (client_of h.user (events older)) (held (stored older)) h.exchange s.call) → IfSome s (λ s. h.put ≡ put_with s.call)
+      go : (s : Option StepTaken) → IfSome s (λ s. IsHandedIn (h ∷ older) (client_of h.user (events older)) (held (stored older)) s.call) → IfSome s (λ s. h.put ≡ put_with s.call)
           → In t (flat_map blocks_at (events_with h.user s (events older))) → (In t (flat_map blocks_at (events older)) → In t (put_texts older)) → In t (h.put ++ put_texts older)
       go None handed put j ih = in-right t h.put (put_texts older) (ih j)
       go (Some s) handed put j ih =

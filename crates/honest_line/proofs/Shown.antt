@@ -155,8 +155,8 @@ module _ (pinned : Key) (run : List runs.Event) where
     by_commit : IsOfReleased Commit text → Goes (read_commit (state_after pinned es) (whole (signed structure) text))
     by_commit (z, spelled, is) =
         elim (commit_cases (state_after pinned es) text (whole (signed structure) text) refl) [
-          | NoCommit s e ↦ subst Goes (sym e) (are, nothing_shown s)
-          | SameCommit e ↦ subst Goes (sym e) (are, nothing_shown status.Ok)
+          | NoCommit s refused e ↦ subst Goes (sym e) (are, nothing_shown s)
+          | SameCommit y of f e ↦ subst Goes (sym e) (are, nothing_shown status.Ok)
           | NewCommit y of p e ↦ subst Goes (sym e) (
               let same : z ≡ y = only_value (whole (signed structure) text) z y (ap (whole (signed structure)) spelled ∙ whole_again (signed structure) (lawful_signed structure lawful_structure) z is.fits) of.read in
               ((subst (IsReleasedStructure run) same is, are), nothing_shown status.Ok))

@@ -1,5 +1,5 @@
 -- An honest run is a dialogue: what its clients do are moves, which send what the server carries out.
-use Rattle.std.proofs.Common.{◌≡◌, ◌≢◌, Bool, true, false, ◌==◌, List, [], ◌∷◌, ◌++◌, length, Option, Some, None, Result, Ok, Err, IfSome, IsSomeAnd, refl, sym, ap, ◌∙◌, subst, inl, inr, if◌then◌else◌, option_to_list}
+use Rattle.std.proofs.Common.{◌≡◌, ◌≢◌, Bool, true, false, ◌==◌, List, [], ◌∷◌, ◌++◌, length, Option, Some, None, Result, Ok, Err, IfSome, refl, sym, ap, ◌∙◌, subst, inl, inr, if◌then◌else◌, option_to_list}
 use Rattle.std.specs.Prelude.{option_and_then}
 use Rattle.std.specs.List.{flat_map}
 use Rattle.std.proofs.lemmas.Bool.{eq-eqb, eqb-true, eqb-false, ne_eqb}
@@ -40,9 +40,9 @@ use Rattle.client_runs.proofs.Quiet as quiet
 use Rattle.client_runs.proofs.Replies.{IsGoodBy, Kept, kept, of_lists}
 use Rattle.consistency_server.specs.declared.call.CallKind.{CallKind}
 use Rattle.consistency_server.specs.declared.call.CallKind.TheVariants.{Update, Commit}
-use Rattle.consistency_server.specs.Answers.{Answer, Call as ServerCall}
+use Rattle.consistency_server.specs.Answers.{Call as ServerCall}
 use Rattle.consistency_server.specs.Event.{Placed}
-use Rattle.consistency_server.specs.History.{answer_of, commit_of, is_carried_out, update_of}
+use Rattle.consistency_server.specs.History.{commit_of, is_carried_out, update_of}
 use Rattle.fork_consistency.proofs.Holds.{Holds}
 use Rattle.fork_consistency.proofs.Judging.{unbroken}
 use Rattle.fork_consistency.proofs.Moves.{holds_at, signed_of}
@@ -57,13 +57,14 @@ use Rattle.honest_history.proofs.Reached.{Reached, reach, reached_before}
 use Rattle.honest_history.proofs.Replies.{unbroken_at}
 use Rattle.reply_check.specs.FirstBroken.{lists_break}
 use Rattle.honest_dialogues.specs.GoingOn.{events_of}
-use Rattle.honest_dialogues.specs.Dialogue.{Act, Commits as Sends_structure, Declared, IsDialogue, IsNaming, IsReply, MayMove, Move, Sealed, Stage, Updates, call_by, calls, commit_by, stage_of, update_by, views as shown_views}
+use Rattle.honest_dialogues.specs.Dialogue.{Act, Commits as Sends_structure, Declared, IsDialogue, IsNaming, IsReply, MayMove, Move, Sealed, Stage, Updates, WasAnswered, call_by, calls, commit_by, stage_of, success, update_by, views as shown_views}
 use Rattle.honest_dialogues.specs.Signing.{HasRecords}
 use Rattle.honest_dialogues.proofs.Dialogues.{in_step}
 use Rattle.honest_dialogues.proofs.Reading.{each_read}
 use Rattle.honest_dialogues.proofs.Stages.{IsDeclaredAt, IsHeard, StandsAt}
-use Rattle.honest_runs.specs.HonestRuns.{Exchange, HonestEvent, IsAnswered, IsHandedIn, IsHonestRun, IsHonestStep, carried_out, events, history, sent_by, stored}
+use Rattle.honest_runs.specs.HonestRuns.{Exchange, HonestEvent, IsHandedIn, IsHonestRun, carried_out, events, history, sent_by, stored}
 use Rattle.honest_runs.proofs.Events.{events_with, with_exchange, with_step}
+use Rattle.honest_line.proofs.Answering.{commit_answered, reply_answered}
 use Rattle.honest_line.proofs.Follows.{Follows, Goes, in_phase_at, signed_cert, signed_structure}
 use Rattle.honest_line.proofs.InHand as hand
 use Rattle.honest_line.proofs.Stepping as stepping
@@ -73,22 +74,6 @@ in_too : {A : Type 0} (x : A) (xs : List A) → Released_in x xs → In x xs
 in_too x [] i = i
 in_too x (y ∷ ys) (inl e) = inl e
 in_too x (y ∷ ys) (inr i) = inr (in_too x ys i)
-
--- what an open client sends is its text
-module _ (t : State) (x : Exchange) (sends : sent_by (Open t) x.call.kind ≡ Some x.call.text) where
-  pub update_is : t.phase ≡ phase.Declared → x.call ≡ update_of t.text
-  update_is declared = go x.call.kind x.call.text sends
-    where
-      go : (kind : CallKind) (sent_text : Bytes) → sent_by (Open t) kind ≡ Some sent_text → record { kind = kind; text = sent_text } ≡ update_of t.text
-      go Update sent_text by = ap update_of (let two : Some sent_text ≡ Some t.text = sym by ∙ ap (λ (p : Phase). certificate_in p t.text) declared in cc two)
-      go Commit sent_text by = absurd (let two : None ≡ Some sent_text = sym (ap (λ (p : Phase). structure_in p t.text) declared) ∙ by in cc two)
-
-  pub commit_is : t.phase ≡ phase.Signed → x.call ≡ commit_of t.text
-  commit_is signed_it = go x.call.kind x.call.text sends
-    where
-      go : (kind : CallKind) (sent_text : Bytes) → sent_by (Open t) kind ≡ Some sent_text → record { kind = kind; text = sent_text } ≡ commit_of t.text
-      go Commit sent_text by = ap commit_of (let two : Some sent_text ≡ Some t.text = sym by ∙ ap (λ (p : Phase). structure_in p t.text) signed_it in cc two)
-      go Update sent_text by = absurd (let two : None ≡ Some sent_text = sym (ap (λ (p : Phase). certificate_in p t.text) signed_it) ∙ by in cc two)
 
 -- What an honest run is compared with: naming of handles, and texts of which no two have one digest.
 pub record Grounds (keys : Keys) (naming : Naming) (texts : List Bytes) : Type 0 where
@@ -213,7 +198,7 @@ module _ (keys : Keys) (naming : Naming) (texts : List Bytes) (g : Grounds keys 
         commit_in phase.Failed at sent_text by = absurd (let two : None ≡ Some sent_text = by in cc two)
 
       -- whatever it sends
-      call_sent : (client : Client) → client_of u es ≡ client → (kind : CallKind) (sent_text : Bytes) → sent_by client kind ≡ Some sent_text → Simulates (record { kind = kind; text = sent_text } ∷ sent) es
+      pub call_sent : (client : Client) → client_of u es ≡ client → (kind : CallKind) (sent_text : Bytes) → sent_by client kind ≡ Some sent_text → Simulates (record { kind = kind; text = sent_text } ∷ sent) es
       call_sent (Closed p) is Update sent_text by = absurd (let two : None ≡ Some sent_text = by in cc two)
       call_sent (Closed p) is Commit sent_text by = absurd (let two : None ≡ Some sent_text = by in cc two)
       call_sent (Open t) is Update sent_text by = update_in t is t.phase refl sent_text by
@@ -454,140 +439,100 @@ module _ (keys : Keys) (naming : Naming) (texts : List Bytes) (g : Grounds keys 
     pub silent_step : (call : Call) (after : Client) → Keeps call after → IsStep (owner keys u) (client_of u es) call after → IsSound after → IsSilent call (client_of u es) after → Simulates sent (event call after ∷ es)
     silent_step call after k step sound silent = moved sent es s (event call after) k [] (goes (client_of u es) refl call after k step sound silent)
 
-    -- ---- a step that is answered
+    -- ---- a step in which an answer is heard
 
-    module _ (t new : State) (is : client_of u es ≡ Open t) (sound : IsSound (Open new)) (x : Exchange) (sends : sent_by (Open t) x.call.kind ≡ Some x.call.text)
-        (answered : IsAnswered (pk 0) sent x) (well : x.answer.status ≡ status.Ok) where
-      was_carried_out : is_carried_out x.answer.status ≡ true
-      was_carried_out = ap is_carried_out well
-
-      answer_is : x.answer ≡ answer_of (pk 0) (calls s.moves) x.call
-      answer_is = answered.carried_out was_carried_out ∙ ap (λ (cs : List ServerCall). answer_of (pk 0) cs x.call) (sym s.calls_are)
-
-      one_call : option_to_list (option_and_then carried_out (Some x)) ≡ x.call ∷ []
-      one_call = ap (λ (b : Bool). option_to_list (if b then Some x.call else None)) was_carried_out
-
+    module _ (t new : State) (is : client_of u es ≡ Open t) (sound : IsSound (Open new)) where
       here : (call : Call) → Keeps call (Open new) → Follows keys naming u (Open t) given view stage_now
       here call k = f (Open t) is call (Open new) k
 
-      -- a reply is heard
-      heard_step : (reply_text : Bytes) (answer : Asks) → Keeps (Hears reply_text (Ok answer)) (Open new) → HasHeard t reply_text (Ok answer) new → x.answer ≡ record { status = status.Ok; payload = reply_text }
-          → hand.Heard keys naming u reply_text new → Simulates (option_to_list (option_and_then carried_out (Some x)) ++ sent) (event (Hears reply_text (Ok answer)) (Open new) ∷ es)
-      heard_step reply_text answer k b handed heard =
+      -- a reply, which was given to the text that the client has
+      heard_step : (reply_text : Bytes) (answer : Asks) → Keeps (Hears reply_text (Ok answer)) (Open new) → HasHeard t reply_text (Ok answer) new → WasAnswered (pk 0) sent (update_of t.text) (success reply_text)
+          → hand.Heard keys naming u reply_text new → Simulates sent (event (Hears reply_text (Ok answer)) (Open new) ∷ es)
+      heard_step reply_text answer k b was heard =
           let call = Hears reply_text (Ok answer) in
           let h = here call k in
           let d = in_phase_at keys naming u t stage_now phase.Declared b.declared h.own.in_phase in
           let c = signed_cert keys naming u d.0 d.1 in
-          let is_update : x.call ≡ update_by c = update_is t x sends b.declared ∙ ap update_of d.4 in
           let is_reply : IsReply pk (calls s.moves) c heard.lists = record {
             payload = reply_text;
-            answered = ap (answer_of (pk 0) (calls s.moves)) (sym is_update) ∙ sym answer_is ∙ handed;
+            answered = subst (λ (text : Bytes). WasAnswered (pk 0) (calls s.moves) (update_of text) (success reply_text)) d.4 (subst (λ (cs : List ServerCall). WasAnswered (pk 0) cs (update_of t.text) (success reply_text)) (sym s.calls_are) was);
             lists = heard.are;
           } in
-          let move = stepping.hears keys naming u (g.ids u) (calls s.moves) given view stage_now t new h sound d.0 d.1 d.2 d.3 b.declared (quiet.hears t reply_text (Ok answer) new b) heard.lists heard.in_hand is_reply d.4 in
-          subst (λ (cs : List ServerCall). Simulates (cs ++ sent) (event call (Open new) ∷ es)) (sym (one_call ∙ ap (λ (y : ServerCall). y ∷ []) (update_is t x sends b.declared)))
-          (moved sent es s (event call (Open new)) k (update_of t.text ∷ []) (inr move))
+          moved sent es s (event call (Open new)) k []
+          (inr (stepping.hears keys naming u (g.ids u) (calls s.moves) given view stage_now t new h sound d.0 d.1 d.2 d.3 b.declared (quiet.hears t reply_text (Ok answer) new b) heard.lists heard.in_hand is_reply d.4))
 
-      -- a structure is committed
-      committed_step : Keeps (Commits status.Ok) (Open new) → HasCommitted t status.Ok new → Simulates (option_to_list (option_and_then carried_out (Some x)) ++ sent) (event (Commits status.Ok) (Open new) ∷ es)
-      committed_step k b =
+      -- the structure was taken
+      committed_step : Keeps (Commits status.Ok) (Open new) → HasCommitted t status.Ok new → (payload : Bytes) → WasAnswered (pk 0) sent (commit_of t.text) (success payload) → Simulates sent (event (Commits status.Ok) (Open new) ∷ es)
+      committed_step k b payload was =
           let call = Commits status.Ok in
-          let is_commit = commit_is t x sends b.signed in
-          let done : (answer_of (pk 0) (calls s.moves) (commit_of t.text)).status ≡ status.Ok =
-          ap (λ (y : ServerCall). (answer_of (pk 0) (calls s.moves) y).status) (sym is_commit) ∙ ap (λ (a : Answer). a.status) (sym answer_is) ∙ well in
-          let move = stepping.commits keys naming u (g.ids u) (calls s.moves) given view stage_now t new (here call k) sound b.state b.signed done in
-          subst (λ (cs : List ServerCall). Simulates (cs ++ sent) (event call (Open new) ∷ es)) (sym (one_call ∙ ap (λ (y : ServerCall). y ∷ []) is_commit))
-          (moved sent es s (event call (Open new)) k (commit_of t.text ∷ []) (inr move))
+          let done = subst (λ (cs : List ServerCall). WasAnswered (pk 0) cs (commit_of t.text) (success payload)) (sym s.calls_are) was in
+          moved sent es s (event call (Open new)) k []
+          (inr (stepping.commits keys naming u (g.ids u) (calls s.moves) given view stage_now t new (here call k) sound b.state b.signed payload done))
 
   -- ---- an honest step
 
-  module _ (older : List HonestEvent) (s : Simulates (history older) (events older)) (h : HonestEvent) (is : IsHonestStep keys older h) where
-    abbrev sent : List ServerCall
-    sent = history older
-
+  module _ (older : List HonestEvent) (s : Simulates (history older) (events older)) (h : HonestEvent) (is : IsHonestRun keys (h ∷ older)) where
     abbrev es : List Event
     es = events older
 
-    abbrev more : List ServerCall
-    more = option_to_list (option_and_then carried_out h.exchange)
-
     -- what is sent comes first
-    after_exchange : Simulates (more ++ sent) es
-    after_exchange = exchanged sent es s h.user h.exchange is.sent
+    pub after_exchange : Simulates (history (h ∷ older)) es
+    after_exchange = subst (λ (cs : List ServerCall). Simulates cs es) (sym (with_exchange h older)) (exchanged (history older) es s h.user h.exchange is.0.sent)
 
-    module _ (t : StepTaken) where
-      abbrev now : Event
-      now = record { user = h.user; call = t.call; after = t.after }
+    abbrev Then : Call → Client → Type 0
+    Then call after = Simulates (history (h ∷ older)) (record { user = h.user; call = call; after = after } ∷ es)
 
-      with_answer : (P : Type 0) (handed : Exchange → Type 0) → IsSomeAnd h.exchange handed
-          → ((x : Exchange) → h.exchange ≡ Some x → sent_by (client_of h.user es) x.call.kind ≡ Some x.call.text → IsAnswered (pk 0) sent x → handed x → P) → P
-      with_answer P handed some each = go h.exchange refl is.sent is.answered some
-        where
-          go : (o : Option Exchange) → h.exchange ≡ o → IfSome o (λ x. sent_by (client_of h.user es) x.call.kind ≡ Some x.call.text) → IfSome o (IsAnswered (pk 0) sent) → IsSomeAnd o handed → P
-          go None at sends answered some = absurd some
-          go (Some x) at sends answered some = each x at sends answered some
+    abbrev KeepsNow : Call → Client → Type 0
+    KeepsNow call after = KeepsTo keys naming texts (record { user = h.user; call = call; after = after } ∷ es)
 
-      abbrev Then : Call → Client → Type 0
-      Then call after = Simulates (more ++ sent) (record { user = h.user; call = call; after = after } ∷ es)
+    silently : (call : Call) (after : Client) → KeepsNow call after → IsStep (owner keys h.user) (client_of h.user es) call after → IsSound after → IsSilent call (client_of h.user es) after → Then call after
+    silently call after k step sound silent = silent_step (history (h ∷ older)) es after_exchange h.user call after k step sound silent
 
-      abbrev KeepsNow : Call → Client → Type 0
-      KeepsNow call after = KeepsTo keys naming texts (record { user = h.user; call = call; after = after } ∷ es)
+    step_of : (before : Client) → client_of h.user es ≡ before → (call : Call) (after : Client) → KeepsNow call after → IsStep (owner keys h.user) before call after → IsSound after → IsHandedIn (h ∷ older) before (held (stored older)) call → Then call after
+    step_of before same (Opens answer) after k step sound handed = silently (Opens answer) after k (subst (λ (c : Client). IsStep (owner keys h.user) c (Opens answer) after) (sym same) step) sound tt
+    step_of before same Closes after k step sound handed = silently Closes after k (subst (λ (c : Client). IsStep (owner keys h.user) c Closes after) (sym same) step) sound tt
+    step_of before same (Begins changes laid answer) after k step sound handed = silently (Begins changes laid answer) after k (subst (λ (c : Client). IsStep (owner keys h.user) c (Begins changes laid answer) after) (sym same) step) sound tt
+    step_of before same (Takes block answer) after k step sound handed = silently (Takes block answer) after k (subst (λ (c : Client). IsStep (owner keys h.user) c (Takes block answer) after) (sym same) step) sound tt
+    step_of before same (Signs answer) after k step sound handed = silently (Signs answer) after k (subst (λ (c : Client). IsStep (owner keys h.user) c (Signs answer) after) (sym same) step) sound tt
+    step_of before same (Looks q answer) after k step sound handed = silently (Looks q answer) after k (subst (λ (c : Client). IsStep (owner keys h.user) c (Looks q answer) after) (sym same) step) sound tt
+    step_of before same (Caches capacity) after k step sound handed = silently (Caches capacity) after k (subst (λ (c : Client). IsStep (owner keys h.user) c (Caches capacity) after) (sym same) step) sound tt
+    step_of before same (Gives block answer) after k step sound handed = silently (Gives block answer) after k (subst (λ (c : Client). IsStep (owner keys h.user) c (Gives block answer) after) (sym same) step) sound tt
+    step_of before same Crashes after k step sound handed = silently Crashes after k (subst (λ (c : Client). IsStep (owner keys h.user) c Crashes after) (sym same) step) sound tt
+    step_of (Closed p) same (Hears text answer) after k step sound handed = absurd step
+    step_of (Closed p) same (Commits st) after k step sound handed = absurd step
+    step_of (Open t) same (Hears text answer) (Closed q) k step sound handed = absurd step
+    step_of (Open t) same (Commits st) (Closed q) k step sound handed = absurd step
+    step_of (Open t) same (Hears text (Err e)) (Open new) k step sound handed =
+        let call = Hears text (Err e) in
+        silently call (Open new) k (subst (λ (c : Client). IsStep (owner keys h.user) c call (Open new)) (sym same) step) sound (subst (λ (c : Client). IsSilent call c (Open new)) (sym same) step.err)
+    step_of (Open t) same (Hears text (Ok answer)) (Open new) k step sound handed =
+        let call = Hears text (Ok answer) in
+        elim (hand.judged keys naming h.user t text answer new step.judged) [
+          | inl e ↦ silently call (Open new) k (subst (λ (c : Client). IsStep (owner keys h.user) c call (Open new)) (sym same) step) sound (subst (λ (c : Client). IsSilent call c (Open new)) (sym same) e)
+          | inr heard ↦ heard_step (history (h ∷ older)) es after_exchange h.user t new same sound text answer k step (reply_answered keys (h ∷ older) is t text step.declared handed) heard
+        ]
+    step_of (Open t) same (Commits status.Ok) (Open new) k step sound handed =
+        committed_step (history (h ∷ older)) es after_exchange h.user t new same sound k step handed.0 (commit_answered keys (h ∷ older) is t handed.0 step.signed handed.1)
+    step_of (Open t) same (Commits other) (Open new) k step sound handed =
+        let call = Commits other in
+        silently call (Open new) k (subst (λ (c : Client). IsStep (owner keys h.user) c call (Open new)) (sym same) step) sound (subst (λ (c : Client). IsSilent call c (Open new)) (sym same) step.state)
 
-      silently : (call : Call) (after : Client) → KeepsNow call after → IsStep (owner keys h.user) (client_of h.user es) call after → IsSound after → IsSilent call (client_of h.user es) after → Then call after
-      silently call after k step sound silent = silent_step (more ++ sent) es after_exchange h.user call after k step sound silent
-
-      step_of : (before : Client) → client_of h.user es ≡ before → (call : Call) (after : Client) → KeepsNow call after → IsStep (owner keys h.user) before call after → IsSound after → IsHandedIn before (held (stored older)) h.exchange call → Then call after
-      step_of before same (Opens answer) after k step sound handed = silently (Opens answer) after k (subst (λ (c : Client). IsStep (owner keys h.user) c (Opens answer) after) (sym same) step) sound tt
-      step_of before same Closes after k step sound handed = silently Closes after k (subst (λ (c : Client). IsStep (owner keys h.user) c Closes after) (sym same) step) sound tt
-      step_of before same (Begins changes laid answer) after k step sound handed = silently (Begins changes laid answer) after k (subst (λ (c : Client). IsStep (owner keys h.user) c (Begins changes laid answer) after) (sym same) step) sound tt
-      step_of before same (Takes block answer) after k step sound handed = silently (Takes block answer) after k (subst (λ (c : Client). IsStep (owner keys h.user) c (Takes block answer) after) (sym same) step) sound tt
-      step_of before same (Signs answer) after k step sound handed = silently (Signs answer) after k (subst (λ (c : Client). IsStep (owner keys h.user) c (Signs answer) after) (sym same) step) sound tt
-      step_of before same (Looks q answer) after k step sound handed = silently (Looks q answer) after k (subst (λ (c : Client). IsStep (owner keys h.user) c (Looks q answer) after) (sym same) step) sound tt
-      step_of before same (Caches capacity) after k step sound handed = silently (Caches capacity) after k (subst (λ (c : Client). IsStep (owner keys h.user) c (Caches capacity) after) (sym same) step) sound tt
-      step_of before same (Gives block answer) after k step sound handed = silently (Gives block answer) after k (subst (λ (c : Client). IsStep (owner keys h.user) c (Gives block answer) after) (sym same) step) sound tt
-      step_of before same Crashes after k step sound handed = silently Crashes after k (subst (λ (c : Client). IsStep (owner keys h.user) c Crashes after) (sym same) step) sound tt
-      step_of (Closed p) same (Hears text answer) after k step sound handed = absurd step
-      step_of (Closed p) same (Commits st) after k step sound handed = absurd step
-      step_of (Open t) same (Hears text answer) (Closed q) k step sound handed = absurd step
-      step_of (Open t) same (Commits st) (Closed q) k step sound handed = absurd step
-      step_of (Open t) same (Hears text (Err e)) (Open new) k step sound handed =
-          let call = Hears text (Err e) in
-          silently call (Open new) k (subst (λ (c : Client). IsStep (owner keys h.user) c call (Open new)) (sym same) step) sound (subst (λ (c : Client). IsSilent call c (Open new)) (sym same) step.err)
-      step_of (Open t) same (Hears text (Ok answer)) (Open new) k step sound handed =
-          let call = Hears text (Ok answer) in
-          elim (hand.judged keys naming h.user t text answer new step.judged) [
-            | inl e ↦ silently call (Open new) k (subst (λ (c : Client). IsStep (owner keys h.user) c call (Open new)) (sym same) step) sound (subst (λ (c : Client). IsSilent call c (Open new)) (sym same) e)
-            | inr heard ↦ with_answer (Then call (Open new)) (λ x. x.answer ≡ record { status = status.Ok; payload = text }) handed (λ x at sends answered is_answer.
-                subst (λ (o : Option Exchange). Simulates (option_to_list (option_and_then carried_out o) ++ sent) (record { user = h.user; call = call; after = Open new } ∷ es)) (sym at)
-                (heard_step sent es s h.user t new same sound x (subst (λ (c : Client). sent_by c x.call.kind ≡ Some x.call.text) same sends) answered (ap (λ (a : Answer). a.status) is_answer) text answer k step is_answer heard))
-          ]
-      step_of (Open t) same (Commits status.Ok) (Open new) k step sound handed =
-          let call = Commits status.Ok in
-          with_answer (Then call (Open new)) (λ x. x.answer.status ≡ status.Ok) handed (λ x at sends answered well.
-          subst (λ (o : Option Exchange). Simulates (option_to_list (option_and_then carried_out o) ++ sent) (record { user = h.user; call = call; after = Open new } ∷ es)) (sym at)
-          (committed_step sent es s h.user t new same sound x (subst (λ (c : Client). sent_by c x.call.kind ≡ Some x.call.text) same sends) answered well k step))
-      step_of (Open t) same (Commits other) (Open new) k step sound handed =
-          let call = Commits other in
-          silently call (Open new) k (subst (λ (c : Client). IsStep (owner keys h.user) c call (Open new)) (sym same) step) sound (subst (λ (c : Client). IsSilent call c (Open new)) (sym same) step.state)
-
-    honest_step : (st : Option StepTaken) → h.step ≡ st → KeepsTo keys naming texts (events_with h.user st es) → Simulates (more ++ sent) (events_with h.user st es)
+    honest_step : (st : Option StepTaken) → h.step ≡ st → KeepsTo keys naming texts (events_with h.user st es) → Simulates (history (h ∷ older)) (events_with h.user st es)
     honest_step None at k = after_exchange
     honest_step (Some t) at k =
-        let taken = subst (λ (o : Option StepTaken). IfSome o (λ t. IsStep (owner keys h.user) (client_of h.user es) t.call t.after × IsSound t.after)) at is.taken in
-        let handed = subst (λ (o : Option StepTaken). IfSome o (λ t. IsHandedIn (client_of h.user es) (held (stored older)) h.exchange t.call)) at is.handed_in in
-        step_of t (client_of h.user es) refl t.call t.after k taken.0 taken.1 handed
+        let taken = subst (λ (o : Option StepTaken). IfSome o (λ t. IsStep (owner keys h.user) (client_of h.user es) t.call t.after × IsSound t.after)) at is.0.taken in
+        let handed = subst (λ (o : Option StepTaken). IfSome o (λ t. IsHandedIn (h ∷ older) (client_of h.user es) (held (stored older)) t.call)) at is.0.handed_in in
+        step_of (client_of h.user es) refl t.call t.after k taken.0 taken.1 handed
 
   -- ---- runs
 
   pub keeps_with : (u : User) (st : Option StepTaken) (es : List Event) → KeepsTo keys naming texts (events_with u st es) → KeepsTo keys naming texts es
-  keeps_with u None es k = k
-  keeps_with u (Some t) es k = keeps_older keys naming texts (record { user = u; call = t.call; after = t.after }) es k
+  keeps_with u None older k = k
+  keeps_with u (Some t) older k = keeps_older keys naming texts (record { user = u; call = t.call; after = t.after }) older k
 
   pub simulates : (run : List HonestEvent) → IsHonestRun keys run → KeepsTo keys naming texts (events run) → Simulates (history run) (events run)
   simulates [] is k = start
   simulates (h ∷ older) is k =
       let now = subst (λ (es : List Event). KeepsTo keys naming texts es) (with_step h older) k in
       let s = simulates older is.1 (keeps_with h.user h.step (events older) now) in
-      subst (λ (cs : List ServerCall). Simulates cs (events (h ∷ older))) (sym (with_exchange h older))
-      (subst (λ (es : List Event). Simulates (option_to_list (option_and_then carried_out h.exchange) ++ history older) es) (sym (with_step h older))
-      (honest_step older s h is.0 h.step refl now))
+      subst (λ (es : List Event). Simulates (history (h ∷ older)) es) (sym (with_step h older)) (honest_step older s h is h.step refl now)

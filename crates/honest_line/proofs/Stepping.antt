@@ -31,11 +31,11 @@ use Rattle.client_runs.specs.Released.{accepted_by, in_hand, released_by, tried_
 use Rattle.client_runs.specs.Runs.{Keys, owner, public_key}
 use Rattle.client_runs.proofs.Lowering.{if_ready, low_begin_failed, low_begun, low_client, low_left, low_opened, low_parts, low_sign_failed, low_signed, of_declared}
 use Rattle.consistency_server.specs.Answers.{Call as ServerCall}
-use Rattle.consistency_server.specs.History.{answer_of, commit_of, update_of}
+use Rattle.consistency_server.specs.History.{commit_of}
 use Rattle.fork_consistency.specs.Premises.{TextAddsOwnKeysOf, everybody}
 use Rattle.honest_history.specs.Honest.{Names, Naming, number_in}
 use Rattle.honest_history.specs.Served.{IsTableOf}
-use Rattle.honest_dialogues.specs.Dialogue.{Accepts, Declared, Declares, Idle, Ends, Hears as Heard_it, IsNextCert, IsReply, IsSealed, MayMove, Reopens, Sealed, Stage}
+use Rattle.honest_dialogues.specs.Dialogue.{Accepts, Declared, Declares, Idle, Ends, Hears as Heard_it, IsNextCert, IsReply, IsSealed, MayMove, Reopens, Sealed, Stage, WasAnswered, success}
 use Rattle.honest_dialogues.specs.Signing.{HasRecords}
 use Rattle.honest_line.proofs.Follows.{Follows, Goes, HoldsHeard, IsInPhase, IsMove, IsOfStory, IsTriedAt, MayDeclare, MaySeal, declared_at, failed_at, idle_at, in_phase_at, none_in_hand, o, signed_at, signed_cert, signed_structure}
 use Rattle.honest_line.proofs.OwnKeys.{own_keys}
@@ -422,8 +422,8 @@ module _ (keys : Keys) (naming : Naming) (u : User) (has_id : length (keys u).id
 
     -- ---- committing
 
-    pub commits : new ≡ committed status.Ok s → s.phase ≡ phase.Signed → (answer_of (public_key keys 0) history (commit_of s.text)).status ≡ status.Ok → IsMove keys naming u history stage (Open new) texts view (commit_of s.text ∷ []) []
-    commits is signed_it done =
+    pub commits : new ≡ committed status.Ok s → s.phase ≡ phase.Signed → (payload : Bytes) → WasAnswered (public_key keys 0) history (commit_of s.text) (success payload) → IsMove keys naming u history stage (Open new) texts view [] []
+    commits is signed_it payload done =
         let e = in_phase_at keys naming u s stage phase.Signed signed_it f.own.in_phase in
         let z = signed_structure keys naming u e.0 e.1 in
         let at = f.low.own.stands up in
@@ -432,8 +432,8 @@ module _ (keys : Keys) (naming : Naming) (u : User) (has_id : length (keys u).id
         record {
           act = Ends;
           after = now;
-          may = subst (λ (b : Stage). MayMove (public_key keys) naming history u b Ends now) (sym e.2) (refl, subst (λ (t : Bytes). (answer_of (public_key keys 0) history (commit_of t)).status ≡ status.Ok) e.4 done);
-          sends = ap (λ (t : Bytes). commit_of t ∷ []) (sym e.4);
+          may = subst (λ (b : Stage). MayMove (public_key keys) naming history u b Ends now) (sym e.2) (refl, payload, subst (λ (t : Bytes). WasAnswered (public_key keys 0) history (commit_of t) (success payload)) e.4 done);
+          sends = refl;
           accepts = refl;
           follows = record {
             story = f.story;
@@ -466,7 +466,7 @@ module _ (keys : Keys) (naming : Naming) (u : User) (has_id : length (keys u).id
 
     pub hears : (c : Cert) (q : LeafNumber) (was : Option Lists) → stage ≡ Declared s.last (signed_cert keys naming u c q) was → s.phase ≡ phase.Declared → released new ≡ released s → (x : Lists) → HoldsHeard keys naming u new (Some x)
         → IsReply (public_key keys) history (signed_cert keys naming u c q) x → s.text ≡ text (o keys naming u) (OfCert c q)
-        → IsMove keys naming u history stage (Open new) texts view (update_of s.text ∷ []) []
+        → IsMove keys naming u history stage (Open new) texts view [] []
     hears c q was at declared same x in_hand reply sent =
         let now : Stage = Declared s.last (signed_cert keys naming u c q) (Some x) in
         let here : At (Open s) view stage = f in
@@ -474,7 +474,7 @@ module _ (keys : Keys) (naming : Naming) (u : User) (has_id : length (keys u).id
           act = Heard_it;
           after = now;
           may = subst (λ (b : Stage). MayMove (public_key keys) naming history u b Heard_it now) (sym at) (refl, refl, reply);
-          sends = ap (λ (t : Bytes). update_of t ∷ []) (sym sent);
+          sends = refl;
           accepts = refl;
           follows = record {
             story = f.story;

@@ -88,10 +88,11 @@ read_noted wanted place u w size small same is =
 -- what was told to a user's client
 pub is_told : {A : Type 0} (u : User) (t : Act A) (a : Answer A) (old new : Town A) → u < 64 → AreNoted old.clients old.wanted.items → ComesTo u t a old new
     → ((v : ℕ) → v ≢ u → client_at new.clients v ≡ client_at old.clients v) → new.wanted.items ≡ set old.wanted.items u (noting (wanted_at old.wanted.items u) a)
-    → new.store ≡ keeping_all old.store (handed_out a) → new.server ≡ old.server → IsTold u a old new
-is_told {A} u t a old new small noted comes others wanted stored server = record {
+    → new.store ≡ keeping_all old.store (handed_out a) → new.server ≡ old.server → new.exchanges ≡ old.exchanges → IsTold u a old new
+is_told {A} u t a old new small noted comes others wanted stored server exchanges = record {
   others = others;
   stored = stored;
   noted = noted_anew old.clients new.clients old.wanted.items new.wanted.items u t a small noted wanted comes others;
   server = server;
+  exchanges = exchanges;
 }

@@ -29,7 +29,7 @@ use Rattle.client_runs.specs.Told.{call_of, texts_in}
 use Rattle.client_runs.specs.NotTaken.{CantBeTaken}
 use Rattle.client_runs.specs.Carried.{ComesOf, IsTaken}
 use Rattle.honest_runs.specs.declared.wanted.Wanted.{Wanted}
-use Rattle.honest_runs.specs.HonestRuns.{Exchange, IsFound, IsHandedIn, looked_for_by, put_with, wanted_by}
+use Rattle.honest_runs.specs.HonestRuns.{HonestEvent, IsFound, IsHandedIn, looked_for_by, put_with, wanted_by}
 use Rattle.honest_runs.specs.Served.{Does, DoesAlone, laid_by}
 use Rattle.honest_runs.specs.Town.{IsNoted, client_after, handed_out, hands_in, noting}
 use Rattle.honest_runs.proofs.Noting.{asking, noted_after}
@@ -152,9 +152,9 @@ looks_for o (Open s) block r (Open new) h = mapped s.view h.looks
     mapped (Some y) some = asked_by y.looking some
 looks_for o c block r after h = absurd h
 
-module _ (client : Client) (blocks : Blocks) (x : Option Exchange) where
+module _ (run : List HonestEvent) (client : Client) (blocks : Blocks) where
   abbrev Handed : Call → Type 0
-  Handed call = IsHandedIn client blocks x call
+  Handed call = IsHandedIn run client blocks call
 
   -- a client that takes a block asks for it
   found : (asks remembered : Option Digest) (block : Option Bytes) → IsSome asks → IfSome asks (λ d. remembered ≡ Some d) → block ≡ option_and_then blocks remembered

@@ -1,7 +1,8 @@
 -- Honest runs: steps of the clients of all users in any order, the latest first, with one server and one store of
--- blocks. What a client is handed is what the server answered it in that very step, or the stored block that it asks
--- for; and what its operations need is stored before it sends or signs anything.
-use Rattle.std.specs.Prelude.{◌≡◌, ◌≢◌, ◌≤◌, true, false, List, [], ◌∷◌, Option, Some, None, IfSome, IsSomeAnd, filter_map, if◌then◌else◌, length}
+-- blocks. What a client is handed is what the server answered, in that step or an earlier one, to the very text that it
+-- has now, or the stored block that it asks for; and what its operations need is stored before it sends or signs
+-- anything.
+use Rattle.std.specs.Prelude.{◌≡◌, ◌≢◌, ◌≤◌, ◌⊎◌, true, false, List, [], ◌∷◌, Option, Some, None, IfSome, IsSomeAnd, filter_map, if◌then◌else◌, length}
 use Rattle.std.specs.Option.{option_and_then, option_map}
 use Rattle.layout.specs.Types.{Bytes, Digest, Key, User}
 use Rattle.tree_parts.specs.Blocks.{Blocks}
@@ -15,7 +16,7 @@ use Rattle.client_runs.specs.Clients.{certificate_of, structure_of}
 use Rattle.consistency_server.specs.declared.call.CallKind.{CallKind}
 use Rattle.consistency_server.specs.declared.call.CallKind.TheVariants.{Update, Commit}
 use Rattle.consistency_server.specs.Answers.{Answer, Call}
-use Rattle.consistency_server.specs.History.{answer_of, is_carried_out, log_of, logged}
+use Rattle.consistency_server.specs.History.{answer_of, call_of, is_carried_out, log_of, logged}
 
 -- a call of the server, and what it answered
 pub record Exchange : Type 0 where
@@ -80,15 +81,26 @@ looked_for_by (Open s) = option_map (λ l. l.asked.digest) (option_and_then (λ 
 abbrev pub IsFound : Blocks → Option Digest → Option Bytes → Type 0
 IsFound blocks asked block = IsSomeAnd asked (λ digest. blocks digest ≡ block)
 
--- A client is handed what the server answered it in this step, and no reply but one of status 0; and of blocks what is
--- stored.
-abbrev pub IsHandedIn : Client → Blocks → Option Exchange → ClientCall → Type 0
-IsHandedIn client blocks exchange (Hears text answer) =
-    IsSomeAnd exchange (λ x. x.answer ≡ record { status = status.Ok; payload = text })
-IsHandedIn client blocks exchange (Takes block answer) = IsFound blocks (wanted_by client) block
-IsHandedIn client blocks exchange (Commits given) = IsSomeAnd exchange (λ x. x.answer.status ≡ given)
-IsHandedIn client blocks exchange (Gives block answer) = IsFound blocks (looked_for_by client) block
-IsHandedIn client blocks exchange call = Unit {0}
+-- in one of these steps this call was made, and answered so
+abbrev pub TookPlace : List HonestEvent → Exchange → Type 0
+TookPlace [] x = ⊥
+TookPlace (h ∷ older) x = (h.exchange ≡ Some x) ⊎ TookPlace older x
+
+-- In one of these steps the server answered so to the very text that the client has now.
+abbrev pub WasTold : List HonestEvent → Client → CallKind → Answer → Type 0
+WasTold run client kind answer =
+    IsSomeAnd (sent_by client kind) (λ text. TookPlace run (record { call = call_of kind text; answer = answer }))
+
+-- A client is handed what the server answered, in one of these steps, to the text that it has now: the reply, with
+-- status 0, to its certificate, or the status of its structure; and of blocks what is stored.
+abbrev pub IsHandedIn : List HonestEvent → Client → Blocks → ClientCall → Type 0
+IsHandedIn run client blocks (Hears text answer) =
+    WasTold run client Update (record { status = status.Ok; payload = text })
+IsHandedIn run client blocks (Takes block answer) = IsFound blocks (wanted_by client) block
+IsHandedIn run client blocks (Commits given) =
+    (payload : Bytes) × WasTold run client Commit (record { status = given; payload = payload })
+IsHandedIn run client blocks (Gives block answer) = IsFound blocks (looked_for_by client) block
+IsHandedIn run client blocks call = Unit {0}
 
 -- the texts that are put into the store with a call: what is laid out for an operation, and what the client hands out
 -- to be stored
@@ -110,7 +122,7 @@ pub record IsHonestStep (keys : Keys) (older : List HonestEvent) (h : HonestEven
   -- What the client does is a step of it.
   pub taken : IfSome h.step (λ s. IsStep (owner keys h.user) (client_before h older) s.call s.after × IsSound s.after)
   pub handed_in : IfSome h.step
-      (λ s. IsHandedIn (client_before h older) (held (stored older)) h.exchange s.call)
+      (λ s. IsHandedIn (h ∷ older) (client_before h older) (held (stored older)) s.call)
   pub put : IfSome h.step (λ s. h.put ≡ put_with s.call)
 
 -- each is a step after those before it

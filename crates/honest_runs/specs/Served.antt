@@ -1,5 +1,6 @@
 -- Honest steps that were carried out: they are an honest run.
-use Rattle.std.specs.Prelude.{◌≡◌, ℕ, List, [], ◌∷◌, Option, Some, None, MatchOption, reverse}
+use Rattle.std.specs.Prelude.{◌≡◌, ◌≢◌, ◌⊎◌, ℕ, List, [], ◌∷◌, Option, Some, None, MatchOption, map, reverse, slice_get}
+use Rattle.std.specs.Option.{option_and_then}
 use Rattle.std.specs.declared.vec.Vec.{Vec}
 use Rattle.layout.specs.Types.{Bytes}
 use Rattle.wire.specs.declared.kinds.Status.{Status}
@@ -15,12 +16,13 @@ use Rattle.client_runs.specs.NotTaken.{CantBeTaken}
 use Rattle.client_runs.specs.Carried.{script_keys}
 use Rattle.consistency_server.specs.declared.call.CallKind.{CallKind}
 use Rattle.consistency_server.specs.declared.call.CallKind.TheVariants.{Update, Commit}
+use Rattle.consistency_server.specs.Answers.{Answer as ServerAnswer}
 use Rattle.honest_runs.specs.declared.step.Delivery.{Delivery}
 use Rattle.honest_runs.specs.declared.step.Delivery.TheVariants as delivery
 use Rattle.honest_runs.specs.declared.step.HonestAct.{HonestAct}
 use Rattle.honest_runs.specs.declared.step.HonestAct.TheVariants as honest
 use Rattle.honest_runs.specs.declared.step.HonestStep.{HonestStep}
-use Rattle.honest_runs.specs.HonestRuns.{HonestEvent, IsHonestRun, events, sent_by}
+use Rattle.honest_runs.specs.HonestRuns.{Exchange, HonestEvent, IsHonestRun, events, sent_by}
 
 -- ---- what a client does
 
@@ -49,37 +51,59 @@ abbrev pub IsServed : {A : Type 0} → Status → Option StepTaken → Answer A 
 IsServed status step answer = (step ≡ None) × (answer ≡ Served status)
 
 -- a reply comes with status 0 alone
-abbrev pub HearsReply : {A : Type 0} → Client → Status → Option StepTaken → Answer A → Type 0
-HearsReply {A} client status.Ok step answer = (text : Vec ℕ A) × Does client (act.Reply text) step answer
-HearsReply client other step answer = IsServed other step answer
+abbrev pub HearsReply : {A : Type 0} → Client → Status → Bytes → Option StepTaken → Answer A → Type 0
+HearsReply {A} client status.Ok payload step answer =
+    (text : Vec ℕ A) × (text.items ≡ payload) × Does client (act.Reply text) step answer
+HearsReply client other payload step answer = IsServed other step answer
 
 -- the status of a structure is handed in, and told
 abbrev pub HearsStatus : {A : Type 0} → Client → Status → Option StepTaken → Answer A → Type 0
 HearsStatus {A} client status step answer = Does {A = A} client (act.Committed status) step Committed
     × (answer ≡ Served status)
 
--- what comes of an answer that is lost, or arrives
-abbrev pub IsDelivered : {A : Type 0} → Client → CallKind → Delivery → Status → Option StepTaken → Answer A → Type 0
-IsDelivered client kind delivery.Lost status step answer = IsServed status step answer
-IsDelivered client Update delivery.Arrives status step answer = HearsReply client status step answer
-IsDelivered client Commit delivery.Arrives status step answer = HearsStatus client status step answer
+-- what comes of an answer that arrives
+abbrev pub Hears : {A : Type 0} → Client → CallKind → ServerAnswer → Option StepTaken → Answer A → Type 0
+Hears client Update given step answer = HearsReply client given.status given.payload step answer
+Hears client Commit given step answer = HearsStatus client given.status step answer
+
+-- or is lost
+abbrev pub IsDelivered : {A : Type 0} → Client → Delivery → Exchange → Option StepTaken → Answer A → Type 0
+IsDelivered client delivery.Lost x step answer = IsServed x.answer.status step answer
+IsDelivered client delivery.Arrives x step answer = Hears client x.call.kind x.answer step answer
 
 -- the client makes such a call, if it has what it sends with it
 abbrev pub Calls : {A : Type 0} → Client → CallKind → Delivery → HonestEvent → Answer A → Type 0
 Calls client kind how h answer =
     MatchOption h.exchange ((sent_by client kind ≡ None) × IsNotDone h.step answer)
-    (λ x. (x.call.kind ≡ kind) × IsDelivered client kind how x.answer.status h.step answer)
+    (λ x. (x.call.kind ≡ kind) × IsDelivered client how x h.step answer)
+
+-- the calls in these steps with their answers, the earliest step first
+abbrev pub exchanges : List HonestEvent → List (Option Exchange)
+exchanges run = reverse (map (λ h. h.exchange) run)
+
+-- the one in step n, if there was one in it; the first step is step 0
+abbrev pub exchange_at : List (Option Exchange) → ℕ → Option Exchange
+exchange_at xs n = option_and_then (λ x. x) (slice_get xs n)
+
+-- An earlier answer arrives, if it was one to the very text that the client has now.
+abbrev pub ComesLate : {A : Type 0} → Client → Option Exchange → Option StepTaken → Answer A → Type 0
+ComesLate client None step answer = IsNotDone step answer
+ComesLate client (Some x) step answer =
+    ((sent_by client x.call.kind ≡ Some x.call.text) × Hears client x.call.kind x.answer step answer)
+    ⊎ ((sent_by client x.call.kind ≢ Some x.call.text) × IsNotDone step answer)
 
 -- ---- steps
 
--- what comes of a step
-abbrev pub Comes : {A : Type 0} → Client → HonestAct A → HonestEvent → Answer A → Type 0
-Comes client (honest.Alone todo) h answer = (h.exchange ≡ None) × DoesAlone client todo h.step answer
-Comes client (honest.Update how) h answer = Calls client Update how h answer
-Comes client (honest.Commit how) h answer = Calls client Commit how h answer
-Comes {A} client honest.Block h answer = (h.exchange ≡ None)
+-- what comes of a step after these
+abbrev pub Comes : {A : Type 0} → List HonestEvent → Client → HonestAct A → HonestEvent → Answer A → Type 0
+Comes older client (honest.Alone todo) h answer = (h.exchange ≡ None) × DoesAlone client todo h.step answer
+Comes older client (honest.Update how) h answer = Calls client Update how h answer
+Comes older client (honest.Commit how) h answer = Calls client Commit how h answer
+Comes older client (honest.Late n) h answer = (h.exchange ≡ None)
+    × ComesLate client (exchange_at (exchanges older) n) h.step answer
+Comes {A} older client honest.Block h answer = (h.exchange ≡ None)
     × ((block : Option (Vec ℕ A)) × Does client (act.Block block) h.step answer)
-Comes {A} client honest.Give h answer = (h.exchange ≡ None)
+Comes {A} older client honest.Give h answer = (h.exchange ≡ None)
     × ((block : Option (Vec ℕ A)) × Does client (act.Give block) h.step answer)
 
 -- what is laid out for an operation, whether or not it can be begun
@@ -91,18 +115,17 @@ abbrev pub laid_for : {A : Type 0} → HonestAct A → List Bytes
 laid_for (honest.Alone todo) = laid_by todo
 laid_for other = []
 
--- what happens in a step that gives this answer
-pub record IsEventOf {A : Type 0} (client : Client) (step : HonestStep A) (answer : Answer A)
+-- what happens in a step after these that gives this answer
+pub record IsEventOf {A : Type 0} (older : List HonestEvent) (step : HonestStep A) (answer : Answer A)
     (h : HonestEvent) : Type 0 where
   pub user : h.user ≡ step.user
-  pub comes : Comes client step.act h answer
+  pub comes : Comes older (client_of step.user (events older)) step.act h answer
   pub laid : h.step ≡ None → h.put ≡ laid_for step.act
 
 -- these steps gave these answers, and this happened in them, the latest first
 abbrev pub Keep : {A : Type 0} → List (HonestStep A) → List (Answer A) → List HonestEvent → Type 0
 Keep [] [] [] = Unit {0}
-Keep (step ∷ steps) (answer ∷ answers) (h ∷ older) = IsEventOf (client_of step.user (events older)) step answer h
-    × Keep steps answers older
+Keep (step ∷ steps) (answer ∷ answers) (h ∷ older) = IsEventOf older step answer h × Keep steps answers older
 Keep steps answers run = ⊥
 
 -- the steps with their answers are an honest run of clients with these keys

@@ -1,5 +1,7 @@
 -- Clients, server and store in memory: for private contracts. Nobody has to believe this file.
-use Rattle.std.specs.Prelude.{◌≡◌, ◌≢◌, ℕ, Bool, true, false, List, [], ◌++◌, Option, Some, None, IfSome, Ok, length, option_and_then, option_to_list, slice_index_or}
+use Rattle.std.specs.Prelude.{◌≡◌, ◌≢◌, ℕ, Bool, true, false, List, [], ◌∷◌, ◌++◌, Option, Some, None, IfSome, Ok, length, option_and_then, option_to_list, slice_index_or}
+use Rattle.std.specs.Option.{option_map_or}
+use Rattle.std.specs.Str.{bytes_eq}
 use Rattle.std.specs.declared.vec.Vec.{Vec}
 use Rattle.layout.specs.Types.{Bytes, User}
 use Rattle.client_tree.specs.Held.{keeping_all}
@@ -17,13 +19,18 @@ use Rattle.client_runs.specs.Told.{texts_in}
 use Rattle.client_runs.specs.Carried.{ComesOf, script_keys}
 use Rattle.client_runs.specs.Clients.{client_at}
 use Rattle.consistency_server.specs.declared.call.CallKind.{CallKind}
+use Rattle.consistency_server.specs.declared.call.CallKind.TheVariants.{Update, Commit}
 use Rattle.consistency_server.specs.Answers.{Answer as ServerAnswer, Call}
 use Rattle.consistency_server.specs.History.{call_of}
+use Rattle.honest_runs.specs.declared.step.Delivery.{Delivery}
+use Rattle.honest_runs.specs.declared.step.Delivery.TheVariants as delivery
+use Rattle.honest_runs.specs.declared.step.HonestAct.{HonestAct}
+use Rattle.honest_runs.specs.declared.step.HonestAct.TheVariants as honest
 use Rattle.honest_runs.specs.declared.step.HonestStep.{HonestStep}
 use Rattle.honest_runs.specs.declared.town.Town.{Town}
 use Rattle.honest_runs.specs.declared.wanted.Wanted.{Wanted}
 use Rattle.honest_runs.specs.HonestRuns.{Exchange, HonestEvent, IsAnswered, IsHonestStep, carried_out, events, history, looked_for_by, sent_by, stored, wanted_by}
-use Rattle.honest_runs.specs.Served.{IsEventOf}
+use Rattle.honest_runs.specs.Served.{IsEventOf, exchanges}
 
 -- ---- what clients ask for
 
@@ -68,13 +75,21 @@ hands_in other = false
 abbrev pub exchange_of : CallKind → Bytes → ServerAnswer → Exchange
 exchange_of kind text a = record { call = call_of kind text; answer = a }
 
+-- a client makes such a call, and this becomes of the answer
+abbrev pub calling : {A : Type 0} → CallKind → Delivery → HonestAct A
+calling Update how = honest.Update how
+calling Commit how = honest.Commit how
+
+-- the client would send this very text
+abbrev pub has_text : Option Bytes → Bytes → Bool
+has_text own text = option_map_or (λ t. bytes_eq t text) own false
+
 -- a client's text was sent, and the server answered it
-pub record IsSent (kind : CallKind) (client : Client) (old : List Call) (a : ServerAnswer)
-    (new : List Call) : Type 0 where
-  pub text : Bytes
-  pub sent : sent_by client kind ≡ Some text
-  pub answered : IsAnswered (public_key script_keys 0) old (exchange_of kind text a)
-  pub history : new ≡ option_to_list (carried_out (exchange_of kind text a)) ++ old
+pub record IsSent (kind : CallKind) (client : Client) (old : List Call) (x : Exchange) (new : List Call) : Type 0 where
+  pub made : x.call.kind ≡ kind
+  pub sent : sent_by client x.call.kind ≡ Some x.call.text
+  pub answered : IsAnswered (public_key script_keys 0) old x
+  pub history : new ≡ option_to_list (carried_out x) ++ old
 
 -- ---- what comes of a step
 
@@ -84,6 +99,7 @@ pub record IsTold {A : Type 0} (u : User) (answer : Answer A) (old new : Town A)
   pub stored : new.store ≡ keeping_all old.store (handed_out answer)
   pub noted : AreNoted new.clients new.wanted.items
   pub server : new.server ≡ old.server
+  pub exchanges : new.exchanges ≡ old.exchanges
 
 -- what comes of a user's client that is told to do this
 abbrev pub ComesTo : {A : Type 0} → User → Act A → Answer A → Town A → Town A → Type 0
@@ -91,10 +107,10 @@ ComesTo u todo answer old new =
     ComesOf (owner script_keys u) (client_at old.clients u) todo answer (client_at new.clients u)
 
 -- what comes of an answer with this status: its payload is handed in as a reply, if it is one
-abbrev pub Hears : {A : Type 0} → User → Status → Bytes → Answer A → Town A → Town A → Type 0
-Hears {A} u status.Ok payload answer old new =
+abbrev pub ComesOfReply : {A : Type 0} → User → Status → Bytes → Answer A → Town A → Town A → Type 0
+ComesOfReply {A} u status.Ok payload answer old new =
     (text : Vec ℕ A) × (text.items ≡ payload) × ComesTo u (act.Reply text) answer old new
-Hears u other payload answer old new = (answer ≡ Served other)
+ComesOfReply u other payload answer old new = (answer ≡ Served other)
     × (client_at new.clients u ≡ client_at old.clients u)
 
 -- the status of a structure is handed in, and told
@@ -103,6 +119,16 @@ pub record Acknowledges {A : Type 0} (u : User) (status : Status) (answer : Answ
   pub told : Answer A
   pub comes : ComesTo u (act.Committed status) told old new
   pub is_told : IsTold u told old new
+
+-- what comes of an answer that arrives
+abbrev pub Arrives : {A : Type 0} → User → CallKind → ServerAnswer → Answer A → Town A → Town A → Type 0
+Arrives u Update a answer old new = ComesOfReply u a.status a.payload answer old new × IsTold u answer old new
+Arrives u Commit a answer old new = Acknowledges u a.status answer old new
+
+-- or is lost
+abbrev pub IsDeliveredTo : {A : Type 0} → User → Delivery → Exchange → Answer A → Town A → Town A → Type 0
+IsDeliveredTo u delivery.Lost x answer old new = (answer ≡ Served x.answer.status) × (new ≡ old)
+IsDeliveredTo u delivery.Arrives x answer old new = Arrives u x.call.kind x.answer answer old new
 
 -- the client after a step of it, if it took one
 abbrev pub client_after : Client → Option StepTaken → Client
@@ -114,14 +140,24 @@ pub record LeadsTo {A : Type 0} (run : List HonestEvent) (town : Town A) : Type 
   pub clients : (u : User) → client_of u (events run) ≡ client_at town.clients u
   pub calls : history run ≡ town.server
   pub blocks : stored run ≡ town.store
+  pub answers : exchanges run ≡ town.exchanges.items
 
--- what happens in a step, and what is there after it
-pub record Happens {A : Type 0} (todo : HonestStep A) (answer : Answer A) (old new : Town A) : Type 0 where
+-- what happens in a step, in which this call is made, and what is there after it
+pub record Happens {A : Type 0} (todo : HonestStep A) (answer : Answer A) (x : Option Exchange) (old new : Town A)
+    : Type 0 where
   pub event : HonestEvent
+  pub call : event.exchange ≡ x
   pub is_step : (older : List HonestEvent) → LeadsTo older old → IsHonestStep script_keys older event
-  pub is_event : IsEventOf (client_at old.clients todo.user) todo answer event
+  pub is_event : (older : List HonestEvent) → LeadsTo older old → IsEventOf older todo answer event
   pub client : client_at new.clients todo.user ≡ client_after (client_at old.clients todo.user) event.step
   pub others : (v : ℕ) → v ≢ todo.user → client_at new.clients v ≡ client_at old.clients v
   pub calls : new.server ≡ option_to_list (option_and_then carried_out event.exchange) ++ old.server
   pub stored : new.store ≡ keeping_all old.store event.put
   pub noted : AreNoted new.clients new.wanted.items
+  pub exchanges : new.exchanges ≡ old.exchanges
+
+-- it happened, and its call with the answer is kept
+pub record IsCarriedOut {A : Type 0} (todo : HonestStep A) (answer : Answer A) (old new : Town A) : Type 0 where
+  pub call : Option Exchange
+  pub happens : Happens todo answer call old (record new { exchanges = old.exchanges })
+  pub kept : new.exchanges.items ≡ old.exchanges.items ++ call ∷ []

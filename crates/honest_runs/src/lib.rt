@@ -3,6 +3,7 @@
 //! carries out the steps of such a run.
 #![tactic(auto)]
 
+mod exchange;
 mod laws;
 mod running;
 mod server;

@@ -29,6 +29,9 @@ pub enum HonestAct<A: Allocator> {
     Commit(Delivery),
     /// The look under way is handed the block that it asks for, as the store has it.
     Give,
+    /// What the server answered in an earlier step, the first of which is step 0, arrives now: late, or again. It isn't
+    /// taken where no call was made in that step, or one with another text than the client would send now.
+    Late(usize),
 }
 
 /// A step of a user's client, with the server and the store.

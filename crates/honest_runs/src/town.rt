@@ -7,17 +7,19 @@ ghost use Rattle.client_tree.specs.Held.{held, keeping_all};
 ghost use Rattle.client_runs.specs.Clients.{client_at};
 ghost use Rattle.client_steps.specs.Steps.{first};
 ghost use Rattle.honest_runs.specs.HonestRuns.{sent_by};
-ghost use Rattle.honest_runs.specs.Town.{Acknowledges, AreNoted, ComesTo, Happens, Hears, IsSent, IsTold, handed_out};
+ghost use Rattle.honest_runs.specs.Town.{Acknowledges, AreNoted, Arrives, ComesOfReply, ComesTo, Happens, IsCarriedOut};
+ghost use Rattle.honest_runs.specs.Town.{IsDeliveredTo, IsSent, IsTold, calling, handed_out, has_text};
 ghost use Rattle.honest_runs.specs.Town.{hands_in as hands_in_of};
 ghost use Rattle.honest_runs.specs.Served.{laid_by};
 
+use crate::exchange::{Exchange, earlier, keep};
 use crate::server::Server;
 use crate::step::{Delivery, HonestAct, HonestStep};
 use crate::wanted::{Wanted, note, nothing_wanted};
 use client_runs::{Act, Answer, Clients};
 use client_tree::Held;
 use client_verify::Step;
-use consistency_server::{Answer as ServerAnswer, CallKind};
+use consistency_server::CallKind;
 use layout::{Digest, Memory, User, beside, let_go};
 use std::alloc::Allocator;
 use tree_parts::Blocks;
@@ -31,6 +33,8 @@ pub(crate) struct Town<A: Allocator + Copy> {
     wanted: Vec<Wanted, A>,
     store: Held<A>,
     server: Server<A>,
+    /// The call of each step so far, if one was made in it.
+    exchanges: Vec<Option<Exchange<A>>, A>,
 }
 
 // ---- the store
@@ -104,27 +108,34 @@ fn text_of<A: Allocator + Copy>(clients: &Clients<A>, kind: CallKind, user: User
     }
 }
 
-/// Sends what a user's client has to be sent with such a call, and gives the server's answer.
+/// Sends what a user's client has to be sent with such a call, and gives the call with the server's answer.
 fn ask<A: Allocator + Copy>(
+    alloc: A,
     clients: &Clients<A>,
     server: &mut Server<A>,
     kind: CallKind,
     user: User,
-) -> Option<ServerAnswer<A>>
-    ensures { MatchOption result ((sent_by (client_at clients.now user) kind ≡ None) × (server.new ≡ server.old))
-        (λ answer. IsSent kind (client_at clients.now user) server.old answer server.new) }
+) -> Result<Option<Exchange<A>>, Memory>
+    ensures { IfOk result (λ asked. MatchOption asked
+        ((sent_by (client_at clients.now user) kind ≡ None) × (server.new ≡ server.old))
+        (λ x. IsSent kind (client_at clients.now user) server.old x server.new)) }
 {
-    let text = text_of(clients, kind, user)?;
-    Some(server.answer(kind, text))
+    let Some(text) = text_of(clients, kind, user) else {
+        return Ok(None);
+    };
+    let sent = Vec::from_slice(alloc, text)?;
+    let answer = server.answer(kind, text);
+    Ok(Some(Exchange::new(kind, sent, answer)))
 }
 
-/// What is told of an answer that is lost: its status.
-fn served<A: Allocator>(answer: ServerAnswer<A>) -> Answer<A>
-    ensures { result ≡ Answer.Served answer.status }
+/// Whether the call has the very text that a user's client would send with such a call now.
+fn is_own<A: Allocator + Copy>(clients: &Clients<A>, user: User, exchange: &Exchange<A>) -> bool
+    ensures { result ≡ has_text (sent_by (client_at clients.now user) exchange.now.call.kind) exchange.now.call.text }
 {
-    let told = Answer::Served(answer.status());
-    let_go(answer);
-    told
+    match text_of(clients, exchange.kind(), user) {
+        Some(text) => text == exchange.text(),
+        None => false,
+    }
 }
 
 // ---- steps
@@ -146,6 +157,7 @@ impl<A: Allocator + Copy> Town<A> {
         ensures noted { IfOk result (λ town. AreNoted town.clients town.wanted.items) }
         ensures stored { IfOk result (λ town. town.store ≡ []) }
         ensures calls { IfOk result (λ town. town.server ≡ []) }
+        ensures answers { IfOk result (λ town. town.exchanges.items ≡ []) }
     {
         let clients = Clients::new(alloc)?;
         let wanted = nothing_wanted(alloc)?;
@@ -156,6 +168,7 @@ impl<A: Allocator + Copy> Town<A> {
             wanted,
             store: Held::empty(alloc),
             server,
+            exchanges: Vec::new(alloc),
         })
     }
 
@@ -178,7 +191,7 @@ impl<A: Allocator + Copy> Town<A> {
     fn alone(&mut self, step: &HonestStep<A>, act: &Act<A>) -> Result<Answer<A>, Memory>
         requires noted { AreNoted self.old.clients self.old.wanted.items }
         requires act { step.now.act ≡ HonestAct.Alone act.now }
-        ensures { IfOk result (λ answer. Happens step.now answer self.old self.new) }
+        ensures { IfOk result (λ answer. Happens step.now answer None self.old self.new) }
     {
         if hands_in(act) {
             return Ok(Answer::NotTaken);
@@ -187,33 +200,23 @@ impl<A: Allocator + Copy> Town<A> {
         self.tell(step, act)
     }
 
-    /// The reply of an answer is handed in, if it has one.
-    fn reply(&mut self, step: &HonestStep<A>, answer: ServerAnswer<A>) -> Result<Answer<A>, Memory>
+    /// The reply of an answer is handed in, if it is one of status 0; another status is told.
+    fn reply(
+        &mut self,
+        step: &HonestStep<A>,
+        status: Status,
+        payload: &[u8],
+    ) -> Result<Answer<A>, Memory>
         requires { AreNoted self.old.clients self.old.wanted.items }
-        ensures comes { IfOk result (λ told. Hears step.now.user answer.status answer.payload told self.old self.new) }
+        ensures comes { IfOk result (λ told. ComesOfReply step.now.user status payload.now told self.old self.new) }
         ensures told { IfOk result (λ told. IsTold step.now.user told self.old self.new) }
     {
-        match answer.status() {
+        match status {
             Status::Ok => {
-                let act = Act::Reply(answer.into_payload());
+                let act = Act::Reply(Vec::from_slice(self.alloc, payload)?);
                 self.tell(step, &act)
             }
-            _ => Ok(served(answer)),
-        }
-    }
-
-    /// The certificate is sent, and the reply may arrive.
-    fn update(&mut self, step: &HonestStep<A>, delivery: Delivery) -> Result<Answer<A>, Memory>
-        requires noted { AreNoted self.old.clients self.old.wanted.items }
-        requires act { step.now.act ≡ HonestAct.Update delivery }
-        ensures { IfOk result (λ answer. Happens step.now answer self.old self.new) }
-    {
-        let Some(answer) = ask(&self.clients, &mut self.server, CallKind::Update, step.user) else {
-            return Ok(Answer::NotTaken);
-        };
-        match delivery {
-            Delivery::Lost => Ok(served(answer)),
-            Delivery::Arrives => self.reply(step, answer),
+            _ => Ok(Answer::Served(status)),
         }
     }
 
@@ -221,7 +224,7 @@ impl<A: Allocator + Copy> Town<A> {
     fn block(&mut self, step: &HonestStep<A>) -> Result<Answer<A>, Memory>
         requires noted { AreNoted self.old.clients self.old.wanted.items }
         requires act { step.now.act ≡ HonestAct.Block }
-        ensures { IfOk result (λ answer. Happens step.now answer self.old self.new) }
+        ensures { IfOk result (λ answer. Happens step.now answer None self.old self.new) }
     {
         let wanted = self.wanted[step.user.get() as usize].reply;
         let act = Act::Block(stored(self.alloc, &self.store, wanted)?);
@@ -238,45 +241,107 @@ impl<A: Allocator + Copy> Town<A> {
         Ok(Answer::Served(status))
     }
 
-    /// The structure is sent, and the status may arrive.
-    fn commit(&mut self, step: &HonestStep<A>, delivery: Delivery) -> Result<Answer<A>, Memory>
-        requires noted { AreNoted self.old.clients self.old.wanted.items }
-        requires act { step.now.act ≡ HonestAct.Commit delivery }
-        ensures { IfOk result (λ answer. Happens step.now answer self.old self.new) }
+    /// An answer arrives: a reply, or the status of a structure.
+    fn arrive(&mut self, step: &HonestStep<A>, exchange: &Exchange<A>) -> Result<Answer<A>, Memory>
+        requires { AreNoted self.old.clients self.old.wanted.items }
+        ensures { IfOk result (λ answer.
+            Arrives step.now.user exchange.now.call.kind exchange.now.answer answer self.old self.new) }
     {
-        let Some(answer) = ask(&self.clients, &mut self.server, CallKind::Commit, step.user) else {
+        match exchange.kind() {
+            CallKind::Update => self.reply(step, exchange.status(), exchange.payload()),
+            CallKind::Commit => self.acknowledge(step, exchange.status()),
+        }
+    }
+
+    /// The answer to a call arrives, or is lost.
+    fn deliver(
+        &mut self,
+        step: &HonestStep<A>,
+        delivery: Delivery,
+        exchange: &Exchange<A>,
+    ) -> Result<Answer<A>, Memory>
+        requires { AreNoted self.old.clients self.old.wanted.items }
+        ensures { IfOk result (λ answer. IsDeliveredTo step.now.user delivery exchange.now answer self.old self.new) }
+    {
+        match delivery {
+            Delivery::Lost => Ok(Answer::Served(exchange.status())),
+            Delivery::Arrives => self.arrive(step, exchange),
+        }
+    }
+
+    /// The certificate or the structure is sent, and the answer may arrive.
+    fn call(
+        &mut self,
+        step: &HonestStep<A>,
+        kind: CallKind,
+        delivery: Delivery,
+    ) -> Result<(Answer<A>, Option<Exchange<A>>), Memory>
+        requires noted { AreNoted self.old.clients self.old.wanted.items }
+        requires act { step.now.act ≡ calling kind delivery }
+        ensures { IfOk result (λ done. Happens step.now done.0 done.1 self.old self.new) }
+    {
+        let asked = ask(self.alloc, &self.clients, &mut self.server, kind, step.user)?;
+        let Some(exchange) = asked else {
+            return Ok((Answer::NotTaken, None));
+        };
+        let answer = self.deliver(step, delivery, &exchange);
+        let (exchange, answer) = beside(exchange, answer)?;
+        Ok((answer, Some(exchange)))
+    }
+
+    /// An earlier answer arrives, if it was one to the text that the client has now.
+    fn late(&mut self, step: &HonestStep<A>, n: usize) -> Result<Answer<A>, Memory>
+        requires noted { AreNoted self.old.clients self.old.wanted.items }
+        requires act { step.now.act ≡ HonestAct.Late n }
+        ensures { IfOk result (λ answer. Happens step.now answer None self.old self.new) }
+    {
+        let Some(exchange) = earlier(self.alloc, &self.exchanges, n)? else {
             return Ok(Answer::NotTaken);
         };
-        let status = answer.status();
-        let_go(answer);
-        match delivery {
-            Delivery::Lost => Ok(Answer::Served(status)),
-            Delivery::Arrives => self.acknowledge(step, status),
+        if !is_own(&self.clients, step.user, &exchange) {
+            let_go(exchange);
+            return Ok(Answer::NotTaken);
         }
+        let answer = self.arrive(step, &exchange);
+        let_go(exchange);
+        answer
     }
 
     /// The block that the look asks for is handed in, as the store has it.
     fn give(&mut self, step: &HonestStep<A>) -> Result<Answer<A>, Memory>
         requires noted { AreNoted self.old.clients self.old.wanted.items }
         requires act { step.now.act ≡ HonestAct.Give }
-        ensures { IfOk result (λ answer. Happens step.now answer self.old self.new) }
+        ensures { IfOk result (λ answer. Happens step.now answer None self.old self.new) }
     {
         let wanted = self.wanted[step.user.get() as usize].look;
         let act = Act::Give(stored(self.alloc, &self.store, wanted)?);
         self.tell(step, &act)
     }
 
+    /// Makes a step, and tells which call of the server was made in it, if one was.
+    fn make(&mut self, step: &HonestStep<A>) -> Result<(Answer<A>, Option<Exchange<A>>), Memory>
+        requires { AreNoted self.old.clients self.old.wanted.items }
+        ensures { IfOk result (λ done. Happens step.now done.0 done.1 self.old self.new) }
+    {
+        let answer = match &step.act {
+            HonestAct::Update(delivery) => return self.call(step, CallKind::Update, *delivery),
+            HonestAct::Commit(delivery) => return self.call(step, CallKind::Commit, *delivery),
+            HonestAct::Alone(act) => self.alone(step, act),
+            HonestAct::Block => self.block(step),
+            HonestAct::Give => self.give(step),
+            HonestAct::Late(n) => self.late(step, *n),
+        };
+        Ok((answer?, None))
+    }
+
     /// Carries out a step.
     pub(crate) fn carry_out(&mut self, step: &HonestStep<A>) -> Result<Answer<A>, Memory>
         requires { AreNoted self.old.clients self.old.wanted.items }
-        ensures { IfOk result (λ answer. Happens step.now answer self.old self.new) }
+        ensures { IfOk result (λ answer. IsCarriedOut step.now answer self.old self.new) }
     {
-        match &step.act {
-            HonestAct::Alone(act) => self.alone(step, act),
-            HonestAct::Update(delivery) => self.update(step, *delivery),
-            HonestAct::Block => self.block(step),
-            HonestAct::Commit(delivery) => self.commit(step, *delivery),
-            HonestAct::Give => self.give(step),
-        }
+        let (answer, exchange) = self.make(step)?;
+        let kept = keep(&mut self.exchanges, exchange);
+        let (answer, _) = beside(answer, kept)?;
+        Ok(answer)
     }
 }

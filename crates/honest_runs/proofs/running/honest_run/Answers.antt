@@ -6,17 +6,17 @@ loop-step-init g c =
     let e = c.in_ok-town.ensures in
     record {
       noted = e.noted;
-      stands = none_yet c.new-answers.result.items c.in_ok-town.town c.new-answers.ensures.items e.clients e.stored e.calls;
+      stands = none_yet c.new-answers.result.items c.in_ok-town.town c.new-answers.ensures.items e.clients e.stored e.calls e.answers;
     }
 
 pub loop-step-preserved : goal.loop-step-preserved
 loop-step-preserved g c =
-    let happens = c.in_ok-answer.ensures in
+    let out = c.in_ok-answer.ensures in
     record {
-      noted = happens.noted;
+      noted = out.happens.noted;
       stands = step_more c.args.steps.now c.loop-step.step-index c.step-item.result c.loop-step-test.true c.step-item.is
           c.loop-step.answers.items c.push.new.self.items c.in_ok-answer.answer c.loop-step.town c.carry_out.new.self
-          c.in_ok-push.ensures.items c.loop-step.invariant.stands happens;
+          c.in_ok-push.ensures.items c.loop-step.invariant.stands out;
     }
 
 pub returns : goal.returns

@@ -13,4 +13,4 @@ returns g c =
     let old : Town g.row.A.Denot = c.args.self.now in
     let mid : Town g.row.A.Denot = record old { store = c.put_laid.new.store } in
     alone_told c.args.step.now old c.tell.new.self c.args.act.now c.requires.act mid c.tell.result (sym c.hands_in.ensures ∙ c.if-hands_in.false)
-    refl refl c.in_ok-put_laid.ensures c.tell.ensures.comes c.tell.ensures.told
+    refl refl c.in_ok-put_laid.ensures refl c.tell.ensures.comes c.tell.ensures.told

@@ -12,4 +12,4 @@ returns-clause-told g c =
     let new : Town g.row.A.Denot = record old { clients = c.carry_out.new.self; wanted = c.note.new.wanted; store = c.put_handed_out-put.new.store } in
     let put = rw c.in_ok-answer-2.ensures.ok at c.put_handed_out-put.ensures in
     subst (λ (a : Answer g.row.A.Denot). IsTold u a old new) (sym c.in_ok-answer-2.ensures.same) (is_told u c.args.act.now c.in_ok-answer.answer old new
-    c.note.ensures.user c.requires c.in_ok-answer.ensures.step c.in_ok-answer.ensures.others c.note.ensures.noted put refl)
+    c.note.ensures.user c.requires c.in_ok-answer.ensures.step c.in_ok-answer.ensures.others c.note.ensures.noted put refl refl)

@@ -1,0 +1,110 @@
+//! Calls of the server with their answers, which may arrive again, or late.
+
+ghost use Rattle.std.specs.Prelude.{◌≡◌, ◌++◌, [], ◌∷◌, IfOk, OnOk};
+ghost use Rattle.honest_runs.specs.Served.{exchange_at};
+
+use consistency_server::{Answer, CallKind};
+use layout::Memory;
+use std::alloc::Allocator;
+use std::marker::Model;
+use wire::Status;
+
+/// A call of the server, and what it answered.
+#[derive(Drop)]
+pub(crate) struct Exchange<A: Allocator> {
+    kind: CallKind,
+    text: Vec<u8, A>,
+    status: Status,
+    payload: Vec<u8, A>,
+}
+
+impl<A: Allocator> Model for Exchange<A> {
+    ghost use Rattle.honest_runs.specs.HonestRuns.{Exchange};
+
+    ghost Value = { Exchange };
+
+    ghost view = { λ x. record {
+      call = record { kind = x.kind; text = x.text.items };
+      answer = record { status = x.status; payload = x.payload.items };
+    } };
+}
+
+impl<A: Allocator> Exchange<A> {
+    /// The call with this text, and its answer.
+    pub(crate) fn new(kind: CallKind, text: Vec<u8, A>, answer: Answer<A>) -> Exchange<A>
+        ensures { result ≡ record { call = record { kind = kind; text = text.items }; answer = answer } }
+    {
+        let status = answer.status();
+        Exchange {
+            kind,
+            text,
+            status,
+            payload: answer.into_payload(),
+        }
+    }
+
+    pub(crate) fn kind(&self) -> CallKind
+        ensures { result ≡ self.now.call.kind }
+    {
+        self.kind
+    }
+
+    pub(crate) fn text(&self) -> &[u8]
+        ensures { result.now ≡ self.now.call.text }
+    {
+        &self.text
+    }
+
+    pub(crate) fn status(&self) -> Status
+        ensures { result ≡ self.now.answer.status }
+    {
+        self.status
+    }
+
+    pub(crate) fn payload(&self) -> &[u8]
+        ensures { result.now ≡ self.now.answer.payload }
+    {
+        &self.payload
+    }
+}
+
+impl<A: Allocator + Copy> Exchange<A> {
+    /// The same once more.
+    pub(crate) fn copy(&self, alloc: A) -> Result<Exchange<A>, Memory>
+        ensures { IfOk result (λ copy. copy ≡ self.now) }
+    {
+        let text = Vec::from_slice(alloc, &self.text)?;
+        let payload = Vec::from_slice(alloc, &self.payload)?;
+        Ok(Exchange {
+            kind: self.kind,
+            text,
+            status: self.status,
+            payload,
+        })
+    }
+}
+
+/// Keeps what was exchanged in a step, if something was, behind the earlier ones.
+pub(crate) fn keep<A: Allocator>(
+    exchanges: &mut Vec<Option<Exchange<A>>, A>,
+    exchange: Option<Exchange<A>>,
+) -> Result<(), Memory>
+    ensures { OnOk result (exchanges.new.items ≡ exchanges.old.items ++ exchange ∷ []) }
+{
+    exchanges.push(exchange)?;
+    Ok(())
+}
+
+/// What was exchanged in step `n`, once more, if something was.
+pub(crate) fn earlier<A: Allocator + Copy>(
+    alloc: A,
+    exchanges: &[Option<Exchange<A>>],
+    n: usize,
+) -> Result<Option<Exchange<A>>, Memory>
+    ensures { IfOk result (λ found. found ≡ exchange_at exchanges.now n) }
+{
+    match exchanges.get(n) {
+        Some(Some(exchange)) => Ok(Some(exchange.copy(alloc)?)),
+        _ => Ok(None),
+    }
+}
