@@ -1,5 +1,5 @@
-//! Honest runs: user 0's first operation, and two users' operations that are pending together while user 0 reads. What
-//! is accepted, read and answered is told by hand.
+//! Honest runs: user 0's first operation, and two users' operations that are pending together while user 0 reads, and
+//! of which all answers come late. What is accepted, read and answered is told by hand.
 
 use crate::here::Here;
 use crate::planning::user;
@@ -39,12 +39,14 @@ const STRUCTURE_SIZE: usize = 0xa24 - 1;
 #[derive(Drop)]
 pub(crate) struct Script {
     pub(crate) steps: Vec<HonestStep<Global>>,
+    /// In which step each user sent its last text.
+    sent: [usize; 64],
 }
 
 /// What a user's client does: `o` opens it, `k` closes it, `u` sends what it declared, `b` hands it a block, `s` signs,
-/// `c` sends what it signed, `g` gives it a block; `U` and `C`, where the answer is lost. Else its cache gets room for
-/// one block or two.
-fn act_of(rt: &impl Host, letter: u8) -> HonestAct<Global> {
+/// `c` sends what it signed, `g` gives it a block; `U` and `C`, where the answer is lost; `l` hands in what was answered
+/// when it last sent something. Else its cache gets room for one block or two.
+fn act_of(rt: &impl Host, letter: u8, sent: usize) -> HonestAct<Global> {
     match letter {
         b'o' => HonestAct::Alone(Act::Open),
         b'k' => HonestAct::Alone(Act::Close),
@@ -55,6 +57,7 @@ fn act_of(rt: &impl Host, letter: u8) -> HonestAct<Global> {
         b'c' => HonestAct::Commit(Delivery::Arrives),
         b'C' => HonestAct::Commit(Delivery::Lost),
         b'g' => HonestAct::Give,
+        b'l' => HonestAct::Late(sent),
         b'1' => HonestAct::Alone(Act::Cache(1)),
         b'2' => HonestAct::Alone(Act::Cache(2)),
         _ => rt.fail("no letter"),
@@ -65,6 +68,7 @@ impl Script {
     pub(crate) fn new(rt: &impl Host) -> Script {
         Script {
             steps: Vec::new(rt.alloc()),
+            sent: [0; 64],
         }
     }
 
@@ -93,7 +97,12 @@ impl Script {
     /// A user's steps, a letter each.
     pub(crate) fn goes_on(&mut self, rt: &impl Host, number: u8, letters: &[u8]) {
         for letter in letters {
-            self.add_failing(rt, number, act_of(rt, *letter), NEVER);
+            let sent = found(rt, self.sent.get_mut(usize::from(number)), "a user");
+            if matches!(letter, b'u' | b'U' | b'c' | b'C') {
+                *sent = self.steps.len();
+            }
+            let act = act_of(rt, *letter, *sent);
+            self.add_failing(rt, number, act, NEVER);
         }
     }
 
@@ -187,7 +196,8 @@ fn first_operation_of_an_honest_run(rt: HostRuntime) {
     let_go(script);
 }
 
-/// Users 1 and 2 have writes pending, which user 0 reads: once user 2 has committed, and once user 1 has, too.
+/// Users 1 and 2 have writes pending, which user 0 reads: once user 2 has committed, and once user 1 has, too. Their
+/// replies are lost and come later, twice, and so do the statuses of their structures, the second time in vain.
 #[test]
 fn two_write_in_an_honest_run(rt: HostRuntime) {
     let rt = &(rt, Here);
@@ -199,17 +209,23 @@ fn two_write_in_an_honest_run(rt: HostRuntime) {
     script.operates(rt, 0, listing_both(rt, one, two));
     for (user, file) in [(1, OF_ONE), (2, OF_TWO)] {
         script.declares(rt, user, making(rt, user, PLACE, file));
-        script.goes_on(rt, user, b"u");
+        script.goes_on(rt, user, b"U");
     }
     for user in [2, 1] {
-        script.judges(rt, user, b"sc");
+        script.goes_on(rt, user, b"ll");
+        script.judges(rt, user, b"sC");
         script.reads_both(rt);
+        script.goes_on(rt, user, b"ll");
     }
     let answers = script.answers(rt);
     let views = answers.iter().filter_map(accepted_in).count();
     check(rt, views == 5, "all are accepted");
     let commits = answers.iter().filter(|answer| is_committed(answer)).count();
-    check(rt, commits == 5, "and committed");
+    check(
+        rt,
+        commits == 9,
+        "and committed, four answers of 0 were lost",
+    );
     let mut files = answers.iter().filter_map(file_in);
     for _ in 0..2 {
         check(rt, files.next() == Some(OF_ONE), "user 1's file");

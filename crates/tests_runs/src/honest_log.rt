@@ -16,12 +16,13 @@ use wire::Status;
 const WHOLE: u16 = 511;
 
 /// The steps at the end, and what the server answers to each: a user, `d` for a declaration or another letter of a
-/// step, and `-` for no status, `0` for status 0, `b` for busy or `u` for an unknown user. User 0's structure and user
-/// 1's certificate are the last calls but one and the last for which the log has room. What it answers without the log
-/// it still does: user 1's certificate again, and user 3's, who isn't listed.
-static END: [&[u8; 3]; 15] = [
-    b"0d-", b"0u-", b"0s-", b"1d-", b"1U0", b"0cb", b"0cb", b"2d-", b"2ub", b"3d-", b"3uu", b"1u-",
-    b"1s-", b"1cb", b"2ub",
+/// step, and `-` for no status, `0` for status 0, `b` for busy, `u` for an unknown user or `n` where it isn't taken.
+/// User 0's structure and user 1's certificate are the last calls but one and the last for which the log has room. What
+/// it answers without the log it still does: user 1's certificate again, and user 3's, who isn't listed. Each answer
+/// may come late, too, until another text is sent.
+static END: [&[u8; 3]; 21] = [
+    b"0d-", b"0u-", b"0s-", b"1d-", b"1U0", b"0cb", b"0lb", b"0cb", b"2d-", b"2ub", b"3d-", b"3uu",
+    b"1l-", b"1u-", b"1l-", b"1s-", b"1ln", b"1cb", b"2lb", b"3lu", b"2ub",
 ];
 
 /// The steps at the end.
@@ -57,6 +58,7 @@ fn is_so(answer: &Answer<Global>, status: u8) -> bool {
         Answer::Served(Status::Ok) => status == b'0',
         Answer::Served(Status::Busy) => status == b'b',
         Answer::Served(Status::UnknownUser) => status == b'u',
+        Answer::NotTaken => status == b'n',
         Answer::Begun(Ok(_)) | Answer::Asks(Ok(Step::Store(_))) | Answer::Signed(Ok(_)) => {
             status == b'-'
         }
