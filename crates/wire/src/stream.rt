@@ -89,6 +89,8 @@ impl<A: Allocator> Frames<A> {
     pub fn feed(&mut self, piece: &[u8]) -> Result<(), Memory>
         ensures ok { OnOk result (self.new ≡ self.old ++ piece.now) }
         ensures err { OnErr result (self.new ≡ self.old) }
+        // Memory is wanted for bytes alone.
+        ensures memory { OnErr result (piece.now ≢ []) }
         // A length at fault stays in front.
         ensures at_fault { BeginsAtFault self.old → BeginsAtFault self.new }
         ensures step { Runs self.old (step_of_feed piece.now result ∷ []) self.new }
