@@ -1,4 +1,5 @@
-//! Streams of bytes both ways: in memory, and over TCP; and bytes that are written whole.
+//! Streams of bytes both ways: in memory, and over TCP; reads that a signal may interrupt; and bytes that are written
+//! whole.
 #![tactic(auto)]
 
 mod connection;
@@ -10,6 +11,7 @@ mod writing;
 
 pub use connection::{Connection, ConnectionFault};
 pub use memory::MemoryConnection;
+pub use reading::read_some;
 pub use server_socket::ServerSocket;
 pub use socket::Socket;
 pub use writing::{WriteFault, write_whole};

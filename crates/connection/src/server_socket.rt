@@ -75,6 +75,8 @@ impl<'a, R: Clock> ServerSocket<'a, R> {
     pub fn new(rt: &'a R, stream: TcpStream, idle: u64) -> io::Result<ServerSocket<'a, R>> {
         stream.set_read_timeout(Some(Duration::from_secs(idle)))?;
         stream.set_write_timeout(Some(Duration::from_secs(PATIENCE)))?;
+        // A reply is written whole, and isn't held back until others are taken.
+        stream.set_nodelay(true)?;
         Ok(ServerSocket {
             rt,
             stream,
