@@ -9,6 +9,8 @@ mod certificates;
 #[cfg(test)]
 mod directories;
 #[cfg(test)]
+mod errors;
+#[cfg(test)]
 mod faults;
 #[cfg(test)]
 mod frames;
