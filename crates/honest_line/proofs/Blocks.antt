@@ -181,7 +181,7 @@ module _ (keys : Keys) where
 
     hand_of : (x : Lists) → reply.Fits (of_lists x) → ((t : Shown) → In t (shown_in (of_lists x)) → HasReleased t.user es t.text) → IsInHand put key apart_now x
     hand_of x fits released_all = record {
-      backed = λ t. lists_backed keys es run_is (premises_of older before) (put ++ first_texts key) apart_now first_now inside_now x fits released_all t;
+      backed = λ t. lists_backed keys es run_is before.true_keys.pinned (premises_of older before) (put ++ first_texts key) apart_now first_now inside_now x fits released_all t;
       own = cert_fits (of_lists x) fits x.own (in-right x.own x.others (x.own ∷ []) (inl refl));
     }
 
@@ -232,7 +232,7 @@ module _ (keys : Keys) where
         of v None last has = absurd has
         of v (Some x) last has =
             let there = (found_in (λ (y : View). user_of y == h.user) (views es) x last).0 in
-            let backed = view_backed keys es run_is (premises_of older before) (put ++ first_texts key) apart_now first_now inside_now x there in
+            let backed = view_backed keys es run_is before.true_keys.pinned (premises_of older before) (put ++ first_texts key) apart_now first_now inside_now x there in
             subst (λ (l : Lists). IsBacked (put ++ first_texts key) (view_over key v.table l)) (sym has.lists)
             (subst (λ (t : Table). IsBacked (put ++ first_texts key) (view_over key t x.lists)) (sym has.table) backed)
 

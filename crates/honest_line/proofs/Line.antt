@@ -9,9 +9,8 @@ use Rattle.agreement.proofs.Members.{In, in_contains, of_all}
 use Rattle.client_runs.specs.Released.{hashed, released, views}
 use Rattle.client_runs.specs.Runs.{Event, Keys, public_key}
 use Rattle.consistency_server.specs.Answers.{Call as ServerCall}
-use Rattle.fork_consistency.specs.ByCertificates.{SuperIsHonest}
 use Rattle.fork_consistency.specs.Premises.{NoCollision, TextAddsOwnKeysOf, everybody}
-use Rattle.fork_consistency.proofs.ByCertificates.{first_in}
+use Rattle.fork_consistency.proofs.ByCertificates.{SuperIsHonest, first_in}
 use Rattle.honest_history.specs.Honest.{Naming}
 use Rattle.honest_history.specs.Placed.{placed}
 use Rattle.honest_dialogues.specs.Dialogue.{views as shown_views}
