@@ -23,12 +23,12 @@ pub record Standing : Type 0 where
   -- a request was sent whose reply wasn't handed out
   pub broken : Bool
 
--- nothing was sent: the request fits into no frame, or the reply of an earlier one is missing, or memory ran out
+-- nothing was sent: the request fits into no frame, or the reply of an earlier one is missing, or else memory ran out
 abbrev pub IsUnsent : Asked → Result Bytes TransportError → Standing → Type 0
 IsUnsent asked result before =
     ((BODY_LIMIT ≤ length asked.payload) × (result ≡ Err NoFrame))
     ⊎ ((before.broken ≡ true) × (result ≡ Err NoFrame))
-    ⊎ (result ≡ Err Memory)
+    ⊎ ((length asked.payload < BODY_LIMIT) × (before.broken ≡ false) × (result ≡ Err Memory))
 
 -- What came begins with the frame of the reply, and the rest waits; or no frame begins it and none will, since the
 -- connection is at its end or a length is at fault.
