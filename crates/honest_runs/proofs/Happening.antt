@@ -29,7 +29,7 @@ use Rattle.honest_runs.specs.declared.step.HonestAct.TheVariants as honest
 use Rattle.honest_runs.specs.declared.step.HonestStep.{HonestStep}
 use Rattle.honest_runs.specs.declared.town.Town.{Town}
 use Rattle.honest_runs.specs.HonestRuns.{Exchange, HonestEvent, IsAnswered, IsHandedIn, IsHonestStep, TookPlace, WasTold, carried_out, events, put_with, sent_by, stored}
-use Rattle.honest_runs.specs.Served.{Calls, Comes, ComesLate, Hears, HearsReply, IsDelivered, IsEventOf, exchange_at, exchanges, laid_by, laid_for}
+use Rattle.honest_runs.specs.Served.{Calls, Comes, ComesLate, HearsAnswer, HearsReply, IsDelivered, IsEventOf, exchange_at, exchanges, laid_by, laid_for}
 use Rattle.honest_runs.specs.Town.{Acknowledges, AreNoted, Arrives, ComesOfReply, ComesTo, Happens, IsDeliveredTo, IsSent, IsTold, LeadsTo, calling, handed_out, hands_in, has_text, wanted_at}
 use Rattle.honest_runs.proofs.Telling.{IsDone, acknowledged, alone_handed, block_handed, does_alone, given_handed, is_done, not_alone, reply_handed, status_handed}
 
@@ -285,7 +285,7 @@ module _ {A : Type 0} (todo : HonestStep A) (old new : Town A) where
       (laid : [] ≡ laid_for todo.act) where
     -- what comes of it, where this comes of the client
     abbrev ComesSo : Answer A → Type 0
-    ComesSo a = (step : Option StepTaken) (put : List Bytes) → Hears caller x.call.kind x.answer step a → ComesThen todo old new (record { user = todo.user; put = put; exchange = call; step = step }) a
+    ComesSo a = (step : Option StepTaken) (put : List Bytes) → HearsAnswer caller x.call.kind x.answer step a → ComesThen todo old new (record { user = todo.user; put = put; exchange = call; step = step }) a
 
     told_so : (older : List HonestEvent) → LeadsTo older old → (put : List Bytes) (step : Option StepTaken) (kind : CallKind) (given : ServerAnswer) → x.call.kind ≡ kind → x.answer ≡ given → WasTold (record { user = todo.user; put = put; exchange = call; step = step } ∷ older) caller kind given
     told_so older l put step kind given is_kind is_answer =
@@ -311,12 +311,12 @@ module _ {A : Type 0} (todo : HonestStep A) (old new : Town A) where
         if_some d.step (λ st. call_of reply told ≡ Some st.call) (λ st. IsHandedIn run caller (held old.store) st.call) d.is_call
         (λ st call_is. reply_handed run caller (held old.store) h.0 told st.call (λ r. subst (λ (b : Bytes). WasTold run caller Update (record { status = status.Ok; payload = b })) (sym h.1)
         (told_so older l (handed_out told) d.step Update (record { status = status.Ok; payload = payload }) is_kind is_answer)) call_is))
-        (comes d.step (handed_out told) (subst (λ (k : CallKind). Hears caller k x.answer d.step told) (sym is_kind) (subst (λ (a : ServerAnswer). HearsReply caller a.status a.payload d.step told) (sym is_answer) (h.0, h.1, d.does))))
+        (comes d.step (handed_out told) (subst (λ (k : CallKind). HearsAnswer caller k x.answer d.step told) (sym is_kind) (subst (λ (a : ServerAnswer). HearsReply caller a.status a.payload d.step told) (sym is_answer) (h.0, h.1, d.does))))
         (λ w. d.none w ∙ laid)
         (t.stored ∙ ap (λ (b : List Block). keeping_all b (handed_out told)) same_store)
     heard other payload is_kind is_answer told comes h t =
         untold todo old new call sent answered told (before_now told t) (t.server ∙ calls) t.noted (t.exchanges ∙ same_exchanges)
-        (comes None [] (subst (λ (k : CallKind). Hears caller k x.answer None told) (sym is_kind) (subst (λ (a : ServerAnswer). HearsReply caller a.status a.payload None told) (sym is_answer) (refl, h.0))))
+        (comes None [] (subst (λ (k : CallKind). HearsAnswer caller k x.answer None told) (sym is_kind) (subst (λ (a : ServerAnswer). HearsReply caller a.status a.payload None told) (sym is_answer) (refl, h.0))))
         laid (h.1 ∙ ap (λ (cs : List Client). client_at cs todo.user) same)
         (t.stored ∙ ap (λ (a : Answer A). keeping_all mid.store (handed_out a)) h.0 ∙ none_kept mid.store ∙ same_store)
 
@@ -333,7 +333,7 @@ module _ {A : Type 0} (todo : HonestStep A) (old new : Town A) where
         (λ older l. let run : List HonestEvent = record { user = todo.user; put = []; exchange = call; step = d.step } ∷ older in
         if_some d.step (λ st. call_of given answer.Committed ≡ Some st.call) (λ st. IsHandedIn run caller (held old.store) st.call) d.is_call
         (λ st call_is. status_handed run caller (held old.store) {A = A} x.answer.status answer.Committed st.call (x.answer.payload, told_so older l [] d.step Commit x.answer is_kind refl) call_is))
-        (comes d.step [] (subst (λ (kind : CallKind). Hears caller kind x.answer d.step said) (sym is_kind) (d.does, k.is)))
+        (comes d.step [] (subst (λ (kind : CallKind). HearsAnswer caller kind x.answer d.step said) (sym is_kind) (d.does, k.is)))
         (λ w. laid)
         (t.stored ∙ ap (λ (y : Answer A). keeping_all mid.store (handed_out y)) committed ∙ none_kept mid.store ∙ same_store ∙ sym (none_kept old.store))
 

@@ -13,17 +13,10 @@ use Rattle.client_runs.specs.Clients.{client_at}
 use Rattle.consistency_server.specs.Answers.{Call}
 use Rattle.honest_runs.specs.declared.step.HonestStep.{HonestStep}
 use Rattle.honest_runs.specs.declared.town.Town.{Town}
-use Rattle.honest_runs.specs.HonestRuns.{Exchange, HonestEvent, IsHonestRun, carried_out, events}
+use Rattle.honest_runs.specs.HonestRuns.{Exchange, HonestEvent, carried_out, events}
 use Rattle.honest_runs.specs.Served.{AreServed, Keep, exchanges}
-use Rattle.honest_runs.specs.Town.{Happens, IsCarriedOut, LeadsTo, client_after}
+use Rattle.honest_runs.specs.Town.{Happens, IsCarriedOut, StandsSoFar, client_after}
 use Rattle.honest_runs.proofs.Events.{events_with, with_exchange, with_step}
-
--- The steps so far with their answers are an honest run, after which clients, server and store are those in memory.
-pub record StandsSoFar {A : Type 0} (steps : List (HonestStep A)) (answers : List (Answer A)) (town : Town A) : Type 0 where
-  pub run : List HonestEvent
-  pub is_run : IsHonestRun script_keys run
-  pub kept : Keep (reverse steps) (reverse answers) run
-  pub leads : LeadsTo run town
 
 pub none_yet : {A : Type 0} (answers : List (Answer A)) (town : Town A) → answers ≡ [] → ((u : ℕ) → client_at town.clients u ≡ first) → town.store ≡ [] → town.server ≡ [] → town.exchanges.items ≡ []
     → StandsSoFar [] answers town

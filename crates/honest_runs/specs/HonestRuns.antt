@@ -10,7 +10,7 @@ use Rattle.client_tree.specs.Held.{Block, held, keeping_all}
 use Rattle.wire.specs.declared.kinds.Status.TheVariants as status
 use Rattle.client_verify.specs.State.{asked_of}
 use Rattle.client_steps.specs.Steps.{Begins, Call as ClientCall, Client, Closed, Commits, Gives, Hears, IsSound, IsStep, Open, StepTaken, Takes}
-use Rattle.client_runs.specs.Runs.{Event, IsRun, Keys, client_of, owner, public_key}
+use Rattle.client_runs.specs.Runs.{Event, IsRun, Keys, client_of, owner, pinned}
 use Rattle.client_runs.specs.Released.{stored_texts}
 use Rattle.client_runs.specs.Clients.{certificate_of, structure_of}
 use Rattle.consistency_server.specs.declared.call.CallKind.{CallKind}
@@ -118,7 +118,7 @@ client_before h older = client_of h.user (events older)
 pub record IsHonestStep (keys : Keys) (older : List HonestEvent) (h : HonestEvent) : Type 0 where
   -- The client sends its own text, and the server answers it.
   pub sent : IfSome h.exchange (λ x. sent_by (client_before h older) x.call.kind ≡ Some x.call.text)
-  pub answered : IfSome h.exchange (IsAnswered (public_key keys 0) (history older))
+  pub answered : IfSome h.exchange (IsAnswered (pinned keys) (history older))
   -- What the client does is a step of it.
   pub taken : IfSome h.step (λ s. IsStep (owner keys h.user) (client_before h older) s.call s.after × IsSound s.after)
   pub handed_in : IfSome h.step

@@ -62,14 +62,14 @@ HearsStatus {A} client status step answer = Does {A = A} client (act.Committed s
     × (answer ≡ Served status)
 
 -- what comes of an answer that arrives
-abbrev pub Hears : {A : Type 0} → Client → CallKind → ServerAnswer → Option StepTaken → Answer A → Type 0
-Hears client Update given step answer = HearsReply client given.status given.payload step answer
-Hears client Commit given step answer = HearsStatus client given.status step answer
+abbrev pub HearsAnswer : {A : Type 0} → Client → CallKind → ServerAnswer → Option StepTaken → Answer A → Type 0
+HearsAnswer client Update given step answer = HearsReply client given.status given.payload step answer
+HearsAnswer client Commit given step answer = HearsStatus client given.status step answer
 
 -- or is lost
 abbrev pub IsDelivered : {A : Type 0} → Client → Delivery → Exchange → Option StepTaken → Answer A → Type 0
 IsDelivered client delivery.Lost x step answer = IsServed x.answer.status step answer
-IsDelivered client delivery.Arrives x step answer = Hears client x.call.kind x.answer step answer
+IsDelivered client delivery.Arrives x step answer = HearsAnswer client x.call.kind x.answer step answer
 
 -- the client makes such a call, if it has what it sends with it
 abbrev pub Calls : {A : Type 0} → Client → CallKind → Delivery → HonestEvent → Answer A → Type 0
@@ -89,7 +89,7 @@ exchange_at xs n = option_and_then (λ x. x) (slice_get xs n)
 abbrev pub ComesLate : {A : Type 0} → Client → Option Exchange → Option StepTaken → Answer A → Type 0
 ComesLate client None step answer = IsNotDone step answer
 ComesLate client (Some x) step answer =
-    ((sent_by client x.call.kind ≡ Some x.call.text) × Hears client x.call.kind x.answer step answer)
+    ((sent_by client x.call.kind ≡ Some x.call.text) × HearsAnswer client x.call.kind x.answer step answer)
     ⊎ ((sent_by client x.call.kind ≢ Some x.call.text) × IsNotDone step answer)
 
 -- ---- steps

@@ -1,5 +1,5 @@
 -- Clients, server and store in memory: for private contracts. Nobody has to believe this file.
-use Rattle.std.specs.Prelude.{◌≡◌, ◌≢◌, ℕ, Bool, true, false, List, [], ◌∷◌, ◌++◌, Option, Some, None, IfSome, Ok, length, option_and_then, option_to_list, slice_index_or}
+use Rattle.std.specs.Prelude.{◌≡◌, ◌≢◌, ℕ, Bool, true, false, List, [], ◌∷◌, ◌++◌, Option, Some, None, IfSome, Ok, length, option_and_then, option_to_list, reverse, slice_index_or}
 use Rattle.std.specs.Option.{option_map_or}
 use Rattle.std.specs.Str.{bytes_eq}
 use Rattle.std.specs.declared.vec.Vec.{Vec}
@@ -14,7 +14,7 @@ use Rattle.client_runs.specs.declared.world.Act.{Act}
 use Rattle.client_runs.specs.declared.world.Act.TheVariants as act
 use Rattle.client_runs.specs.declared.world.Answer.{Answer}
 use Rattle.client_runs.specs.declared.world.Answer.TheVariants.{Asks, Sees, Served}
-use Rattle.client_runs.specs.Runs.{client_of, owner, public_key}
+use Rattle.client_runs.specs.Runs.{client_of, owner, pinned}
 use Rattle.client_runs.specs.Told.{texts_in}
 use Rattle.client_runs.specs.Carried.{ComesOf, script_keys}
 use Rattle.client_runs.specs.Clients.{client_at}
@@ -29,8 +29,8 @@ use Rattle.honest_runs.specs.declared.step.HonestAct.TheVariants as honest
 use Rattle.honest_runs.specs.declared.step.HonestStep.{HonestStep}
 use Rattle.honest_runs.specs.declared.town.Town.{Town}
 use Rattle.honest_runs.specs.declared.wanted.Wanted.{Wanted}
-use Rattle.honest_runs.specs.HonestRuns.{Exchange, HonestEvent, IsAnswered, IsHonestStep, carried_out, events, history, looked_for_by, sent_by, stored, wanted_by}
-use Rattle.honest_runs.specs.Served.{IsEventOf, exchanges}
+use Rattle.honest_runs.specs.HonestRuns.{Exchange, HonestEvent, IsAnswered, IsHonestRun, IsHonestStep, carried_out, events, history, looked_for_by, sent_by, stored, wanted_by}
+use Rattle.honest_runs.specs.Served.{IsEventOf, Keep, exchanges}
 
 -- ---- what clients ask for
 
@@ -88,7 +88,7 @@ has_text own text = option_map_or (λ t. bytes_eq t text) own false
 pub record IsSent (kind : CallKind) (client : Client) (old : List Call) (x : Exchange) (new : List Call) : Type 0 where
   pub made : x.call.kind ≡ kind
   pub sent : sent_by client x.call.kind ≡ Some x.call.text
-  pub answered : IsAnswered (public_key script_keys 0) old x
+  pub answered : IsAnswered (pinned script_keys) old x
   pub history : new ≡ option_to_list (carried_out x) ++ old
 
 -- ---- what comes of a step
@@ -141,6 +141,14 @@ pub record LeadsTo {A : Type 0} (run : List HonestEvent) (town : Town A) : Type 
   pub calls : history run ≡ town.server
   pub blocks : stored run ≡ town.store
   pub answers : exchanges run ≡ town.exchanges.items
+
+-- The steps so far with their answers are an honest run, after which clients, server and store are those in memory.
+pub record StandsSoFar {A : Type 0} (steps : List (HonestStep A)) (answers : List (Answer A)) (town : Town A)
+    : Type 0 where
+  pub run : List HonestEvent
+  pub is_run : IsHonestRun script_keys run
+  pub kept : Keep (reverse steps) (reverse answers) run
+  pub leads : LeadsTo run town
 
 -- what happens in a step, in which this call is made, and what is there after it
 pub record Happens {A : Type 0} (todo : HonestStep A) (answer : Answer A) (x : Option Exchange) (old new : Town A)

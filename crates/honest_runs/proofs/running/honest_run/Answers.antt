@@ -1,25 +1,18 @@
-use Rattle.honest_runs.proofs.StepByStep.{all_steps, none_yet, served, step_more}
+use Rattle.std.proofs.Common.{subst, sym, ℕ}
+use Rattle.std.specs.declared.vec.Vec.{Vec}
+use Rattle.client_runs.specs.declared.world.Answer.{Answer}
+use Rattle.honest_runs.specs.Served.{AreServed}
+use Rattle.honest_runs.proofs.StepByStep.{none_yet, served}
 use Rattle.honest_runs.proofs.running.honest_run.Goals as goal
 
-pub loop-step-init : goal.loop-step-init
-loop-step-init g c =
+pub carry_out_all-carried_out-requires-clause-begins : goal.carry_out_all-carried_out-requires-clause-begins
+carry_out_all-carried_out-requires-clause-begins g c =
     let e = c.in_ok-town.ensures in
-    record {
-      noted = e.noted;
-      stands = none_yet c.new-answers.result.items c.in_ok-town.town c.new-answers.ensures.items e.clients e.stored e.calls e.answers;
-    }
-
-pub loop-step-preserved : goal.loop-step-preserved
-loop-step-preserved g c =
-    let out = c.in_ok-answer.ensures in
-    record {
-      noted = out.happens.noted;
-      stands = step_more c.args.steps.now c.loop-step.step-index c.step-item.result c.loop-step-test.true c.step-item.is
-          c.loop-step.answers.items c.push.new.self.items c.in_ok-answer.answer c.loop-step.town c.carry_out.new.self
-          c.in_ok-push.ensures.items c.loop-step.invariant.stands out;
-    }
+    none_yet c.new-answers.result.items c.in_ok-town.town c.new-answers.ensures.items e.clients e.stored e.calls e.answers
 
 pub returns : goal.returns
 returns g c =
-    served c.args.steps.now c.loop-step.answers.items c.loop-step.town
-    (all_steps c.args.steps.now c.loop-step.step-index c.loop-step.answers.items c.loop-step.town c.loop-step-test.false c.loop-step.invariant.stands)
+    let all = c.carry_out_all-carried_out in
+    let done = rw c.in_ok-answers.ensures.ok at all.ensures in
+    subst (λ (given : Vec (Answer g.row.A.Denot) g.row.A.Denot). AreServed c.args.steps.now given.items) (sym c.in_ok-answers.ensures.same)
+    (served c.args.steps.now all.new.answers.items all.new.town done)

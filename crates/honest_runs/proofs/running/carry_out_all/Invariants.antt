@@ -1,7 +1,6 @@
 use Rattle.std.proofs.Common.{take}
-use Rattle.honest_runs.specs.Town.{AreNoted}
-use Rattle.honest_runs.proofs.StepByStep.{StandsSoFar}
-use Rattle.honest_runs.proofs.running.honest_run.Given as goal
+use Rattle.honest_runs.specs.Town.{AreNoted, StandsSoFar}
+use Rattle.honest_runs.proofs.running.carry_out_all.Given as goal
 
 abbrev pub invariant-loop-step : goal.invariant-loop-step
 invariant-loop-step g l = record {
