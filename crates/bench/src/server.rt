@@ -11,6 +11,7 @@ use block_store::Store;
 use layout::{beside, let_go};
 use lms_sign::PublicKey;
 use server_workers::{Accepted, OpenGate, serve};
+use std::alloc::Global;
 use std::net::{SocketAddr, TcpListener, TcpStream};
 use std::thread;
 use std::time::Duration;
@@ -198,16 +199,36 @@ fn come<R: Host>(rt: &R, address: SocketAddr, last: u8) -> Result<Pairs> {
     pairs
 }
 
-/// Serves so many connections, with a log in memory.
-fn serve_all<R: Host>(rt: &R, listener: &TcpListener, most: u32, pinned: PublicKey) -> bool {
+/// Serves these connections, with a log in memory: whether there was memory for it.
+fn serve_these<'a, R: Host>(
+    rt: &'a R,
+    connections: Accepted<'a, R>,
+    most: u32,
+    store: &Store<Global>,
+    pinned: PublicKey,
+) -> bool {
     let alloc = rt.alloc();
-    let Ok(store) = Store::new(alloc) else {
+    let log = Vec::new(alloc);
+    match serve(rt, alloc, &OpenGate, connections, most, store, pinned, log) {
+        Ok(served) => {
+            let_go(served);
+            true
+        }
+        Err(unbegun) => {
+            let_go(unbegun);
+            false
+        }
+    }
+}
+
+/// Serves so many connections that a listener accepts.
+fn serve_all<R: Host>(rt: &R, listener: &TcpListener, most: u32, pinned: PublicKey) -> bool {
+    let Ok(store) = Store::new(rt.alloc()) else {
         return false;
     };
-    let log = Vec::new(alloc);
     let mut fault = None;
     let connections = Accepted::new(rt, listener, most, &mut fault);
-    serve(rt, alloc, &OpenGate, connections, most, &store, pinned, log).is_ok()
+    serve_these(rt, connections, most, &store, pinned)
 }
 
 /// What who comes to a server times, which serves as many connections as they are.

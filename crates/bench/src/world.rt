@@ -75,7 +75,7 @@ impl Server {
         let mut log = MemoryLog::new(self.alloc)?;
         let answer = self.ordered.answer(&mut log, kind, text, None);
         match answer.status() {
-            Status::Ok => Ok(answer.into_payload()),
+            Status::Ok => Ok(Vec::from_slice(self.alloc, answer.payload())?),
             status => Err(anyhow!("the server answers {status:?}")),
         }
     }

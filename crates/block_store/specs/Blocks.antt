@@ -23,3 +23,8 @@ IsOwn block = (hash block.text ≡ block.digest) × (length block.text ≤ BLOCK
 -- the pass is one of this store
 abbrev pub IsOf : Shelves → Where Stored → Type 0
 IsOf store pass = Shows store pass
+
+-- a block of this digest is stored
+abbrev pub IsStoredAs : Shelves → Digest → Type 0
+IsStoredAs store digest =
+    (pass : Where Stored) × IsOf store pass × (hash pass.value.text ≡ digest) × (length pass.value.text ≤ BLOCK_LIMIT)

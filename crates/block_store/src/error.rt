@@ -12,6 +12,9 @@ pub enum StoreError {
     /// The block has more than 32,779 bytes.
     #[error("the block is too large")]
     TooLarge,
+    /// The blocks that are stored leave it no room.
+    #[error("the blocks have no room left")]
+    Full,
     /// Memory ran out.
     #[error("out of memory")]
     Memory,

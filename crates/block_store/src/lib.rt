@@ -9,6 +9,7 @@
 
 mod block;
 mod error;
+mod index;
 mod pass;
 mod store;
 

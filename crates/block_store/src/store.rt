@@ -1,21 +1,17 @@
 //! Blocks that threads share.
 
-ghost use Rattle.std.specs.Prelude.{◌≡◌, ◌≤◌, ◌<◌, length, true, false, is_some, Some, Err, IfOk, IfErr, IfSome, OnOk};
-ghost use Rattle.std.specs.Prelude.{OnErr};
-ghost use Rattle.std.specs.BTreeMap.{Updates, IsUnchanged, get};
-ghost use Rattle.std.specs.Cmp.Lexicographic.{slice_cmp};
-ghost use Rattle.std.specs.Ordering.{nat_cmp};
+ghost use Rattle.std.specs.Prelude.{◌≡◌, ◌≢◌, ◌≤◌, ◌<◌, length, Err, IfOk, IfErr, IfSome};
 ghost use Rattle.layout.specs.Hash.{hash};
-ghost use Rattle.block_store.specs.Blocks.{IsOwn, IsOf};
+ghost use Rattle.block_store.specs.Blocks.{IsOwn, IsOf, IsStoredAs};
 ghost use Rattle.block_store.specs.declared.error.StoreError.TheVariants as store_error;
 
 use crate::block::{Block, Own};
 use crate::error::StoreError;
+use crate::index::{Index, room_of};
 use crate::pass::BlockPass;
 use boxcar::tag::Tag;
-use layout::{Digest, Memory, beside, digest};
+use layout::{Digest, Memory, digest};
 use std::alloc::Allocator;
-use std::collections::BTreeMap;
 use std::marker::Model;
 use std::sync::{Mutex, Wait};
 
@@ -27,7 +23,7 @@ pub const BLOCK_LIMIT: usize = 32_779;
 pub struct Store<A: Allocator> {
     alloc: A,
     blocks: boxcar::Vec<Block<A>, A, Own>,
-    numbers: Mutex<BTreeMap<Digest, usize, A>>,
+    index: Mutex<Index<A>>,
 }
 
 impl<A: Allocator> Model for Store<A> {
@@ -41,17 +37,22 @@ impl<A: Allocator> Model for Store<A> {
 }
 
 impl<A: Allocator + Copy> Store<A> {
-    /// No blocks.
+    /// No blocks, and room for as many as memory has.
     pub fn new(alloc: A) -> Result<Store<A>, Memory> {
+        Store::with_room(alloc, u64::MAX)
+    }
+
+    /// No blocks, and so many bytes of room for them. A block takes its bytes and 256 more.
+    pub fn with_room(alloc: A, room: u64) -> Result<Store<A>, Memory> {
         Ok(Store {
             alloc,
             blocks: boxcar::Vec::with_rule(alloc, Tag::empty())?,
-            numbers: Mutex::new(BTreeMap::new(alloc)),
+            index: Mutex::new(Index::new(alloc, room)),
         })
     }
 
     /// Stores a block of at most 32,779 bytes, and gives its pass. Of one that is stored already the pass is that of
-    /// the stored one. After Memory it may stand at a number and not be found by its digest.
+    /// the stored one. After Full and Memory the store is as before.
     pub fn put<R: Wait>(&self, rt: &R, bytes: &[u8]) -> Result<BlockPass<A>, StoreError>
         ensures of { IfOk result (λ pass. IsOf self.now pass) }
         ensures text { IfOk result (λ pass. pass.value.text ≡ bytes.now) }
@@ -62,7 +63,7 @@ impl<A: Allocator + Copy> Store<A> {
         if bytes.len() > BLOCK_LIMIT {
             return Err(StoreError::TooLarge);
         }
-        Ok(self.put_under(rt, digest(bytes), bytes)?)
+        self.put_under(rt, digest(bytes), bytes)
     }
 
     /// The pass of the stored block of a digest. None where no block of it is stored.
@@ -72,7 +73,7 @@ impl<A: Allocator + Copy> Store<A> {
         ensures own { IfSome result (λ pass. hash pass.value.text ≡ digest) }
         ensures small { IfSome result (λ pass. length pass.value.text ≤ BLOCK_LIMIT) }
     {
-        let number = *self.numbers.lock(rt).get(&digest)?;
+        let number = self.index.lock(rt).number_of(digest)?;
         let pass = self.pass_at(number)?;
         if pass.digest() == digest {
             Some(pass)
@@ -85,7 +86,8 @@ impl<A: Allocator + Copy> Store<A> {
     pub fn fetch<R: Wait>(&self, rt: &R, digest: Digest) -> Result<Option<Vec<u8, A>>, StoreError>
         ensures own { IfOk result (λ found. IfSome found (λ block. hash block.items ≡ digest)) }
         ensures small { IfOk result (λ found. IfSome found (λ block. length block.items ≤ BLOCK_LIMIT)) }
-        ensures memory { IfErr result (λ e. e ≡ store_error.Memory) }
+        // Memory is wanted for a copy alone.
+        ensures memory { IfErr result (λ e. (e ≡ store_error.Memory) × IsStoredAs self.now digest) }
     {
         let Some(pass) = self.find(rt, digest) else {
             return Ok(None);
@@ -119,12 +121,17 @@ impl<A: Allocator + Copy> Store<A> {
         })
     }
 
-    /// The bytes of the block of a number, as its pass gives them. None where no block has it.
-    pub fn get_at(&self, index: usize) -> Option<&[u8]>
-        ensures { IfSome result (λ block. length block.now ≤ BLOCK_LIMIT) }
+    /// The bytes of the block of a number, and its pass. None where no block has it.
+    pub fn get_at(&self, index: usize) -> Option<(BlockPass<A>, &[u8])>
+        ensures of { IfSome result (λ found. IsOf self.now found.0) }
+        ensures index { IfSome result (λ found. found.0.index ≡ index) }
+        ensures bytes { IfSome result (λ found. found.1.now ≡ found.0.value.text) }
+        ensures own { IfSome result (λ found. hash found.1.now ≡ found.0.value.digest) }
+        ensures small { IfSome result (λ found. length found.1.now ≤ BLOCK_LIMIT) }
     {
         let pass = self.pass_at(index)?;
-        Some(self.get_by_pass(&pass))
+        let bytes = self.get_by_pass(&pass);
+        Some((pass, bytes))
     }
 
     /// A law: two passes of one number are of one block. The call does nothing.
@@ -141,22 +148,32 @@ impl<A: Allocator + Copy> Store<A> {
         rt: &R,
         digest: Digest,
         bytes: &[u8],
-    ) -> Result<BlockPass<A>, Memory>
-        requires { IsOwn (record { digest = digest; text = bytes.now }) }
+    ) -> Result<BlockPass<A>, StoreError>
+        requires own { IsOwn (record { digest = digest; text = bytes.now }) }
         ensures of { IfOk result (λ pass. IsOf self.now pass) }
         ensures text { IfOk result (λ pass. pass.value.text ≡ bytes.now) }
         ensures digest { IfOk result (λ pass. pass.value.digest ≡ digest) }
+        ensures only { IfErr result (λ e. e ≢ store_error.TooLarge) }
     {
-        let mut numbers = self.numbers.lock(rt);
-        if let Some(number) = numbers.get(&digest)
-            && let Some(pass) = self.pass_with(*number, bytes)
+        let mut guard = self.index.lock(rt);
+        let index = &mut *guard;
+        if let Some(number) = index.number_of(digest)
+            && let Some(pass) = self.pass_with(number, bytes)
         {
             return Ok(pass);
         }
-        let pass = self.push(rt, digest, bytes)?;
-        let noted = note(&mut numbers, digest, pass.index());
-        let (pass, ()) = beside(pass, noted)?;
-        Ok(pass)
+        let room = room_of(bytes.len());
+        index.reserve(digest, room)?;
+        match self.push(rt, digest, bytes) {
+            Ok(pass) => {
+                index.settle(digest, pass.index(), room);
+                Ok(pass)
+            }
+            Err(error) => {
+                index.withdraw(digest);
+                Err(StoreError::from(error))
+            }
+        }
     }
 
     /// Stores a copy of a block after the others.
@@ -184,21 +201,4 @@ impl<A: Allocator + Copy> Store<A> {
             None
         }
     }
-}
-
-/// Notes the number of a block, unless a block of its digest has one: of two blocks with one digest the first is found.
-fn note<A: Allocator + Copy>(
-    numbers: &mut BTreeMap<Digest, usize, A>,
-    digest: Digest,
-    number: usize,
-) -> Result<(), Memory>
-    ensures noted { OnOk result (is_some (get (slice_cmp nat_cmp) numbers.old digest) ≡ false
-        → Updates (slice_cmp nat_cmp) numbers.old numbers.new digest (Some number)) }
-    ensures stays { is_some (get (slice_cmp nat_cmp) numbers.old digest) ≡ true → numbers.new ≡ numbers.old }
-    ensures err { OnErr result (IsUnchanged numbers.old numbers.new) }
-{
-    if !numbers.contains_key(&digest) {
-        numbers.insert(digest, number)?;
-    }
-    Ok(())
 }

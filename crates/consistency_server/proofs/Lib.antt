@@ -3,6 +3,7 @@ pub mod Long
 pub mod Placing
 pub mod ReplyRows
 pub mod Rows
+pub mod Sent
 pub mod Serving
 pub mod Texts
 pub mod Tidy

@@ -1,8 +1,7 @@
 -- What a call leaves that was carried out, in the words of the history.
 use Rattle.std.proofs.Common.{◌≡◌, ℕ, Bool, true, false, cond, List, [], ◌∷◌, ◌++◌, Option, Some, None, Result, Ok, Err, refl, sym, ap, ◌∙◌, subst}
-use Rattle.std.specs.Prelude.{OnOk, OnErr, not, find, reverse}
+use Rattle.std.specs.Prelude.{OnOk, OnErr, not, find, map, reverse}
 use Rattle.std.specs.Option.{option_map_or}
-use Rattle.std.proofs.lemmas.List.{reverse-append}
 use Rattle.layout.specs.declared.error.ReadError.{ReadError}
 use Rattle.layout.specs.Format.{whole}
 use Rattle.lms_sign.specs.Signature.{valid}
@@ -19,7 +18,7 @@ use Rattle.consistency_server.specs.declared.state.Verdict.{Verdict}
 use Rattle.consistency_server.specs.Event.{Placed, Committed}
 use Rattle.consistency_server.specs.State.{Placement, State, next_reply}
 use Rattle.consistency_server.specs.Answers.{Call, Outcome, Refused, Repeated, Happens, answer, outcome_of, by_kind, same_cert, is_next, at_limit, placing_beside, placing, verified_update, read_update, structure_of, same_structure, is_pending, committing, verified_commit, read_commit}
-use Rattle.consistency_server.specs.History.{Ordered, events, kept, is_carried_out}
+use Rattle.consistency_server.specs.History.{events, kept, is_carried_out}
 use Rattle.consistency_server.specs.Judged.{JudgedAs, state_after}
 use Rattle.consistency_server.proofs.Kept.{kept_at_first, kept_after}
 
@@ -75,25 +74,22 @@ pub kept_genesis : (pinned : List ℕ) (history : List Call) (state : State) →
 unfolding events
 kept_genesis pinned history state empty start = start ∙ sym (ap (kept pinned) empty ∙ kept_at_first pinned)
 
-reverse_more : (old : List Call) (call : Call) → reverse (old ++ call ∷ []) ≡ call ∷ reverse old
-reverse_more old call = reverse-append old (call ∷ [])
+pub none_so_far : {X : Type 0} (value : X → Call) (xs : List X) → xs ≡ [] → reverse (map value xs) ≡ []
+none_so_far value xs is = ap (λ ys. reverse (map value ys)) is
 
 pub on_ok : {X E : Type 0} (r : Result X E) (P Q : Type 0) → (P → Q) → OnOk r P → OnOk r Q
 on_ok (Ok x) P Q more h = more h
 on_ok (Err e) P Q more h = tt
 
-abbrev ordered : List ℕ → List Call → Ordered
-ordered pinned history = record { pinned = pinned; history = history }
+-- a call is its kind and its text
+pub same_call : (kind : CallKind) (text : List ℕ) (call : Call) → kind ≡ call.kind → text ≡ call.text → record { kind = kind; text = text } ≡ call
+same_call kind text call of said = ap (λ k. record { kind = k; text = text }) of ∙ ap (λ t. record { kind = call.kind; text = t }) said
 
-pub history_after_call : (pinned : List ℕ) (old new : List Call) (call : Call) (server : Ordered) → ordered pinned (reverse old) ≡ server → new ≡ old ++ call ∷ [] → ordered pinned (reverse new) ≡ ordered server.pinned (call ∷ server.history)
-history_after_call pinned old new call server is more =
-    ap (ordered pinned) (ap reverse more ∙ reverse_more old call) ∙ ap (λ (s : Ordered). ordered s.pinned (call ∷ s.history)) is
-
-pub kept_after_verdict : {A X E : Type 0} (r : Result X E) (pinned : List ℕ) (old new : List Call) (call : Call) (state state' : State) (j : Verdict A) → state ≡ kept pinned (reverse old) → JudgedAs state j (outcome_of state call)
-    → OnOk r (state' ≡ state_after state j) → OnOk r (new ≡ old ++ call ∷ []) → OnErr r (state' ≡ state) → OnErr r (new ≡ old) → state' ≡ kept pinned (reverse new)
+pub kept_after_verdict : {A X E : Type 0} (r : Result X E) (pinned : List ℕ) (old new : List Call) (call : Call) (state state' : State) (j : Verdict A) → state ≡ kept pinned old → JudgedAs state j (outcome_of state call)
+    → OnOk r (state' ≡ state_after state j) → OnOk r (new ≡ call ∷ old) → OnErr r (state' ≡ state) → OnErr r (new ≡ old) → state' ≡ kept pinned new
 unfolding events
 kept_after_verdict (Ok x) pinned old new call state state' j is found moved more none none' =
     moved
-    ∙ kept_after pinned (events pinned (reverse old)) state j (outcome_of (kept pinned (reverse old)) call) is (subst (λ (s : State). JudgedAs state j (outcome_of s call)) is found)
-    ∙ ap (kept pinned) (sym (ap reverse more ∙ reverse_more old call))
-kept_after_verdict (Err x) pinned old new call state state' j is found moved more same same' = same ∙ is ∙ ap (λ h. kept pinned (reverse h)) (sym same')
+    ∙ kept_after pinned (events pinned old) state j (outcome_of (kept pinned old) call) is (subst (λ (s : State). JudgedAs state j (outcome_of s call)) is found)
+    ∙ ap (kept pinned) (sym more)
+kept_after_verdict (Err x) pinned old new call state state' j is found moved more same same' = same ∙ is ∙ ap (kept pinned) (sym same')

@@ -1,8 +1,9 @@
 //! Calls, and what they are answered.
 
-ghost use Rattle.std.specs.Prelude.{◌≡◌, ◌≤◌, length};
+ghost use Rattle.std.specs.Prelude.{◌≡◌, ◌≤◌, IfOk, length};
 
 use crate::payload::Payload;
+use layout::Memory;
 use pending_list::REPLY_SIZE;
 use std::alloc::Allocator;
 use std::marker::Model;
@@ -87,12 +88,12 @@ impl<A: Allocator> Answer<A> {
     }
 
     /// An answer without a payload.
-    pub(crate) fn bare(alloc: A, status: Status) -> Answer<A>
+    pub(crate) fn bare(status: Status) -> Answer<A>
         ensures { result ≡ record { status = status; payload = [] } }
     {
         Answer {
             status,
-            payload: Payload::empty(alloc),
+            payload: Payload::empty(),
         }
     }
 
@@ -113,11 +114,15 @@ impl<A: Allocator> Answer<A> {
         self.payload.as_slice()
     }
 
-    pub fn into_payload(self) -> Vec<u8, A>
-        ensures same { result.items ≡ self.payload }
-        ensures size { length self.payload ≤ REPLY_SIZE }
+    /// The same answer once more: its payload isn't copied, and lies in memory as long as one of them. It fails only
+    /// where no more can share it.
+    pub fn share(&self) -> Result<Answer<A>, Memory>
+        ensures { IfOk result (λ answer. answer ≡ self.now) }
     {
-        let Answer { status: _, payload } = self;
-        payload.into_vec()
+        let payload = self.payload.share()?;
+        Ok(Answer {
+            status: self.status,
+            payload,
+        })
     }
 }

@@ -4,6 +4,7 @@
 mod call;
 mod item;
 mod log;
+mod past;
 mod payload;
 mod placement;
 mod refusal;

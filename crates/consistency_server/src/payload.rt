@@ -1,68 +1,76 @@
 //! What comes with an answer.
 
 ghost use Rattle.std.specs.Prelude.{◌≡◌, ◌≤◌, [], IfOk, length};
+ghost use Rattle.std.specs.Arc.{arc_slice_items};
+ghost use Rattle.std.specs.Option.{option_map_or};
 
 use layout::Memory;
 use pending_list::REPLY_SIZE;
 use std::alloc::Allocator;
 use std::marker::Model;
+use std::sync::ArcSlice;
 
-/// What comes with an answer: no more bytes than the text of a reply has.
+/// What comes with an answer: no more bytes than the text of a reply has. All who share it have the same bytes in memory.
 #[derive(Drop)]
 pub(crate) struct Payload<A: Allocator> {
-    bytes: Vec<u8, A>,
+    /// None where it is empty.
+    bytes: Option<ArcSlice<u8, A>>,
 }
 
 impl<A: Allocator> Model for Payload<A> {
-    ghost use Rattle.std.specs.Prelude.{ℕ, ◌≤◌, List, length};
+    ghost use Rattle.std.specs.Prelude.{ℕ, ◌≤◌, List, [], length};
+    ghost use Rattle.std.specs.Arc.{arc_slice_items};
+    ghost use Rattle.std.specs.Option.{option_map_or};
     ghost use Rattle.pending_list.specs.declared.reply.TheConstants.{REPLY_SIZE};
 
     ghost Value = { List ℕ };
 
-    ghost view = { λ p. p.bytes.items };
+    ghost view = { λ p. option_map_or arc_slice_items p.bytes [] };
 
-    ghost invariant = { λ p. length p.bytes.items ≤ REPLY_SIZE };
+    ghost invariant = { λ p. length (option_map_or arc_slice_items p.bytes []) ≤ REPLY_SIZE };
 }
 
 impl<A: Allocator> Payload<A> {
-    /// Nothing.
-    pub(crate) fn empty(alloc: A) -> Payload<A>
+    /// Nothing, which takes no memory.
+    pub(crate) fn empty() -> Payload<A>
         ensures { result ≡ [] }
     {
-        Payload {
-            bytes: Vec::new(alloc),
-        }
-    }
-
-    pub(crate) fn from_vec(bytes: Vec<u8, A>) -> Payload<A>
-        requires { length bytes.items ≤ REPLY_SIZE }
-        ensures { result ≡ bytes.items }
-    {
-        Payload { bytes }
+        Payload { bytes: None }
     }
 
     pub(crate) fn as_slice(&self) -> &[u8]
         ensures same { result.now ≡ self.now }
         ensures size { length self.now ≤ REPLY_SIZE }
     {
-        &self.bytes
+        match &self.bytes {
+            Some(bytes) => bytes.as_slice(),
+            None => &[],
+        }
     }
 
-    pub(crate) fn into_vec(self) -> Vec<u8, A>
-        ensures same { result.items ≡ self }
-        ensures size { length self ≤ REPLY_SIZE }
+    /// The same bytes once more, of which no copy is made. It fails only where no more can share them.
+    pub(crate) fn share(&self) -> Result<Payload<A>, Memory>
+        ensures { IfOk result (λ shared. shared ≡ self.now) }
     {
-        let Payload { bytes } = self;
-        bytes
+        match &self.bytes {
+            Some(bytes) => Ok(Payload {
+                bytes: Some(bytes.clone()?),
+            }),
+            None => Ok(Payload { bytes: None }),
+        }
     }
 }
 
 impl<A: Allocator + Copy> Payload<A> {
-    /// The same bytes once more.
-    pub(crate) fn copy(&self, alloc: A) -> Result<Payload<A>, Memory>
-        ensures { IfOk result (λ copy. copy ≡ self.now) }
+    /// These bytes, and no room for more.
+    pub(crate) fn from_vec(bytes: Vec<u8, A>) -> Result<Payload<A>, Memory>
+        requires { length bytes.items ≤ REPLY_SIZE }
+        ensures { IfOk result (λ payload. payload ≡ bytes.items) }
     {
-        let bytes = Vec::from_slice(alloc, &self.bytes)?;
-        Ok(Payload { bytes })
+        let mut bytes = bytes;
+        bytes.shrink_to_fit();
+        Ok(Payload {
+            bytes: Some(ArcSlice::from_vec(bytes)?),
+        })
     }
 }

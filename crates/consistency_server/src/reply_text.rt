@@ -43,7 +43,7 @@ fn write_pending<A: Allocator>(
 }
 
 /// The text of the reply to an operation, which stands last, after at most 63 others that are pending.
-pub(crate) fn reply_text<A: Allocator>(
+pub(crate) fn reply_text<A: Allocator + Copy>(
     alloc: A,
     structures: &[SpelledStructure<A>],
     pending: &[Placement<A>],
@@ -61,5 +61,5 @@ pub(crate) fn reply_text<A: Allocator>(
     writer.u8(pending.len() as u8 + 1)?;
     write_pending(&mut writer, pending)?;
     own.write_row(&mut writer)?;
-    Ok(Payload::from_vec(writer.finish()))
+    Payload::from_vec(writer.finish())
 }

@@ -1,160 +1,102 @@
 //! The server's one order of calls.
 
-ghost use Rattle.std.specs.Prelude.{◌≡◌, ◌≢◌, [], ◌∷◌, ◌++◌, true, false, OnOk, OnErr, IfOk, IsTrue, Err, reverse};
-ghost use Rattle.std.specs.Prelude.{◌<◌, vec_capacity, vec_len};
-ghost use Rattle.consistency_server.specs.Judged.{Admits, MayHappen, answer_by, changed, state_after, logged_by};
+ghost use Rattle.std.specs.Prelude.{◌≡◌, ◌≢◌, [], ◌∷◌, ◌++◌, true, false, OnOk, OnErr, IfOk, IsTrue, Err, length, map};
+ghost use Rattle.std.specs.Prelude.{reverse};
+ghost use Rattle.consistency_server.specs.Judged.{MayHappen, answer_by, state_after, logged_by};
 
 use crate::call::{Answer, Call, CallKind};
 use crate::log::Log;
+use crate::past::{Past, add, take_back};
 use crate::refusal::Refusal;
-use crate::state::{NewEvent, State, Verdict};
+use crate::state::{State, Verdict};
 use crate::verification::Verification;
-use layout::{Memory, User, let_go};
+use layout::{User, let_go};
 use lms_sign::PublicKey;
 use std::alloc::Allocator;
 use std::marker::Model;
+use wire::Status;
 
-/// The order of the calls so far, under the key of user 0.
+/// The order of the calls so far, under the key of user 0. Of a call that placed nothing and committed nothing, only that
+/// there was one more is kept.
 #[derive(Drop)]
 pub struct Ordered<A: Allocator> {
     pinned: PublicKey,
     state: State<A>,
-    history: Vec<Call<A>, A>,
+    history: Past<A>,
 }
 
 impl<A: Allocator> Model for Ordered<A> {
-    ghost use Rattle.std.specs.Prelude.{◌≡◌, reverse};
+    ghost use Rattle.std.specs.Prelude.{◌≡◌, map, reverse};
     ghost use Rattle.consistency_server.specs.History.{Ordered, kept};
 
     ghost Value = { Ordered };
 
-    ghost view = { λ o. record { pinned = o.pinned; history = reverse o.history.items } };
+    ghost view = { λ o. record { pinned = o.pinned; history = reverse (map (λ s. s.value) o.history.items) } };
 
-    ghost invariant = { λ o. o.state ≡ kept o.pinned (reverse o.history.items) };
-}
-
-/// The call as it is kept, for which there is room then.
-fn room_for<A: Allocator + Copy>(
-    history: &mut Vec<Call<A>, A>,
-    kind: CallKind,
-    text: &[u8],
-) -> Result<Call<A>, Memory>
-    ensures call { IfOk result (λ call. call ≡ record { kind = kind; text = text.now }) }
-    ensures room { OnOk result (vec_len history.new < vec_capacity history.new) }
-    ensures same { history.new.items ≡ history.old.items }
-{
-    let call = copy_of(*history.allocator(), kind, text)?;
-    history.reserve(1)?;
-    Ok(call)
-}
-
-/// The call with a copy of its text.
-fn copy_of<A: Allocator + Copy>(alloc: A, kind: CallKind, text: &[u8]) -> Result<Call<A>, Memory>
-    ensures call { IfOk result (λ call. call ≡ record { kind = kind; text = text.now }) }
-{
-    Ok(Call::new(kind, Vec::from_slice(alloc, text)?))
-}
-
-/// Lets an event happen, whose call goes to the log.
-fn happens<A: Allocator + Copy, G: Log<Call<A>>>(
-    state: &mut State<A>,
-    log: &mut G,
-    alloc: A,
-    kind: CallKind,
-    text: &[u8],
-    event: NewEvent<A>,
-) -> Result<(), Refusal>
-    requires { Admits state.old event }
-    ensures state { OnOk result (state.new ≡ changed state.old event) }
-    ensures log { OnOk result (G.pushed log.new ≡ G.pushed log.old ++ record { kind = kind; text = text.now } ∷ []) }
-    ensures state_err { OnErr result (state.new ≡ state.old) }
-    ensures log_err { OnErr result (G.pushed log.new ≡ G.pushed log.old) }
-    ensures busy { result ≡ Err Refusal.Busy → IsTrue (G.may_be_full log.old) }
-{
-    match copy_of(alloc, kind, text) {
-        Ok(call) => state.happen(log, call, event),
-        Err(error) => {
-            let_go(event);
-            Err(Refusal::from(error))
-        }
-    }
+    ghost invariant = { λ o. o.state ≡ kept o.pinned (reverse (map (λ s. s.value) o.history.items)) };
 }
 
 /// What is done for what was judged: the call goes to the log if it happens, and what is kept changes.
-fn act<A: Allocator + Copy, G: Log<Call<A>>>(
+fn act<A: Allocator, G: Log<Call<A>>>(
     state: &mut State<A>,
     log: &mut G,
-    alloc: A,
-    kind: CallKind,
-    text: &[u8],
+    call: Call<A>,
     judged: Verdict<A>,
 ) -> Result<Answer<A>, Refusal>
     requires { MayHappen state.old judged }
     ensures answer { IfOk result (λ answer. answer ≡ answer_by judged) }
     ensures state { OnOk result (state.new ≡ state_after state.old judged) }
-    ensures log { OnOk result (G.pushed log.new
-        ≡ G.pushed log.old ++ logged_by judged (record { kind = kind; text = text.now })) }
+    ensures log { OnOk result (G.pushed log.new ≡ G.pushed log.old ++ logged_by judged call) }
     ensures state_err { OnErr result (state.new ≡ state.old) }
     ensures log_err { OnErr result (G.pushed log.new ≡ G.pushed log.old) }
     ensures busy { result ≡ Err Refusal.Busy → IsTrue (G.may_be_full log.old) }
-    ensures busy_logged { result ≡ Err Refusal.Busy → logged_by judged (record { kind = kind; text = text.now }) ≢ [] }
+    ensures busy_logged { result ≡ Err Refusal.Busy → logged_by judged call ≢ [] }
 {
     match judged {
-        Verdict::Refused(status) => Ok(Answer::bare(alloc, status)),
+        Verdict::Refused(status) => Ok(Answer::bare(status)),
         Verdict::Repeated(payload) => Ok(Answer::with_payload(payload)),
-        Verdict::Happens(event, payload) => {
-            match happens(state, log, alloc, kind, text, event) {
-                Ok(()) => Ok(Answer::with_payload(payload)),
-                Err(refusal) => {
-                    let_go(payload);
-                    Err(refusal)
-                }
+        Verdict::Happens(event, payload) => match state.happen(log, call, event) {
+            Ok(()) => Ok(Answer::with_payload(payload)),
+            Err(refusal) => {
+                let_go(payload);
+                Err(refusal)
             }
-        }
+        },
     }
 }
 
-/// What is done for a call once it is judged: room is made for it, it goes to the log if it happens, and then what is
-/// kept changes, which can't fail.
+/// What is done for a call once it is judged: it is counted, it goes to the log if it happens, and then what is kept
+/// changes, which can't fail.
 fn carry_out<A: Allocator + Copy, G: Log<Call<A>>>(
     state: &mut State<A>,
-    history: &mut Vec<Call<A>, A>,
+    history: &mut Past<A>,
     log: &mut G,
-    kind: CallKind,
-    text: &[u8],
+    call: Call<A>,
     judged: Verdict<A>,
 ) -> Result<Answer<A>, Refusal>
     requires { MayHappen state.old judged }
     ensures answer { IfOk result (λ answer. answer ≡ answer_by judged) }
     ensures state { OnOk result (state.new ≡ state_after state.old judged) }
-    ensures history { OnOk result (history.new.items
-        ≡ history.old.items ++ record { kind = kind; text = text.now } ∷ []) }
-    ensures log { OnOk result (G.pushed log.new
-        ≡ G.pushed log.old ++ logged_by judged (record { kind = kind; text = text.now })) }
+    ensures history { OnOk result (reverse (map (λ s. s.value) history.new.items)
+        ≡ call ∷ reverse (map (λ s. s.value) history.old.items)) }
+    ensures log { OnOk result (G.pushed log.new ≡ G.pushed log.old ++ logged_by judged call) }
     ensures state_err { OnErr result (state.new ≡ state.old) }
-    ensures history_err { OnErr result (history.new.items ≡ history.old.items) }
+    ensures history_err { OnErr result (reverse (map (λ s. s.value) history.new.items)
+        ≡ reverse (map (λ s. s.value) history.old.items)) }
     ensures log_err { OnErr result (G.pushed log.new ≡ G.pushed log.old) }
     ensures busy { result ≡ Err Refusal.Busy → IsTrue (G.may_be_full log.old) }
-    ensures busy_logged { result ≡ Err Refusal.Busy → logged_by judged (record { kind = kind; text = text.now }) ≢ [] }
+    ensures busy_logged { result ≡ Err Refusal.Busy → logged_by judged call ≢ [] }
 {
-    let alloc = *history.allocator();
-    let call = match room_for(history, kind, text) {
-        Ok(call) => call,
-        Err(error) => {
-            let_go(judged);
-            return Err(Refusal::from(error));
-        }
-    };
-    match act(state, log, alloc, kind, text, judged) {
-        Ok(answer) => {
-            history.push(call).unwrap();
-            Ok(answer)
-        }
-        Err(refusal) => {
-            let_go(call);
-            Err(refusal)
-        }
+    if add(history, &call).is_err() {
+        let_go(call);
+        let_go(judged);
+        return Err(Refusal::Memory);
     }
+    let acted = act(state, log, call, judged);
+    if acted.is_err() {
+        take_back(history);
+    }
+    acted
 }
 
 impl<A: Allocator + Copy> Ordered<A> {
@@ -174,11 +116,11 @@ impl<A: Allocator + Copy> Ordered<A> {
         }
     }
 
-    /// The calls that were answered otherwise than busy or out of memory, the oldest first.
-    pub fn history(&self) -> &[Call<A>]
-        ensures { result.now ≡ reverse self.now.history }
+    /// How many calls were answered otherwise than busy or out of memory.
+    pub fn call_count(&self) -> usize
+        ensures { result ≡ length self.now.history }
     {
-        &self.history
+        self.history.len()
     }
 
     /// The key by which a signature of the user is judged in the next call.
@@ -224,7 +166,8 @@ impl<A: Allocator + Copy> Ordered<A> {
         self.answer(log, CallKind::Commit, text, None)
     }
 
-    /// Answers a call. What is known of its signature isn't verified again, and makes no other difference.
+    /// Answers a call, of whose text a copy is made first. What is known of its signature isn't verified again, and makes
+    /// no other difference.
     pub fn answer<G: Log<Call<A>>>(
         &mut self,
         log: &mut G,
@@ -246,9 +189,35 @@ impl<A: Allocator + Copy> Ordered<A> {
         ensures log_same { is_carried_out result.status ≡ false → G.pushed log.new ≡ G.pushed log.old }
     {
         let alloc = *self.history.allocator();
-        match self.try_answer(log, kind, text, known) {
+        match Vec::from_slice(alloc, text) {
+            Ok(copy) => self.answer_call(log, Call::new(kind, copy), known),
+            Err(_) => Answer::bare(Status::Memory),
+        }
+    }
+
+    /// Answers a call, which goes to the log where it places or commits. No text is copied but what is kept of it.
+    pub fn answer_call<G: Log<Call<A>>>(
+        &mut self,
+        log: &mut G,
+        call: Call<A>,
+        known: Option<&Verification<'_>>,
+    ) -> Answer<A>
+        ensures answer { is_carried_out result.status ≡ true
+            → result ≡ answer_of self.old.pinned self.old.history call }
+        ensures history { is_carried_out result.status ≡ true
+            → self.new ≡ record self.old { history = call ∷ self.old.history } }
+        ensures log { is_carried_out result.status ≡ true
+            → G.pushed log.new ≡ G.pushed log.old ++ logged self.old call }
+        ensures busy { result.status ≡ status.Busy → IsTrue (G.may_be_full log.old) }
+        // It would have gone to the log.
+        ensures busy_logged { result.status ≡ status.Busy → logged self.old call ≢ [] }
+        ensures bare { is_carried_out result.status ≡ false → result.payload ≡ [] }
+        ensures same { is_carried_out result.status ≡ false → self.new ≡ self.old }
+        ensures log_same { is_carried_out result.status ≡ false → G.pushed log.new ≡ G.pushed log.old }
+    {
+        match self.try_answer(log, call, known) {
             Ok(answer) => answer,
-            Err(refusal) => Answer::bare(alloc, refusal.status()),
+            Err(refusal) => Answer::bare(refusal.status()),
         }
     }
 
@@ -256,24 +225,23 @@ impl<A: Allocator + Copy> Ordered<A> {
     fn try_answer<G: Log<Call<A>>>(
         &mut self,
         log: &mut G,
-        kind: CallKind,
-        text: &[u8],
+        call: Call<A>,
         known: Option<&Verification<'_>>,
     ) -> Result<Answer<A>, Refusal>
         ensures answer { IfOk result
-            (λ answer. answer ≡ answer_of self.old.pinned self.old.history (call_of kind text.now)) }
+            (λ answer. answer ≡ answer_of self.old.pinned self.old.history call) }
         ensures history { OnOk result
-            (self.new ≡ record self.old { history = call_of kind text.now ∷ self.old.history }) }
+            (self.new ≡ record self.old { history = call ∷ self.old.history }) }
         ensures log { OnOk result
-            (G.pushed log.new ≡ G.pushed log.old ++ logged self.old (call_of kind text.now)) }
+            (G.pushed log.new ≡ G.pushed log.old ++ logged self.old call) }
         ensures carried_out { IfOk result (λ answer. is_carried_out answer.status ≡ true) }
         ensures same { OnErr result (self.new ≡ self.old) }
         ensures log_same { OnErr result (G.pushed log.new ≡ G.pushed log.old) }
         ensures busy { result ≡ Err Refusal.Busy → IsTrue (G.may_be_full log.old) }
-        ensures busy_logged { result ≡ Err Refusal.Busy → logged self.old (call_of kind text.now) ≢ [] }
+        ensures busy_logged { result ≡ Err Refusal.Busy → logged self.old call ≢ [] }
     {
         let alloc = *self.history.allocator();
-        let judged = self.state.judge(alloc, kind, text, known)?;
-        carry_out(&mut self.state, &mut self.history, log, kind, text, judged)
+        let judged = self.state.judge(alloc, call.kind(), call.text(), known)?;
+        carry_out(&mut self.state, &mut self.history, log, call, judged)
     }
 }

@@ -76,7 +76,7 @@ pub(crate) enum NewEvent<A: Allocator> {
 }
 
 /// What an operation brings that is placed next: the table after it, if it may change the table; its vector; what later
-/// plans have of it; and the text of its reply, twice: to be kept, and to be handed out.
+/// plans have of it; and the text of its reply, which is kept and handed out.
 #[derive(Drop)]
 struct Brought<A: Allocator> {
     table: Option<Table<A>>,
@@ -248,7 +248,7 @@ impl<A: Allocator + Copy> State<A> {
         ensures { IfOk result (λ judged. JudgedAs self.now judged (placing self.now found)) }
     {
         match with_cert(&self.pending, text) {
-            Some(placement) => Ok(Verdict::Repeated(placement.reply().copy(alloc)?)),
+            Some(placement) => Ok(Verdict::Repeated(placement.reply().share()?)),
             None => self.judge_new(alloc, text, found),
         }
     }
@@ -356,7 +356,7 @@ impl<A: Allocator + Copy> State<A> {
         ensures payload { IfOk result (λ b. b.payload ≡ reply.spell (reply_beside self.now item.now)) }
     {
         let reply = self.reply_to(alloc, item)?;
-        let payload = reply.copy(alloc)?;
+        let payload = reply.share()?;
         let entry = item.entry();
         let vector = item.plan().vector().copy(alloc)?;
         let table = table_after(alloc, &self.table, item.cert())?;
@@ -414,7 +414,7 @@ impl<A: Allocator + Copy> State<A> {
     {
         if self.is_last(&found, text) {
             let_go(found);
-            return Ok(Verdict::Repeated(Payload::empty(alloc)));
+            return Ok(Verdict::Repeated(Payload::empty()));
         }
         self.judge_other(alloc, text, found)
     }
@@ -434,7 +434,7 @@ impl<A: Allocator + Copy> State<A> {
         match have_plan(alloc, &self.pending, found.value.plan()) {
             Ok(true) => {
                 let structure = SpelledStructure::new(alloc, found, text)?;
-                Ok(Verdict::Happens(NewEvent::Commits(structure), Payload::empty(alloc)))
+                Ok(Verdict::Happens(NewEvent::Commits(structure), Payload::empty()))
             }
             Ok(false) => {
                 let_go(found);

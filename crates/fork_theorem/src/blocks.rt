@@ -25,7 +25,7 @@ impl<'a, R: Wait, A: Allocator + Copy> StoredBlocks<'a, R, A> {
             match self.store.put(self.rt, text) {
                 Ok(_) => {}
                 Err(StoreError::TooLarge) => return Ok(false),
-                Err(StoreError::Memory) => return Err(Memory),
+                Err(StoreError::Full | StoreError::Memory) => return Err(Memory),
             }
         }
         Ok(true)

@@ -14,8 +14,7 @@ use wire::Status;
 pub(crate) struct Exchange<A: Allocator> {
     kind: CallKind,
     text: Vec<u8, A>,
-    status: Status,
-    payload: Vec<u8, A>,
+    answer: Answer<A>,
 }
 
 impl<A: Allocator> Model for Exchange<A> {
@@ -25,7 +24,7 @@ impl<A: Allocator> Model for Exchange<A> {
 
     ghost view = { λ x. record {
       call = record { kind = x.kind; text = x.text.items };
-      answer = record { status = x.status; payload = x.payload.items };
+      answer = x.answer;
     } };
 }
 
@@ -34,13 +33,7 @@ impl<A: Allocator> Exchange<A> {
     pub(crate) fn new(kind: CallKind, text: Vec<u8, A>, answer: Answer<A>) -> Exchange<A>
         ensures { result ≡ record { call = record { kind = kind; text = text.items }; answer = answer } }
     {
-        let status = answer.status();
-        Exchange {
-            kind,
-            text,
-            status,
-            payload: answer.into_payload(),
-        }
+        Exchange { kind, text, answer }
     }
 
     pub(crate) fn kind(&self) -> CallKind
@@ -58,13 +51,13 @@ impl<A: Allocator> Exchange<A> {
     pub(crate) fn status(&self) -> Status
         ensures { result ≡ self.now.answer.status }
     {
-        self.status
+        self.answer.status()
     }
 
     pub(crate) fn payload(&self) -> &[u8]
         ensures { result.now ≡ self.now.answer.payload }
     {
-        &self.payload
+        self.answer.payload()
     }
 }
 
@@ -74,12 +67,11 @@ impl<A: Allocator + Copy> Exchange<A> {
         ensures { IfOk result (λ copy. copy ≡ self.now) }
     {
         let text = Vec::from_slice(alloc, &self.text)?;
-        let payload = Vec::from_slice(alloc, &self.payload)?;
+        let answer = self.answer.share()?;
         Ok(Exchange {
             kind: self.kind,
             text,
-            status: self.status,
-            payload,
+            answer,
         })
     }
 }

@@ -20,7 +20,7 @@ told_none : (o : Option Told) → o ≡ goes_on [] [] o
 told_none None = refl
 told_none (Some t) = ap (λ r. Some (record { read = r; written = t.written })) (sym (append-nil t.read)) ∙ ap (λ w. Some (record { read = t.read ++ []; written = w })) (sym (append-nil t.written))
 
-told_both : (o : Option Told) (r s w v : Bytes) → goes_on s v (goes_on r w o) ≡ goes_on (r ++ s) (w ++ v) o
+pub told_both : (o : Option Told) (r s w v : Bytes) → goes_on s v (goes_on r w o) ≡ goes_on (r ++ s) (w ++ v) o
 told_both None r s w v = refl
 told_both (Some t) r s w v = ap (λ x. Some (record { read = x; written = (t.written ++ w) ++ v })) (append_assoc t.read r s) ∙ ap (λ x. Some (record { read = t.read ++ (r ++ s); written = x })) (append_assoc t.written w v)
 

@@ -45,7 +45,6 @@ abbrev pub RepliesToDigest : Bytes → Answer → Type 0
 RepliesToDigest digest reply =
     ((reply ≡ ok reply.payload) × (hash reply.payload ≡ digest))
     ⊎ (reply ≡ bare status.Absent)
-    ⊎ (reply ≡ bare status.Memory)
 
 -- to the payload of a GET: a digest has 32 bytes
 abbrev pub RepliesToGet : Bytes → Answer → Type 0

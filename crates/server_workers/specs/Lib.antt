@@ -1,3 +1,4 @@
+pub mod Bodies
 pub mod Conversation
 pub mod Conversing
 pub mod Counting

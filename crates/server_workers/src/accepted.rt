@@ -6,13 +6,16 @@ ghost use Rattle.std.specs.Iterator.{at_most};
 use connection::ServerSocket;
 use std::io::ErrorKind;
 use std::net::{TcpListener, TcpStream};
-use std::time::{Clock, Duration};
+use std::time::{Clock, Duration, Instant};
 use std::{io, thread};
 
 /// How long a fault of the listener is rested upon first, and how long at most, in milliseconds.
 const FIRST_REST: u64 = 10;
 
 const LONGEST_REST: u64 = 1_000;
+
+/// How long no fault has come once faults have ended, in seconds.
+const QUIET: u64 = 10;
 
 /// How long a connection may say nothing between two requests, in seconds, unless it is said otherwise.
 const IDLE: u64 = 600;
@@ -30,8 +33,11 @@ pub trait Watch: Drop {
     /// Faults begin, of which this is the first. Meanwhile connections wait.
     fn faults_begin(&self, fault: &io::Error);
 
-    /// The faults have ended: a connection was accepted.
+    /// The faults have ended: a connection was accepted at once, ten seconds or more after the last one.
     fn faults_end(&self);
+
+    /// The listener can't listen any more, by this fault. Those who were accepted are still served.
+    fn ends(&self, fault: &io::Error);
 }
 
 /// Nobody is told.
@@ -42,6 +48,48 @@ impl Watch for Unwatched {
     fn faults_begin(&self, _fault: &io::Error) {}
 
     fn faults_end(&self) {}
+
+    fn ends(&self, _fault: &io::Error) {}
+}
+
+/// Whether a listener has faults, and when it had the last one, as far as the clock could be read then.
+#[derive(Drop)]
+struct Trouble {
+    begun: bool,
+    last: Option<Instant>,
+}
+
+/// That time is as long ago as no fault may have come for faults to have ended. So it is where the clock can't be read.
+fn is_long_ago<R: Clock>(rt: &R, last: Option<Instant>) -> bool {
+    match last {
+        Some(last) => match last.elapsed(rt) {
+            Ok(gone) => gone >= Duration::from_secs(QUIET),
+            Err(_) => true,
+        },
+        None => true,
+    }
+}
+
+impl Trouble {
+    /// Rests upon a fault, twice as long as the last time, and tells of the first one. The number is how long.
+    fn rest<R: Clock, N: Watch>(&mut self, rt: &R, watch: &N, fault: &io::Error, last: u64) -> u64 {
+        if !self.begun {
+            watch.faults_begin(fault);
+            self.begun = true;
+        }
+        let rest = last.saturating_mul(2).clamp(FIRST_REST, LONGEST_REST);
+        thread::sleep(rt, Duration::from_millis(rest));
+        self.last = Instant::now(rt).ok();
+        rest
+    }
+
+    /// A connection was accepted at once: tells that the faults have ended, where the last one is long ago.
+    fn accepted<R: Clock, N: Watch>(&mut self, rt: &R, watch: &N) {
+        if self.begun && is_long_ago(rt, self.last) {
+            watch.faults_end();
+            self.begun = false;
+        }
+    }
 }
 
 /// The connections that a listener accepts, so many at most. A fault that may pass, as too many open files, is waited
@@ -54,6 +102,7 @@ pub struct Accepted<'a, R: Clock, N: Watch = Unwatched> {
     left: u32,
     idle: u64,
     watch: N,
+    trouble: Trouble,
     fault: &'a mut Option<io::Error>,
 }
 
@@ -75,6 +124,10 @@ impl<'a, R: Clock> Accepted<'a, R, Unwatched> {
             left: most,
             idle: IDLE,
             watch: Unwatched,
+            trouble: Trouble {
+                begun: false,
+                last: None,
+            },
             fault,
         }
     }
@@ -91,6 +144,7 @@ impl<'a, R: Clock> Accepted<'a, R, Unwatched> {
             left,
             idle: _,
             watch: Unwatched,
+            trouble,
             fault,
         } = self;
         Accepted {
@@ -99,6 +153,7 @@ impl<'a, R: Clock> Accepted<'a, R, Unwatched> {
             left,
             idle: idle.max(1),
             watch,
+            trouble,
             fault,
         }
     }
@@ -120,46 +175,45 @@ fn is_of_one_try(fault: &io::Error) -> bool {
     )
 }
 
-impl<'a, R: Clock, N: Watch> Accepted<'a, R, N> {
-    /// The next stream, or the fault after which there is none.
-    fn accept(&self) -> io::Result<TcpStream> {
-        let mut rest = 0;
-        for _try in 0..u64::MAX {
-            match self.listener.accept() {
-                Ok((stream, _)) => {
-                    if rest > 0 {
-                        self.watch.faults_end();
-                    }
-                    return Ok(stream);
+/// The next stream, or the fault after which there is none.
+fn accept<R: Clock, N: Watch>(
+    rt: &R,
+    listener: &TcpListener,
+    watch: &N,
+    trouble: &mut Trouble,
+) -> io::Result<TcpStream> {
+    let mut rest = 0;
+    for _try in 0..u64::MAX {
+        match listener.accept() {
+            Ok((stream, _)) => {
+                if rest == 0 {
+                    trouble.accepted(rt, watch);
                 }
-                Err(fault) if is_last(&fault) => return Err(fault),
-                Err(fault) if is_of_one_try(&fault) => {}
-                Err(fault) => rest = self.rest(&fault, rest),
+                return Ok(stream);
             }
+            Err(fault) if is_last(&fault) => return Err(fault),
+            Err(fault) if is_of_one_try(&fault) => {}
+            Err(fault) => rest = trouble.rest(rt, watch, &fault, rest),
         }
-        Err(ErrorKind::TimedOut.into())
     }
+    Err(ErrorKind::TimedOut.into())
+}
 
-    /// Rests upon a fault, twice as long as the last time, and tells of the first one. The number is how long.
-    fn rest(&self, fault: &io::Error, last: u64) -> u64 {
-        if last == 0 {
-            self.watch.faults_begin(fault);
+/// The next connection, or the fault after which there is none. One that takes no time limit is let go.
+fn accept_one<'a, R: Clock, N: Watch>(
+    rt: &'a R,
+    listener: &TcpListener,
+    idle: u64,
+    watch: &N,
+    trouble: &mut Trouble,
+) -> io::Result<ServerSocket<'a, R>> {
+    for _try in 0..u64::MAX {
+        let stream = accept(rt, listener, watch, trouble)?;
+        if let Ok(socket) = ServerSocket::new(rt, stream, idle) {
+            return Ok(socket);
         }
-        let rest = last.saturating_mul(2).clamp(FIRST_REST, LONGEST_REST);
-        thread::sleep(self.rt, Duration::from_millis(rest));
-        rest
     }
-
-    /// The next connection, or the fault after which there is none. One that takes no time limit is let go.
-    fn accept_one(&self) -> io::Result<ServerSocket<'a, R>> {
-        for _try in 0..u64::MAX {
-            let stream = self.accept()?;
-            if let Ok(socket) = ServerSocket::new(self.rt, stream, self.idle) {
-                return Ok(socket);
-            }
-        }
-        Err(ErrorKind::TimedOut.into())
-    }
+    Err(ErrorKind::TimedOut.into())
 }
 
 impl<'a, R: Clock, N: Watch> Iterator for Accepted<'a, R, N> {
@@ -171,17 +225,27 @@ impl<'a, R: Clock, N: Watch> Iterator for Accepted<'a, R, N> {
     ghost remaining = { λ s. at_most s.left };
 
     fn next(&mut self) -> Option<ServerSocket<'a, R>> {
-        if self.left == 0 {
+        let Accepted {
+            rt,
+            listener,
+            left,
+            idle,
+            watch,
+            trouble,
+            fault,
+        } = self;
+        if *left == 0 {
             return None;
         }
-        match self.accept_one() {
+        match accept_one(*rt, *listener, *idle, watch, trouble) {
             Ok(socket) => {
-                self.left -= 1;
+                *left -= 1;
                 Some(socket)
             }
-            Err(fault) => {
-                *self.fault = Some(fault);
-                self.left = 0;
+            Err(last) => {
+                watch.ends(&last);
+                **fault = Some(last);
+                *left = 0;
                 None
             }
         }

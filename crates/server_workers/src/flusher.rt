@@ -15,8 +15,10 @@ use std::sync::atomic::{AtomicBool, Ordering};
 use std::thread;
 use std::time::{Clock, Duration};
 
-/// How long the flusher rests after a flush, in milliseconds.
+/// How long the flusher rests after a flush, in milliseconds, and how long at most where nothing came.
 const REST: u64 = 1;
+
+const LONGEST_REST: u64 = 20;
 
 /// Takes calls from the log and writes their records. Contracts see what its pass knows, and whether a write failed.
 /// What was written is always the records of what was taken, or after a failed write a beginning of them.
@@ -124,20 +126,28 @@ impl<'a, A: Allocator, B: ServerName, R: Wait, W: Write + Drop> Flusher<'a, A, B
         writer
     }
 
-    /// Flushes again and again, and once more when the workers have ended. It rests between one flush and the next.
+    /// Flushes again and again, and once more when the workers have ended. It rests between one flush and the next,
+    /// each time twice as long while nothing comes.
     pub(crate) fn run(self, ended: &AtomicBool) -> Flusher<'a, A, B, R, W>
     where
         R: Clock,
     {
         let mut flusher = self;
         let rt = flusher.rt;
+        let mut rest = REST;
         for _ in rt.forever() {
             let last = ended.load(Ordering::SeqCst);
+            let came = flusher.step();
             flusher.flush();
             if last || flusher.failed {
                 return flusher;
             }
-            thread::sleep(rt, Duration::from_millis(REST));
+            rest = if came {
+                REST
+            } else {
+                rest.saturating_mul(2).min(LONGEST_REST)
+            };
+            thread::sleep(rt, Duration::from_millis(rest));
         }
         unreachable!()
     }

@@ -16,6 +16,7 @@ mod server;
 mod shared;
 mod tally;
 mod worker;
+mod workers;
 mod writing;
 
 pub use accepted::{Accepted, Unwatched, Watch};
@@ -24,7 +25,7 @@ pub use ended::Ended;
 pub use flusher::Flusher;
 pub use gate::{Gate, OpenGate};
 pub use new_queue::empty_queue;
-pub use server::{Limits, Served, serve, serve_within};
+pub use server::{Limits, Served, Unbegun, serve, serve_within};
 pub use shared::Shared;
 pub use tally::Tally;
 pub use worker::converse;

@@ -2,7 +2,7 @@
 
 ghost use Rattle.std.specs.Prelude.{◌≡◌, [], ◌∷◌, ◌+◌, ◌<◌, true, false, length, leb, IsTrue};
 ghost use Rattle.principals.specs.Table.{key_of};
-ghost use Rattle.consistency_server.specs.History.{call_of, answer_of, log_of, is_carried_out, kept};
+ghost use Rattle.consistency_server.specs.History.{answer_of, log_of, is_carried_out, kept};
 ghost use Rattle.wire.specs.declared.kinds.Status.TheVariants as status;
 ghost use Rattle.server_workers.specs.Hands.{hand, hand_of};
 ghost use Rattle.server_workers.specs.Counting.{count_of};
@@ -11,7 +11,7 @@ ghost use Rattle.server_workers.specs.declared.call_queue.TheConstants.{QUEUE_RO
 use crate::call_queue::{CallPass, ServerName};
 use crate::queue_log::QueueLog;
 use crate::tally::Tally;
-use consistency_server::{Answer, Call, CallKind, Log, Ordered, Verification};
+use consistency_server::{Answer, Call, Log, Ordered, Verification};
 use layout::User;
 use lms_sign::PublicKey;
 use std::alloc::Allocator;
@@ -49,33 +49,32 @@ pub(crate) fn is_carried_out(status: Status) -> bool
     !matches!(status, Status::Busy | Status::Memory)
 }
 
-/// Carries out a call of either kind, over a log that was pushed what the history leaves in it. `known` is what was
+/// Carries out a call, over a log that was pushed what the history leaves in it. `known` is what was
 /// verified of its signature before.
 fn carry_out<A: Allocator + Copy, G: Log<Call<A>>>(
     ordered: &mut Ordered<A>,
     log: &mut G,
-    kind: CallKind,
-    text: &[u8],
+    call: Call<A>,
     known: Option<&Verification<'_>>,
 ) -> Answer<A>
     requires { G.pushed log.old ≡ log_of ordered.old.pinned ordered.old.history }
     ensures answer { is_carried_out result.status ≡ true
-        → result ≡ answer_of ordered.old.pinned ordered.old.history (call_of kind text.now) }
+        → result ≡ answer_of ordered.old.pinned ordered.old.history call }
     ensures history { is_carried_out result.status ≡ true
-        → ordered.new ≡ record ordered.old { history = call_of kind text.now ∷ ordered.old.history } }
+        → ordered.new ≡ record ordered.old { history = call ∷ ordered.old.history } }
     ensures same { is_carried_out result.status ≡ false → ordered.new ≡ ordered.old }
     ensures bare { is_carried_out result.status ≡ false → result.payload ≡ [] }
     ensures log { G.pushed log.new ≡ log_of ordered.new.pinned ordered.new.history }
     ensures busy { result.status ≡ status.Busy → IsTrue (G.may_be_full log.old) }
 {
-    ordered.answer(log, kind, text, known)
+    ordered.answer_call(log, call, known)
 }
 
 /// How many calls the history has.
 fn call_count<A: Allocator + Copy>(ordered: &Ordered<A>) -> usize
     ensures { result ≡ length ordered.now.history }
 {
-    ordered.history().len()
+    ordered.call_count()
 }
 
 impl<'a, A: Allocator + Copy, B: ServerName, L: Ledger, R: Wait> Locked<'a, A, B, L, R> {
@@ -102,15 +101,14 @@ impl<'a, A: Allocator + Copy, B: ServerName, L: Ledger, R: Wait> Locked<'a, A, B
     pub(crate) fn call(
         &mut self,
         mine: &mut Tally<L>,
-        kind: CallKind,
-        text: &[u8],
+        call: Call<A>,
         known: Option<&Verification<'_>>,
     ) -> Answer<A>
         requires { 0 < mine.old.share.parts }
         ensures answer { is_carried_out result.status ≡ true
-            → result ≡ answer_of B.pinned self.old.history (call_of kind text.now) }
+            → result ≡ answer_of B.pinned self.old.history call }
         ensures history { is_carried_out result.status ≡ true
-            → self.new ≡ record self.old { history = call_of kind text.now ∷ self.old.history } }
+            → self.new ≡ record self.old { history = call ∷ self.old.history } }
         ensures same { is_carried_out result.status ≡ false → self.new ≡ self.old }
         ensures bare { is_carried_out result.status ≡ false → result.payload ≡ [] }
         ensures busy { result.status ≡ status.Busy
@@ -120,7 +118,7 @@ impl<'a, A: Allocator + Copy, B: ServerName, L: Ledger, R: Wait> Locked<'a, A, B
     {
         let Locked { ordered, log, book } = self;
         let Tally { answered, share } = mine;
-        let answer = carry_out(ordered, log, kind, text, known);
+        let answer = carry_out(ordered, log, call, known);
         if is_carried_out(answer.status()) {
             book.add(share, 1);
             book.audit(share);

@@ -1,25 +1,18 @@
 //! The places of connections that are served at the same time, and the workers at them.
 
-ghost use Rattle.std.specs.Prelude.{◌≡◌, ◌+◌, ◌<◌, length, IfOk, IfSome, vec_len, vec_capacity};
+ghost use Rattle.std.specs.Prelude.{◌≡◌, ◌<◌, ◌≤◌, length, IfOk, IfSome, vec_len, vec_capacity};
 
-use crate::call_queue::ServerName;
-use crate::shared::Shared;
-use crate::tally::{Tally, WorkerTally};
+use crate::tally::WorkerTally;
 use layout::Memory;
 use std::alloc::Allocator;
-use std::sync::Wait;
 use std::sync::atomic::{AtomicBool, Ordering};
 use std::sync::ledger::Ledger;
-use std::thread;
-use std::thread::{JoinHandle, Threads};
-use std::time::{Clock, Duration};
-
-/// How long is rested between one look for a worker that has ended and the next, in milliseconds.
-const REST: u64 = 1;
+use std::thread::JoinHandle;
 
 /// A place for one connection at a time.
 #[derive(Drop)]
 pub(crate) struct Place {
+    taken: AtomicBool,
     unread: AtomicBool,
     ended: AtomicBool,
 }
@@ -32,6 +25,7 @@ impl Place {
 
     /// A connection comes to it.
     pub(crate) fn take(&self) {
+        self.taken.store(true, Ordering::SeqCst);
         self.unread.store(false, Ordering::SeqCst);
         self.ended.store(false, Ordering::SeqCst);
     }
@@ -39,6 +33,11 @@ impl Place {
     /// The connection at it is to be dropped unread.
     pub(crate) fn leave_unread(&self) {
         self.unread.store(true, Ordering::SeqCst);
+    }
+
+    /// Another connection may come to it.
+    pub(crate) fn free(&self) {
+        self.taken.store(false, Ordering::SeqCst);
     }
 
     /// The worker at it has nothing to do any more.
@@ -55,12 +54,13 @@ pub(crate) struct Running<L: Ledger> {
 }
 
 /// So many places.
-pub(crate) fn free_places<A: Allocator>(alloc: A, count: usize) -> Result<Vec<Place, A>, Memory>
+fn free_places<A: Allocator>(alloc: A, count: usize) -> Result<Vec<Place, A>, Memory>
     ensures { IfOk result (λ v. vec_len v ≡ count) }
 {
     let mut all = Vec::new(alloc);
     for _i in 0..count {
         all.push(Place {
+            taken: AtomicBool::new(false),
             unread: AtomicBool::new(false),
             ended: AtomicBool::new(false),
         })?;
@@ -68,8 +68,30 @@ pub(crate) fn free_places<A: Allocator>(alloc: A, count: usize) -> Result<Vec<Pl
     Ok(all)
 }
 
+/// So many places, and room for a worker at each.
+pub(crate) fn empty_places<A: Allocator + Copy, L: Ledger>(
+    alloc: A,
+    count: usize,
+) -> Result<(Vec<Place, A>, Vec<Running<L>, A>), Memory>
+    ensures places { IfOk result (λ room. vec_len room.0 ≡ count) }
+    ensures running { IfOk result (λ room. (vec_len room.1 ≡ 0) × (count ≤ vec_capacity room.1)) }
+{
+    let running = Vec::with_capacity(alloc, count)?;
+    let places = free_places(alloc, count)?;
+    Ok((places, running))
+}
+
+/// The first place to which a connection may come.
+pub(crate) fn first_free(places: &[Place]) -> Option<usize>
+    ensures { IfSome result (λ k. k < length places.now) }
+{
+    places
+        .iter()
+        .position(|place| !place.taken.load(Ordering::SeqCst))
+}
+
 /// The first worker that has nothing to do any more.
-fn first_ended<L: Ledger>(places: &[Place], running: &[Running<L>]) -> Option<usize>
+pub(crate) fn first_ended<L: Ledger>(places: &[Place], running: &[Running<L>]) -> Option<usize>
     ensures { IfSome result (λ k. k < length running.now) }
 {
     for k in 0..running.len() {
@@ -81,33 +103,4 @@ fn first_ended<L: Ledger>(places: &[Place], running: &[Running<L>]) -> Option<us
         }
     }
     None
-}
-
-/// Waits until some worker has ended, and puts its tally to the others: the number of its place.
-pub(crate) fn free_place<
-    A: Allocator + Copy + Send + Sync,
-    B: ServerName + Send + Sync,
-    L: Ledger + Send + Sync,
-    R: Threads + Wait + Clock + Sync,
->(
-    rt: &R,
-    places: &[Place],
-    shared: &Shared<'_, A, B, L, R>,
-    all: &mut Tally<L>,
-    running: &mut Vec<Running<L>, A>,
-) -> usize
-    ensures parts { all.new.share.parts ≡ all.old.share.parts + 1 }
-    ensures fewer { vec_len running.new + 1 ≡ vec_len running.old }
-    ensures room { vec_capacity running.new ≡ vec_capacity running.old }
-{
-    for _ in rt.forever() {
-        if let Some(k) = first_ended(places, running.as_slice()) {
-            let Running { worker, place } = running.swap_remove(k);
-            let one = worker.join(rt).tally();
-            shared.locked.lock(rt).collect(all, one);
-            return place;
-        }
-        thread::sleep(rt, Duration::from_millis(REST));
-    }
-    unreachable!()
 }

@@ -16,7 +16,7 @@ use crate::queue_log::QueueLog;
 use crate::reply::ReplyBody;
 use crate::tally::Tally;
 use block_store::{Store, StoreError};
-use consistency_server::{CallKind, Ordered, Verification, signer_of};
+use consistency_server::{Call, CallKind, Ordered, Verification, signer_of};
 use layout::{Digest, User};
 use lms_sign::PublicKey;
 use std::alloc::Allocator;
@@ -25,8 +25,8 @@ use std::sync::ledger::{Blank, Ledger};
 use std::sync::{Mutex, Wait};
 use wire::{RequestKind, Status, request_of};
 
-/// The key of the user by whom the last call of a connection was signed. Under the lock it is compared with the key that
-/// is listed then.
+/// The key of the user by whom the last call of a connection was signed. Under the lock it is compared with the key
+/// that is listed then.
 #[derive(Clone, Copy)]
 pub(crate) struct SeenKey {
     user: User,
@@ -84,7 +84,7 @@ impl<'a, A: Allocator + Copy, B: ServerName, L: Ledger, R: Wait> Shared<'a, A, B
         tally: &mut Tally<L>,
         seen: &mut Option<SeenKey>,
         body: &[u8],
-    ) -> ReplyBody<A>
+    ) -> ReplyBody<'_, A>
         requires { 0 < tally.old.share.parts }
         ensures replies { RepliesToBody B.pinned (request_of body.now) result }
         ensures counted { tally.new.answered ≡ tally.old.answered + count_in (request_of body.now) result.status }
@@ -96,13 +96,13 @@ impl<'a, A: Allocator + Copy, B: ServerName, L: Ledger, R: Wait> Shared<'a, A, B
         match kind {
             RequestKind::Update => self.call(rt, gate, tally, seen, CallKind::Update, payload),
             RequestKind::Commit => self.call(rt, gate, tally, seen, CallKind::Commit, payload),
-            RequestKind::Put => self.put(rt, payload),
+            RequestKind::Put => self.put(rt, gate, payload),
             RequestKind::Get => self.get(rt, payload),
         }
     }
 
-    /// Carries out a call under the lock, which is let go before anything is done with the answer. Its signature is
-    /// verified before.
+    /// Carries out a call under the lock, which is let go before anything is done with the answer. Before, its
+    /// signature is verified, and its text copied for the log.
     fn call<G: Gate>(
         &self,
         rt: &R,
@@ -123,10 +123,11 @@ impl<'a, A: Allocator + Copy, B: ServerName, L: Ledger, R: Wait> Shared<'a, A, B
                 .wrapping_add(1),
         );
         let verified = self.verification(rt, seen, kind, text);
-        let answer = self
-            .locked
-            .lock(rt)
-            .call(tally, kind, text, verified.as_ref());
+        let Ok(copy) = Vec::from_slice(self.alloc, text) else {
+            return ReplyBody::bare(self.alloc, Status::Memory);
+        };
+        let call = Call::new(kind, copy);
+        let answer = self.locked.lock(rt).call(tally, call, verified.as_ref());
         ReplyBody::of(answer)
     }
 
@@ -159,8 +160,8 @@ impl<'a, A: Allocator + Copy, B: ServerName, L: Ledger, R: Wait> Shared<'a, A, B
         Some(key)
     }
 
-    /// Stores a block.
-    fn put(&self, rt: &R, block: &[u8]) -> ReplyBody<A>
+    /// Stores a block. Where the blocks have no room left, that is told as want of memory.
+    fn put<G: Gate>(&self, rt: &R, gate: &G, block: &[u8]) -> ReplyBody<A>
         ensures { RepliesToPut block.now result }
     {
         match self.store.put(rt, block) {
@@ -169,12 +170,16 @@ impl<'a, A: Allocator + Copy, B: ServerName, L: Ledger, R: Wait> Shared<'a, A, B
                 Err(_) => ReplyBody::bare(self.alloc, Status::Memory),
             },
             Err(StoreError::TooLarge) => ReplyBody::bare(self.alloc, Status::TooLarge),
+            Err(StoreError::Full) => {
+                gate.block_refused();
+                ReplyBody::bare(self.alloc, Status::Memory)
+            }
             Err(StoreError::Memory) => ReplyBody::bare(self.alloc, Status::Memory),
         }
     }
 
-    /// Finds the block of a digest. It is read and copied without a lock.
-    fn get(&self, rt: &R, digest: &[u8]) -> ReplyBody<A>
+    /// Finds the block of a digest. It is read without a lock, and isn't copied.
+    fn get(&self, rt: &R, digest: &[u8]) -> ReplyBody<'_, A>
         ensures { RepliesToGet digest.now result }
     {
         let Ok(digest) = <[u8; 32]>::try_from(digest) else {
@@ -183,9 +188,6 @@ impl<'a, A: Allocator + Copy, B: ServerName, L: Ledger, R: Wait> Shared<'a, A, B
         let Some(pass) = self.store.find(rt, Digest::from_bytes(digest)) else {
             return ReplyBody::bare(self.alloc, Status::Absent);
         };
-        match Vec::from_slice(self.alloc, self.store.get_by_pass(&pass)) {
-            Ok(block) => ReplyBody::ok(block),
-            Err(_) => ReplyBody::bare(self.alloc, Status::Memory),
-        }
+        ReplyBody::stored(self.store.get_by_pass(&pass))
     }
 }

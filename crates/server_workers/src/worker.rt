@@ -2,7 +2,7 @@
 
 ghost use Rattle.std.specs.Prelude.{◌≡◌, ◌≢◌, ◌⊎◌, ◌+◌, ◌<◌, ◌++◌, ◌∷◌, [], List, ℕ, OnOk, IfErr, OnErr, Err, true};
 ghost use Rattle.std.specs.Prelude.{length};
-ghost use Rattle.leaf_ledger.specs.Device.{HasRisen};
+ghost use Rattle.leaf_ledger.specs.Device.{HasRisen, HasCause};
 ghost use Rattle.wire.specs.Frame.{frame, reply_body};
 ghost use Rattle.server_workers.specs.declared.ended.Ended.TheVariants as ended;
 ghost use Rattle.connection.specs.Told.{goes_on};
@@ -25,6 +25,9 @@ use wire::{FrameError, Frames};
 /// How many bytes a worker reads at a time.
 const READ_SIZE: usize = 16_384;
 
+/// A reply whose payload has more bytes is written in two parts, of which no copy is made.
+const SHORT_PAYLOAD: usize = 16_384;
+
 impl From<Memory> for Ended {
     ghost from_gives = { λ _ e. e ≡ ended.Memory };
 
@@ -41,11 +44,11 @@ impl From<ConnectionFault> for Ended {
     }
 }
 
-/// Writes the frame of a reply.
-fn answer<A: Allocator, C: Connection>(
+/// Writes the frame of a reply at once.
+fn write_whole<A: Allocator, C: Connection>(
     alloc: A,
     connection: &mut C,
-    reply: &ReplyBody<A>,
+    reply: &ReplyBody<'_, A>,
 ) -> Result<(), Ended>
     ensures ok { OnOk result (C.told connection.new
         ≡ goes_on [] (frame.spell (reply_body reply.now.status reply.now.payload)) (C.told connection.old)) }
@@ -57,6 +60,43 @@ fn answer<A: Allocator, C: Connection>(
 {
     let bytes = reply.frame(alloc)?;
     connection.write(&bytes)?;
+    Ok(())
+}
+
+/// Writes the head of a reply's frame, and then its payload from where it lies.
+fn write_parts<A: Allocator, C: Connection>(
+    connection: &mut C,
+    reply: &ReplyBody<'_, A>,
+) -> Result<(), ConnectionFault>
+    ensures ok { OnOk result (C.told connection.new
+        ≡ goes_on [] (frame.spell (reply_body reply.now.status reply.now.payload)) (C.told connection.old)) }
+    ensures err { IfErr result (λ _. (part rest : List ℕ)
+        × (C.told connection.new ≡ goes_on [] part (C.told connection.old))
+        × (frame.spell (reply_body reply.now.status reply.now.payload) ≡ part ++ rest)) }
+    ensures cause { HasCause (C.fault_count connection.old) (C.fault_count connection.new) result }
+{
+    connection.write(&reply.head())?;
+    connection.write(reply.payload())
+}
+
+/// Writes the frame of a reply.
+fn answer<A: Allocator, C: Connection>(
+    alloc: A,
+    connection: &mut C,
+    reply: &ReplyBody<'_, A>,
+) -> Result<(), Ended>
+    ensures ok { OnOk result (C.told connection.new
+        ≡ goes_on [] (frame.spell (reply_body reply.now.status reply.now.payload)) (C.told connection.old)) }
+    ensures err { IfErr result (λ _. (part rest : List ℕ)
+        × (C.told connection.new ≡ goes_on [] part (C.told connection.old))
+        × (frame.spell (reply_body reply.now.status reply.now.payload) ≡ part ++ rest)) }
+    ensures broken { IfErr result (λ e. (e ≡ ended.Fault) ⊎ (e ≡ ended.Memory)) }
+    ensures cause { IsCaused (C.fault_count connection.old) (C.fault_count connection.new) result }
+{
+    if reply.payload().len() <= SHORT_PAYLOAD {
+        return write_whole(alloc, connection, reply);
+    }
+    write_parts(connection, reply)?;
     Ok(())
 }
 

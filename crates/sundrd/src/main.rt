@@ -6,7 +6,7 @@ use clap::error::ErrorKind;
 use clap::{Arg, ArgAction, ArgMatches, Command, value_parser};
 use layout::{Memory, beside, let_go};
 use lms_sign::{KEY_SIZE, PublicKey};
-use server_workers::{Accepted, Limits, OpenGate, Watch, serve_within};
+use server_workers::{Accepted, Gate, Limits, Served, Watch, serve_within};
 use std::alloc::{AllocError, Global};
 use std::env;
 use std::fs::{self, File, OpenOptions, TryLockError};
@@ -16,6 +16,7 @@ use std::os::unix::fs::MetadataExt;
 use std::process::ExitCode;
 use std::rt::{Files, Runtime};
 use std::sync::Wait;
+use std::sync::atomic::{AtomicBool, Ordering};
 use std::thread::Threads;
 use std::time::Clock;
 use thiserror::Error;
@@ -25,6 +26,9 @@ const WORDS: u8 = 5;
 
 /// The most connections that can be served at once: each has a thread, and a place.
 const AT_ONCE_MOST: u32 = 4096;
+
+/// How many bytes the stored blocks may take, unless it is said otherwise: 4 GiB.
+const ROOM: &str = "4294967296";
 
 /// What is printed where memory runs out while the words are read.
 const MEMORY: &str = "memory";
@@ -109,12 +113,23 @@ fn limits<'a>(alloc: Global, command: Command<'a>) -> Result<Command<'a>, AllocE
         .arg(number(alloc, "idle", "SECONDS", "600", u32::MAX, idle))
 }
 
+/// The option on blocks.
+fn room<'a>(alloc: Global, command: Command<'a>) -> Result<Command<'a>, AllocError> {
+    let room =
+        "How much room the stored blocks have; each takes its bytes and 256 more. Further ones are answered 9";
+    let option = option(alloc, "room", "BYTES", room)
+        .required(false)
+        .default_value(ROOM)
+        .value_parser(value_parser!(u64));
+    command.arg(option)
+}
+
 /// The words that the program takes.
 fn command<'a>(alloc: Global) -> Result<Command<'a>, AllocError> {
     let command = Command::new(alloc, "sundrd")
         .about("Serves the clients of a file system that needn't trust it")
         .after_help(RESTART);
-    limits(alloc, locations(alloc, command)?)
+    room(alloc, limits(alloc, locations(alloc, command)?)?)
 }
 
 /// The words that it was given.
@@ -221,16 +236,44 @@ impl<'a, R: Eprint> Watch for Telling<'a, R> {
         let rt = self.rt;
         let _ = eprintln!(rt; "sundrd: connections come again");
     }
+
+    fn ends(&self, fault: &io::Error) {
+        let rt = self.rt;
+        let _ = eprintln!(rt;
+            "sundrd: no further connection comes, those that are open are served: {fault}"
+        );
+    }
+}
+
+/// Who holds no call up, and tells on standard error once that blocks have no room left.
+#[derive(Drop)]
+struct Entrance<'a, R> {
+    rt: &'a R,
+    told: AtomicBool,
+}
+
+impl<'a, R: Eprint> Gate for Entrance<'a, R> {
+    fn pass(&self, _call: u64) {}
+
+    fn block_refused(&self) {
+        if !self.told.swap(true, Ordering::SeqCst) {
+            let rt = self.rt;
+            let _ = eprintln!(rt;
+                "sundrd: the stored blocks have no room left: further ones are refused"
+            );
+        }
+    }
 }
 
 /// What a server begins with: its listener, how many connections it serves, how many at once, for how many seconds one
-/// may say nothing, user 0's key, and the file of its log.
+/// may say nothing, how many bytes blocks may take, user 0's key, and the file of its log.
 #[derive(Drop)]
 struct Begun {
     listener: TcpListener,
     most: u32,
     at_once: u32,
     idle: u32,
+    room: u64,
     pinned: PublicKey,
     log: File,
 }
@@ -242,6 +285,7 @@ fn begin<
     let most = matches.get_one::<u32>("connections").unwrap_or(0);
     let at_once = matches.get_one::<u32>("at-once").unwrap_or(1);
     let idle = matches.get_one::<u32>("idle").unwrap_or(1);
+    let room = matches.get_one::<u64>("room").unwrap_or(0);
     let pinned = read_key(rt, matches.get_str("super").unwrap_or(""))?;
     // The log is made only once the port is ours.
     let address = matches.get_str("listen").unwrap_or("");
@@ -253,6 +297,7 @@ fn begin<
         most,
         at_once,
         idle,
+        room,
         pinned,
         log,
     })
@@ -267,6 +312,38 @@ fn tell_unserved<R: Eprint>(rt: &R, unserved: usize) {
     }
 }
 
+/// Serves these connections. Where memory runs out before the first one is taken, they are closed.
+fn serve_these<'a, R: AllocGlobal + Eprint + Clock + Threads + Wait + Sync>(
+    rt: &'a R,
+    connections: Accepted<'a, R, Telling<'a, R>>,
+    limits: Limits,
+    store: &Store<Global>,
+    pinned: PublicKey,
+    log: File,
+) -> Result<Served<File>, Memory> {
+    let alloc = rt.alloc();
+    let entrance = Entrance {
+        rt,
+        told: AtomicBool::new(false),
+    };
+    match serve_within(
+        rt,
+        alloc,
+        &entrance,
+        connections,
+        limits,
+        store,
+        pinned,
+        log,
+    ) {
+        Ok(served) => Ok(served),
+        Err(unbegun) => {
+            let_go(unbegun);
+            Err(Memory)
+        }
+    }
+}
+
 /// Serves the connections that come, up to a fault after which the listener can't listen, which is put there: whether
 /// the log was written to its end.
 fn serve_all<R: AllocGlobal + Eprint + Clock + Threads + Wait + Sync>(
@@ -275,12 +352,14 @@ fn serve_all<R: AllocGlobal + Eprint + Clock + Threads + Wait + Sync>(
     fault: &mut Option<io::Error>,
 ) -> Result<bool, Memory> {
     let alloc = rt.alloc();
-    let (begun, store) = beside(begun, Store::new(alloc))?;
+    let room = begun.room;
+    let (begun, store) = beside(begun, Store::with_room(alloc, room))?;
     let Begun {
         listener,
         most,
         at_once,
         idle,
+        room: _,
         pinned,
         log,
     } = begun;
@@ -289,16 +368,7 @@ fn serve_all<R: AllocGlobal + Eprint + Clock + Threads + Wait + Sync>(
         idle as u64,
         Telling { rt },
     );
-    let served = serve_within(
-        rt,
-        alloc,
-        &OpenGate,
-        connections,
-        limits,
-        &store,
-        pinned,
-        log,
-    )?;
+    let served = serve_these(rt, connections, limits, &store, pinned, log)?;
     let (flushed, unserved) = (served.flushed, served.unserved);
     let_go(served);
     tell_unserved(rt, unserved);

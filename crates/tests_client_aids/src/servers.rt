@@ -41,7 +41,7 @@ pub fn answers_update_so(
     if found != status {
         rt.fail(format_args!("{found:?} and not {status:?}: {text:?}"));
     }
-    answer.into_payload()
+    given(rt, Vec::from_slice(rt.alloc(), answer.payload()), "memory")
 }
 
 /// The server answers this status and payload to the certificate.
@@ -63,5 +63,5 @@ pub fn answers_commit(rt: &impl Aided, server: &mut Server, text: &[u8], status:
     if found != status {
         rt.fail(format_args!("{found:?} and not {status:?}: {text:?}"));
     }
-    check(rt, answer.into_payload().is_empty(), "no payload");
+    check(rt, answer.payload().is_empty(), "no payload");
 }

@@ -167,7 +167,7 @@ fn serve_one<R: Alloc<A = Global> + Abort + Clock + Threads + Wait + Sync>(
     let mut fault = None;
     let connections = Accepted::new(rt, listener, 1, &mut fault);
     let served = serve(rt, alloc, &OpenGate, connections, 1, &store, pinned, log);
-    let served = served.expect(rt, "memory");
+    let served = served.ok().expect(rt, "memory");
     let answered = served.answered;
     let_go(served);
     let_go(store);

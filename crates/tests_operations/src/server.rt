@@ -232,7 +232,7 @@ impl Run {
     }
 }
 
-/// Four certificates are placed and three structures committed, and each call is kept, the last one last.
+/// Four certificates are placed and three structures committed, which stand in the log, and each call is counted.
 #[test]
 fn each_call_of_a_long_history(rt: HostRuntime) {
     let rt = (rt, Here);
@@ -250,9 +250,9 @@ fn each_call_of_a_long_history(rt: HostRuntime) {
         run.answers_each(&rt, calls);
     }
     check(&rt, run.server.events() == 7, "seven events");
-    let history = run.server.ordered.history();
-    check(&rt, history.len() == 42, "forty-two calls");
-    let call = history.last().expect(&rt, "a call");
+    let calls = run.server.ordered.call_count();
+    check(&rt, calls == 42, "forty-two calls");
+    let call = run.server.log.calls().last().expect(&rt, "a call");
     check(&rt, call.kind() == CallKind::Update, "an update");
     check_text(&rt, call.text(), &run.placed);
     let_go(run);
@@ -285,7 +285,7 @@ fn is_full_after(rt: &impl Host, before: Calls, calls: Calls) {
     run.answers_each(rt, before);
     fill(rt, &mut run.server.log);
     run.answers_each(rt, calls);
-    check(rt, run.server.ordered.history().len() == 4, "not Busy");
+    check(rt, run.server.ordered.call_count() == 4, "not Busy");
     let_go(run);
 }
 

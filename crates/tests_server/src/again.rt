@@ -86,7 +86,7 @@ fn calls_that_come_again(rt: HostRuntime) {
     });
     assert_eq!(rt; served.answered, 5);
     assert!(rt; served.flushed, "flushed");
-    let log = served.writer.as_slice();
+    let log = served.log.as_slice();
     assert_eq!(rt; log.len(), 5155);
     assert!(rt; log.starts_with(b"\x01\0\0\x09\xf6SUC1"), "the certificate");
     let rest = &log[2555..];

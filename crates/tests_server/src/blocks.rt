@@ -31,6 +31,16 @@ fn gives<R: Wait>(rt: &R, store: &Store<Global>, digest: Digest, bytes: &[u8]) -
     }
 }
 
+/// Whether the block of this number has these bytes, as its pass has.
+fn has_at(store: &Store<Global>, number: usize, bytes: &[u8]) -> bool {
+    match store.get_at(number) {
+        Some((pass, block)) => {
+            block == bytes && pass.index() == number && store.get_by_pass(&pass) == bytes
+        }
+        None => false,
+    }
+}
+
 /// Whether the store has no block of this digest.
 fn lacks<R: Host>(rt: &R, store: &Store<Global>, digest: Digest) -> bool {
     store.find(rt, digest).is_none() && store.fetch(rt, digest).expect(rt, "memory").is_none()
@@ -48,10 +58,7 @@ fn the_empty_block_is_found(rt: HostRuntime) {
     assert!(rt; lacks(&rt, &store, empty), "before the put");
     assert!(rt; store.get_at(0).is_none(), "no first block");
     assert!(rt; takes(&rt, &store, empty, &[]), "put and got");
-    assert!(rt;
-        store.get_at(0).is_some_and(|block| block.is_empty()),
-        "the first block"
-    );
+    assert!(rt; has_at(&store, 0, &[]), "the first block");
     // Again: the block stays, beside others.
     assert!(rt; put(&rt, &store, &[]) == Ok(empty), "the digest again");
     assert!(rt;
@@ -166,6 +173,25 @@ fn fill<R: Wait>(rt: &R, store: &Store<Global>, from: u32, to: u32) -> u32 {
     found
 }
 
+/// Which of the blocks that `fill` puts has this number.
+fn block_at(store: &Store<Global>, number: usize) -> Option<usize> {
+    let pass = store.pass_at(number)?;
+    let bytes = <[u8; 4]>::try_from(store.get_by_pass(&pass)).ok()?;
+    Some(u32::from_be_bytes(bytes) as usize)
+}
+
+/// So many blocks have a number each, from 0 on, and no other number is a block's.
+fn are_numbered<R: Host>(rt: &R, store: &Store<Global>, count: usize) {
+    let mut found = Vec::from_elem(rt.alloc(), false, count).expect(rt, "memory");
+    for number in 0..count {
+        let block = block_at(store, number).expect(rt, "a block of this number");
+        let is_found = found.get_mut(block).expect(rt, "a block that was put");
+        assert!(rt; !*is_found, "block {block} has two numbers");
+        *is_found = true;
+    }
+    assert!(rt; store.pass_at(count).is_none(), "no further number");
+}
+
 #[test]
 fn two_threads_put_and_fetch(rt: HostRuntime) {
     let store = Store::new(rt.alloc()).expect(&rt, "memory");
@@ -180,6 +206,58 @@ fn two_threads_put_and_fetch(rt: HostRuntime) {
         let bytes = number.to_be_bytes();
         let digest = layout::digest(&bytes);
         assert!(rt; gives(&rt, &store, digest, &bytes), "block {number}");
+    }
+    are_numbered(&rt, &store, 3_000);
+}
+
+/// How much room a store has, and whether it takes blocks of 10, 1 and 0 bytes then, one after the other: a block takes
+/// its bytes and 256 more.
+type Taken = (u64, [bool; 3]);
+
+static ROOMS: [Taken; 10] = [
+    (0, [false, false, false]),
+    (255, [false, false, false]),
+    (256, [false, false, true]),
+    (257, [false, true, false]),
+    (265, [false, true, false]),
+    (266, [true, false, false]),
+    (522, [true, false, true]),
+    (523, [true, true, false]),
+    (778, [true, true, false]),
+    (779, [true, true, true]),
+];
+
+/// A block of so many bytes is taken, or there is no room for it, and nothing of it is left. One that was taken is
+/// taken again.
+fn is_taken<R: Host>(rt: &R, store: &Store<Global>, size: usize, wanted: bool) {
+    let bytes = block(rt, size, 7);
+    let digest = layout::digest(&bytes);
+    for _turn in 0..2 {
+        let answer = put(rt, store, &bytes);
+        if wanted {
+            assert!(rt;
+                answer == Ok(digest) && gives(rt, store, digest, &bytes),
+                "{size} bytes"
+            );
+        } else {
+            assert!(rt;
+                answer == Err(StoreError::Full) && lacks(rt, store, digest),
+                "{size} bytes"
+            );
+        }
+    }
+}
+
+#[test]
+fn blocks_have_so_much_room(rt: HostRuntime) {
+    for (room, wanted) in &ROOMS {
+        let store = Store::with_room(rt.alloc(), *room).expect(&rt, "memory");
+        let [ten, one, none] = wanted;
+        is_taken(&rt, &store, 10, *ten);
+        is_taken(&rt, &store, 1, *one);
+        is_taken(&rt, &store, 0, *none);
+        let count = usize::from(*ten) + usize::from(*one) + usize::from(*none);
+        assert!(rt; store.get_at(count).is_none(), "{count} with room {room}");
     }
 }
 
@@ -198,8 +276,8 @@ fn put_again<R: Host>(rt: &R, store: &Store<Global>) {
 fn a_block_has_one_number(rt: HostRuntime) {
     let store = Store::new(rt.alloc()).expect(&rt, "memory");
     put_again(&rt, &store);
-    assert!(rt; store.get_at(0) == Some(b"one".as_slice()), "the first");
-    assert!(rt; store.get_at(1) == Some(b"two".as_slice()), "the second");
+    assert!(rt; has_at(&store, 0, b"one"), "the first");
+    assert!(rt; has_at(&store, 1, b"two"), "the second");
     assert!(rt; store.get_at(2).is_none(), "no third");
     let pass = store.pass_at(1).expect(&rt, "a pass of the second");
     assert!(rt;
@@ -220,7 +298,7 @@ fn read_again(store: &Store<Global>, pass: &BlockPass<Global>, bytes: &[u8]) -> 
 {
     let mut read = 0u32;
     for _ in 0..READS {
-        if store.get_by_pass(pass) == bytes && store.get_at(pass.index()) == Some(bytes) {
+        if store.get_by_pass(pass) == bytes && has_at(store, pass.index(), bytes) {
             read = read.wrapping_add(1);
         }
     }
@@ -271,7 +349,7 @@ fn two_threads_read_while_a_third_puts(rt: HostRuntime) {
         read_beside(&rt, &store, &pass, bytes),
         ((READS, READS), OTHERS)
     );
-    assert!(rt; store.get_at(0) == Some(bytes.as_slice()), "the first");
+    assert!(rt; has_at(&store, 0, bytes), "the first");
     assert!(rt; store.get_at(1_000).is_some(), "the last");
     assert!(rt; store.get_at(1_001).is_none(), "no more");
 }

@@ -135,6 +135,6 @@ fn long_records_and_writers_that_fail(rt: HostRuntime) {
     assert!(rt; texts.iter().map(Vec::len).eq(sizes), "the texts");
     let (log, requests) = log_and_requests(&rt, &texts);
     assert!(rt; served.flushed, "flushed");
-    assert!(rt; served.writer == log, "the log");
+    assert!(rt; served.log == log, "the log");
     log_ends_at_the_fault(&rt, &requests, pinned, &log);
 }

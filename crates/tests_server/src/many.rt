@@ -118,7 +118,7 @@ fn are_taken<R: Host>(rt: &R, left: u32, limits: Limits, wanted: u32) {
     };
     let log = Vec::new(alloc);
     let served = serve_within(rt, alloc, &OpenGate, many, limits, &store, key(rt), log);
-    let served = served.expect(rt, "memory");
+    let served = served.ok().expect(rt, "memory");
     assert_eq!(rt; (served.answered, served.unserved), (u64::from(wanted), 0));
     let_go(served);
     let_go(store);

@@ -96,12 +96,11 @@ fn are_served<R: Host + Net<Listener = TcpListener, Stream = TcpStream>>(
         all_operate(rt, streams, superuser, all, count)
     });
     assert!(rt; served.flushed && served.unserved == 0, "served to the end");
-    let history = served.ordered.history().len();
     assert_eq!(rt;
-        (history, served.answered),
+        (served.calls, served.answered),
         (calls as usize, u64::from(calls))
     );
-    assert_eq!(rt; records(&served.writer), calls);
+    assert_eq!(rt; records(&served.log), calls);
 }
 
 #[test]

@@ -148,7 +148,7 @@ fn are_replied<R: Host>(
     let (served, taken) = offer(rt, input, piece, &mut outputs, most, key(rt), log);
     assert_eq!(rt; taken, wanted_taken);
     assert_eq!(rt; (served.answered, served.unserved), (calls, 0));
-    assert_eq!(rt; served.ordered.history().len() as u64, calls);
+    assert_eq!(rt; served.ordered.call_count() as u64, calls);
     assert!(rt;
         served.flushed && served.writer.is_empty(),
         "nothing was logged"

@@ -4,6 +4,7 @@ ghost use Rattle.std.specs.Iterator.{IsFinite};
 
 use block_store::Store;
 use connection::Connection;
+use layout::let_go;
 use lms_sign::PublicKey;
 use server_workers::{Accepted, Gate, Served, serve};
 use std::alloc::Global;
@@ -41,7 +42,17 @@ pub(crate) fn serve_all<
     let alloc = rt.alloc();
     let store = Store::new(alloc).expect(rt, "memory");
     let served = serve(rt, alloc, gate, connections, most, &store, pinned, writer);
-    served.expect(rt, "memory")
+    served.ok().expect(rt, "memory")
+}
+
+/// What is left of a server, but for the order of its calls, of which only the number is told.
+#[derive(Drop)]
+pub(crate) struct Left {
+    pub(crate) calls: usize,
+    pub(crate) answered: u64,
+    pub(crate) unserved: usize,
+    pub(crate) flushed: bool,
+    pub(crate) log: Vec<u8>,
 }
 
 /// Serves so many connections that a listener accepts: the log stands in memory.
@@ -51,12 +62,27 @@ fn serve_accepted<R: Host, G: Gate + Sync>(
     listener: &TcpListener,
     most: u32,
     pinned: PublicKey,
-) -> Served<Vec<u8>> {
+) -> Left {
     let mut fault = None;
     let connections = Accepted::new(rt, listener, most, &mut fault);
     let served = serve_all(rt, gate, connections, most, pinned, Vec::new(rt.alloc()));
     assert!(rt; fault.is_none(), "all were accepted");
-    served
+    let Served {
+        ordered,
+        answered,
+        unserved,
+        flushed,
+        writer,
+    } = served;
+    let calls = ordered.call_count();
+    let_go(ordered);
+    Left {
+        calls,
+        answered,
+        unserved,
+        flushed,
+        log: writer,
+    }
 }
 
 /// So many connections to this address.
@@ -80,7 +106,7 @@ pub(crate) fn serve_beside<
     G: Gate + Sync,
     T,
     F: FnOnce(Vec<TcpStream>) -> T,
->(rt: &R, gate: &G, most: u32, pinned: PublicKey, clients: F) -> (Served<Vec<u8>>, T)
+>(rt: &R, gate: &G, most: u32, pinned: PublicKey, clients: F) -> (Left, T)
     requires { F.IsAlwaysCallable clients }
 {
     let listener = TcpListener::bind(rt, "127.0.0.1:0").expect(rt, "a port");

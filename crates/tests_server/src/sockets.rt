@@ -11,16 +11,23 @@ use std::process::Abort;
 use std::sync::atomic::{AtomicU32, Ordering};
 use std::time::{Clock, Duration, Instant};
 
-/// A clock that makes a client knock where it should rest, and tells no time.
+/// A clock that makes a client knock where it should rest. So many milliseconds go by on it whenever it is read, or it
+/// tells no time.
 #[derive(Drop)]
 struct Knocking<'a, R: Net> {
     rt: &'a R,
     address: SocketAddr,
+    stride: Option<u64>,
+    reads: AtomicU32,
 }
 
 impl<'a, R: Net> Clock for Knocking<'a, R> {
     fn monotonic(&self) -> io::Result<Duration> {
-        Err(ErrorKind::Unsupported.into())
+        let reads = self.reads.fetch_add(1, Ordering::SeqCst);
+        match self.stride {
+            Some(stride) => Ok(Duration::from_millis(u64::from(reads).wrapping_mul(stride))),
+            None => Err(ErrorKind::Unsupported.into()),
+        }
     }
 
     fn since_1970(&self) -> io::Result<Duration> {
@@ -40,71 +47,121 @@ fn knock<R: Abort + Net<Listener = TcpListener, Stream = TcpStream>>(
     TcpStream::connect(rt, address).expect(rt, "a connection")
 }
 
-/// How often somebody was told that faults begin, and that they ended.
+/// How often somebody was told that faults begin, that they ended, and that the listener can't listen.
+#[derive(Drop)]
+struct Told {
+    begun: AtomicU32,
+    ended: AtomicU32,
+    last: AtomicU32,
+}
+
+impl Told {
+    fn new() -> Told {
+        Told {
+            begun: AtomicU32::new(0),
+            ended: AtomicU32::new(0),
+            last: AtomicU32::new(0),
+        }
+    }
+
+    fn counts(&self) -> (u32, u32, u32) {
+        (
+            self.begun.load(Ordering::SeqCst),
+            self.ended.load(Ordering::SeqCst),
+            self.last.load(Ordering::SeqCst),
+        )
+    }
+}
+
 #[derive(Drop)]
 struct Counting<'a> {
-    begun: &'a AtomicU32,
-    ended: &'a AtomicU32,
+    told: &'a Told,
 }
 
 impl<'a> Watch for Counting<'a> {
     fn faults_begin(&self, _fault: &io::Error) {
-        self.begun.fetch_add(1, Ordering::SeqCst);
+        self.told.begun.fetch_add(1, Ordering::SeqCst);
     }
 
     fn faults_end(&self) {
-        self.ended.fetch_add(1, Ordering::SeqCst);
+        self.told.ended.fetch_add(1, Ordering::SeqCst);
+    }
+
+    fn ends(&self, _fault: &io::Error) {
+        self.told.last.fetch_add(1, Ordering::SeqCst);
     }
 }
 
-/// A listener that fails while nobody knocks, since it doesn't wait, accepts as many connections as it may: each client
-/// knocks whenever the clock should rest upon the fault, of which is told once it begins and once it ends. Who knocks
-/// later isn't accepted.
-fn waits_out<R: Abort + Net<Listener = TcpListener, Stream = TcpStream>>(rt: &R, most: u32) {
+/// A listener that fails while nobody knocks, since it doesn't wait, accepts as many connections as it may and one more:
+/// each client but the last one knocks whenever the clock should rest upon the fault. That faults begin is told once,
+/// and that they ended once one is accepted that waited: but not where the clock tells that less than ten seconds have
+/// gone by since the last of them. Who knocks later isn't accepted.
+fn waits_out<R: Abort + Net<Listener = TcpListener, Stream = TcpStream>>(
+    rt: &R,
+    (many, stride, wanted): (u32, Option<u64>, (u32, u32, u32)),
+) {
     let listener = TcpListener::bind(rt, "127.0.0.1:0").expect(rt, "a port");
     listener.set_nonblocking(true).expect(rt, "it doesn't wait");
     let address = listener.local_addr().expect(rt, "its address");
-    let clock = Knocking { rt, address };
-    let (begun, ended) = (AtomicU32::new(0), AtomicU32::new(0));
-    let counting = Counting {
-        begun: &begun,
-        ended: &ended,
+    let clock = Knocking {
+        rt,
+        address,
+        stride,
+        reads: AtomicU32::new(0),
     };
+    let told = Told::new();
     let mut fault = None;
+    let most = many.saturating_add(1);
+    let counting = Counting { told: &told };
     let mut accepted = Accepted::new(&clock, &listener, most, &mut fault).watched(9, counting);
-    for turn in 0..most {
-        assert!(rt; accepted.next().is_some(), "{turn} of {most}");
+    for turn in 0..many {
+        assert!(rt; accepted.next().is_some(), "{turn} of {many}");
     }
+    let _waits = knock(rt, address);
+    assert!(rt; accepted.next().is_some(), "who waits, after {many}");
     let _late = knock(rt, address);
-    assert!(rt; accepted.next().is_none(), "late, of {most}");
-    assert!(rt; accepted.next().is_none(), "late again, of {most}");
+    assert!(rt; accepted.next().is_none(), "late, after {many}");
+    assert!(rt; accepted.next().is_none(), "late again, after {many}");
     let_go(accepted);
     assert!(rt; listener.accept().is_ok(), "who came too late still waits");
-    assert!(rt; fault.is_none(), "a fault ended them, of {most}");
-    assert_eq!(rt; begun.load(Ordering::SeqCst), most);
-    assert_eq!(rt; ended.load(Ordering::SeqCst), most);
+    assert!(rt; fault.is_none(), "a fault ended them, after {many}");
+    assert_eq!(rt; told.counts(), wanted);
 }
+
+/// How many connections are waited for, what the clock tells, and how often faults begin and end.
+const WAITS: [(u32, Option<u64>, (u32, u32, u32)); 7] = [
+    (0, None, (0, 0, 0)),
+    (1, None, (1, 1, 0)),
+    (3, None, (1, 1, 0)),
+    (0, Some(10_000), (0, 0, 0)),
+    (1, Some(9_999), (1, 0, 0)),
+    (1, Some(10_000), (1, 1, 0)),
+    (3, Some(5_000), (1, 0, 0)),
+];
 
 #[test]
 fn a_fault_that_passes_is_waited_out(rt: HostRuntime) {
-    for most in 0..=3u32 {
-        waits_out(&rt, most);
+    for row in WAITS {
+        waits_out(&rt, row);
     }
 }
 
-/// A stream is no listener.
+/// A stream is no listener: that is told at once.
 #[test]
 fn a_listener_that_cannot_listen_ends_them(rt: HostRuntime) {
     let listener = TcpListener::bind(&rt, "127.0.0.1:0").expect(&rt, "a port");
     let address = listener.local_addr().expect(&rt, "its address");
     let stream = knock(&rt, address);
     let deaf = TcpListener::from(OwnedFd::from(stream));
+    let told = Told::new();
     let mut fault = None;
-    let mut accepted = Accepted::new(&rt, &deaf, 2, &mut fault);
+    let counting = Counting { told: &told };
+    let mut accepted = Accepted::new(&rt, &deaf, 2, &mut fault).watched(9, counting);
     assert!(rt; accepted.next().is_none(), "a connection");
     assert!(rt; accepted.next().is_none(), "another one");
     let_go(accepted);
     assert!(rt; fault.is_some(), "the fault is told");
+    assert_eq!(rt; told.counts(), (0, 0, 1));
 }
 
 /// What the client writes is read.

@@ -44,10 +44,7 @@ fn is_verified_again<R: Host>(
         wanted.status() == status,
         "the status where nothing is known"
     );
-    assert!(rt;
-        found.into_payload() == wanted.into_payload(),
-        "the replies"
-    );
+    assert!(rt; found.payload() == wanted.payload(), "the replies");
 }
 
 /// User 0's first certificate, without changes.

@@ -78,13 +78,11 @@ impl Honest {
         match request.kind() {
             RequestKind::Update => {
                 let answer = self.ordered.update(&mut self.log, text);
-                let status = answer.status();
-                body(self.alloc, status, &answer.into_payload())
+                body(self.alloc, answer.status(), answer.payload())
             }
             RequestKind::Commit => {
                 let answer = self.ordered.commit(&mut self.log, text);
-                let status = answer.status();
-                body(self.alloc, status, &answer.into_payload())
+                body(self.alloc, answer.status(), answer.payload())
             }
             RequestKind::Put => self.put(text),
             RequestKind::Get => self.get(text),

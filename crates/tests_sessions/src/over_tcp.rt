@@ -101,7 +101,7 @@ fn serves<R: Alloc<A = Global> + Abort + Clock + Threads + Wait + Sync>(
         pinned,
         log,
     );
-    let served = served.expect(rt, "memory");
+    let served = served.ok().expect(rt, "memory");
     let flushed = served.flushed;
     let_go(served);
     let_go(store);

@@ -8,6 +8,7 @@ use Rattle.pending_list.specs.ReplyLaws.{size_of}
 use Rattle.pending_list.proofs.Rows.{answer_fits}
 use Rattle.consistency_server.specs.State.{Placement}
 use Rattle.consistency_server.proofs.ReplyRows.{lists, reply_written}
+use Rattle.consistency_server.proofs.Texts.{with_ok}
 use Rattle.consistency_server.proofs.reply_text.reply_text.Goals as goal
 
 abbrev item : Placement → PendingItem
@@ -27,6 +28,6 @@ pub returns : goal.returns
 returns g c =
     let others : List PendingItem = map item c.args.pending.now in
     let many : length others ≡ length c.args.pending.now = length-map c.args.pending.now item in
-    c.from_vec.ensures
-    ∙ reply_written c.args.structures.now others c.args.own.now c.new-writer.result c.tag.new.self c.u8.new.self c.write_structures.new.writer c.u8-2.new.self c.write_pending.new.writer c.write_row.new.writer c.finish.result.items (length c.args.pending.now + 1)
-    c.new-writer.ensures c.in_ok-tag.ensures.ok c.in_ok-u8.ensures.ok c.in_ok-write_structures.ensures.rows (ap (λ k. k + 1) (sym many)) c.in_ok-u8-2.ensures.ok c.in_ok-write_pending.ensures.rows c.in_ok-write_row.ensures.ok c.finish.ensures
+    let written = reply_written c.args.structures.now others c.args.own.now c.new-writer.result c.tag.new.self c.u8.new.self c.write_structures.new.writer c.u8-2.new.self c.write_pending.new.writer c.write_row.new.writer c.finish.result.items (length c.args.pending.now + 1)
+    c.new-writer.ensures c.in_ok-tag.ensures.ok c.in_ok-u8.ensures.ok c.in_ok-write_structures.ensures.rows (ap (λ k. k + 1) (sym many)) c.in_ok-u8-2.ensures.ok c.in_ok-write_pending.ensures.rows c.in_ok-write_row.ensures.ok c.finish.ensures in
+    with_ok c.from_vec.result _ _ (λ payload e. e ∙ written) c.from_vec.ensures

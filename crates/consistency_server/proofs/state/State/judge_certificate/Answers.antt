@@ -26,11 +26,11 @@ returns-in-None g c =
     ∙ by_cert found c.args.text.now c.deref.result.now (option_copied c.with_cert.result) c.requires c.with_cert.ensures ∙ ap option_copied c.in-None.is in
     with_ok c.judge_new.result _ _ (λ j is. subst (JudgedAs state j) (sym (ap (λ o. placing_beside o state found) none)) is) c.judge_new.ensures
 
-pub returns-in_ok-copy-in-Some : goal.returns-in_ok-copy-in-Some
-returns-in_ok-copy-in-Some g c =
+pub returns-in_ok-share-in-Some : goal.returns-in_ok-share-in-Some
+returns-in_ok-share-in-Some g c =
     let state = c.args.self.now in
     let found = c.args.found in
     let there : find (same_cert found) state.pending ≡ Some c.in-Some.placement.now
     = ap (λ (s : State). find (same_cert found) s.pending) (sym c.self.view_is) ∙ ap (find (same_cert found)) (sym c.deref.ensures.value)
     ∙ by_cert found c.args.text.now c.deref.result.now (option_copied c.with_cert.result) c.requires c.with_cert.ensures ∙ ap option_copied c.in-Some.is in
-    ap (λ o. placing_beside o state found) there ∙ ap Repeated (sym (c.in_ok-copy-in-Some.ensures ∙ c.reply.ensures))
+    ap (λ o. placing_beside o state found) there ∙ ap Repeated (sym (c.in_ok-share-in-Some.ensures ∙ c.reply.ensures))

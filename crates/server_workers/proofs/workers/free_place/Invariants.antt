@@ -1,6 +1,6 @@
 use Rattle.std.proofs.Common.{◌≡◌}
 use Rattle.std.specs.Prelude.{vec_len, vec_capacity}
-use Rattle.server_workers.proofs.places.free_place.Given as goal
+use Rattle.server_workers.proofs.workers.free_place.Given as goal
 
 abbrev pub invariant-loop : goal.invariant-loop
 invariant-loop g l =
