@@ -1,18 +1,73 @@
-//! Each row of the table of answers once, texts of paths, and what commands come to.
+//! Each row of the table of answers once, also to writers that fail, texts of paths, and what commands come to.
 
 use commands::{Answer, Course, Place, Refusal, Stands, path_of, place_of};
 use directory::{Directory, Target};
 use layout::{INumber, Principal};
 use reply_rules::Rule;
 use std::alloc::Global;
+use std::io::{self, ErrorKind, Write};
 use std::process::Abort;
 use wire::Status;
 
-/// Whether this is what is printed of an answer, with this status.
+/// A writer that takes a few bytes at a time, each time after it was interrupted, and no more than so many: from then on
+/// it fails, or takes none.
+#[derive(Drop)]
+struct Narrow {
+    bytes: Vec<u8>,
+    left: usize,
+    fails: bool,
+    is_interrupted: bool,
+}
+
+impl Write for Narrow {
+    fn write(&mut self, bytes: &[u8]) -> io::Result<usize> {
+        self.is_interrupted = !self.is_interrupted;
+        if self.is_interrupted {
+            return Err(ErrorKind::Interrupted.into());
+        }
+        if self.left == 0 && self.fails {
+            return Err(ErrorKind::StorageFull.into());
+        }
+        let count = bytes.len().min(self.left).min(3);
+        self.left -= count;
+        self.bytes.extend_from_slice(&bytes[..count])?;
+        Ok(count)
+    }
+
+    fn flush(&mut self) -> io::Result<()> {
+        Ok(())
+    }
+}
+
+/// Whether a writer that takes so many bytes gets as many of this text, and it is told whether these are all.
+fn is_cut(answer: &Answer<Global>, text: &[u8], left: usize, fails: bool, alloc: Global) -> bool {
+    let mut narrow = Narrow {
+        bytes: Vec::new(alloc),
+        left,
+        fails,
+        is_interrupted: false,
+    };
+    let is_whole = answer.write(&mut narrow).is_ok();
+    is_whole == (left == text.len()) && Some(narrow.bytes.as_slice()) == text.get(..left)
+}
+
+/// Whether that is so wherever the writer fails, or takes no more.
+fn is_cut_anywhere(answer: &Answer<Global>, text: &[u8], alloc: Global) -> bool {
+    for left in 0..=text.len() {
+        if !is_cut(answer, text, left, true, alloc) || !is_cut(answer, text, left, false, alloc) {
+            return false;
+        }
+    }
+    true
+}
+
+/// Whether this is what is printed of an answer, with this status, and a beginning of it wherever a writer fails.
 fn is_printed(rt: &impl Abort, answer: Answer<Global>, wanted: (&str, u8), alloc: Global) -> bool {
     let mut text: Vec<u8> = Vec::new(alloc);
     answer.write(&mut text).expect(rt, "written");
-    text.as_slice() == wanted.0.as_bytes() && answer.status() == wanted.1
+    text.as_slice() == wanted.0.as_bytes()
+        && answer.status() == wanted.1
+        && is_cut_anywhere(&answer, &text, alloc)
 }
 
 /// Whether a refusal or a broken rule is printed as this line, with this status.
@@ -36,7 +91,7 @@ static REFUSALS: [Refusal; 11] = [
 ];
 
 /// The line of each refusal.
-const LINES_OF_REFUSALS: &str = "\
+pub(crate) const LINES_OF_REFUSALS: &str = "\
 no path
 there
 not empty
@@ -50,12 +105,18 @@ cut
 memory
 ";
 
+/// Whether this is the line of a refusal, and what the refusal itself shows.
+fn is_refusal(rt: &impl Abort, refusal: Refusal, line: &str, alloc: Global) -> bool {
+    let shown = format!(in alloc; "{refusal}").expect(rt, "memory");
+    shown.as_str() == line && is_line(rt, Answer::Refused(refusal), (line, 4), alloc)
+}
+
 #[test]
 fn refusals_are_printed(rt: HostRuntime) {
     let mut lines = LINES_OF_REFUSALS.lines();
     for refusal in &REFUSALS {
         let line = lines.next().expect(&rt, "a line");
-        assert!(rt; is_line(&rt, Answer::Refused(*refusal), (line, 4), rt.alloc()));
+        assert!(rt; is_refusal(&rt, *refusal, line, rt.alloc()));
     }
 }
 

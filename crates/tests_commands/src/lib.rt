@@ -9,6 +9,8 @@ mod cached_blocks;
 #[cfg(test)]
 mod drawn_keys;
 #[cfg(test)]
+mod errors;
+#[cfg(test)]
 mod lines;
 #[cfg(test)]
 mod transports;

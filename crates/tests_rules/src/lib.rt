@@ -7,6 +7,8 @@ mod applied;
 #[cfg(test)]
 mod blocks;
 #[cfg(test)]
+mod errors;
+#[cfg(test)]
 mod here;
 #[cfg(test)]
 mod i_tables;

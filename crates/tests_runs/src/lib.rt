@@ -10,6 +10,8 @@ mod alone;
 #[cfg(test)]
 mod answers;
 #[cfg(test)]
+mod errors;
+#[cfg(test)]
 mod failing;
 #[cfg(test)]
 mod hashed;

@@ -5,9 +5,15 @@
 #[cfg(test)]
 mod again;
 #[cfg(test)]
+mod before_lock;
+#[cfg(test)]
 mod blocks;
 #[cfg(test)]
 mod by_hand;
+#[cfg(test)]
+mod deadlines;
+#[cfg(test)]
+mod errors;
 #[cfg(test)]
 mod faults;
 #[cfg(test)]
