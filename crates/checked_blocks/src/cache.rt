@@ -138,7 +138,7 @@ pub(crate) fn hold_and_move<A: Allocator>(
     text: Vec<u8, A>,
     digests: Vec<Digest, A>,
 )
-    requires { vec_len digests + 1 ≤ spare held.old }
+    requires { vec_len digests + (if is_known then 0 else 1) ≤ spare held.old }
     ensures moved { Moved (if is_known then held.old.entries else with_last held.old.entries digest text.items)
         cache.old.entries held.new.entries cache.new.entries }
     ensures capacity { cache.new.cap ≡ cache.old.cap }

@@ -1,6 +1,7 @@
 //! The blocks that a client knows.
 
-ghost use Rattle.std.specs.Prelude.{◌≡◌, ◌<◌, ◌≤◌, ◌^◌, None, IfOk, OnOk, OnErr, is_some, length, map};
+ghost use Rattle.std.specs.Prelude.{◌≡◌, ◌<◌, ◌≤◌, ◌^◌, [], true, None, IfOk, IsOk, OnOk, OnErr, IsOkAnd, is_some};
+ghost use Rattle.std.specs.Prelude.{length, map, vec_len};
 ghost use Rattle.std.specs.Option.{option_copied};
 ghost use Rattle.std.specs.Vec.{vec_items};
 ghost use Rattle.layout.specs.Hash.{hash};
@@ -142,13 +143,14 @@ impl<A: Allocator + Copy> CheckedBlocks<A> {
     }
 
     /// The digests of the blocks of the cache that were read since the last time, the least recently used first.
-    fn digests_read(&self) -> Result<Vec<Digest, A>, Memory> {
+    fn digests_read(&self) -> Result<Vec<Digest, A>, Memory>
+        ensures none { self.now.cached ≡ [] → IsOkAnd result (λ digests. vec_len digests ≡ 0) }
+    {
         let alloc = *self.cache.allocator();
-        if self.was_read.get() {
-            digests_read(alloc, &self.cache)
-        } else {
-            Ok(Vec::new(alloc))
+        if self.cache.is_empty() || !self.was_read.get() {
+            return Ok(Vec::new(alloc));
         }
+        digests_read(alloc, &self.cache)
     }
 
     /// Holds a text that was checked, whose digest was computed, until the held blocks are let go, and as `take_up`
@@ -160,11 +162,13 @@ impl<A: Allocator + Copy> CheckedBlocks<A> {
         ensures known { OnOk result (known_blocks self.new ≡ knowing (known_blocks self.old) text.items) }
         // A text that wasn't known is one more that is held.
         ensures more { known_blocks self.old digest ≡ None → OnOk result (length self.old.held < length self.new.held) }
+        // It takes no memory where the text is known, and the cache has none that could have been read.
+        ensures as_it_is { is_some (known_blocks self.old digest) ≡ true → self.old.cached ≡ [] → IsOk result }
         ensures err { OnErr result (self.new ≡ self.old) }
     {
         let is_known = self.knows(digest);
         let digests = self.digests_read()?;
-        self.held.reserve(digests.len() + 1)?;
+        self.held.reserve(digests.len() + usize::from(!is_known))?;
         hold_and_move(
             &mut self.held,
             &mut self.cache,
@@ -181,6 +185,8 @@ impl<A: Allocator + Copy> CheckedBlocks<A> {
     /// ones are let go. After an error all is as before, and they still count as read.
     pub fn take_up(&mut self) -> Result<(), Memory>
         ensures taken { OnOk result (TakesUp self.old self.new) }
+        // It takes no memory where the cache has none that could have been read.
+        ensures as_it_is { self.old.cached ≡ [] → IsOk result }
         ensures err { OnErr result (self.new ≡ self.old) }
     {
         let digests = self.digests_read()?;

@@ -1,6 +1,6 @@
 //! What is asked of a view, and what it tells.
 
-ghost use Rattle.std.specs.Prelude.{◌≡◌, [], false, IfOk, IfErr, length};
+ghost use Rattle.std.specs.Prelude.{◌≡◌, [], false, true, IfOk, IfErr, IsOk, length};
 ghost use Rattle.directory.specs.Directory.{directory as directory_format};
 ghost use Rattle.principals.specs.TableText.{table as table_format};
 ghost use Rattle.tree_parts.specs.Slots.{directory_inode};
@@ -156,6 +156,8 @@ impl<'a, A: Allocator + Copy> View<'a, A> {
             → IfOk result (HasSearched (B.held blocks.now) self.now principal first last) }
         ensures missing { IfErr result
             (Lacks (B.held blocks.now) (IsAskedForFree (B.held blocks.now) self.now principal first last)) }
+        // Where the place alone decides, it takes no memory.
+        ensures place { is_table principal last ≡ true → IsOk result }
     {
         // The table of principals stands at the least i-number, so that a range which ends there is that place alone.
         if is_table(principal, last) {

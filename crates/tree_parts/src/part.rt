@@ -472,6 +472,8 @@ impl<A: Allocator + Copy> Part<A> {
     ) -> Result<(), ApplyError>
         requires read { IsReadFrom (B.held blocks.now) self.old }
         ensures loaded { OnOk result (loaded self.new.table i_number ≡ true) }
+        // It takes no memory where nothing is to be loaded.
+        ensures as_it_is { loaded self.old.table i_number ≡ true → IsOk result }
         // What the part has at each i-number stays, whatever stands for the digests of which no block tells.
         ensures slots { ForEachReading (B.held blocks.now) (λ reads.
             OnOk result ((i : ℕ) → slot_at reads self.new i ≡ slot_at reads self.old i)) }
