@@ -1,0 +1,5 @@
+use Rattle.std.proofs.Common.{refl}
+use Rattle.sha256_lanes.proofs.words.small_sigma1.Goals as goal
+
+pub returns : goal.returns
+returns c i lt = rw (c.xor-2.ensures i lt, c.xor.ensures i lt, c.rotate_right.ensures i lt, c.rotate_right-2.ensures i lt, c.shift_right.ensures i lt) refl
