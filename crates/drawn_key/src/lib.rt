@@ -1,12 +1,12 @@
 //! A private key that is drawn over all processors.
 #![tactic(auto)]
 
-ghost use Rattle.std.specs.Prelude.{◌≡◌, ◌<◌, ℕ, [], IfOk, length, slice_index_or};
-ghost use Rattle.lms_sign.specs.declared.tree.TheConstants.{LEAF_COUNT};
+ghost use Rattle.std.specs.Prelude.{◌≡◌, ◌<◌, ◌+◌, ◌*◌, ℕ, [], IfOk, length, slice_index_or};
+ghost use Rattle.lms_sign.specs.declared.leaves.TheConstants.{GROUP_COUNT, GROUP_SIZE};
 ghost use Rattle.lms_sign.specs.Tree.{leaf_value};
 
 use layout::{Digest, Memory};
-use lms_sign::{LEAF_COUNT, PrivateKey, leaf_value};
+use lms_sign::{GROUP_COUNT, GROUP_SIZE, PrivateKey, leaf_values};
 use std::alloc::Allocator;
 use std::thread::{self, Threads};
 
@@ -23,19 +23,19 @@ fn threads<R: Threads>(rt: &R) -> usize
     }
 }
 
-/// Puts the value of each leaf in its place.
-fn put_values<R: Threads + Sync>(rt: &R, seed: &[u8; 32], id: &[u8; 16], values: &mut [Digest])
-    requires { length values.old ≡ LEAF_COUNT }
-    ensures size { length values.new ≡ LEAF_COUNT }
-    ensures values { (leaf : ℕ) → leaf < LEAF_COUNT
-        → slice_index_or values.new leaf [] ≡ leaf_value seed.now id.now leaf }
+/// Puts the values of each group of leaves in its place.
+fn put_values<R: Threads + Sync>(rt: &R, seed: &[u8; 32], id: &[u8; 16], groups: &mut [[Digest; 8]])
+    requires { length groups.old ≡ GROUP_COUNT }
+    ensures size { length groups.new ≡ GROUP_COUNT }
+    ensures values { (group i : ℕ) → group < GROUP_COUNT → i < GROUP_SIZE
+        → slice_index_or (slice_index_or groups.new group []) i [] ≡ leaf_value seed.now id.now (8 * group + i) }
 {
     let count = threads(rt);
     thread::for_each_mut(
         rt,
-        values,
+        groups,
         count,
-        &|leaf, value| { *value = leaf_value(seed, id, leaf as u32) },
+        &|group, values| { *values = leaf_values(seed, id, (GROUP_SIZE * group) as u32) },
     );
 }
 
@@ -50,7 +50,7 @@ pub fn drawn_key<R: Threads + Sync, A: Allocator + Copy>(
     ensures seed { IfOk result (λ key. key.seed ≡ seed) }
     ensures id { IfOk result (λ key. key.id ≡ id) }
 {
-    let mut values = vec![in alloc; Digest::from_bytes([0; 32]); LEAF_COUNT as usize]?;
-    put_values(rt, &seed, &id, &mut values);
-    PrivateKey::from_leaf_values(alloc, seed, id, &values)
+    let mut groups = vec![in alloc; [Digest::from_bytes([0; 32]); GROUP_SIZE]; GROUP_COUNT]?;
+    put_values(rt, &seed, &id, &mut groups);
+    PrivateKey::from_leaf_values(alloc, seed, id, &groups)
 }

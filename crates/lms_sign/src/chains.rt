@@ -1,12 +1,12 @@
 //! The chains of a leaf (RFC 8554 sections 4.2 and 4.3).
 
-ghost use Rattle.std.specs.Prelude.{◌≡◌, ◌+◌, ◌-◌, ◌≤◌, ◌++◌};
+ghost use Rattle.std.specs.Prelude.{◌≡◌, ◌++◌};
 ghost use Rattle.std.specs.Int.{w8};
 ghost use Rattle.layout.specs.Format.{be};
 ghost use Rattle.lms_sign.specs.Hashing.{headed};
-ghost use Rattle.lms_sign.specs.Chains.{chained, drawn};
+ghost use Rattle.lms_sign.specs.Chains.{drawn};
 
-use crate::bytes::{digest_at, put};
+use crate::bytes::put;
 use layout::{Digest, digest};
 
 /// The size of what a step hashes: an identifier, three numbers and a value.
@@ -44,25 +44,4 @@ pub(crate) fn draw(seed: &[u8; 32], id: &[u8; 16], leaf: u32, chain: u16) -> Dig
     ensures { result ≡ drawn seed.now id.now leaf chain }
 {
     digest(&step_text(id, leaf, chain, u8::MAX, seed))
-}
-
-/// The value of a chain after the steps from one number to another, of which the last isn't taken.
-pub(crate) fn advance(
-    id: &[u8; 16],
-    leaf: u32,
-    chain: u16,
-    value: &Digest,
-    first: u8,
-    end: u8,
-) -> Digest
-    requires { first ≤ end }
-    ensures { result ≡ chained id.now leaf chain first (end - first) value.now }
-{
-    let mut text = step_text(id, leaf, chain, first, value.as_bytes());
-    for number in first..end {
-        text[NUMBER_AT] = number;
-        let next = digest(&text);
-        put(&mut text, VALUE_AT, next.as_bytes());
-    }
-    digest_at(&text, VALUE_AT)
 }

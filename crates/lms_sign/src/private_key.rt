@@ -9,9 +9,10 @@ ghost use Rattle.lms_sign.specs.Tree.{leaf_value, inner_node};
 
 use crate::bytes::put;
 use crate::form::{LMS_TYPE, LMS_TYPE_AT, SIGNATURE_SIZE, put_front};
+use crate::leaves::{GROUP_COUNT, GROUP_SIZE, leaf_values};
 use crate::one_time::{put_values, randomizer, text_digest};
 use crate::public_key::PublicKey;
-use crate::tree::{LEAF_COUNT, inner_node, leaf_value, put_path};
+use crate::tree::{LEAF_COUNT, inner_node, put_path};
 use layout::{Digest, Memory};
 use std::alloc::Allocator;
 use std::marker::Model;
@@ -45,6 +46,21 @@ impl<A: Allocator> Model for PrivateKey<A> {
     ghost invariant = { λ k. IsTree k.seed k.id k.nodes.items };
 }
 
+/// Puts the values of a group of leaves at their places.
+fn put_group(nodes: &mut [Digest], group: usize, values: &[Digest; 8])
+    requires size { length nodes.old ≡ 2048 }
+    requires group { group < GROUP_COUNT }
+    ensures size { length nodes.new ≡ 2048 }
+    ensures group { (i : ℕ) → i < GROUP_SIZE
+        → slice_index_or nodes.new (LEAF_COUNT + (8 * group + i)) [] ≡ slice_index_or values.now i [] }
+    ensures before { (leaf : ℕ) → leaf < 8 * group
+        → slice_index_or nodes.new (LEAF_COUNT + leaf) [] ≡ slice_index_or nodes.old (LEAF_COUNT + leaf) [] }
+{
+    for place in 0..GROUP_SIZE {
+        nodes[LEAF_COUNT as usize + GROUP_SIZE * group + place] = values[place];
+    }
+}
+
 /// The places of the nodes, with those of the leaves filled.
 fn leaf_nodes<A: Allocator>(
     alloc: A,
@@ -57,23 +73,24 @@ fn leaf_nodes<A: Allocator>(
         → slice_index_or nodes.items (LEAF_COUNT + leaf) [] ≡ leaf_value seed.now id.now leaf) }
 {
     let mut nodes = vec![in alloc; Digest::from_bytes([0; 32]); PLACE_COUNT]?;
-    for leaf in 0..LEAF_COUNT {
-        nodes[(LEAF_COUNT + leaf) as usize] = leaf_value(seed, id, leaf);
+    for group in 0..GROUP_COUNT {
+        let values = leaf_values(seed, id, (GROUP_SIZE * group) as u32);
+        put_group(&mut nodes, group, &values);
     }
     Ok(nodes)
 }
 
 /// The places of the nodes, with the values of the leaves at theirs.
-fn with_leaves<A: Allocator>(alloc: A, values: &[Digest]) -> Result<Vec<Digest, A>, Memory>
-    requires { length values.now ≡ LEAF_COUNT }
+fn with_leaves<A: Allocator>(alloc: A, groups: &[[Digest; 8]]) -> Result<Vec<Digest, A>, Memory>
+    requires { length groups.now ≡ GROUP_COUNT }
     ensures size { IfOk result (λ nodes. vec_len nodes ≡ 2048) }
-    ensures leaves { IfOk result
-        (λ nodes. (leaf : ℕ) → leaf < LEAF_COUNT
-        → slice_index_or nodes.items (LEAF_COUNT + leaf) [] ≡ slice_index_or values.now leaf []) }
+    ensures leaves { IfOk result (λ nodes. (group i : ℕ) → group < GROUP_COUNT → i < GROUP_SIZE
+        → slice_index_or nodes.items (LEAF_COUNT + (8 * group + i)) []
+        ≡ slice_index_or (slice_index_or groups.now group []) i []) }
 {
     let mut nodes = vec![in alloc; Digest::from_bytes([0; 32]); PLACE_COUNT]?;
-    for leaf in 0..values.len() {
-        nodes[LEAF_COUNT as usize + leaf] = values[leaf];
+    for group in 0..GROUP_COUNT {
+        put_group(&mut nodes, group, &groups[group]);
     }
     Ok(nodes)
 }
@@ -116,21 +133,21 @@ impl<A: Allocator> PrivateKey<A> {
         Ok(PrivateKey::over_leaves(seed, id, leaves))
     }
 
-    /// The same key, in about two thousand compressions of SHA-256, from the values of its leaves in order
-    /// (`leaf_value`), which many threads can compute beside each other. Only want of memory is an error.
+    /// The same key, in about two thousand compressions of SHA-256, from the values of its leaves in order, by groups of
+    /// eight (`leaf_values`), which many threads can compute beside each other. Only want of memory is an error.
     pub fn from_leaf_values(
         alloc: A,
         seed: [u8; 32],
         id: [u8; 16],
-        values: &[Digest],
+        groups: &[[Digest; 8]],
     ) -> Result<PrivateKey<A>, Memory>
-        requires size { length values.now ≡ LEAF_COUNT }
-        requires values { (leaf : ℕ) → leaf < LEAF_COUNT
-            → slice_index_or values.now leaf [] ≡ leaf_value seed id leaf }
+        requires size { length groups.now ≡ GROUP_COUNT }
+        requires values { (group i : ℕ) → group < GROUP_COUNT → i < GROUP_SIZE
+            → slice_index_or (slice_index_or groups.now group []) i [] ≡ leaf_value seed id (8 * group + i) }
         ensures seed { IfOk result (λ key. key.seed ≡ seed) }
         ensures id { IfOk result (λ key. key.id ≡ id) }
     {
-        let leaves = with_leaves(alloc, values)?;
+        let leaves = with_leaves(alloc, groups)?;
         Ok(PrivateKey::over_leaves(seed, id, leaves))
     }
 

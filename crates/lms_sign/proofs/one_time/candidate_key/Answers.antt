@@ -1,35 +1,29 @@
-use Rattle.std.proofs.Common.{◌≡◌, ◌++◌, subst, sym, ap, ◌∙◌, ℕ, arith, List}
-use Rattle.layout.specs.Hash.{hash}
-use Rattle.layout.specs.Hasher.{Holds}
-use Rattle.lms_sign.specs.Hashing.{headed, joined}
-use Rattle.lms_sign.specs.Signature.{value_in}
-use Rattle.lms_sign.specs.Chains.{end_from}
+use Rattle.std.proofs.Common.{◌≡◌, ◌-◌, ◌<◌, ℕ, List, [], slice_index, slice_index_or, replicate, ap, ◌∙◌, arith}
+use Rattle.std.proofs.lemmas.List.{get_or-replicate}
+use Rattle.lms_sign.specs.Chains.{chained, end_from}
 use Rattle.lms_sign.specs.Digits.{digit}
-use Rattle.lms_sign.specs.OneTime.{candidate, key_from}
-use Rattle.lms_sign.proofs.Joining.{joined_none, joined_on}
+use Rattle.lms_sign.specs.OneTime.{candidate}
+use Rattle.lms_sign.specs.Signature.{value_in}
 use Rattle.lms_sign.proofs.one_time.candidate_key.Goals as goal
 
--- the end of a chain, from a signature's value of it
-abbrev end_of : List ℕ → ℕ → List ℕ → List ℕ → ℕ → List ℕ
-end_of id leaf digest signature chain = end_from id leaf chain (digit digest chain) (value_in signature chain)
-
-pub loop-chain-init : goal.loop-chain-init
-loop-chain-init c = subst (Holds c.headed_hasher-hasher.result) (sym (joined_none (headed c.args.id.now c.args.leaf 0x8080) (end_of c.args.id.now c.args.leaf c.args.digest.now c.args.signature.now))) c.headed_hasher-hasher.ensures
-
-pub loop-chain-preserved : goal.loop-chain-preserved
-unfolding digit
-loop-chain-preserved c =
-    let chain = c.loop-chain.chain in
-    let end_at = end_of c.args.id.now c.args.leaf c.args.digest.now c.args.signature.now in
-    let first : c.coefficient-digit.result ≡ digit c.args.digest.now chain = cc in
-    let value : c.digest_at-value.result ≡ value_in c.args.signature.now chain = cc in
-    let end : c.as_bytes.result.now ≡ end_at chain =
-    c.as_bytes.ensures.same ∙ c.advance-end.ensures ∙ ap (λ (n : ℕ). end_from c.args.id.now c.args.leaf chain n c.digest_at-value.result) first
-    ∙ ap (end_from c.args.id.now c.args.leaf chain (digit c.args.digest.now chain)) value in
-    subst (Holds c.update.new.self) (joined_on (headed c.args.id.now c.args.leaf 0x8080) c.as_bytes.result.now end_at chain end) (c.update.ensures _ c.loop-chain.invariant)
+pub advance_all-requires : goal.advance_all-requires
+advance_all-requires c chain lt =
+    let end = get_or-replicate 67 chain c.from-ends.result 0 lt in
+    omega (arith, end, c.from-ends.ensures)
 
 pub returns : goal.returns
-unfolding candidate key_from
+unfolding candidate
 returns c =
-    let all : c.loop-chain.chain ≡ 67 = omega arith in
-    c.finish.ensures _ c.loop-chain.invariant ∙ ap (λ (n : ℕ). hash (headed c.args.id.now c.args.leaf 0x8080 ++ joined n (end_of c.args.id.now c.args.leaf c.args.digest.now c.args.signature.now))) all
+    let id : List ℕ = c.args.id.now in
+    let leaf : ℕ = c.args.leaf in
+    let digest : List ℕ = c.args.digest.now in
+    let values : List (List ℕ) = c.values_of-values.result in
+    let ends : (chain : ℕ) → chain < 67 → slice_index_or c.advance_all.new.values chain [] ≡ end_from id leaf chain (digit digest chain) (value_in c.args.signature.now chain) =
+    λ chain lt.
+    let first : ℕ = slice_index c.digits_of.result chain in
+    let end : slice_index (replicate 67 c.from-ends.result) chain ≡ 15 = get_or-replicate 67 chain c.from-ends.result 0 lt ∙ c.from-ends.ensures in
+    c.advance_all.ensures chain lt
+    ∙ ap (λ n. chained id leaf chain first (n - first) (slice_index_or values chain [])) end
+    ∙ ap (λ n. chained id leaf chain n (15 - n) (slice_index_or values chain [])) (c.digits_of.ensures.digits chain lt)
+    ∙ ap (end_from id leaf chain (digit digest chain)) (c.values_of-values.ensures chain lt) in
+    c.key_from.ensures (λ chain. end_from id leaf chain (digit digest chain) (value_in c.args.signature.now chain)) ends

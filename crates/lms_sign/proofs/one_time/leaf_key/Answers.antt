@@ -1,24 +1,23 @@
-use Rattle.std.proofs.Common.{◌≡◌, ◌++◌, subst, sym, ap, ◌∙◌, ℕ, arith}
-use Rattle.layout.specs.Hash.{hash}
-use Rattle.layout.specs.Hasher.{Holds}
-use Rattle.lms_sign.specs.Hashing.{headed, joined}
-use Rattle.lms_sign.specs.Chains.{chained, value_of}
-use Rattle.lms_sign.specs.OneTime.{key_of, key_from}
-use Rattle.lms_sign.proofs.Joining.{joined_none, joined_on}
+use Rattle.std.proofs.Common.{◌≡◌, ◌<◌, ℕ, List, [], slice_index, slice_index_or, replicate, ◌∙◌, refl, arith}
+use Rattle.std.proofs.lemmas.List.{get_or-replicate}
+use Rattle.lms_sign.specs.Chains.{value_of}
+use Rattle.lms_sign.specs.OneTime.{key_of}
 use Rattle.lms_sign.proofs.one_time.leaf_key.Goals as goal
 
-pub loop-chain-init : goal.loop-chain-init
-loop-chain-init c = subst (Holds c.headed_hasher-hasher.result) (sym (joined_none (headed c.args.id.now c.args.leaf 0x8080) (value_of c.args.seed.now c.args.id.now c.args.leaf 15))) c.headed_hasher-hasher.ensures
-
-pub loop-chain-preserved : goal.loop-chain-preserved
-loop-chain-preserved c =
-    let value = value_of c.args.seed.now c.args.id.now c.args.leaf 15 in
-    let end : c.as_bytes.result.now ≡ value c.loop-chain.chain =
-    c.as_bytes.ensures.same ∙ c.advance-end.ensures ∙ ap (chained c.args.id.now c.args.leaf c.loop-chain.chain 0 15) c.draw-start.ensures in
-    subst (Holds c.update.new.self) (joined_on (headed c.args.id.now c.args.leaf 0x8080) c.as_bytes.result.now value c.loop-chain.chain end) (c.update.ensures _ c.loop-chain.invariant)
+pub advance_all-requires : goal.advance_all-requires
+advance_all-requires c chain lt =
+    let end = get_or-replicate 67 chain c.from-ends.result 0 lt in
+    omega (arith, end, c.from-ends.ensures)
 
 pub returns : goal.returns
-unfolding key_of key_from
+unfolding key_of
 returns c =
-    let all : c.loop-chain.chain ≡ 67 = omega arith in
-    c.finish.ensures _ c.loop-chain.invariant ∙ ap (λ (n : ℕ). hash (headed c.args.id.now c.args.leaf 0x8080 ++ joined n (value_of c.args.seed.now c.args.id.now c.args.leaf 15))) all
+    let id : List ℕ = c.args.id.now in
+    let leaf : ℕ = c.args.leaf in
+    let seed : List ℕ = c.args.seed.now in
+    let ends : (chain : ℕ) → chain < 67 → slice_index_or c.advance_all.new.values chain [] ≡ value_of seed id leaf 15 chain =
+    λ chain lt.
+    let none : slice_index (replicate 67 0) chain ≡ 0 = get_or-replicate 67 chain 0 0 lt in
+    let end : slice_index (replicate 67 c.from-ends.result) chain ≡ 15 = get_or-replicate 67 chain c.from-ends.result 0 lt ∙ c.from-ends.ensures in
+    c.advance_all.ensures chain lt ∙ rw (none, end, c.drawn_values-values.ensures chain lt) refl in
+    c.key_from.ensures (value_of seed id leaf 15) ends

@@ -1,8 +1,9 @@
-use Rattle.std.proofs.Common.{◌≡◌, ℕ, ◌+◌, ◌<◌, [], slice_index_or, vec_len}
+use Rattle.std.proofs.Common.{◌≡◌, ℕ, ◌+◌, ◌*◌, ◌<◌, [], slice_index_or, vec_len}
 use Rattle.lms_sign.proofs.private_key.with_leaves.Given as goal
 
-abbrev pub invariant-loop-leaf : goal.invariant-loop-leaf
-invariant-loop-leaf g l = record {
+abbrev pub invariant-loop-group : goal.invariant-loop-group
+invariant-loop-group g l = record {
   size : vec_len l.nodes ≡ 2048;
-  leaves : (leaf : ℕ) → leaf < l.leaf → slice_index_or l.nodes.items (1024 + leaf) [] ≡ slice_index_or l.values leaf [];
+  leaves : (group i : ℕ) → group < l.group → i < 8
+      → slice_index_or l.nodes.items (1024 + (8 * group + i)) [] ≡ slice_index_or (slice_index_or l.groups group []) i [];
 }
