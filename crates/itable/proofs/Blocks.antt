@@ -1,7 +1,7 @@
 -- A file in blocks: one block after the other, and all of them together.
-use Rattle.std.proofs.Common.{◌≡◌, ℕ, suc, ◌+◌, ◌<◌, min, List, [], ◌∷◌, ◌++◌, length, take, drop, refl, sym, ap, ◌∙◌, inl, inr, arith, append_assoc, length-append}
+use Rattle.std.proofs.Common.{◌≡◌, ℕ, zero, suc, ◌+◌, ◌*◌, ◌<◌, min, List, [], ◌∷◌, ◌++◌, length, take, drop, refl, sym, ap, ◌∙◌, inl, inr, arith, append_assoc, length-append}
 use Rattle.std.proofs.lemmas.Bool.{cases_lt}
-use Rattle.std.proofs.lemmas.List.{append-nil, nil_from_length, take_at, drop_at, take_all, drop_all}
+use Rattle.std.proofs.lemmas.List.{append-nil, nil_from_length, take_at, drop_at, take_all, drop_all, take-append-drop, length-take-le, length-drop}
 use Rattle.itable.specs.Inode.{block_count}
 use Rattle.itable.specs.File.{pieces, blocks_of}
 
@@ -40,3 +40,19 @@ next_block bytes block rest whole is some =
 -- one more of what is made in order
 pub one_on : {X : Type 0} (old new : List X) (x : X) (rest all : List X) → new ≡ old ++ x ∷ [] → old ++ x ∷ rest ≡ all → new ++ rest ≡ all
 one_on {X} old new x rest all is whole = ap (λ (front : List X). front ++ rest) is ∙ append_assoc old (x ∷ []) rest ∙ whole
+
+-- whole blocks, and those of the bytes after them
+pub blocks_after : (count : ℕ) (bytes rest : List ℕ) → length bytes ≡ count * 4096 → blocks_of (bytes ++ rest) ≡ blocks_of bytes ++ blocks_of rest
+blocks_after zero bytes rest none =
+    let empty : bytes ≡ [] = nil_from_length bytes (omega arith) in
+    rw (no_block bytes (omega arith)) (ap (λ (l : List ℕ). blocks_of (l ++ rest)) empty)
+blocks_after (suc count) bytes rest some =
+    let block : List ℕ = take 4096 bytes in
+    let left : List ℕ = drop 4096 bytes in
+    let cut : bytes ≡ block ++ left = sym (take-append-drop 4096 bytes) in
+    let width : length block ≡ 4096 = length-take-le 4096 bytes (omega arith) in
+    let long : length left ≡ count * 4096 = omega (arith, length-drop 4096 bytes) in
+    let all : length (bytes ++ rest) ≡ length bytes + length rest = length-append bytes rest in
+    next_block (bytes ++ rest) block (left ++ rest) (ap (λ (l : List ℕ). l ++ rest) cut ∙ append_assoc block left rest) (omega arith) (omega arith)
+    ∙ ap (λ (bs : List (List ℕ)). block ∷ bs) (blocks_after count left rest long)
+    ∙ ap (λ (bs : List (List ℕ)). bs ++ blocks_of rest) (sym (next_block bytes block left cut (omega arith) (omega arith)))

@@ -48,6 +48,32 @@ fn files_are_laid_out_in_blocks(rt: HostRuntime) {
     check(&rt, matches!(larger, Err(LayError::TooLarge)), "too large");
 }
 
+/// The digest of the i-node of a file of nine blocks, each of bytes of its number from 0 on, and a byte 9 after them. It
+/// was computed by another SHA-256, block by block.
+const TEN_BLOCKS: [u8; 32] = *b"\
+    \xb1\xf1\x0e\x9e\x3c\x33\x0b\xad\x76\xd7\xe9\x1e\x7c\x32\xb8\xf3\
+    \x27\x58\xc8\x3c\x07\x90\x9b\x23\xae\x27\xff\xab\xb0\x59\x03\xe9";
+
+#[test]
+fn digests_of_many_blocks(rt: HostRuntime) {
+    let rt = (rt, Here);
+    let mut file = Vec::new(rt.alloc());
+    for number in 0..10u8 {
+        let size = if number < 9 {
+            4096 * (usize::from(number) + 1)
+        } else {
+            36_865
+        };
+        file.resize(size, number).expect(&rt, "memory");
+    }
+    let laid = lay_file(rt.alloc(), &file).expect(&rt, "a file");
+    check(
+        &rt,
+        digest(&laid.inode) == Digest::from_bytes(TEN_BLOCKS),
+        "its i-node",
+    );
+}
+
 /// The i-node of the empty directory, whose digest any other SHA-256 gives.
 const EMPTY_DIRECTORY: [u8; 43] = *b"SIN1\x02\0\0\0\x06\0\x01\
     \xde\xc9\x8a\xc0\xd7\x29\xf4\x0c\xfa\x6c\x87\xf5\xa0\x9a\x5e\x68\
