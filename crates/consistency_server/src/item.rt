@@ -81,6 +81,14 @@ impl<A: Allocator> SpelledItem<A> {
         }
     }
 
+    /// How many bytes its row of a reply takes.
+    pub(crate) fn row_size(&self) -> usize {
+        self.cert_text
+            .len()
+            .saturating_add(self.plan_text.len())
+            .saturating_add(4)
+    }
+
     /// Writes its row of a reply.
     pub(crate) fn write_row(&self, writer: &mut Writer<A>) -> Result<(), Memory>
         ensures ok { OnOk result (writer.new ≡ pending_item.onto writer.old self.now) }

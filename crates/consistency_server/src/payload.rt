@@ -62,7 +62,7 @@ impl<A: Allocator> Payload<A> {
 }
 
 impl<A: Allocator + Copy> Payload<A> {
-    /// These bytes, and no room for more.
+    /// These bytes. Room for more is given back, where the allocator takes it.
     pub(crate) fn from_vec(bytes: Vec<u8, A>) -> Result<Payload<A>, Memory>
         requires { length bytes.items ≤ REPLY_SIZE }
         ensures { IfOk result (λ payload. payload ≡ bytes.items) }

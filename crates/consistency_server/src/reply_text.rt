@@ -13,6 +13,39 @@ use crate::structures::SpelledStructure;
 use layout::{Memory, Writer};
 use std::alloc::Allocator;
 
+/// How many bytes of a reply stand beside its rows: the tag, and two counts.
+const HEAD_SIZE: usize = 6;
+
+/// How many bytes the rows of the structures take.
+fn structures_size<A: Allocator>(structures: &[SpelledStructure<A>]) -> usize {
+    let mut size = 0usize;
+    for structure in structures {
+        size = size.saturating_add(structure.row_size());
+    }
+    size
+}
+
+/// How many bytes the rows of the operations that are pending take.
+fn pending_size<A: Allocator>(pending: &[Placement<A>]) -> usize {
+    let mut size = 0usize;
+    for placement in pending {
+        size = size.saturating_add(placement.item().row_size());
+    }
+    size
+}
+
+/// How many bytes the text of the reply takes.
+fn reply_size<A: Allocator>(
+    structures: &[SpelledStructure<A>],
+    pending: &[Placement<A>],
+    own: &SpelledItem<A>,
+) -> usize {
+    own.row_size()
+        .saturating_add(structures_size(structures))
+        .saturating_add(pending_size(pending))
+        .saturating_add(HEAD_SIZE)
+}
+
 /// Writes the rows of the structures.
 fn write_structures<A: Allocator>(
     writer: &mut Writer<A>,
@@ -42,7 +75,8 @@ fn write_pending<A: Allocator>(
     Ok(())
 }
 
-/// The text of the reply to an operation, which stands last, after at most 63 others that are pending.
+/// The text of the reply to an operation, which stands last, after at most 63 others that are pending. It is written
+/// into memory of its own size.
 pub(crate) fn reply_text<A: Allocator + Copy>(
     alloc: A,
     structures: &[SpelledStructure<A>],
@@ -54,7 +88,7 @@ pub(crate) fn reply_text<A: Allocator + Copy>(
     ensures { IfOk result (λ text. text ≡ reply.spell
         (record { structures = structures.now; pending = map (λ w. w.item) pending.now ++ own.now ∷ [] })) }
 {
-    let mut writer = Writer::new(alloc);
+    let mut writer = Writer::with_room(alloc, reply_size(structures, pending, own))?;
     writer.tag(b"SRL1")?;
     writer.u8(structures.len() as u8)?;
     write_structures(&mut writer, structures)?;

@@ -53,6 +53,11 @@ impl<A: Allocator> SpelledStructure<A> {
         text == self.text.as_slice()
     }
 
+    /// How many bytes its row of a reply takes.
+    pub(crate) fn row_size(&self) -> usize {
+        self.text.len().saturating_add(2)
+    }
+
     /// Writes its row of a reply.
     pub(crate) fn write_row(&self, writer: &mut Writer<A>) -> Result<(), Memory>
         ensures ok { OnOk result (writer.new ≡ signed_structure.onto writer.old self.now) }

@@ -1,6 +1,6 @@
 //! Writing fields at the end of a text.
 
-ghost use Rattle.std.specs.Prelude.{◌≡◌, ◌++◌, [], length, take, OnOk, OnErr};
+ghost use Rattle.std.specs.Prelude.{◌≡◌, ◌++◌, [], length, take, IfOk, OnOk, OnErr};
 ghost use Rattle.layout.specs.Format.{be};
 ghost use Rattle.std.specs.Int.{w8, w16, w32};
 
@@ -29,6 +29,15 @@ impl<A: Allocator> Writer<A> {
         Writer {
             text: Vec::new(alloc),
         }
+    }
+
+    /// An empty text with room for so many bytes: it takes no more memory before it has more.
+    pub fn with_room(alloc: A, room: usize) -> Result<Writer<A>, Memory>
+        ensures { IfOk result (λ writer. writer ≡ []) }
+    {
+        Ok(Writer {
+            text: Vec::with_capacity(alloc, room)?,
+        })
     }
 
     #[tactic(auto, unfolding(crate::specs::Format::be))]
