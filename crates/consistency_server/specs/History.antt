@@ -1,5 +1,5 @@
 -- Histories: the calls that the server answered otherwise than busy or out of memory. The newest call is the first.
-use Rattle.std.specs.Prelude.{Bool, true, false, List, [], ◌∷◌, ◌++◌}
+use Rattle.std.specs.Prelude.{◌≡◌, Bool, true, false, List, [], ◌∷◌, ◌++◌}
 use Rattle.layout.specs.Types.{Bytes, Key}
 use Rattle.wire.specs.declared.kinds.Status.{Status}
 use Rattle.wire.specs.declared.kinds.Status.TheVariants.{Ok, Form, UnknownUser, BadSignature, WrongNumber, NotPending, Busy, TooLarge, Absent, Memory}
@@ -53,6 +53,14 @@ is_carried_out Busy = false
 is_carried_out TooLarge = true
 is_carried_out Absent = true
 is_carried_out Memory = false
+
+-- this holds if the call of the answer was carried out
+abbrev pub IfCarriedOut : Answer → Type 0 → Type 0
+IfCarriedOut a X = is_carried_out a.status ≡ true → X
+
+-- and this if it wasn't
+abbrev pub IfNotCarriedOut : Answer → Type 0 → Type 0
+IfNotCarriedOut a X = is_carried_out a.status ≡ false → X
 
 -- what of a call goes to the log: the call itself, where it placed or committed
 abbrev pub logged_of : List Event → Call → List Call

@@ -7,4 +7,5 @@ pub mod Signer
 pub mod Verification
 pub mod Tidy
 pub mod Judged
+pub mod Past
 pub mod Serving

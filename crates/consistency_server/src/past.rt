@@ -1,6 +1,7 @@
 //! The calls so far, of which only the number is kept: a snapshot has no bytes.
 
-ghost use Rattle.std.specs.Prelude.{◌≡◌, ◌∷◌, OnOk, OnErr, drop, map, reverse};
+ghost use Rattle.std.specs.Prelude.{◌≡◌, ◌∷◌, OnOk, OnErr, drop};
+ghost use Rattle.consistency_server.specs.Past.{calls_of};
 
 use crate::call::Call;
 use layout::Memory;
@@ -12,10 +13,8 @@ pub(crate) type Past<A> = Vec<Snapshot<Call<A>>, A>;
 
 /// The call comes after the others. Memory only where no `usize` tells how many they are then.
 pub(crate) fn add<A: Allocator>(past: &mut Past<A>, call: &Call<A>) -> Result<(), Memory>
-    ensures ok { OnOk result (reverse (map (λ s. s.value) past.new.items)
-        ≡ call.now ∷ reverse (map (λ s. s.value) past.old.items)) }
-    ensures err { OnErr result (reverse (map (λ s. s.value) past.new.items)
-        ≡ reverse (map (λ s. s.value) past.old.items)) }
+    ensures ok { OnOk result (calls_of past.new ≡ call.now ∷ calls_of past.old) }
+    ensures err { OnErr result (calls_of past.new ≡ calls_of past.old) }
 {
     past.reserve(1)?;
     past.push_reserved(Snapshot::of(call));
@@ -24,7 +23,7 @@ pub(crate) fn add<A: Allocator>(past: &mut Past<A>, call: &Call<A>) -> Result<()
 
 /// The newest one is none of them any more.
 pub(crate) fn take_back<A: Allocator>(past: &mut Past<A>)
-    ensures { reverse (map (λ s. s.value) past.new.items) ≡ drop 1 (reverse (map (λ s. s.value) past.old.items)) }
+    ensures { calls_of past.new ≡ drop 1 (calls_of past.old) }
 {
     let _ = past.pop();
 }

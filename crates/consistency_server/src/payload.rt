@@ -10,7 +10,8 @@ use std::alloc::Allocator;
 use std::marker::Model;
 use std::sync::ArcSlice;
 
-/// What comes with an answer: no more bytes than the text of a reply has. All who share it have the same bytes in memory.
+/// What comes with an answer: no more bytes than the text of a reply has. All who share it have the same bytes in
+/// memory.
 #[derive(Drop)]
 pub(crate) struct Payload<A: Allocator> {
     /// None where it is empty.

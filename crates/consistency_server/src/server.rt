@@ -1,8 +1,8 @@
 //! The server's one order of calls.
 
-ghost use Rattle.std.specs.Prelude.{◌≡◌, ◌≢◌, [], ◌∷◌, ◌++◌, true, false, OnOk, OnErr, IfOk, IsTrue, Err, length, map};
-ghost use Rattle.std.specs.Prelude.{reverse};
+ghost use Rattle.std.specs.Prelude.{◌≡◌, ◌≢◌, [], ◌∷◌, ◌++◌, true, OnOk, OnErr, IfOk, IsTrue, Err, length};
 ghost use Rattle.consistency_server.specs.Judged.{MayHappen, answer_by, state_after, logged_by};
+ghost use Rattle.consistency_server.specs.Past.{calls_of};
 
 use crate::call::{Answer, Call, CallKind};
 use crate::log::Log;
@@ -16,8 +16,8 @@ use std::alloc::Allocator;
 use std::marker::Model;
 use wire::Status;
 
-/// The order of the calls so far, under the key of user 0. Of a call that placed nothing and committed nothing, only that
-/// there was one more is kept.
+/// The order of the calls so far, under the key of user 0. Of a call that placed nothing and committed nothing, only
+/// that there was one more is kept.
 #[derive(Drop)]
 pub struct Ordered<A: Allocator> {
     pinned: PublicKey,
@@ -26,14 +26,15 @@ pub struct Ordered<A: Allocator> {
 }
 
 impl<A: Allocator> Model for Ordered<A> {
-    ghost use Rattle.std.specs.Prelude.{◌≡◌, map, reverse};
+    ghost use Rattle.std.specs.Prelude.{◌≡◌};
     ghost use Rattle.consistency_server.specs.History.{Ordered, kept};
+    ghost use Rattle.consistency_server.specs.Past.{calls_of};
 
     ghost Value = { Ordered };
 
-    ghost view = { λ o. record { pinned = o.pinned; history = reverse (map (λ s. s.value) o.history.items) } };
+    ghost view = { λ o. record { pinned = o.pinned; history = calls_of o.history } };
 
-    ghost invariant = { λ o. o.state ≡ kept o.pinned (reverse (map (λ s. s.value) o.history.items)) };
+    ghost invariant = { λ o. o.state ≡ kept o.pinned (calls_of o.history) };
 }
 
 /// What is done for what was judged: the call goes to the log if it happens, and what is kept changes.
@@ -77,12 +78,10 @@ fn carry_out<A: Allocator + Copy, G: Log<Call<A>>>(
     requires { MayHappen state.old judged }
     ensures answer { IfOk result (λ answer. answer ≡ answer_by judged) }
     ensures state { OnOk result (state.new ≡ state_after state.old judged) }
-    ensures history { OnOk result (reverse (map (λ s. s.value) history.new.items)
-        ≡ call ∷ reverse (map (λ s. s.value) history.old.items)) }
+    ensures history { OnOk result (calls_of history.new ≡ call ∷ calls_of history.old) }
     ensures log { OnOk result (G.pushed log.new ≡ G.pushed log.old ++ logged_by judged call) }
     ensures state_err { OnErr result (state.new ≡ state.old) }
-    ensures history_err { OnErr result (reverse (map (λ s. s.value) history.new.items)
-        ≡ reverse (map (λ s. s.value) history.old.items)) }
+    ensures history_err { OnErr result (calls_of history.new ≡ calls_of history.old) }
     ensures log_err { OnErr result (G.pushed log.new ≡ G.pushed log.old) }
     ensures busy { result ≡ Err Refusal.Busy → IsTrue (G.may_be_full log.old) }
     ensures busy_logged { result ≡ Err Refusal.Busy → logged_by judged call ≢ [] }
@@ -101,7 +100,7 @@ fn carry_out<A: Allocator + Copy, G: Log<Call<A>>>(
 
 impl<A: Allocator + Copy> Ordered<A> {
     ghost use Rattle.consistency_server.specs.History.{call_of, update_of, commit_of, answer_of, logged};
-    ghost use Rattle.consistency_server.specs.History.{is_carried_out, kept};
+    ghost use Rattle.consistency_server.specs.History.{IfCarriedOut, IfNotCarriedOut, is_carried_out, kept};
     ghost use Rattle.principals.specs.Table.{key_of};
     ghost use Rattle.wire.specs.declared.kinds.Status.TheVariants as status;
 
@@ -132,42 +131,42 @@ impl<A: Allocator + Copy> Ordered<A> {
 
     /// Answers an UPDATE, whose text is a signed certificate.
     pub fn update<G: Log<Call<A>>>(&mut self, log: &mut G, text: &[u8]) -> Answer<A>
-        ensures answer { is_carried_out result.status ≡ true
-            → result ≡ answer_of self.old.pinned self.old.history (update_of text.now) }
-        ensures history { is_carried_out result.status ≡ true
-            → self.new ≡ record self.old { history = update_of text.now ∷ self.old.history } }
-        ensures log { is_carried_out result.status ≡ true
-            → G.pushed log.new ≡ G.pushed log.old ++ logged self.old (update_of text.now) }
+        ensures answer { IfCarriedOut result
+            (result ≡ answer_of self.old.pinned self.old.history (update_of text.now)) }
+        ensures history { IfCarriedOut result
+            (self.new ≡ record self.old { history = update_of text.now ∷ self.old.history }) }
+        ensures log { IfCarriedOut result
+            (G.pushed log.new ≡ G.pushed log.old ++ logged self.old (update_of text.now)) }
         ensures busy { result.status ≡ status.Busy → IsTrue (G.may_be_full log.old) }
         // It would have gone to the log.
         ensures busy_logged { result.status ≡ status.Busy → logged self.old (update_of text.now) ≢ [] }
-        ensures bare { is_carried_out result.status ≡ false → result.payload ≡ [] }
-        ensures same { is_carried_out result.status ≡ false → self.new ≡ self.old }
-        ensures log_same { is_carried_out result.status ≡ false → G.pushed log.new ≡ G.pushed log.old }
+        ensures bare { IfNotCarriedOut result (result.payload ≡ []) }
+        ensures same { IfNotCarriedOut result (self.new ≡ self.old) }
+        ensures log_same { IfNotCarriedOut result (G.pushed log.new ≡ G.pushed log.old) }
     {
         self.answer(log, CallKind::Update, text, None)
     }
 
     /// Answers a COMMIT, whose text is a signed structure.
     pub fn commit<G: Log<Call<A>>>(&mut self, log: &mut G, text: &[u8]) -> Answer<A>
-        ensures answer { is_carried_out result.status ≡ true
-            → result ≡ answer_of self.old.pinned self.old.history (commit_of text.now) }
-        ensures history { is_carried_out result.status ≡ true
-            → self.new ≡ record self.old { history = commit_of text.now ∷ self.old.history } }
-        ensures log { is_carried_out result.status ≡ true
-            → G.pushed log.new ≡ G.pushed log.old ++ logged self.old (commit_of text.now) }
+        ensures answer { IfCarriedOut result
+            (result ≡ answer_of self.old.pinned self.old.history (commit_of text.now)) }
+        ensures history { IfCarriedOut result
+            (self.new ≡ record self.old { history = commit_of text.now ∷ self.old.history }) }
+        ensures log { IfCarriedOut result
+            (G.pushed log.new ≡ G.pushed log.old ++ logged self.old (commit_of text.now)) }
         ensures busy { result.status ≡ status.Busy → IsTrue (G.may_be_full log.old) }
         // It would have gone to the log.
         ensures busy_logged { result.status ≡ status.Busy → logged self.old (commit_of text.now) ≢ [] }
-        ensures bare { is_carried_out result.status ≡ false → result.payload ≡ [] }
-        ensures same { is_carried_out result.status ≡ false → self.new ≡ self.old }
-        ensures log_same { is_carried_out result.status ≡ false → G.pushed log.new ≡ G.pushed log.old }
+        ensures bare { IfNotCarriedOut result (result.payload ≡ []) }
+        ensures same { IfNotCarriedOut result (self.new ≡ self.old) }
+        ensures log_same { IfNotCarriedOut result (G.pushed log.new ≡ G.pushed log.old) }
     {
         self.answer(log, CallKind::Commit, text, None)
     }
 
-    /// Answers a call, of whose text a copy is made first. What is known of its signature isn't verified again, and makes
-    /// no other difference.
+    /// Answers a call, of whose text a copy is made first. What is known of its signature isn't verified again, and
+    /// makes no other difference.
     pub fn answer<G: Log<Call<A>>>(
         &mut self,
         log: &mut G,
@@ -175,18 +174,18 @@ impl<A: Allocator + Copy> Ordered<A> {
         text: &[u8],
         known: Option<&Verification<'_>>,
     ) -> Answer<A>
-        ensures answer { is_carried_out result.status ≡ true
-            → result ≡ answer_of self.old.pinned self.old.history (call_of kind text.now) }
-        ensures history { is_carried_out result.status ≡ true
-            → self.new ≡ record self.old { history = call_of kind text.now ∷ self.old.history } }
-        ensures log { is_carried_out result.status ≡ true
-            → G.pushed log.new ≡ G.pushed log.old ++ logged self.old (call_of kind text.now) }
+        ensures answer { IfCarriedOut result
+            (result ≡ answer_of self.old.pinned self.old.history (call_of kind text.now)) }
+        ensures history { IfCarriedOut result
+            (self.new ≡ record self.old { history = call_of kind text.now ∷ self.old.history }) }
+        ensures log { IfCarriedOut result
+            (G.pushed log.new ≡ G.pushed log.old ++ logged self.old (call_of kind text.now)) }
         ensures busy { result.status ≡ status.Busy → IsTrue (G.may_be_full log.old) }
         // It would have gone to the log.
         ensures busy_logged { result.status ≡ status.Busy → logged self.old (call_of kind text.now) ≢ [] }
-        ensures bare { is_carried_out result.status ≡ false → result.payload ≡ [] }
-        ensures same { is_carried_out result.status ≡ false → self.new ≡ self.old }
-        ensures log_same { is_carried_out result.status ≡ false → G.pushed log.new ≡ G.pushed log.old }
+        ensures bare { IfNotCarriedOut result (result.payload ≡ []) }
+        ensures same { IfNotCarriedOut result (self.new ≡ self.old) }
+        ensures log_same { IfNotCarriedOut result (G.pushed log.new ≡ G.pushed log.old) }
     {
         let alloc = *self.history.allocator();
         match Vec::from_slice(alloc, text) {
@@ -202,18 +201,15 @@ impl<A: Allocator + Copy> Ordered<A> {
         call: Call<A>,
         known: Option<&Verification<'_>>,
     ) -> Answer<A>
-        ensures answer { is_carried_out result.status ≡ true
-            → result ≡ answer_of self.old.pinned self.old.history call }
-        ensures history { is_carried_out result.status ≡ true
-            → self.new ≡ record self.old { history = call ∷ self.old.history } }
-        ensures log { is_carried_out result.status ≡ true
-            → G.pushed log.new ≡ G.pushed log.old ++ logged self.old call }
+        ensures answer { IfCarriedOut result (result ≡ answer_of self.old.pinned self.old.history call) }
+        ensures history { IfCarriedOut result (self.new ≡ record self.old { history = call ∷ self.old.history }) }
+        ensures log { IfCarriedOut result (G.pushed log.new ≡ G.pushed log.old ++ logged self.old call) }
         ensures busy { result.status ≡ status.Busy → IsTrue (G.may_be_full log.old) }
         // It would have gone to the log.
         ensures busy_logged { result.status ≡ status.Busy → logged self.old call ≢ [] }
-        ensures bare { is_carried_out result.status ≡ false → result.payload ≡ [] }
-        ensures same { is_carried_out result.status ≡ false → self.new ≡ self.old }
-        ensures log_same { is_carried_out result.status ≡ false → G.pushed log.new ≡ G.pushed log.old }
+        ensures bare { IfNotCarriedOut result (result.payload ≡ []) }
+        ensures same { IfNotCarriedOut result (self.new ≡ self.old) }
+        ensures log_same { IfNotCarriedOut result (G.pushed log.new ≡ G.pushed log.old) }
     {
         match self.try_answer(log, call, known) {
             Ok(answer) => answer,
