@@ -1,13 +1,28 @@
 -- Nobody has to believe this file: an aid of private contracts.
 -- A conversation that goes on.
-use Rattle.std.specs.Prelude.{◌≡◌, ◌≤◌, ◌+◌, ℕ, List, ◌++◌, Option, Result, Ok, Err}
+use Rattle.std.specs.Prelude.{◌≡◌, ◌≤◌, ◌+◌, ℕ, List, [], ◌++◌, Option, Result, Ok, Err}
 use Rattle.leaf_ledger.specs.Device.{HasRisen}
 use Rattle.std.specs.List.{All}
 use Rattle.layout.specs.Types.{Bytes, Key}
 use Rattle.connection.specs.Told.{Told, goes_on}
+use Rattle.wire.specs.Frame.{frame, reply_body}
+use Rattle.consistency_server.specs.Answers.{Answer}
 use Rattle.server_workers.specs.Conversation.{Exchange, IsExchange, requests, replies, counted, Conversed}
 use Rattle.server_workers.specs.declared.ended.Ended.{Ended}
 use Rattle.server_workers.specs.declared.ended.Ended.TheVariants.{Fault}
+
+-- the frame of a reply
+abbrev pub frame_of : Answer → Bytes
+frame_of reply = frame.spell (reply_body reply.status reply.payload)
+
+-- the connection was told it whole
+abbrev pub ToldWhole : Answer → Option Told → Option Told → Type 0
+ToldWhole reply before now = now ≡ goes_on [] (frame_of reply) before
+
+-- it was told a beginning of it
+abbrev pub ToldPart : Answer → Option Told → Option Told → Type 0
+ToldPart reply before now =
+    (part rest : List ℕ) × (now ≡ goes_on [] part before) × (frame_of reply ≡ part ++ rest)
 
 -- how it stands: what the connection tells, how many calls were answered, and which bytes wait
 pub record Standing : Type 0 where

@@ -2,7 +2,8 @@
 
 ghost use Rattle.std.specs.Prelude.{◌≡◌, [], ◌∷◌, ◌+◌, ◌<◌, true, false, length, leb, IsTrue};
 ghost use Rattle.principals.specs.Table.{key_of};
-ghost use Rattle.consistency_server.specs.History.{answer_of, log_of, is_carried_out, kept};
+ghost use Rattle.consistency_server.specs.History.{IfCarriedOut, IfNotCarriedOut, answer_of, log_of};
+ghost use Rattle.consistency_server.specs.History.{is_carried_out, kept};
 ghost use Rattle.wire.specs.declared.kinds.Status.TheVariants as status;
 ghost use Rattle.server_workers.specs.Hands.{hand, hand_of};
 ghost use Rattle.server_workers.specs.Counting.{count_of};
@@ -58,12 +59,10 @@ fn carry_out<A: Allocator + Copy, G: Log<Call<A>>>(
     known: Option<&Verification<'_>>,
 ) -> Answer<A>
     requires { G.pushed log.old ≡ log_of ordered.old.pinned ordered.old.history }
-    ensures answer { is_carried_out result.status ≡ true
-        → result ≡ answer_of ordered.old.pinned ordered.old.history call }
-    ensures history { is_carried_out result.status ≡ true
-        → ordered.new ≡ record ordered.old { history = call ∷ ordered.old.history } }
-    ensures same { is_carried_out result.status ≡ false → ordered.new ≡ ordered.old }
-    ensures bare { is_carried_out result.status ≡ false → result.payload ≡ [] }
+    ensures answer { IfCarriedOut result (result ≡ answer_of ordered.old.pinned ordered.old.history call) }
+    ensures history { IfCarriedOut result (ordered.new ≡ record ordered.old { history = call ∷ ordered.old.history }) }
+    ensures same { IfNotCarriedOut result (ordered.new ≡ ordered.old) }
+    ensures bare { IfNotCarriedOut result (result.payload ≡ []) }
     ensures log { G.pushed log.new ≡ log_of ordered.new.pinned ordered.new.history }
     ensures busy { result.status ≡ status.Busy → IsTrue (G.may_be_full log.old) }
 {
@@ -105,12 +104,10 @@ impl<'a, A: Allocator + Copy, B: ServerName, L: Ledger, R: Wait> Locked<'a, A, B
         known: Option<&Verification<'_>>,
     ) -> Answer<A>
         requires { 0 < mine.old.share.parts }
-        ensures answer { is_carried_out result.status ≡ true
-            → result ≡ answer_of B.pinned self.old.history call }
-        ensures history { is_carried_out result.status ≡ true
-            → self.new ≡ record self.old { history = call ∷ self.old.history } }
-        ensures same { is_carried_out result.status ≡ false → self.new ≡ self.old }
-        ensures bare { is_carried_out result.status ≡ false → result.payload ≡ [] }
+        ensures answer { IfCarriedOut result (result ≡ answer_of B.pinned self.old.history call) }
+        ensures history { IfCarriedOut result (self.new ≡ record self.old { history = call ∷ self.old.history }) }
+        ensures same { IfNotCarriedOut result (self.new ≡ self.old) }
+        ensures bare { IfNotCarriedOut result (result.payload ≡ []) }
         ensures busy { result.status ≡ status.Busy
             → IsTrue (leb QUEUE_ROOM (length (log_of B.pinned self.old.history))) }
         ensures counted { mine.new.answered ≡ mine.old.answered + count_of result.status }

@@ -15,7 +15,7 @@ use crate::new_queue::empty_queue;
 use crate::places::empty_places;
 use crate::shared::Shared;
 use crate::tally::Tally;
-use crate::workers::{Site, Workers};
+use crate::workers::{Shift, Site, Workers};
 use block_store::Store;
 use connection::Connection;
 use consistency_server::Ordered;
@@ -53,6 +53,37 @@ pub struct Unbegun<I: Drop, W: Drop> {
     pub connections: I,
     /// To which nothing was written.
     pub writer: W,
+}
+
+/// Serves the connections, and beside them the flusher writes the log.
+fn serve_beside<
+    'a,
+    A: Allocator + Copy + Send + Sync,
+    G: Gate + Sync,
+    C: Connection + Send,
+    I: Iterator<Item = C> + Drop,
+    W: Write + Drop + Send,
+    B: ServerName + Send + Sync,
+    L: Ledger + Send + Sync,
+    R: Threads + Wait + Clock + Sync,
+>(
+    rt: &R,
+    flusher: Flusher<'a, A, B, R, W>,
+    shift: Shift<'_, '_, A, G, B, L, R, C, I>,
+) -> (Flusher<'a, A, B, R, W>, (Tally<L>, usize))
+    ensures { result.1.0.share.parts ≡ L.parts }
+{
+    let ended = AtomicBool::new(false);
+    let flag = &ended;
+    thread::join(
+        rt,
+        move || flusher.run(flag),
+        move || {
+            let all = shift.serve();
+            flag.store(true, Ordering::SeqCst);
+            all
+        },
+    )
 }
 
 /// The server over one queue and one ledger, which `B` and `L` name.
@@ -108,21 +139,13 @@ fn serve_in<
         shared,
         places,
     };
-    let workers = Workers::new(stock, running, at_once);
-    let ended = AtomicBool::new(false);
-    let (place_of_work, flag) = (&site, &ended);
-    let (flusher, (mut all, unserved)) = thread::join(
-        rt,
-        move || flusher.run(flag),
-        move || -> (Tally<L>, usize)
-            requires { I.can_next connections × IsFinite (I.remaining connections) }
-            ensures { result.0.share.parts ≡ L.parts }
-        {
-            let all = workers.serve(place_of_work, connections, most);
-            flag.store(true, Ordering::SeqCst);
-            all
-        },
-    );
+    let shift = Shift {
+        workers: Workers::new(stock, running, at_once),
+        site: &site,
+        connections,
+        most,
+    };
+    let (flusher, (mut all, unserved)) = serve_beside(rt, flusher, shift);
     let Site { shared, .. } = site;
     let Shared { locked, .. } = shared;
     let (ordered, pushing) = locked.into_inner().close(&mut all);
@@ -148,9 +171,10 @@ pub struct Limits {
 /// How many connections are served at the same time, unless it is said otherwise.
 const AT_ONCE: u32 = 256;
 
-/// Serves at most `limits.most` connections, a worker each, which starts at once. At most `limits.at_once` are served at
-/// the same time: a further one is taken only once a worker has ended. Beside them a flusher writes the log. `pinned` is
-/// the key of user 0. Where memory runs out before the first connection was taken, what was handed in comes back.
+/// Serves at most `limits.most` connections, a worker each, which starts at once. At most `limits.at_once` are served
+/// at the same time: a further one is taken only once a worker has ended. Beside them a flusher writes the log.
+/// `pinned` is the key of user 0. Where memory runs out before the first connection was taken, what was handed in comes
+/// back.
 pub fn serve_within<
     A: Allocator + Copy + Send + Sync,
     G: Gate + Sync,

@@ -1,13 +1,14 @@
 //! The worker of one connection.
 
-ghost use Rattle.std.specs.Prelude.{◌≡◌, ◌≢◌, ◌⊎◌, ◌+◌, ◌<◌, ◌++◌, ◌∷◌, [], List, ℕ, OnOk, IfErr, OnErr, Err, true};
+ghost use Rattle.std.specs.Prelude.{◌≡◌, ◌≢◌, ◌⊎◌, ◌+◌, ◌<◌, ◌++◌, [], List, ℕ, OnOk, IfErr, OnErr, Err, true};
 ghost use Rattle.std.specs.Prelude.{length};
 ghost use Rattle.leaf_ledger.specs.Device.{HasRisen, HasCause};
-ghost use Rattle.wire.specs.Frame.{frame, reply_body};
 ghost use Rattle.server_workers.specs.declared.ended.Ended.TheVariants as ended;
 ghost use Rattle.connection.specs.Told.{goes_on};
-ghost use Rattle.server_workers.specs.Conversation.{Conversed};
-ghost use Rattle.server_workers.specs.Conversing.{GoesOn, IsCaused};
+ghost use Rattle.wire.specs.Frame.{request_of};
+ghost use Rattle.consistency_server.specs.Answers.{Answer};
+ghost use Rattle.server_workers.specs.Conversation.{Conversed, RepliesToBody, count_in};
+ghost use Rattle.server_workers.specs.Conversing.{GoesOn, IsCaused, ToldPart, ToldWhole};
 
 use crate::call_queue::ServerName;
 use crate::ended::Ended;
@@ -50,11 +51,8 @@ fn write_whole<A: Allocator, C: Connection>(
     connection: &mut C,
     reply: &ReplyBody<'_, A>,
 ) -> Result<(), Ended>
-    ensures ok { OnOk result (C.told connection.new
-        ≡ goes_on [] (frame.spell (reply_body reply.now.status reply.now.payload)) (C.told connection.old)) }
-    ensures err { IfErr result (λ _. (part rest : List ℕ)
-        × (C.told connection.new ≡ goes_on [] part (C.told connection.old))
-        × (frame.spell (reply_body reply.now.status reply.now.payload) ≡ part ++ rest)) }
+    ensures ok { OnOk result (ToldWhole reply.now (C.told connection.old) (C.told connection.new)) }
+    ensures err { IfErr result (λ _. ToldPart reply.now (C.told connection.old) (C.told connection.new)) }
     ensures broken { IfErr result (λ e. (e ≡ ended.Fault) ⊎ (e ≡ ended.Memory)) }
     ensures cause { IsCaused (C.fault_count connection.old) (C.fault_count connection.new) result }
 {
@@ -68,11 +66,8 @@ fn write_parts<A: Allocator, C: Connection>(
     connection: &mut C,
     reply: &ReplyBody<'_, A>,
 ) -> Result<(), ConnectionFault>
-    ensures ok { OnOk result (C.told connection.new
-        ≡ goes_on [] (frame.spell (reply_body reply.now.status reply.now.payload)) (C.told connection.old)) }
-    ensures err { IfErr result (λ _. (part rest : List ℕ)
-        × (C.told connection.new ≡ goes_on [] part (C.told connection.old))
-        × (frame.spell (reply_body reply.now.status reply.now.payload) ≡ part ++ rest)) }
+    ensures ok { OnOk result (ToldWhole reply.now (C.told connection.old) (C.told connection.new)) }
+    ensures err { IfErr result (λ _. ToldPart reply.now (C.told connection.old) (C.told connection.new)) }
     ensures cause { HasCause (C.fault_count connection.old) (C.fault_count connection.new) result }
 {
     connection.write(&reply.head())?;
@@ -85,11 +80,8 @@ fn answer<A: Allocator, C: Connection>(
     connection: &mut C,
     reply: &ReplyBody<'_, A>,
 ) -> Result<(), Ended>
-    ensures ok { OnOk result (C.told connection.new
-        ≡ goes_on [] (frame.spell (reply_body reply.now.status reply.now.payload)) (C.told connection.old)) }
-    ensures err { IfErr result (λ _. (part rest : List ℕ)
-        × (C.told connection.new ≡ goes_on [] part (C.told connection.old))
-        × (frame.spell (reply_body reply.now.status reply.now.payload) ≡ part ++ rest)) }
+    ensures ok { OnOk result (ToldWhole reply.now (C.told connection.old) (C.told connection.new)) }
+    ensures err { IfErr result (λ _. ToldPart reply.now (C.told connection.old) (C.told connection.new)) }
     ensures broken { IfErr result (λ e. (e ≡ ended.Fault) ⊎ (e ≡ ended.Memory)) }
     ensures cause { IsCaused (C.fault_count connection.old) (C.fault_count connection.new) result }
 {
@@ -123,6 +115,29 @@ fn read_on<A: Allocator, C: Connection>(
     Ok(())
 }
 
+/// Replies to the body of a request's frame.
+fn reply_to<A: Allocator + Copy, G: Gate, C: Connection, B: ServerName, L: Ledger, R: Wait>(
+    rt: &R,
+    connection: &mut C,
+    shared: &Shared<'_, A, B, L, R>,
+    gate: &G,
+    tally: &mut Tally<L>,
+    seen: &mut Option<SeenKey>,
+    body: &[u8],
+) -> Result<(), Ended>
+    requires { 0 < tally.old.share.parts }
+    ensures replied { (reply : Answer) × RepliesToBody B.pinned (request_of body.now) reply
+        × (tally.new.answered ≡ tally.old.answered + count_in (request_of body.now) reply.status)
+        × OnOk result (ToldWhole reply (C.told connection.old) (C.told connection.new))
+        × IfErr result (λ _. ToldPart reply (C.told connection.old) (C.told connection.new)) }
+    ensures broken { IfErr result (λ e. (e ≡ ended.Fault) ⊎ (e ≡ ended.Memory)) }
+    ensures cause { IsCaused (C.fault_count connection.old) (C.fault_count connection.new) result }
+    ensures parts { tally.new.share.parts ≡ tally.old.share.parts }
+{
+    let reply = shared.reply_to(rt, gate, tally, seen, body);
+    answer(shared.alloc, connection, &reply)
+}
+
 /// Replies to the next frame, or reads on where it isn't whole.
 fn step<A: Allocator + Copy, G: Gate, C: Connection, B: ServerName, L: Ledger, R: Wait>(
     rt: &R,
@@ -144,10 +159,7 @@ fn step<A: Allocator + Copy, G: Gate, C: Connection, B: ServerName, L: Ledger, R
     ensures parts { tally.new.share.parts ≡ tally.old.share.parts }
 {
     match frames.next_frame() {
-        Ok(Some(request)) => {
-            let reply = shared.reply_to(rt, gate, tally, seen, &request);
-            answer(shared.alloc, connection, &reply)
-        }
+        Ok(Some(request)) => reply_to(rt, connection, shared, gate, tally, seen, &request),
         Ok(None) => read_on(connection, frames, buffer),
         Err(FrameError::Length) => Err(Ended::Length),
         Err(FrameError::Memory) => Err(Ended::Memory),

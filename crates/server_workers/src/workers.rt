@@ -15,7 +15,7 @@ use std::marker::Model;
 use std::sync::Wait;
 use std::sync::ledger::Ledger;
 use std::thread;
-use std::thread::{Scope, Threads};
+use std::thread::{JoinHandle, Scope, Threads};
 use std::time::{Clock, Duration};
 
 /// How long is rested between one look for a worker that has ended and the next, at first and at most, in milliseconds.
@@ -49,6 +49,20 @@ fn work_at<A: Allocator + Copy, G: Gate, C: Connection, B: ServerName, L: Ledger
     part
 }
 
+/// Joins a worker, and puts its tally to the others.
+fn join_one<
+    A: Allocator + Copy + Send + Sync,
+    G: Gate,
+    B: ServerName,
+    L: Ledger,
+    R: Threads + Wait,
+>(site: &Site<'_, A, G, B, L, R>, all: &mut Tally<L>, worker: JoinHandle<WorkerTally<L>>)
+    ensures { all.new.share.parts ≡ all.old.share.parts + 1 }
+{
+    let one = worker.join(site.rt).tally();
+    site.shared.locked.lock(site.rt).collect(all, one);
+}
+
 /// Joins a worker that has ended, if there is one: its tally is put to the others, and its place is free.
 fn join_ended<
     A: Allocator + Copy + Send + Sync,
@@ -63,13 +77,11 @@ fn join_ended<
     ensures as_many { result ≡ false → vec_len running.new ≡ vec_len running.old }
     ensures room { vec_capacity running.new ≡ vec_capacity running.old }
 {
-    let rt = site.rt;
     let Some(k) = first_ended(&site.places, running.as_slice()) else {
         return false;
     };
     let Running { worker, place } = running.swap_remove(k);
-    let one = worker.join(rt).tally();
-    site.shared.locked.lock(rt).collect(all, one);
+    join_one(site, all, worker);
     if let Some(place) = site.places.get(place) {
         place.free();
     }
@@ -160,8 +172,9 @@ impl<A: Allocator + Copy + Send + Sync, L: Ledger + Send + Sync> Workers<A, L> {
         }
     }
 
-    /// Starts a worker for a connection at a place. Where no thread can be started, it joins a worker that has ended, and
-    /// tries once more; it waits for none. False where none could be started: then the connection is dropped unread.
+    /// Starts a worker for a connection at a place. Where no thread can be started, it joins a worker that has ended,
+    /// and tries once more; it waits for none. False where none could be started: then the connection is dropped
+    /// unread.
     fn start_one<
         's,
         'a: 's,
@@ -272,61 +285,92 @@ impl<A: Allocator + Copy + Send + Sync, L: Ledger + Send + Sync> Workers<A, L> {
         } = self;
         for handle in running {
             let Running { worker, .. } = handle;
-            let one = worker.join(site.rt).tally();
-            site.shared.locked.lock(site.rt).collect(&mut all, one);
+            join_one(site, &mut all, worker);
         }
         all
     }
+}
 
+/// Workers, where they work, and the connections that they are to serve, of at most so many. Contracts see nothing of
+/// them; the connections come to an end.
+#[derive(Drop)]
+pub(crate) struct Shift<
+    'e,
+    'a,
+    A: Allocator,
+    G,
+    B: ServerName,
+    L: Ledger,
+    R: Wait,
+    C,
+    I: Iterator<Item = C> + Drop,
+> {
+    pub(crate) workers: Workers<A, L>,
+    pub(crate) site: &'e Site<'a, A, G, B, L, R>,
+    pub(crate) connections: I,
+    pub(crate) most: u32,
+}
+
+impl<
+    'e,
+    'a,
+    A: Allocator,
+    G,
+    B: ServerName,
+    L: Ledger,
+    R: Wait,
+    C,
+    I: Iterator<Item = C> + Drop,
+> Model for Shift<'e, 'a, A, G, B, L, R, C, I> {
+    ghost use Rattle.std.specs.Iterator.{IsFinite};
+
+    ghost Value = { Unit {0} };
+
+    ghost view = { λ _. tt };
+
+    ghost invariant = { λ s. I.can_next s.connections × IsFinite (I.remaining s.connections) };
+}
+
+impl<
+    'e,
+    'a,
+    A: Allocator + Copy + Send + Sync,
+    G: Gate + Sync,
+    C: Connection + Send,
+    B: ServerName + Send + Sync,
+    L: Ledger + Send + Sync,
+    R: Threads + Wait + Clock + Sync,
+    I: Iterator<Item = C> + Drop,
+> Shift<'e, 'a, A, G, B, L, R, C, I> {
     /// Starts a worker for each connection, of at most so many, and waits for them all. The number is that of the
     /// connections for which no thread could be started.
-    fn run<
-        's,
-        'a: 's,
-        E,
-        G: Gate + Sync,
-        C: Connection + Send + 's,
-        I: Iterator<Item = C> + Drop,
-        B: ServerName + Send + Sync + 's,
-        R: Threads + Wait + Clock + Sync,
-    >(
-        self,
-        site: &'s Site<'a, A, G, B, L, R>,
-        scope: &'s Scope<'s, E>,
-        connections: I,
-        most: u32,
-    ) -> (Tally<L>, usize)
+    fn run<'s, E>(self, scope: &'s Scope<'s, E>) -> (Tally<L>, usize)
     where
+        'e: 's,
+        'a: 's,
         A: 's,
+        C: 's,
+        B: 's,
         L: 's,
-        requires { I.can_next connections × IsFinite (I.remaining connections) }
         ensures { result.0.share.parts ≡ L.parts }
     {
-        let mut workers = self;
+        let Shift {
+            mut workers,
+            site,
+            connections,
+            most,
+        } = self;
         let unserved = workers.start(site, scope, connections, most);
         (workers.gather(site), unserved)
     }
 
     /// Runs a worker for each connection, of at most so many, to its end, and puts the tallies together. The number is
     /// that of the connections for which no thread could be started.
-    pub(crate) fn serve<
-        G: Gate + Sync,
-        C: Connection + Send,
-        I: Iterator<Item = C> + Drop,
-        B: ServerName + Send + Sync,
-        R: Threads + Wait + Clock + Sync,
-    >(self, site: &Site<'_, A, G, B, L, R>, connections: I, most: u32) -> (Tally<L>, usize)
-        requires { I.can_next connections × IsFinite (I.remaining connections) }
+    pub(crate) fn serve(self) -> (Tally<L>, usize)
         ensures { result.0.share.parts ≡ L.parts }
     {
-        let workers = self;
-        thread::scope(
-            thread::scope_env(),
-            site.rt,
-            move |scope| -> (Tally<L>, usize)
-                requires { I.can_next connections × IsFinite (I.remaining connections) }
-                ensures { result.0.share.parts ≡ L.parts }
-            { workers.run(site, scope, connections, most) },
-        )
+        let shift = self;
+        let rt = shift.site.rt;
+        thread::scope(thread::scope_env(), rt, move |scope| shift.run(scope))
     }
 }

@@ -7,7 +7,8 @@ use Rattle.server_workers.proofs.worker.step.Goals as goal
 pub returns-in-Ok-Some-clause-goes_on : goal.returns-in-Ok-Some-clause-goes_on
 returns-in-Ok-Some-clause-goes_on g c =
     let next = subst (λ (b : List ℕ). IsFrameThen b c.next_frame.new.self c.args.frames.now) (sym c.deref.ensures.value) (some_holds _ _ _ c.in-Ok-Some.field-0-is c.in-Ok-Some.ensures.frame) in
-    replied _ _ _ _ _ _ _ _ _ _ next c.reply_to-reply.ensures.replies c.reply_to-reply.ensures.counted c.answer.ensures.ok c.answer.ensures.err c.answer.ensures.broken
+    let made = c.reply_to.ensures.replied in
+    replied _ _ _ _ _ _ _ _ _ _ next made.1 made.2 made.3 made.4 c.reply_to.ensures.broken
 
 pub returns-in-Ok-None-clause-goes_on : goal.returns-in-Ok-None-clause-goes_on
 returns-in-Ok-None-clause-goes_on g c =

@@ -1,4 +1,4 @@
-use Rattle.std.proofs.Common.{◌≡◌, ◌≢◌, ◌≤◌}
+use Rattle.std.proofs.Common.{◌≢◌, ◌≤◌}
 use Rattle.std.specs.Iterator.{IsFinite}
 use Rattle.server_workers.proofs.workers.Workers.start.Given as goal
 
