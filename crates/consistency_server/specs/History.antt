@@ -1,5 +1,6 @@
 -- Histories: the calls that the server answered otherwise than busy or out of memory. The newest call is the first.
-use Rattle.std.specs.Prelude.{◌≡◌, Bool, true, false, List, [], ◌∷◌, ◌++◌}
+use Rattle.std.specs.Prelude.{◌≡◌, Bool, true, false, List, [], ◌∷◌, ◌++◌, Vec, map, reverse}
+use Rattle.std.specs.declared.snapshot.Snapshot.{Snapshot}
 use Rattle.layout.specs.Types.{Bytes, Key}
 use Rattle.wire.specs.declared.kinds.Status.{Status}
 use Rattle.wire.specs.declared.kinds.Status.TheVariants.{Ok, Form, UnknownUser, BadSignature, WrongNumber, NotPending, Busy, TooLarge, Absent, Memory}
@@ -13,6 +14,10 @@ use Rattle.consistency_server.specs.Answers.{Call, Answer, Outcome, outcome_of, 
 pub record Ordered : Type 0 where
   pub pinned : Key
   pub history : List Call
+
+-- the calls of which a server keeps snapshots, the oldest first: the newest one first
+abbrev pub calls_of : {A : Type 0} → Vec (Snapshot Call) A → List Call
+calls_of past = reverse (map (λ s. s.value) past.items)
 
 abbrev pub call_of : CallKind → Bytes → Call
 call_of kind text = record { kind = kind; text = text }

@@ -7,5 +7,4 @@ pub mod Signer
 pub mod Verification
 pub mod Tidy
 pub mod Judged
-pub mod Past
 pub mod Serving

@@ -1,7 +1,7 @@
 //! The calls so far, of which only the number is kept: a snapshot has no bytes.
 
 ghost use Rattle.std.specs.Prelude.{◌≡◌, ◌∷◌, OnOk, OnErr, drop};
-ghost use Rattle.consistency_server.specs.Past.{calls_of};
+ghost use Rattle.consistency_server.specs.History.{calls_of};
 
 use crate::call::Call;
 use layout::Memory;

@@ -2,7 +2,7 @@
 
 ghost use Rattle.std.specs.Prelude.{◌≡◌, ◌≢◌, [], ◌∷◌, ◌++◌, true, OnOk, OnErr, IfOk, IsTrue, Err, length};
 ghost use Rattle.consistency_server.specs.Judged.{MayHappen, answer_by, state_after, logged_by};
-ghost use Rattle.consistency_server.specs.Past.{calls_of};
+ghost use Rattle.consistency_server.specs.History.{calls_of};
 
 use crate::call::{Answer, Call, CallKind};
 use crate::log::Log;
@@ -27,8 +27,7 @@ pub struct Ordered<A: Allocator> {
 
 impl<A: Allocator> Model for Ordered<A> {
     ghost use Rattle.std.specs.Prelude.{◌≡◌};
-    ghost use Rattle.consistency_server.specs.History.{Ordered, kept};
-    ghost use Rattle.consistency_server.specs.Past.{calls_of};
+    ghost use Rattle.consistency_server.specs.History.{Ordered, calls_of, kept};
 
     ghost Value = { Ordered };
 
