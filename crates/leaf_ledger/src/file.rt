@@ -10,14 +10,12 @@ ghost use Rattle.leaf_ledger.specs.Device.{started};
 use crate::device::{Device, DeviceError};
 use crate::fault::{END, fault};
 use crate::recording::Recording;
+use layout::{Memory, beside};
 use std::alloc::Allocator;
 use std::fs::{File, OpenOptions};
 use std::io::{self, Read};
 use std::marker::Model;
 use std::os::unix::fs::FileExt;
-
-#[cfg(test)]
-mod tests;
 
 /// A device over a file of the system, which nobody else may write to.
 ///
@@ -38,6 +36,20 @@ impl<A: Allocator> Model for FileDevice<A> {
     ghost view = { λ f. record { history = f.kept; faults = f.faults } };
 }
 
+/// The bytes of a file, once it and its folder are synced.
+fn synced_bytes<A: Allocator + Copy>(
+    rt: &HostRuntime,
+    alloc: A,
+    folder: &str,
+    file: &mut File,
+) -> io::Result<Vec<u8, A>> {
+    file.sync_all()?;
+    File::open(rt, folder)?.sync_all()?;
+    let mut text = Vec::new(alloc);
+    file.read_to_end(&mut text)?;
+    Ok(text)
+}
+
 impl<A: Allocator + Copy> FileDevice<A> {
     /// The device over the file at a path in a folder, which is made where there is none. File and folder are synced
     /// first, so that what the file holds stays, and that it is there.
@@ -50,18 +62,27 @@ impl<A: Allocator + Copy> FileDevice<A> {
             .write(true)
             .create(true)
             .open(rt, path)?;
-        file.sync_all()?;
-        File::open(rt, folder)?.sync_all()?;
-        let mut text = Vec::new(alloc);
-        file.read_to_end(&mut text)?;
-        match Recording::new(alloc, text) {
-            Ok(kept) => Ok(FileDevice {
-                file,
-                kept,
-                faults: 0,
-            }),
+        let read = synced_bytes(rt, alloc, folder, &mut file);
+        let (file, text) = beside(file, read)?;
+        match FileDevice::over(file, text) {
+            Ok(device) => Ok(device),
             Err(_) => Err(io::ErrorKind::OutOfMemory.into()),
         }
+    }
+
+    /// The device over a file that is open for reads and writes. The caller vouches that it holds this text, synced.
+    pub fn over(file: File, text: Vec<u8, A>) -> Result<FileDevice<A>, Memory>
+        ensures history { IfOk result (λ device. device.history ≡ started text.items) }
+        ensures faults { IfOk result (λ device. device.faults ≡ 0) }
+    {
+        let alloc = *text.allocator();
+        let kept = Recording::new(alloc, text);
+        let (file, kept) = beside(file, kept)?;
+        Ok(FileDevice {
+            file,
+            kept,
+            faults: 0,
+        })
     }
 }
 

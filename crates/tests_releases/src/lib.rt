@@ -1,9 +1,11 @@
 //! Tests of ledgers, of journals and of what a client releases: over devices in memory, whose calls fail in turn and
-//! which crash.
+//! which crash; and of a device over a real file.
 #![tactic(auto)]
 
 #[cfg(test)]
 mod crashes;
+#[cfg(test)]
+mod files;
 #[cfg(test)]
 mod journals;
 #[cfg(test)]

@@ -1,9 +1,6 @@
 //! A device over a real file beside one in memory.
 
-use super::FileDevice;
-use crate::device::{Device, DeviceError};
-use crate::memory::MemoryDevice;
-use crate::recording::Recording;
+use leaf_ledger::{Device, DeviceError, FileDevice, MemoryDevice};
 use std::alloc::Global;
 use std::fs::{self, File};
 use std::process::Abort;
@@ -79,12 +76,7 @@ fn what_the_system_does_not_sync_is_not_synced(rt: HostRuntime) {
     let alloc = rt.alloc();
     assert!(rt; FileDevice::open(&rt, alloc, "/dev", "/dev/null").is_err());
     let file = File::open(&rt, "/dev/null").expect(&rt, "it is opened");
-    let kept = Recording::new(alloc, Vec::new(alloc)).expect(&rt, "there is memory");
-    let mut device = FileDevice {
-        file,
-        kept,
-        faults: 0,
-    };
+    let mut device = FileDevice::over(file, Vec::new(alloc)).expect(&rt, "there is memory");
     assert!(rt; device.len().is_ok_and(|size| size == 0));
     assert!(rt; device.sync().is_err() && device.faults() == 1);
 }
