@@ -1,5 +1,5 @@
 -- Exchanges over a connection: the frame of a request is written, and the frame of its reply is read.
-use Rattle.std.specs.Prelude.{◌≡◌, ◌⊎◌, ◌≤◌, ◌<◌, ℕ, Bool, true, false, [], ◌++◌, length, Option, Result, Ok, Err}
+use Rattle.std.specs.Prelude.{◌≡◌, ◌⊎◌, ◌≤◌, ◌<◌, ℕ, Bool, true, false, [], ◌++◌, length, Option, Some, None, Result, Ok, Err}
 use Rattle.layout.specs.Types.{Bytes}
 use Rattle.leaf_ledger.specs.Device.{HasRisen}
 use Rattle.connection.specs.Told.{Told, goes_on}
@@ -18,10 +18,15 @@ pub record Standing : Type 0 where
   pub at_end : Bool
   -- how often it has failed
   pub faults : ℕ
-  -- what was read, but for the replies that were handed out
+  -- what was read, but for the replies that were handed out; nothing where the connection doesn't tell
   pub waiting : Bytes
   -- a request was sent whose reply wasn't handed out
   pub broken : Bool
+
+-- of the bytes that wait, those that a connection which tells this shows
+abbrev pub shown : Option Told → Bytes → Bytes
+shown None waiting = []
+shown (Some told) waiting = waiting
 
 -- nothing was sent: the request fits into no frame, or the reply of an earlier one is missing, or else memory ran out
 abbrev pub IsUnsent : Asked → Result Bytes TransportError → Standing → Type 0

@@ -1,10 +1,11 @@
 -- Nobody has to believe this file: an aid of private contracts.
 -- A frame that is read from a connection.
-use Rattle.std.specs.Prelude.{◌≡◌, ◌≤◌, ◌<◌, ℕ, Bool, [], ◌++◌, length, Option, Result, Err}
+use Rattle.std.specs.Prelude.{◌≡◌, ◌≤◌, ◌<◌, ◌⊎◌, ℕ, Bool, true, [], ◌++◌, length, Option, Result, Err}
 use Rattle.layout.specs.Types.{Bytes}
 use Rattle.layout.specs.Format.{IsBytes}
 use Rattle.leaf_ledger.specs.Device.{HasRisen}
 use Rattle.connection.specs.Told.{Told, goes_on}
+use Rattle.wire.specs.Stream.{BeginsFrame, BeginsAtFault}
 use Rattle.transport.specs.Framing.{Brings}
 use Rattle.transport.specs.declared.transport.TransportError.{TransportError}
 use Rattle.transport.specs.declared.transport.TransportError.TheVariants.{Fault}
@@ -28,3 +29,18 @@ pub record Received (result : Result Bytes TransportError) (before now : Option 
 pub record IsCaused {X : Type 0} (before now : ℕ) (result : Result X TransportError) : Type 0 where
   pub later : before ≤ now
   pub rose : result ≡ Err Fault → HasRisen before now
+
+-- bytes came with which no frame begins, and none will
+abbrev pub NoFrameComes : Bool → Type 0
+NoFrameComes at_end = (came : Bytes) × (¬ BeginsFrame came) × ((at_end ≡ true) ⊎ BeginsAtFault came)
+
+-- a text was written, of which a rest may be missing after a fault, and then so many bytes were read
+pub record Answered (result : Result Bytes TransportError) (text : Bytes) (before now : Option Told)
+    (waiting waiting_now : Bytes) (at_end : Bool) : Type 0 where
+  pub read : Bytes
+  pub written : Bytes
+  pub unwritten : Bytes
+  pub told : now ≡ goes_on read written before
+  pub in_order : text ≡ written ++ unwritten
+  pub whole : (unwritten ≡ []) ⊎ (result ≡ Err Fault)
+  pub brings : Brings result (waiting ++ read) waiting_now at_end

@@ -5,15 +5,24 @@ ghost use Rattle.leaf_ledger.specs.Device.{HasRisen};
 ghost use Rattle.transport.specs.declared.transport.TransportError.TheVariants as why;
 
 use crate::framed::Framed;
-use crate::transport::{Request, Transport, TransportError};
+use crate::transport::{Ahead, Request, Transport, TransportError};
 use connection::{Connection, ConnectionFault};
 use std::alloc::Allocator;
 use std::marker::Model;
 
 /// What connects to a server.
-pub trait Connect<C>: Drop {
+pub trait Connect<C: Connection>: Drop {
+    ghost use Rattle.std.specs.Prelude.{◌≡◌, true, None};
+
     /// A new connection to the server.
     fn connect(&mut self) -> Result<C, ConnectionFault>;
+
+    /// Whether requests may go ahead of replies over its connections: only where these don't tell their bytes.
+    fn may_go_ahead(&self) -> bool
+        ensures { result ≡ true → (connection : C) → C.told connection ≡ None }
+    {
+        false
+    }
 }
 
 /// A transport that connects at its first exchange, and then is one over that connection. A refused connection counts
@@ -45,7 +54,10 @@ fn join<K: Connect<C>, C: Connection, A: Allocator + Copy>(
     ensures later { refused.old ≤ refused.new }
 {
     match connect.connect() {
-        Ok(connection) => Ok(Framed::new(alloc, connection)?),
+        Ok(connection) => {
+            let may_go_ahead = connect.may_go_ahead();
+            Ok(Framed::going_ahead(alloc, connection, may_go_ahead)?)
+        }
         Err(_) => {
             *refused = refused.saturating_add(1);
             Err(TransportError::Fault)
@@ -84,11 +96,19 @@ impl<K: Connect<C>, C: Connection, A: Allocator + Copy> Transport<A> for Connect
     ghost fault_count = { link_faults };
 
     fn exchange(&mut self, request: &Request<'_>) -> Result<Vec<u8, A>, TransportError> {
+        self.exchange_ahead(request, &Ahead::Nothing)
+    }
+
+    fn exchange_ahead(
+        &mut self,
+        request: &Request<'_>,
+        ahead: &Ahead<'_, A>,
+    ) -> Result<Vec<u8, A>, TransportError> {
         let mut framed = match self.framed.take() {
             Some(framed) => framed,
             None => join(self.alloc, &mut self.connect, &mut self.refused)?,
         };
-        let answer = framed.exchange(request);
+        let answer = framed.exchange_ahead(request, ahead);
         self.framed = Some(framed);
         answer
     }

@@ -3,8 +3,9 @@
 
 mod connecting;
 mod framed;
+mod line;
 mod transport;
 
 pub use connecting::{Connect, Connecting};
 pub use framed::Framed;
-pub use transport::{Request, Transport, TransportError};
+pub use transport::{Ahead, Request, Transport, TransportError};

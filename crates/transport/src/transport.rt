@@ -2,6 +2,7 @@
 
 ghost use Rattle.std.specs.Prelude.{◌≡◌};
 
+use layout::Digest;
 use std::alloc::Allocator;
 use std::marker::Model;
 use thiserror::Error;
@@ -59,6 +60,31 @@ impl<'a> Request<'a> {
     }
 }
 
+/// Requests that are likely to come next, in this order, so that they may be sent before the reply is read that is
+/// waited for. They change no order of operations: what changes one is never among them.
+#[derive(Drop)]
+pub enum Ahead<'a, A: Allocator> {
+    /// None is known.
+    Nothing,
+    /// These texts will be stored.
+    Puts(&'a [Vec<u8, A>]),
+    /// The blocks of these digests will be asked for.
+    Gets(&'a [Digest]),
+}
+
+impl<'a, A: Allocator> Ahead<'a, A> {
+    /// The request at a place, from 0 on, if there is one.
+    pub(crate) fn request(&self, place: usize) -> Option<Request<'a>> {
+        match self {
+            Ahead::Nothing => None,
+            Ahead::Puts(texts) => Some(Request::new(RequestKind::Put, texts.get(place)?)),
+            Ahead::Gets(digests) => {
+                Some(Request::new(RequestKind::Get, digests.get(place)?.as_bytes()))
+            }
+        }
+    }
+}
+
 /// What carries a request to the server, and the body of its reply back. Nothing is promised of what comes.
 pub trait Transport<A: Allocator> {
     ghost use Rattle.std.specs.Prelude.{◌≡◌, ◌≤◌, ℕ, Result, Err};
@@ -77,6 +103,18 @@ pub trait Transport<A: Allocator> {
     /// Sends a request, and gives the body of the frame that comes back.
     fn exchange(&mut self, request: &Request<'_>) -> Result<Vec<u8, A>, TransportError>
         ensures { answers self.old request.now (came result) self.new };
+
+    /// The same, where it is known what is likely to come next. That is a hint: it may be sent now, and is an exchange
+    /// of its own once it is asked for.
+    fn exchange_ahead(
+        &mut self,
+        request: &Request<'_>,
+        _ahead: &Ahead<'_, A>,
+    ) -> Result<Vec<u8, A>, TransportError>
+        ensures { answers self.old request.now (came result) self.new }
+    {
+        self.exchange(request)
+    }
 
     /// How often it has failed. It counts up to the greatest number, and stays there.
     fn faults(&self) -> u64

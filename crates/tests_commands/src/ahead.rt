@@ -1,0 +1,141 @@
+//! Requests that go ahead of replies, over a connection that doesn't tell its bytes.
+
+use connection::{Connection, ConnectionFault, MemoryConnection};
+use std::alloc::Global;
+use std::process::Abort;
+use transport::{Ahead, Framed, Request, Transport, TransportError};
+use wire::RequestKind;
+
+/// A connection in memory that doesn't tell its bytes.
+#[derive(Drop)]
+struct Quiet<'a> {
+    inner: MemoryConnection<'a>,
+}
+
+impl<'a> Connection for Quiet<'a> {
+    ghost use Rattle.std.specs.Prelude.{None, length, nat_eq};
+
+    ghost told = { λ _. None };
+
+    ghost is_at_end = { λ q. nat_eq q.inner.given (length q.inner.input.now) };
+
+    ghost fault_count = { λ q. q.inner.faults };
+
+    fn read(&mut self, buffer: &mut [u8]) -> Result<usize, ConnectionFault> {
+        self.inner.read(buffer)
+    }
+
+    fn write(&mut self, bytes: &[u8]) -> Result<(), ConnectionFault> {
+        self.inner.write(bytes)
+    }
+
+    fn faults(&self) -> u64 {
+        self.inner.faults()
+    }
+}
+
+/// How many replies come, the exchanges, and which texts were put, in order. Reply k is the digit k, and each text one
+/// letter. Of an exchange: the reply that it is answered with, or `!` where that is no frame, the text that is put, and
+/// the texts that are known to be put next.
+static CASES: [(usize, &[&[u8]], &[u8]); 6] = [
+    // The first exchange sends all, and no later one sends any of them again.
+    (1, &[b"1abc"], b"abc"),
+    (4, &[b"1abc", b"2bc", b"3c", b"4d"], b"abcd"),
+    // What comes next is known a little at a time.
+    (3, &[b"1ab", b"2bc", b"3c"], b"abc"),
+    // The reply to what isn't asked for is no other request's.
+    (4, &[b"1abc", b"4d"], b"abcd"),
+    (3, &[b"1abc", b"3c"], b"abc"),
+    // After a reply that is missing nothing is sent.
+    (1, &[b"1ab", b"!b", b"!d"], b"ab"),
+];
+
+/// The frames of so many replies.
+const REPLIES: &[u8] = b"\0\0\0\x011\0\0\0\x012\0\0\0\x013\0\0\0\x014";
+
+/// Texts of a letter each.
+fn texts_of<R: Abort + Alloc<A = Global>>(rt: &R, letters: &[u8]) -> Vec<Vec<u8>> {
+    let mut texts = Vec::new(rt.alloc());
+    for letter in letters {
+        let text = Vec::from_slice(rt.alloc(), &[*letter]).expect(rt, "memory");
+        texts.push(text).expect(rt, "memory");
+    }
+    texts
+}
+
+/// An exchange comes to what it says.
+fn exchanges<R: Abort + Alloc<A = Global>, C: Connection>(
+    rt: &R,
+    framed: &mut Framed<C, Global>,
+    exchange: &[u8],
+) {
+    let (wanted, letters) = exchange.split_first().expect(rt, "what comes");
+    let texts = texts_of(rt, letters);
+    let (text, later) = texts.split_first().expect(rt, "a text");
+    let request = Request::new(RequestKind::Put, text);
+    let is_wanted = match framed.exchange_ahead(&request, &Ahead::Puts(later)) {
+        Ok(body) => body.as_slice() == [*wanted].as_slice(),
+        Err(error) => error == TransportError::NoFrame && *wanted == b'!',
+    };
+    assert!(rt; is_wanted, "the reply to {}", char::from(*wanted));
+}
+
+/// What is written are the frames that put these texts of a letter.
+fn puts(rt: &impl Abort, written: &[u8], letters: &[u8]) {
+    let count = written.len() / 6;
+    assert!(rt;
+        count == letters.len() && written.len() % 6 == 0,
+        "whole frames"
+    );
+    for (frame, letter) in written.chunks(6).zip(letters) {
+        assert!(rt;
+            frame == [0, 0, 0, 2, 3, *letter].as_slice(),
+            "put once, and in order"
+        );
+    }
+}
+
+#[test]
+fn requests_go_ahead(rt: HostRuntime) {
+    for (count, steps, letters) in &CASES {
+        let mut output = Vec::new(rt.alloc());
+        let inner = MemoryConnection::new(&REPLIES[..5 * *count.min(&4)], 7, &mut output);
+        let mut framed = Framed::going_ahead(rt.alloc(), Quiet { inner }, true).expect(
+            &rt, "memory",
+        );
+        for step in *steps {
+            exchanges(&rt, &mut framed, step);
+        }
+        let _connection = framed.into_connection();
+        puts(&rt, &output, letters);
+    }
+}
+
+/// At most 64 requests are ahead of the reply that is waited for.
+#[test]
+fn few_go_ahead(rt: HostRuntime) {
+    let letters = [b'x'; 100];
+    let texts = texts_of(&rt, &letters);
+    let mut output = Vec::new(rt.alloc());
+    let inner = MemoryConnection::new(REPLIES, 7, &mut output);
+    let mut framed = Framed::going_ahead(rt.alloc(), Quiet { inner }, true).expect(&rt, "memory");
+    let request = Request::new(RequestKind::Put, b"a");
+    assert!(rt;
+        framed
+            .exchange_ahead(&request, &Ahead::Puts(&texts))
+            .is_ok()
+    );
+    let _connection = framed.into_connection();
+    assert_eq!(rt; output.len(), 6 * 65);
+}
+
+/// A connection that tells its bytes takes one request after another.
+#[test]
+fn none_goes_ahead_where_bytes_are_told(rt: HostRuntime) {
+    let mut output = Vec::new(rt.alloc());
+    let connection = MemoryConnection::new(REPLIES, 7, &mut output);
+    let mut framed = Framed::new(rt.alloc(), connection).expect(&rt, "memory");
+    exchanges(&rt, &mut framed, b"1abc");
+    let _connection = framed.into_connection();
+    puts(&rt, &output, b"a");
+}
