@@ -12,7 +12,7 @@ ghost use Rattle.file_session.specs.Replies.{block_by, block_in, payload_by, pay
 use crate::stop::Stop;
 use std::alloc::Allocator;
 use std::marker::Model;
-use transport::{Request, Transport, TransportError};
+use transport::{Ahead, Request, Transport, TransportError};
 use wire::{RequestKind, Status, reply_of};
 
 /// The payload of a reply, in the memory of its body, of which it is all but the first byte.
@@ -100,18 +100,19 @@ fn block_by<A: Allocator>(status: Status, payload: Payload<A>) -> Result<Option<
     }
 }
 
-/// One exchange, and the reply that came.
+/// One exchange, and the reply that came. What is ahead may be sent already.
 fn exchange<T: Transport<A>, A: Allocator>(
     transport: &mut T,
     kind: RequestKind,
     payload: &[u8],
+    ahead: &Ahead<'_, A>,
 ) -> Result<(Status, Payload<A>), Stop>
     ensures { (x : Result Bytes NoReply)
         × T.answers transport.old (record { kind = kind; payload = payload.now }) x transport.new
         × (result ≡ reply_in x) }
 {
     let request = Request::new(kind, payload);
-    let answer = transport.exchange(&request);
+    let answer = transport.exchange_ahead(&request, ahead);
     reply(answer)
 }
 
@@ -120,12 +121,13 @@ pub(crate) fn send<T: Transport<A>, A: Allocator>(
     transport: &mut T,
     kind: RequestKind,
     text: &[u8],
+    ahead: &Ahead<'_, A>,
 ) -> Result<Payload<A>, Stop>
     ensures { (x : Result Bytes NoReply)
         × T.answers transport.old (record { kind = kind; payload = text.now }) x transport.new
         × (result ≡ payload_in x) }
 {
-    match exchange(transport, kind, text) {
+    match exchange(transport, kind, text, ahead) {
         Ok((status, payload)) => payload_by(status, payload),
         Err(stop) => Err(stop),
     }
@@ -135,12 +137,13 @@ pub(crate) fn send<T: Transport<A>, A: Allocator>(
 pub(crate) fn fetch<T: Transport<A>, A: Allocator>(
     transport: &mut T,
     digest: &[u8],
+    ahead: &Ahead<'_, A>,
 ) -> Result<Option<Payload<A>>, Stop>
     ensures { (x : Result Bytes NoReply)
         × T.answers transport.old (record { kind = RequestKind.Get; payload = digest.now }) x transport.new
         × (result ≡ block_in x) }
 {
-    match exchange(transport, RequestKind::Get, digest) {
+    match exchange(transport, RequestKind::Get, digest, ahead) {
         Ok((status, payload)) => block_by(status, payload),
         Err(stop) => Err(stop),
     }
@@ -155,7 +158,7 @@ pub(crate) fn commit<T: Transport<A>, A: Allocator>(
         × T.answers transport.old (record { kind = RequestKind.Commit; payload = text.now }) x transport.new
         × (result ≡ status_in x) }
 {
-    match exchange(transport, RequestKind::Commit, text) {
+    match exchange(transport, RequestKind::Commit, text, &Ahead::Nothing) {
         Ok((status, _)) => Ok(status),
         Err(stop) => Err(stop),
     }

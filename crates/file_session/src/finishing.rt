@@ -14,7 +14,7 @@ use crate::stop::Stop;
 use client_verify::Phase;
 use leaf_ledger::Device;
 use std::alloc::Allocator;
-use transport::Transport;
+use transport::{Ahead, Transport};
 use wire::{RequestKind, Status};
 
 impl<L: Device, J: Device, T: Transport<A>, A: Allocator + Copy> Conversation<L, J, T, A> {
@@ -86,6 +86,7 @@ impl<L: Device, J: Device, T: Transport<A>, A: Allocator + Copy> Conversation<L,
             &mut self.transport,
             RequestKind::Update,
             self.client.declared(),
+            &Ahead::Nothing,
         )?;
         let first = hear(&mut self.client, reply.text());
         let texts = self.check(first)?;

@@ -15,7 +15,7 @@ use crate::turn::{Turn, turn_of_step};
 use client_verify::{ClientError, Step};
 use leaf_ledger::Device;
 use std::alloc::Allocator;
-use transport::Transport;
+use transport::{Ahead, Transport};
 use wire::RequestKind;
 
 impl<L: Device, J: Device, T: Transport<A>, A: Allocator + Copy> Conversation<L, J, T, A> {
@@ -28,7 +28,7 @@ impl<L: Device, J: Device, T: Transport<A>, A: Allocator + Copy> Conversation<L,
         ensures fewer { IfOk result (λ turn. TurnsFewer turn self.old.client self.new.client) }
         ensures phase { self.new.client.phase ≡ self.old.client.phase }
     {
-        let block = fetch(&mut self.transport, &digest)?;
+        let block = fetch(&mut self.transport, &digest, &Ahead::Nothing)?;
         turn_of_step(take(&mut self.client, text_of(&block)))
     }
 
@@ -67,7 +67,8 @@ impl<L: Device, J: Device, T: Transport<A>, A: Allocator + Copy> Conversation<L,
         }
     }
 
-    /// Stores these texts: those that a reply handed out, or those of an operation that is to be declared.
+    /// Stores these texts: those that a reply handed out, or those of an operation that is to be declared. Later ones
+    /// go ahead of the replies to earlier ones.
     pub(crate) fn store(&mut self, texts: &[Vec<u8, A>]) -> Result<(), Stop>
         ensures handed_out { Went T.answers (point self.old.client self.old.transport (Store (map vec_items texts.now)))
             (point self.new.client self.new.transport (stored_or result)) [] }
@@ -75,8 +76,11 @@ impl<L: Device, J: Device, T: Transport<A>, A: Allocator + Copy> Conversation<L,
             (point self.new.client self.new.transport (laid_or (map vec_items texts.now) result)) [] }
         ensures same { self.new.client ≡ self.old.client }
     {
+        let mut later = texts;
         for text in texts {
-            let _digest = send(&mut self.transport, RequestKind::Put, text)?;
+            later = later.get(1..).unwrap_or_default();
+            let ahead = Ahead::Puts(later);
+            let _digest = send(&mut self.transport, RequestKind::Put, text, &ahead)?;
         }
         Ok(())
     }

@@ -7,6 +7,7 @@ mod conversation;
 mod exchanging;
 mod finishing;
 mod judging;
+mod listed;
 mod looking;
 mod operation;
 mod planning;

@@ -10,13 +10,14 @@ ghost use Rattle.file_session.specs.Went.{IsSeenIn, Looked, point};
 use crate::calls::{ask, give};
 use crate::conversation::Conversation;
 use crate::exchanging::{fetch, text_of};
+use crate::listed::Listed;
 use crate::stop::Stop;
 use crate::turn::{Turn, turn_of_look};
 use client_tree::Question;
 use client_verify::Look;
 use leaf_ledger::Device;
 use std::alloc::Allocator;
-use transport::Transport;
+use transport::{Ahead, Transport};
 
 impl<L: Device, J: Device, T: Transport<A>, A: Allocator + Copy> Conversation<L, J, T, A> {
     /// Asks the question.
@@ -34,8 +35,8 @@ impl<L: Device, J: Device, T: Transport<A>, A: Allocator + Copy> Conversation<L,
         turn_of_look(ask(&mut self.client, question))
     }
 
-    /// Asks for the block of a digest that the look asks for, and hands it in.
-    fn next_look(&mut self, digest: [u8; 32]) -> Result<Turn<Look<A>>, Stop>
+    /// Asks for the block of a digest that the look asks for, and hands it in. Those that are listed after it go ahead.
+    fn next_look(&mut self, digest: [u8; 32], listed: &mut Listed<A>) -> Result<Turn<Look<A>>, Stop>
         requires { (q : Asking) × WaitsAt q self.old.client }
         ensures looked { (q : Asking) → WaitsAt q self.old.client → Looked T.answers
             (point self.old.client self.old.transport (FetchAt q digest))
@@ -47,8 +48,11 @@ impl<L: Device, J: Device, T: Transport<A>, A: Allocator + Copy> Conversation<L,
         ensures phase { self.new.client.phase ≡ self.old.client.phase }
         ensures view { IsSome self.new.client.view }
     {
-        let block = fetch(&mut self.transport, &digest)?;
-        turn_of_look(give(&mut self.client, text_of(&block)))
+        let ahead = Ahead::Gets(listed.after(&digest));
+        let block = fetch(&mut self.transport, &digest, &ahead)?;
+        let text = text_of(&block);
+        listed.hear(self.alloc, text);
+        turn_of_look(give(&mut self.client, text))
     }
 
     /// The answer to a question about the accepted view: a look, with the blocks that it asks for. Each is asked for at
@@ -68,8 +72,9 @@ impl<L: Device, J: Device, T: Transport<A>, A: Allocator + Copy> Conversation<L,
             Ok(Turn::Ends(look)) => return Ok(look),
             Err(stop) => return Err(stop),
         };
+        let mut listed = Listed::new();
         'blocks: loop {
-            match self.next_look(digest)? {
+            match self.next_look(digest, &mut listed)? {
                 Turn::Asks(next) => digest = next,
                 Turn::Ends(look) => return Ok(look),
             }

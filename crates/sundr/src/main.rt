@@ -61,6 +61,10 @@ impl<'a, H: Net<Stream = TcpStream>> Connect<Socket> for Server<'a, H> {
     fn connect(&mut self) -> Result<Socket, ConnectionFault> {
         dial(self.host, self.address).map_err(|_| ConnectionFault)
     }
+
+    fn may_go_ahead(&self) -> bool {
+        true
+    }
 }
 
 /// The user's client.

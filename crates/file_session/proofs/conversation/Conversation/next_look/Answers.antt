@@ -20,7 +20,7 @@ returns-clause-looked g c =
     λ q waits.
     let P : Option Bytes → Type 0 = λ b. Leads c.args.self.now.client (Gives q b (on_ok seen c.give.result)) c.give.new.client in
     looks_turn c.give.new.client q c.give.result c.turn_of_look.result (t.next q) t.told (t.awaits q c.give.new.client (e.awaits q waits))
-    (looks_on _ _ _ _ _ _ q _ _ _ (quiet _ (went_none _) (λ tree. tt)) refl c.in_ok-block.ensures (subst P c.text_of.ensures (e.leads q)))
+    (looks_on _ _ _ _ _ _ q _ _ _ (quiet _ (went_none _) (λ tree. tt)) refl c.in_ok-block.ensures (subst P c.text_of-text.ensures (e.leads q)))
 
 pub returns-clause-awaits : goal.returns-clause-awaits
 returns-clause-awaits g c = λ q waits. c.turn_of_look.ensures.awaits q c.give.new.client (c.give.ensures.awaits q waits)
