@@ -1,6 +1,7 @@
 //! Laws of keys and signatures, for the proofs of callers: functions that do nothing.
 
-ghost use Rattle.std.specs.Prelude.{◌≡◌, ℕ, ◌<◌, List, length, true};
+ghost use Rattle.std.specs.Prelude.{◌≡◌, ℕ, ◌+◌, ◌<◌, ◌*◌, ◌∷◌, List, length, true, replicate};
+ghost use Rattle.lms_sign.specs.Digits.{checksum};
 ghost use Rattle.lms_sign.specs.Keys.{is_key, public_key_of};
 ghost use Rattle.lms_sign.specs.Signature.{signature_of, valid};
 
@@ -23,4 +24,12 @@ pub fn signed_is_valid()
     ensures key { (seed id : List ℕ) → length id ≡ 16 → is_key (public_key_of seed id) ≡ true }
     ensures signature { (seed id text : List ℕ) (leaf : ℕ) → length id ≡ 16 → leaf < LEAF_COUNT
         → valid (public_key_of seed id) text (signature_of seed id leaf text) ≡ true }
+{}
+
+/// Checksums by hand: of 64 digits 0, of 64 digits 15, and of 63 digits 0 and a digit 1.
+#[tactic(auto, unfolding(crate::specs::Digits::checksum, crate::specs::Digits::coefficient))]
+pub fn checksums()
+    ensures zeros { checksum (replicate 32 0) ≡ 64 * 15 * 16 }
+    ensures fifteens { checksum (replicate 32 255) ≡ 0 }
+    ensures one { checksum (1 ∷ replicate 31 0) ≡ (63 * 15 + 14) * 16 }
 {}

@@ -18,13 +18,11 @@ mod public_key;
 mod signing;
 mod spent_leaf;
 mod stepping;
-#[cfg(test)]
-mod tests;
 mod tree;
 mod verification;
 
 pub use form::SIGNATURE_SIZE;
-pub use laws::{signed_is_valid, sizes};
+pub use laws::{checksums, signed_is_valid, sizes};
 pub use leaf::Leaf;
 pub use leaves::{GROUP_COUNT, GROUP_SIZE, leaf_values};
 pub use private_key::{PrivateKey, SEED_SIZE};

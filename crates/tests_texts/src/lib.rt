@@ -1,5 +1,5 @@
 //! Tests of texts: what the formats' description spells out, the first fault of what is none, frames, plans and
-//! directories, and what stands above the structures of a reply.
+//! directories, what stands above the structures of a reply, and signatures from outside.
 #![tactic(auto)]
 
 #[cfg(test)]
@@ -22,6 +22,8 @@ mod i_tables;
 mod longest;
 #[cfg(test)]
 mod plans;
+#[cfg(test)]
+mod signatures;
 #[cfg(test)]
 mod streams;
 #[cfg(test)]

@@ -1,30 +1,10 @@
-//! The checksum's digits, a key of zeros, and vectors from outside.
+//! A key of zeros, and vectors from outside.
 
 ghost use Rattle.std.specs.Prelude.{◌<◌};
 
-use crate::digits::{coefficient, with_checksum};
-use crate::{Leaf, PrivateKey, PublicKey, burn, sign, verify};
 use layout::{Digest, Hasher};
+use lms_sign::{Leaf, PrivateKey, PublicKey, burn, sign, verify};
 use std::process::Abort;
-
-/// The digits of the checksum of a digest.
-fn checksum_digits(digest: [u8; 32]) -> [u8; 3] {
-    let checked = with_checksum(&Digest::from_bytes(digest));
-    [
-        coefficient(&checked, 64),
-        coefficient(&checked, 65),
-        coefficient(&checked, 66),
-    ]
-}
-
-#[test]
-fn checksums(rt: HostRuntime) {
-    assert_eq!(rt; checksum_digits([0; 32]), [3, 12, 0]);
-    assert_eq!(rt; checksum_digits([255; 32]), [0, 0, 0]);
-    let mut one = [0; 32];
-    one[0] = 1;
-    assert_eq!(rt; checksum_digits(one), [3, 11, 15]);
-}
 
 /// Signatures that differ from a valid one of the text `a` in one way each, none of which is valid.
 fn refuses_others(rt: &impl Abort, key: &PublicKey, signature: &[u8; 2508]) {
