@@ -10,7 +10,6 @@ ghost use Rattle.file_session.specs.Went.{IsSeenIn, Looked, point};
 use crate::calls::{ask, give};
 use crate::conversation::Conversation;
 use crate::exchanging::{fetch, text_of};
-use crate::listed::Listed;
 use crate::stop::Stop;
 use crate::turn::{Turn, turn_of_look};
 use client_tree::Question;
@@ -36,7 +35,7 @@ impl<L: Device, J: Device, T: Transport<A>, A: Allocator + Copy> Conversation<L,
     }
 
     /// Asks for the block of a digest that the look asks for, and hands it in. Those that are listed after it go ahead.
-    fn next_look(&mut self, digest: [u8; 32], listed: &mut Listed<A>) -> Result<Turn<Look<A>>, Stop>
+    fn next_look(&mut self, digest: [u8; 32]) -> Result<Turn<Look<A>>, Stop>
         requires { (q : Asking) × WaitsAt q self.old.client }
         ensures looked { (q : Asking) → WaitsAt q self.old.client → Looked T.answers
             (point self.old.client self.old.transport (FetchAt q digest))
@@ -48,10 +47,10 @@ impl<L: Device, J: Device, T: Transport<A>, A: Allocator + Copy> Conversation<L,
         ensures phase { self.new.client.phase ≡ self.old.client.phase }
         ensures view { IsSome self.new.client.view }
     {
-        let ahead = Ahead::Gets(listed.after(&digest));
+        let ahead = Ahead::Gets(self.listed.after(&digest));
         let block = fetch(&mut self.transport, &digest, &ahead)?;
         let text = text_of(&block);
-        listed.hear(self.alloc, text);
+        self.listed.hear(self.alloc, text);
         turn_of_look(give(&mut self.client, text))
     }
 
@@ -72,9 +71,8 @@ impl<L: Device, J: Device, T: Transport<A>, A: Allocator + Copy> Conversation<L,
             Ok(Turn::Ends(look)) => return Ok(look),
             Err(stop) => return Err(stop),
         };
-        let mut listed = Listed::new();
         'blocks: loop {
-            match self.next_look(digest, &mut listed)? {
+            match self.next_look(digest)? {
                 Turn::Asks(next) => digest = next,
                 Turn::Ends(look) => return Ok(look),
             }

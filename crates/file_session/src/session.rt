@@ -13,6 +13,7 @@ ghost use Rattle.file_session.specs.declared.stop.Stop.{Stop as Stopped};
 ghost use Rattle.file_session.specs.Went.{Operated, point};
 
 use crate::conversation::Conversation;
+use crate::listed::Listed;
 use crate::planning::{Operation, Plan};
 use crate::resumed::Resumed;
 use crate::stop::Stop;
@@ -152,6 +153,7 @@ impl<L: Device, J: Device, T: Transport<A>, A: Allocator + Copy> Session<L, J, T
             alloc,
             client,
             transport,
+            listed: Listed::new(),
         };
         Session {
             conversation,
@@ -172,6 +174,7 @@ impl<L: Device, J: Device, T: Transport<A>, A: Allocator + Copy> Session<L, J, T
             alloc: _,
             client,
             transport,
+            listed: _,
         } = conversation;
         (client, transport)
     }
