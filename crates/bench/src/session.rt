@@ -52,7 +52,7 @@ fn times_of<R: Host>(rt: &R, home: &mut RemoteHome, path: &str, size: u32) -> Re
 /// The times of each file, over one connection.
 pub(crate) fn visit<R: Host>(rt: &R, address: SocketAddr) -> anyhow::Result<Pairs> {
     let socket = Socket::new(connect(rt, address)?)?;
-    let mut home = Home::new(rt.alloc(), Framed::new(rt.alloc(), socket)?);
+    let mut home = Home::new(rt.alloc(), Framed::going_ahead(rt.alloc(), socket, true)?);
     let small = times_of(rt, &mut home, "/small", 4096);
     let large = times_of(rt, &mut home, "/large", 4_194_304);
     home.end()?;

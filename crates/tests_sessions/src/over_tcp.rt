@@ -43,7 +43,7 @@ fn connected<R: Alloc<A = Global> + Abort + Net<Listener = TcpListener, Stream =
     let stream = TcpStream::connect(rt, address).expect(rt, "a stream");
     stream.set_nodelay(true).expect(rt, "no delay");
     let socket = Socket::new(stream).expect(rt, "a socket");
-    Framed::new(rt.alloc(), socket).expect(rt, "memory")
+    Framed::going_ahead(rt.alloc(), socket, true).expect(rt, "memory")
 }
 
 /// A process carries out what these words say over a connection of its own, and ends so.
