@@ -1,184 +1,186 @@
 //! A table of principals of two blocks, through a client: each of its blocks absent, cut, flipped and another one, in
-//! the place of what was asked for, and named by the i-node itself.
+//! the place of what was asked for, and named by the i-node itself; and an i-table with a second chunk, which nobody
+//! hands out.
 
 use crate::here::Here;
-use crate::several_users::{breaks, keep_each};
-use crate::two_users::ONE;
-use client_tree::Held;
-use client_verify::{Rule, Step};
-use layout::{digest, let_go};
-use lms_sign::{PrivateKey, PublicKey};
-use std::alloc::Global;
-use tests_aids::tables::{FORM, Texts, listing, structure_over, texts_over};
-use tests_aids::texts::{joined, key_of, listed, named, pending, plan, reply, shown};
-use tests_aids::{Host, check};
-use tests_client_aids::clients::{MemoryClient, client_with, declare, hand, step_on};
-use tree_parts::Blocks;
+use crate::script::play;
 
-/// The size of the table: 64 users, and 19 rows.
-pub(crate) const SIZE: u32 = 4101;
+/// The table's text, T, of 64 users and 19 rows: user 0 is a member of the groups 64 to 82. Its blocks are texts A and
+/// B. User 1 has declared: text u.
+static TABLE: &[u8] = b"\
+    text T 'SPT1 40 0000000000 !0 0100000001 !1 0200000001 $F 0300000001 $F 0400000001 $F 0500000001 $F 0600000001 \
+        $F 0700000001 $F 0800000001 $F 0900000001 $F 0a00000001 $F 0b00000001 $F 0c00000001 $F 0d00000001 $F \
+        0e00000001 $F 0f00000001 $F 1000000001 $F 1100000001 $F 1200000001 $F 1300000001 $F 1400000001 $F 1500000001 \
+        $F 1600000001 $F 1700000001 $F 1800000001 $F 1900000001 $F 1a00000001 $F 1b00000001 $F 1c00000001 $F \
+        1d00000001 $F 1e00000001 $F 1f00000001 $F 2000000001 $F 2100000001 $F 2200000001 $F 2300000001 $F 2400000001 \
+        $F 2500000001 $F 2600000001 $F 2700000001 $F 2800000001 $F 2900000001 $F 2a00000001 $F 2b00000001 $F \
+        2c00000001 $F 2d00000001 $F 2e00000001 $F 2f00000001 $F 3000000001 $F 3100000001 $F 3200000001 $F 3300000001 \
+        $F 3400000001 $F 3500000001 $F 3600000001 $F 3700000001 $F 3800000001 $F 3900000001 $F 3a00000001 $F \
+        3b00000001 $F 3c00000001 $F 3d00000001 $F 3e00000001 $F 3f00000001 $F\n\
+    text T T 0013 40000000000100000000 41000000000100000000 42000000000100000000 43000000000100000000 \
+        44000000000100000000 45000000000100000000 46000000000100000000 47000000000100000000 48000000000100000000 \
+        49000000000100000000 4a000000000100000000 4b000000000100000000 4c000000000100000000 4d000000000100000000 \
+        4e000000000100000000 4f000000000100000000 50000000000100000000 51000000000100000000 52000000000100000000\n\
+    measure T = :4101\n\
+    between A T 0 4096\n\
+    between B T 4096 4101\n\
+    text e $E\n\
+    declare 1 u\n\
+    text P 'SVP1 00 :1 $7 01 00 :1 00\n\
+    text q 'SVP1 01 :1 %u 02 00 :1 01 :1 00\n";
 
-/// Its text: user 0 is a member of the groups 64 to 82.
-fn table_text(rt: &impl Host, zero: &PublicKey, one: &PublicKey) -> Vec<u8> {
-    let zero = listing(rt, 0, 0, zero.as_bytes());
-    let one = listing(rt, 1, 1, one.as_bytes());
-    let mut text = joined(rt, &[b"SPT1\x40", &zero, &one]);
-    for user in 2..64 {
-        push(rt, &mut text, &listing(rt, user, 1, FORM));
-    }
-    push(rt, &mut text, b"\0\x13");
-    for group in 64..83 {
-        push(rt, &mut text, &[group, 0, 0, 0, 0, 1, 0, 0, 0, 0]);
-    }
-    text
-}
+/// The blocks that the i-node names are those of the table.
+static WHOLE: &[u8] = b"\
+    text x A\n\
+    text y B\n";
 
-fn push(rt: &impl Host, text: &mut Vec<u8>, bytes: &[u8]) {
-    text.extend_from_slice(bytes).expect(rt, "memory");
-}
+/// The reply over the i-table whose i-node names texts x and y as blocks.
+static OVER: &[u8] = b"\
+    text I 'SIN1 01 :4101 0002 #x #y\n\
+    text C 'STC1 00 02 0001 #I 0002 #e\n\
+    text R 'STR1 00 01 00 #C\n\
+    text S 'SVS1 +P P #R 00\n\
+    key S S 1 0\n\
+    text r 'SRL1 01 *S S 01 *u u +q q\n";
 
-/// User 0's key, the table's blocks, a client of user 1, and the certificate that it declared.
-#[derive(Drop)]
-pub(crate) struct Scene {
-    pub(crate) key: PrivateKey<Global>,
-    pub(crate) blocks: [Vec<u8>; 2],
-    pub(crate) client: MemoryClient,
-    pub(crate) update: Vec<u8>,
-}
-
-pub(crate) fn new_scene(rt: &impl Host) -> Scene {
-    let (key, own) = (key_of(rt, 0), key_of(rt, 1));
-    let text = table_text(rt, &key.public(), &own.public());
-    assert!(rt; text.len() == 4101);
-    let (front, rest) = text.split_at(4096);
-    let mut client = client_with(rt, 1, own, key.public());
-    let update = declare(rt, &mut client);
-    Scene {
-        key,
-        blocks: [joined(rt, &[front]), joined(rt, &[rest])],
-        client,
-        update,
-    }
-}
-
-/// The text without its last byte.
-fn cut(text: &[u8]) -> &[u8] {
-    &text[..text.len().saturating_sub(1)]
-}
-
-/// The text with the lowest bit of its first byte changed, after which neither block is one of a table.
-fn flipped(rt: &impl Host, text: &[u8]) -> Vec<u8> {
-    let mut text = joined(rt, &[text]);
-    if let Some(byte) = text.first_mut() {
-        *byte ^= 1;
-    }
-    text
-}
-
-/// A store of these blocks, and of user 0's i-table over them.
-pub(crate) fn store_of(rt: &impl Host, blocks: &[Vec<u8>; 2]) -> (Held<Global>, Vec<u8>) {
-    let Texts { root, chunk, inode } = texts_over(rt, SIZE, blocks);
-    let [front, rest] = blocks;
-    let mut store = Held::empty(rt.alloc());
-    keep_each(rt, &mut store, &[&root, &chunk, &inode, front, rest]);
-    (store, root)
-}
-
-/// The reply to the certificate after this signed structure of user 0's, where the plan has this vector.
-pub(crate) fn reply_after(
-    rt: &impl Host,
-    structure: &[u8],
-    update: &[u8],
-    vector: &[u8],
-) -> Vec<u8> {
-    let plan = plan(rt, 1, 1, &named(update), vector, b"\0");
-    let own = pending(rt, update, &plan);
-    reply(rt, &listed(rt, &shown(rt, structure)), &listed(rt, &own))
-}
-
-/// The same after user 0's structure over the i-table of this root.
-pub(crate) fn reply_with(
-    rt: &impl Host,
-    key: &PrivateKey<Global>,
-    root: &[u8],
-    update: &[u8],
-    vector: &[u8],
-) -> Vec<u8> {
-    let structure = structure_over(rt, key, 1, root);
-    reply_after(rt, &structure, update, vector)
-}
-
-/// The block is asked for, and is handed in after each fault in its place, one of which is the other block: what comes
-/// next is answered.
-fn takes_block(
-    rt: &impl Host,
-    client: &mut MemoryClient,
-    step: Step<Global>,
-    block: &[u8],
-    other: &[u8],
-) -> Step<Global> {
-    let Step::Need(asked) = step else {
-        panic!(rt; "no block is asked for");
-    };
-    check(rt, asked == digest(block), "the block that is asked for");
-    let flipped = flipped(rt, block);
-    let faults: [Option<&[u8]>; 4] = [None, Some(cut(block)), Some(&flipped), Some(other)];
-    for fault in faults {
-        let step = hand(rt, client, fault);
-        let is_broken = matches!(step, Step::Broken(Rule::Block));
-        check(rt, is_broken, "another block than that asked for");
-    }
-    hand(rt, client, Some(block))
-}
+/// Each block is asked for, and is handed in after no block, the block without its last byte, that with the lowest bit
+/// of its first byte changed, and another block, each in its place.
+static FAULTS: &[u8] = b"\
+    ask 1 r = 'need #R\n\
+    between x R 0 38\n\
+    flip y R 0\n\
+    give 1 - = 'Block\n\
+    give 1 x = 'Block\n\
+    give 1 y = 'Block\n\
+    give 1 C = 'Block\n\
+    give 1 R = 'need #C\n\
+    between x C 0 73\n\
+    flip y C 0\n\
+    give 1 - = 'Block\n\
+    give 1 x = 'Block\n\
+    give 1 y = 'Block\n\
+    give 1 R = 'Block\n\
+    give 1 C = 'need #I\n\
+    between x I 0 74\n\
+    flip y I 0\n\
+    give 1 - = 'Block\n\
+    give 1 x = 'Block\n\
+    give 1 y = 'Block\n\
+    give 1 C = 'Block\n\
+    give 1 I = 'need #A\n\
+    between x A 0 4095\n\
+    flip y A 0\n\
+    give 1 - = 'Block\n\
+    give 1 x = 'Block\n\
+    give 1 y = 'Block\n\
+    give 1 B = 'Block\n\
+    give 1 A = 'need #B\n\
+    between x B 0 4\n\
+    flip y B 0\n\
+    give 1 - = 'Block\n\
+    give 1 x = 'Block\n\
+    give 1 y = 'Block\n\
+    give 1 A = 'Block\n\
+    give 1 B = 'accepted\n";
 
 #[test]
 fn faults_in_the_place_of_blocks(rt: HostRuntime) {
-    let rt = (rt, Here);
-    let mut scene = new_scene(&rt);
-    let Texts { root, chunk, inode } = texts_over(&rt, SIZE, &scene.blocks);
-    let [front, rest] = &scene.blocks;
-    let text = reply_with(&rt, &scene.key, &root, &scene.update, ONE);
-    let mut step = step_on(&rt, &mut scene.client, &text);
-    for (block, other) in [
-        (&root, &chunk),
-        (&chunk, &root),
-        (&inode, &chunk),
-        (front, rest),
-        (rest, front),
-    ] {
-        step = takes_block(&rt, &mut scene.client, step, block, other);
-    }
-    check(&rt, matches!(step, Step::Store(_)), "the reply is accepted");
-    let_go(scene);
+    play(&(rt, Here), &[TABLE, WHOLE, OVER, FAULTS]);
 }
 
-/// The reply over an i-node that names these blocks breaks the rule first.
-fn breaks_over(rt: &impl Host, scene: &mut Scene, [front, rest]: [&[u8]; 2], rule: Option<Rule>) {
-    let blocks = [joined(rt, &[front]), joined(rt, &[rest])];
-    let (store, root) = store_of(rt, &blocks);
-    let text = reply_with(rt, &scene.key, &root, &scene.update, ONE);
-    breaks(rt, &mut scene.client, &store, &text, rule);
-    let_go(store);
-}
+/// The reply is accepted, with the stored blocks.
+static ACCEPTED: &[u8] = b"\
+    store R C I x y\n\
+    hear 1 r = 'accepted\n";
 
+/// The reply is refused, with the stored blocks.
+static REFUSED: &[u8] = b"\
+    store R C I x y\n\
+    hear 1 r = 'Content\n";
+
+/// The blocks in the place of each other.
+static TURNED: &[u8] = b"\
+    text x B\n\
+    text y A\n";
+
+/// The first one without its last byte.
+static FIRST_CUT: &[u8] = b"\
+    between c A 0 4095\n\
+    text x c\n\
+    text y B\n";
+
+/// The first one with a bit changed.
+static FIRST_FLIPPED: &[u8] = b"\
+    flip a A 0\n\
+    text x a\n\
+    text y B\n";
+
+/// The last one without its last byte.
+static LAST_CUT: &[u8] = b"\
+    between d B 0 4\n\
+    text x A\n\
+    text y d\n";
+
+/// The last one with a bit changed.
+static LAST_FLIPPED: &[u8] = b"\
+    flip b B 0\n\
+    text x A\n\
+    text y b\n";
+
+/// The first one twice.
+static TWICE: &[u8] = b"\
+    text x A\n\
+    text y A\n";
+
+/// The i-node names these blocks.
 #[test]
 fn faults_that_the_inode_names(rt: HostRuntime) {
-    let rt = (rt, Here);
-    let mut scene = new_scene(&rt);
-    let [front, rest] = &scene.blocks;
-    let (front, rest) = (joined(&rt, &[front]), joined(&rt, &[rest]));
-    let (bad_front, bad_rest) = (flipped(&rt, &front), flipped(&rt, &rest));
-    breaks_over(&rt, &mut scene, [&front, &rest], None);
-    let cases: [[&[u8]; 2]; 6] = [
-        [&rest, &front],
-        [cut(&front), &rest],
-        [&bad_front, &rest],
-        [&front, cut(&rest)],
-        [&front, &bad_rest],
-        [&front, &front],
+    let scripts = [
+        TABLE,
+        WHOLE,
+        OVER,
+        ACCEPTED,
+        TURNED,
+        OVER,
+        REFUSED,
+        FIRST_CUT,
+        OVER,
+        REFUSED,
+        FIRST_FLIPPED,
+        OVER,
+        REFUSED,
+        LAST_CUT,
+        OVER,
+        REFUSED,
+        LAST_FLIPPED,
+        OVER,
+        REFUSED,
+        TWICE,
+        OVER,
+        REFUSED,
     ];
-    for blocks in cases {
-        breaks_over(&rt, &mut scene, blocks, Some(Rule::Content));
-    }
-    let_go(scene);
+    play(&(rt, Here), &scripts);
+}
+
+/// The root of chunk 0 and of a chunk 1 with a file at i-number 64 is asked for by each reply. A vector that counts one
+/// operation of user 0's too many breaks its rule, and once it follows the same root is enough to accept the reply.
+static SECOND_CHUNK: &[u8] = b"\
+    text n $H\n\
+    text D 'STC1 01 01 0040 #n\n\
+    text L 'STR1 00 02 00 #C 01 #D\n\
+    text S 'SVS1 +P P #L 00\n\
+    key S S 1 0\n\
+    text q 'SVP1 01 :1 %u 02 00 :2 01 :1 00\n\
+    text r 'SRL1 01 *S S 01 *u u +q q\n\
+    ask 1 r = 'need #L\n\
+    give 1 L = 'Vector\n\
+    text q 'SVP1 01 :1 %u 02 00 :1 01 :1 00\n\
+    text r 'SRL1 01 *S S 01 *u u +q q\n\
+    ask 1 r = 'need #L\n\
+    give 1 L = 'accepted\n";
+
+/// User 1's client, which holds the chunk that the table of principals is in, judges the lists without the second one.
+#[test]
+fn lists_are_judged_without_the_second_chunk(rt: HostRuntime) {
+    play(&(rt, Here), &[TABLE, WHOLE, OVER, ACCEPTED, SECOND_CHUNK]);
 }

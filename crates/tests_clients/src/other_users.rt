@@ -1,69 +1,65 @@
 //! The client of another user, to which user 0's structure is shown.
 
 use crate::here::Here;
-use crate::long_table::reply_after;
-use crate::two_users::ONE;
-use client_verify::{Rule, Step};
-use layout::let_go;
-use tests_aids::tables::{listing, structure_over, texts_over};
-use tests_aids::texts::{certificate, joined, key_of, plan_of, signed, structure};
-use tests_aids::{Host, check, check_text};
-use tests_client_aids::clients::{breaks, client_of, declare, hand, step_on};
+use crate::script::play;
 
-/// The structure of user 0's first operation, with an invented handle.
-fn structure_of_super(rt: &impl Host) -> Vec<u8> {
-    let text = certificate(rt, 0, 1, &[0; 32]);
-    let update = signed(rt, &key_of(rt, 0), 0, &text);
-    structure(rt, &plan_of(rt, 1, &update), &[5; 32])
-}
+/// User 1 declares. Text s is the structure of user 0's first operation, with an invented handle.
+static STRUCTURE: &[u8] = b"\
+    declare 1 u\n\
+    text q 'SVP1 01 :1 %u 02 00 :1 01 :1 00\n\
+    text w 'SUC1 00 :1 $0 00\n\
+    text P 'SVP1 00 :1 #w 01 00 :1 00\n\
+    text s 'SVS1 +P P $5 00\n";
 
-/// To a new client of user 1 the reply after this signed structure of user 0's breaks the rule.
-fn refuses(rt: &impl Host, structure: &[u8], rule: Rule) {
-    let mut client = client_of(rt, 1, 1);
-    let update = declare(rt, &mut client);
-    let text = reply_after(rt, structure, &update, ONE);
-    breaks(rt, &mut client, &text, Some(rule));
-    let_go(client);
-}
+/// With no signature.
+static UNSIGNED: &[u8] = b"\
+    text S s $S\n\
+    text r 'SRL1 01 *S S 01 *u u +q q\n\
+    hear 1 r = 'SuperSignature\n\
+    equal Z =\n";
 
-/// With no signature, and with another user's.
+/// With another user's.
+static BY_ANOTHER: &[u8] = b"\
+    key S s 1 1\n\
+    text r 'SRL1 01 *S S 01 *u u +q q\n\
+    hear 1 r = 'SuperSignature\n\
+    equal Z =\n";
+
 #[test]
 fn forged_structure_of_user_0(rt: HostRuntime) {
     let rt = (rt, Here);
-    let text = structure_of_super(&rt);
-    let forged = joined(&rt, &[&text, &[0; 2508]]);
-    refuses(&rt, &forged, Rule::SuperSignature);
-    let another = signed(&rt, &key_of(&rt, 1), 1, &text);
-    refuses(&rt, &another, Rule::SuperSignature);
+    play(&rt, &[STRUCTURE, UNSIGNED]);
+    play(&rt, &[STRUCTURE, BY_ANOTHER]);
 }
 
 /// With user 0's own signature, over the table of the beginning, which each client knows, the first broken rule is that
 /// user 1 isn't listed.
+static OWN_TABLE: &[u8] = b"\
+    text T 'SPT1 01 0000000000 !0 0000\n\
+    text I 'SIN1 01 :68 0001 #T\n\
+    text e $E\n\
+    text C 'STC1 00 02 0001 #I 0002 #e\n\
+    text R 'STR1 00 01 00 #C\n\
+    text P 'SVP1 00 :1 $7 01 00 :1 00\n\
+    text S 'SVS1 +P P #R 00\n\
+    key S S 1 0\n\
+    text r 'SRL1 01 *S S 01 *u u +q q\n\
+    hear 1 r = 'UnknownUser\n\
+    equal Z =\n";
+
 #[test]
 fn true_structure_of_user_0(rt: HostRuntime) {
-    let rt = (rt, Here);
-    let key = key_of(&rt, 0);
-    let row = listing(&rt, 0, 0, key.public().as_bytes());
-    let table = joined(&rt, &[b"SPT1\x01", &row, b"\0\0"]);
-    let root = texts_over(&rt, 68, &[table]).root;
-    let structure = structure_over(&rt, &key, 1, &root);
-    refuses(&rt, &structure, Rule::UnknownUser);
+    play(&(rt, Here), &[STRUCTURE, OWN_TABLE]);
 }
 
 /// Over another handle its root is asked for first.
+static OTHER_TABLE: &[u8] = b"\
+    key S s 1 0\n\
+    text r 'SRL1 01 *S S 01 *u u +q q\n\
+    ask 1 r = 'need $5\n\
+    give 1 - = 'Block\n";
+
 #[test]
 fn table_of_another_handle(rt: HostRuntime) {
-    let rt = (rt, Here);
-    let text = structure_of_super(&rt);
-    let structure = signed(&rt, &key_of(&rt, 0), 1, &text);
-    let mut client = client_of(&rt, 1, 1);
-    let update = declare(&rt, &mut client);
-    let text = reply_after(&rt, &structure, &update, ONE);
-    let Step::Need(asked) = step_on(&rt, &mut client, &text) else {
-        panic!(&rt; "no block is asked for");
-    };
-    check_text(&rt, asked.as_bytes(), &[5; 32]);
-    let step = hand(&rt, &mut client, None);
-    check(&rt, matches!(step, Step::Broken(Rule::Block)), "no root");
-    let_go(client);
+    play(&(rt, Here), &[STRUCTURE, OTHER_TABLE]);
 }

@@ -1,17 +1,18 @@
 //! What has to be laid out before changes are declared.
 
-use crate::changes::{Task, of_tasks, plan_action};
 use crate::here::Here;
 use client_verify::are_laid;
 use layout::{digest, let_go};
+use std::alloc::Global;
 use tests_aids::Host;
 use tests_aids::blocks::{
     EMPTY, EMPTY_INODE, HELLO, HELLO_INODE, LONG_INODE, NO_BYTES_INODE, OF_F, OF_F_INODE, REST,
     WHOLE,
 };
+use tests_aids::numbers::{entry, i_number, name, principal};
 use tests_aids::texts::joined;
-use tests_client_aids::changes::{Planned, nothing};
-use update_cert::Action;
+use tests_client_aids::changes::{Planned, nothing, plan_change};
+use update_cert::{Action, Change};
 
 /// The text for which a letter stands: an i-node by a capital, a block of a file or of a directory by a small letter.
 fn text_of(rt: &impl Host, letter: u8) -> &'static [u8] {
@@ -30,78 +31,94 @@ fn text_of(rt: &impl Host, letter: u8) -> &'static [u8] {
     }
 }
 
-/// Of each case a line: the text that is named by its digest, whether a make and a put may name it (y or n), and the
-/// texts that are laid out.
+/// Of each case a line: changes of user 0's part, whether they may be declared (y or n), and the texts that are laid
+/// out. A change is told by three letters: a make, a put, a remove, a link or an unlink; the i-number; and the text
+/// that a make or a put names by its digest.
 ///
 /// A file with its block and its i-node, without its block, without its i-node, and without both; a text that is no
 /// i-node; a file without bytes; a file of two blocks with both, and without either one; the empty directory, which
-/// needs nothing, and which a put doesn't take; another directory.
+/// needs nothing, and which a put doesn't take; another directory. Other changes need nothing; each i-node has to be
+/// laid out.
 static CASES: &[u8] = b"\
-    HyyHh\n\
-    HnnH\n\
-    Hnnh\n\
-    Hnn\n\
-    hnnHh\n\
-    NyyN\n\
-    LyywrL\n\
-    LnnwL\n\
-    LnnrL\n\
-    Eyn\n\
-    EyneE\n\
-    FnnfF";
+    m3H y Hh\n\
+    p3H y Hh\n\
+    m3H n H\n\
+    p3H n H\n\
+    m3H n h\n\
+    p3H n h\n\
+    m3H n \n\
+    p3H n \n\
+    m3h n Hh\n\
+    p3h n Hh\n\
+    m3N y N\n\
+    p3N y N\n\
+    m3L y wrL\n\
+    p3L y wrL\n\
+    m3L n wL\n\
+    p3L n wL\n\
+    m3L n rL\n\
+    p3L n rL\n\
+    m3E y \n\
+    p3E n \n\
+    m3E y eE\n\
+    p3E n eE\n\
+    m3F n fF\n\
+    p3F n fF\n\
+    r3-l2-u2- y \n\
+    r3-l2-u2-m3E y \n\
+    r3-l2-u2-m3Em4H n ";
 
-/// Whether what was planned is laid out.
-fn is_laid(rt: &impl Host, planned: &Planned) -> bool {
-    are_laid(rt.alloc(), &planned.laid, &planned.changes).expect(rt, "memory")
+/// What a change does.
+fn action_of(rt: &impl Host, what: u8, named: u8) -> Action<Global> {
+    match what {
+        b'm' => Action::Make(digest(text_of(rt, named))),
+        b'p' => Action::Put(digest(text_of(rt, named))),
+        b'r' => Action::Remove,
+        b'l' => Action::Link(entry(rt, b"f", (0, 3))),
+        _ => Action::Unlink(name(rt, b"f")),
+    }
 }
 
-/// A make or a put at 0:3 may name the text of a letter or not (y or n), where the texts of these letters are laid out.
-fn may_name(rt: &impl Host, named: u8, is_make: bool, answer: u8, laid: &[u8]) {
-    let named = digest(text_of(rt, named));
-    let mut planned = nothing(rt);
-    for letter in laid {
+/// Plans the changes.
+fn plan_each(rt: &impl Host, planned: &mut Planned, changes: &[u8]) {
+    for change in changes.chunks(3) {
+        let [what, number, named] = change else {
+            panic!(rt; "not three letters");
+        };
+        let number = i_number(rt, u16::from(number.wrapping_sub(b'0')));
+        let action = action_of(rt, *what, *named);
+        plan_change(rt, planned, Change::new(principal(rt, 0), number, action));
+    }
+}
+
+/// Lays the texts of these letters out.
+fn lay_each(rt: &impl Host, planned: &mut Planned, letters: &[u8]) {
+    for letter in letters {
         let text = joined(rt, &[text_of(rt, *letter)]);
         planned.laid.push(text).expect(rt, "memory");
     }
-    let action = if is_make {
-        Action::Make(named)
-    } else {
-        Action::Put(named)
-    };
-    plan_action(rt, &mut planned, (0, 3), action);
-    let found = is_laid(rt, &planned);
+}
+
+/// Whether the changes may be declared where these texts are laid out.
+fn are_laid_out(rt: &impl Host, changes: &[u8], laid: &[u8]) -> bool {
+    let mut planned = nothing(rt);
+    plan_each(rt, &mut planned, changes);
+    lay_each(rt, &mut planned, laid);
+    let answer = are_laid(rt.alloc(), &planned.laid, &planned.changes);
     let_go(planned);
-    assert!(rt; found == (answer == b'y'), "{named:?} by make: {is_make}");
+    answer.expect(rt, "memory")
 }
 
 #[test]
 fn each_naming(rt: HostRuntime) {
     let rt = (rt, Here);
     for row in CASES.split(|byte| *byte == b'\n') {
-        let [named, by_make, by_put, laid @ ..] = row else {
-            panic!(&rt; "no row");
-        };
-        may_name(&rt, *named, true, *by_make, laid);
-        may_name(&rt, *named, false, *by_put, laid);
+        let mut words = row.split(|byte| *byte == b' ');
+        let changes = words.next().unwrap_or(&[]);
+        let answer = words.next().unwrap_or(&[]);
+        let laid = words.next().unwrap_or(&[]);
+        let found = are_laid_out(&rt, changes, laid);
+        let wanted = answer == b"y".as_slice();
+        assert!(&rt; found == wanted, "{changes:?} with {laid:?}");
     }
-}
-
-/// What names no i-node.
-static OTHERS: [(u16, Task); 3] = [
-    (3, Task::Remove),
-    (2, Task::Link(b"f", 3)),
-    (2, Task::Unlink(b"f")),
-];
-
-/// Each i-node has to be laid out, and other changes need nothing.
-#[test]
-fn several_changes(rt: HostRuntime) {
-    let rt = (rt, Here);
-    let mut planned = of_tasks(&rt, &OTHERS);
-    assert!(rt; planned.laid.is_empty() && is_laid(&rt, &planned));
-    plan_action(&rt, &mut planned, (0, 3), Action::Make(digest(EMPTY_INODE)));
-    assert!(rt; is_laid(&rt, &planned));
-    plan_action(&rt, &mut planned, (0, 4), Action::Make(digest(HELLO_INODE)));
-    assert!(rt; !is_laid(&rt, &planned));
-    let_go(planned);
 }

@@ -1,27 +1,12 @@
-//! Tests of whole operations, over the public surface of the crates: user 0's client and its server, byte for byte;
-//! what clients see of files, directories and groups, with hostile stores and servers beside them; and three clients
-//! over TCP.
+//! Tests of a server, by calls made by hand, and of three clients of one over TCP; and what has to be laid out before
+//! changes are declared.
 #![tactic(auto)]
 
 #[cfg(test)]
-mod changes;
-#[cfg(test)]
-mod files;
-#[cfg(test)]
-mod groups;
-#[cfg(test)]
 mod here;
 #[cfg(test)]
-mod histories;
-#[cfg(test)]
 mod laid_out;
-#[cfg(test)]
-mod operations;
-#[cfg(test)]
-mod refusals;
 #[cfg(test)]
 mod served;
 #[cfg(test)]
 mod server;
-#[cfg(test)]
-mod world;

@@ -13,12 +13,12 @@ use std::sync::Wait;
 use std::thread;
 use std::thread::Threads;
 use std::time::Clock;
+use tests_aids::texts::key_of;
 use tests_aids::{Host, check, check_text};
 use tests_client_aids::changes::{Planned, listing_both, making, nothing};
 use tests_client_aids::clients::{
-    MemoryClient, declare_changes, end, first_key, give, hand, look_at, sign, step_on,
+    MemoryClient, client_of, declare_changes, end, first_key, give, hand, look_at, sign, step_on,
 };
-use tests_client_aids::three::{Three, three_clients};
 use tests_plain_user::{Caller, Replied};
 use wire::{RequestKind, Status};
 
@@ -135,24 +135,35 @@ fn write_and_look<R: Alloc<A = Global> + Abort + Net<Listener = TcpListener, Str
     address: SocketAddr,
 ) {
     let host = &(rt, Here);
-    let mut users = three_clients(host);
+    let (one, two) = (key_of(host, 1).public(), key_of(host, 2).public());
+    let listing = listing_both(host, one, two);
+    let mut zero = client_of(host, 0, 0);
+    let mut one = client_of(host, 1, 1);
+    let mut two = client_of(host, 2, 2);
     let stream = TcpStream::connect(rt, address).expect(rt, "a connection");
     let mut caller = Caller::new(rt.alloc(), stream);
-    write_both(host, &mut caller, &mut users);
+    operate(host, &mut caller, &mut zero, listing);
+    write_both(host, &mut caller, &mut zero, &mut one, &mut two);
     let_go(caller);
-    let_go(users);
+    let_go(zero);
+    let_go(one);
+    let_go(two);
 }
 
 /// The users do that over their connection.
-fn write_both(rt: &impl Host, caller: &mut Caller<TcpStream>, users: &mut Three) {
-    let listing = listing_both(rt, users.of_one, users.of_two);
-    operate(rt, caller, &mut users.zero, listing);
-    let by_first = begin(rt, caller, &mut users.one, making(rt, 1, 3, b"one"));
-    let by_second = begin(rt, caller, &mut users.two, making(rt, 2, 3, b"two"));
-    commit(rt, caller, &mut users.two, &by_second);
-    sees_both(rt, caller, &mut users.zero);
-    commit(rt, caller, &mut users.one, &by_first);
-    sees_both(rt, caller, &mut users.zero);
+fn write_both(
+    rt: &impl Host,
+    caller: &mut Caller<TcpStream>,
+    zero: &mut MemoryClient,
+    one: &mut MemoryClient,
+    two: &mut MemoryClient,
+) {
+    let by_first = begin(rt, caller, one, making(rt, 1, 3, b"one"));
+    let by_second = begin(rt, caller, two, making(rt, 2, 3, b"two"));
+    commit(rt, caller, two, &by_second);
+    sees_both(rt, caller, zero);
+    commit(rt, caller, one, &by_first);
+    sees_both(rt, caller, zero);
 }
 
 /// Serves one connection: how many calls were answered.
