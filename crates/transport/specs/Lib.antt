@@ -1,3 +1,4 @@
+pub mod Ahead
 pub mod Asked
 pub mod Connecting
 pub mod ConnectingLaws

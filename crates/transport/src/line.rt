@@ -1,5 +1,8 @@
 //! Requests that were sent ahead of the reply that is waited for.
 
+ghost use Rattle.std.specs.Prelude.{◌≡◌, IfSome};
+ghost use Rattle.wire.specs.Frame.{frame, request as body_of};
+
 use crate::transport::Request;
 use std::alloc::Allocator;
 use std::collections::VecDeque;
@@ -40,7 +43,9 @@ impl<A: Allocator + Copy> Line<A> {
     }
 
     /// A request comes last, where there is room and memory for it: its frame.
-    pub(crate) fn push(&mut self, request: &Request<'_>) -> Option<&[u8]> {
+    pub(crate) fn push(&mut self, request: &Request<'_>) -> Option<&[u8]>
+        ensures { IfSome result (λ bytes. bytes.now ≡ frame.spell (body_of request.now.kind request.now.payload)) }
+    {
         let payload = request.payload();
         let room = MOST_BYTES.saturating_sub(self.bytes);
         if self.frames.len() >= MOST_AHEAD || payload.len() >= room {

@@ -1,6 +1,7 @@
 //! Transports.
 
-ghost use Rattle.std.specs.Prelude.{◌≡◌};
+ghost use Rattle.std.specs.Prelude.{◌≡◌, slice_get};
+ghost use Rattle.transport.specs.Ahead.{likely};
 
 use layout::Digest;
 use std::alloc::Allocator;
@@ -74,7 +75,9 @@ pub enum Ahead<'a, A: Allocator> {
 
 impl<'a, A: Allocator> Ahead<'a, A> {
     /// The request at a place, from 0 on, if there is one.
-    pub(crate) fn request(&self, place: usize) -> Option<Request<'a>> {
+    pub(crate) fn request(&self, place: usize) -> Option<Request<'a>>
+        ensures { result ≡ slice_get (likely self.now) place }
+    {
         match self {
             Ahead::Nothing => None,
             Ahead::Puts(texts) => Some(Request::new(RequestKind::Put, texts.get(place)?)),
