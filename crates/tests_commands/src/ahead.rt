@@ -111,10 +111,10 @@ fn requests_go_ahead(rt: HostRuntime) {
     }
 }
 
-/// At most 64 requests are ahead of the reply that is waited for.
+/// At most 256 requests are ahead of the reply that is waited for.
 #[test]
 fn few_go_ahead(rt: HostRuntime) {
-    let letters = [b'x'; 100];
+    let letters = [b'x'; 300];
     let texts = texts_of(&rt, &letters);
     let mut output = Vec::new(rt.alloc());
     let inner = MemoryConnection::new(REPLIES, 7, &mut output);
@@ -126,7 +126,7 @@ fn few_go_ahead(rt: HostRuntime) {
             .is_ok()
     );
     let _connection = framed.into_connection();
-    assert_eq!(rt; output.len(), 6 * 65);
+    assert_eq!(rt; output.len(), 6 * 257);
 }
 
 /// A connection that tells its bytes takes one request after another.

@@ -1,3 +1,4 @@
+-- Nobody has to believe this file: an aid of private contracts.
 -- Requests that are likely to come next.
 use Rattle.std.specs.Prelude.{List, [], map, ℕ}
 use Rattle.std.specs.declared.vec.Vec.{Vec}

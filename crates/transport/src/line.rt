@@ -8,11 +8,12 @@ use std::alloc::Allocator;
 use std::collections::VecDeque;
 use wire::request_frame;
 
-/// How many requests are sent ahead at most, and how many bytes their frames have together: few enough that no server
-/// waits for its replies to be taken while it is still written to.
-pub(crate) const MOST_AHEAD: usize = 64;
+/// How many requests are sent ahead at most, and how many bytes their frames have together: a mebibyte of blocks with
+/// what comes before each. The replies to those that have a block, and the requests for blocks, are few bytes: so no
+/// server waits for its replies to be taken while it is still written to.
+pub(crate) const MOST_AHEAD: usize = 256;
 
-const MOST_BYTES: usize = 262_144;
+const MOST_BYTES: usize = 1_056_768;
 
 /// The frames of requests that were sent ahead, in order.
 #[derive(Drop)]
