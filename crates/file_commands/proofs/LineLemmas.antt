@@ -6,9 +6,9 @@ use Rattle.clap.specs.declared.Error.{Error}
 use Rattle.clap.specs.declared.error.ErrorKind.TheVariants.{OutOfMemory}
 use Rattle.clap.specs.declared.parser.ArgMatches.{ArgMatches}
 use Rattle.clap.proofs.OnLiterals.{clap_on_literals}
-use Rattle.file_commands.specs.Words.{sundr_app}
-use Rattle.file_commands.specs.Lines.{Order, Said, judged, line_in, line_of, reads, said, user_in, order_met, text_in, IsWhy, IsErrorOf}
-use Rattle.file_commands.specs.declared.line.Line.{Line}
+use Rattle.clap.proofs.WalkLemmas.{both}
+use Rattle.file_commands.specs.Words.{line_app, sundr_app}
+use Rattle.file_commands.specs.Lines.{Order, Said, judged, line_in, user_in, order_met, text_in, IsFaultOf, IsWhy, IsErrorOf}
 use Rattle.file_commands.specs.declared.line.LineError.{LineError}
 use Rattle.file_commands.specs.declared.line.LineError.TheVariants as error
 use Rattle.file_commands.specs.declared.reading.Unread.{Unread}
@@ -42,40 +42,37 @@ line_read rows sub d s u o a b c e = rw (a, b, c, e) refl
 
 -- ---- both outcomes
 
-simple : is_simple sundr_app ≡ true
+pub sundr_simple : is_simple_and_free sundr_app ≡ true
 unfolding clap_on_literals
-simple = refl
+sundr_simple = refl
 
-free : is_simple_and_free sundr_app ≡ true
+pub line_simple : is_simple_and_free line_app ≡ true
 unfolding clap_on_literals
-free = refl
+line_simple = refl
 
--- where clap finds no fault, the line is what is read of its matches
-pub read_ok : (a : App) (words : List Text) (m : ArgMatches) (r : Result Line Unread) → a ≡ sundr_app → HasMatchesOf a words m
-    → (is_simple_and_free a ≡ true → fault_of a words ≡ []) → reads said r ≡ line_in (rows_of (found_of m)) (subcommand_rows_of m)
-    → reads said r ≡ line_of words
-read_ok a words m r e has faults h =
-    let found = has (ap is_simple e ∙ simple) in
-    let none : fault_of sundr_app words ≡ [] = sym (ap (λ (x : App). fault_of x words) e) ∙ faults (ap is_simple_and_free e ∙ free) in
-    let rows : rows_of (found_of m) ≡ matches_of sundr_app words = found.0 ∙ ap (λ (x : App). matches_of x words) e in
-    let sub : subcommand_rows_of m ≡ subcommand_of sundr_app words = found.1 ∙ ap (λ (x : App). subcommand_of x words) e in
-    h ∙ (λ i. judged (sym none i) (rows i) (sub i))
+-- where clap finds no fault, what is read of its matches is what the words say
+pub read_ok : {X : Type 0} (app a : App) (words : List Text) (m : ArgMatches) (f : List Row → Option (Text × List Row) → Result X Unread) (r : Result X Unread)
+    → a ≡ app → is_simple_and_free app ≡ true → HasMatchesOf a words m → fault_of a words ≡ [] → r ≡ f (rows_of (found_of m)) (subcommand_rows_of m)
+    → r ≡ judged (fault_of app words) (f (matches_of app words) (subcommand_of app words))
+read_ok {X} app a words m f r e simple has none h =
+    let found = has (ap is_simple e ∙ (both (is_simple app) _ simple).0) in
+    let faultless : fault_of app words ≡ [] = sym (ap (λ (x : App). fault_of x words) e) ∙ none in
+    let rows : rows_of (found_of m) ≡ matches_of app words = found.0 ∙ ap (λ (x : App). matches_of x words) e in
+    let sub : subcommand_rows_of m ≡ subcommand_of app words = found.1 ∙ ap (λ (x : App). subcommand_of x words) e in
+    h ∙ (λ i. judged (sym faultless i) (f (rows i) (sub i)))
 
--- an error of a line that is unread
-pub is_why : (e : LineError) (why : Unread) (line : Result Said Unread) → IsErrorOf e why → Err why ≡ line → IsWhy e line
-is_why (error.Words fault) why line is h = sym h ∙ ap Err is
-is_why error.Key why line is h = sym h ∙ ap Err is
-is_why error.Memory why line is h = tt
+-- an error of words that are unread
+pub is_why : {X : Type 0} (e : LineError) (why : Unread) (read : Result X Unread) → IsErrorOf e why → Err why ≡ read → IsWhy e read
+is_why (error.Words fault) why read is h = sym h ∙ ap Err is
+is_why error.Key why read is h = sym h ∙ ap Err is
+is_why error.Memory why read is h = tt
 
-refused : (ks : Kinds) (rows : List Row) (sub : Option (Text × List Row)) (e : Error) → HasKind ks e → (kind_of e ≡ OutOfMemory → ⊥)
-    → judged ks rows sub ≡ Err unread.Words
-refused [] rows sub e (inl m) other = absurd (other m)
-refused [] rows sub e (inr h) other = absurd h
-refused (k ∷ ks) rows sub e h other = refl
+refused : {X : Type 0} (ks : Kinds) (read : Result X Unread) → (ks ≡ [] → ⊥) → judged ks read ≡ Err unread.Words
+refused [] read some = absurd (some refl)
+refused (k ∷ ks) read some = refl
 
-pub read_err : (a : App) (words : List Text) (e : Error) → a ≡ sundr_app → (is_simple_and_free a ≡ true → HasKind (fault_of a words) e)
-    → (kind_of e ≡ OutOfMemory → ⊥) → line_of words ≡ Err unread.Words
-read_err a words e is kinds other =
-    let has : HasKind (fault_of sundr_app words) e =
-    subst (λ (x : App). HasKind (fault_of x words) e) is (kinds (ap is_simple_and_free is ∙ free)) in
-    refused (fault_of sundr_app words) (matches_of sundr_app words) (subcommand_of sundr_app words) e has other
+pub read_err : {X : Type 0} (app a : App) (words : List Text) (read : Result X Unread) (e : LineError) → a ≡ app
+    → IsFaultOf e (fault_of a words) → IsWhy e (judged (fault_of app words) read)
+read_err app a words read (error.Words fault) is some = refused (fault_of app words) read (subst (λ (x : App). fault_of x words ≡ [] → ⊥) is some)
+read_err app a words read error.Key is none = absurd none
+read_err app a words read error.Memory is some = tt

@@ -1,2 +1,4 @@
 pub mod Words
+pub mod Gathering
 pub mod Lines
+pub mod Splitting

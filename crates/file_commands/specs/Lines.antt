@@ -1,6 +1,6 @@
 -- What the words of a command line say.
 use Rattle.std.specs.Prelude.{◌≡◌, ◌&&◌, ℕ, Bool, nat_le, nat_lt, codes, if◌then◌else◌}
-use Rattle.std.specs.Prelude.{List, [], ◌∷◌, length, Option, Some, None, Result, Ok, Err}
+use Rattle.std.specs.Prelude.{List, [], ◌∷◌, length, Option, Some, None, Result, Ok, Err, false}
 use Rattle.std.specs.List.{list_all}
 use Rattle.std.specs.Option.{ok_or, option_map_or}
 use Rattle.std.specs.Str.{bytes_eq}
@@ -11,7 +11,7 @@ use Rattle.hex.specs.Hex.{decode_sized}
 use Rattle.layout.specs.Types.{Bytes, Group, Key, User}
 use Rattle.lms_sign.specs.Keys.{is_key}
 use Rattle.commands.specs.declared.command.Command.TheVariants as command
-use Rattle.file_commands.specs.Words.{sundr_app}
+use Rattle.file_commands.specs.Words.{line_app, sundr_app}
 use Rattle.file_commands.specs.declared.line.Line.{Line}
 use Rattle.file_commands.specs.declared.line.Wanted.{Wanted}
 use Rattle.file_commands.specs.declared.line.Wanted.TheVariants as wanted
@@ -32,6 +32,8 @@ pub data Order : Type 0 where
   AddUser : User → Key → Order
   AddMember : Group → User → Order
   DropMember : Group → User → Order
+  -- the commands that come on standard input, up to the first that fails where it is so
+  Batch : Bool → Order
 
 -- What a line says. There is no order where a file's content stands in its path's place, which no line has.
 pub record Said : Type 0 where
@@ -45,6 +47,7 @@ pub record Said : Type 0 where
 abbrev pub order_of : Wanted → Option Order
 order_of wanted.Key = Some ShowKey
 order_of (wanted.Put path file) = Some (Put path.now file.now)
+order_of (wanted.Batch stops) = Some (Batch stops)
 order_of (wanted.Run (command.Ls path)) = Some (Ls path.now)
 order_of (wanted.Run (command.Cat path)) = Some (Cat path.now)
 order_of (wanted.Run (command.Put path content)) = None
@@ -143,6 +146,14 @@ change_in order rows = do
   member ← member_in rows
   Ok (Some (order member.0 member.1))
 
+abbrev pub is_true : Result Text Unread → Bool
+is_true (Ok text) = bytes_eq text (codes "true")
+is_true (Err e) = false
+
+-- whether an option without a value is given
+abbrev pub is_set : Text → List Row → Bool
+is_set id rows = is_true (text_in id rows)
+
 abbrev pub order_in : Text → List Row → Result (Option Order) Unread
 order_in name rows = if bytes_eq name (codes "key") then Ok (Some ShowKey)
     else (if bytes_eq name (codes "ls") then path_in Ls rows
@@ -154,7 +165,8 @@ order_in name rows = if bytes_eq name (codes "key") then Ok (Some ShowKey)
     else (if bytes_eq name (codes "adduser") then adduser_in rows
     else (if bytes_eq name (codes "addmember") then change_in AddMember rows
     else (if bytes_eq name (codes "dropmember") then change_in DropMember rows
-    else Err unread.Words)))))))))
+    else (if bytes_eq name (codes "batch") then Ok (Some (Batch (is_set (codes "stop") rows)))
+    else Err unread.Words))))))))))
 
 abbrev pub order_met : Option (Text × List Row) → Result (Option Order) Unread
 order_met None = Err unread.Words
@@ -171,13 +183,17 @@ line_in rows sub = do
   Ok (record { dir = dir; server = server; user = user; order = order })
 
 -- the words are refused where clap finds a fault in them, and else the values that it finds are read
-abbrev pub judged : Kinds → List Row → Option (Text × List Row) → Result Said Unread
-judged [] rows sub = line_in rows sub
-judged (k ∷ ks) rows sub = Err unread.Words
+abbrev pub judged : {X : Type 0} → Kinds → Result X Unread → Result X Unread
+judged [] read = read
+judged (k ∷ ks) read = Err unread.Words
 
 -- what the words say, of which the first is the program's name
 abbrev pub line_of : List Text → Result Said Unread
-line_of words = judged (fault_of sundr_app words) (matches_of sundr_app words) (subcommand_of sundr_app words)
+line_of words = judged (fault_of sundr_app words) (line_in (matches_of sundr_app words) (subcommand_of sundr_app words))
+
+-- what the words of a line of a batch say, before which the program's name stands
+abbrev pub command_of : List Text → Result (Option Order) Unread
+command_of words = judged (fault_of line_app words) (order_met (subcommand_of line_app words))
 
 -- the error of a line that is unread for this cause, or want of memory
 abbrev pub IsErrorOf : LineError → Unread → Type 0
@@ -185,8 +201,14 @@ IsErrorOf (error.Words fault) why = why ≡ unread.Words
 IsErrorOf error.Key why = why ≡ unread.Key
 IsErrorOf error.Memory why = Unit {0}
 
+-- clap's text is told where it finds a fault
+abbrev pub IsFaultOf : LineError → Kinds → Type 0
+IsFaultOf (error.Words fault) kinds = kinds ≡ [] → ⊥
+IsFaultOf error.Key kinds = ⊥
+IsFaultOf error.Memory kinds = Unit {0}
+
 -- the error is this reading's, or want of memory
-abbrev pub IsWhy : LineError → Result Said Unread → Type 0
+abbrev pub IsWhy : {X : Type 0} → LineError → Result X Unread → Type 0
 IsWhy (error.Words fault) answer = answer ≡ Err unread.Words
 IsWhy error.Key answer = answer ≡ Err unread.Key
 IsWhy error.Memory answer = Unit {0}

@@ -1,7 +1,7 @@
 -- The words that the program takes, as what clap reads of its command.
 use Rattle.std.specs.Prelude.{ℕ, Some, codes, pos, true}
 use Rattle.clap.specs.Words.{App, Rule, Text, new_app, new_rule, with_rule, with_subcommand}
-use Rattle.clap.specs.declared.builder.ArgAction.TheVariants.{Set}
+use Rattle.clap.specs.declared.builder.ArgAction.TheVariants.{Set, SetTrue}
 use Rattle.clap.specs.declared.builder.ValueParser.TheVariants as parser
 
 -- a required value, by its place
@@ -15,6 +15,10 @@ valued rule = record rule { value_names = 1 }
 -- a required option
 abbrev pub option : Text → Rule
 option id = valued (record (placed id) { long = Some id })
+
+-- an option without a value
+abbrev pub flag : Text → Rule
+flag id = record (new_rule id) { action = Some SetTrue; long = Some id }
 
 -- its value is a number from `low` to `high`
 abbrev pub numbered : ℕ → ℕ → Rule → Rule
@@ -48,6 +52,10 @@ adduser_app = with_rule (with_rule (new_app (codes "adduser")) (of_user (placed 
 abbrev pub member_app : Text → App
 member_app name = with_rule (with_rule (new_app name) (of_group (placed (codes "G")))) (of_user (placed (codes "U")))
 
+-- commands are read, a line each, from standard input
+abbrev pub batch_app : App
+batch_app = with_rule (new_app (codes "batch")) (flag (codes "stop"))
+
 -- ---- the program
 
 abbrev pub options_app : App
@@ -63,7 +71,15 @@ infixl 10 ◌with◌
 abbrev ◌with◌ : App → App → App
 app with sub = with_subcommand app sub.top
 
-abbrev pub sundr_app : App
-sundr_app = requires_command options_app with key_app with path_app (codes "ls") with path_app (codes "cat")
-    with put_app with path_app (codes "mkdir") with path_app (codes "rm") with link_app with adduser_app
+-- the commands of a user
+abbrev pub with_commands : App → App
+with_commands app = app with key_app with path_app (codes "ls") with path_app (codes "cat") with put_app
+    with path_app (codes "mkdir") with path_app (codes "rm") with link_app with adduser_app
     with member_app (codes "addmember") with member_app (codes "dropmember")
+
+abbrev pub sundr_app : App
+sundr_app = with_commands (requires_command options_app) with batch_app
+
+-- a line of a batch: a command without options
+abbrev pub line_app : App
+line_app = with_commands (requires_command (new_app (codes "sundr")))

@@ -3,6 +3,8 @@
 
 mod line;
 mod reading;
+mod splitting;
 mod words;
 
 pub use line::{Line, LineError, Wanted};
+pub use splitting::{SplitError, split_words};

@@ -32,6 +32,11 @@ pub enum Wanted<'a> {
         /// The file's name.
         file: &'a str,
     },
+    /// To carry out the commands that come on standard input, a line each.
+    Batch {
+        /// Whether it ends at the first whose status isn't 0.
+        stops: bool,
+    },
 }
 
 /// A command line that was read.

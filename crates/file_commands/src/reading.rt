@@ -1,18 +1,21 @@
 //! The reading of a command line.
 
-ghost use Rattle.std.specs.Prelude.{◌≡◌, Ok, map, MatchResult};
-ghost use Rattle.clap.specs.Words.{found_of, rows_of, subcommand_rows_of};
+ghost use Rattle.std.specs.Prelude.{◌≡◌, true, Ok, [], map, IfOk, IfErr, MatchResult};
+ghost use Rattle.clap.specs.Words.{HasMatchesOf, app_of, fault_of, found_of, is_simple_and_free, rows_of};
+ghost use Rattle.clap.specs.Words.{subcommand_rows_of};
 ghost use Rattle.file_commands.specs.Lines.{reads, order_of, said, text_in, number_in, user_in, group_in, key_of};
 ghost use Rattle.file_commands.specs.Lines.{put_in, link_in, adduser_in, member_in, order_in};
-ghost use Rattle.file_commands.specs.Lines.{line_in, line_of, IsErrorOf, IsWhy};
+ghost use Rattle.file_commands.specs.Lines.{command_of, is_set, line_in, line_of, order_met, IsErrorOf, IsFaultOf};
+ghost use Rattle.file_commands.specs.Lines.{IsWhy};
+ghost use Rattle.file_commands.specs.Words.{line_app, sundr_app};
 
 use crate::line::{Line, LineError, Wanted};
-use crate::words::command;
+use crate::words::{command, line_command};
 use clap::error::ErrorKind;
 use clap::{ArgMatches, Command as Words};
 use commands::Command;
 use hex::FromHex;
-use layout::{Group, User};
+use layout::{Group, User, let_go};
 use lms_sign::{KEY_SIZE, PublicKey};
 use std::alloc::Global;
 use std::convert::AsStr;
@@ -38,6 +41,16 @@ fn number(matches: &ArgMatches<'_>, id: &str) -> Result<u8, Unread>
     ensures { result ≡ number_in id.now (rows_of (found_of matches.now)) }
 {
     matches.get_one::<u8>(id).ok_or(Unread::Words)
+}
+
+/// Whether an option without a value is given.
+fn is_set(matches: &ArgMatches<'_>, id: &str) -> bool
+    ensures { result ≡ is_set id.now (rows_of (found_of matches.now)) }
+{
+    match text(matches, id) {
+        Ok(text) => text == "true",
+        Err(_) => false,
+    }
 }
 
 fn user(matches: &ArgMatches<'_>, id: &str) -> Result<User, Unread>
@@ -104,6 +117,9 @@ fn wanted<'a>(name: &str, matches: &ArgMatches<'a>) -> Result<Wanted<'a>, Unread
 {
     let command = match name {
         "key" => return Ok(Wanted::Key),
+        "batch" => return Ok(Wanted::Batch {
+            stops: is_set(matches, "stop"),
+        }),
         "put" => return put(matches),
         "link" => return link(matches),
         "adduser" => return adduser(matches),
@@ -124,6 +140,16 @@ fn wanted<'a>(name: &str, matches: &ArgMatches<'a>) -> Result<Wanted<'a>, Unread
     Ok(Wanted::Run(command))
 }
 
+/// What is to be done by the command that the matches give.
+fn met<'a>(matches: &ArgMatches<'a>) -> Result<Wanted<'a>, Unread>
+    ensures { reads order_of result ≡ order_met (subcommand_rows_of matches.now) }
+{
+    match matches.subcommand() {
+        Some((name, inner)) => wanted(name, inner),
+        None => Err(Unread::Words),
+    }
+}
+
 /// The line that the matches give.
 fn line<'a>(matches: &ArgMatches<'a>) -> Result<Line<'a>, Unread>
     ensures { reads said result ≡ line_in (rows_of (found_of matches.now)) (subcommand_rows_of matches.now) }
@@ -131,10 +157,7 @@ fn line<'a>(matches: &ArgMatches<'a>) -> Result<Line<'a>, Unread>
     let dir = text(matches, "dir")?;
     let server = text(matches, "server")?;
     let user = user(matches, "user")?;
-    let Some((name, inner)) = matches.subcommand() else {
-        return Err(Unread::Words);
-    };
-    match wanted(name, inner) {
+    match met(matches) {
         Ok(wanted) => Ok(Line {
             dir,
             server,
@@ -160,6 +183,53 @@ fn refuse(words: &mut Words<'_>, unread: Unread) -> LineError
     }
 }
 
+/// The matches of words.
+fn matched<'a, S: AsStr>(
+    command: &mut Words<'a>,
+    words: &'a [S],
+) -> Result<ArgMatches<'a>, LineError>
+    requires { is_simple_and_free (app_of command.old) ≡ true }
+    ensures ok { IfOk result (λ m. HasMatchesOf (app_of command.old) (map S.text words.entry.now) m) }
+    ensures none { IfOk result (λ m. fault_of (app_of command.old) (map S.text words.entry.now) ≡ []) }
+    ensures fault { IfErr result (λ e. IsFaultOf e (fault_of (app_of command.old) (map S.text words.entry.now))) }
+{
+    match command.try_get_matches_from_mut(words) {
+        Ok(matches) => Ok(matches),
+        Err(fault) if fault.kind() == ErrorKind::OutOfMemory => Err(LineError::Memory),
+        Err(fault) => Err(LineError::Words(fault)),
+    }
+}
+
+/// The line that words say.
+fn line_by<'a, S: AsStr>(command: &mut Words<'a>, words: &'a [S]) -> Result<Line<'a>, LineError>
+    requires { app_of command.old ≡ sundr_app }
+    ensures { MatchResult result (λ line. line_of (map S.text words.entry.now) ≡ Ok (said line))
+        (λ e. IsWhy e (line_of (map S.text words.entry.now))) }
+{
+    match matched(command, words) {
+        Ok(matches) => match line(&matches) {
+            Ok(line) => Ok(line),
+            Err(unread) => Err(refuse(command, unread)),
+        },
+        Err(error) => Err(error),
+    }
+}
+
+/// What words of a line of a batch say is to be done.
+fn met_by<'a, S: AsStr>(command: &mut Words<'a>, words: &'a [S]) -> Result<Wanted<'a>, LineError>
+    requires { app_of command.old ≡ line_app }
+    ensures { MatchResult result (λ wanted. command_of (map S.text words.entry.now) ≡ Ok (order_of wanted))
+        (λ e. IsWhy e (command_of (map S.text words.entry.now))) }
+{
+    match matched(command, words) {
+        Ok(matches) => match met(&matches) {
+            Ok(wanted) => Ok(wanted),
+            Err(unread) => Err(refuse(command, unread)),
+        },
+        Err(error) => Err(error),
+    }
+}
+
 impl<'a> Line<'a> {
     /// Reads a line from its words, of which the first is the program's name.
     pub fn read<S: AsStr>(alloc: Global, words: &'a [S]) -> Result<Line<'a>, LineError>
@@ -169,13 +239,23 @@ impl<'a> Line<'a> {
         let Ok(mut command) = command(alloc) else {
             return Err(LineError::Memory);
         };
-        match command.try_get_matches_from_mut(words) {
-            Ok(matches) => match line(&matches) {
-                Ok(line) => Ok(line),
-                Err(unread) => Err(refuse(&mut command, unread)),
-            },
-            Err(fault) if fault.kind() == ErrorKind::OutOfMemory => Err(LineError::Memory),
-            Err(fault) => Err(LineError::Words(fault)),
-        }
+        let line = line_by(&mut command, words);
+        let_go(command);
+        line
+    }
+}
+
+impl<'a> Wanted<'a> {
+    /// Reads what is to be done from the words of a line of a batch, before which the program's name stands.
+    pub fn read<S: AsStr>(alloc: Global, words: &'a [S]) -> Result<Wanted<'a>, LineError>
+        ensures { MatchResult result (λ wanted. command_of (map S.text words.entry.now) ≡ Ok (order_of wanted))
+            (λ e. IsWhy e (command_of (map S.text words.entry.now))) }
+    {
+        let Ok(mut command) = line_command(alloc) else {
+            return Err(LineError::Memory);
+        };
+        let wanted = met_by(&mut command, words);
+        let_go(command);
+        wanted
     }
 }

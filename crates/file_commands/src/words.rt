@@ -2,9 +2,9 @@
 
 ghost use Rattle.std.specs.Prelude.{◌≡◌, false, codes, IfOk};
 ghost use Rattle.clap.specs.Words.{app_of, rule_of};
-ghost use Rattle.file_commands.specs.Words.{adduser_app, key_app, link_app, member_app, of_group, of_user, option};
-ghost use Rattle.file_commands.specs.Words.{options_app, path_app, placed, put_app, requires_command, sundr_app};
-ghost use Rattle.file_commands.specs.Words.{valued};
+ghost use Rattle.file_commands.specs.Words.{adduser_app, batch_app, flag, key_app, line_app, link_app, member_app};
+ghost use Rattle.file_commands.specs.Words.{of_group, of_user, option, options_app, path_app, placed, put_app};
+ghost use Rattle.file_commands.specs.Words.{requires_command, sundr_app, valued, with_commands};
 
 use clap::{Arg, ArgAction, Command, value_parser};
 use std::alloc::{AllocError, Global};
@@ -81,6 +81,17 @@ fn option<'a>(alloc: Global, name: &'a str, value: &'a str, help: &'a str) -> Ar
     ensures local { result.global ≡ false }
 {
     valued(placed(alloc, name, help).long(name), value)
+}
+
+/// An option without a value.
+fn flag<'a>(alloc: Global, name: &'a str, help: &'a str) -> Arg<'a>
+    ensures rule { rule_of result ≡ flag name.entry.now }
+    ensures local { result.global ≡ false }
+{
+    Arg::new(alloc, name)
+        .long(name)
+        .action(ArgAction::SetTrue)
+        .help(help)
 }
 
 /// The same argument, with a user's number as its value.
@@ -201,11 +212,29 @@ fn program<'a>(alloc: Global) -> Result<Command<'a>, AllocError>
     Ok(command.about("Works in a file system whose server nobody needs to trust"))
 }
 
-/// The words that the program takes.
-pub(crate) fn command<'a>(alloc: Global) -> Result<Command<'a>, AllocError>
-    ensures { IfOk result (λ c. app_of c ≡ sundr_app) }
+/// Commands that come on standard input.
+fn batch_command<'a>(alloc: Global) -> Result<Command<'a>, AllocError>
+    ensures { IfOk result (λ c. app_of c ≡ batch_app) }
 {
-    program(alloc)?
+    Command::new(alloc, "batch")
+        .about(
+            "Carries out commands from standard input, a line each, with words as here after the options, quoted as in a shell",
+        )
+        .after_help(
+            "Example: sundr --dir alice --server localhost:7440 --user 1 batch --stop < commands",
+        )
+        .arg(flag(
+            alloc,
+            "stop",
+            "Ends at the first command whose status isn't 0",
+        ))
+}
+
+/// The same command, with the commands of a user.
+fn with_commands<'a>(alloc: Global, command: Command<'a>) -> Result<Command<'a>, AllocError>
+    ensures { IfOk result (λ c. app_of c ≡ with_commands (app_of command.entry)) }
+{
+    command
         .subcommand(key_command(alloc))?
         .subcommand(path_command(alloc, "ls", LS)?)?
         .subcommand(path_command(alloc, "cat", CAT)?)?
@@ -216,4 +245,21 @@ pub(crate) fn command<'a>(alloc: Global) -> Result<Command<'a>, AllocError>
         .subcommand(adduser_command(alloc)?)?
         .subcommand(member_command(alloc, "addmember", ADD_MEMBER)?)?
         .subcommand(member_command(alloc, "dropmember", DROP_MEMBER)?)
+}
+
+/// The words that the program takes.
+pub(crate) fn command<'a>(alloc: Global) -> Result<Command<'a>, AllocError>
+    ensures { IfOk result (λ c. app_of c ≡ sundr_app) }
+{
+    with_commands(alloc, program(alloc)?)?.subcommand(batch_command(alloc)?)
+}
+
+/// The words that a line of a batch may have, after the program's name.
+pub(crate) fn line_command<'a>(alloc: Global) -> Result<Command<'a>, AllocError>
+    ensures { IfOk result (λ c. app_of c ≡ line_app) }
+{
+    with_commands(
+        alloc,
+        Command::new(alloc, "sundr").subcommand_required(true),
+    )
 }

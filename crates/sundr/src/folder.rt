@@ -17,12 +17,27 @@ pub(crate) struct Keys {
     pub(crate) pinned: PublicKey,
 }
 
-/// What a fault of the system at the ledger or at the journal is told as.
-fn device_hindrance(fault: &io::Error) -> Hindrance {
+/// What a fault of the system is told as: want of memory as that, and any other as what it hinders.
+fn hindrance_of(fault: &io::Error, other: Hindrance) -> Hindrance {
     match fault.kind() {
         ErrorKind::OutOfMemory => Hindrance::Refused(Refusal::Memory),
-        _ => Hindrance::Refused(Refusal::Device),
+        _ => other,
     }
+}
+
+/// What a fault of the system at the ledger or at the journal is told as.
+fn device_hindrance(fault: &io::Error) -> Hindrance {
+    hindrance_of(fault, Hindrance::Refused(Refusal::Device))
+}
+
+/// What a fault of the system at the seed or at user 0's public key is told as.
+fn key_hindrance(fault: &io::Error) -> Hindrance {
+    hindrance_of(fault, Hindrance::NoKeys)
+}
+
+/// What a fault of the system at the file that is put is told as.
+fn content_hindrance(fault: &io::Error) -> Hindrance {
+    hindrance_of(fault, Hindrance::NoFile)
 }
 
 /// The path of a file of a folder.
@@ -46,8 +61,9 @@ pub(crate) fn read_seed(
 ) -> Result<([u8; SEED_SIZE], [u8; ID_SIZE]), Hindrance> {
     let path = path_in(rt.alloc(), folder, "seed")?;
     let (mut seed, mut id) = ([0; SEED_SIZE], [0; ID_SIZE]);
-    let mut file = File::open(rt, &path).map_err(|_| Hindrance::NoKeys)?;
-    file.read_exact(&mut seed).map_err(|_| Hindrance::NoKeys)?;
+    let mut file = File::open(rt, &path).map_err(|fault| key_hindrance(&fault))?;
+    file.read_exact(&mut seed)
+        .map_err(|fault| key_hindrance(&fault))?;
     read_last(&mut file, &mut id).ok_or(Hindrance::NoKeys)?;
     Ok((seed, id))
 }
@@ -56,7 +72,7 @@ pub(crate) fn read_seed(
 fn read_pinned(rt: &HostRuntime, folder: &str) -> Result<PublicKey, Hindrance> {
     let path = path_in(rt.alloc(), folder, "super.pub")?;
     let mut bytes = [0; KEY_SIZE];
-    let mut file = File::open(rt, &path).map_err(|_| Hindrance::NoKeys)?;
+    let mut file = File::open(rt, &path).map_err(|fault| key_hindrance(&fault))?;
     read_last(&mut file, &mut bytes).ok_or(Hindrance::NoKeys)?;
     PublicKey::from_bytes(bytes).ok_or(Hindrance::NoKeys)
 }
@@ -70,17 +86,14 @@ pub(crate) fn read_keys(rt: &HostRuntime, folder: &str) -> Result<Keys, Hindranc
 
 /// The bytes of a file of the system, of which one more than a file may have is enough.
 pub(crate) fn read_content(rt: &HostRuntime, path: &str) -> Result<Vec<u8>, Hindrance> {
-    let file = File::open(rt, path).map_err(|_| Hindrance::NoFile)?;
+    let file = File::open(rt, path).map_err(|fault| content_hindrance(&fault))?;
     let mut content = Vec::new(rt.alloc());
     match file
         .take(u64::from(FILE_SIZE) + 1)
         .read_to_end(&mut content)
     {
         Ok(_) => Ok(content),
-        Err(fault) if fault.kind() == ErrorKind::OutOfMemory => {
-            Err(Hindrance::Refused(Refusal::Memory))
-        }
-        Err(_) => Err(Hindrance::NoFile),
+        Err(fault) => Err(content_hindrance(&fault)),
     }
 }
 

@@ -1,9 +1,11 @@
 //! A client of a file system over a server that nobody trusts: it carries out one command, and prints what comes of it.
 #![tactic(auto)]
 
+mod batch;
 mod folder;
 mod hindrance;
 
+use batch::carry_out_batch;
 use client_verify::Client;
 use commands::{Answer, Command};
 use connection::{ConnectionFault, Socket};
@@ -34,6 +36,14 @@ const UNPRINTED: u8 = 6;
 /// A client over the files of a folder.
 type OwnClient = Client<FileDevice<Global>, FileDevice<Global>, Global>;
 
+/// Its session with the server at an address.
+type OwnSession<'a, H> = Session<
+    FileDevice<Global>,
+    FileDevice<Global>,
+    Connecting<Server<'a, H>, Socket, Global>,
+    Global,
+>;
+
 /// What is printed of a line.
 #[derive(Drop)]
 enum Outcome {
@@ -41,6 +51,8 @@ enum Outcome {
     Key(String),
     /// What came of a command.
     Answer(Answer<Global>),
+    /// Commands were carried out, of which all is printed, and this is the status to end with.
+    Ended(u8),
 }
 
 /// The server at an address.
@@ -99,7 +111,38 @@ fn tell_resumed(rt: &HostRuntime, resumed: &Resumed<Global>) -> io::Result<()> {
     eprintln!(rt;)
 }
 
-/// Carries a command out.
+/// A session of a client, that isn't connected.
+fn session_of<'a, H: Net<Stream = TcpStream>>(
+    rt: &HostRuntime,
+    host: &'a H,
+    address: &'a str,
+    client: OwnClient,
+) -> OwnSession<'a, H> {
+    let transport = Connecting::new(rt.alloc(), Server { host, address });
+    Session::new(rt.alloc(), client, transport)
+}
+
+/// Ends a session.
+fn end<H: Net<Stream = TcpStream>>(session: OwnSession<'_, H>) {
+    let (client, transport) = session.close();
+    let_go(client);
+    let_go(transport);
+}
+
+/// Carries a command out, and tells which operation was finished before it.
+fn answer<H: Net<Stream = TcpStream>>(
+    rt: &HostRuntime,
+    session: &mut OwnSession<'_, H>,
+    command: &Command<'_>,
+) -> Answer<Global> {
+    let answer = session.run(command);
+    if let Some(resumed) = session.resumed() {
+        let _ = tell_resumed(rt, resumed);
+    }
+    answer
+}
+
+/// Carries a command out that stands alone.
 fn carry_out<H: Net<Stream = TcpStream> + Threads + Sync>(
     rt: &HostRuntime,
     host: &H,
@@ -109,19 +152,9 @@ fn carry_out<H: Net<Stream = TcpStream> + Threads + Sync>(
 ) -> Result<Answer<Global>, Hindrance> {
     let _lock = lock_ledger(rt, line.dir)?;
     let client = open_client(rt, host, line, keys)?;
-    let server = Server {
-        host,
-        address: line.server,
-    };
-    let transport = Connecting::new(rt.alloc(), server);
-    let mut session = Session::new(rt.alloc(), client, transport);
-    let answer = session.run(command);
-    if let Some(resumed) = session.resumed() {
-        let _ = tell_resumed(rt, resumed);
-    }
-    let (client, transport) = session.close();
-    let_go(client);
-    let_go(transport);
+    let mut session = session_of(rt, host, line.server, client);
+    let answer = answer(rt, &mut session, command);
+    end(session);
     Ok(answer)
 }
 
@@ -172,6 +205,9 @@ fn obey<H: Net<Stream = TcpStream> + Threads + Sync>(
 ) -> Result<Outcome, Hindrance> {
     let answer = match &line.wanted {
         Wanted::Key => return Ok(Outcome::Key(own_key(rt, host, line)?)),
+        Wanted::Batch { stops } => {
+            return Ok(Outcome::Ended(carry_out_batch(rt, host, line, *stops)?));
+        }
         Wanted::Run(command) => obey_command(rt, host, line, command)?,
         Wanted::Put { path, file } => put_file(rt, host, line, path, file)?,
     };
@@ -192,6 +228,7 @@ fn print(rt: &HostRuntime, outcome: &Result<Outcome, Hindrance>) -> anyhow::Resu
             Ok(0)
         }
         Ok(Outcome::Answer(answer)) => print_answer(rt, answer),
+        Ok(Outcome::Ended(status)) => Ok(*status),
         Err(Hindrance::Refused(refusal)) => print_answer(rt, &Answer::Refused(*refusal)),
         Err(hindrance) => {
             println!(rt; "{hindrance}")?;
@@ -260,12 +297,15 @@ fn run<H: Net<Stream = TcpStream> + Threads + Sync>(
     }
 }
 
+/// Tells that what came can't be printed: the status to end with.
+fn tell(rt: &HostRuntime, error: anyhow::Error) -> u8 {
+    let _ = eprintln!(rt; "sundr: {error}");
+    UNPRINTED
+}
+
 fn main(rt: HostRuntime) -> ExitCode {
-    match run(&rt, &rt) {
-        Ok(status) => ExitCode::from(status),
-        Err(error) => {
-            let _ = eprintln!(rt; "sundr: {error}");
-            ExitCode::from(UNPRINTED)
-        }
-    }
+    ExitCode::from(match run(&rt, &rt) {
+        Ok(status) => status,
+        Err(error) => tell(&rt, error),
+    })
 }

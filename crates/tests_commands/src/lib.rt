@@ -15,4 +15,6 @@ mod errors;
 #[cfg(test)]
 mod lines;
 #[cfg(test)]
+mod splitting;
+#[cfg(test)]
 mod transports;

@@ -66,7 +66,9 @@ fn number_of(wanted: &Wanted<'_>) -> u8 {
             file: "f",
         } => 4,
         Wanted::Run(command) => command_read(command),
-        _ => 0,
+        Wanted::Batch { stops: false } => 11,
+        Wanted::Batch { stops: true } => 12,
+        Wanted::Put { .. } => 0,
     }
 }
 
@@ -103,6 +105,31 @@ fn lines_of_commands(rt: HostRuntime) {
     }
     let adduser = format!(in alloc; "adduser 5 {DIGITS}").expect(&rt, "memory");
     assert!(rt; reads(&rt, alloc, &adduser) == 10);
+    assert!(rt; reads(&rt, alloc, "batch") == 11);
+    assert!(rt; reads(&rt, alloc, "batch --stop") == 12);
+}
+
+/// The number of what the words of a line of a batch want; 0 where they aren't read.
+fn reads_alone(rt: &impl Abort, alloc: Global, command: &str) -> u8 {
+    let text = format!(in alloc; "sundr {command}").expect(rt, "memory");
+    let words = words_of(rt, alloc, &text);
+    match &Wanted::read(alloc, &words) {
+        Ok(wanted) => number_of(wanted),
+        Err(_) => 0,
+    }
+}
+
+#[test]
+fn lines_of_a_batch(rt: HostRuntime) {
+    let alloc = rt.alloc();
+    let mut number = 0u8;
+    for command in COMMANDS.lines() {
+        number = number.saturating_add(1);
+        assert!(rt; reads_alone(&rt, alloc, command) == number);
+    }
+    for command in ["", "batch", "batch --stop", "--user 7 ls /p", "ls"] {
+        assert!(rt; reads_alone(&rt, alloc, command) == 0);
+    }
 }
 
 /// Whether this is a fault of this kind that clap finds, or else a bad key.

@@ -1,14 +1,11 @@
-use Rattle.std.proofs.Common.{◌≡◌, ◌∙◌, ap, sym, Some}
+use Rattle.std.proofs.Common.{sym}
 use Rattle.clap.specs.Words.{found_of, rows_of, subcommand_rows_of}
-use Rattle.file_commands.specs.Lines.{order_met, order_of}
-use Rattle.file_commands.proofs.LineLemmas.{line_read, subcommand_met}
+use Rattle.file_commands.specs.Lines.{order_of}
+use Rattle.file_commands.proofs.LineLemmas.{line_read}
 use Rattle.file_commands.proofs.reading.line.Goals as goal
 
 pub returns-in-Ok : goal.returns-in-Ok
 returns-in-Ok c =
     let m = c.args.matches.now in
-    let inner = rows_of (found_of c.in-Some.inner.now) in
-    let met : subcommand_rows_of m ≡ Some (c.in-Some.name.now, inner) =
-    subcommand_met m c.in-Some.name.now inner c.in-Some.ensures.name c.in-Some.ensures.rows in
     line_read (rows_of (found_of m)) (subcommand_rows_of m) c.in_ok-dir.dir.now c.in_ok-server.server.now c.in_ok-user.user (order_of c.in-Ok.wanted)
-    (sym c.in_ok-dir.ensures) (sym c.in_ok-server.ensures) (sym c.in_ok-user.ensures) (ap order_met met ∙ sym c.in-Ok.ensures)
+    (sym c.in_ok-dir.ensures) (sym c.in_ok-server.ensures) (sym c.in_ok-user.ensures) (sym c.in-Ok.ensures)

@@ -1,0 +1,236 @@
+//! Commands that come on standard input, a line each.
+
+use crate::folder::{lock_ledger, read_content, read_keys};
+use crate::hindrance::Hindrance;
+use crate::{
+    Outcome, OwnClient, OwnSession, WORDS, answer, end, open_client, own_key, print, refuse,
+    session_of, tell,
+};
+use commands::{Answer, Command, Refusal};
+use file_commands::{Line, Wanted, split_words};
+use layout::let_go;
+use std::alloc::{AllocError, Global};
+use std::io::{self, ErrorKind, Input};
+use std::net::{Net, TcpStream};
+use std::thread::Threads;
+
+/// What comes before the words of a line: the name of the program that reads them.
+const PROGRAM: &str = "sundr";
+
+/// The words that a line is read of.
+fn with_program<'a>(alloc: Global, words: &'a [String]) -> Result<Vec<&'a str>, AllocError> {
+    let mut all = Vec::new(alloc);
+    all.push(PROGRAM)?;
+    for word in words {
+        all.push(word.as_str())?;
+    }
+    Ok(all)
+}
+
+/// Puts the content of a file of the system.
+fn put<H: Net<Stream = TcpStream>>(
+    rt: &HostRuntime,
+    session: &mut OwnSession<'_, H>,
+    path: &str,
+    file: &str,
+) -> Result<Answer<Global>, Hindrance> {
+    let content = read_content(rt, file)?;
+    let command = Command::Put {
+        path,
+        content: &content,
+    };
+    Ok(answer(rt, session, &command))
+}
+
+/// Does what a line of a batch wants; a batch is none.
+fn obey<H: Net<Stream = TcpStream> + Threads + Sync>(
+    rt: &HostRuntime,
+    host: &H,
+    line: &Line<'_>,
+    session: &mut OwnSession<'_, H>,
+    wanted: &Wanted<'_>,
+) -> Result<Outcome, Hindrance> {
+    match wanted {
+        Wanted::Key => Ok(Outcome::Key(own_key(rt, host, line)?)),
+        Wanted::Run(command) => Ok(Outcome::Answer(answer(rt, session, command))),
+        Wanted::Put { path, file } => Ok(Outcome::Answer(put(rt, session, path, file)?)),
+        Wanted::Batch { .. } => Ok(Outcome::Ended(WORDS)),
+    }
+}
+
+/// Whether an answer tells that nothing can be sent any more over the connection that its command went over.
+fn tells_cut(answer: &Answer<Global>) -> bool {
+    match answer {
+        Answer::Refused(refusal) => matches!(refusal, Refusal::Cut),
+        _ => false,
+    }
+}
+
+/// Whether what came of a line tells this.
+fn is_cut(outcome: &Outcome) -> bool {
+    match outcome {
+        Outcome::Answer(answer) => tells_cut(answer),
+        Outcome::Key(_) | Outcome::Ended(_) => false,
+    }
+}
+
+/// The words of a line, or the status of one whose words are at fault, of which is told.
+fn words_of(rt: &HostRuntime, text: &str) -> Result<Vec<String>, u8> {
+    match split_words(rt.alloc(), text) {
+        Ok(words) => Ok(words),
+        Err(error) => {
+            let _ = eprintln!(rt; "error: {error}");
+            Err(WORDS)
+        }
+    }
+}
+
+/// What came of a line: its status, and whether the connection is of no use any more.
+#[derive(Clone, Copy)]
+struct Ended {
+    status: u8,
+    is_cut: bool,
+}
+
+impl Ended {
+    /// Nothing was sent.
+    fn unsent(status: u8) -> Ended {
+        Ended {
+            status,
+            is_cut: false,
+        }
+    }
+}
+
+/// Carries out what stands in a line, and prints what comes of it. Where it has no words, that is nothing.
+fn carry_out<H: Net<Stream = TcpStream> + Threads + Sync>(
+    rt: &HostRuntime,
+    host: &H,
+    line: &Line<'_>,
+    session: &mut OwnSession<'_, H>,
+    text: &str,
+) -> anyhow::Result<Ended> {
+    let words = match words_of(rt, text) {
+        Ok(words) => words,
+        Err(status) => return Ok(Ended::unsent(status)),
+    };
+    if words.is_empty() {
+        return Ok(Ended::unsent(0));
+    }
+    let words = with_program(rt.alloc(), &words)?;
+    let wanted = match Wanted::read(rt.alloc(), words.as_slice()) {
+        Ok(wanted) => wanted,
+        Err(error) => {
+            let status = refuse(rt, &error);
+            let_go(error);
+            return Ok(Ended::unsent(status?));
+        }
+    };
+    let outcome = obey(rt, host, line, session, &wanted);
+    let is_cut = match &outcome {
+        Ok(outcome) => is_cut(outcome),
+        Err(_) => false,
+    };
+    let status = print(rt, &outcome);
+    let_go(outcome);
+    Ok(Ended {
+        status: status?,
+        is_cut,
+    })
+}
+
+/// Carries out a line as it was read.
+fn carry_out_read<H: Net<Stream = TcpStream> + Threads + Sync>(
+    rt: &HostRuntime,
+    host: &H,
+    line: &Line<'_>,
+    session: &mut OwnSession<'_, H>,
+    text: io::Result<String>,
+) -> anyhow::Result<Ended> {
+    match text {
+        Ok(text) => carry_out(rt, host, line, session, &text),
+        Err(fault) if fault.kind() == ErrorKind::InvalidData => {
+            let _ = eprintln!(rt; "error: a word isn't UTF-8");
+            Ok(Ended::unsent(WORDS))
+        }
+        Err(fault) => Err(fault.into()),
+    }
+}
+
+/// The same client, that isn't connected.
+fn reconnect<'a, H: Net<Stream = TcpStream>>(
+    rt: &HostRuntime,
+    host: &'a H,
+    address: &'a str,
+    session: OwnSession<'a, H>,
+) -> OwnSession<'a, H> {
+    let (client, transport) = session.close();
+    let_go(transport);
+    session_of(rt, host, address, client)
+}
+
+/// Carries out a line with its number, from 1 on. A status that isn't 0 is told with it.
+fn carry_out_numbered<'a, H: Net<Stream = TcpStream> + Threads + Sync>(
+    rt: &HostRuntime,
+    host: &'a H,
+    line: &Line<'a>,
+    session: OwnSession<'a, H>,
+    (number, text): (usize, io::Result<String>),
+) -> (OwnSession<'a, H>, anyhow::Result<u8>) {
+    let mut session = session;
+    match carry_out_read(rt, host, line, &mut session, text) {
+        Ok(ended) => {
+            if ended.status != 0 {
+                let _ = eprintln!(rt; "line {number}: status {}", ended.status);
+            }
+            if ended.is_cut {
+                session = reconnect(rt, host, line.server, session);
+            }
+            (session, Ok(ended.status))
+        }
+        Err(error) => (session, Err(error)),
+    }
+}
+
+/// Carries out the lines of standard input, up to the first whose status isn't 0 where it stops there, or to one that
+/// can't be read or whose answer can't be printed: the first status that isn't 0, or 0.
+fn carry_out_all<'a, H: Net<Stream = TcpStream> + Threads + Sync>(
+    rt: &HostRuntime,
+    host: &'a H,
+    line: &Line<'a>,
+    client: OwnClient,
+    stops: bool,
+) -> u8 {
+    let mut session = session_of(rt, host, line.server, client);
+    let mut first = 0;
+    for (place, text) in rt.lines(rt.alloc()).enumerate() {
+        let numbered = (place.saturating_add(1), text);
+        let (next, ended) = carry_out_numbered(rt, host, line, session, numbered);
+        session = next;
+        let (status, is_last) = match ended {
+            Ok(status) => (status, stops && status != 0),
+            Err(error) => (tell(rt, error), true),
+        };
+        if first == 0 {
+            first = status;
+        }
+        if is_last {
+            break;
+        }
+    }
+    end(session);
+    first
+}
+
+/// Carries out the lines of standard input by one client over one connection: the status to end with.
+pub(crate) fn carry_out_batch<H: Net<Stream = TcpStream> + Threads + Sync>(
+    rt: &HostRuntime,
+    host: &H,
+    line: &Line<'_>,
+    stops: bool,
+) -> Result<u8, Hindrance> {
+    let keys = read_keys(rt, line.dir)?;
+    let _lock = lock_ledger(rt, line.dir)?;
+    let client = open_client(rt, host, line, &keys)?;
+    Ok(carry_out_all(rt, host, line, client, stops))
+}
