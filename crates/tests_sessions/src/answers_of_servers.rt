@@ -4,9 +4,9 @@
 use crate::here::Here;
 use crate::memory::Trouble;
 use crate::operations::answered;
-use crate::town::{Town, town_of_one, town_of_three};
-use crate::words::{all_end, ends, on_one_line, run};
-use layout::digest;
+use crate::town::{Town, town_of};
+use crate::words::{all_end, all_end_in_town, ends, on_one_line, run};
+use layout::{digest, let_go};
 use tests_aids::texts::{certificate, named, plan, signed, structure, vector_of};
 use tests_aids::{Aided, check, check_text, given};
 use wire::RequestKind;
@@ -57,12 +57,8 @@ fn ends_at(rt: &impl Aided, town: &Town, kind: RequestKind) {
     );
 }
 
-/// User 0 alone, whose root directory has a file.
-fn settled(rt: &impl Aided) -> Town {
-    let mut town = town_of_one(rt);
-    all_end(rt, &mut town, "0 put /f FILE < hello -> 0 done|");
-    town
-}
+/// User 0's root directory has a file.
+const SETTLED: &str = "0 put /f FILE < hello -> 0 done|";
 
 /// The command ends so, and sends nothing after the request that is answered so; and the next one finds what stood
 /// there before, and finishes what was declared.
@@ -77,13 +73,20 @@ fn is_told(rt: &impl Aided, town: &mut Town, (kind, body, end): Lie) {
     check_text(rt, &outcome.printed, b"hello");
 }
 
+/// So is each lie, one after another.
+fn all_are_told(rt: &impl Aided, town: &mut Town) {
+    all_end(rt, town, SETTLED);
+    for number in 0..LIES {
+        is_told(rt, town, lie(number));
+    }
+}
+
 #[test]
 fn each_lie_is_told(rt: HostRuntime) {
     let rt = (rt, Here);
-    let mut town = settled(&rt);
-    for number in 0..LIES {
-        is_told(&rt, &mut town, lie(number));
-    }
+    let mut town = town_of(&rt, 1);
+    all_are_told(&rt, &mut town);
+    let_go(town);
 }
 
 /// The request of a process that is answered with a lie, by how many come before it; the body of the lie; and what the
@@ -147,13 +150,20 @@ fn is_told_at(rt: &impl Aided, town: &mut Town, number: usize, (at, body, end): 
     check_text(rt, &text, printed.as_bytes());
 }
 
+/// So is each lie, one after another.
+fn all_are_told_at(rt: &impl Aided, town: &mut Town) {
+    all_end(rt, town, SETTLED);
+    for number in 0..LIES_AT {
+        is_told_at(rt, town, number, lie_at(number));
+    }
+}
+
 #[test]
 fn each_lie_about_an_operation_is_told(rt: HostRuntime) {
     let rt = (rt, Here);
-    let mut town = settled(&rt);
-    for number in 0..LIES_AT {
-        is_told_at(&rt, &mut town, number, lie_at(number));
-    }
+    let mut town = town_of(&rt, 1);
+    all_are_told_at(&rt, &mut town);
+    let_go(town);
 }
 
 /// A way that fails. Behind each command is how many requests it sends.
@@ -164,16 +174,11 @@ const LOST: &str = "\
 0 ls / -> 0 resumed 1|
 ";
 
-#[test]
-fn a_way_that_fails_is_told(rt: HostRuntime) {
-    let rt = (rt, Here);
-    all_end(&rt, &mut town_of_one(&rt), LOST);
-}
-
 /// Each block of a look is refused where another comes, or none: the i-node and the block of the root directory, and
 /// those of the file. Five requests come before them: what was committed last again, the certificate, the root of the
 /// i-table and its chunk, and the structure. The next process finds the file.
 const BLOCKS: &str = "\
+0 put /f FILE < hello -> 0 done|
 ~ another 5
 0 cat /f -> 2 broken 6 Block| # 6
 ~ absent 5
@@ -196,6 +201,7 @@ const BLOCKS: &str = "\
 
 /// Memory runs out at each exchange of a process in turn: the certificate, two blocks, the structure and two blocks.
 const MEMORY: &str = "\
+0 put /f FILE < hello -> 0 done|
 ~ memory 0
 0 ls / -> 4 memory| # 1
 ~ memory 1
@@ -213,10 +219,10 @@ const MEMORY: &str = "\
 ";
 
 #[test]
-fn blocks_of_a_look_are_checked_and_want_of_memory_is_told(rt: HostRuntime) {
+fn a_way_that_fails_blocks_of_a_look_and_want_of_memory_are_told(rt: HostRuntime) {
     let rt = (rt, Here);
-    for table in [BLOCKS, MEMORY] {
-        all_end(&rt, &mut settled(&rt), table);
+    for table in [LOST, BLOCKS, MEMORY] {
+        all_end_in_town(&rt, 1, table);
     }
 }
 
@@ -236,16 +242,26 @@ fn signs_no_root(rt: &impl Aided, town: &mut Town, text: &[u8]) {
     town.bring_back(server);
 }
 
+/// What stands there before user 1's first operation.
+const BEGINNING: &str = "\
+0 adduser 1 KEY1 -> 0 done|
+0 put /f FILE < hello -> 0 done|
+";
+
 /// A block that has its digest, and is none for its place, breaks the rule on contents.
+fn is_none_for_its_place(rt: &impl Aided, town: &mut Town) {
+    all_end(rt, town, BEGINNING);
+    signs_no_root(rt, town, b"hello");
+    let _requests = ends(rt, town, "0 cat @1:5", b"", "2 broken 7 Content|");
+    let last = town.sent(rt).last().copied();
+    check(rt, last == Some(RequestKind::Get), "nothing more is sent");
+    all_end(rt, town, "0 cat /f -> 0 hello");
+}
+
 #[test]
 fn a_block_of_a_look_is_none_for_its_place(rt: HostRuntime) {
     let rt = (rt, Here);
-    let mut town = town_of_three(&rt);
-    let beginning = "0 adduser 1 KEY1 -> 0 done|\n0 put /f FILE < hello -> 0 done|\n";
-    all_end(&rt, &mut town, beginning);
-    signs_no_root(&rt, &mut town, b"hello");
-    let _requests = ends(&rt, &mut town, "0 cat @1:5", b"", "2 broken 7 Content|");
-    let last = town.sent(&rt).last().copied();
-    check(&rt, last == Some(RequestKind::Get), "nothing more is sent");
-    all_end(&rt, &mut town, "0 cat /f -> 0 hello");
+    let mut town = town_of(&rt, 3);
+    is_none_for_its_place(&rt, &mut town);
+    let_go(town);
 }

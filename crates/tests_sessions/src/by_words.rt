@@ -2,11 +2,10 @@
 //! content of the file that is put, and then the status and what is printed, with a bar for each end of a line.
 
 use crate::here::Here;
-use crate::town::{town_of_one, town_of_three};
-use crate::words::all_end;
+use crate::words::all_end_in_town;
 
 /// Files of user 0: i-numbers 1 and 2 are the table of principals and the root directory.
-const FILES: &str = "\
+pub(crate) const FILES: &str = "\
 0 ls / -> 0
 0 put /empty FILE -> 0 done|
 0 cat /empty -> 0
@@ -24,7 +23,7 @@ const FILES: &str = "\
 ";
 
 /// Directories. A directory is removed once it is empty.
-const DIRECTORIES: &str = "\
+pub(crate) const DIRECTORIES: &str = "\
 0 mkdir /d -> 0 done|
 0 mkdir /d -> 4 there|
 0 put /f FILE < hello -> 0 done|
@@ -197,7 +196,7 @@ const GROUPS: &str = "\
 fn commands_of_one(rt: HostRuntime) {
     let rt = (rt, Here);
     for table in [FILES, DIRECTORIES, NO_PATHS, LINKS, ENTRIES] {
-        all_end(&rt, &mut town_of_one(&rt), table);
+        all_end_in_town(&rt, 1, table);
     }
 }
 
@@ -205,6 +204,6 @@ fn commands_of_one(rt: HostRuntime) {
 fn commands_of_several(rt: HostRuntime) {
     let rt = (rt, Here);
     for table in [USERS, GROUPS] {
-        all_end(&rt, &mut town_of_three(&rt), table);
+        all_end_in_town(&rt, 3, table);
     }
 }

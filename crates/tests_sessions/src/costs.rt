@@ -4,9 +4,10 @@
 use crate::files::blocks_of;
 use crate::here::Here;
 use crate::operations::{Many, make_many};
-use crate::town::{Town, town_of_one, town_of_three};
+use crate::town::{Town, town_of};
 use crate::words::{all_end, ends, is_end, run};
 use commands::Command;
+use layout::let_go;
 use tests_aids::{Aided, check, given};
 use wire::RequestKind;
 
@@ -40,13 +41,6 @@ const BEGINNING: &str = "\
 1 ls / -> 0 first 0:3|
 ";
 
-/// The town after the beginning.
-fn settled(rt: &impl Aided) -> Town {
-    let mut town = town_of_three(rt);
-    all_end(rt, &mut town, BEGINNING);
-    town
-}
-
 /// A process carries a command out with status 0, and has so many exchanges.
 fn costs(rt: &impl Aided, town: &mut Town, command: &str, content: &[u8], exchanges: usize) {
     let outcome = run(rt, town, command, content);
@@ -57,53 +51,67 @@ fn costs(rt: &impl Aided, town: &mut Town, command: &str, content: &[u8], exchan
     }
 }
 
+/// What is looked at, by who put it and by another.
+fn looks(rt: &impl Aided, town: &mut Town) {
+    all_end(rt, town, BEGINNING);
+    for command in ["0 ls /", "1 ls /"] {
+        costs(rt, town, command, b"", LOOK + ROOT);
+    }
+    let file = blocks_of(rt, 3);
+    let _exchanges = ends(rt, town, "0 put /f FILE", &file, "0 done|");
+    for command in ["0 cat /f", "1 cat /f"] {
+        costs(rt, town, command, b"", LOOK + ROOT + INODE + 3);
+    }
+}
+
 #[test]
 fn of_looks(rt: HostRuntime) {
     let rt = (rt, Here);
-    let mut town = settled(&rt);
-    for command in ["0 ls /", "1 ls /"] {
-        costs(&rt, &mut town, command, b"", LOOK + ROOT);
-    }
-    let _exchanges = ends(
-        &rt,
-        &mut town,
-        "0 put /f FILE",
-        &blocks_of(&rt, 3),
-        "0 done|",
-    );
-    for command in ["0 cat /f", "1 cat /f"] {
-        costs(&rt, &mut town, command, b"", LOOK + ROOT + INODE + 3);
-    }
+    let mut town = town_of(&rt, 3);
+    looks(&rt, &mut town);
+    let_go(town);
 }
 
 /// What is new takes its blocks, an i-node and a name.
-#[test]
-fn of_what_is_new(rt: HostRuntime) {
-    let rt = (rt, Here);
-    let mut town = settled(&rt);
+fn makes_new(rt: &impl Aided, town: &mut Town) {
+    all_end(rt, town, BEGINNING);
     let most = LOOK + ROOT + INODE + OPERATION + TABLE + DIRECTORY;
     for blocks in [0, 1, 3] {
         let command = format!(in rt.alloc(); "0 put /f{blocks} FILE");
-        let command = given(&rt, command, "memory");
-        let file = blocks_of(&rt, blocks);
-        costs(&rt, &mut town, &command, &file, most + usize::from(blocks));
+        let command = given(rt, command, "memory");
+        let file = blocks_of(rt, blocks);
+        costs(rt, town, &command, &file, most + usize::from(blocks));
     }
     // An empty directory is known from the beginning.
-    costs(&rt, &mut town, "0 mkdir /d", b"", most - INODE);
+    costs(rt, town, "0 mkdir /d", b"", most - INODE);
+}
+
+#[test]
+fn of_what_is_new(rt: HostRuntime) {
+    let rt = (rt, Here);
+    let mut town = town_of(&rt, 3);
+    makes_new(&rt, &mut town);
+    let_go(town);
 }
 
 /// What is replaced or removed isn't read, but for its i-node: the largest file costs no more than any other.
+fn replaces(rt: &impl Aided, town: &mut Town) {
+    all_end(rt, town, BEGINNING);
+    let large = blocks_of(rt, 1024);
+    let put = "0 put /f FILE";
+    let _exchanges = ends(rt, town, put, &large, "0 done|");
+    let most = LOOK + ROOT + INODE + OPERATION + TABLE;
+    costs(rt, town, put, &blocks_of(rt, 1), most + INODE + 1);
+    costs(rt, town, put, &large, most + INODE + 1024 + AGAIN);
+    costs(rt, town, "0 rm /f", b"", most + DIRECTORY);
+}
+
 #[test]
 fn of_what_is_old(rt: HostRuntime) {
     let rt = (rt, Here);
-    let mut town = settled(&rt);
-    let large = blocks_of(&rt, 1024);
-    let put = "0 put /f FILE";
-    let _exchanges = ends(&rt, &mut town, put, &large, "0 done|");
-    let most = LOOK + ROOT + INODE + OPERATION + TABLE;
-    costs(&rt, &mut town, put, &blocks_of(&rt, 1), most + INODE + 1);
-    costs(&rt, &mut town, put, &large, most + INODE + 1024 + AGAIN);
-    costs(&rt, &mut town, "0 rm /f", b"", most + DIRECTORY);
+    let mut town = town_of(&rt, 3);
+    replaces(&rt, &mut town);
+    let_go(town);
 }
 
 /// A new file of one block in a directory of one block.
@@ -116,22 +124,23 @@ const MORE_BLOCKS: usize = 2;
 
 /// A directory is read and stored as a whole: its further blocks are asked for, and stored again. Nothing else is more
 /// in a directory of 1,000 names than in one of ten.
+fn makes_a_long_directory(rt: &impl Aided, town: &mut Town) {
+    all_end(rt, town, BEGINNING);
+    make_many(rt, town, Many::Names, 1000, (1, 9));
+    costs(rt, town, "0 put /new FILE", b"new", NEW);
+    make_many(rt, town, Many::Names, 1009, (61, 16));
+    make_many(rt, town, Many::Names, 1985, (1, 13));
+    let exchanges = NEW + 2 * MORE_BLOCKS;
+    costs(rt, town, "0 put /newer FILE", b"newer", exchanges);
+    check(rt, names(rt, town) == 1001, "so many names");
+}
+
 #[test]
 fn of_a_long_directory(rt: HostRuntime) {
     let rt = (rt, Here);
-    let mut town = settled(&rt);
-    make_many(&rt, &mut town, Many::Names, 1000, (1, 9));
-    costs(&rt, &mut town, "0 put /new FILE", b"new", NEW);
-    make_many(&rt, &mut town, Many::Names, 1009, (61, 16));
-    make_many(&rt, &mut town, Many::Names, 1985, (1, 13));
-    costs(
-        &rt,
-        &mut town,
-        "0 put /newer FILE",
-        b"newer",
-        NEW + 2 * MORE_BLOCKS,
-    );
-    check(&rt, names(&rt, &mut town) == 1001, "so many names");
+    let mut town = town_of(&rt, 3);
+    makes_a_long_directory(&rt, &mut town);
+    let_go(town);
 }
 
 /// How many names the root directory has.
@@ -148,13 +157,19 @@ fn names(rt: &impl Aided, town: &mut Town) -> usize {
 
 /// Where something stands at each i-number of a chunk of 64, the next chunk is asked for, too, and stored beside the
 /// one that has the directory.
+fn fills_a_chunk(rt: &impl Aided, town: &mut Town) {
+    all_end(rt, town, BEGINNING);
+    make_many(rt, town, Many::Files, 4, (4, 16));
+    costs(rt, town, "0 put /new FILE", b"new", NEW + 2);
+    all_end(rt, town, "0 ls / -> 0 first 0:3|new 0:68|");
+}
+
 #[test]
 fn of_a_full_chunk(rt: HostRuntime) {
     let rt = (rt, Here);
-    let mut town = settled(&rt);
-    make_many(&rt, &mut town, Many::Files, 4, (4, 16));
-    costs(&rt, &mut town, "0 put /new FILE", b"new", NEW + 2);
-    all_end(&rt, &mut town, "0 ls / -> 0 first 0:3|new 0:68|");
+    let mut town = town_of(&rt, 3);
+    fills_a_chunk(&rt, &mut town);
+    let_go(town);
 }
 
 /// What the second command of a session sends: it has nothing to finish, and asks for what the first one stored, the
@@ -169,17 +184,23 @@ const SECOND: [RequestKind; 6] = [
     RequestKind::Get,
 ];
 
-#[test]
-fn of_a_second_command(rt: HostRuntime) {
-    let rt = (rt, Here);
-    let mut town = town_of_one(&rt);
+/// A session puts a file, and reads it.
+fn asks_a_second_time(rt: &impl Aided, town: &mut Town) {
     let put = Command::Put {
         path: "/f",
         content: b"hello",
     };
-    let (first, second) = town.run_both(&rt, (&put, &Command::Cat("/f")));
-    is_end(&rt, &first, "put", "0 done|");
-    is_end(&rt, &second, "cat", "0 hello");
-    let is_short = town.sent(&rt).ends_with(&SECOND);
-    check(&rt, is_short, "six exchanges, four of them for blocks");
+    let (first, second) = town.run_both(rt, (&put, &Command::Cat("/f")));
+    is_end(rt, &first, "put", "0 done|");
+    is_end(rt, &second, "cat", "0 hello");
+    let is_short = town.sent(rt).ends_with(&SECOND);
+    check(rt, is_short, "six exchanges, four of them for blocks");
+}
+
+#[test]
+fn of_a_second_command(rt: HostRuntime) {
+    let rt = (rt, Here);
+    let mut town = town_of(&rt, 1);
+    asks_a_second_time(&rt, &mut town);
+    let_go(town);
 }

@@ -4,6 +4,8 @@
 #![tactic(auto)]
 
 #[cfg(test)]
+mod ahead;
+#[cfg(test)]
 mod answers_of_servers;
 #[cfg(test)]
 mod by_words;
@@ -15,6 +17,8 @@ mod files;
 mod here;
 #[cfg(test)]
 mod limits;
+#[cfg(test)]
+mod line;
 #[cfg(test)]
 mod memory;
 #[cfg(test)]

@@ -3,7 +3,7 @@
 
 use crate::files::blocks_of;
 use crate::here::Here;
-use crate::town::{Town, town_of_three};
+use crate::town::{Town, town_of};
 use crate::words::{is_end, row_of, run_over};
 use block_store::Store;
 use connection::Socket;
@@ -62,32 +62,51 @@ fn ends_there<R: Alloc<A = Global> + Abort + Net<Listener = TcpListener, Stream 
     is_end(host, &outcome, command, end);
 }
 
+/// A row ends as stands in it.
+fn row_ends_there<R: Alloc<A = Global> + Abort + Net<Listener = TcpListener, Stream = TcpStream>>(
+    rt: &R,
+    address: SocketAddr,
+    town: &mut Town,
+    row: &str,
+) {
+    let (command, content, end) = row_of(&(rt, Here), row);
+    ends_there(rt, address, town, command, content, end);
+}
+
 /// Each row ends as stands in it. Then the largest file is put, and one with a byte more is refused.
 fn processes<R: Alloc<A = Global> + Abort + Net<Listener = TcpListener, Stream = TcpStream>>(
     rt: &R,
     address: SocketAddr,
+    town: &mut Town,
 ) {
     let host = &(rt, Here);
-    let mut town = town_of_three(host);
     for row in ROWS.lines() {
-        let (command, content, end) = row_of(host, row);
-        ends_there(rt, address, &mut town, command, content, end);
+        row_ends_there(rt, address, town, row);
     }
     let mut file = blocks_of(host, 1024);
     let put = "0 put /large FILE";
-    ends_there(rt, address, &mut town, put, &file, "0 done|");
+    ends_there(rt, address, town, put, &file, "0 done|");
     given(host, file.push(0), "memory");
-    ends_there(rt, address, &mut town, put, &file, "4 too large|");
+    ends_there(rt, address, town, put, &file, "4 too large|");
 }
 
-/// Serves as many processes as come: whether all that was placed and committed was logged.
-fn serves<R: Alloc<A = Global> + Abort + Clock + Threads + Wait + Sync>(
+/// The same in a town of its own.
+fn processes_of_a_town<
+    R: Alloc<A = Global> + Abort + Net<Listener = TcpListener, Stream = TcpStream>,
+>(rt: &R, address: SocketAddr) {
+    let mut town = town_of(&(rt, Here), 3);
+    processes(rt, address, &mut town);
+    let_go(town);
+}
+
+/// Serves as many processes as come over this store: whether all that was placed and committed was logged.
+fn serves_over<R: Alloc<A = Global> + Abort + Clock + Threads + Wait + Sync>(
     rt: &R,
     listener: &TcpListener,
     pinned: PublicKey,
+    store: &Store<Global>,
 ) -> bool {
     let alloc = rt.alloc();
-    let store = Store::new(alloc).expect(rt, "memory");
     let log = Vec::new(alloc);
     let mut fault = None;
     let connections = Accepted::new(rt, listener, PROCESSES, &mut fault);
@@ -97,15 +116,24 @@ fn serves<R: Alloc<A = Global> + Abort + Clock + Threads + Wait + Sync>(
         &OpenGate,
         connections,
         PROCESSES,
-        &store,
+        store,
         pinned,
         log,
     );
     let served = served.ok().expect(rt, "memory");
     let flushed = served.flushed;
     let_go(served);
-    let_go(store);
     flushed
+}
+
+/// The same over a store of its own.
+fn serves<R: Alloc<A = Global> + Abort + Clock + Threads + Wait + Sync>(
+    rt: &R,
+    listener: &TcpListener,
+    pinned: PublicKey,
+) -> bool {
+    let store = Store::new(rt.alloc()).expect(rt, "memory");
+    serves_over(rt, listener, pinned, &store)
 }
 
 #[test]
@@ -116,7 +144,7 @@ fn commands_and_large_files_over_tcp(rt: HostRuntime) {
     let (flushed, ()) = thread::join(
         &rt,
         || serves(&rt, &listener, pinned),
-        || processes(&rt, address),
+        || processes_of_a_town(&rt, address),
     );
     assert!(rt; flushed, "the log is written");
 }

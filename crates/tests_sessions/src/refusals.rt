@@ -3,10 +3,10 @@
 
 use crate::here::Here;
 use crate::memory::Trouble;
-use crate::town::{Town, town_of_one, town_of_three};
+use crate::town::{Town, town_of};
 use crate::words::{all_end, ends, is_end};
 use commands::Command;
-use layout::put_in;
+use layout::{let_go, put_in};
 use lms_sign::PrivateKey;
 use std::alloc::Global;
 use tests_aids::texts::{
@@ -22,52 +22,59 @@ fn with_ledger(rt: &impl Aided, town: &mut Town, key: &[u8], leaves: u8) {
     put_in(&mut town.home_of_0(rt).ledger, ledger);
 }
 
-#[test]
-fn no_leaf_is_free(rt: HostRuntime) {
-    let rt = (rt, Here);
-    let mut town = town_of_one(&rt);
-    all_end(&rt, &mut town, "0 ls / -> 0");
+/// A ledger without a free leaf, and then another key's.
+fn ledgers_are_refused(rt: &impl Aided, town: &mut Town) {
+    all_end(rt, town, "0 ls / -> 0");
     let key = town.pinned;
-    with_ledger(&rt, &mut town, key.as_bytes(), 1);
-    all_end(&rt, &mut town, "0 ls / -> 4 no leaf|");
+    with_ledger(rt, town, key.as_bytes(), 1);
+    all_end(rt, town, "0 ls / -> 4 no leaf|");
+    let other = key_of(rt, 1).public();
+    with_ledger(rt, town, other.as_bytes(), 0);
+    all_end(rt, town, "0 ls / -> 4 foreign|");
+}
+
+#[test]
+fn no_leaf_is_free_and_another_keys_ledger(rt: HostRuntime) {
+    let rt = (rt, Here);
+    let mut town = town_of(&rt, 1);
+    ledgers_are_refused(&rt, &mut town);
+    let_go(town);
 }
 
 /// How many calls an opening makes of a new ledger.
 const CALLS_OF_OPENING: u64 = 5;
 
 /// User 0's ledger fails once its next client is open.
-fn with_failing_ledger(rt: &impl Aided) -> Town {
-    let mut town = town_of_one(rt);
+fn fail_ledger(rt: &impl Aided, town: &mut Town) {
     town.home_of_0(rt).ledger.fail_after(CALLS_OF_OPENING);
-    town
 }
 
 #[test]
 fn the_ledger_fails(rt: HostRuntime) {
     let rt = (rt, Here);
-    all_end(&rt, &mut with_failing_ledger(&rt), "0 ls / -> 4 device|");
+    let mut town = town_of(&rt, 1);
+    fail_ledger(&rt, &mut town);
+    all_end(&rt, &mut town, "0 ls / -> 4 device|");
+    let_go(town);
 }
 
 /// A device fails in the first command of a session. The second one is told so at once, and nothing is sent for either.
 /// A new process goes on.
-#[test]
-fn a_failed_session_goes_on_with_nothing(rt: HostRuntime) {
-    let rt = (rt, Here);
-    let mut town = with_failing_ledger(&rt);
-    let (first, second) = town.run_both(&rt, (&Command::Ls("/"), &Command::Cat("/f")));
-    is_end(&rt, &first, "ls", "4 device|");
-    is_end(&rt, &second, "cat", "4 device|");
-    check(&rt, town.sent(&rt).is_empty(), "nothing is sent");
-    all_end(&rt, &mut town, "0 ls / -> 0");
+fn goes_on_with_nothing(rt: &impl Aided, town: &mut Town) {
+    fail_ledger(rt, town);
+    let (first, second) = town.run_both(rt, (&Command::Ls("/"), &Command::Cat("/f")));
+    is_end(rt, &first, "ls", "4 device|");
+    is_end(rt, &second, "cat", "4 device|");
+    check(rt, town.sent(rt).is_empty(), "nothing is sent");
+    all_end(rt, town, "0 ls / -> 0");
 }
 
 #[test]
-fn another_keys_ledger(rt: HostRuntime) {
+fn a_failed_session_goes_on_with_nothing(rt: HostRuntime) {
     let rt = (rt, Here);
-    let mut town = town_of_one(&rt);
-    let other = key_of(&rt, 1).public();
-    with_ledger(&rt, &mut town, other.as_bytes(), 0);
-    all_end(&rt, &mut town, "0 ls / -> 4 foreign|");
+    let mut town = town_of(&rt, 1);
+    goes_on_with_nothing(&rt, &mut town);
+    let_go(town);
 }
 
 /// User 0's process is opened over a journal with this text.
@@ -76,19 +83,22 @@ fn with_journal(rt: &impl Aided, town: &mut Town, text: &[u8]) {
     put_in(&mut town.home_of_0(rt).journal, journal);
 }
 
+/// A journal that is damaged, and then another user's.
+fn journals_are_refused(rt: &impl Aided, town: &mut Town) {
+    with_journal(rt, town, b"\x01\x07");
+    let table = "0 ls / -> 4 damaged|\n1 ls / -> 3 declined 2|\n";
+    all_end(rt, town, table);
+    let other = joined(rt, &[town.home(rt, 1).journal.text()]);
+    with_journal(rt, town, &other);
+    all_end(rt, town, "0 ls / -> 4 damaged|");
+}
+
 #[test]
 fn damaged_journals(rt: HostRuntime) {
     let rt = (rt, Here);
-    let mut town = town_of_three(&rt);
-    with_journal(&rt, &mut town, b"\x01\x07");
-    all_end(
-        &rt,
-        &mut town,
-        "0 ls / -> 4 damaged|\n1 ls / -> 3 declined 2|\n",
-    );
-    let other = joined(&rt, &[town.home(&rt, 1).journal.text()]);
-    with_journal(&rt, &mut town, &other);
-    all_end(&rt, &mut town, "0 ls / -> 4 damaged|");
+    let mut town = town_of(&rt, 3);
+    journals_are_refused(&rt, &mut town);
+    let_go(town);
 }
 
 /// A journal's gate that is open, the record of this kind behind it, which is a signed text, and its size before that.
@@ -117,14 +127,19 @@ fn last_journal(rt: &impl Aided, key: &PrivateKey<Global>) -> Vec<u8> {
 }
 
 /// After the operation of the last number, which the server takes, there is no further one. The commit alone is sent.
+fn has_no_further_number(rt: &impl Aided, town: &mut Town) {
+    let journal = last_journal(rt, &town.home(rt, 0).key);
+    with_journal(rt, town, &journal);
+    town.set(rt, Trouble::Lies(RequestKind::Commit, &[0]));
+    all_end(rt, town, "0 ls / -> 4 no number| # 1");
+}
+
 #[test]
 fn no_further_number(rt: HostRuntime) {
     let rt = (rt, Here);
-    let mut town = town_of_one(&rt);
-    let journal = last_journal(&rt, &town.home(&rt, 0).key);
-    with_journal(&rt, &mut town, &journal);
-    town.set(&rt, Trouble::Lies(RequestKind::Commit, &[0]));
-    all_end(&rt, &mut town, "0 ls / -> 4 no number| # 1");
+    let mut town = town_of(&rt, 1);
+    has_no_further_number(&rt, &mut town);
+    let_go(town);
 }
 
 /// Where all i-numbers are taken, what is to be made without one in words has none there.
@@ -137,15 +152,20 @@ const FULL: &str = "\
 ";
 
 /// User 0 makes something at each i-number of its own in a group, which are 1 to 63.
+fn has_no_free_number(rt: &impl Aided, town: &mut Town) {
+    all_end(rt, town, "0 addmember 64 0 -> 0 done|");
+    for number in 1..64u8 {
+        let command = format!(in rt.alloc(); "0 mkdir @64:{number}");
+        let command = given(rt, command, "memory");
+        let _requests = ends(rt, town, &command, b"", "0 done|");
+    }
+    all_end(rt, town, FULL);
+}
+
 #[test]
 fn no_number_is_free(rt: HostRuntime) {
     let rt = (rt, Here);
-    let mut town = town_of_one(&rt);
-    all_end(&rt, &mut town, "0 addmember 64 0 -> 0 done|");
-    for number in 1..64u8 {
-        let command = format!(in rt.alloc(); "0 mkdir @64:{number}");
-        let command = given(&rt, command, "memory");
-        let _requests = ends(&rt, &mut town, &command, b"", "0 done|");
-    }
-    all_end(&rt, &mut town, FULL);
+    let mut town = town_of(&rt, 1);
+    has_no_free_number(&rt, &mut town);
+    let_go(town);
 }

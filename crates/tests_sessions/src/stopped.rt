@@ -3,8 +3,9 @@
 
 use crate::here::Here;
 use crate::memory::Trouble;
-use crate::town::{Outcome, Town, town_of_one, town_of_three};
-use crate::words::{all_end, ends, run};
+use crate::town::{Outcome, Town, town_of};
+use crate::words::{all_end, all_end_in_town, ends, run};
+use layout::let_go;
 use std::alloc::Global;
 use tests_aids::{Aided, check, check_text, given};
 
@@ -82,20 +83,16 @@ const SETTLED: &str = "\
 0 ls / -> 0 f 0:3|
 ";
 
-/// A process that isn't stopped has so many exchanges.
-#[test]
-fn all_exchanges_are_tried(rt: HostRuntime) {
-    let rt = (rt, Here);
-    let mut town = town_of_one(&rt);
-    all_end(&rt, &mut town, SETTLED);
-    let requests = ends(&rt, &mut town, "0 put /g FILE", b"text", "0 done|");
-    check(&rt, requests == EXCHANGES, "so many exchanges");
-}
+/// A process that isn't stopped has so many exchanges: `EXCHANGES`.
+const NOT_STOPPED: &str = "\
+0 put /f FILE < text -> 0 done|
+0 ls / -> 0 f 0:3|
+0 put /g FILE < text -> 0 done| # 15
+";
 
 /// A process is stopped at each of its exchanges, whose request is lost, or is carried out.
-fn all_go_on(rt: &impl Aided, is_carried_out: bool) {
-    let mut town = town_of_one(rt);
-    all_end(rt, &mut town, SETTLED);
+pub(crate) fn all_go_on(rt: &impl Aided, town: &mut Town, is_carried_out: bool) {
+    all_end(rt, town, SETTLED);
     let mut operations = 3;
     for number in 0..EXCHANGES {
         let begun = u32::from(DECLARED[number].saturating_sub(b'0'));
@@ -105,18 +102,24 @@ fn all_go_on(rt: &impl Aided, is_carried_out: bool) {
         } else {
             Trouble::Lost(number)
         };
-        operations = goes_on(rt, &mut town, operations, number, stage, trouble);
+        operations = goes_on(rt, town, operations, number, stage, trouble);
     }
 }
 
 #[test]
 fn stopped_before_each_exchange(rt: HostRuntime) {
-    all_go_on(&(rt, Here), false);
+    let rt = (rt, Here);
+    let mut town = town_of(&rt, 1);
+    all_go_on(&rt, &mut town, false);
+    let_go(town);
 }
 
 #[test]
 fn stopped_after_each_request(rt: HostRuntime) {
-    all_go_on(&(rt, Here), true);
+    let rt = (rt, Here);
+    let mut town = town_of(&rt, 1);
+    all_go_on(&rt, &mut town, true);
+    let_go(town);
 }
 
 /// What an operation lost that is finished later is told then. User 1's first process has nine exchanges before it
@@ -133,7 +136,8 @@ const LOST: &str = "\
 ";
 
 #[test]
-fn what_was_lost_is_told_later(rt: HostRuntime) {
+fn all_exchanges_are_tried_and_what_was_lost_is_told_later(rt: HostRuntime) {
     let rt = (rt, Here);
-    all_end(&rt, &mut town_of_three(&rt), LOST);
+    all_end_in_town(&rt, 1, NOT_STOPPED);
+    all_end_in_town(&rt, 3, LOST);
 }

@@ -2,6 +2,7 @@
 //! its own: a client that is opened over what the user's devices kept. Where it isn't opened, that is told as `sundr`
 //! tells it.
 
+use crate::line::Turn;
 use crate::memory::{MemoryServer, Trouble};
 use client_verify::ClientError;
 use commands::{Answer, Command};
@@ -25,6 +26,8 @@ type MemorySession<T> = Session<MemoryDevice<Global>, MemoryDevice<Global>, T, G
 #[derive(Drop)]
 pub(crate) struct Town {
     pub(crate) pinned: PublicKey,
+    /// How replies come over a connection to the server, if there is one.
+    pub(crate) turn: Option<Turn>,
     server: Option<MemoryServer>,
     homes: [Option<Kept>; 3],
 }
@@ -53,21 +56,29 @@ fn home(rt: &impl Aided, user: u8) -> Kept {
 }
 
 /// User 0 alone, before its first process.
-pub(crate) fn town_of_one(rt: &impl Aided) -> Town {
+fn town_of_one(rt: &impl Aided) -> Town {
     let zero = home(rt, 0);
     let pinned = zero.key.public();
     Town {
         pinned,
+        turn: None,
         server: Some(server_of(rt, pinned)),
         homes: [Some(zero), None, None],
     }
 }
 
-/// Users 0 to 2 before their first processes, of whom the server knows user 0.
-pub(crate) fn town_of_three(rt: &impl Aided) -> Town {
+/// So many users have what they keep before their first processes. The server knows user 0.
+fn fill_homes(rt: &impl Aided, town: &mut Town, users: u8) {
+    for user in 1..users {
+        town.come_home(usize::from(user), home(rt, user));
+    }
+}
+
+/// A town of so many users before their first processes, of whom the server knows user 0. Who owns it lends it to all
+/// else: each step of the owner costs its proof time.
+pub(crate) fn town_of(rt: &impl Aided, users: u8) -> Town {
     let mut town = town_of_one(rt);
-    town.come_home(1, home(rt, 1));
-    town.come_home(2, home(rt, 2));
+    fill_homes(rt, &mut town, users);
     town
 }
 
@@ -112,17 +123,22 @@ fn ended<T: Transport<Global>>(
     }
 }
 
-/// A process that carries a command out over this client and transport: what it ends with.
+/// A process that carries a command out over this client and transport, and maybe a second one: what each ends with.
 fn process<T: Transport<Global>>(
     rt: &impl Aided,
     client: MemoryClient,
     transport: T,
     command: &Command<'_>,
-) -> (Outcome, MemoryClient, T) {
+    second: Option<&Command<'_>>,
+) -> (Outcome, Option<Outcome>, MemoryClient, T) {
     let mut session = Session::new(rt.alloc(), client, transport);
     let outcome = ended(rt, &mut session, command);
+    let other = match second {
+        Some(second) => Some(ended(rt, &mut session, second)),
+        None => None,
+    };
     let (client, transport) = session.close();
-    (outcome, client, transport)
+    (outcome, other, client, transport)
 }
 
 /// What a process ends with whose client isn't opened.
@@ -206,7 +222,9 @@ impl Town {
         let kept = self.leave_home(rt, place);
         match opened(rt, user, self.pinned, kept) {
             Ok(client) => {
-                let (outcome, client, transport) = process(rt, client, transport, command);
+                let (outcome, _none, client, transport) = process(
+                    rt, client, transport, command, None,
+                );
                 self.come_home(place, closed(client));
                 (outcome, transport)
             }
@@ -226,12 +244,9 @@ impl Town {
         let kept = self.leave_home(rt, 0);
         let server = self.leave_server(rt);
         let client = open_over(rt, User::superuser(), self.pinned, kept);
-        let mut session = Session::new(rt.alloc(), client, server);
-        let first = ended(rt, &mut session, one);
-        let second = ended(rt, &mut session, other);
-        let (client, server) = session.close();
+        let (first, second, client, server) = process(rt, client, server, one, Some(other));
         self.come_home(0, closed(client));
         self.bring_back(server);
-        (first, second)
+        (first, found(rt, second, "the second command"))
     }
 }

@@ -1,15 +1,16 @@
 //! Commands by their words, and what they end with, as rows of a table. The words of a command stand behind the number
 //! of its user.
 
+use crate::line::{Line as Connected, Turn};
 use crate::memory::Trouble;
-use crate::town::{Outcome, Town};
+use crate::town::{Outcome, Town, town_of};
 use commands::Command;
 use file_commands::{Line, Wanted};
-use layout::User;
+use layout::{User, let_go};
 use std::alloc::Global;
 use tests_aids::texts::joined;
 use tests_aids::{Aided, check, found, given};
-use transport::Transport;
+use transport::{Framed, Transport};
 
 /// What stands before the number of the user.
 const OPTIONS: &str = "sundr --dir home --server here:1 --user";
@@ -48,7 +49,7 @@ fn run_line<'a, T: Transport<Global>>(
     match &line.wanted {
         Wanted::Run(command) => town.run_over(rt, line.user, command, transport),
         Wanted::Put { path, file: _ } => put(rt, town, line.user, (path, content), transport),
-        Wanted::Key => rt.fail("no server is asked for a key"),
+        Wanted::Key | Wanted::Batch { .. } => rt.fail("no command over a server"),
     }
 }
 
@@ -71,12 +72,35 @@ pub(crate) fn run_over<T: Transport<Global>>(
     }
 }
 
+/// A process does so over a connection to the server in memory, whose replies come so.
+fn run_ahead(
+    rt: &impl Aided,
+    town: &mut Town,
+    command: &str,
+    content: &[u8],
+    turn: Turn,
+) -> Outcome {
+    let line = Connected::new(rt.alloc(), town.leave_server(rt), turn);
+    let framed = given(rt, Framed::going_ahead(rt.alloc(), line, true), "memory");
+    let (outcome, framed) = run_over(rt, town, command, content, framed);
+    town.bring_back(framed.into_connection().into_server());
+    outcome
+}
+
 /// A process does so over the server in memory.
-pub(crate) fn run(rt: &impl Aided, town: &mut Town, command: &str, content: &[u8]) -> Outcome {
+fn run_in_order(rt: &impl Aided, town: &mut Town, command: &str, content: &[u8]) -> Outcome {
     let server = town.leave_server(rt);
     let (outcome, server) = run_over(rt, town, command, content, server);
     town.bring_back(server);
     outcome
+}
+
+/// A process does so, with requests that go ahead where the town has a connection.
+pub(crate) fn run(rt: &impl Aided, town: &mut Town, command: &str, content: &[u8]) -> Outcome {
+    match town.turn {
+        Some(turn) => run_ahead(rt, town, command, content, turn),
+        None => run_in_order(rt, town, command, content),
+    }
 }
 
 /// A text with a bar for each end of a line.
@@ -162,4 +186,11 @@ pub(crate) fn all_end(rt: &impl Aided, town: &mut Town, table: &str) {
             None => row_ends(rt, town, row),
         }
     }
+}
+
+/// The same in a town of so many users.
+pub(crate) fn all_end_in_town<R: Aided>(rt: &R, users: u8, table: &str) {
+    let mut town = town_of(rt, users);
+    all_end(rt, &mut town, table);
+    let_go(town);
 }
