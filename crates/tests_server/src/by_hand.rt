@@ -4,11 +4,11 @@ ghost use Rattle.std.specs.Prelude.{◌≡◌, [], true};
 ghost use Rattle.crossbeam_queue.specs.Passes.{IsPassOf, ruled_capacity};
 ghost use Rattle.server_workers.specs.Hands.{hand, hand_of};
 
-use crate::requests::{REPLIES, REQUESTS, joined, put_frame};
+use crate::requests::{REPLIES, REQUESTS, append, joined, put_frame};
 use crate::serving::key;
 use block_store::Store;
 use connection::{Connection, MemoryConnection};
-use layout::digest;
+use layout::{digest, let_go};
 use lms_sign::PublicKey;
 use server_workers::{
     CallPass, CallQueue, Ended, Flusher, Gate, OpenGate, ServerName, Shared, converse, empty_queue,
@@ -17,16 +17,17 @@ use std::alloc::Global;
 use std::io::Write;
 use std::marker::Brand;
 use std::process::Abort;
+use std::sync::Wait;
+use std::sync::atomic::{AtomicU64, Ordering};
 use std::sync::ledger::{Blank, Ledger};
-use std::sync::{Mutex, Wait};
 
 /// What these tests run in.
 pub(crate) trait Host: Alloc<A = Global> + Abort + Wait {}
 
 impl<R: Alloc<A = Global> + Abort + Wait> Host for R {}
 
-/// One conversation over an empty queue, and a flush after it.
-fn converse_once<G: Gate, C: Connection, W: Write + Drop, B: ServerName, L: Ledger, R: Wait>(
+/// A conversation over an empty queue, and a second one where the first comes to its end, each with a flush after it.
+fn converse_twice<G: Gate, C: Connection, W: Write + Drop, B: ServerName, L: Ledger, R: Wait>(
     rt: &R,
     alloc: Global,
     gate: &G,
@@ -36,6 +37,7 @@ fn converse_once<G: Gate, C: Connection, W: Write + Drop, B: ServerName, L: Ledg
     store: &Store<Global>,
     pinned: PublicKey,
     connection: &mut C,
+    second: &mut C,
     writer: W,
 ) -> (Ended, u64, W)
     requires queue { IsPassOf queue.now pass × (pass.table_id ≡ B.queue) × (ruled_capacity queue.now ≡ 1024) }
@@ -48,25 +50,30 @@ fn converse_once<G: Gate, C: Connection, W: Write + Drop, B: ServerName, L: Ledg
         rt, alloc, queue, pass, blank, store, pinned,
     );
     let mut flusher = Flusher::<'_, Global, B, R, W>::new(rt, queue, popping, writer);
-    let ended = converse(rt, connection, &shared, gate, &mut tally);
+    let mut ended = converse(rt, connection, &shared, gate, &mut tally);
     flusher.flush();
+    if ended == Ended::End {
+        ended = converse(rt, second, &shared, gate, &mut tally);
+        flusher.flush();
+    }
     (ended, tally.answered(), flusher.into_writer())
 }
 
-/// The same over a queue of its own: how it ends, how many calls are answered, and the log.
+/// The same over a queue of its own: how the last conversation ends, how many calls are answered, and the log.
 pub(crate) fn conversed<G: Gate, C: Connection, W: Write + Drop, R: Host>(
     rt: &R,
     gate: &G,
     pinned: PublicKey,
     connection: &mut C,
+    second: &mut C,
     writer: W,
 ) -> (Ended, u64, W) {
     let alloc = rt.alloc();
     let store = Store::new(alloc).expect(rt, "memory");
     let (queue, pass) = empty_queue(alloc).expect(rt, "memory");
     let blank = Blank::new(1);
-    converse_once::<G, C, W, Brand, Brand, R>(
-        rt, alloc, gate, &queue, pass, blank, &store, pinned, connection, writer,
+    converse_twice::<G, C, W, Brand, Brand, R>(
+        rt, alloc, gate, &queue, pass, blank, &store, pinned, connection, second, writer,
     )
 }
 
@@ -80,10 +87,13 @@ fn converses_through<G: Gate, R: Host>(
     how: Ended,
     calls: u64,
 ) {
-    let mut output = Vec::new(rt.alloc());
-    let mut connection = MemoryConnection::new(input, 5, &mut output);
+    let input = joined(rt, &[input]);
+    let (mut output, mut rest) = (Vec::new(rt.alloc()), Vec::new(rt.alloc()));
+    let mut connection = MemoryConnection::new(&input, 5, &mut output);
+    let mut empty = MemoryConnection::new(&[], 5, &mut rest);
     let log = Vec::new(rt.alloc());
-    let (ended, answered, log) = conversed(rt, gate, key(rt), &mut connection, log);
+    let (ended, answered, log) = conversed(rt, gate, key(rt), &mut connection, &mut empty, log);
+    let_go((connection, empty));
     assert_eq!(rt; (ended, answered), (how, calls));
     assert!(rt; log.is_empty(), "nothing was logged");
     assert!(rt; output.as_slice() == wanted, "the replies");
@@ -109,10 +119,7 @@ fn a_conversation_by_hand(rt: HostRuntime) {
     ends(&rt, b"\0\x20\0\x01\0\0\0\x01\x03", Ended::Length);
     converses(&rt, b"", b"", Ended::End, 0);
     converses(&rt, b"\0\0\0\0", b"", Ended::Length, 0);
-}
-
-#[test]
-fn blocks_by_hand(rt: HostRuntime) {
+    // Blocks that are put and got, and a length at fault behind them.
     converses(&rt, REQUESTS, REPLIES, Ended::End, 0);
     let input = joined(&rt, &[REQUESTS, &[0; 4]]);
     converses(&rt, &input, REPLIES, Ended::Length, 0);
@@ -124,56 +131,48 @@ static SIZES: [usize; 8] = [1, 999, 1_000, 4_095, 4_096, 4_097, 32_778, 32_779];
 /// Sizes of blocks that are too large, up to that of the largest frame.
 static TOO_LARGE: [usize; 3] = [32_780, 65_536, 2_097_151];
 
-/// A block of so many bytes.
-fn block<R: Host>(rt: &R, size: usize) -> Vec<u8> {
-    Vec::from_elem(rt.alloc(), 0x5a_u8, size).expect(rt, "memory")
+/// Puts of blocks of these sizes, and the replies to them, which are the digests, or that a block is too large. Behind
+/// them gets of all, and their replies, which are the blocks, or that there is none.
+fn are_put_and_got<R: Host>(rt: &R, sizes: &[usize], are_taken: bool) {
+    let alloc = rt.alloc();
+    let (mut input, mut wanted) = (Vec::new(alloc), Vec::new(alloc));
+    let (mut gets, mut blocks) = (Vec::new(alloc), Vec::new(alloc));
+    for size in sizes {
+        let block = Vec::from_elem(alloc, 0x5a_u8, *size).expect(rt, "memory");
+        let digest = digest(&block);
+        put_frame(rt, &mut input, 3, &block);
+        put_frame(rt, &mut gets, 4, digest.as_bytes());
+        if are_taken {
+            put_frame(rt, &mut wanted, 0, digest.as_bytes());
+            put_frame(rt, &mut blocks, 0, &block);
+        } else {
+            put_frame(rt, &mut wanted, 7, b"");
+            put_frame(rt, &mut blocks, 8, b"");
+        }
+    }
+    append(rt, &mut input, &[&gets]);
+    append(rt, &mut wanted, &[&blocks]);
+    converses(rt, &input, &wanted, Ended::End, 0);
 }
 
-/// Blocks of all sizes are put, and then got.
+/// Blocks of all sizes are put, and then got. Larger ones are refused, and not stored.
 #[test]
 fn blocks_of_all_sizes_by_hand(rt: HostRuntime) {
-    let alloc = rt.alloc();
-    let (mut puts, mut digests) = (Vec::new(alloc), Vec::new(alloc));
-    let (mut gets, mut blocks) = (Vec::new(alloc), Vec::new(alloc));
-    for size in &SIZES {
-        let block = block(&rt, *size);
-        let digest = digest(&block);
-        put_frame(&rt, &mut puts, 3, &block);
-        put_frame(&rt, &mut digests, 0, digest.as_bytes());
-        put_frame(&rt, &mut gets, 4, digest.as_bytes());
-        put_frame(&rt, &mut blocks, 0, &block);
-    }
-    let (input, wanted) = (
-        joined(&rt, &[&puts, &gets]),
-        joined(&rt, &[&digests, &blocks]),
-    );
-    converses(&rt, &input, &wanted, Ended::End, 0);
+    are_put_and_got(&rt, &SIZES, true);
+    are_put_and_got(&rt, &TOO_LARGE, false);
 }
 
-/// Larger ones are refused, and not stored.
-#[test]
-fn larger_blocks_by_hand(rt: HostRuntime) {
-    let (mut input, mut wanted) = (Vec::new(rt.alloc()), Vec::new(rt.alloc()));
-    for size in &TOO_LARGE {
-        let block = block(&rt, *size);
-        put_frame(&rt, &mut input, 3, &block);
-        put_frame(&rt, &mut wanted, 7, b"");
-        put_frame(&rt, &mut input, 4, digest(&block).as_bytes());
-        put_frame(&rt, &mut wanted, 8, b"");
-    }
-    converses(&rt, &input, &wanted, Ended::End, 0);
-}
-
-/// A gate that notes the calls which pass it.
+/// A gate that notes the calls which pass it: their numbers are the digits of what it notes.
 #[derive(Drop)]
-struct Noting<'a, R: Wait> {
-    rt: &'a R,
-    calls: Mutex<Vec<u64>>,
+struct Noting {
+    calls: AtomicU64,
 }
 
-impl<'a, R: Wait> Gate for Noting<'a, R> {
+impl Gate for Noting {
     fn pass(&self, call: u64) {
-        let _noted = self.calls.lock(self.rt).push(call);
+        let before = self.calls.load(Ordering::SeqCst);
+        let noted = before.wrapping_mul(10).wrapping_add(call);
+        self.calls.store(noted, Ordering::SeqCst);
     }
 }
 
@@ -188,13 +187,9 @@ fn calls_pass_the_gate_in_turn(rt: HostRuntime) {
         put_frame(&rt, &mut wanted, 1, b"");
     }
     let gate = Noting {
-        rt: &rt,
-        calls: Mutex::new(Vec::new(rt.alloc())),
+        calls: AtomicU64::new(0),
     };
     converses_through(&rt, &gate, &input, &wanted, Ended::End, 5);
-    let noted = gate.calls.lock(&rt);
-    assert!(rt;
-        noted.as_slice() == [1, 2, 3, 4, 5].as_slice(),
-        "the numbers"
-    );
+    let noted = gate.calls.load(Ordering::SeqCst);
+    assert!(rt; noted == 12_345, "the numbers");
 }

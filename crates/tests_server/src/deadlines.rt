@@ -1,4 +1,4 @@
-//! How long the server's end of a stream over TCP waits: for the rest of a request, and until a reply is taken.
+//! How long the server's end of a stream over TCP waits: for a request, for the rest of it, and until a reply is taken.
 
 use connection::{Connection, ServerSocket};
 use layout::let_go;
@@ -40,16 +40,17 @@ impl Clock for Striding {
 }
 
 /// The server's end of a stream, another handle of it, and the client's end.
-fn ends<'a, R: Abort + Net<Listener = TcpListener, Stream = TcpStream>>(
+fn ends<'a, R: Abort + Net<Listener = TcpListener, Stream = TcpStream>, C: Clock>(
     rt: &R,
-    clock: &'a Striding,
-) -> (ServerSocket<'a, Striding>, TcpStream, TcpStream) {
+    clock: &'a C,
+    idle: u64,
+) -> (ServerSocket<'a, C>, TcpStream, TcpStream) {
     let listener = TcpListener::bind(rt, "127.0.0.1:0").expect(rt, "a port");
     let address = listener.local_addr().expect(rt, "its address");
     let client = TcpStream::connect(rt, address).expect(rt, "a connection");
     let (stream, _) = listener.accept().expect(rt, "who knocked");
     let other = stream.try_clone().expect(rt, "another handle");
-    let socket = ServerSocket::new(clock, stream, 600).expect(rt, "a socket");
+    let socket = ServerSocket::new(clock, stream, idle).expect(rt, "a socket");
     (socket, other, client)
 }
 
@@ -60,15 +61,60 @@ fn took<R: Abort + Clock>(rt: &R, start: Instant, least: u64) {
     assert!(rt; gone < Duration::from_secs(30), "not much later");
 }
 
+/// Whether so many bytes are read into this buffer, or a fault comes in their place.
+fn reads<C: Clock>(
+    socket: &mut ServerSocket<'_, C>,
+    buffer: &mut [u8],
+    count: Option<usize>,
+) -> bool {
+    socket.read(buffer).ok() == count
+}
+
+/// A request that takes longer than a minute from its first byte is a fault, though its bytes are there; after a reply
+/// the next one has its time.
+fn has_a_minute<R: Abort>(rt: &R, socket: &mut ServerSocket<'_, Striding>, client: &mut TcpStream) {
+    client.write_all(b"ab").expect(rt, "written");
+    let mut byte = [0];
+    assert!(rt; reads(socket, &mut byte, Some(1)), "the first byte");
+    assert!(rt; socket.write(b"reply").is_ok(), "written");
+    assert!(rt; reads(socket, &mut byte, Some(1)), "the second byte");
+    assert!(rt; reads(socket, &mut byte, None), "after a minute");
+    assert!(rt; socket.write(b"reply").is_ok(), "written");
+}
+
+/// A minute and a second go by whenever the clock is read.
+#[test]
+fn a_request_has_a_minute(rt: HostRuntime) {
+    let clock = Striding::new(61_000);
+    let (mut socket, other, mut client) = ends(&rt, &clock, 600);
+    for _turn in 0..2u8 {
+        has_a_minute(&rt, &mut socket, &mut client);
+    }
+    assert_eq!(rt; socket.faults(), 2);
+    let_go((other, client));
+}
+
+/// Who says nothing for a second is let go where a second is the limit.
+#[test]
+fn an_idle_client_is_let_go(rt: HostRuntime) {
+    let (mut socket, other, client) = ends(&rt, &rt, 1);
+    let start = Instant::now(&rt).expect(&rt, "the time");
+    assert!(rt; reads(&mut socket, &mut [0; 8], None), "nothing was said");
+    let gone = start.elapsed(&rt).expect(&rt, "the time");
+    assert!(rt; gone >= Duration::from_millis(900), "not before");
+    assert_eq!(rt; socket.faults(), 1);
+    let_go((other, client));
+}
+
 /// A read that waits is cut where the minute of its request is over, of which a second is left.
 #[test]
 fn a_read_waits_as_long_as_is_left(rt: HostRuntime) {
     let clock = Striding::new(59_000);
-    let (mut socket, other, mut client) = ends(&rt, &clock);
+    let (mut socket, other, mut client) = ends(&rt, &clock, 600);
     client.write_all(b"a").expect(&rt, "written");
-    assert_eq!(rt; socket.read(&mut [0; 8]).ok(), Some(1));
+    assert!(rt; reads(&mut socket, &mut [0; 8], Some(1)), "a byte");
     let start = Instant::now(&rt).expect(&rt, "the time");
-    assert!(rt; socket.read(&mut [0; 8]).is_err(), "after a minute");
+    assert!(rt; reads(&mut socket, &mut [0; 8], None), "after a minute");
     took(&rt, start, 900);
     assert_eq!(rt; socket.faults(), 1);
     let_go((other, client));
@@ -93,7 +139,7 @@ fn tells_soon(rt: &impl Abort, other: &TcpStream) {
 #[test]
 fn a_reply_waits_as_long_as_is_left(rt: HostRuntime) {
     let clock = Striding::new(58_000);
-    let (mut socket, other, client) = ends(&rt, &clock);
+    let (mut socket, other, client) = ends(&rt, &clock, 600);
     tells_soon(&rt, &other);
     let reply = long_reply(&rt);
     let start = Instant::now(&rt).expect(&rt, "the time");
@@ -122,7 +168,7 @@ fn lacks_late<R: Clock>(rt: &R, client: &mut TcpStream, count: usize) -> usize {
 #[test]
 fn a_reply_is_taken_late(rt: HostRuntime) {
     let clock = Striding::new(1);
-    let (mut socket, other, mut client) = ends(&rt, &clock);
+    let (mut socket, other, mut client) = ends(&rt, &clock, 600);
     tells_soon(&rt, &other);
     let reply = long_reply(&rt);
     let (is_written, lacking) = thread::join(

@@ -11,6 +11,8 @@ mod blocks;
 #[cfg(test)]
 mod by_hand;
 #[cfg(test)]
+mod counted;
+#[cfg(test)]
 mod deadlines;
 #[cfg(test)]
 mod errors;
@@ -32,5 +34,11 @@ mod requests;
 mod serving;
 #[cfg(test)]
 mod sockets;
+#[cfg(test)]
+mod talks;
+#[cfg(test)]
+mod texts;
+#[cfg(test)]
+mod users;
 #[cfg(test)]
 mod verifications;

@@ -2,15 +2,17 @@
 
 ghost use Rattle.std.specs.Prelude.{◌≤◌, length};
 
-use crate::again::{caller, operate_again};
-use crate::requests::{append, joined, offer, outputs, put_frame};
-use crate::serving::{Host, serve_beside};
+use crate::requests::{append, joined, offer, outputs};
+use crate::serving::Host;
+use crate::talks::{Talk, serve_talks};
+use crate::texts::{Taken, operations};
+use crate::users::with_users;
 use lms_sign::PublicKey;
 use server_workers::OpenGate;
 use std::alloc::Global;
 use std::io::{self, ErrorKind, Write};
-use std::net::TcpStream;
-use tests_plain_user::PlainUser;
+use std::net::{Net, TcpListener, TcpStream};
+use std::sync::atomic::AtomicBool;
 
 /// A writer that takes a few bytes at a time, each time after it was interrupted, and fails once: where it holds so
 /// many bytes. From then on it takes whatever comes.
@@ -66,29 +68,6 @@ fn sixteen_names<R: Host>(rt: &R) -> Vec<u8> {
     changes
 }
 
-/// The texts of two operations of a user, as a server takes them, certificate and structure in turn: the first lists
-/// sixteen users, the second links sixteen names.
-fn texts<R: Host>(rt: &R, streams: Vec<TcpStream>, user: PlainUser) -> Vec<Vec<u8>> {
-    let mut user = user;
-    let mut caller = caller(rt, streams);
-    let mut texts = Vec::new(rt.alloc());
-    for changes in [sixteen_users(rt), sixteen_names(rt)] {
-        let _lists = operate_again(rt, &mut caller, &mut user, &changes, (1, 1), &mut texts);
-    }
-    texts
-}
-
-/// The log of these texts: of each its kind, the size and the text itself. And the requests that bring them.
-fn log_and_requests<R: Host>(rt: &R, texts: &[Vec<u8>]) -> (Vec<u8>, Vec<u8>) {
-    let (mut log, mut requests) = (Vec::new(rt.alloc()), Vec::new(rt.alloc()));
-    for (text, kind) in texts.iter().zip(b"\x01\x02".iter().cycle()) {
-        let [.., a, b, c, d] = text.len().to_be_bytes();
-        append(rt, &mut log, &[&[*kind, a, b, c, d], text]);
-        put_frame(rt, &mut requests, *kind, text);
-    }
-    (log, requests)
-}
-
 /// Serves the four texts of these requests once more, with a log whose writer fails at so many bytes: what was written
 /// of the log, and whether all of it was.
 fn written<R: Host>(rt: &R, requests: &[u8], pinned: PublicKey, left: usize) -> (Vec<u8>, bool) {
@@ -101,7 +80,7 @@ fn written<R: Host>(rt: &R, requests: &[u8], pinned: PublicKey, left: usize) -> 
     let mut outputs = outputs(rt, 1);
     let (served, _taken) = offer(rt, requests, 1000, &mut outputs, 1, pinned, writer);
     assert_eq!(rt; (served.answered, served.unserved), (4, 0));
-    (served.writer.bytes, served.flushed)
+    (served.log.bytes, served.flushed)
 }
 
 /// How many bytes the writer takes before it fails.
@@ -124,17 +103,48 @@ fn log_ends_at_the_fault<R: Host>(rt: &R, requests: &[u8], pinned: PublicKey, lo
     assert!(rt; bytes.as_slice() == log, "the whole log");
 }
 
+/// Where the log has a record, and how this begins: its kind, and the size of the text, which are 3,478, 2,595, 6,758
+/// and 2,595 bytes.
+static RECORDS: [(usize, &[u8; 5]); 4] = [
+    (0, b"\x01\0\0\x0d\x96"),
+    (3_483, b"\x02\0\0\x0a\x23"),
+    (6_083, b"\x01\0\0\x1a\x66"),
+    (12_846, b"\x02\0\0\x0a\x23"),
+];
+
+/// The log has the records of four texts of these sizes.
+fn has_records<R: Host>(rt: &R, log: &[u8]) {
+    for (place, head) in &RECORDS {
+        let found = log.get(*place..place.saturating_add(5));
+        assert!(rt; found == Some(head.as_slice()), "the record at {place}");
+    }
+    assert_eq!(rt; log.len(), 15_446);
+}
+
+/// These calls come over TCP, and their records are the log. Then they come over memory, with writers that fail.
+fn are_logged<R: Host + Net<Listener = TcpListener, Stream = TcpStream>>(
+    rt: &R,
+    pinned: PublicKey,
+    taken: &Taken,
+) {
+    has_records(rt, &taken.log);
+    let talk = Talk {
+        requests: &taken.requests,
+        replies: &taken.replies,
+        answered: &AtomicBool::new(false),
+    };
+    let served = serve_talks(rt, &OpenGate, 1, pinned, talk);
+    assert!(rt; served.flushed, "flushed");
+    assert!(rt; served.log == taken.log, "the log");
+    log_ends_at_the_fault(rt, &taken.requests, pinned, &taken.log);
+}
+
+/// A user lists sixteen users, and then links sixteen names.
 #[test]
 fn long_records_and_writers_that_fail(rt: HostRuntime) {
-    let user = PlainUser::new(rt.alloc(), 0).expect(&rt, "memory");
-    let pinned = user.public();
-    let (served, texts) = serve_beside(&rt, &OpenGate, 1, pinned, |streams| {
-        texts(&rt, streams, user)
+    with_users(&rt, 0, |user, _| {
+        let (users, names) = (sixteen_users(&rt), sixteen_names(&rt));
+        let taken = operations(&rt, user, &[&users, &names], 2);
+        are_logged(&rt, user.public(), &taken);
     });
-    let sizes = [3_478, 2_595, 6_758, 2_595];
-    assert!(rt; texts.iter().map(Vec::len).eq(sizes), "the texts");
-    let (log, requests) = log_and_requests(&rt, &texts);
-    assert!(rt; served.flushed, "flushed");
-    assert!(rt; served.log == log, "the log");
-    log_ends_at_the_fault(&rt, &requests, pinned, &log);
 }

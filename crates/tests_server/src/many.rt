@@ -1,97 +1,24 @@
 //! More connections than are served at once.
 
-ghost use Rattle.std.specs.Prelude.{◌≤◌, None};
-ghost use Rattle.std.specs.Iterator.{at_most};
-ghost use Rattle.leaf_ledger.specs.Device.{HasRisen};
-
-use crate::serving::{Host, key};
+use crate::counted::{Brought, Coming, Counts, Ending};
+use crate::serving::{Host, Left, key, left_of};
 use block_store::Store;
-use connection::{Connection, ConnectionFault};
-use layout::let_go;
 use server_workers::{Limits, OpenGate, serve_within};
-use std::sync::atomic::{AtomicU32, Ordering};
+use std::alloc::Global;
+use std::sync::atomic::Ordering;
 
-/// How many connections are open, how many were at most, and how many came.
-#[derive(Drop)]
-struct Counts {
-    open: AtomicU32,
-    most: AtomicU32,
-    all: AtomicU32,
-}
+/// A request that no text follows, in one read.
+const BARE: Brought<'static> = Brought {
+    text: b"\0\0\0\x01\x01",
+    reads: 1,
+};
 
-/// A request that no text follows.
-const INPUT: &[u8] = b"\0\0\0\x01\x01";
-
-/// A connection that brings one request, and counts as open from when it comes until it is let go.
-struct Counted<'a> {
-    counts: &'a Counts,
-    left: usize,
-    ended: bool,
-}
-
-impl<'a> Drop for Counted<'a> {
-    fn drop(self) {
-        let Self {
-            counts,
-            left: _,
-            ended: _,
-        } = self;
-        counts.open.fetch_sub(1, Ordering::SeqCst);
-    }
-}
-
-impl<'a> Connection for Counted<'a> {
-    ghost told = { λ _. None };
-
-    ghost is_at_end = { λ c. c.ended };
-
-    ghost fault_count = { λ _. 0 };
-
-    fn read(&mut self, buffer: &mut [u8]) -> Result<usize, ConnectionFault> {
-        let count = self.left.min(buffer.len()).min(INPUT.len());
-        buffer[..count].copy_from_slice(&INPUT[..count]);
-        self.ended = count == 0;
-        self.left = 0;
-        Ok(count)
-    }
-
-    fn write(&mut self, _bytes: &[u8]) -> Result<(), ConnectionFault> {
-        Ok(())
-    }
-
-    fn faults(&self) -> u64 {
-        0
-    }
-}
-
-/// So many connections that count themselves.
-#[derive(Drop)]
-struct Many<'a> {
-    counts: &'a Counts,
-    left: u32,
-}
-
-impl<'a> Iterator for Many<'a> {
-    type Item = Counted<'a>;
-
-    ghost remaining = { λ s. at_most s.left };
-
-    fn next(&mut self) -> Option<Counted<'a>> {
-        if self.left == 0 {
-            return None;
-        }
-        self.left -= 1;
-        let counts = self.counts;
-        let open = counts.open.fetch_add(1, Ordering::SeqCst).wrapping_add(1);
-        counts.most.fetch_max(open, Ordering::SeqCst);
-        counts.all.fetch_add(1, Ordering::SeqCst);
-        Some(Counted {
-            counts,
-            left: INPUT.len(),
-            ended: false,
-        })
-    }
-}
+/// No reply ends a connection.
+const OPEN: Ending<'static> = Ending {
+    reply: b"",
+    times: 1,
+    is_fault: false,
+};
 
 /// How many connections come, how many are served in all, at once, and then how many are taken.
 static CASES: [[u32; 4]; 5] = [
@@ -102,30 +29,42 @@ static CASES: [[u32; 4]; 5] = [
     [5, 0, 2, 0],
 ];
 
+/// Serves these connections within these limits, over this store.
+fn serve_over<R: Host>(
+    rt: &R,
+    many: Coming<'_>,
+    limits: Limits,
+    store: &Store<Global>,
+) -> Left<Vec<u8>> {
+    let alloc = rt.alloc();
+    let log = Vec::new(alloc);
+    let served = serve_within(rt, alloc, &OpenGate, many, limits, store, key(rt), log);
+    left_of(served.ok().expect(rt, "memory"))
+}
+
+/// The same over a store of its own.
+fn serve_few<R: Host>(rt: &R, many: Coming<'_>, limits: Limits) -> Left<Vec<u8>> {
+    let store = Store::new(rt.alloc()).expect(rt, "memory");
+    serve_over(rt, many, limits, &store)
+}
+
 /// Serves so many connections within these limits, of which so many are taken: each is answered, and no more are open
 /// at once than may be.
 fn are_taken<R: Host>(rt: &R, left: u32, limits: Limits, wanted: u32) {
-    let counts = Counts {
-        open: AtomicU32::new(0),
-        most: AtomicU32::new(0),
-        all: AtomicU32::new(0),
-    };
-    let alloc = rt.alloc();
-    let store = Store::new(alloc).expect(rt, "memory");
-    let many = Many {
+    let counts = Counts::new();
+    let many = Coming {
         counts: &counts,
+        others: BARE,
+        last: BARE,
+        ending: OPEN,
         left,
     };
-    let log = Vec::new(alloc);
-    let served = serve_within(rt, alloc, &OpenGate, many, limits, &store, key(rt), log);
-    let served = served.ok().expect(rt, "memory");
+    let served = serve_few(rt, many, limits);
     assert_eq!(rt; (served.answered, served.unserved), (u64::from(wanted), 0));
-    let_go(served);
-    let_go(store);
-    assert_eq!(rt; counts.all.load(Ordering::SeqCst), wanted);
+    assert_eq!(rt; counts.all.load(Ordering::SeqCst), u64::from(wanted));
     assert_eq!(rt; counts.open.load(Ordering::SeqCst), 0);
     let most = counts.most.load(Ordering::SeqCst);
-    assert!(rt; most <= limits.at_once, "{most} at once");
+    assert!(rt; most <= u64::from(limits.at_once), "{most} at once");
 }
 
 #[test]

@@ -1,15 +1,11 @@
 //! Two connections at once, the call of one of which is held up.
 
-use crate::again::ask;
-use crate::serving::{Host, key, serve_beside};
+use crate::serving::key;
+use crate::talks::{Talk, serve_talks};
 use server_workers::Gate;
-use std::alloc::Global;
-use std::net::TcpStream;
 use std::sync::atomic::{AtomicBool, Ordering};
 use std::thread;
 use std::time::{Clock, Duration};
-use tests_plain_user::Caller;
-use wire::{RequestKind, Status};
 
 /// How many turns of one millisecond the first call is held up at most.
 const TURNS: u32 = 10_000;
@@ -37,25 +33,10 @@ impl<'a, R: Clock> Gate for Holding<'a, R> {
     }
 }
 
-/// One call over a connection of its own, whose answer is told.
-fn call_once<R: Host>(rt: &R, stream: TcpStream, answered: &AtomicBool) {
-    let mut caller = Caller::new(rt.alloc(), stream);
-    let text = b"no certificate";
-    let _payload = ask(rt, &mut caller, RequestKind::Update, text, Status::Form);
-    answered.store(true, Ordering::SeqCst);
-}
+/// An UPDATE without a certificate, and the reply that says so.
+const REQUEST: &[u8] = b"\0\0\0\x0f\x01no certificate";
 
-/// Two of them, side by side.
-fn call_both<R: Host>(rt: &R, streams: Vec<TcpStream>, answered: &AtomicBool) {
-    let mut streams = streams;
-    let first = streams.pop().expect(rt, "a connection");
-    let second = streams.pop().expect(rt, "another one");
-    thread::join(
-        rt,
-        || call_once(rt, first, answered),
-        || call_once(rt, second, answered),
-    );
-}
+const REPLY: &[u8] = b"\0\0\0\x01\x01";
 
 /// The first call is held up in the gate until the second one is answered.
 #[test]
@@ -65,9 +46,12 @@ fn two_connections_overlap(rt: HostRuntime) {
         answered: AtomicBool::new(false),
         in_time: AtomicBool::new(false),
     };
-    let (served, ()) = serve_beside(&rt, &gate, 2, key(&rt), |streams| {
-        call_both(&rt, streams, &gate.answered)
-    });
+    let talk = Talk {
+        requests: REQUEST,
+        replies: REPLY,
+        answered: &gate.answered,
+    };
+    let served = serve_talks(&rt, &gate, 2, key(&rt), talk);
     assert_eq!(rt; served.answered, 2);
     assert!(rt; gate.in_time.load(Ordering::SeqCst), "within the turns");
 }

@@ -2,10 +2,10 @@
 
 ghost use Rattle.std.specs.Iterator.{at_most};
 
-use crate::serving::{Host, key, serve_all};
+use crate::serving::{Host, Left, key, serve_all};
 use connection::MemoryConnection;
 use lms_sign::PublicKey;
-use server_workers::{OpenGate, Served};
+use server_workers::OpenGate;
 use std::alloc::Global;
 use std::io::Write;
 use std::process::Abort;
@@ -111,7 +111,7 @@ pub(crate) fn offer<R: Host, W: Write + Drop + Send>(
     most: u32,
     pinned: PublicKey,
     writer: W,
-) -> (Served<W>, u32) {
+) -> (Left<W>, u32) {
     let mut taken = 0;
     let connections = Offered::new(input, piece, outputs, &mut taken);
     let served = serve_all(rt, &OpenGate, connections, most, pinned, writer);
@@ -148,9 +148,9 @@ fn are_replied<R: Host>(
     let (served, taken) = offer(rt, input, piece, &mut outputs, most, key(rt), log);
     assert_eq!(rt; taken, wanted_taken);
     assert_eq!(rt; (served.answered, served.unserved), (calls, 0));
-    assert_eq!(rt; served.ordered.call_count() as u64, calls);
+    assert_eq!(rt; served.calls as u64, calls);
     assert!(rt;
-        served.flushed && served.writer.is_empty(),
+        served.flushed && served.log.is_empty(),
         "nothing was logged"
     );
     for (number, output) in outputs.iter().enumerate() {

@@ -29,44 +29,19 @@ pub(crate) fn key(rt: &impl Abort) -> PublicKey {
     PublicKey::from_bytes(bytes).expect(rt, "a key")
 }
 
-/// Serves these connections, of which there are at most so many, over a store of its own.
-pub(crate) fn serve_all<
-    R: Host,
-    G: Gate + Sync,
-    C: Connection + Send,
-    I: Iterator<Item = C> + Drop,
-    W: Write + Drop + Send,
->(rt: &R, gate: &G, connections: I, most: u32, pinned: PublicKey, writer: W) -> Served<W>
-    requires { I.can_next connections × IsFinite (I.remaining connections) }
-{
-    let alloc = rt.alloc();
-    let store = Store::new(alloc).expect(rt, "memory");
-    let served = serve(rt, alloc, gate, connections, most, &store, pinned, writer);
-    served.ok().expect(rt, "memory")
-}
-
 /// What is left of a server, but for the order of its calls, of which only the number is told.
 #[derive(Drop)]
-pub(crate) struct Left {
+pub(crate) struct Left<W> {
     pub(crate) calls: usize,
     pub(crate) answered: u64,
     pub(crate) unserved: usize,
     pub(crate) flushed: bool,
-    pub(crate) log: Vec<u8>,
+    /// The writer of the log.
+    pub(crate) log: W,
 }
 
-/// Serves so many connections that a listener accepts: the log stands in memory.
-fn serve_accepted<R: Host, G: Gate + Sync>(
-    rt: &R,
-    gate: &G,
-    listener: &TcpListener,
-    most: u32,
-    pinned: PublicKey,
-) -> Left {
-    let mut fault = None;
-    let connections = Accepted::new(rt, listener, most, &mut fault);
-    let served = serve_all(rt, gate, connections, most, pinned, Vec::new(rt.alloc()));
-    assert!(rt; fault.is_none(), "all were accepted");
+/// What is left of a server, whose order is let go.
+pub(crate) fn left_of<W>(served: Served<W>) -> Left<W> {
     let Served {
         ordered,
         answered,
@@ -85,6 +60,66 @@ fn serve_accepted<R: Host, G: Gate + Sync>(
     }
 }
 
+/// Serves these connections, of which there are at most so many, over this store.
+fn serve_over<
+    R: Host,
+    G: Gate + Sync,
+    C: Connection + Send,
+    I: Iterator<Item = C> + Drop,
+    W: Write + Drop + Send,
+>(
+    rt: &R,
+    gate: &G,
+    connections: I,
+    most: u32,
+    store: &Store<Global>,
+    pinned: PublicKey,
+    writer: W,
+) -> Left<W>
+    requires { I.can_next connections × IsFinite (I.remaining connections) }
+{
+    let served = serve(
+        rt,
+        rt.alloc(),
+        gate,
+        connections,
+        most,
+        store,
+        pinned,
+        writer,
+    );
+    left_of(served.ok().expect(rt, "memory"))
+}
+
+/// The same over a store of its own.
+pub(crate) fn serve_all<
+    R: Host,
+    G: Gate + Sync,
+    C: Connection + Send,
+    I: Iterator<Item = C> + Drop,
+    W: Write + Drop + Send,
+>(rt: &R, gate: &G, connections: I, most: u32, pinned: PublicKey, writer: W) -> Left<W>
+    requires { I.can_next connections × IsFinite (I.remaining connections) }
+{
+    let store = Store::new(rt.alloc()).expect(rt, "memory");
+    serve_over(rt, gate, connections, most, &store, pinned, writer)
+}
+
+/// Serves so many connections that a listener accepts: the log stands in memory.
+fn serve_accepted<R: Host, G: Gate + Sync>(
+    rt: &R,
+    gate: &G,
+    listener: &TcpListener,
+    most: u32,
+    pinned: PublicKey,
+) -> Left<Vec<u8>> {
+    let mut fault = None;
+    let connections = Accepted::new(rt, listener, most, &mut fault);
+    let left = serve_all(rt, gate, connections, most, pinned, Vec::new(rt.alloc()));
+    assert!(rt; fault.is_none(), "all were accepted");
+    left
+}
+
 /// So many connections to this address.
 fn connections<R: Host + Net<Listener = TcpListener, Stream = TcpStream>>(
     rt: &R,
@@ -99,22 +134,21 @@ fn connections<R: Host + Net<Listener = TcpListener, Stream = TcpStream>>(
     streams
 }
 
-/// Serves so many connections over TCP beside clients, which are given them: what is left of the server, and what the
-/// clients tell.
+/// Serves so many connections over TCP beside clients, which are given them: what is left of the server.
 pub(crate) fn serve_beside<
     R: Host + Net<Listener = TcpListener, Stream = TcpStream>,
     G: Gate + Sync,
-    T,
-    F: FnOnce(Vec<TcpStream>) -> T,
->(rt: &R, gate: &G, most: u32, pinned: PublicKey, clients: F) -> (Left, T)
+    F: FnOnce(Vec<TcpStream>),
+>(rt: &R, gate: &G, most: u32, pinned: PublicKey, clients: F) -> Left<Vec<u8>>
     requires { F.IsAlwaysCallable clients }
 {
     let listener = TcpListener::bind(rt, "127.0.0.1:0").expect(rt, "a port");
     let address = listener.local_addr().expect(rt, "its address");
     let streams = connections(rt, address, most);
-    thread::join(
+    let (left, ()) = thread::join(
         rt,
         || serve_accepted(rt, gate, &listener, most, pinned),
         move || clients(streams),
-    )
+    );
+    left
 }

@@ -1,6 +1,6 @@
 //! Connections over TCP: what is accepted, and the bytes of a socket both ways.
 
-use connection::{Connection, ServerSocket, Socket};
+use connection::{Connection, Socket};
 use layout::let_go;
 use server_workers::{Accepted, Watch};
 use std::io;
@@ -9,7 +9,7 @@ use std::net::{Net, Shutdown, SocketAddr, TcpListener, TcpStream};
 use std::os::fd::OwnedFd;
 use std::process::Abort;
 use std::sync::atomic::{AtomicU32, Ordering};
-use std::time::{Clock, Duration, Instant};
+use std::time::{Clock, Duration};
 
 /// A clock that makes a client knock where it should rest. So many milliseconds go by on it whenever it is read, or it
 /// tells no time.
@@ -92,6 +92,45 @@ impl<'a> Watch for Counting<'a> {
     }
 }
 
+/// Whether a further connection is accepted, which is let go.
+fn comes<C: Clock>(accepted: &mut Accepted<'_, C, Counting<'_>>) -> bool {
+    match accepted.next() {
+        Some(socket) => {
+            let_go(socket);
+            true
+        }
+        None => false,
+    }
+}
+
+/// So many are accepted where nobody knocks, then one who waits, and nobody who is late.
+fn come_in_time<R: Abort + Net<Listener = TcpListener, Stream = TcpStream>>(
+    rt: &R,
+    accepted: &mut Accepted<'_, Knocking<'_, R>, Counting<'_>>,
+    address: SocketAddr,
+    many: u32,
+) {
+    for turn in 0..many {
+        assert!(rt; comes(accepted), "{turn} of {many}");
+    }
+    let _waits = knock(rt, address);
+    assert!(rt; comes(accepted), "who waits, after {many}");
+    let _late = knock(rt, address);
+    for _time in 0..2u8 {
+        assert!(rt; !comes(accepted), "late, after {many}");
+    }
+}
+
+/// A listener of its own that doesn't wait, and its address.
+fn impatient<R: Abort + Net<Listener = TcpListener, Stream = TcpStream>>(
+    rt: &R,
+) -> (TcpListener, SocketAddr) {
+    let listener = TcpListener::bind(rt, "127.0.0.1:0").expect(rt, "a port");
+    listener.set_nonblocking(true).expect(rt, "it doesn't wait");
+    let address = listener.local_addr().expect(rt, "its address");
+    (listener, address)
+}
+
 /// A listener that fails while nobody knocks, since it doesn't wait, accepts as many connections as it may and one more:
 /// each client but the last one knocks whenever the clock should rest upon the fault. That faults begin is told once,
 /// and that they ended once one is accepted that waited: but not where the clock tells that less than ten seconds have
@@ -100,9 +139,7 @@ fn waits_out<R: Abort + Net<Listener = TcpListener, Stream = TcpStream>>(
     rt: &R,
     (many, stride, wanted): (u32, Option<u64>, (u32, u32, u32)),
 ) {
-    let listener = TcpListener::bind(rt, "127.0.0.1:0").expect(rt, "a port");
-    listener.set_nonblocking(true).expect(rt, "it doesn't wait");
-    let address = listener.local_addr().expect(rt, "its address");
+    let (listener, address) = impatient(rt);
     let clock = Knocking {
         rt,
         address,
@@ -114,14 +151,7 @@ fn waits_out<R: Abort + Net<Listener = TcpListener, Stream = TcpStream>>(
     let most = many.saturating_add(1);
     let counting = Counting { told: &told };
     let mut accepted = Accepted::new(&clock, &listener, most, &mut fault).watched(9, counting);
-    for turn in 0..many {
-        assert!(rt; accepted.next().is_some(), "{turn} of {many}");
-    }
-    let _waits = knock(rt, address);
-    assert!(rt; accepted.next().is_some(), "who waits, after {many}");
-    let _late = knock(rt, address);
-    assert!(rt; accepted.next().is_none(), "late, after {many}");
-    assert!(rt; accepted.next().is_none(), "late again, after {many}");
+    come_in_time(rt, &mut accepted, address, many);
     let_go(accepted);
     assert!(rt; listener.accept().is_ok(), "who came too late still waits");
     assert!(rt; fault.is_none(), "a fault ended them, after {many}");
@@ -157,8 +187,8 @@ fn a_listener_that_cannot_listen_ends_them(rt: HostRuntime) {
     let mut fault = None;
     let counting = Counting { told: &told };
     let mut accepted = Accepted::new(&rt, &deaf, 2, &mut fault).watched(9, counting);
-    assert!(rt; accepted.next().is_none(), "a connection");
-    assert!(rt; accepted.next().is_none(), "another one");
+    assert!(rt; !comes(&mut accepted), "a connection");
+    assert!(rt; !comes(&mut accepted), "another one");
     let_go(accepted);
     assert!(rt; fault.is_some(), "the fault is told");
     assert_eq!(rt; told.counts(), (0, 0, 1));
@@ -208,66 +238,4 @@ fn a_socket_brings_bytes_both_ways(rt: HostRuntime) {
     client.shutdown(Shutdown::Write).expect(&rt, "shut down");
     assert_eq!(rt; socket.read(&mut [0; 8]).ok(), Some(0));
     assert_eq!(rt; socket.faults(), 0);
-}
-
-/// A clock on which a minute and a second go by whenever it is read.
-#[derive(Drop)]
-struct Hasty {
-    minutes: AtomicU32,
-}
-
-impl Clock for Hasty {
-    fn monotonic(&self) -> io::Result<Duration> {
-        let minutes = self.minutes.fetch_add(1, Ordering::SeqCst);
-        Ok(Duration::from_secs(u64::from(minutes).wrapping_mul(61)))
-    }
-
-    fn since_1970(&self) -> io::Result<Duration> {
-        Err(ErrorKind::Unsupported.into())
-    }
-}
-
-/// The server's end of a stream, and the client's.
-fn ends<'a, R: Abort + Net<Listener = TcpListener, Stream = TcpStream>, C: Clock>(
-    rt: &R,
-    clock: &'a C,
-    idle: u64,
-) -> (ServerSocket<'a, C>, TcpStream) {
-    let listener = TcpListener::bind(rt, "127.0.0.1:0").expect(rt, "a port");
-    let client = knock(rt, listener.local_addr().expect(rt, "its address"));
-    let (stream, _) = listener.accept().expect(rt, "who knocked");
-    let socket = ServerSocket::new(clock, stream, idle).expect(rt, "a socket");
-    (socket, client)
-}
-
-/// A request that takes longer than a minute from its first byte is a fault, though its bytes are there; after a reply
-/// the next one has its time.
-#[test]
-fn a_request_has_a_minute(rt: HostRuntime) {
-    let clock = Hasty {
-        minutes: AtomicU32::new(0),
-    };
-    let (mut socket, mut client) = ends(&rt, &clock, 600);
-    for _turn in 0..2 {
-        client.write_all(b"ab").expect(&rt, "written");
-        let mut byte = [0];
-        assert_eq!(rt; socket.read(&mut byte).ok(), Some(1));
-        assert!(rt; socket.write(b"reply").is_ok(), "written");
-        assert_eq!(rt; socket.read(&mut byte).ok(), Some(1));
-        assert!(rt; socket.read(&mut byte).is_err(), "after a minute");
-        assert!(rt; socket.write(b"reply").is_ok(), "written");
-    }
-    assert_eq!(rt; socket.faults(), 2);
-}
-
-/// Who says nothing for a second is let go where a second is the limit.
-#[test]
-fn an_idle_client_is_let_go(rt: HostRuntime) {
-    let (mut socket, client) = ends(&rt, &rt, 1);
-    let start = Instant::now(&rt).expect(&rt, "the time");
-    assert!(rt; socket.read(&mut [0; 8]).is_err(), "nothing was said");
-    let gone = start.elapsed(&rt).expect(&rt, "the time");
-    assert!(rt; gone >= Duration::from_millis(900), "not before");
-    assert_eq!(rt; socket.faults(), 1);
-    let_go(client);
 }
