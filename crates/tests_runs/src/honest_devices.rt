@@ -1,14 +1,11 @@
 //! What stands on the devices of a client of an honest run, by what it answered: made by hand from the description of
 //! the formats, for a crash to leave it.
 
-use crate::honest::Script;
-use client_runs::{Act, Answer};
-use fork_theorem::HonestStep;
-use layout::let_go;
+use crate::answers::{fields, first_field};
+use crate::honest::{Rows, answers_of, does, goes_on};
 use lms_sign::PublicKey;
-use std::alloc::Global;
 use tests_aids::texts::joined;
-use tests_aids::{Host, given};
+use tests_aids::{Host, found, given};
 
 /// The kinds of records.
 const CERTIFICATE: u8 = 1;
@@ -19,28 +16,29 @@ const STRUCTURE: u8 = 2;
 const LEDGER_SIZE: usize = 1_080;
 
 /// The kind and the text of what an answer released, if it did.
-fn signed_in(answer: &Answer<Global>) -> Option<(u8, &[u8])> {
-    match answer {
-        Answer::Begun(Ok(text)) => Some((CERTIFICATE, text)),
-        Answer::Signed(Ok(accepted)) => Some((STRUCTURE, &accepted.text)),
+fn signed_in(told: &[u8]) -> Option<(u8, &[u8])> {
+    match told {
+        [b'b', text @ ..] => Some((CERTIFICATE, text)),
+        [b's', fields @ ..] => Some((STRUCTURE, first_field(fields))),
         _ => None,
     }
 }
 
-/// The ledger and the journal of the client of a user with this key after these steps, which it answered so, and in
-/// which none of its devices failed. The ledger has the public key, and a byte for each leaf: 1 where it signed. The
-/// journal has each record after its open gate, and a closed one.
+/// The ledger and the journal, each a field, of the client of a user with this key after these steps, which it answered
+/// so, and in which none of its devices failed. The ledger has the public key, and a byte for each leaf: 1 where it
+/// signed. The journal has each record after its open gate, and a closed one.
 fn devices_after(
     rt: &impl Host,
-    (number, key): (u8, PublicKey),
-    steps: &[HonestStep<Global>],
-    answers: &[Answer<Global>],
-) -> (Vec<u8>, Vec<u8>) {
+    number: u8,
+    key: &PublicKey,
+    rows: &[Vec<u8>],
+    told: &[Vec<u8>],
+) -> Vec<u8> {
     let mut ledger = joined(rt, &[key.as_bytes()]);
     let mut journal = Vec::new(rt.alloc());
-    for (step, answer) in steps.iter().zip(answers) {
-        if let Some((kind, text)) = signed_in(answer)
-            && step.user.get() == number
+    for (row, told) in rows.iter().zip(told) {
+        if let Some((kind, text)) = signed_in(told)
+            && row.first() == Some(&number)
         {
             let [.., a, b, c, d] = text.len().to_be_bytes();
             let record = joined(rt, &[&[1, kind, a, b, c, d], text]);
@@ -52,17 +50,17 @@ fn devices_after(
         given(rt, ledger.push(0), "memory");
     }
     given(rt, journal.push(0), "memory");
-    (ledger, journal)
+    fields(rt, &[&ledger, &journal])
 }
 
 /// The clients of these users crash, which leaves what stood on their devices, and are opened again. None of these
 /// devices ever failed.
-pub(crate) fn crash(rt: &impl Host, script: &mut Script, users: &[(u8, PublicKey)]) {
-    let answers = script.answers(rt);
+pub(crate) fn crash(rt: &impl Host, rows: &mut Rows, keys: &[PublicKey], users: &[u8]) {
+    let told = answers_of(rt, keys, rows);
     for user in users {
-        let (ledger, journal) = devices_after(rt, *user, &script.steps, &answers);
-        script.alone(rt, user.0, Act::Crash(ledger, journal));
-        script.goes_on(rt, user.0, b"o");
+        let key = found(rt, keys.get(usize::from(*user)), "a key");
+        let left = devices_after(rt, *user, key, rows, &told);
+        does(rt, rows, *user, b'x', &left);
+        goes_on(rt, rows, *user, b"o");
     }
-    let_go(answers);
 }

@@ -2,19 +2,14 @@
 //! come to the honest server, and to the plain one of scripts. Both answer alike: each status, what is accepted, and
 //! what has no effect.
 
+use crate::answers::{count_told, count_views, view_in};
+use crate::dice::Dice;
 use crate::here::Here;
-use crate::honest::{Script, accepted_in};
-use crate::honest_random::Dice;
-use crate::planning::{keys, planned_of};
+use crate::honest::{Rows, answers_of, does, goes_on};
+use crate::planning::keys;
 use crate::scripts::prints;
-use client_runs::{Accepted, Answer};
-use client_verify::Phase;
-use layout::let_go;
-use lms_sign::PublicKey;
-use std::alloc::Global;
 use std::io::Write;
 use tests_aids::{Aided, Host, check, found, given};
-use wire::Status;
 
 /// How many commands come after the first operation.
 const COMMANDS: u8 = 100;
@@ -51,87 +46,78 @@ static CHANGES: [Changes; 8] = [
     ),
 ];
 
-/// What a command is in a script, before and after the user.
-type Words = (&'static str, &'static str);
+/// The letters of an update's steps: a reply is handed ten blocks.
+const UPDATE: &[u8] = b"ubbbbbbbbbbs";
 
-/// A command without changes, and the letters of its steps: a reply is handed ten blocks.
-type Command = (Words, &'static [u8]);
-
-const UPDATE: Command = (("update", " a"), b"ubbbbbbbbbbs");
-
-const COMMIT: Command = (("commit", " a"), b"c");
-
-const RESTART: Command = (("restart", ""), b"ko");
-
-/// A command of a user, and the answers to its steps.
+/// A command of a user: where its steps begin, and where those of the next command do.
 #[derive(Clone, Copy)]
 struct Line {
     user: u8,
-    words: Words,
-    /// Where its steps begin, and where those of the next command do.
     first: usize,
     end: usize,
 }
 
-/// The steps of an honest run, and the commands that they are.
+/// The steps of an honest run, and the commands that they are, in a script.
 #[derive(Drop)]
 struct Both {
-    script: Script,
+    rows: Rows,
     lines: Vec<Line>,
-    keys: Vec<PublicKey>,
+    script: Vec<u8>,
 }
 
 impl Both {
-    /// Adds a user's command, whose steps are those from this one on.
-    fn add(&mut self, rt: &impl Host, user: u8, words: Words, first: usize) {
-        let line = Line {
-            user,
-            words,
-            first,
-            end: self.script.steps.len(),
-        };
-        given(rt, self.lines.push(line), "memory");
+    /// A user's command of these words before and after the user, whose steps are those from this one on.
+    fn add(&mut self, rt: &impl Host, user: u8, first: usize, (before, after): (&str, &str)) {
+        let end = self.rows.len();
+        given(rt, self.lines.push(Line { user, first, end }), "memory");
+        given(
+            rt,
+            write!(self.script, "{before} {user}{after}\n"),
+            "memory",
+        );
     }
 
     /// A user declares an operation of these changes.
     fn begins(&mut self, rt: &impl Host, user: u8, (changes, words): Changes) {
-        let first = self.script.steps.len();
-        let planned = planned_of(rt, &self.keys, changes);
-        self.script.declares(rt, user, planned);
-        self.add(rt, user, ("begin", words), first);
+        let first = self.rows.len();
+        does(rt, &mut self.rows, user, b'd', changes);
+        self.add(rt, user, first, ("begin", words));
     }
 
     /// Another command of a user.
-    fn goes_on(&mut self, rt: &impl Host, user: u8, (words, letters): Command) {
-        let first = self.script.steps.len();
-        self.script.goes_on(rt, user, letters);
-        self.add(rt, user, words, first);
+    fn goes_on(&mut self, rt: &impl Host, user: u8, letters: &[u8], words: (&str, &str)) {
+        let first = self.rows.len();
+        goes_on(rt, &mut self.rows, user, letters);
+        self.add(rt, user, first, words);
     }
 
     /// A command that is drawn.
     fn draws(&mut self, rt: &impl Host, dice: &mut Dice) {
         let user = dice.roll() % 4;
         match dice.roll() % 8 {
-            0..=1 => self.begins(rt, user, *dice.one_of(rt, &CHANGES)),
-            2..=4 => self.goes_on(rt, user, UPDATE),
-            5..=6 => self.goes_on(rt, user, COMMIT),
-            _ => self.goes_on(rt, user, RESTART),
+            0..=1 => {
+                let place = usize::from(dice.roll() % 8);
+                self.begins(rt, user, *found(rt, CHANGES.get(place), "changes"));
+            }
+            2..=4 => self.goes_on(rt, user, UPDATE, ("update", " a")),
+            5..=6 => self.goes_on(rt, user, b"c", ("commit", " a")),
+            _ => self.goes_on(rt, user, b"ko", ("restart", "")),
         }
     }
 
     /// All commands.
     fn new(rt: &impl Host, dice: &mut Dice) -> Both {
         let mut both = Both {
-            script: Script::new(rt),
+            rows: Vec::new(rt.alloc()),
             lines: Vec::new(rt.alloc()),
-            keys: keys(rt, 4),
+            script: Vec::new(rt.alloc()),
         };
         for user in 0..4 {
-            both.script.goes_on(rt, user, b"o");
+            goes_on(rt, &mut both.rows, user, b"o");
         }
         both.begins(rt, 0, FIRST);
-        both.goes_on(rt, 0, UPDATE);
-        both.goes_on(rt, 0, COMMIT);
+        both.goes_on(rt, 0, UPDATE, ("update", " a"));
+        both.goes_on(rt, 0, b"c", ("commit", " a"));
         for _ in 0..COMMANDS {
             both.draws(rt, dice);
         }
@@ -140,83 +126,74 @@ impl Both {
 }
 
 /// What came of an operation that was accepted: its number, and what had no effect.
-fn write_accepted(rt: &impl Host, text: &mut Vec<u8>, number: u32, accepted: &Accepted<Global>) {
+fn write_accepted(rt: &impl Host, text: &mut Vec<u8>, number: u32, lost: &[u8]) {
     given(rt, write!(text, "accepted {number}"), "memory");
-    for (place, lost) in accepted.lost.iter().enumerate() {
+    for (place, lost) in lost.iter().enumerate() {
         let before = if place == 0 { " lost" } else { "" };
         given(rt, write!(text, "{before} {lost}"), "memory");
     }
 }
 
 /// What came of a command, where that is one word.
-fn word_of(first: &Answer<Global>, last: &Answer<Global>) -> Option<&'static str> {
+fn word_of(first: &[u8], last: &[u8]) -> Option<&'static str> {
     match (first, last) {
-        (Answer::NotTaken, _) => Some("busy"),
-        (Answer::Served(Status::Ok), _) => Some("committed"),
-        (_, Answer::Opened(Phase::Idle, _)) => Some("idle"),
-        (_, Answer::Opened(Phase::Declared, _)) => Some("declared"),
-        (_, Answer::Opened(Phase::Signed, _)) => Some("signed"),
+        (b"-", _) => Some("busy"),
+        (b"v\x00", _) => Some("committed"),
+        (_, [b'o', b'i', ..]) => Some("idle"),
+        (_, [b'o', b'd', ..]) => Some("declared"),
+        (_, [b'o', b's', ..]) => Some("signed"),
         _ => None,
     }
 }
 
 /// What a script should print of a command that was answered so, where the user's last operation has this number.
-fn write_outcome(rt: &impl Host, text: &mut Vec<u8>, number: u32, answers: &[Answer<Global>]) {
-    let first = found(rt, answers.first(), "an answer");
-    let last = found(rt, answers.last(), "an answer");
+fn write_outcome(rt: &impl Host, text: &mut Vec<u8>, number: u32, told: &[Vec<u8>]) {
+    let first = found(rt, told.first(), "an answer").as_slice();
+    let last = found(rt, told.last(), "an answer").as_slice();
     if let Some(word) = word_of(first, last) {
         given(rt, text.extend_from_slice(word.as_bytes()), "memory");
         return;
     }
-    match (first, last) {
-        (Answer::Served(status), _) => {
-            given(rt, write!(text, "status {}", status.number()), "memory");
-        }
-        (Answer::Begun(Ok(_)), _) => given(rt, write!(text, "begin {number}"), "memory"),
-        (_, Answer::Signed(Ok(accepted))) => write_accepted(rt, text, number, accepted),
-        _ => rt.fail("no outcome"),
+    match first {
+        [b'v', status] => given(rt, write!(text, "status {status}"), "memory"),
+        [b'b', ..] => given(rt, write!(text, "begin {number}"), "memory"),
+        _ => match view_in(rt, last) {
+            Some(view) => write_accepted(rt, text, number, view.lost),
+            None => rt.fail("no outcome"),
+        },
     }
 }
 
-/// The commands, and what a script should print of them by what an honest run answered.
-fn told(rt: &impl Host, both: &Both, answers: &[Answer<Global>]) -> (Vec<u8>, Vec<u8>) {
-    let (mut script, mut text) = (Vec::new(rt.alloc()), Vec::new(rt.alloc()));
+/// What a script should print of the commands by what an honest run answered.
+fn lines_of(rt: &impl Host, lines: &[Line], told: &[Vec<u8>]) -> Vec<u8> {
+    let mut text = Vec::new(rt.alloc());
     let mut numbers = [0u32; 4];
-    for line in &both.lines {
-        let (user, (command, after)) = (line.user, line.words);
-        given(rt, write!(script, "{command} {user}{after}\n"), "memory");
-        let own = found(rt, answers.get(line.first..line.end), "steps");
-        let number = found(rt, numbers.get_mut(usize::from(user)), "a user");
-        if matches!(own, [Answer::Begun(_)]) {
+    for Line { user, first, end } in lines {
+        let own = found(rt, told.get(*first..*end), "steps");
+        let number = found(rt, numbers.get_mut(usize::from(*user)), "a user");
+        if own.len() == 1 && count_told(own, b"b") == 1 {
             *number = number.wrapping_add(1);
         }
         given(rt, write!(text, "{user} "), "memory");
         write_outcome(rt, &mut text, *number, own);
-        given(rt, write!(text, "\n"), "memory");
+        given(rt, text.push(b'\n'), "memory");
     }
-    (script, text)
+    text
 }
 
 /// Views are accepted, and who isn't listed is refused.
-fn tells_much(rt: &impl Host, answers: &[Answer<Global>]) {
-    let views = answers.iter().filter_map(accepted_in).count();
-    check(rt, views >= 3, "views are accepted");
-    let mut refused = false;
-    for answer in answers {
-        refused |= matches!(answer, Answer::Served(Status::UnknownUser));
-    }
+fn tells_much(rt: &impl Host, told: &[Vec<u8>]) {
+    check(rt, count_views(told) >= 3, "views are accepted");
+    let refused = count_told(told, b"v\x02") > 0;
     check(rt, refused, "who isn't listed is refused");
 }
 
 #[test]
 fn a_script_prints_what_an_honest_run_answers(rt: HostRuntime) {
     let here = &(rt, Here);
-    let mut dice = Dice { state: 7 };
-    let both = Both::new(here, &mut dice);
-    let answers = both.script.answers(here);
-    tells_much(here, &answers);
-    let (words, text) = told(here, &both, &answers);
-    let_go(answers);
-    prints(&here.0, &words, &text);
-    let_go(both);
+    let both = Both::new(here, &mut Dice { state: 7 });
+    let told = answers_of(here, &keys(here, 4), &both.rows);
+    tells_much(here, &told);
+    let lines = lines_of(here, &both.lines, &told);
+    prints(&here.0, &both.script, &lines);
 }

@@ -6,13 +6,11 @@
 use crate::here::Here;
 use crate::lines::looks_into_worlds;
 use crate::plain_world::Operation;
-use crate::premises::{keys_are_true, leaves_sign_once, none_collide, none_forged};
-use crate::stage::{NEVER, Stage, new_stage, place_in};
-use client_verify::{Phase, Rule};
+use crate::premises::{Ran, keys_are_true, leaves_sign_once, none_collide, none_forged};
+use crate::stage::plays;
 use layout::let_go;
-use tests_aids::texts::{list, listed, named, pending, plan, reply, vector_of};
-use tests_aids::{Host, check, found};
-use tests_client_aids::clients::is_in;
+use tests_aids::texts::joined;
+use tests_aids::{Host, check, found, given};
 
 /// The operations, by the letters A to I. User 1 makes no i-number of the group that is user 2's; user 0 is no member,
 /// and user 1 is none any more in its second operation.
@@ -84,92 +82,108 @@ static PLACES: [(u8, u8); 9] = [
     (65, 64),
 ];
 
-/// The operation of this place, which user and changes are told of.
-fn operation_at(rt: &impl Host, place: usize) -> &'static Operation {
-    found(rt, OPERATIONS.get(place), "an operation")
-}
+/// The script (`stage.rt`). A row of one capital letter is the declaration of that operation, and `*` stands for looks
+/// at all places. A to D come to one server. User 2 signs C, which isn't committed; user 1 declares E before D is
+/// placed, and crashes. E, G and I come to one server; C's commit, after a crash, F and H to the other one. At last
+/// user 2 declares its fourth operation, and is shown together what was shown apart: the rule on numbers, 11, is
+/// broken.
+static SCRIPT: [&[u8]; 37] = [
+    b"A",
+    b"0pasc",
+    b"0*",
+    b"B",
+    b"1pasc",
+    b"1*",
+    b"C",
+    b"2pas",
+    b"2*",
+    b"E",
+    b"1r",
+    b"1~od",
+    b"D",
+    b"0pasc",
+    b"0*",
+    b"2F",
+    b"1pasc",
+    b"1*",
+    b"2w",
+    b"2~os",
+    b"2c",
+    b"G",
+    b"0pasc",
+    b"0*",
+    b"I",
+    b"1pasc",
+    b"1*",
+    b"F",
+    b"2pasc",
+    b"2*",
+    b"H",
+    b"2pasc",
+    b"2*",
+    b"2d",
+    b"2H\x06\x00\x02\x01\x02\x02\x02\x00\x03\x01\x03\x02\x04\x40\x04",
+    b"2j",
+    b"2=!\x0b",
+];
 
-/// A user looks everywhere in its view.
-fn looks_around(rt: &impl Host, stage: &mut Stage, user: u8) {
+/// Adds looks of a user at all places.
+fn add_looks(rt: &impl Host, rows: &mut Vec<Vec<u8>>, digit: u8) {
     for (owner, number) in &PLACES {
-        let_go(stage.looks(rt, user, *owner, *number));
+        let row = joined(rt, &[&[digit, b'L', *owner, *number]]);
+        given(rt, rows.push(row), "memory");
     }
 }
 
-/// A user goes on as these letters say, and looks around.
-fn goes_on(rt: &impl Host, stage: &mut Stage, user: u8, letters: &[u8]) {
-    stage.goes_on(rt, user, letters);
-    looks_around(rt, stage, user);
-}
-
-/// The operation of this place is declared, and goes on as these letters say.
-fn operates(rt: &impl Host, stage: &mut Stage, place: usize, letters: &[u8]) {
-    let operation = operation_at(rt, place);
-    stage.declares(rt, operation.user, operation.changes, NEVER);
-    goes_on(rt, stage, operation.user, letters);
-}
-
-/// A to D at one server. User 2 signs C, which isn't committed; user 1 declares E before D is placed, and crashes.
-fn meet(rt: &impl Host, stage: &mut Stage) {
-    operates(rt, stage, 0, b"pasc");
-    operates(rt, stage, 1, b"pasc");
-    operates(rt, stage, 2, b"pas");
-    stage.operates(rt, 1, operation_at(rt, 4).changes, b"r");
-    is_in(rt, stage.client(rt, 1), Phase::Declared);
-    operates(rt, stage, 3, b"pasc");
-}
-
-/// E, G and I at one server; C's commit, after a crash, F and H at the other one.
-fn part(rt: &impl Host, stage: &mut Stage) {
-    stage.forks(rt, 2);
-    goes_on(rt, stage, 1, b"pasc");
-    stage.goes_on(rt, 2, b"w");
-    is_in(rt, stage.client(rt, 2), Phase::Signed);
-    stage.goes_on(rt, 2, b"c");
-    for place in [6, 8, 5, 7] {
-        operates(rt, stage, place, b"pasc");
+/// The rows, with operations and looks in the place of their letters.
+fn written_out(rt: &impl Host) -> Vec<Vec<u8>> {
+    let mut rows = Vec::new(rt.alloc());
+    for row in &SCRIPT {
+        match *row {
+            [letter] => {
+                let place = usize::from(letter.wrapping_sub(b'A'));
+                let Operation { user, changes } = found(rt, OPERATIONS.get(place), "an operation");
+                let digit = user.wrapping_add(b'0');
+                given(
+                    rt,
+                    rows.push(joined(rt, &[&[digit, b'D'], changes])),
+                    "memory",
+                );
+            }
+            [digit, b'*'] => add_looks(rt, &mut rows, *digit),
+            _ => given(rt, rows.push(joined(rt, &[row])), "memory"),
+        }
     }
-}
-
-/// User 2 declares its fourth operation, and is shown together what was shown apart: the rule that is broken.
-fn is_shown_together(rt: &impl Host, stage: &mut Stage) -> Option<Rule> {
-    let (by_zero, by_one, by_two) = (stage.shown(rt, 0), stage.shown(rt, 1), stage.shown(rt, 2));
-    stage.goes_on(rt, 2, b"d");
-    let update = &place_in(rt, &mut stage.places, 2).update;
-    let vector = vector_of(rt, &[(0, 3), (1, 3), (2, 4), (64, 4)]);
-    let plan = plan(rt, 2, 4, &named(update), &vector, b"\0");
-    let own = listed(rt, &pending(rt, update, &plan));
-    let text = reply(rt, &list(rt, &[&by_zero, &by_one, &by_two]), &own);
-    stage.judges(rt, 2, &text)
+    rows
 }
 
 /// The premises hold of the run.
-fn are_met(rt: &impl Host, stage: &Stage) {
-    let (ran, keys) = (&stage.ran, &stage.keys);
-    let pinned = *found(rt, keys.first(), "a key");
+fn are_met(rt: &impl Host, ran: Ran<'_>) {
+    let pinned = found(rt, ran.keys.first(), "a key");
     check(rt, none_collide(rt, ran, pinned), "no collision");
     check(rt, none_forged(rt, ran), "no forgery");
     check(rt, leaves_sign_once(rt, ran), "one text a leaf");
-    check(rt, keys_are_true(rt, ran, keys), "true keys");
+    check(rt, keys_are_true(rt, ran, ran.keys), "true keys");
 }
 
 /// The premises hold of the run, each of its views is the world of its line, and isn't that of another one.
 #[test]
 fn premises_and_worlds_of_a_run(rt: HostRuntime) {
     let rt = &(rt, Here);
-    let mut stage = new_stage(rt);
-    meet(rt, &mut stage);
-    part(rt, &mut stage);
-    let broken = is_shown_together(rt, &mut stage);
-    assert!(rt; broken == Some(Rule::Numbers), "{broken:?}");
-    stage.is_carried_out(rt);
-    are_met(rt, &stage);
-    let looks = looks_into_worlds(rt, &stage.ran, &stage.keys, &OPERATIONS, &LINES);
+    let script = written_out(rt);
+    let mut rows = Vec::new(rt.0.alloc());
+    for row in &script {
+        given(rt, rows.push(row.as_slice()), "memory");
+    }
+    let notes = plays(rt, &rows);
+    let ran = notes.ran();
+    are_met(rt, ran);
+    let looks = looks_into_worlds(rt, ran, &OPERATIONS, &LINES);
     let wanted = LINES.len().wrapping_mul(PLACES.len());
     assert!(rt; looks == Ok(wanted), "{looks:?}");
     for lines in [&WITHOUT_PENDING, &STILL_MEMBER] {
-        let looks = looks_into_worlds(rt, &stage.ran, &stage.keys, &OPERATIONS, lines);
+        let looks = looks_into_worlds(rt, ran, &OPERATIONS, lines);
         check(rt, looks.is_err(), "another line");
     }
-    let_go(stage);
+    let_go(notes);
 }

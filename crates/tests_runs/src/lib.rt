@@ -6,9 +6,15 @@
 #![tactic(auto)]
 
 #[cfg(test)]
+mod acts;
+#[cfg(test)]
 mod alone;
 #[cfg(test)]
 mod answers;
+#[cfg(test)]
+mod clients;
+#[cfg(test)]
+mod dice;
 #[cfg(test)]
 mod errors;
 #[cfg(test)]
@@ -38,6 +44,8 @@ mod lines;
 #[cfg(test)]
 mod lying;
 #[cfg(test)]
+mod notes;
+#[cfg(test)]
 mod plain_world;
 #[cfg(test)]
 mod planning;
@@ -49,6 +57,8 @@ mod refuted;
 mod runs;
 #[cfg(test)]
 mod scripts;
+#[cfg(test)]
+mod servers;
 #[cfg(test)]
 mod small_world;
 #[cfg(test)]

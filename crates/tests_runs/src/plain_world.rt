@@ -118,11 +118,21 @@ impl World {
     }
 
     fn is_member(&self, group: u8, user: u8) -> bool {
-        self.members.iter().any(|row| row.group == group && row.user == user && row.until == 0)
+        for row in &self.members {
+            if row.group == group && row.user == user && row.until == 0 {
+                return true;
+            }
+        }
+        false
     }
 
     fn is_listed(&self, user: u8) -> bool {
-        self.users.iter().any(|row| row.user == user)
+        for row in &self.users {
+            if row.user == user {
+                return true;
+            }
+        }
+        false
     }
 
     /// The bytes of the file of this place; not those of the table.
@@ -187,12 +197,14 @@ impl World {
     }
 
     fn link(&mut self, rt: &impl Host, target: Place, name: &[u8]) -> bool {
-        let fits = !self.links.iter().any(|link| link.name.as_slice() == name);
-        if fits {
-            let name = joined(rt, &[name]);
-            given(rt, self.links.push(Link { name, target }), "memory");
+        for link in &self.links {
+            if link.name.as_slice() == name {
+                return false;
+            }
         }
-        fits
+        let name = joined(rt, &[name]);
+        given(rt, self.links.push(Link { name, target }), "memory");
+        true
     }
 
     fn unlink(&mut self, name: &[u8]) -> bool {
@@ -226,14 +238,22 @@ impl World {
         }
     }
 
+    /// A change of the table of principals: whether it fits. If so, it has its effect.
+    fn change_table(&mut self, rt: &impl Host, letter: u8, row: &[u8]) -> bool {
+        match (letter, row) {
+            (b'u', [added]) => self.add_user(rt, *added),
+            (b'm', [group, member]) => self.add_member(rt, *group, *member),
+            (_, [group, member]) => end(&mut self.members, *group, *member, self.number),
+            _ => false,
+        }
+    }
+
     /// A user's change, where the user may change the i-numbers of these principals: whether it is permitted and fits.
     /// If so, it has its effect.
     fn change(&mut self, rt: &impl Host, user: u8, own: &[u8], row: &[u8]) -> bool {
         match row {
-            [b'u', added] => user == 0 && self.add_user(rt, *added),
-            [b'm', group, member] => user == 0 && self.add_member(rt, *group, *member),
-            [b'd', group, member] => {
-                user == 0 && end(&mut self.members, *group, *member, self.number)
+            [letter, rest @ ..] if matches!(letter, b'u' | b'm' | b'd') => {
+                user == 0 && self.change_table(rt, *letter, rest)
             }
             [letter, principal, number, rest @ ..] => {
                 let place = Place {

@@ -1,20 +1,17 @@
 //! The tests of premises fail where a premise does.
 
-use crate::hashed::{add_named, by_digest, share_a_name};
+use crate::acts::{NEVER, answers_of, row_of};
+use crate::hashed::{add, add_named, by_digest, share_a_name};
 use crate::here::Here;
-use crate::planning::planned_of;
 use crate::premises::{
-    add_by_leaf, hashed_texts, keys_are_true, leaves_sign_once, none_collide, none_forged,
+    Ran, add_by_leaf, hashed_texts, keys_are_true, leaves_sign_once, none_collide, none_forged,
 };
-use crate::stage::{NEVER, Ran};
-use client_runs::Act;
-use layout::{User, digest, let_go};
+use layout::{digest, let_go};
 use lms_sign::{PrivateKey, PublicKey};
 use std::alloc::Global;
 use tests_aids::tables::FORM;
 use tests_aids::texts::{key_of, listed, plan, reply, shown, signed, structure};
 use tests_aids::{Host, check, found};
-use tests_client_aids::changes::Planned;
 
 /// A reply that shows a structure of user 1's that its client never signed: the test does, with user 1's key.
 fn forged_reply(rt: &impl Host, key: &PrivateKey<Global>) -> Vec<u8> {
@@ -23,19 +20,18 @@ fn forged_reply(rt: &impl Host, key: &PrivateKey<Global>) -> Vec<u8> {
     reply(rt, &listed(rt, &shown(rt, &by_one)), b"\0")
 }
 
-/// User 0 adds user 1 with the second key, and is shown what user 1's client never signed.
-fn refuted(rt: &impl Host, key: &PrivateKey<Global>, added: PublicKey) -> Ran {
-    let Planned { changes, laid } = planned_of(rt, &[added, added], b"u\x01");
-    let mut ran = Ran::new(rt);
-    ran.add(rt, 0, Act::Open, NEVER);
-    ran.add(rt, 0, Act::Begin(changes, laid), NEVER);
-    ran.add(rt, 0, Act::Reply(forged_reply(rt, key)), NEVER);
-    ran.carry_out(rt);
-    ran
+/// User 0 adds user 1, and is shown what user 1's client never signed.
+fn refuted(rt: &impl Host, key: &PrivateKey<Global>) -> Vec<Vec<u8>> {
+    let mut rows = Vec::new(rt.alloc());
+    add(rt, &mut rows, row_of(rt, 0, NEVER, b'o', b""));
+    add(rt, &mut rows, row_of(rt, 0, NEVER, b'd', b"u\x01"));
+    let reply = forged_reply(rt, key);
+    add(rt, &mut rows, row_of(rt, 0, NEVER, b'r', &reply));
+    rows
 }
 
 /// Two texts are named by one digest.
-fn collide(rt: &impl Host, ran: &Ran, pinned: PublicKey) {
+fn collide(rt: &impl Host, ran: Ran<'_>, pinned: &PublicKey) {
     let texts = hashed_texts(rt, ran, pinned);
     let mut rows = by_digest(rt, &texts);
     check(rt, !share_a_name(&rows), "no collision yet");
@@ -46,13 +42,12 @@ fn collide(rt: &impl Host, ran: &Ran, pinned: PublicKey) {
 
 /// Two texts are signed by one leaf of a user's.
 fn leaf_signs_twice(rt: &impl Host, key: &PrivateKey<Global>) {
-    let (zero, one) = (User::superuser(), found(rt, User::new(1), "a user"));
     let mut rows = Vec::new(rt.alloc());
-    add_by_leaf(rt, &mut rows, one, &signed(rt, key, 5, b"one"));
-    add_by_leaf(rt, &mut rows, one, &signed(rt, key, 6, b"two"));
-    add_by_leaf(rt, &mut rows, zero, &signed(rt, key, 5, b"two"));
+    add_by_leaf(rt, &mut rows, 1, &signed(rt, key, 5, b"one"));
+    add_by_leaf(rt, &mut rows, 1, &signed(rt, key, 6, b"two"));
+    add_by_leaf(rt, &mut rows, 0, &signed(rt, key, 5, b"two"));
     check(rt, !share_a_name(&rows), "one text a leaf");
-    add_by_leaf(rt, &mut rows, one, &signed(rt, key, 5, b"two"));
+    add_by_leaf(rt, &mut rows, 1, &signed(rt, key, 5, b"two"));
     check(rt, share_a_name(&rows), "two texts of a leaf");
 }
 
@@ -64,17 +59,23 @@ fn premises_that_fail(rt: HostRuntime) {
         key.public(),
         found(rt, PublicKey::from_bytes(*FORM), "a key"),
     );
-    let ran = refuted(rt, &key, other);
-    check(rt, !none_forged(rt, &ran), "a forged signature");
-    check(rt, leaves_sign_once(rt, &ran), "one text a leaf in the run");
-    check(rt, none_collide(rt, &ran, own), "no collision");
-    check(rt, !keys_are_true(rt, &ran, &[own, own]), "another key");
+    let (rows, keys) = (refuted(rt, &key), [other, other]);
+    let told = answers_of(rt, &keys, &rows);
+    let ran = Ran {
+        rows: &rows,
+        told: &told,
+        keys: &keys,
+    };
+    check(rt, !none_forged(rt, ran), "a forged signature");
+    check(rt, leaves_sign_once(rt, ran), "one text a leaf in the run");
+    check(rt, none_collide(rt, ran, &own), "no collision");
+    check(rt, !keys_are_true(rt, ran, &[own, own]), "another key");
     check(
         rt,
-        keys_are_true(rt, &ran, &[own, other]),
+        keys_are_true(rt, ran, &[own, other]),
         "the key that is listed",
     );
-    collide(rt, &ran, own);
+    collide(rt, ran, &own);
     leaf_signs_twice(rt, &key);
-    let_go((ran, key));
+    let_go(key);
 }

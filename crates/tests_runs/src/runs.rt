@@ -3,30 +3,20 @@
 
 use crate::hashed::before_signature;
 use crate::here::Here;
-use crate::stage::{NEVER, Stage, new_stage, place_in};
-use client_verify::{Phase, Rule};
+use crate::notes::latest;
+use crate::stage::plays;
 use layout::let_go;
-use tests_aids::texts::{
-    FIRST_HANDLE, certificate, list, only_pending, plan_of, reply, structure, vector_of,
-};
-use tests_aids::{Host, check, check_text};
-use tests_client_aids::clients::is_in;
-
-/// User 0 lists users 1 and 2.
-const LISTING: &[u8] = b"u\x01;u\x02";
-
-/// The letters of a whole operation, once it is declared.
-const WHOLE: &[u8] = b"pasc";
+use tests_aids::texts::{FIRST_HANDLE, certificate, plan_of, structure};
+use tests_aids::{check, check_text, found};
 
 /// User 0's first operation has no changes: its certificate of 42 bytes, the reply of 2,608 and the structure of 87,
 /// whose plan has one version, and no entry. Each signature takes 2,508.
 #[test]
 fn first_operation_in_a_run(rt: HostRuntime) {
     let rt = &(rt, Here);
-    let mut stage = new_stage(rt);
-    stage.goes_on(rt, 0, b"dhas");
-    let place = place_in(rt, &mut stage.places, 0);
-    let (update, commit) = (&place.update, &place.structure);
+    let notes = plays(rt, &[b"0d", b"0H\x00\x00\x01", b"0ase"]);
+    let place = found(rt, notes.places.first(), "a user");
+    let (update, commit) = (&place.update, latest(rt, &notes.places, 0));
     check_text(
         rt,
         before_signature(update),
@@ -36,123 +26,121 @@ fn first_operation_in_a_run(rt: HostRuntime) {
     check_text(rt, before_signature(commit), &wanted);
     let sizes = [update.len(), place.reply.len(), commit.len()];
     check(rt, sizes == [2550, 2608, 2595], "the sizes of the texts");
-    stage.goes_on(rt, 0, b"e");
-    stage.is_carried_out(rt);
-    let_go(stage);
+    let_go(notes);
 }
 
 /// What user 0 does, at last a crash that leaves nothing unsynced, and the phase in which its client is opened again:
 /// before its first operation, once it is declared, once the reply is accepted, and once the structure is signed. No
 /// record tells of the commit.
-static CRASHES: [(&[u8], Phase); 6] = [
-    (b"r", Phase::Idle),
-    (b"dr", Phase::Declared),
-    (b"har", Phase::Declared),
-    (b"asr", Phase::Signed),
-    (b"er", Phase::Signed),
-    (b"edr", Phase::Declared),
+static CRASHES: [&[u8]; 13] = [
+    b"0r",
+    b"0~oi",
+    b"0dr",
+    b"0~od",
+    b"0H\x00\x00\x01",
+    b"0ar",
+    b"0~od",
+    b"0asr",
+    b"0~os",
+    b"0er",
+    b"0~os",
+    b"0edr",
+    b"0~od",
+];
+
+/// User 1 is a member when it declares its write, and none when that is placed: the write is lost.
+static DROPPED: [&[u8]; 10] = [
+    b"0Du\x01;m\x40\x01",
+    b"0pasc",
+    b"1Df\x40\x40old",
+    b"1pasc",
+    b"1Dp\x40\x40new",
+    b"0Dd\x40\x01",
+    b"0pasc",
+    b"1pasc",
+    b"1T\x01",
+    b"1L\x40\x40",
+];
+
+/// Users 1 and 2 have writes pending, which user 0 reads: both while both are pending, once user 2 has committed, and
+/// once user 1 has, too.
+static TWO_WRITE: [&[u8]; 23] = [
+    b"0Du\x01;u\x02",
+    b"0pasc",
+    b"1Df\x01\x05of user 1",
+    b"1p",
+    b"2Df\x02\x05and of user 2",
+    b"2p",
+    b"0dpasc",
+    b"0L\x01\x05",
+    b"0=Fof user 1",
+    b"0L\x02\x05",
+    b"0=Fand of user 2",
+    b"2asc",
+    b"0dpasc",
+    b"0L\x01\x05",
+    b"0=Fof user 1",
+    b"0L\x02\x05",
+    b"0=Fand of user 2",
+    b"1asc",
+    b"0dpasc",
+    b"0L\x01\x05",
+    b"0=Fof user 1",
+    b"0L\x02\x05",
+    b"0=Fand of user 2",
+];
+
+/// User 1 is shown what it and user 2 signed apart: the last answer is that the rule on numbers, 11, is broken.
+static JOINED: [&[u8]; 9] = [
+    b"0Du\x01;u\x02",
+    b"0pasc",
+    b"2F",
+    b"1dpasc",
+    b"2dpasc",
+    b"1d",
+    b"1H\x06\x00\x00\x01\x00\x02\x00\x00\x01\x01\x02",
+    b"1j",
+    b"1=!\x0b",
+];
+
+/// User 1 is shown the structure before its last two: the last answer is that the rule on the own last structure, 3, is
+/// broken.
+static OLDER: [&[u8]; 9] = [
+    b"0Du\x01;u\x02",
+    b"0pasc",
+    b"1dpasc",
+    b"1dpasc",
+    b"1dpasc",
+    b"1d",
+    b"1H\x04\x00\x00\x01\x00\x00\x01\x01\x04",
+    b"1j",
+    b"1=!\x03",
 ];
 
 #[test]
 fn restarts_in_each_phase_of_a_run(rt: HostRuntime) {
-    let rt = &(rt, Here);
-    let mut stage = new_stage(rt);
-    for (letters, phase) in &CRASHES {
-        stage.goes_on(rt, 0, letters);
-        is_in(rt, stage.client(rt, 0), *phase);
-    }
-    stage.is_carried_out(rt);
-    let_go(stage);
+    let_go(plays(&(rt, Here), &CRASHES));
 }
 
-/// User 1 is a member when it declares its write, and none when that is placed: the write is lost.
 #[test]
 fn a_dropped_member_in_a_run(rt: HostRuntime) {
     let rt = &(rt, Here);
-    let mut stage = new_stage(rt);
-    stage.operates(rt, 0, b"u\x01;m\x40\x01", WHOLE);
-    stage.operates(rt, 1, b"f\x40\x40old", WHOLE);
-    stage.declares(rt, 1, b"p\x40\x40new", NEVER);
-    stage.operates(rt, 0, b"d\x40\x01", WHOLE);
-    stage.goes_on(rt, 1, WHOLE);
-    let one = stage.client(rt, 1);
-    assert!(rt; one.has_view());
-    check_text(rt, one.lost(), b"\x01");
-    stage.sees(rt, 1, 64, 64, b"old");
-    stage.is_carried_out(rt);
-    let_go(stage);
+    let notes = plays(rt, &DROPPED);
+    check_text(rt, notes.last(), b"Fold");
+    let_go(notes);
 }
 
-/// User 0 operates without a change, and sees both users' files.
-fn reads_both(rt: &impl Host, stage: &mut Stage) {
-    stage.operates(rt, 0, b"", WHOLE);
-    stage.sees(rt, 0, 1, 5, b"of user 1");
-    stage.sees(rt, 0, 2, 5, b"and of user 2");
-}
-
-/// Users 1 and 2 have writes pending, which user 0 reads: both while both are pending, once user 2 has committed, and
-/// once user 1 has, too.
 #[test]
 fn two_write_while_one_reads(rt: HostRuntime) {
-    let rt = &(rt, Here);
-    let mut stage = new_stage(rt);
-    stage.operates(rt, 0, LISTING, WHOLE);
-    stage.operates(rt, 1, b"f\x01\x05of user 1", b"p");
-    stage.operates(rt, 2, b"f\x02\x05and of user 2", b"p");
-    reads_both(rt, &mut stage);
-    for user in [2, 1] {
-        stage.goes_on(rt, user, b"asc");
-        reads_both(rt, &mut stage);
-    }
-    stage.is_carried_out(rt);
-    let_go(stage);
+    let_go(plays(&(rt, Here), &TWO_WRITE));
 }
 
-/// User 1 declares its operation of this number, and is shown these structures: the rule that is broken.
-fn one_is_shown(
-    rt: &impl Host,
-    stage: &mut Stage,
-    number: u8,
-    structures: &[&[u8]],
-) -> Option<Rule> {
-    stage.goes_on(rt, 1, b"d");
-    let vector = vector_of(rt, &[(0, 1), (1, number)]);
-    let update = &place_in(rt, &mut stage.places, 1).update;
-    let own = only_pending(rt, u32::from(number), update, &vector);
-    let text = reply(rt, &list(rt, structures), &own);
-    stage.judges(rt, 1, &text)
-}
-
-/// The last answer is that the rule on numbers is broken: user 1 is shown what it and user 2 signed apart.
 #[test]
 fn forks_that_are_joined_in_a_run(rt: HostRuntime) {
-    let rt = &(rt, Here);
-    let mut stage = new_stage(rt);
-    stage.operates(rt, 0, LISTING, WHOLE);
-    stage.forks(rt, 2);
-    for user in [1, 2] {
-        stage.operates(rt, user, b"", WHOLE);
-    }
-    let (zero, one, two) = (stage.shown(rt, 0), stage.shown(rt, 1), stage.shown(rt, 2));
-    let broken = one_is_shown(rt, &mut stage, 2, &[&zero, &one, &two]);
-    assert!(rt; broken == Some(Rule::Numbers), "{broken:?}");
-    stage.is_carried_out(rt);
-    let_go(stage);
+    let_go(plays(&(rt, Here), &JOINED));
 }
 
-/// The last answer is that the rule on the own last structure is broken: user 1 is shown the one before the last two.
 #[test]
 fn an_older_structure_in_a_run(rt: HostRuntime) {
-    let rt = &(rt, Here);
-    let mut stage = new_stage(rt);
-    stage.operates(rt, 0, LISTING, WHOLE);
-    stage.operates(rt, 1, b"", WHOLE);
-    let (zero, older) = (stage.shown(rt, 0), stage.shown(rt, 1));
-    for _ in 0..2 {
-        stage.operates(rt, 1, b"", WHOLE);
-    }
-    let broken = one_is_shown(rt, &mut stage, 4, &[&zero, &older]);
-    assert!(rt; broken == Some(Rule::OwnLast), "{broken:?}");
-    stage.is_carried_out(rt);
-    let_go(stage);
+    let_go(plays(&(rt, Here), &OLDER));
 }

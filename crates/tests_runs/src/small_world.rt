@@ -5,19 +5,6 @@
 use crate::scripts::{ScriptHost, prints, script_of};
 use std::io::Write;
 
-/// What a change does; the texts of files are numbers.
-#[derive(Clone, Copy)]
-enum Task {
-    /// The user's own file has a new text.
-    PutOwn,
-    /// The group's file is made.
-    MakeShared,
-    /// The group's file has a new text.
-    PutShared,
-    /// The group's file is removed.
-    RemoveShared,
-}
-
 /// The user's next step.
 #[derive(Clone, Copy)]
 enum Step {
@@ -27,9 +14,8 @@ enum Step {
 }
 
 /// A user, by plain numbers.
-#[derive(Clone, Copy, Drop)]
+#[derive(Clone, Copy)]
 struct Member {
-    user: u8,
     /// The number of the operation that was declared last.
     number: u32,
     /// The text that this operation writes.
@@ -39,29 +25,31 @@ struct Member {
     file: u32,
 }
 
-/// A script, the lines that it should print, and the world that plain numbers tell.
-#[derive(Drop)]
-struct Story {
-    script: Vec<u8>,
-    lines: Vec<u8>,
-    first: Member,
-    second: Member,
+/// The world that plain numbers tell; the texts of files are numbers.
+#[derive(Clone, Copy)]
+struct World {
+    one: Member,
+    two: Member,
     /// The text of the group's file, where it stands.
     shared: Option<u32>,
     /// The text that was written last.
     texts: u32,
 }
 
-/// A user whose file has been made by its first operation.
-fn new_member(user: u8) -> Member {
-    Member {
-        user,
-        number: 1,
-        writes: 0,
-        step: Step::Begin,
-        file: 0,
-    }
+/// A script, and the lines that it should print.
+#[derive(Drop)]
+struct Story {
+    script: Vec<u8>,
+    lines: Vec<u8>,
 }
+
+/// A user whose file has been made by its first operation.
+const FIRST: Member = Member {
+    number: 1,
+    writes: 0,
+    step: Step::Begin,
+    file: 0,
+};
 
 /// Before the story user 0 lists both users and makes them members of group 64, and each makes its file.
 const BEFORE: &str = "\
@@ -76,153 +64,145 @@ update 2 a -> 2 accepted 1
 commit 2 a -> 2 committed
 ";
 
-/// The changes of a user's operation: user 1 makes the group's file and writes it, user 2 writes it and removes it.
-fn tasks_of(user: u8, number: u32) -> &'static [Task] {
+/// The changes of a user's operation, and how a script declares it: user 1 makes the group's file and writes it, user 2
+/// writes it and removes it. `o`, the user's own file has a new text; `m`, the group's file is made; `p`, it has a new
+/// text; `r`, it is removed.
+fn tasks_of(user: u32, number: u32) -> (&'static [u8], &'static [u8]) {
     match (user, number % 2) {
-        (1, 0) => &[Task::PutOwn, Task::MakeShared],
-        (1, _) => &[Task::PutShared],
-        (_, 0) => &[Task::PutOwn, Task::PutShared],
-        (_, _) => &[Task::RemoveShared],
+        (1, 0) => (b"om", b"begin U put U 3 T; make 64 65 file T\n"),
+        (1, _) => (b"p", b"begin U put 64 65 T\n"),
+        (_, 0) => (b"op", b"begin U put U 3 T; put 64 65 T\n"),
+        (_, _) => (b"r", b"begin U remove 64 65\n"),
     }
 }
 
 /// Whether a change has an effect, where the group's file stands or doesn't.
-fn fits(task: Task, stands: bool) -> bool {
+fn fits(task: u8, stands: bool) -> bool {
     match task {
-        Task::PutOwn => true,
-        Task::MakeShared => !stands,
-        Task::PutShared | Task::RemoveShared => stands,
+        b'o' => true,
+        b'm' => !stands,
+        _ => stands,
     }
 }
 
-/// Writes a change as the script has it.
-fn write_task(rt: &impl ScriptHost, script: &mut Vec<u8>, user: u8, task: Task, text: u32) {
-    let written = match task {
-        Task::PutOwn => write!(script, " put {user} 3 {text}"),
-        Task::MakeShared => write!(script, " make 64 65 file {text}"),
-        Task::PutShared => write!(script, " put 64 65 {text}"),
-        Task::RemoveShared => write!(script, " remove 64 65"),
-    };
-    written.expect(rt, "memory");
+/// Adds these words, with numbers in the place of the letters U, N and T.
+fn add_words(rt: &impl ScriptHost, text: &mut Vec<u8>, words: &[u8], numbers: [u32; 3]) {
+    let [user, number, written] = numbers;
+    for byte in words {
+        let found = match byte {
+            b'U' => Some(user),
+            b'N' => Some(number),
+            b'T' => Some(written),
+            _ => None,
+        };
+        match found {
+            Some(number) => write!(text, "{number}").expect(rt, "memory"),
+            None => text.push(*byte).expect(rt, "memory"),
+        }
+    }
+}
+
+impl World {
+    /// User 1 or user 2.
+    fn member(&mut self, user: u32) -> &mut Member {
+        if user == 1 {
+            &mut self.one
+        } else {
+            &mut self.two
+        }
+    }
+
+    /// What the change makes of the files, where it has an effect.
+    fn change(&mut self, user: u32, task: u8) {
+        let member = self.member(user);
+        let text = member.writes;
+        match task {
+            b'o' => member.file = text,
+            b'r' => self.shared = None,
+            _ => self.shared = Some(text),
+        }
+    }
+
+    /// The operation is placed: the number of the change that is lost, if one is. A user's own file always stands, so
+    /// that no two are.
+    fn update(&mut self, user: u32, tasks: &[u8]) -> Option<u32> {
+        let mut lost = None;
+        let mut number = 0u32;
+        for task in tasks {
+            number = number.wrapping_add(1);
+            if fits(*task, self.shared.is_some()) {
+                self.change(user, *task);
+            } else {
+                lost = Some(number);
+            }
+        }
+        lost
+    }
 }
 
 impl Story {
-    /// The beginning.
-    fn new(rt: &impl ScriptHost) -> Story {
-        let (script, lines) = script_of(rt, &[BEFORE]);
-        Story {
-            script,
-            lines,
-            first: new_member(1),
-            second: new_member(2),
-            shared: None,
-            texts: 0,
-        }
-    }
-
     /// The user declares an operation, which writes a new text.
-    fn begin(&mut self, rt: &impl ScriptHost, member: Member) -> Member {
-        let Member { user, number, .. } = member;
-        let (number, text) = (number.wrapping_add(1), self.texts.wrapping_add(1));
-        write!(self.script, "begin {user}").expect(rt, "memory");
-        for (place, task) in tasks_of(user, number).iter().enumerate() {
-            if place > 0 {
-                write!(self.script, ";").expect(rt, "memory");
-            }
-            write_task(rt, &mut self.script, user, *task, text);
-        }
-        write!(self.script, "\n").expect(rt, "memory");
-        write!(self.lines, "{user} begin {number}\n").expect(rt, "memory");
-        self.texts = text;
-        Member {
-            number,
-            writes: text,
-            step: Step::Update,
-            ..member
-        }
-    }
-
-    /// What the change makes of the files.
-    fn change(&mut self, member: &mut Member, task: Task) {
-        match task {
-            Task::PutOwn => member.file = member.writes,
-            Task::MakeShared | Task::PutShared => self.shared = Some(member.writes),
-            Task::RemoveShared => self.shared = None,
-        }
+    fn begins(&mut self, rt: &impl ScriptHost, world: &mut World, user: u32) {
+        let text = world.texts.wrapping_add(1);
+        world.texts = text;
+        let member = world.member(user);
+        member.number = member.number.wrapping_add(1);
+        member.writes = text;
+        member.step = Step::Update;
+        let numbers = [user, member.number, text];
+        let (_, words) = tasks_of(user, member.number);
+        add_words(rt, &mut self.script, words, numbers);
+        add_words(rt, &mut self.lines, b"U begin N\n", numbers);
     }
 
     /// The operation is placed: each change has its effect, or is told among the lost ones.
-    fn update(&mut self, rt: &impl ScriptHost, mut member: Member) -> Member {
-        let Member { user, number, .. } = member;
-        write!(self.script, "update {user} a\n").expect(rt, "memory");
-        write!(self.lines, "{user} accepted {number}").expect(rt, "memory");
-        let mut loses = false;
-        for (place, task) in tasks_of(user, number).iter().enumerate() {
-            if fits(*task, self.shared.is_some()) {
-                self.change(&mut member, *task);
-            } else {
-                let before = if loses { "" } else { " lost" };
-                write!(self.lines, "{before} {}", place.wrapping_add(1)).expect(rt, "memory");
-                loses = true;
-            }
+    fn updates(&mut self, rt: &impl ScriptHost, world: &mut World, user: u32) {
+        let member = world.member(user);
+        member.step = Step::Commit;
+        let number = member.number;
+        let (tasks, _) = tasks_of(user, number);
+        add_words(rt, &mut self.script, b"update U a\n", [user, 0, 0]);
+        add_words(rt, &mut self.lines, b"U accepted N", [user, number, 0]);
+        if let Some(lost) = world.update(user, tasks) {
+            add_words(rt, &mut self.lines, b" lost N", [user, lost, 0]);
         }
-        write!(self.lines, "\n").expect(rt, "memory");
-        Member {
-            step: Step::Commit,
-            ..member
+        self.looks(rt, *world, user);
+    }
+
+    /// The line ends, and the user sees this of the three files.
+    fn looks(&mut self, rt: &impl ScriptHost, world: World, user: u32) {
+        let shows = b"show U 1 3\nshow U 2 3\nshow U 64 65\n";
+        add_words(rt, &mut self.script, shows, [user, 0, 0]);
+        let (one, two) = (world.one.file, world.two.file);
+        let words = b"\nU file N\nU file T\n";
+        add_words(rt, &mut self.lines, words, [user, one, two]);
+        match world.shared {
+            Some(text) => add_words(rt, &mut self.lines, b"U file N\n", [user, text, 0]),
+            None => add_words(rt, &mut self.lines, b"U none\n", [user, 0, 0]),
         }
     }
 
     /// The structure is committed.
-    fn commit(&mut self, rt: &impl ScriptHost, member: Member) -> Member {
-        let user = member.user;
-        write!(self.script, "commit {user} a\n").expect(rt, "memory");
-        write!(self.lines, "{user} committed\n").expect(rt, "memory");
-        Member {
-            step: Step::Begin,
-            ..member
-        }
-    }
-
-    /// What the user sees of the three files.
-    fn look(&mut self, rt: &impl ScriptHost, user: u8) {
-        let (one, two) = (self.first.file, self.second.file);
-        write!(
-            self.script,
-            "show {user} 1 3\nshow {user} 2 3\nshow {user} 64 65\n"
-        )
-        .expect(rt, "memory");
-        write!(self.lines, "{user} file {one}\n{user} file {two}\n").expect(rt, "memory");
-        let written = match self.shared {
-            Some(text) => write!(self.lines, "{user} file {text}\n"),
-            None => write!(self.lines, "{user} none\n"),
-        };
-        written.expect(rt, "memory");
+    fn commits(&mut self, rt: &impl ScriptHost, world: &mut World, user: u32) {
+        world.member(user).step = Step::Begin;
+        add_words(rt, &mut self.script, b"commit U a\n", [user, 0, 0]);
+        add_words(rt, &mut self.lines, b"U committed\n", [user, 0, 0]);
     }
 
     /// One user goes on by a step, and looks after an update.
-    fn go_on(&mut self, rt: &impl ScriptHost, is_second: bool) {
-        let member = if is_second { self.second } else { self.first };
-        let (next, looks) = match member.step {
-            Step::Begin => (self.begin(rt, member), false),
-            Step::Update => (self.update(rt, member), true),
-            Step::Commit => (self.commit(rt, member), false),
-        };
-        if is_second {
-            self.second = next;
-        } else {
-            self.first = next;
-        }
-        if looks {
-            self.look(rt, next.user);
+    fn goes_on(&mut self, rt: &impl ScriptHost, world: &mut World, user: u32) {
+        match world.member(user).step {
+            Step::Begin => self.begins(rt, world, user),
+            Step::Update => self.updates(rt, world, user),
+            Step::Commit => self.commits(rt, world, user),
         }
     }
 
     /// The first steps in this order.
-    fn tell(&mut self, rt: &impl ScriptHost, steps: u32, order: u32) {
+    fn tell(&mut self, rt: &impl ScriptHost, world: &mut World, steps: u32, order: u32) {
         let mut left = order;
         for _ in 0..steps {
-            self.go_on(rt, left % 2 == 1);
+            self.goes_on(rt, world, 1 + left % 2);
             left /= 2;
         }
     }
@@ -234,11 +214,18 @@ const MOST_ORDERS: u32 = 4096;
 /// All orders of so many steps, of which so many are user 2's, one after another in one world. An order is a number:
 /// from its lowest bit on, 0 where user 1 goes on and 1 where user 2 does. Of the fixed bits it has these alone.
 fn tell_all(rt: &impl ScriptHost, (steps, second): (u32, u32), (fixed, first): (u32, u32)) {
-    let mut story = Story::new(rt);
+    let (script, lines) = script_of(rt, &[BEFORE]);
+    let mut story = Story { script, lines };
+    let mut world = World {
+        one: FIRST,
+        two: FIRST,
+        shared: None,
+        texts: 0,
+    };
     for order in 0..MOST_ORDERS {
         let fits = order.count_ones() == second && (order & fixed) == first;
         if fits && order.checked_shr(steps) == Some(0) {
-            story.tell(rt, steps, order);
+            story.tell(rt, &mut world, steps, order);
         }
     }
     prints(rt, &story.script, &story.lines);
