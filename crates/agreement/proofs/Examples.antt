@@ -51,7 +51,7 @@ vector_1 = record { principal = 0; version = 1 } ∷ record { principal = 1; ver
 
 -- both users are listed from the beginning
 abbrev table : Table
-table = record { users = record { user = 0; since = 0; key = [] } ∷ record { user = 1; since = 0; key = [] } ∷ []; rows = [] }
+table = record { users = record { user = 0; since = 0; key = []; later = [] } ∷ record { user = 1; since = 0; key = []; later = [] } ∷ []; rows = [] }
 
 -- user 0 sees nothing, and user 1 user 0's structure
 abbrev view_0 : View

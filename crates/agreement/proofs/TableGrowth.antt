@@ -4,14 +4,13 @@ use Rattle.std.specs.Prelude.{◌==◌, ◌&&◌, ◌||◌, map, nat_le, if◌th
 use Rattle.std.specs.List.{list_any}
 use Rattle.std.proofs.lemmas.Bool.{ne_eqb, lt-ltb, le-ltb, le-leb, lt-leb, cases_Bool, false≢true, and_parts, and_left, and_right, not-true, or_cases, or_left, or_parts, or_right}
 use Rattle.principals.specs.declared.table.Row.{Row}
-use Rattle.principals.specs.Table.{Table, counts_at, ended, is_member, is_member_now, is_open, is_row_of, member_added, member_dropped, user_added, is_listed, lists_user, user_of}
+use Rattle.principals.specs.Table.{Listing, Table, counts_at, ended, is_member, is_member_now, is_open, is_row_of, member_added, member_dropped, user_added, is_listed, lists_user, user_of}
 use Rattle.update_cert.specs.Change.{Action, Make, Put, Remove, Link, Unlink, AddUser, AddMember, DropMember, Change}
 use Rattle.update_cert.specs.World.{Actor, Content, Principals, action_fits, becomes, content_after, fits, has_effect, permitted, is_table}
 use Rattle.agreement.proofs.Members.{In, in-append, in-map}
 use Rattle.std.specs.Ordering.{is_eq, is_lt, nat_cmp}
 use Rattle.layout.specs.Ascending.{with_row}
 use Rattle.layout.specs.AscendingKeys.{key_test}
-use Rattle.principals.specs.declared.table.Listing.{Listing}
 
 pub any_same : {A : Type 0} (f g : A → Bool) (xs : List A) → ((x : A) → In x xs → f x ≡ g x) → list_any f xs ≡ list_any g xs
 any_same f g [] h = refl
@@ -94,7 +93,7 @@ grows_user n user key t none =
     record {
       member_same = λ g u v l. refl;
       listed_same = λ u v l.
-          any_with_row (λ l. (l.user == u) && nat_le l.since v) t.users (record { user = user; since = n; key = key }) (and_right (user == u) (nat_le n v) (lt-leb n v l)) none;
+          any_with_row (λ l. (l.user == u) && nat_le l.since v) t.users (record { user = user; since = n; key = key; later = [] }) (and_right (user == u) (nat_le n v) (lt-leb n v l)) none;
       bounded = λ k l h. record { rows = λ r i. (let b = h.rows r i in (omega arith, omega arith)) };
     }
 

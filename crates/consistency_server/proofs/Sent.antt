@@ -10,6 +10,7 @@ use Rattle.std.proofs.MapsCrossing as maps
 use Rattle.std.proofs.MapsCrossingOver as maps_over
 use Rattle.version_order.specs.contracts.plan.Entries as Entries
 use Rattle.update_cert.specs.contracts.change.Change as Change
+use Rattle.principals.specs.contracts.table.Listing as Listing
 use Rattle.principals.specs.contracts.table.Table as Table
 use Rattle.version_order.specs.contracts.plan.Plan as Plan
 use Rattle.version_order.specs.contracts.structure.Structure as Structure
@@ -27,8 +28,11 @@ use Rattle.consistency_server.specs.contracts.structures.SpelledStructure as Spe
 pub ruleset crosses = (sendable, owned.crosses, over.crosses, maps.crosses, maps_over.crosses)
 
 module _ (A : RattleType) (a : Ghosts A.Denot) (s : IsSend A) (y : IsSync A) (f : Frees a a.dealloc_token) where
+  listing : IsSend (Listing.the_row A a)
+  listing = search crosses depth 60
+
   table : IsSend (Table.the_row A a)
-  table = search crosses depth 60
+  table = let l = listing in search crosses depth 60
 
   vector : IsSend (Vector.the_row A a)
   vector = search crosses depth 60

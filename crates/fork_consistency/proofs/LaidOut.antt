@@ -1,13 +1,13 @@
 -- What is laid out among texts: files and directories by their blocks, the table of principals, and what a certificate makes
 -- or puts.
-use Rattle.std.proofs.Common.{◌≡◌, ℕ, zero, suc, ◌+◌, ◌*◌, ◌-◌, ◌<◌, ◌≤◌, true, false, ◌==◌, ◌&&◌, List, [], ◌∷◌, ◌++◌, length, map, take, drop, min, Some, Result, Ok, Err, refl, sym, ap, ◌∙◌, subst, inl, inr, arith}
-use Rattle.std.specs.Prelude.{◌||◌, codes, is_some, slice_get}
+use Rattle.std.proofs.Common.{◌≡◌, ℕ, zero, suc, ◌+◌, ◌*◌, ◌-◌, ◌≤◌, true, false, ◌==◌, ◌&&◌, List, [], ◌∷◌, ◌++◌, length, map, take, drop, min, Some, Result, Ok, Err, refl, sym, ap, ◌∙◌, subst, inl, inr, arith}
+use Rattle.std.specs.Prelude.{◌||◌, is_some, slice_get}
 use Rattle.std.specs.Int.{w16, w32}
 use Rattle.std.specs.Option.{option_map_or}
 use Rattle.std.specs.Result.{result_ok}
 use Rattle.std.specs.Str.{bytes_eq}
 use Rattle.std.proofs.lemmas.Bool.{and_parts, eq-eqb, eqb-true, or_cases}
-use Rattle.std.proofs.lemmas.List.{append-nil, length-append, length-drop, length-map, length-take}
+use Rattle.std.proofs.lemmas.List.{append-nil, length-drop, length-map, length-take}
 use Rattle.std.proofs.lemmas.Slice.Eq.{bytes_eq-Decides}
 use Rattle.layout.specs.declared.error.ReadError.{ReadError}
 use Rattle.layout.specs.Format.{FitRows, be, spell_rows, whole}
@@ -25,6 +25,7 @@ use Rattle.directory.specs.Directory.{Entry, directory}
 use Rattle.directory.specs.DirectoryLaws.{lawful_directory}
 use Rattle.principals.specs.Table.{Table}
 use Rattle.principals.specs.TableText.{table}
+use Rattle.principals.proofs.SizeLaws.{text_begins}
 use Rattle.principals.specs.TableTextLaws.{lawful_table}
 use Rattle.update_cert.specs.Change.{Action, Make, Put, Remove, Link, Unlink, AddUser, AddMember, DropMember, Change}
 use Rattle.update_cert.specs.Cert.{Cert}
@@ -102,17 +103,11 @@ module _ (texts : List Bytes) where
       record {
         laid = laid_over kinds.File text (file_fits text few) (λ y i. inside y (in-left y (blocks_of text) last i)) (inside (inode.spell (inode_of text)) (in-right (inode.spell (inode_of text)) (blocks_of text) last (inl refl)));
         of_file = refl;
-        positive = some_bytes;
+        positive = text_begins t;
         spells =
             ap (λ (x : Bytes). is_some (of_size table (length text) x)) (blocks_joined text)
             ∙ (rw (eq-eqb (length text) (length text) refl) (ap (λ r. is_some (result_ok r)) (whole_again table lawful_table t fits)));
       }
-    where
-      tagged : (tag rest : Bytes) → 0 < length tag → 0 < length (tag ++ rest)
-      tagged tag rest some = omega (arith, some, length-append tag rest)
-
-      some_bytes : 0 < length (table.spell t)
-      some_bytes = tagged (codes "SPT1") _ (omega arith)
 
   -- ---- what was laid out for an operation
 

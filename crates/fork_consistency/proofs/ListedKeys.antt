@@ -1,15 +1,11 @@
 -- The tables of accepted views list the own keys of those users whom user 0's client added so.
-use Rattle.std.proofs.Common.{◌≡◌, ℕ, zero, suc, ◌+◌, Bool, true, false, ◌==◌, List, [], ◌∷◌, find, Option, Some, None, IsSome, IfSome, refl, sym, ap, ◌∙◌, subst, if◌then◌else◌, option_map, arith}
+use Rattle.std.proofs.Common.{◌≡◌, ℕ, zero, suc, ◌+◌, Bool, true, false, List, [], ◌∷◌, Option, Some, None, IsSome, IfSome, refl, sym, ap, ◌∙◌, subst, if◌then◌else◌, arith}
 use Rattle.std.specs.List.{All}
-use Rattle.std.specs.Ordering.{nat_cmp}
-use Rattle.std.proofs.lemmas.Bool.{eqb-true}
-use Rattle.std.proofs.lemmas.Cmp.{nat_cmp_total}
 use Rattle.std.proofs.lemmas.List.Elements.{All-cons, All-head, All-nil, All-tail, All-weaker}
-use Rattle.layout.specs.AscendingLaws.{all_with_row}
 use Rattle.layout.specs.Types.{Digest, Key, User, Version}
-use Rattle.principals.specs.declared.table.Listing.{Listing}
-use Rattle.principals.specs.Table.{Table, genesis as first_users, key_at, key_of, user_of as listed_user}
-use Rattle.principals.proofs.Keys.{key_stays}
+use Rattle.principals.specs.declared.table.Renewal.{Renewal}
+use Rattle.principals.specs.Table.{Listing, Table, genesis as first_users, key_at, key_of}
+use Rattle.principals.proofs.ListedKeys.{EachKey, each_added, key_at_has, key_of_has}
 use Rattle.update_cert.specs.Change.{Action, Make, Put, Remove, Link, Unlink, AddUser, AddMember, DropMember, Change}
 use Rattle.update_cert.specs.Cert.{Cert}
 use Rattle.update_cert.specs.Tables.{table_after, table_after_change, table_becomes, table_effect}
@@ -26,16 +22,19 @@ use Rattle.fork_consistency.proofs.Certificates.{IsReleased, all_before, one_mor
 -- ---- listings
 
 module _ (some : User → Type 0) (own_key : User → Key) where
-  -- a listing of one of these users has the user's own key
+  -- one of these users has its own key alone
+  abbrev MayHave : User → Key → Type 0
+  MayHave u k = some u → k ≡ own_key u
+
   abbrev IsOwn : Listing → Type 0
-  IsOwn l = some l.user → l.key ≡ own_key l.user
+  IsOwn = EachKey MayHave
 
   abbrev AddsOwn : Action Digest → Type 0
   AddsOwn (AddUser u k) = some u → k ≡ own_key u
   AddsOwn other = Unit {0}
 
   becomes : (n : Version) (a : Action Digest) (t : Table) → AddsOwn a → All IsOwn t.users → All IsOwn (table_becomes n a t).users
-  becomes n (AddUser u k) t own all = all_with_row nat_cmp listed_user nat_cmp_total IsOwn t.users (record { user = u; since = n; key = k }) own all
+  becomes n (AddUser u k) t own all = each_added MayHave n u k t own all
   becomes n (AddMember g u) t own all = all
   becomes n (DropMember g u) t own all = all
   becomes n (Make new) t own all = all
@@ -56,18 +55,6 @@ module _ (some : User → Type 0) (own_key : User → Key) where
   after_own u n [] t own all = all
   after_own u n (c ∷ cs) t own all =
       after_own u n cs (table_after_change u n c t) (All-tail (λ (d : Change Digest). AddsOwn d.action) c cs own) (one_change u n c t (All-head (λ (d : Change Digest). AddsOwn d.action) c cs own) all)
-
-  key_in : (ls : List Listing) (u : User) (k : Key) → some u → All IsOwn ls → option_map (λ (l : Listing). l.key) (find (λ (l : Listing). l.user == u) ls) ≡ Some k → k ≡ own_key u
-  key_in [] u k out all is = absurd (cc is)
-  key_in (l ∷ ls) u k out all is = go (l.user == u) refl is (key_in ls u k out (All-tail IsOwn l ls all))
-    where
-      go : (b : Bool) → (l.user == u) ≡ b → option_map (λ (x : Listing). x.key) (if b then Some l else find (λ (x : Listing). x.user == u) ls) ≡ Some k
-          → (option_map (λ (x : Listing). x.key) (find (λ (x : Listing). x.user == u) ls) ≡ Some k → k ≡ own_key u) → k ≡ own_key u
-      go true same at ih =
-          let one : l.key ≡ k = cc at in
-          let user = eqb-true l.user u same in
-          sym one ∙ All-head IsOwn l ls all (subst some (sym user) out) ∙ ap own_key user
-      go false other at ih = ih at
 
 gives : (some : User → Type 0) (keys : Keys) (a : Action Digest) → GivesOwnKeyOf some keys a → AddsOwn some (public_key keys) a
 gives some keys (AddUser u k) own = own
@@ -95,7 +82,7 @@ module _ (some : User → Type 0) (keys : Keys) (run : List Event) (is : IsRun k
   table_at n = tables_after (certificates_up_to n 0 run) (first_users (own_keys 0))
 
   lists_own : (n : ℕ) → HasAllUpTo n 0 run → All (IsOwn some own_keys) (table_at n).users
-  lists_own zero all = All-cons (IsOwn some own_keys) (record { user = 0; since = 0; key = own_keys 0 }) [] (λ out. refl) (All-nil (IsOwn some own_keys))
+  lists_own zero all = All-cons (IsOwn some own_keys) (record { user = 0; since = 0; key = own_keys 0; later = [] }) [] ((λ out. refl), All-nil (λ (r : Renewal). MayHave some own_keys 0 r.key)) (All-nil (IsOwn some own_keys))
   lists_own (suc n) all =
       let one : suc n ≡ n + 1 = omega arith in
       subst (λ (k : ℕ). All (IsOwn some own_keys) (table_at k).users) (sym one) (step (lists_own n) (all_before 0 run n (subst (λ (k : ℕ). HasAllUpTo k 0 run) one all)))
@@ -111,15 +98,16 @@ module _ (some : User → Type 0) (keys : Keys) (run : List Event) (is : IsRun k
               subst (λ (t : Table). All (IsOwn some own_keys) t.users)
               (sym (ap (λ (cs : List Cert). tables_after cs (first_users (own_keys 0))) (one_more 0 run n c at) ∙ tables_more (certificates_up_to n 0 run) c (first_users (own_keys 0)))) made
 
+  viewed : (x : View) → In x (views run) → All (IsOwn some own_keys) x.table.users
+  viewed x i = let w = view keys run is honest x i in subst (λ (t : Table). All (IsOwn some own_keys) t.users) (sym w.at.is) (lists_own w.number w.at.released)
+
   -- a view lists none of these users with a key but the own one
   pub own_key_listed : (x : View) → In x (views run) → (u : User) (k : Key) → some u → key_of u x.table ≡ Some k → k ≡ own_keys u
-  own_key_listed x i u k out at =
-      let w = view keys run is honest x i in
-      key_in some own_keys x.table.users u k out (subst (λ (t : Table). All (IsOwn some own_keys) t.users) (sym w.at.is) (lists_own w.number w.at.released)) at
+  own_key_listed x i u k out at = key_of_has (MayHave some own_keys) u x.table k (viewed x i) at out
 
   -- nor at whatever number of user 0's
   pub own_key_at : (x : View) → In x (views run) → (u : User) (v : Version) (k : Key) → some u → key_at u v x.table ≡ Some k → k ≡ own_keys u
-  own_key_at x i u v k out at = own_key_listed x i u k out (key_stays u v x.table k at)
+  own_key_at x i u v k out at = key_at_has (MayHave some own_keys) u x.table k (viewed x i) v at out
 
   pub list_own_keys : ListOwnKeysOf some keys run
   list_own_keys =

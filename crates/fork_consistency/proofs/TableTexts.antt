@@ -59,7 +59,7 @@ absent true e = absurd (cc e)
 absent false e = refl
 
 becomes_fits : (n : ℕ) (a : Action Digest) (t : Table) → version.Fits n → NamesFit a → alters a t ≡ true → NoneAfter n t → table.Fits t → table.Fits (table_becomes n a t)
-becomes_fits n (AddUser u k) t at names has none fits = listed_fits t.users t.rows (record { user = u; since = n; key = k }) fits names.0 at names.1 (absent (lists_user t u) has)
+becomes_fits n (AddUser u k) t at names has none fits = listed_fits t.users t.rows u n k fits names.0 at names.1 (absent (lists_user t u) has)
 becomes_fits n (AddMember g u) t at names has none fits =
     let one = and_parts (lists_user t u) (not (is_member_now t g u) && nat_lt (length t.rows) 65535) has in
     let two = and_parts (not (is_member_now t g u)) (nat_lt (length t.rows) 65535) one.1 in

@@ -5,13 +5,14 @@ use Rattle.layout.specs.Format.{whole}
 use Rattle.layout.specs.Laws.{whole_again}
 use Rattle.layout.specs.Types.{Bytes, Key}
 use Rattle.lms_sign.specs.Signature.{valid}
-use Rattle.principals.specs.Table.{Table, key_of}
+use Rattle.principals.specs.Table.{Table, key_at, key_of}
 use Rattle.version_order.specs.Structure.{Structure, structure}
 use Rattle.update_cert.specs.Cert.{Cert, cert}
 use Rattle.update_cert.specs.CertLaws.{lawful_cert}
 use Rattle.pending_list.specs.declared.signed.Signed.{Signed}
 use Rattle.pending_list.specs.Signed.{signed}
 use Rattle.pending_list.specs.SignedLaws.{lawful_signed}
+use Rattle.pending_list.specs.Groups.{table_version}
 use Rattle.pending_list.specs.Reply.{digest_of_last}
 use Rattle.wire.specs.declared.kinds.Status.TheVariants as status
 use Rattle.reply_rules.specs.Lists.{Lists}
@@ -31,16 +32,19 @@ use Rattle.honest_history.proofs.Reached.{reach, reached}
 use Rattle.honest_history.proofs.Replies.{each_reply}
 use Rattle.honest_dialogues.specs.Dialogue.{Keys, commit_by, update_by}
 use Rattle.honest_dialogues.specs.OneLine.{IsGoodCommit, IsGoodUpdate, known_to}
-use Rattle.honest_dialogues.proofs.OwnKeys.{AreOwn, own_key}
+use Rattle.honest_dialogues.proofs.OwnKeys.{AreOwn, own_key, own_key_at}
 use Rattle.honest_dialogues.proofs.Stages.{Free, IsDeclaredAt, IsSealedAt}
 
--- a text that is valid under the user's own key is so under the one that the table has of the user
+-- a text that is valid under the user's own key is so under one that the table has of the user
+under_own : (keys : Keys) (u : ℕ) (text signature : Bytes) (o : Option Key) → ((k : Key) → o ≡ Some k → k ≡ keys u) → valid (keys u) text signature ≡ true → IfSome o (λ key. valid key text signature ≡ true)
+under_own keys u text signature None own sign = tt
+under_own keys u text signature (Some k) own sign = subst (λ (key : Bytes). valid key text signature ≡ true) (sym (own k refl)) sign
+
 under_table : (keys : Keys) (t : Table) (u : ℕ) (text signature : Bytes) → AreOwn keys t → valid (keys u) text signature ≡ true → IfSome (key_of u t) (λ key. valid key text signature ≡ true)
-under_table keys t u text signature own sign = go (key_of u t) refl
-  where
-    go : (o : Option Key) → key_of u t ≡ o → IfSome o (λ key. valid key text signature ≡ true)
-    go None e = tt
-    go (Some k) e = subst (λ (key : Bytes). valid key text signature ≡ true) (sym (own_key keys t own u k e)) sign
+under_table keys t u text signature own sign = under_own keys u text signature (key_of u t) (own_key keys t own u) sign
+
+under_plan : (keys : Keys) (t : Table) (u v : ℕ) (text signature : Bytes) → AreOwn keys t → valid (keys u) text signature ≡ true → IfSome (key_at u v t) (λ key. valid key text signature ≡ true)
+under_plan keys t u v text signature own sign = under_own keys u text signature (key_at u v t) (own_key_at keys t own u v) sign
 
 module _ (keys : Keys) (naming : Naming) (history : List Call) (h : IsHonestHistory naming (keys 0) history) (own : AreOwn keys (table_after (keys 0) (events (keys 0) history))) where
   abbrev pinned : Key
@@ -98,12 +102,16 @@ module _ (keys : Keys) (naming : Naming) (history : List Call) (h : IsHonestHist
   -- ---- COMMIT
 
   module _ (vs : List View) (u : ℕ) (z : Signed Structure) (d : IsSealedAt keys naming es vs u z) where
+    under_key : valid (keys z.value.plan.user) (structure.spell z.value) z.signature ≡ true
+    under_key = ap (λ v. valid (keys v) (structure.spell z.value) z.signature) d.user_is ∙ d.is_signed
+
     pub is_sent : IsSent naming pinned es z
     is_sent =
         record {
           fits = d.fits;
           sent = elim d.sent [ inl k ↦ inl (ap (λ v. last_of v es) d.user_is ∙ k.0) | inr k ↦ inr k ];
-          signed = under_table keys (table_after pinned es) z.value.plan.user (structure.spell z.value) z.signature own (ap (λ v. valid (keys v) (structure.spell z.value) z.signature) d.user_is ∙ d.is_signed);
+          signed = under_table keys (table_after pinned es) z.value.plan.user (structure.spell z.value) z.signature own under_key;
+          planned = under_plan keys (table_after pinned es) z.value.plan.user (table_version z.value.plan) (structure.spell z.value) z.signature own under_key;
         }
 
     pub good_commit : IsGoodCommit keys history z

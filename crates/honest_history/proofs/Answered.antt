@@ -9,9 +9,8 @@ use Rattle.layout.specs.Format.{IsBytes, whole}
 use Rattle.layout.specs.Laws.{in_range, whole_again}
 use Rattle.layout.specs.Types.{Bytes, Key}
 use Rattle.lms_sign.specs.Signature.{valid}
-use Rattle.principals.specs.declared.table.Listing.{Listing}
-use Rattle.principals.specs.Table.{key_of, lists_user}
-use Rattle.principals.proofs.Keys.{key_stays}
+use Rattle.principals.specs.Table.{Listing, key_of, last_key, lists_user}
+use Rattle.principals.proofs.ListedKeys.{has_last}
 use Rattle.version_order.specs.Plan.{Plan, plan}
 use Rattle.version_order.specs.Structure.{Structure, structure}
 use Rattle.version_order.specs.StructureLaws.{lawful_structure}
@@ -24,12 +23,12 @@ use Rattle.pending_list.specs.SignedLaws.{lawful_signed}
 use Rattle.pending_list.specs.Reply.{PendingItem, digest_of_last, reply}
 use Rattle.wire.specs.declared.kinds.Status.TheVariants as status
 use Rattle.consistency_server.specs.Event.{Event, Placed, Committed, committed, last_of}
-use Rattle.consistency_server.specs.State.{Placement, State, next_item, next_placement, next_reply, pending_of, state_after}
+use Rattle.consistency_server.specs.State.{Placement, State, next_item, next_placement, next_reply, pending_of, state_after, table_after}
 use Rattle.consistency_server.specs.Answers.{Call, Outcome, Refused, Repeated, Happens, answer, at_limit, committing, happened, is_next, is_pending, outcome_of, placing_beside, read_commit, read_update, same_cert, same_plan, same_structure, structure_of, verified_commit, verified_update}
 use Rattle.consistency_server.specs.History.{answer_of, commit_of, events, update_of}
 use Rattle.agreement.proofs.Formed.{same_spelled}
 use Rattle.agreement.proofs.Members.{In, contains_in, in_contains, in-map}
-use Rattle.honest_history.specs.Honest.{AreHonest, IsHonest, Naming}
+use Rattle.honest_history.specs.Honest.{AreHonest, IsHonest, IsSignedByPlan, Naming}
 use Rattle.honest_history.specs.Served.{IsHonestHistory}
 use Rattle.honest_history.specs.Answered.{IsDeclared, IsSent, IsUpdateStatus}
 use Rattle.honest_history.proofs.Entries.{last_all, last_seen}
@@ -97,7 +96,7 @@ module _ (pinned : Key) (es : List Event) (c : Signed Cert) (g : Good pinned es)
   not_listed : key_of c.value.user state.table ≡ None → lists_user state.table c.value.user ≡ false
   not_listed e = go (find (λ l. l.user == c.value.user) state.table.users) refl e
     where
-      go : (o : Option Listing) → find (λ l. l.user == c.value.user) state.table.users ≡ o → option_map (λ l. l.key) o ≡ None → lists_user state.table c.value.user ≡ false
+      go : (o : Option Listing) → find (λ l. l.user == c.value.user) state.table.users ≡ o → option_map (λ l. last_key l.key l.later) o ≡ None → lists_user state.table c.value.user ≡ false
       go None f m = any_none (λ (l : Listing). l.user == c.value.user) state.table.users (find_nothing (λ (l : Listing). l.user == c.value.user) state.table.users f)
       go (Some l) f m = cc
 
@@ -158,13 +157,14 @@ module _ (naming : Naming) (pinned : Key) (es : List Event) (z : Signed Structur
         | inl last ↦ (
             let r = find_some (λ (y : Signed Structure). y.value.plan.user == z.value.plan.user) (committed es) z last in
             let s = g.signed z r.0 in
-            (s.0, key_stays z.value.plan.user _ now.table s.0 s.1))
+            has_last z.value.plan.user _ now.table s.0 s.1)
         | inr honest ↦ (
             let own = next_item (state_after pinned honest.earlier) honest.cert in
             let here = honest_open pinned es z.value naming g honest in
             let s = g.tabled.signed own here.0 in
             let of_user : own.cert.user ≡ z.value.plan.user = ap (λ (p : Plan). p.user) (sym honest.over.plan) in
-            (s.0, ap (λ u. key_of u now.table) (sym of_user) ∙ key_stays own.cert.user _ now.table s.0 s.1))
+            let last = has_last own.cert.user _ now.table s.0 s.1 in
+            (last.0, ap (λ u. key_of u now.table) (sym of_user) ∙ last.1))
       ]
 
   -- it comes to the test whether its operation is pending
@@ -196,9 +196,9 @@ commit_ok : (naming : Naming) (pinned : Key) (es : List Event) (z : Signed Struc
 commit_ok naming pinned es z o (inl e) = ap (λ o. (answer o).status) e.1
 commit_ok naming pinned es z o (inr e) = ap (λ o. (answer o).status) e.1
 
-commit_honest : (naming : Naming) (pinned : Key) (es : List Event) (z : Signed Structure) (o : Outcome) → AreHonest naming pinned es → Commits naming pinned es z o → AreHonest naming pinned (happened o ++ es)
-commit_honest naming pinned es z o h (inl e) = subst (λ o. AreHonest naming pinned (happened o ++ es)) (sym e.1) h
-commit_honest naming pinned es z o h (inr e) = subst (λ o. AreHonest naming pinned (happened o ++ es)) (sym e.1) (e.0, h)
+commit_honest : (naming : Naming) (pinned : Key) (es : List Event) (z : Signed Structure) (o : Outcome) → IsSignedByPlan (table_after pinned es) z → AreHonest naming pinned es → Commits naming pinned es z o → AreHonest naming pinned (happened o ++ es)
+commit_honest naming pinned es z o planned h (inl e) = subst (λ o. AreHonest naming pinned (happened o ++ es)) (sym e.1) h
+commit_honest naming pinned es z o planned h (inr e) = subst (λ o. AreHonest naming pinned (happened o ++ es)) (sym e.1) (e.0, planned, h)
 
 update_honest : (naming : Naming) (pinned : Key) (es : List Event) (text : Bytes) → AreHonest naming pinned es → AreHonest naming pinned (happened (read_update (state_after pinned es) (whole (signed cert) text)) ++ es)
 update_honest naming pinned es text h =
@@ -236,7 +236,7 @@ module _ (naming : Naming) (pinned : Key) (history : List Call) (h : IsHonestHis
       record {
         first = h.first;
         bytes = All-cons (λ call. IsBytes call.text) (commit_of ((signed structure).spell z)) history bytes h.bytes;
-        honest = commit_honest naming pinned es z (outcome_of (state_after pinned es) (commit_of ((signed structure).spell z))) h.honest (commit_goes naming pinned es z good fits d);
+        honest = commit_honest naming pinned es z (outcome_of (state_after pinned es) (commit_of ((signed structure).spell z))) d.planned h.honest (commit_goes naming pinned es z good fits d);
       }
 
 pub each_commit : (naming : Naming) (pinned : Key) (history : List Call) → IsHonestHistory naming pinned history → (z : Signed Structure) → IsSent naming pinned (events pinned history) z → (answer_of pinned history (commit_of ((signed structure).spell z))).status ≡ status.Ok

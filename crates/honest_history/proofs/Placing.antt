@@ -24,7 +24,7 @@ use Rattle.honest_history.proofs.Events.{entries_all, entries_from, latests_afte
 use Rattle.honest_history.proofs.Good.{Good, in_pending, is_committed, is_of, is_open, item_of, items, one_waits, pending, pending_in}
 use Rattle.honest_history.proofs.Members.{any_none, find_nothing, find_some, reverse_cons}
 use Rattle.honest_history.proofs.Tabled.{IsBefore, IsStructureSigned, RecordsOf, Tabled, are_before, raised_stay, structure_stays, tabled_next}
-use Rattle.honest_history.proofs.Tables.{key_for, key_kept}
+use Rattle.honest_history.proofs.Tables.{key_for, super_stays}
 use Rattle.honest_history.proofs.Timeline.{Next, latest_next, next_depth, number, place, placing_next, user, version}
 use Rattle.honest_history.proofs.Tops.{Snapshot}
 
@@ -157,7 +157,7 @@ module _ (pinned : List ℕ) (es : List Event) (c : Signed Cert) (g : Good pinne
         tabled = tabled_next table is v x g.latest next g.tabled g.same refl p.key p.has p.signed;
         descending = (λ j h. deeper_new j h, g.descending);
         signed = signed_next;
-        super_key = λ n. key_kept c.value table 0 n pinned (g.super_key n);
+        super_key = λ n. super_stays c.value table n pinned (g.super_key n);
         recorded = recorded_next;
         waiting = map-append item_of (pending_after pinned es) (next_placement (state_after pinned es) c ∷ []) ∙ waiting_next;
       }

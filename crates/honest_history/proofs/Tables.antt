@@ -11,10 +11,10 @@ use Rattle.std.proofs.lemmas.List.Elements.{All-cons, All-nil, All-weaker}
 use Rattle.layout.specs.Ascending.{with_row}
 use Rattle.layout.specs.AscendingKeys.{key_test}
 use Rattle.layout.specs.AscendingLaws.{all_with_row}
-use Rattle.principals.specs.declared.table.Listing.{Listing}
+use Rattle.principals.specs.declared.table.Renewal.{Renewal}
 use Rattle.principals.specs.declared.table.Row.{Row}
-use Rattle.principals.specs.Table.{Table, counts_at, ended, genesis, is_listed, is_member, is_open, is_row_of, key_at, listed_key_at, lists_user, user_of}
-use Rattle.principals.proofs.Keys.{key_since}
+use Rattle.principals.specs.Table.{Listing, Table, counts_at, ended, genesis, is_listed, is_member, is_open, is_row_of, key_at, listed_key_at, lists_user, user_of}
+use Rattle.principals.proofs.ListedKeys.{IsBy, key_since}
 use Rattle.update_cert.specs.Change.{Action, Make, Put, Remove, Link, Unlink, AddUser, AddMember, DropMember, Change}
 use Rattle.update_cert.specs.Tables.{alters, table_after, table_after_change, table_becomes, table_effect}
 use Rattle.update_cert.specs.Cert.{Cert}
@@ -128,7 +128,7 @@ listed_becomes n u v (Put new) t e h = h
 listed_becomes n u v Remove t e h = h
 listed_becomes n u v (Link entry) t e h = h
 listed_becomes n u v (Unlink name) t e h = h
-listed_becomes n u v (AddUser w key) t e h = any_with (λ l. (l.user == u) && nat_le l.since v) t.users (record { user = w; since = n; key = key }) h (not-true (lists_user t w) e)
+listed_becomes n u v (AddUser w key) t e h = any_with (λ l. (l.user == u) && nat_le l.since v) t.users (record { user = w; since = n; key = key; later = [] }) h (not-true (lists_user t w) e)
 listed_becomes n u v (AddMember g w) t e h = h
 listed_becomes n u v (DropMember g w) t e h = h
 
@@ -145,12 +145,12 @@ listed_later m n u t le e =
 
 -- ---- since when users are listed
 
--- each user is listed since this number or before
+-- each user is listed since this number or before, and its keys came by it
 abbrev pub Since : ℕ → Table → Type 0
-Since n t = All (λ l. l.since ≤ n) t.users
+Since n t = All (IsBy n) t.users
 
 pub since_first : (key : List ℕ) → Since 0 (genesis key)
-since_first key = All-cons (λ l. l.since ≤ 0) (record { user = 0; since = 0; key = key }) [] (omega arith) (All-nil (λ l. l.since ≤ 0))
+since_first key = All-cons (IsBy 0) (record { user = 0; since = 0; key = key; later = [] }) [] (omega arith, All-nil (λ (r : Renewal). r.since ≤ 0)) (All-nil (IsBy 0))
 
 since_becomes : (n : ℕ) (a : Action (List ℕ)) (t : Table) → Since n t → Since n (table_becomes n a t)
 since_becomes n (Make new) t h = h
@@ -158,20 +158,23 @@ since_becomes n (Put new) t h = h
 since_becomes n Remove t h = h
 since_becomes n (Link entry) t h = h
 since_becomes n (Unlink name) t h = h
-since_becomes n (AddUser w key) t h = all_with_row nat_cmp user_of nat_cmp_total (λ l. l.since ≤ n) t.users (record { user = w; since = n; key = key }) (omega arith) h
+since_becomes n (AddUser w key) t h = all_with_row nat_cmp user_of nat_cmp_total (IsBy n) t.users (record { user = w; since = n; key = key; later = [] }) (omega arith, All-nil (λ (r : Renewal). r.since ≤ n)) h
 since_becomes n (AddMember g w) t h = h
 since_becomes n (DropMember g w) t h = h
+
+by_later : (l : Listing) (m n : ℕ) → m ≤ n → IsBy m l → IsBy n l
+by_later l m n le by = (omega (arith, le, by.0), All-weaker (λ (r : Renewal). r.since ≤ m) (λ (r : Renewal). r.since ≤ n) (λ r k. omega (arith, le, k)) l.later by.1)
 
 -- and after an operation since its number, where it is user 0's
 pub since_after : (c : Cert) (t : Table) (m n : ℕ) → m ≤ n → (c.user ≡ 0 → c.number ≡ n) → Since m t → Since n (after_operation c t)
 since_after c t m n le number h =
-    all_keep (Since n) c.user c.number (λ zero a w e old. subst (λ k. Since n (table_becomes k a w)) (sym (number zero)) (since_becomes n a w old)) c.changes t (All-weaker (λ l. l.since ≤ m) (λ l. l.since ≤ n) (λ l k. omega arith) t.users h)
+    all_keep (Since n) c.user c.number (λ zero a w e old. subst (λ k. Since n (table_becomes k a w)) (sym (number zero)) (since_becomes n a w old)) c.changes t (All-weaker (IsBy m) (IsBy n) (λ l k. by_later l m n le k) t.users h)
 
 -- who is listed is so since the last number or before
 pub listed_since : (n u : ℕ) (t : Table) → Since n t → lists_user t u ≡ true → is_listed t u n ≡ true
 listed_since n u t h e =
     let r = any_in (λ (l : Listing). l.user == u) t.users e in
-    any_from (λ (l : Listing). (l.user == u) && nat_le l.since n) t.users r.0 r.1 (and_from _ _ r.2 (le-leb (r.0).since n (of_all (λ (l : Listing). l.since ≤ n) t.users h r.0 r.1)))
+    any_from (λ (l : Listing). (l.user == u) && nat_le l.since n) t.users r.0 r.1 (and_from _ _ r.2 (le-leb (r.0).since n (of_all (IsBy n) t.users h r.0 r.1).0))
 
 -- ---- keys
 
@@ -181,7 +184,7 @@ key_for t user version = key_at user version t
 
 -- user 0 has its key from the beginning on
 pub first_key : (key : List ℕ) (v : ℕ) → key_for (genesis key) 0 v ≡ Some key
-first_key key v = key_since 0 v (genesis key) (All-cons (λ l. l.since ≤ v) (record { user = 0; since = 0; key = key }) [] (omega arith) (All-nil (λ l. l.since ≤ v)))
+first_key key v = key_since 0 v (genesis key) (All-cons (IsBy v) (record { user = 0; since = 0; key = key; later = [] }) [] (omega arith, All-nil (λ (r : Renewal). r.since ≤ v)) (All-nil (IsBy v)))
 
 pub key_listed : (t : Table) (u v : ℕ) (k : List ℕ) → key_for t u v ≡ Some k → lists_user t u ≡ true
 key_listed t u v k h = go (find (λ l. l.user == u) t.users) refl h
@@ -199,14 +202,17 @@ key_becomes n u v k (Unlink name) t e h = h
 key_becomes n u v k (AddUser w key) t e h =
     let none : lists_user t w ≡ false = not-true (lists_user t w) e in
     let other : (w == u) ≡ false = ne_eqb w u (λ same. true≢false (sym (key_listed t u v k h) ∙ ap (lists_user t) (sym same) ∙ none)) in
-    ap (option_and_then (listed_key_at v)) (find_with (λ l. l.user == u) t.users (record { user = w; since = n; key = key }) other none) ∙ h
+    ap (option_and_then (listed_key_at v)) (find_with (λ l. l.user == u) t.users (record { user = w; since = n; key = key; later = [] }) other none) ∙ h
 key_becomes n u v k (AddMember g w) t e h = h
 key_becomes n u v k (DropMember g w) t e h = h
 
--- a user has one key, so an operation leaves the keys
-pub key_kept : (c : Cert) (t : Table) (u v : ℕ) (k : List ℕ) → key_for t u v ≡ Some k → key_for (after_operation c t) u v ≡ Some k
+key_kept : (c : Cert) (t : Table) (u v : ℕ) (k : List ℕ) → key_for t u v ≡ Some k → key_for (after_operation c t) u v ≡ Some k
 key_kept c t u v k h = all_keep (λ w. key_for w u v ≡ Some k) c.user c.number (λ zero a w e. key_becomes c.number u v k a w e) c.changes t h
 
 -- an operation of user 0 leaves the keys for numbers before its own
 pub key_stays : (c : Cert) (t : Table) (u v : ℕ) (k : List ℕ) → (c.user ≡ 0 → v < c.number) → key_for t u v ≡ Some k → key_for (after_operation c t) u v ≡ Some k
 key_stays c t u v k below h = key_kept c t u v k h
+
+-- and user 0 has one key for good
+pub super_stays : (c : Cert) (t : Table) (v : ℕ) (k : List ℕ) → key_for t 0 v ≡ Some k → key_for (after_operation c t) 0 v ≡ Some k
+super_stays c t v k h = key_kept c t 0 v k h

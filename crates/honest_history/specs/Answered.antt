@@ -16,7 +16,7 @@ use Rattle.consistency_server.specs.Event.{Event, last_of}
 use Rattle.consistency_server.specs.State.{Placement, pending_after, state_after, table_after}
 use Rattle.consistency_server.specs.Answers.{Call, at_limit, cert_of}
 use Rattle.consistency_server.specs.History.{answer_of, commit_of, events, update_of}
-use Rattle.honest_history.specs.Honest.{IsHonest, Naming, number_in}
+use Rattle.honest_history.specs.Honest.{IsHonest, IsSignedByPlan, Naming, number_in}
 use Rattle.honest_history.specs.Served.{IsHonestHistory}
 
 -- The certificate is one that an honest client declares whose last structure the server took last of the user: the
@@ -31,12 +31,14 @@ pub record IsDeclared (pinned : Key) (es : List Event) (c : Signed Cert) : Type 
       → cert_of w.item ≡ c
 
 -- The structure is one that an honest client sends: the one that the server took last of the user, or one over the
--- reply to the user's pending operation, signed under the key that the table has of the user.
+-- reply to the user's pending operation, signed under the key that the table has of the user, also at the number of its
+-- plan.
 pub record IsSent (naming : Naming) (pinned : Key) (es : List Event) (z : Signed Structure) : Type 0 where
   pub fits : (signed structure).Fits z
   pub sent : (last_of z.value.plan.user es ≡ Some z) ⊎ IsHonest naming pinned es z.value
   pub signed : IfSome (key_of z.value.plan.user (table_after pinned es))
       (λ key. valid key (structure.spell z.value) z.signature ≡ true)
+  pub planned : IsSignedByPlan (table_after pinned es) z
 
 -- success; or the user isn't listed; or one of the versions that the operation raises can grow no further
 abbrev pub IsUpdateStatus : Key → List Event → Cert → Status → Type 0

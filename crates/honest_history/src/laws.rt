@@ -5,9 +5,10 @@ ghost use Rattle.honest_history.specs.Answered.{EachUpdateIsAnswered, EachUpdate
 ghost use Rattle.honest_history.specs.OneLine.{EachLineIsPlaced};
 ghost use Rattle.honest_history.specs.Served.{EachReplyIsUnbroken};
 
-/// Where each structure that a server took is one that an honest client signs over the reply to its own operation, no
-/// reply of UPDATE breaks a rule on replies, lists, signatures or the table of principals, however the operations of
-/// its users lie in each other. Nothing is assumed of digests and signatures.
+/// Where each structure that a server took is one that an honest client signs over the reply to its own operation,
+/// under the key that the table has of its user at the number of its plan, no reply of UPDATE breaks a rule on replies,
+/// lists, signatures or the table of principals, however the operations of its users lie in each other. Nothing is
+/// assumed of digests and signatures.
 pub fn replies_are_unbroken()
     ensures { EachReplyIsUnbroken }
 {}

@@ -1,11 +1,11 @@
 -- What is changed at a number that is no less than those before still has a text.
 use Rattle.std.proofs.Common.{◌≡◌, ◌≢◌, ℕ, ◌+◌, ◌-◌, ◌<◌, ◌≤◌, Bool, true, false, cond, ◌||◌, ◌⊎◌, List, [], ◌∷◌, ◌++◌, length, Option, Some, None, refl, sym, ap, subst, ◌∙◌, append_assoc, inl, inr, arith, map}
-use Rattle.std.specs.Prelude.{◌==◌, is_some, nat_le}
+use Rattle.std.specs.Prelude.{◌==◌, is_none, is_some, nat_le, slice_index_or}
 use Rattle.std.specs.Int.{w8, w16, w32}
-use Rattle.std.specs.List.{All, list_any, slice_get}
+use Rattle.std.specs.List.{All, list_any, slice_get, slice_set}
 use Rattle.std.specs.Option.{option_map, option_map_or}
 use Rattle.std.specs.Ordering.{nat_cmp, is_eq}
-use Rattle.std.proofs.lemmas.Bool.{eq-eqb, ne_eqb, cases_eq, le-leb}
+use Rattle.std.proofs.lemmas.Bool.{eq-eqb, ne_eqb, cases_eq, false≢true, le-leb, lt-ltb}
 use Rattle.std.proofs.lemmas.Cmp.{nat_cmp_total}
 use Rattle.std.proofs.lemmas.List.{append-nil, length-append, length-map, map-append}
 use Rattle.std.proofs.lemmas.List.Elements.{All-head, All-tail}
@@ -13,15 +13,19 @@ use Rattle.std.proofs.lemmas.Option.{slice_get-map, slice_get_cases}
 use Rattle.layout.specs.Format.{FitRows, uint_in}
 use Rattle.layout.specs.Laws.{in_range, in_range_fits}
 use Rattle.layout.specs.Ranges.{user, group, version}
-use Rattle.layout.specs.Ascending.{row_at, with_row}
+use Rattle.layout.specs.Ascending.{Stands, row_at, with_row}
 use Rattle.layout.specs.AscendingLaws.{row_at-with_row}
-use Rattle.principals.specs.declared.table.Listing.{Listing}
 use Rattle.principals.specs.declared.table.Row.{Row}
-use Rattle.principals.specs.Table.{user_of, lists_user, is_open, is_member_now, ended}
-use Rattle.principals.specs.TableText.{key, users, row, member_rows, last_begins, may_end, table}
+use Rattle.principals.specs.Table.{Listing, user_of, lists_user, is_open, is_member_now, ended, key_refused, key_set, last_since, listing_refused, user_added, with_later}
+use Rattle.principals.specs.TableText.{key, users, renewals, row, member_rows, last_begins, may_end, table}
 use Rattle.principals.proofs.Parts.{made}
-use Rattle.principals.proofs.Users.{fits_added, found_is, lists_is, positive, with_first}
+use Rattle.principals.specs.Kept.{AreUsers}
+use Rattle.principals.proofs.Users.{are_users, each_new, first_stays, fits_added, found_is, have_text, listed_none, lists_is, may_renew, positive, refused_listed, refused_super, refused_unlisted, row_fits, row_renewed, with_row_is}
 use Rattle.principals.proofs.MarksLaws.{others_open}
+
+not_refused : {X : Type 0} (o : Option X) → is_none o ≡ true → o ≡ None
+not_refused None e = refl
+not_refused (Some x) e = absurd cc
 
 -- ---- more users
 
@@ -55,11 +59,14 @@ neither true b e = absurd (cc e)
 neither false b e = refl
 
 -- a user is listed that wasn't
-pub listed_fits : (us : List Listing) (rows : List Row) (l : Listing) → table.Fits (made us rows) → user.Fits l.user → version.Fits l.since → key.Fits l.key → lists_user (made us rows) l.user ≡ false → table.Fits (made (with_row nat_cmp user_of us l) rows)
-listed_fits [] rows l fits u n k none = absurd (let range = in_range w8 1 255 0 fits.0.0 in omega (arith, range.0))
-listed_fits (s ∷ os) rows l fits u n k none =
-    let above = positive s os l.user fits.0 (neither (s.user == l.user) (list_any (λ x. x.user == l.user) os) none) in
-    subst (λ (us : List Listing). table.Fits (made us rows)) (sym (with_first s os l fits.0 above)) (user_fits s os rows l fits (fits_added s os l fits.0 (u, n, k) above))
+pub listed_fits : (us : List Listing) (rows : List Row) (u n : ℕ) (k : List ℕ) → table.Fits (made us rows) → user.Fits u → version.Fits n → key.Fits k → lists_user (made us rows) u ≡ false → table.Fits (user_added n u k (made us rows))
+listed_fits [] rows u n k fits by at of none = absurd (let range = in_range w8 1 255 0 (are_users [] fits.0).count in omega (arith, range.0))
+listed_fits (s ∷ os) rows u n k fits by at of none =
+    let l : Listing = record { user = u; since = n; key = k; later = [] } in
+    let are = are_users (s ∷ os) fits.0 in
+    let above = positive s os u are (neither (s.user == u) (list_any (λ x. x.user == u) os) none) in
+    let text = have_text (s ∷ with_row nat_cmp user_of os l) (fits_added s os l are (each_new u n k by at of) above) in
+    subst (λ (us : List Listing). table.Fits (made us rows)) (sym (first_stays s os l are above)) (user_fits s os rows l fits text)
 
 -- ---- one more row
 
@@ -144,3 +151,42 @@ pub drop_fits : (us : List Listing) (rows : List Row) (n g u : ℕ) → table.Fi
 drop_fits us rows n g u fits positive wide order =
     let long : length rows ≡ length (map (ended n g u) rows) = sym (length-map rows (ended n g u)) in
     (fits.0, (subst (λ k. (uint_in w16 0 65535).Fits k) long fits.1.0, (refl, rows_ended us [] rows n g u positive wide order fits.1.1.1)))
+
+-- ---- one more key
+
+row_renewed_fits : (s : Listing) (os : List Listing) (rows : List Row) (u n : ℕ) (k : List ℕ) (l : Listing) → (are : AreUsers (s ∷ os)) → row_at nat_cmp user_of os u ≡ Some l → 0 < u → length l.later < 15 → (renewals.row l).Fits (record { since = n; key = k })
+    → table.Fits (made (s ∷ os) rows) → table.Fits (made (s ∷ with_row nat_cmp user_of os (with_later (record { since = n; key = k }) l)) rows)
+row_renewed_fits s os rows u n k l are at more few one fits =
+    let new = with_later (record { since = n; key = k }) l in
+    user_fits s os rows new fits (have_text (s ∷ with_row nat_cmp user_of os new) (row_fits s os u n k l are at more few one))
+
+pub renewed_fits : (s : Listing) (os : List Listing) (rows : List Row) (u n i : ℕ) (k : List ℕ) (d : Listing) → (are : AreUsers (s ∷ os)) → (stands : Stands nat_cmp user_of os u i) → (more : 0 < u) → length (slice_index_or os i d).later < 15
+    → (renewals.row (slice_index_or os i d)).Fits (record { since = n; key = k }) → table.Fits (made (s ∷ os) rows) → table.Fits (made (s ∷ slice_set os i (with_later (record { since = n; key = k }) (slice_index_or os i d))) rows)
+renewed_fits s os rows u n i k d are stands more few one fits =
+    subst (λ (xs : List Listing). table.Fits (made (s ∷ xs) rows)) (sym (with_row_is s os u n i k are stands more d))
+    (row_renewed_fits s os rows u n k (slice_index_or os i d) are (stands.found d) more few one fits)
+
+-- a user's key is set where that isn't refused
+pub set_fits : (us : List Listing) (rows : List Row) (u n : ℕ) (k : List ℕ) → table.Fits (made us rows) → version.Fits n → key.Fits k → is_none (key_refused (made us rows) u n) ≡ true → table.Fits (key_set n u k (made us rows))
+set_fits [] rows u n k fits at of may = absurd (let range = in_range w8 1 255 0 (are_users [] fits.0).count in omega (arith, range.0))
+set_fits (s ∷ os) rows u n k fits at of may = go (s.user == u) refl
+  where
+    are : AreUsers (s ∷ os)
+    are = are_users (s ∷ os) fits.0
+
+    set : (l : Listing) → 0 < u → row_at nat_cmp user_of os u ≡ Some l → table.Fits (key_set n u k (made (s ∷ os) rows))
+    set l more here =
+        let free : listing_refused n l ≡ None = not_refused (listing_refused n l) (sym (ap is_none (refused_listed s os rows u n l are more here)) ∙ may) in
+        let room = may_renew n l free in
+        let one : (renewals.row l).Fits (record { since = n; key = k }) = ((at, lt-ltb (last_since l.since l.later) n room.1), of) in
+        subst (λ (us : List Listing). table.Fits (made us rows)) (row_renewed s os u n k l are here more) (row_renewed_fits s os rows u n k l are here more room.0 one fits)
+
+    listed : 0 < u → (o : Option Listing) → row_at nat_cmp user_of os u ≡ o → table.Fits (key_set n u k (made (s ∷ os) rows))
+    listed more None here =
+        absurd (false≢true (sym (ap is_none (refused_unlisted s os rows u n are more (listed_none os u here))) ∙ may))
+    listed more (Some l) here = set l more here
+
+    go : (b : Bool) → (s.user == u) ≡ b → table.Fits (key_set n u k (made (s ∷ os) rows))
+    go true same =
+        absurd (false≢true (sym (ap is_none (refused_super s os rows u n are same)) ∙ may))
+    go false apart = listed (positive s os u are apart) (row_at nat_cmp user_of os u) refl

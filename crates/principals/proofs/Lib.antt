@@ -1,8 +1,11 @@
 mod Bools
 pub mod FitLaws
 mod InTurn
-pub mod Keys
+pub mod KeyLaws
+mod KeysRead
+mod LastKeys
 mod LineLaws
+pub mod ListedKeys
 mod MarksLaws
 mod OpenLaws
 pub mod Parts

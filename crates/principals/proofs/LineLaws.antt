@@ -6,7 +6,7 @@ use Rattle.std.proofs.lemmas.Bool.{lt-ltb, le-ltb, le-leb, lt-leb, cases_lt}
 use Rattle.std.proofs.lemmas.List.Folds.{list_any-append}
 use Rattle.principals.specs.declared.table.Row.{Row}
 use Rattle.principals.specs.Table.{Table, genesis, is_row_of, is_open, counts_at, is_member, is_member_now, ended}
-use Rattle.principals.specs.Line.{TableChange, AddUser, AddMember, DropMember, Step, effect, refused, after_step, after_line, InOrder, up_to}
+use Rattle.principals.specs.Line.{TableChange, AddUser, AddMember, DropMember, SetKey, Step, effect, refused, after_step, after_line, InOrder, up_to}
 use Rattle.principals.proofs.Bools.{both, and_false, or_false, or_true}
 
 -- ---- a later operation changes no membership at an earlier version
@@ -33,6 +33,7 @@ later_ends n h w g u v (r ∷ rs) lt = rw (later_end n h w g u v r lt (is_open h
 
 later_effect : (n : ℕ) (c : TableChange) (t : Table) (g u v : ℕ) → v < n → is_member (effect n c t) g u v ≡ is_member t g u v
 later_effect n (AddUser x key) t g u v lt = refl
+later_effect n (SetKey x key) t g u v lt = refl
 later_effect n (AddMember h w) t g u v lt =
     let new : Row = record { group = h; user = w; begins = n; until = 0 } in
     list_any-append (test g u v) t.rows (new ∷ []) ∙ rw (later_row g u v new lt) (or_false (list_any (test g u v) t.rows))
@@ -43,7 +44,7 @@ either f true x y e = e
 either f false x y e = refl
 
 pub later_step : (s : Step) (t : Table) (g u v : ℕ) → v < s.number → is_member (after_step s t) g u v ≡ is_member t g u v
-later_step s t g u v lt = either (λ (x : Table). is_member x g u v) (is_none (refused s.change t)) (effect s.number s.change t) t (later_effect s.number s.change t g u v lt)
+later_step s t g u v lt = either (λ (x : Table). is_member x g u v) (is_none (refused s.number s.change t)) (effect s.number s.change t) t (later_effect s.number s.change t g u v lt)
 
 later_line : (ss : List Step) (n : ℕ) (t : Table) (g u v : ℕ) → InOrder n ss → v < n → is_member (after_line ss t) g u v ≡ is_member t g u v
 later_line [] n t g u v order lt = refl
@@ -70,6 +71,7 @@ within_ends n h w v (r ∷ rs) le within = (within_end n h w v r le within.0.0 w
 
 within_effect : (n : ℕ) (c : TableChange) (t : Table) (v : ℕ) → n ≤ v → Within v t.rows → Within v (effect n c t).rows
 within_effect n (AddUser x key) t v le within = within
+within_effect n (SetKey x key) t v le within = within
 within_effect n (AddMember h w) t v le within = within_more v t.rows (record { group = h; user = w; begins = n; until = 0 }) le (omega arith) within
 within_effect n (DropMember h w) t v le within = within_ends n h w v t.rows le within
 
@@ -78,7 +80,7 @@ within_either v true x y one other = one
 within_either v false x y one other = other
 
 within_step : (s : Step) (t : Table) (v : ℕ) → s.number ≤ v → Within v t.rows → Within v (after_step s t).rows
-within_step s t v le within = within_either v (is_none (refused s.change t)) (effect s.number s.change t) t (within_effect s.number s.change t v le within) within
+within_step s t v le within = within_either v (is_none (refused s.number s.change t)) (effect s.number s.change t) t (within_effect s.number s.change t v le within) within
 
 now_row : (g u v : ℕ) (r : Row) → r.begins ≤ v → r.until ≤ v → test g u v r ≡ is_open g u r
 now_row g u v r begins until =

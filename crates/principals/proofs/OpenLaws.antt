@@ -5,9 +5,8 @@ use Rattle.std.specs.List.{list_any}
 use Rattle.std.proofs.lemmas.Bool.{eqb-true}
 use Rattle.std.proofs.lemmas.List.{append-nil}
 use Rattle.layout.specs.Format.{FitRows}
-use Rattle.principals.specs.declared.table.Listing.{Listing}
 use Rattle.principals.specs.declared.table.Row.{Row}
-use Rattle.principals.specs.Table.{Table, is_row_of, is_open}
+use Rattle.principals.specs.Table.{Listing, Table, is_row_of, is_open}
 use Rattle.principals.specs.TableText.{member_rows, may_end, table}
 use Rattle.principals.proofs.Parts.{made}
 use Rattle.principals.proofs.Bools.{both, not_true}

@@ -1,11 +1,21 @@
 -- Nobody has to believe this file: no public contract names it.
 -- What the code keeps beside a table: which pairs of a group and a user have an open row.
-use Rattle.std.specs.Prelude.{◌≡◌, ℕ, ◌+◌, ◌*◌, ◌-◌, ◌≤◌, ◌<◌, Bool, false, List, ◌∷◌, length, slice_index_or}
+use Rattle.std.specs.Prelude.{◌≡◌, ℕ, ◌+◌, ◌*◌, ◌-◌, ◌≤◌, ◌<◌, Bool, false, List, ◌∷◌, length, None, slice_index_or}
+use Rattle.std.specs.Int.{w8}
 use Rattle.std.specs.List.{list_any}
-use Rattle.principals.specs.declared.table.Listing.{Listing}
+use Rattle.layout.specs.Format.{FitRows, RowAfter, after_row, uint_in}
 use Rattle.principals.specs.declared.table.Row.{Row}
-use Rattle.principals.specs.Table.{is_open}
-use Rattle.principals.specs.TableText.{users}
+use Rattle.principals.specs.Table.{Listing, is_open}
+use Rattle.principals.specs.TableText.{listing_by, may_have}
+
+-- a user after another one, with any keys
+abbrev pub any_listing : RowAfter Listing
+any_listing before = listing_by before (may_have before)
+
+-- users that have a text, whether one has more than one key or not
+pub record AreUsers (users : List Listing) : Type 0 where
+  pub count : (uint_in w8 1 255).Fits (length users)
+  pub rows : FitRows (after_row any_listing) None users
 
 -- where a pair stands among all pairs
 abbrev pub slot : ℕ → ℕ → ℕ
@@ -18,6 +28,6 @@ pub record Marks (marks : List Bool) (rows : List Row) : Type 0 where
 
 -- a table's parts
 pub record IsKept (superuser : Listing) (others : List Listing) (rows : List Row) (marks : List Bool) : Type 0 where
-  pub listed : users.Fits (superuser ∷ others)
+  pub listed : AreUsers (superuser ∷ others)
   pub few : length rows ≤ 65535
   pub marked : Marks marks rows

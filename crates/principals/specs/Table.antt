@@ -1,14 +1,21 @@
--- The table of principals: who is a user, since when and by which key, and who is a member of which group.
+-- The table of principals: who is a user, since when and by which keys, and who is a member of which group.
 use Rattle.std.specs.Prelude.{◌≡◌, ◌⊎◌, Bool, not, List, [], ◌∷◌, ◌++◌, length, Option, Some, None, Result, Ok, Err, ◌==◌, ◌&&◌, ◌||◌, nat_lt, nat_le, find, map, if◌then◌else◌}
 use Rattle.std.specs.List.{list_any}
-use Rattle.std.specs.Option.{option_and_then, option_map}
+use Rattle.std.specs.Option.{option_map, option_and_then}
 use Rattle.std.specs.Ordering.{nat_cmp}
 use Rattle.layout.specs.Ascending.{with_row}
 use Rattle.layout.specs.Types.{Group, Key, Principal, User, Version}
 use Rattle.principals.specs.declared.error.TableError.{TableError}
-use Rattle.principals.specs.declared.error.TableError.TheVariants.{Listed, Unlisted, NotGroup, NotMember, Full, Memory}
-use Rattle.principals.specs.declared.table.Listing.{Listing}
+use Rattle.principals.specs.declared.error.TableError.TheVariants.{Listed, Unlisted, NotGroup, NotMember, Full, Memory, Pinned, KeysFull, TooSoon}
+use Rattle.principals.specs.declared.table.Renewal.{Renewal}
 use Rattle.principals.specs.declared.table.Row.{Row}
+
+-- a user, listed at a number of user 0's with a key; and the keys that came later, in the order of their numbers
+pub record Listing : Type 0 where
+  pub user : User
+  pub since : Version
+  pub key : Key
+  pub later : List Renewal
 
 -- the users, ascending, and the rows of the members, in the order of writing
 pub record Table : Type 0 where
@@ -17,7 +24,7 @@ pub record Table : Type 0 where
 
 -- the table of the beginning: user 0, since 0, with the key that every client knows; nobody is a member of a group
 abbrev pub genesis : Key → Table
-genesis key = record { users = record { user = 0; since = 0; key = key } ∷ []; rows = [] }
+genesis key = record { users = record { user = 0; since = 0; key = key; later = [] } ∷ []; rows = [] }
 
 -- ---- users
 
@@ -25,14 +32,30 @@ genesis key = record { users = record { user = 0; since = 0; key = key } ∷ [];
 abbrev pub listing_of : User → Table → Option Listing
 listing_of user table = find (λ l. l.user == user) table.users
 
+-- the last of a first key and of those that came later
+abbrev pub last_key : Key → List Renewal → Key
+last_key key [] = key
+last_key key (r ∷ rs) = last_key r.key rs
+
+-- and since when it is
+abbrev pub last_since : Version → List Renewal → Version
+last_since since [] = since
+last_since since (r ∷ rs) = last_since r.since rs
+
+-- the key that came last
 abbrev pub key_of : User → Table → Option Key
-key_of user table = option_map (λ l. l.key) (listing_of user table)
+key_of user table = option_map (λ l. last_key l.key l.later) (listing_of user table)
 
--- the key of a listing, where it is since this number of user 0's or before
+-- the last of these keys that came at this number of user 0's or before; the one before them where none did
+abbrev pub key_by : Version → Option Key → List Renewal → Option Key
+key_by version before [] = before
+key_by version before (r ∷ rs) = key_by version (if nat_le r.since version then Some r.key else before) rs
+
+-- the key of a listing at this number
 abbrev pub listed_key_at : Version → Listing → Option Key
-listed_key_at version l = if nat_le l.since version then Some l.key else None
+listed_key_at version l = key_by version (if nat_le l.since version then Some l.key else None) l.later
 
--- the key of a user at this number of user 0's
+-- the user's key at this number of user 0's
 abbrev pub key_at : User → Version → Table → Option Key
 key_at user version table = option_and_then (listed_key_at version) (listing_of user table)
 
@@ -79,9 +102,20 @@ user_of l = l.user
 abbrev pub user_added : Version → User → Key → Table → Table
 user_added number user key table =
     record {
-      users = with_row nat_cmp user_of table.users (record { user = user; since = number; key = key });
+      users = with_row nat_cmp user_of table.users (record { user = user; since = number; key = key; later = [] });
       rows = table.rows;
     }
+
+-- a listing with one more key
+abbrev pub with_later : Renewal → Listing → Listing
+with_later r l = record { user = l.user; since = l.since; key = l.key; later = l.later ++ r ∷ [] }
+
+-- the user's listing with one more key; others stay
+abbrev pub with_key : Version → User → Key → Listing → Listing
+with_key number user key l = if l.user == user then with_later (record { since = number; key = key }) l else l
+
+abbrev pub key_set : Version → User → Key → Table → Table
+key_set number user key table = record { users = map (with_key number user key) table.users; rows = table.rows }
 
 abbrev pub member_added : Version → Group → User → Table → Table
 member_added number group user table =
@@ -105,6 +139,19 @@ is_group principal = nat_le 64 principal
 
 abbrev pub user_refused : Table → User → Option TableError
 user_refused table user = if lists_user table user then Some Listed else None
+
+-- why a listing takes no further key at this number: it has 16, or its last one came no earlier
+abbrev pub listing_refused : Version → Listing → Option TableError
+listing_refused number l =
+    if nat_le 15 (length l.later) then Some KeysFull
+    else if nat_le number (last_since l.since l.later) then Some TooSoon
+    else None
+
+abbrev pub key_refused : Table → User → Version → Option TableError
+key_refused table user number =
+    if not (lists_user table user) then Some Unlisted
+    else if user == 0 then Some Pinned
+    else option_and_then (listing_refused number) (listing_of user table)
 
 abbrev pub member_refused : Table → Principal → User → Option TableError
 member_refused table group user =

@@ -28,6 +28,15 @@ pub enum TableError {
     /// Memory ran out.
     #[error("out of memory")]
     Memory,
+    /// User 0 has the key that every client knows, for good.
+    #[error("user 0 has one key for good")]
+    Pinned,
+    /// The user has 16 keys.
+    #[error("the user has no room for another key")]
+    KeysFull,
+    /// The user's last key didn't come before this number.
+    #[error("the number is not above that of the last key")]
+    TooSoon,
 }
 
 impl From<AllocError> for TableError {

@@ -1,4 +1,4 @@
-//! The table of principals: who is a user, since when and by which key, and who is a member of which group.
+//! The table of principals: who is a user, since when and by which keys, and who is a member of which group.
 #![tactic(auto)]
 
 mod error;
@@ -8,6 +8,6 @@ mod reading;
 mod table;
 
 pub use error::TableError;
-pub use laws::{membership, open_rows};
+pub use laws::{keys, membership, open_rows};
 pub use reading::read_key;
-pub use table::{Listing, Row, TABLE_SIZE, Table, key_invariant};
+pub use table::{Listing, Renewal, Row, TABLE_SIZE, Table, key_invariant};

@@ -1,14 +1,15 @@
 //! The text of the table.
 
-ghost use Rattle.std.specs.Prelude.{◌≡◌, ◌≢◌, ◌<◌, ◌≤◌, ◌-◌, [], length, OnOk, OnErr, IfOk, IfErr};
+ghost use Rattle.std.specs.Prelude.{◌≡◌, ◌≢◌, ◌<◌, ◌≤◌, ◌-◌, [], ◌∷◌, length, OnOk, OnErr, IfOk, IfErr};
 ghost use Rattle.std.specs.Option.{option_copied};
 ghost use Rattle.layout.specs.declared.error.ReadError.TheVariants as read_error;
-ghost use Rattle.layout.specs.Format.{IsBytes, Reads, ReadsAs};
-ghost use Rattle.principals.specs.TableText.{key as key_format, who, listed_at, listing, users, listed_user};
-ghost use Rattle.principals.specs.TableText.{begins_row, ends_row, rows_of};
+ghost use Rattle.layout.specs.Format.{BeginsWith, IsBytes, Reads, ReadsAs};
+ghost use Rattle.principals.specs.TableText.{key as key_format, who, listed_at, dated, listing, keys_after, keys_of};
+ghost use Rattle.principals.specs.TableText.{key_count, may_come, is_renewed, are_renewed, single, several, users};
+ghost use Rattle.principals.specs.TableText.{begins_row, ends_row, rows_of, listed_user};
 
 use crate::marks::no_marks;
-use crate::table::{Listing, Row, Table};
+use crate::table::{Listing, Renewal, Row, Table, last_since};
 use layout::{
     Group, Memory, ReadError, Reader, RowFormat, RowState, Text, User, Version, Writer, read_rows,
     read_rows_into, write_rows,
@@ -38,7 +39,10 @@ pub fn read_key(reader: &mut Reader<'_>) -> Result<PublicKey, ReadError>
 }
 
 /// Who is listed next.
-fn read_who(reader: &mut Reader<'_>, before: Option<&Listing>) -> Result<User, ReadError>
+fn read_who<A: Allocator>(
+    reader: &mut Reader<'_>,
+    before: Option<&Listing<A>>,
+) -> Result<User, ReadError>
     ensures reads { Reads result reader.new ((who (option_copied before.entry)).read reader.old) }
     ensures no_memory { IfErr result (λ e. e ≢ read_error.Memory) }
 {
@@ -51,7 +55,10 @@ fn read_who(reader: &mut Reader<'_>, before: Option<&Listing>) -> Result<User, R
 }
 
 /// Since when that user is listed.
-fn read_since(reader: &mut Reader<'_>, before: Option<&Listing>) -> Result<u32, ReadError>
+fn read_since<A: Allocator>(
+    reader: &mut Reader<'_>,
+    before: Option<&Listing<A>>,
+) -> Result<u32, ReadError>
     ensures reads { Reads result reader.new ((listed_at (option_copied before.entry)).read reader.old) }
     ensures no_memory { IfErr result (λ e. e ≢ read_error.Memory) }
 {
@@ -61,32 +68,228 @@ fn read_since(reader: &mut Reader<'_>, before: Option<&Listing>) -> Result<u32, 
     }
 }
 
-/// The rows of the users.
+/// A key that came later than those before, in a listing.
+impl<A: Allocator + Copy> RowState<A> for Listing<A> {
+    ghost use Rattle.principals.specs.TableText.{renewals};
+
+    type Item = Renewal;
+
+    ghost format = { renewals };
+
+    ghost room = { λ l. 15 - length l.later };
+
+    fn read_fields(&self, _alloc: A, reader: &mut Reader<'_>) -> Result<Renewal, ReadError> {
+        let since = reader.u32_in(1, u32::MAX)?;
+        if since <= last_since(self) {
+            return Err(ReadError::Order);
+        }
+        let key = read_key(reader)?;
+        Ok(Renewal { since, key })
+    }
+
+    fn add(&mut self, row: Renewal) -> Result<(), Memory> {
+        self.later.push(row)?;
+        Ok(())
+    }
+}
+
+/// The rows of the keys that came later, as they are written.
 #[derive(Clone, Copy)]
-struct Listings;
+struct Renewals;
 
-impl<A: Allocator + Copy> RowFormat<A> for Listings {
-    type Item = Listing;
+impl<A: Allocator + Copy> RowFormat<A> for Renewals {
+    ghost use Rattle.std.specs.Int.{w32};
+    ghost use Rattle.layout.specs.Format.{uint_in};
 
-    ghost format = { λ _. listing };
+    type Item = Renewal;
+
+    ghost format = { λ _ _. dated (uint_in w32 1 4294967295) };
 
     fn read_fields(
         &self,
         _alloc: A,
         reader: &mut Reader<'_>,
-        before: Option<&Listing>,
-    ) -> Result<Listing, ReadError> {
+        _before: Option<&Renewal>,
+    ) -> Result<Renewal, ReadError> {
+        let since = reader.u32_in(1, u32::MAX)?;
+        let key = read_key(reader)?;
+        Ok(Renewal { since, key })
+    }
+
+    fn write_fields(&self, writer: &mut Writer<A>, row: &Renewal) -> Result<(), Memory> {
+        writer.u32(row.since)?;
+        writer.bytes(row.key.as_bytes())
+    }
+}
+
+/// The users that have one key each.
+#[derive(Clone, Copy)]
+struct Singles;
+
+impl<A: Allocator + Copy> RowFormat<A> for Singles {
+    type Item = Listing<A>;
+
+    ghost format = { λ _. listing };
+
+    fn read_fields(
+        &self,
+        alloc: A,
+        reader: &mut Reader<'_>,
+        before: Option<&Listing<A>>,
+    ) -> Result<Listing<A>, ReadError> {
         let user = read_who(reader, before)?;
         let since = read_since(reader, before)?;
         let key = read_key(reader)?;
-        Ok(Listing { user, since, key })
+        let later = Vec::new(alloc);
+        Ok(Listing {
+            user,
+            since,
+            key,
+            later,
+        })
     }
 
-    fn write_fields(&self, writer: &mut Writer<A>, row: &Listing) -> Result<(), Memory> {
+    fn write_fields(&self, writer: &mut Writer<A>, row: &Listing<A>) -> Result<(), Memory> {
         writer.user(row.user)?;
         writer.u32(row.since)?;
         writer.bytes(row.key.as_bytes())
     }
+}
+
+/// As many keys of a user as were counted.
+fn read_keys<A: Allocator + Copy>(
+    alloc: A,
+    reader: &mut Reader<'_>,
+    before: Option<&Listing<A>>,
+    user: User,
+    count: u8,
+) -> Result<Listing<A>, ReadError>
+    requires low { 1 ≤ count }
+    requires high { count ≤ 16 }
+    ensures reads { ReadsAs keys_of result reader.new
+        ((keys_after (option_copied before.entry) user count).read reader.old) }
+    ensures user { IfOk result (λ l. l.user ≡ user) }
+{
+    let since = read_since(reader, before)?;
+    let key = read_key(reader)?;
+    let later = Vec::new(alloc);
+    let mut listing = Listing {
+        user,
+        since,
+        key,
+        later,
+    };
+    read_rows_into(alloc, reader, &mut listing, usize::from(count) - 1)?;
+    Ok(listing)
+}
+
+/// Whether the user has more than one key.
+fn is_renewed<A: Allocator>(listing: &Listing<A>) -> bool
+    ensures { result ≡ is_renewed listing.now }
+{
+    listing.later.len() >= 1
+}
+
+/// Whether one of these users has more than one key.
+fn are_renewed<A: Allocator>(users: &[Listing<A>]) -> bool
+    ensures { result ≡ are_renewed users.now }
+{
+    users.iter().any(|listing| is_renewed(listing))
+}
+
+/// How many users are to come, and those that came.
+#[derive(Drop)]
+struct Coming<A: Allocator> {
+    left: usize,
+    came: Vec<Listing<A>, A>,
+}
+
+impl<A: Allocator> Model for Coming<A> {
+    ghost use Rattle.principals.specs.TableText.{Users};
+
+    ghost Value = { Users };
+
+    ghost view = { λ c. record { left = c.left; came = c.came.items } };
+}
+
+/// How many keys the next user has.
+fn read_count<A: Allocator>(coming: &Coming<A>, reader: &mut Reader<'_>) -> Result<u8, ReadError>
+    ensures reads { Reads result reader.new ((key_count (may_come coming.now)).read reader.old) }
+    ensures no_memory { IfErr result (λ e. e ≢ read_error.Memory) }
+    ensures low { IfOk result (λ n. 1 ≤ n) }
+    ensures high { IfOk result (λ n. n ≤ 16) }
+{
+    let count = reader.u8_in(1, 16)?;
+    if coming.came.is_empty() && count != 1 {
+        return Err(ReadError::Range);
+    }
+    if count < 2 && coming.left == 1 && !are_renewed(&coming.came) {
+        return Err(ReadError::Range);
+    }
+    Ok(count)
+}
+
+impl<A: Allocator + Copy> RowState<A> for Coming<A> {
+    ghost use Rattle.principals.specs.TableText.{user_rows};
+
+    type Item = Listing<A>;
+
+    ghost format = { user_rows };
+
+    ghost room = { λ s. s.left };
+
+    fn read_fields(&self, alloc: A, reader: &mut Reader<'_>) -> Result<Listing<A>, ReadError> {
+        let before = self.came.last();
+        let user = read_who(reader, before)?;
+        let count = read_count(self, reader)?;
+        read_keys(alloc, reader, before, user, count)
+    }
+
+    fn add(&mut self, row: Listing<A>) -> Result<(), Memory> {
+        self.came.push(row)?;
+        self.left -= 1;
+        Ok(())
+    }
+}
+
+/// The users, where one has more than one key.
+fn read_several<A: Allocator + Copy>(
+    alloc: A,
+    reader: &mut Reader<'_>,
+) -> Result<Vec<Listing<A>, A>, ReadError>
+    ensures reads { ReadsAs (λ v. v.items) result reader.new (several.read reader.old) }
+{
+    let count = usize::from(reader.u8_in(1, u8::MAX)?);
+    let came = Vec::new(alloc);
+    let mut coming = Coming { left: count, came };
+    read_rows_into(alloc, reader, &mut coming, count)?;
+    Ok(coming.came)
+}
+
+/// The users, where each has one key.
+fn read_single<A: Allocator + Copy>(
+    alloc: A,
+    reader: &mut Reader<'_>,
+) -> Result<Vec<Listing<A>, A>, ReadError>
+    ensures reads { ReadsAs (λ v. v.items) result reader.new (single.read reader.old) }
+{
+    let count = usize::from(reader.u8_in(1, u8::MAX)?);
+    read_rows(alloc, reader, &Singles, count)
+}
+
+/// The users after their tag.
+fn read_listings<A: Allocator + Copy>(
+    alloc: A,
+    reader: &mut Reader<'_>,
+) -> Result<Vec<Listing<A>, A>, ReadError>
+    ensures reads { ReadsAs (λ v. v.items) result reader.new (users.read reader.old) }
+    ensures bytes { IsBytes reader.old }
+{
+    if reader.tag(b"SPT2").is_ok() {
+        return read_several(alloc, reader);
+    }
+    reader.tag(b"SPT1")?;
+    read_single(alloc, reader)
 }
 
 /// The users, in a table without rows.
@@ -95,8 +298,7 @@ fn read_users<A: Allocator + Copy>(alloc: A, reader: &mut Reader<'_>) -> Result<
     ensures rows { IfOk result (λ t. t.rows ≡ []) }
     ensures bytes { IsBytes reader.old }
 {
-    let count = reader.u8_in(1, u8::MAX)?;
-    let mut others = read_rows(alloc, reader, &Listings, usize::from(count))?;
+    let mut others = read_listings(alloc, reader)?;
     let superuser = others.remove(0);
     Ok(Table {
         superuser,
@@ -104,6 +306,89 @@ fn read_users<A: Allocator + Copy>(alloc: A, reader: &mut Reader<'_>) -> Result<
         rows: Vec::new(alloc),
         marks: no_marks(),
     })
+}
+
+/// The users with all their keys, as they are written.
+#[derive(Clone, Copy)]
+struct Several;
+
+impl<A: Allocator + Copy> RowFormat<A> for Several {
+    ghost use Rattle.principals.specs.Kept.{any_listing};
+
+    type Item = Listing<A>;
+
+    ghost format = { λ _. any_listing };
+
+    fn read_fields(
+        &self,
+        alloc: A,
+        reader: &mut Reader<'_>,
+        before: Option<&Listing<A>>,
+    ) -> Result<Listing<A>, ReadError> {
+        let user = read_who(reader, before)?;
+        let count = reader.u8_in(1, 16)?;
+        if before.is_none() && count != 1 {
+            return Err(ReadError::Range);
+        }
+        read_keys(alloc, reader, before, user, count)
+    }
+
+    fn write_fields(&self, writer: &mut Writer<A>, row: &Listing<A>) -> Result<(), Memory> {
+        writer.user(row.user)?;
+        writer.u8(row.later.len() as u8 + 1)?;
+        writer.u32(row.since)?;
+        writer.bytes(row.key.as_bytes())?;
+        write_rows(writer, &Renewals, &row.later)
+    }
+}
+
+/// The users, where each has one key.
+fn write_single<A: Allocator + Copy>(
+    writer: &mut Writer<A>,
+    superuser: &Listing<A>,
+    others: &[Listing<A>],
+) -> Result<(), Memory>
+    requires { length others.now < 255 }
+    ensures ok { OnOk result (writer.new ≡ single.onto writer.old (superuser.now ∷ others.now)) }
+    ensures front { BeginsWith writer.new writer.old }
+{
+    writer.u8(others.len() as u8 + 1)?;
+    Singles.write_row(writer, superuser)?;
+    write_rows(writer, &Singles, others)
+}
+
+/// The users, where one has more than one key.
+fn write_several<A: Allocator + Copy>(
+    writer: &mut Writer<A>,
+    superuser: &Listing<A>,
+    others: &[Listing<A>],
+) -> Result<(), Memory>
+    requires { length others.now < 255 }
+    ensures ok { OnOk result (writer.new ≡ several.onto writer.old (superuser.now ∷ others.now)) }
+    ensures front { BeginsWith writer.new writer.old }
+{
+    writer.u8(others.len() as u8 + 1)?;
+    Several.write_row(writer, superuser)?;
+    write_rows(writer, &Several, others)
+}
+
+/// The users after their tag.
+fn write_users<A: Allocator + Copy>(
+    writer: &mut Writer<A>,
+    superuser: &Listing<A>,
+    others: &[Listing<A>],
+) -> Result<(), Memory>
+    requires { length others.now < 255 }
+    ensures ok { OnOk result (writer.new ≡ users.onto writer.old (superuser.now ∷ others.now)) }
+    ensures front { BeginsWith writer.new writer.old }
+{
+    if is_renewed(superuser) || are_renewed(others) {
+        writer.tag(b"SPT2")?;
+        write_several(writer, superuser, others)
+    } else {
+        writer.tag(b"SPT1")?;
+        write_single(writer, superuser, others)
+    }
 }
 
 /// A table whose rows are read.
@@ -259,16 +544,12 @@ impl<A: Allocator + Copy> Text<A> for Table<A> {
     ghost format = { table };
 
     fn read_fields(alloc: A, reader: &mut Reader<'_>) -> Result<Table<A>, ReadError> {
-        reader.tag(b"SPT1")?;
         let table = read_users(alloc, reader)?;
         read_members(alloc, reader, table)
     }
 
     fn write_fields(&self, writer: &mut Writer<A>) -> Result<(), Memory> {
-        writer.tag(b"SPT1")?;
-        writer.u8(self.others.len() as u8 + 1)?;
-        Listings.write_row(writer, &self.superuser)?;
-        write_rows(writer, &Listings, &self.others)?;
+        write_users(writer, &self.superuser, &self.others)?;
         writer.u16(self.rows.len() as u16)?;
         write_rows(writer, &Members, &self.rows)
     }

@@ -1,13 +1,15 @@
 //! The table, and its rows.
 
 ghost use Rattle.std.specs.Prelude.{◌≡◌, ◌≢◌, ◌<◌, ◌≤◌, ◌⊎◌, ◌++◌, ◌∷◌, ◌==◌, ◌&&◌, nat_le, [], true, false, length};
-ghost use Rattle.std.specs.Prelude.{map, find, Some, None, IfOk, IfErr, OnOk, OnErr, MatchResult, if◌then◌else◌};
+ghost use Rattle.std.specs.Prelude.{slice_index_or, map, find, Some, None, IfOk, IfErr, OnOk, OnErr, MatchResult, if◌then◌else◌};
 ghost use Rattle.std.specs.Option.{option_copied};
-ghost use Rattle.std.specs.List.{list_any};
+ghost use Rattle.std.specs.List.{list_any, slice_set};
 ghost use Rattle.std.specs.Ordering.{nat_cmp};
 ghost use Rattle.layout.specs.Ascending.{Ascends, Stands, IsFree, row_at};
-ghost use Rattle.principals.specs.Table.{user_of, listing_of, listed_key_at, user_refused, ended, Told};
-ghost use Rattle.principals.specs.TableText.{key as key_format, users, without_rows};
+ghost use Rattle.principals.specs.Table.{Listing as ListingModel, user_of, listing_of, user_refused, ended, Told};
+ghost use Rattle.principals.specs.Table.{last_key, last_since, key_by, listed_key_at, listing_refused, with_later};
+ghost use Rattle.principals.specs.TableText.{key as key_format, without_rows};
+ghost use Rattle.principals.specs.Kept.{AreUsers};
 ghost use Rattle.principals.specs.declared.error.TableError.TheVariants as table_error;
 
 use crate::error::TableError;
@@ -21,15 +23,40 @@ use std::marker::Model;
 pub(crate) const MOST_ROWS: usize = 65535;
 
 /// How many bytes the text of a table has at most: the tag, the users after their count, and the rows after theirs.
-pub const TABLE_SIZE: usize = 4 + (1 + 255 * (1 + 4 + 56)) + (2 + MOST_ROWS * (1 + 1 + 4 + 4));
+pub const TABLE_SIZE: usize = 4
+    + (1 + 255 * (1 + 1 + MOST_KEYS * (4 + 56)))
+    + (2 + MOST_ROWS * (1 + 1 + 4 + 4));
 
-/// A user and its key.
+/// How many keys a user has at most.
+pub(crate) const MOST_KEYS: usize = 16;
+
+/// A key, and the number of user 0's operation with which it came.
 #[derive(Clone, Copy, Debug)]
-pub struct Listing {
-    pub user: User,
-    /// The number of user 0's operation that listed the user; 0 for user 0 itself.
+pub struct Renewal {
     pub since: u32,
     pub key: PublicKey,
+}
+
+/// A user and its keys.
+#[derive(Drop)]
+pub struct Listing<A: Allocator> {
+    pub(crate) user: User,
+    /// The number of user 0's operation that listed the user; 0 for user 0 itself.
+    pub(crate) since: u32,
+    pub(crate) key: PublicKey,
+    /// The keys that came later, in the order of their numbers.
+    pub(crate) later: Vec<Renewal, A>,
+}
+
+impl<A: Allocator> Model for Listing<A> {
+    ghost use Rattle.std.specs.Prelude.{length, ◌≤◌};
+    ghost use Rattle.principals.specs.Table.{Listing};
+
+    ghost Value = { Listing };
+
+    ghost view = { λ l. record { user = l.user; since = l.since; key = l.key; later = l.later.items } };
+
+    ghost invariant = { λ l. length l.later.items ≤ 15 };
 }
 
 /// A user is a member of a group from a number of user 0's on.
@@ -43,13 +70,13 @@ pub struct Row {
     pub until: u32,
 }
 
-/// Who is a user, since when and by which key, and who is a member of which group.
+/// Who is a user, since when and by which keys, and who is a member of which group.
 #[derive(Drop)]
 pub struct Table<A: Allocator> {
     /// User 0, so that the table of the beginning takes no memory.
-    pub(crate) superuser: Listing,
+    pub(crate) superuser: Listing<A>,
     /// The other users, ascending.
-    pub(crate) others: Vec<Listing, A>,
+    pub(crate) others: Vec<Listing<A>, A>,
     /// The rows of members, in the order of writing.
     pub(crate) rows: Vec<Row, A>,
     /// Which pairs have an open row.
@@ -76,7 +103,7 @@ pub fn key_invariant(key: &PublicKey)
 }
 
 /// Whether one of these is the user, listed at this number or before.
-fn is_since(others: &[Listing], user: User, number: u32) -> bool
+fn is_since<A: Allocator>(others: &[Listing<A>], user: User, number: u32) -> bool
     ensures { result ≡ list_any (λ l. (l.user == user) && nat_le l.since number) others.now }
 {
     others
@@ -84,18 +111,138 @@ fn is_since(others: &[Listing], user: User, number: u32) -> bool
         .any(|listing| listing.user == user && listing.since <= number)
 }
 
-/// The key of a listing, where it is since this number or before.
-fn listed_key_at(listing: &Listing, version: u32) -> Option<PublicKey>
+/// The last key of a listing.
+fn last_key<A: Allocator>(listing: &Listing<A>) -> PublicKey
+    ensures { result ≡ last_key listing.now.key listing.now.later }
+{
+    match listing.later.last() {
+        Some(renewal) => renewal.key,
+        None => listing.key,
+    }
+}
+
+/// Since when it is.
+pub(crate) fn last_since<A: Allocator>(listing: &Listing<A>) -> u32
+    ensures { result ≡ last_since listing.now.since listing.now.later }
+{
+    match listing.later.last() {
+        Some(renewal) => renewal.since,
+        None => listing.since,
+    }
+}
+
+/// The last of these keys that came at this number of user 0's or before.
+fn key_by(later: &[Renewal], version: u32, before: Option<PublicKey>) -> Option<PublicKey>
+    ensures { result ≡ key_by version before later.now }
+{
+    let mut found = before;
+    for renewal in later {
+        if renewal.since <= version {
+            found = Some(renewal.key);
+        }
+    }
+    found
+}
+
+/// The key of a listing at this number of user 0's.
+fn listed_key_at<A: Allocator>(listing: &Listing<A>, version: u32) -> Option<PublicKey>
     ensures { result ≡ listed_key_at version listing.now }
 {
-    if version < listing.since {
-        return None;
+    let first = if listing.since <= version {
+        Some(listing.key)
+    } else {
+        None
+    };
+    key_by(&listing.later, version, first)
+}
+
+/// A listing like this one.
+fn copy_listing<A: Allocator + Copy>(alloc: A, listing: &Listing<A>) -> Result<Listing<A>, Memory>
+    ensures { IfOk result (λ copy. copy ≡ listing.now) }
+{
+    let later = Vec::from_slice(alloc, &listing.later)?;
+    Ok(Listing {
+        user: listing.user,
+        since: listing.since,
+        key: listing.key,
+        later,
+    })
+}
+
+/// Listings like these.
+fn copy_listings<A: Allocator + Copy>(
+    alloc: A,
+    listings: &[Listing<A>],
+) -> Result<Vec<Listing<A>, A>, Memory>
+    ensures { IfOk result (λ copies. copies.items ≡ listings.now) }
+{
+    let mut copies = Vec::new(alloc);
+    for listing in listings {
+        copies.push(copy_listing(alloc, listing)?)?;
     }
-    Some(listing.key)
+    Ok(copies)
+}
+
+/// Why a listing takes no further key at this number, if it takes none.
+fn refusal<A: Allocator>(listing: &Listing<A>, number: Version) -> Option<TableError>
+    ensures { result ≡ listing_refused number listing.now }
+{
+    if listing.later.len() >= MOST_KEYS - 1 {
+        return Some(TableError::KeysFull);
+    }
+    if number.get() <= last_since(listing) {
+        return Some(TableError::TooSoon);
+    }
+    None
+}
+
+/// One more key of a listing.
+fn push_key<A: Allocator>(listing: &mut Listing<A>, renewal: Renewal) -> Result<(), Memory>
+    requires { length listing.old.later < 15 }
+    ensures ok { OnOk result (listing.new ≡ with_later renewal listing.old) }
+    ensures err { OnErr result (listing.new ≡ listing.old) }
+{
+    listing.later.push(renewal)?;
+    Ok(())
+}
+
+/// Whether a listing is the user's.
+fn is_of<A: Allocator>(listing: &Listing<A>, user: User) -> bool
+    ensures { result ≡ (listing.now.user == user) }
+{
+    listing.user == user
+}
+
+/// Whether the user is listed among these.
+fn is_among<A: Allocator>(listings: &[Listing<A>], user: User) -> bool
+    ensures { result ≡ list_any (λ l. l.user == user) listings.now }
+{
+    listings.iter().any(|listing| is_of(listing, user))
+}
+
+/// The listing of a user among these.
+fn listing_among<A: Allocator>(listings: &[Listing<A>], user: User) -> Option<&Listing<A>>
+    ensures { option_copied result ≡ find (λ l. l.user == user) listings.now }
+{
+    listings.iter().find(|listing| is_of(*listing, user))
+}
+
+/// The listing of a user.
+fn listing_in<'a, A: Allocator>(
+    superuser: &'a Listing<A>,
+    others: &'a [Listing<A>],
+    user: User,
+) -> Option<&'a Listing<A>>
+    ensures { option_copied result ≡ find (λ l. l.user == user) (superuser.now ∷ others.now) }
+{
+    if is_of(superuser, user) {
+        return Some(superuser);
+    }
+    listing_among(others, user)
 }
 
 /// Where a user stands among the others, or where it would stand.
-fn place_of(others: &[Listing], user: User) -> Result<usize, usize>
+fn place_of<A: Allocator>(others: &[Listing<A>], user: User) -> Result<usize, usize>
     requires { Ascends nat_cmp user_of None others.now }
     ensures { MatchResult result (Stands nat_cmp user_of others.now user) (IsFree nat_cmp user_of others.now user) }
 {
@@ -103,13 +250,17 @@ fn place_of(others: &[Listing], user: User) -> Result<usize, usize>
 }
 
 /// Where a new user goes among the others.
-fn room_for(superuser: &Listing, others: &[Listing], user: User) -> Result<usize, TableError>
-    requires { users.Fits (superuser.now ∷ others.now) }
+fn room_for<A: Allocator>(
+    superuser: &Listing<A>,
+    others: &[Listing<A>],
+    user: User,
+) -> Result<usize, TableError>
+    requires { AreUsers (superuser.now ∷ others.now) }
     ensures told { Told (user_refused (without_rows (superuser.now ∷ others.now)) user) result }
     ensures room { IfOk result (λ place. IsFree nat_cmp user_of others.now user place) }
     ensures other { IfOk result (λ _. 0 < user) }
 {
-    if superuser.user == user {
+    if is_of(superuser, user) {
         return Err(TableError::Listed);
     }
     match place_of(others, user) {
@@ -149,7 +300,7 @@ fn end_rows<A: Allocator>(rows: &mut Vec<Row, A>, number: Version, group: Group,
 }
 
 impl<A: Allocator + Copy> Table<A> {
-    ghost use Rattle.principals.specs.Table.{genesis};
+    ghost use Rattle.principals.specs.Table.{genesis, user_added};
     ghost use Rattle.principals.specs.TableText.{table as table_format};
 
     /// The table of the beginning: user 0 with the key that every client knows. It takes no memory.
@@ -163,6 +314,7 @@ impl<A: Allocator + Copy> Table<A> {
                 user: User::superuser(),
                 since: 0,
                 key,
+                later: Vec::new(alloc),
             },
             others: Vec::new(alloc),
             rows: Vec::new(alloc),
@@ -174,48 +326,69 @@ impl<A: Allocator + Copy> Table<A> {
     pub fn copy(&self, alloc: A) -> Result<Table<A>, Memory>
         ensures { IfOk result (λ copy. copy ≡ self.now) }
     {
-        let others = Vec::from_slice(alloc, &self.others)?;
+        let superuser = copy_listing(alloc, &self.superuser)?;
+        let others = copy_listings(alloc, &self.others)?;
         let rows = Vec::from_slice(alloc, &self.rows)?;
         Ok(Table {
-            superuser: self.superuser,
+            superuser,
             others,
             rows,
             marks: self.marks,
         })
     }
+
+    /// Lists a user, by user 0's operation of this number: one binary search and one shift. Listed where it is listed
+    /// already. The number isn't compared with those in the table.
+    pub fn add_user(
+        &mut self,
+        number: Version,
+        user: User,
+        key: PublicKey,
+    ) -> Result<(), TableError>
+        ensures ok { OnOk result (self.new ≡ user_added number user key self.old) }
+        ensures told { Told (user_refused self.old user) result }
+        // A table that has a text has one afterwards.
+        ensures fits { table_format.Fits self.old → OnOk result (table_format.Fits self.new) }
+        ensures err { OnErr result (self.new ≡ self.old) }
+    {
+        let place = room_for(&self.superuser, &self.others, user)?;
+        let since = number.get();
+        let _user = user.get();
+        key_invariant(&key);
+        let later = Vec::new(*self.others.allocator());
+        self.others.insert(
+            place,
+            Listing {
+                user,
+                since,
+                key,
+                later,
+            },
+        )?;
+        Ok(())
+    }
 }
 
 impl<A: Allocator> Table<A> {
     ghost use Rattle.principals.specs.Table.{key_of, key_at, since, is_listed, lists_user, is_member, is_member_now};
-    ghost use Rattle.principals.specs.Table.{user_added, member_added, member_dropped, member_refused, drop_refused};
+    ghost use Rattle.principals.specs.Table.{key_set, member_added, member_dropped};
+    ghost use Rattle.principals.specs.Table.{key_refused, member_refused, drop_refused};
     ghost use Rattle.principals.specs.TableText.{table as table_format, with_next, last_begins, NoneAfter};
 
-    /// The listing of a user, by one binary search.
-    fn listing_of(&self, user: User) -> Option<&Listing>
-        ensures { option_copied result ≡ listing_of user self.now }
-    {
-        if self.superuser.user == user {
-            return Some(&self.superuser);
-        }
-        match place_of(&self.others, user) {
-            Ok(place) => Some(&self.others[place]),
-            Err(_) => None,
-        }
-    }
-
-    /// The key of a user. None where it isn't listed.
+    /// The key of a user that came last. None where it isn't listed.
     pub fn key_of(&self, user: User) -> Option<PublicKey>
         ensures { result ≡ key_of user self.now }
     {
-        let listing = self.listing_of(user)?;
-        Some(listing.key)
+        let listing = listing_in(&self.superuser, &self.others, user)?;
+        Some(last_key(listing))
     }
 
-    /// The key of a user at this number of user 0's. None where it is listed later, or not at all.
+    /// The key of a user at a number of user 0's: the last that came with it or before. None where the user isn't
+    /// listed by then.
     pub fn key_at(&self, user: User, version: u32) -> Option<PublicKey>
         ensures { result ≡ key_at user version self.now }
     {
-        let listing = self.listing_of(user)?;
+        let listing = listing_in(&self.superuser, &self.others, user)?;
         listed_key_at(listing, version)
     }
 
@@ -223,7 +396,7 @@ impl<A: Allocator> Table<A> {
     pub fn since(&self, user: User) -> Option<u32>
         ensures { result ≡ since user self.now }
     {
-        let listing = self.listing_of(user)?;
+        let listing = listing_in(&self.superuser, &self.others, user)?;
         Some(listing.since)
     }
 
@@ -239,10 +412,7 @@ impl<A: Allocator> Table<A> {
     pub(crate) fn lists_user(&self, user: User) -> bool
         ensures { result ≡ lists_user self.now user }
     {
-        match self.listing_of(user) {
-            Some(_) => true,
-            None => false,
-        }
+        is_of(&self.superuser, user) || is_among(&self.others, user)
     }
 
     /// Whether the user is a member of the group at this number of user 0's: one pass over the rows.
@@ -297,25 +467,28 @@ impl<A: Allocator> Table<A> {
         Ok(())
     }
 
-    /// Lists a user, by user 0's operation of this number: one binary search and one shift. Listed where it is listed
-    /// already. The number isn't compared with those in the table.
-    pub fn add_user(
-        &mut self,
-        number: Version,
-        user: User,
-        key: PublicKey,
-    ) -> Result<(), TableError>
-        ensures ok { OnOk result (self.new ≡ user_added number user key self.old) }
-        ensures told { Told (user_refused self.old user) result }
+    /// Gives a user one more key, by user 0's operation of this number: one binary search. Unlisted where the user
+    /// isn't listed, Pinned where it is user 0, KeysFull where it has 16 keys, TooSoon where its last key came with
+    /// this number or later; of several the least.
+    pub fn set_key(&mut self, number: Version, user: User, key: PublicKey) -> Result<(), TableError>
+        ensures ok { OnOk result (self.new ≡ key_set number user key self.old) }
+        ensures told { Told (key_refused self.old user number) result }
         // A table that has a text has one afterwards.
         ensures fits { table_format.Fits self.old → OnOk result (table_format.Fits self.new) }
         ensures err { OnErr result (self.new ≡ self.old) }
     {
-        let place = room_for(&self.superuser, &self.others, user)?;
+        if is_of(&self.superuser, user) {
+            return Err(TableError::Pinned);
+        }
+        let Ok(place) = place_of(&self.others, user) else {
+            return Err(TableError::Unlisted);
+        };
+        if let Some(error) = refusal(&self.others[place], number) {
+            return Err(error);
+        }
         let since = number.get();
-        let _user = user.get();
         key_invariant(&key);
-        self.others.insert(place, Listing { user, since, key })?;
+        push_key(&mut self.others[place], Renewal { since, key })?;
         Ok(())
     }
 

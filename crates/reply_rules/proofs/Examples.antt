@@ -17,9 +17,8 @@ use Rattle.update_cert.specs.Change.{Change, Remove}
 use Rattle.update_cert.specs.Cert.{Cert}
 use Rattle.pending_list.specs.declared.signed.Signed.{Signed}
 use Rattle.pending_list.specs.Reply.{PendingItem, outranks}
-use Rattle.principals.specs.declared.table.Listing.{Listing}
 use Rattle.principals.specs.declared.table.Row.{Row}
-use Rattle.principals.specs.Table.{Table}
+use Rattle.principals.specs.Table.{Listing, Table}
 use Rattle.reply_rules.specs.Lists.{Lists}
 use Rattle.pending_list.specs.Groups.{groups_below, table_version, raised_groups}
 use Rattle.reply_rules.specs.Rules.{unknown_user, structures_numbered, pending_numbered, pending_next, counts_at, all_in_order, own_above, vectors_follow, top_known, top_waiting, shows_earlier, rest_of, rest_known, rest_waiting, rest_others, within, above_show, own_only, own_all, version_within, table_within, of_member, records_once, newest, versions_once, versions_within, versions_complete}
@@ -44,7 +43,7 @@ abbrev pending_as : Plan → PendingItem
 pending_as p = record { cert = plain_cert p.user p.number; signature = []; plan = p }
 
 abbrev listed_since : ℕ → ℕ → Listing
-listed_since u n = record { user = u; since = n; key = [] }
+listed_since u n = record { user = u; since = n; key = []; later = [] }
 
 -- an entry of an operation that nobody made
 abbrev invented : Entry

@@ -29,6 +29,9 @@ ErrorTold error.Unlisted r = r ≡ Ok false
 ErrorTold error.NotGroup r = r ≡ Ok false
 ErrorTold error.NotMember r = r ≡ Ok false
 ErrorTold error.Full r = r ≡ Ok false
+ErrorTold error.Pinned r = r ≡ Ok false
+ErrorTold error.KeysFull r = r ≡ Ok false
+ErrorTold error.TooSoon r = r ≡ Ok false
 
 abbrev pub ToldEffect : {X E : Type 0} → Result X TableError → Result Bool E → Type 0
 ToldEffect (Ok x) r = r ≡ Ok true

@@ -31,7 +31,7 @@ fn had_effect(told: Result<(), TableError>) -> Result<bool, Memory>
 }
 
 /// Does a change to the table, in user 0's operation of this number, and answers whether it had effect.
-fn alter<A: Allocator>(
+fn alter<A: Allocator + Copy>(
     table: &mut Table<A>,
     number: Version,
     change: &TableChange,
@@ -56,7 +56,7 @@ fn alter<A: Allocator>(
 
 /// Applies a change in a user's operation of this number, if it is one of the table, and answers whether it is such a
 /// one and has no effect.
-fn apply_change<A: Allocator>(
+fn apply_change<A: Allocator + Copy>(
     table: &mut Table<A>,
     user: User,
     number: Version,
@@ -80,7 +80,7 @@ fn apply_change<A: Allocator>(
 
 /// Applies the changes of a certificate in turn, and gives the numbers of those of the table that have no effect. Where
 /// memory runs out the table may have some of them.
-fn apply_each<A: Allocator>(
+fn apply_each<A: Allocator + Copy>(
     alloc: A,
     table: &mut Table<A>,
     cert: &Cert<A>,

@@ -8,7 +8,7 @@ use Rattle.principals.proofs.table.place_of.Goals as goal
 
 -- the closure gives a listing's user
 pub returns : goal.returns
-returns c =
+returns g c =
     let facts = c.binary_search_by_key.ensures in
     let by_user = facts.position user_of (answers_always _ _ _ (λ f a r g called. search rules)) in
     let at = rw c.get.ensures.same at by_user in

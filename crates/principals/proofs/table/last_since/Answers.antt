@@ -1,0 +1,10 @@
+use Rattle.std.proofs.Common.{◌≡◌, ◌-◌, Some, length, sym}
+use Rattle.std.specs.List.{slice_get}
+use Rattle.principals.proofs.LastKeys.{last_since_is}
+use Rattle.principals.proofs.table.last_since.Goals as goal
+
+pub returns-in-Some : goal.returns-in-Some
+returns-in-Some g c =
+    let rs = c.listing.inside.later.items in
+    let at : slice_get rs (length rs - 1) ≡ Some c.in-Some.renewal.now = sym (rw c.deref.ensures.value at c.in-Some.ensures.value) in
+    rw (← c.listing.view_is) (sym (last_since_is c.listing.inside.since rs c.in-Some.renewal.now at))
