@@ -53,13 +53,16 @@ the directory is full
 out of memory
 ";
 
-static TABLES: [TableError; 6] = [
+static TABLES: [TableError; 9] = [
     TableError::Listed,
     TableError::Unlisted,
     TableError::NotGroup,
     TableError::NotMember,
     TableError::Full,
     TableError::Memory,
+    TableError::Pinned,
+    TableError::KeysFull,
+    TableError::TooSoon,
 ];
 
 const LINES_OF_TABLES: &str = "\
@@ -69,6 +72,9 @@ the principal is no group
 the user is no member
 the table is full
 out of memory
+user 0 has one key for good
+the user has no room for another key
+the number is not above that of the last key
 ";
 
 #[test]

@@ -1,4 +1,4 @@
-//! Texts of tables by their description, the largest table, and membership from change to change.
+//! Texts of tables by their description, the largest table, and membership and keys from change to change.
 
 use crate::faults::is_spelled;
 use crate::here::Here;
@@ -15,6 +15,13 @@ fn key(rt: &impl Host) -> PublicKey {
     PublicKey::from_bytes(*FORM).expect(rt, "a key")
 }
 
+/// A key that ends with this byte.
+fn key_with(rt: &impl Host, last: u8) -> PublicKey {
+    let mut bytes = *FORM;
+    bytes[55] = last;
+    PublicKey::from_bytes(bytes).expect(rt, "a key")
+}
+
 fn user(rt: &impl Host, number: u8) -> User {
     User::new(number).expect(rt, "a user")
 }
@@ -23,12 +30,14 @@ fn group(rt: &impl Host, number: u8) -> Group {
     Group::new(number).expect(rt, "a group")
 }
 
-/// What is done to a table: a user is listed, is made a member of a principal, or is one no longer.
+/// What is done to a table: a user is listed, is made a member of a principal, or is one no longer; or it gets a key
+/// that ends with a byte.
 #[derive(Drop)]
 enum Task {
     List(u8),
     Add(u8, u8),
     Drop(u8, u8),
+    Set(u8, u8),
 }
 
 /// What the table answers where the operation of this number does this.
@@ -38,6 +47,7 @@ fn answer(rt: &impl Host, table: &mut Table<Global>, number: u32, task: &Task) -
         Task::List(one) => table.add_user(number, user(rt, *one), key(rt)),
         Task::Add(group, one) => table.add_member(number, principal(rt, *group), user(rt, *one)),
         Task::Drop(group, one) => table.drop_member(number, principal(rt, *group), user(rt, *one)),
+        Task::Set(one, last) => table.set_key(number, user(rt, *one), key_with(rt, *last)),
     };
     match answer {
         Ok(()) => "done",
@@ -47,6 +57,9 @@ fn answer(rt: &impl Host, table: &mut Table<Global>, number: u32, task: &Task) -
         Err(TableError::NotMember) => "no member",
         Err(TableError::Full) => "full",
         Err(TableError::Memory) => "memory",
+        Err(TableError::Pinned) => "pinned",
+        Err(TableError::KeysFull) => "keys full",
+        Err(TableError::TooSoon) => "too soon",
     }
 }
 
@@ -144,6 +157,133 @@ fn refusals(rt: HostRuntime) {
     let mut table = Table::genesis(rt.alloc(), key(&rt));
     answers(&rt, &mut table, &REFUSALS);
     let_go(table);
+}
+
+/// User 1 is listed at operation 1, and gets further keys at 3 and 5.
+static THREE_KEYS: [(u32, Task, &str); 3] = [
+    (1, Task::List(1), "done"),
+    (3, Task::Set(1, b'b'), "done"),
+    (5, Task::Set(1, b'c'), "done"),
+];
+
+/// At each number counts the key that came last by then.
+#[test]
+fn keys_at_versions(rt: HostRuntime) {
+    let rt = (rt, Here);
+    let mut table = Table::genesis(rt.alloc(), key(&rt));
+    answers(&rt, &mut table, &THREE_KEYS);
+    let one = user(&rt, 1);
+    check(&rt, table.key_at(one, 0).is_none(), "no key as yet");
+    for (number, last) in [
+        (1, b'.'),
+        (2, b'.'),
+        (3, b'b'),
+        (4, b'b'),
+        (5, b'c'),
+        (u32::MAX, b'c'),
+    ] {
+        let found = table.key_at(one, number);
+        assert!(rt; found == Some(key_with(&rt, last)), "at {number}");
+    }
+    check(
+        &rt,
+        table.key_of(one) == Some(key_with(&rt, b'c')),
+        "the last",
+    );
+    check(&rt, table.since(one) == Some(1), "since the first");
+    check(
+        &rt,
+        table.key_at(user(&rt, 0), 5) == Some(key(&rt)),
+        "user 0",
+    );
+    let_go(table);
+}
+
+#[test]
+fn text_of_three_keys(rt: HostRuntime) {
+    let rt = (rt, Here);
+    let mut table = Table::genesis(rt.alloc(), key(&rt));
+    answers(&rt, &mut table, &THREE_KEYS);
+    let (second, third) = (key_with(&rt, b'b'), key_with(&rt, b'c'));
+    let pieces: [&[u8]; 9] = [
+        b"SPT2\x02\x00\x01\x00\x00\x00\x00",
+        FORM,
+        b"\x01\x03\x00\x00\x00\x01",
+        FORM,
+        b"\x00\x00\x00\x03",
+        second.as_bytes(),
+        b"\x00\x00\x00\x05",
+        third.as_bytes(),
+        b"\x00\x00",
+    ];
+    let text = joined(&rt, &pieces);
+    assert_eq!(rt; text.len(), 251);
+    is_spelled(&rt, &table, &text);
+    let_go(table);
+}
+
+/// The count of a table's rows, and one row.
+const ONE_ROW: &[u8] = b"\x00\x01\x40\x00\x00\x00\x00\x01\x00\x00\x00\x00";
+
+/// A table that was written while each user had one key is read, and written with the second one.
+#[test]
+fn second_key_after_a_text(rt: HostRuntime) {
+    let rt = (rt, Here);
+    let before: [&[u8]; 5] = [
+        b"SPT1\x02\x00\x00\x00\x00\x00",
+        FORM,
+        b"\x01\x00\x00\x00\x01",
+        FORM,
+        ONE_ROW,
+    ];
+    let text = joined(&rt, &before);
+    let mut table: Table<Global> = Table::read(rt.alloc(), &text).expect(&rt, "a table");
+    answers(&rt, &mut table, &[(2, Task::Set(1, b'b'), "done")]);
+    let second = key_with(&rt, b'b');
+    let after: [&[u8]; 7] = [
+        b"SPT2\x02\x00\x01\x00\x00\x00\x00",
+        FORM,
+        b"\x01\x02\x00\x00\x00\x01",
+        FORM,
+        b"\x00\x00\x00\x02",
+        second.as_bytes(),
+        ONE_ROW,
+    ];
+    is_spelled(&rt, &table, &joined(&rt, &after));
+    let_go(table);
+}
+
+/// What is done to the table of the beginning, up to a user's second key, and what it answers.
+static KEYS_REFUSED: [(u32, Task, &str); 7] = [
+    (1, Task::Set(1, b'.'), "unlisted"),
+    (1, Task::Set(0, b'.'), "pinned"),
+    (4, Task::List(1), "done"),
+    (4, Task::Set(1, b'.'), "too soon"),
+    (3, Task::Set(1, b'.'), "too soon"),
+    (5, Task::Set(1, b'.'), "done"),
+    (5, Task::Set(1, b'.'), "too soon"),
+];
+
+/// A user has at most 16 keys, which may be one another.
+#[test]
+fn sixteen_keys(rt: HostRuntime) {
+    let rt = (rt, Here);
+    let mut table = Table::genesis(rt.alloc(), key(&rt));
+    answers(&rt, &mut table, &KEYS_REFUSED);
+    for number in 6..20 {
+        answers(&rt, &mut table, &[(number, Task::Set(1, b'.'), "done")]);
+    }
+    let full = [
+        (20, Task::Set(1, b'.'), "keys full"),
+        (19, Task::Set(1, b'.'), "keys full"),
+    ];
+    answers(&rt, &mut table, &full);
+    let text = table.text(rt.alloc()).expect(&rt, "memory");
+    let_go(table);
+    assert_eq!(rt; text.len(), 1031);
+    let again = Table::read(rt.alloc(), &text).expect(&rt, "a table");
+    is_spelled(&rt, &again, &text);
+    let_go(again);
 }
 
 /// The text of the table of all users, each listed by the operation of 100 and its number, from the last to the first.
