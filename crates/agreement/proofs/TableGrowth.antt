@@ -4,8 +4,9 @@ use Rattle.std.specs.Prelude.{◌==◌, ◌&&◌, ◌||◌, map, nat_le, if◌th
 use Rattle.std.specs.List.{list_any}
 use Rattle.std.proofs.lemmas.Bool.{ne_eqb, lt-ltb, le-ltb, le-leb, lt-leb, cases_Bool, false≢true, and_parts, and_left, and_right, not-true, or_cases, or_left, or_parts, or_right}
 use Rattle.principals.specs.declared.table.Row.{Row}
-use Rattle.principals.specs.Table.{Listing, Table, counts_at, ended, is_member, is_member_now, is_open, is_row_of, member_added, member_dropped, user_added, is_listed, lists_user, user_of}
-use Rattle.update_cert.specs.Change.{Action, Make, Put, Remove, Link, Unlink, AddUser, AddMember, DropMember, Change}
+use Rattle.principals.specs.Table.{Listing, Table, counts_at, ended, is_member, is_member_now, is_open, is_row_of, member_added, member_dropped, user_added, key_set, is_listed, lists_user, user_of}
+use Rattle.principals.proofs.KeyLaws.{listed_set}
+use Rattle.update_cert.specs.Change.{Action, Make, Put, Remove, Link, Unlink, AddUser, AddMember, DropMember, SetKey, Change}
 use Rattle.update_cert.specs.World.{Actor, Content, Principals, action_fits, becomes, content_after, fits, has_effect, permitted, is_table}
 use Rattle.agreement.proofs.Members.{In, in-append, in-map}
 use Rattle.std.specs.Ordering.{is_eq, is_lt, nat_cmp}
@@ -97,6 +98,14 @@ grows_user n user key t none =
       bounded = λ k l h. record { rows = λ r i. (let b = h.rows r i in (omega arith, omega arith)) };
     }
 
+grows_set : (n user : ℕ) (key : List ℕ) (t : Table) → Grows n t (key_set n user key t)
+grows_set n user key t =
+    record {
+      member_same = λ g u v l. refl;
+      listed_same = λ u v l. listed_set n user key t u v;
+      bounded = λ k l h. record { rows = λ r i. (let b = h.rows r i in (omega arith, omega arith)) };
+    }
+
 grows_member : (n group user : ℕ) (t : Table) → Grows n t (member_added n group user t)
 grows_member n group user t =
     record {
@@ -177,6 +186,7 @@ table_becomes actor n p i t (Unlink name) h = absurd (false≢true h)
 table_becomes actor n p i t (AddUser v key) h = (user_added n v key t, refl, grows_user n v key t (not-true (lists_user t v) (and_parts (is_table p i) (not (lists_user t v)) h).1))
 table_becomes actor n p i t (AddMember g v) h = (member_added n g v t, refl, grows_member n g v t)
 table_becomes actor n p i t (DropMember g v) h = (member_dropped n g v t, refl, grows_drop n g v t)
+table_becomes actor n p i t (SetKey v key) h = (key_set n v key t, refl, grows_set n v key t)
 
 does_fit : (a : Actor) (c : Change Content) (x : Option Content) → has_effect a c x ≡ true → fits a c x ≡ true
 unfolding has_effect

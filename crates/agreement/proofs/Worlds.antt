@@ -9,7 +9,7 @@ use Rattle.layout.specs.Laws.{in_range}
 use Rattle.layout.specs.Types.{Digest, Key}
 use Rattle.principals.specs.Table.{Table, is_listed, lists_user}
 use Rattle.update_cert.specs.Cert.{Cert, cert, change_rows}
-use Rattle.update_cert.specs.Change.{Action, Make, Put, Remove, Link, Unlink, AddUser, AddMember, DropMember, Change, change}
+use Rattle.update_cert.specs.Change.{Action, Make, Put, Remove, Link, Unlink, AddUser, AddMember, DropMember, SetKey, Change, change}
 use Rattle.update_cert.specs.Reading.{Reading, read_change, read_changes, void_read}
 use Rattle.update_cert.specs.World.{Actor, Content, Tree, after_change, content_after, has_effect, void_from}
 use Rattle.pending_list.specs.Reply.{PendingItem}
@@ -51,6 +51,7 @@ below p i (Unlink name) fits = let range = in_range w8 0 95 p fits.1.0 in omega 
 below p i (AddUser u key) fits = in_place p i (p == 0) _ _ refl fits.1
 below p i (AddMember g u) fits = in_place p i (p == 0) _ _ refl fits.1
 below p i (DropMember g u) fits = in_place p i (p == 0) _ _ refl fits.1
+below p i (SetKey u key) fits = in_place p i (p == 0) _ _ refl fits.1
 
 rows_below : (b : Option (Change Digest)) (cs : List (Change Digest)) → FitRows (after_row change_rows) b cs → (c : Change Digest) → In c cs → c.principal < 96
 unfolding FitRows

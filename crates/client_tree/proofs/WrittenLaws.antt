@@ -9,7 +9,7 @@ use Rattle.layout.specs.Format.{FitRows, after_row}
 use Rattle.layout.specs.Laws.{in_range}
 use Rattle.layout.specs.Types.{Digest, Principal}
 use Rattle.principals.specs.Table.{is_member}
-use Rattle.update_cert.specs.Change.{Action, Make, Put, Remove, Link, Unlink, AddUser, AddMember, DropMember, Change, change}
+use Rattle.update_cert.specs.Change.{Action, Make, Put, Remove, Link, Unlink, AddUser, AddMember, DropMember, SetKey, Change, change}
 use Rattle.update_cert.specs.Cert.{Cert, cert, change_rows}
 use Rattle.update_cert.specs.World.{permitted}
 use Rattle.pending_list.specs.Groups.{raised_groups, raises_at, table_version, touches}
@@ -38,6 +38,7 @@ below p i (Unlink name) fits = let range = in_range w8 0 95 p fits.1.0 in omega 
 below p i (AddUser u key) fits = in_place p i (p == 0) _ _ refl fits.1
 below p i (AddMember g u) fits = in_place p i (p == 0) _ _ refl fits.1
 below p i (DropMember g u) fits = in_place p i (p == 0) _ _ refl fits.1
+below p i (SetKey u key) fits = in_place p i (p == 0) _ _ refl fits.1
 
 in_cert : (c : Cert) → cert.Fits c → All (λ x. x.principal < 96) c.changes
 in_cert c fits = All-weaker change.Fits (λ x. x.principal < 96) (λ x of. below x.principal x.i_number x.action of) c.changes (all_fit None c.changes fits.1.1.1.1.1)

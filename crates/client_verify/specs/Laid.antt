@@ -9,7 +9,7 @@ use Rattle.layout.specs.Hash.{hash}
 use Rattle.layout.specs.Types.{Bytes, Digest}
 use Rattle.itable.specs.File.{blocks_of, inode_of}
 use Rattle.itable.specs.Inode.{inode}
-use Rattle.update_cert.specs.Change.{Action, Make, Put, Remove, Link, Unlink, AddUser, AddMember, DropMember, Change}
+use Rattle.update_cert.specs.Change.{Action, Make, Put, Remove, Link, Unlink, AddUser, AddMember, DropMember, SetKey, Change}
 use Rattle.tree_parts.specs.Spot.{is_of_file, size_of_block}
 use Rattle.client_tree.specs.Genesis.{inode_digest, root_inode}
 
@@ -41,6 +41,7 @@ is_laid laid (Unlink name) = true
 is_laid laid (AddUser u key) = true
 is_laid laid (AddMember g u) = true
 is_laid laid (DropMember g u) = true
+is_laid laid (SetKey u key) = true
 
 -- so it is of each of these changes
 unfoldable pub are_laid : List Bytes → List (Change Digest) → Bool

@@ -159,7 +159,8 @@ fn is_change_laid<A: Allocator + Copy>(
         AnyAction::OfTable(change) => match change {
             TableChange::AddUser(_, _)
             | TableChange::AddMember(_, _)
-            | TableChange::DropMember(_, _) => Ok(true),
+            | TableChange::DropMember(_, _)
+            | TableChange::SetKey(_, _) => Ok(true),
         },
     }
 }

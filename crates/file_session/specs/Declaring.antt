@@ -5,7 +5,7 @@ use Rattle.std.specs.Prelude.{List, [], ◌∷◌, map}
 use Rattle.std.specs.List.{flat_map}
 use Rattle.itable.specs.File.{blocks_of, inode_of}
 use Rattle.itable.specs.Inode.{inode}
-use Rattle.update_cert.specs.Change.{Action, Make, Put, Remove, Link, Unlink, AddUser, AddMember, DropMember, Change}
+use Rattle.update_cert.specs.Change.{Action, Make, Put, Remove, Link, Unlink, AddUser, AddMember, DropMember, SetKey, Change}
 use Rattle.update_cert.specs.World.{Content, File, Directory, Principals}
 use Rattle.client_tree.specs.Genesis.{inode_digest, root_inode}
 
@@ -25,6 +25,7 @@ declared_action (Unlink name) = Unlink name
 declared_action (AddUser u key) = AddUser u key
 declared_action (AddMember g u) = AddMember g u
 declared_action (DropMember g u) = DropMember g u
+declared_action (SetKey u key) = SetKey u key
 
 abbrev pub declared : Change Content → Change Digest
 declared c = record { principal = c.principal; i_number = c.i_number; action = declared_action c.action }

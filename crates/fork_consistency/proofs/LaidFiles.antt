@@ -7,7 +7,7 @@ use Rattle.std.proofs.lemmas.Bool.{or_cases}
 use Rattle.std.proofs.lemmas.Slice.Eq.{bytes_eq-Decides}
 use Rattle.layout.specs.Types.{Bytes, Digest, User}
 use Rattle.itable.specs.File.{NoneCollide}
-use Rattle.update_cert.specs.Change.{Action, Make, Put, Remove, Link, Unlink, AddUser, AddMember, DropMember, Change}
+use Rattle.update_cert.specs.Change.{Action, Make, Put, Remove, Link, Unlink, AddUser, AddMember, DropMember, SetKey, Change}
 use Rattle.update_cert.specs.Cert.{Cert, cert}
 use Rattle.update_cert.specs.Reading.{Reading}
 use Rattle.update_cert.specs.World.{Directory, File}
@@ -69,6 +69,7 @@ module _ (texts : List Bytes) (apart : NoneCollide texts texts) (reads : Reading
   names_laid (AddUser u key) is = tt
   names_laid (AddMember g u) is = tt
   names_laid (DropMember g u) is = tt
+  names_laid (SetKey u key) is = tt
 
   all_named : (cs : List (Change Digest)) → are_laid laid cs ≡ true → All (λ change. NamesLaid reads laid change.action) cs
   unfolding are_laid

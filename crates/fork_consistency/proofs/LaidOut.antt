@@ -27,7 +27,7 @@ use Rattle.principals.specs.Table.{Table}
 use Rattle.principals.specs.TableText.{table}
 use Rattle.principals.proofs.SizeLaws.{text_begins}
 use Rattle.principals.specs.TableTextLaws.{lawful_table}
-use Rattle.update_cert.specs.Change.{Action, Make, Put, Remove, Link, Unlink, AddUser, AddMember, DropMember, Change}
+use Rattle.update_cert.specs.Change.{Action, Make, Put, Remove, Link, Unlink, AddUser, AddMember, DropMember, SetKey, Change}
 use Rattle.update_cert.specs.Cert.{Cert}
 use Rattle.tree_parts.specs.Blocks.{of_size}
 use Rattle.tree_parts.specs.Slots.{directory_digest, directory_inode, directory_texts}
@@ -231,6 +231,7 @@ module _ (texts : List Bytes) where
       action_content (AddUser u k) d is names = absurd names
       action_content (AddMember g u) d is names = absurd names
       action_content (DropMember g u) d is names = absurd names
+      action_content (SetKey u key) d is names = absurd names
 
       changes_content : (cs : List (Change Digest)) → are_laid laid cs ≡ true → (d : Digest) → IsMadeBy cs d → IsContent texts d
       unfolding are_laid

@@ -5,8 +5,8 @@ use Rattle.std.proofs.lemmas.List.Elements.{All-cons, All-head, All-nil, All-tai
 use Rattle.layout.specs.Types.{Digest, Key, User, Version}
 use Rattle.principals.specs.declared.table.Renewal.{Renewal}
 use Rattle.principals.specs.Table.{Listing, Table, genesis as first_users, key_at, key_of}
-use Rattle.principals.proofs.ListedKeys.{EachKey, each_added, key_at_has, key_of_has}
-use Rattle.update_cert.specs.Change.{Action, Make, Put, Remove, Link, Unlink, AddUser, AddMember, DropMember, Change}
+use Rattle.principals.proofs.ListedKeys.{EachKey, each_added, each_set, key_at_has, key_of_has}
+use Rattle.update_cert.specs.Change.{Action, Make, Put, Remove, Link, Unlink, AddUser, AddMember, DropMember, SetKey, Change}
 use Rattle.update_cert.specs.Cert.{Cert}
 use Rattle.update_cert.specs.Tables.{table_after, table_after_change, table_becomes, table_effect}
 use Rattle.pending_list.specs.declared.signed.Signed.{Signed}
@@ -31,10 +31,12 @@ module _ (some : User → Type 0) (own_key : User → Key) where
 
   abbrev AddsOwn : Action Digest → Type 0
   AddsOwn (AddUser u k) = some u → k ≡ own_key u
+  AddsOwn (SetKey u k) = some u → k ≡ own_key u
   AddsOwn other = Unit {0}
 
   becomes : (n : Version) (a : Action Digest) (t : Table) → AddsOwn a → All IsOwn t.users → All IsOwn (table_becomes n a t).users
   becomes n (AddUser u k) t own all = each_added MayHave n u k t own all
+  becomes n (SetKey u k) t own all = each_set MayHave n u k t own all
   becomes n (AddMember g u) t own all = all
   becomes n (DropMember g u) t own all = all
   becomes n (Make new) t own all = all
@@ -44,7 +46,7 @@ module _ (some : User → Type 0) (own_key : User → Key) where
   becomes n (Unlink name) t own all = all
 
   one_change : (u n : ℕ) (c : Change Digest) (t : Table) → AddsOwn c.action → All IsOwn t.users → All IsOwn (table_after_change u n c t).users
-  one_change u n c t own all = go (table_effect u c t)
+  one_change u n c t own all = go (table_effect u n c t)
     where
       go : (b : Bool) → All IsOwn (if b then table_becomes n c.action t else t).users
       go true = becomes n c.action t own all
@@ -58,6 +60,7 @@ module _ (some : User → Type 0) (own_key : User → Key) where
 
 gives : (some : User → Type 0) (keys : Keys) (a : Action Digest) → GivesOwnKeyOf some keys a → AddsOwn some (public_key keys) a
 gives some keys (AddUser u k) own = own
+gives some keys (SetKey u k) own = own
 gives some keys (Make new) own = tt
 gives some keys (Put new) own = tt
 gives some keys Remove own = tt

@@ -8,7 +8,7 @@ use Rattle.std.proofs.lemmas.Slice.Eq.{bytes_eq-Decides}
 use Rattle.layout.specs.Types.{Bytes, Digest, INumber, Key, Principal, User}
 use Rattle.principals.specs.TableText.{key as key_form}
 use Rattle.itable.specs.File.{NoneCollide}
-use Rattle.update_cert.specs.Change.{Action, Make, Put, Remove, Link, Unlink, AddUser, AddMember, DropMember, Change}
+use Rattle.update_cert.specs.Change.{Action, Make, Put, Remove, Link, Unlink, AddUser, AddMember, DropMember, SetKey, Change}
 use Rattle.update_cert.specs.Cert.{Cert, cert}
 use Rattle.update_cert.specs.Reading.{Reading, read_action, read_change, read_changes}
 use Rattle.update_cert.specs.World.{Content, Directory, Tree, after, genesis}
@@ -66,6 +66,7 @@ module _ (texts : List Bytes) (apart : NoneCollide texts texts) (a b : Reading) 
   same_action laid inside (AddUser u key) is = refl
   same_action laid inside (AddMember g u) is = refl
   same_action laid inside (DropMember g u) is = refl
+  same_action laid inside (SetKey u key) is = refl
 
   same_each : (laid : List Bytes) → ((t : Bytes) → In t laid → In t texts) → (cs : List (Change Digest)) → list_all (λ c. is_laid laid c.action) cs ≡ true → read_changes a cs ≡ read_changes b cs
   same_each laid inside [] are = refl

@@ -4,10 +4,10 @@ use Rattle.std.specs.Prelude.{is_some, nat_le}
 use Rattle.std.proofs.lemmas.Bool.{eq-eqb, eqb-true, ne_eqb}
 use Rattle.std.proofs.lemmas.Bool.Decides.{nat_tests}
 use Rattle.layout.specs.Types.{Digest}
-use Rattle.update_cert.specs.Change.{Action, Make, Put, Remove, Link, Unlink, AddUser, AddMember, DropMember, Change}
+use Rattle.update_cert.specs.Change.{Action, Make, Put, Remove, Link, Unlink, AddUser, AddMember, DropMember, SetKey, Change}
 use Rattle.update_cert.specs.Cert.{Cert}
 use Rattle.update_cert.specs.Reading.{Reading, after_read, read_changes}
-use Rattle.update_cert.specs.World.{Actor, Content, Tree, action_fits, after, after_change, becomes, content_after, fits, has_effect, may_make, permitted}
+use Rattle.update_cert.specs.World.{Actor, Content, Tree, action_fits, after, after_change, becomes, content_after, fits, has_effect, is_table, may_make, permitted, takes_key}
 use Rattle.principals.specs.Table.{Table}
 use Rattle.pending_list.specs.Reply.{PendingItem}
 use Rattle.client_tree.specs.View.{actor_of, after_items}
@@ -19,21 +19,22 @@ own_effect : (a : Actor) (c : Change Content) (x : Option Content) → c.princip
 unfolding has_effect
 own_effect a c x own = rw (eq-eqb c.principal a.user own) refl
 
--- of an operation nothing but the user says whether a change fits
-same_fits : (a b : Actor) (p i : ℕ) (c : Action Content) (x : Option Content) → a.user ≡ b.user → action_fits a p i c x ≡ action_fits b p i c x
-same_fits a b p i (Make new) x user = ap (λ (u : ℕ). not (is_some x) && may_make u p i) user
-same_fits a b p i (Put new) x user = refl
-same_fits a b p i Remove x user = refl
-same_fits a b p i (Link entry) x user = refl
-same_fits a b p i (Unlink name) x user = refl
-same_fits a b p i (AddUser u key) x user = refl
-same_fits a b p i (AddMember g u) x user = refl
-same_fits a b p i (DropMember g u) x user = refl
+-- of an operation nothing but its user and number says whether a change fits
+same_fits : (a b : Actor) (p i : ℕ) (c : Action Content) (x : Option Content) → a.user ≡ b.user → a.number ≡ b.number → action_fits a p i c x ≡ action_fits b p i c x
+same_fits a b p i (Make new) x user number = ap (λ (u : ℕ). not (is_some x) && may_make u p i) user
+same_fits a b p i (Put new) x user number = refl
+same_fits a b p i Remove x user number = refl
+same_fits a b p i (Link entry) x user number = refl
+same_fits a b p i (Unlink name) x user number = refl
+same_fits a b p i (AddUser u key) x user number = refl
+same_fits a b p i (AddMember g u) x user number = refl
+same_fits a b p i (DropMember g u) x user number = refl
+same_fits a b p i (SetKey u key) x user number = ap (λ (n : ℕ). is_table p i && takes_key u n x) number
 
 own_content : (a b : Actor) (c : Change Content) (x : Option Content) → a.user ≡ b.user → a.number ≡ b.number → c.principal ≡ a.user → content_after a c x ≡ content_after b c x
 unfolding content_after
 own_content a b c x user number own =
-    ap (λ (t : Bool). if t then becomes a.number c.action x else x) (own_effect a c x own ∙ same_fits a b c.principal c.i_number c.action x user ∙ sym (own_effect b c x (own ∙ user)))
+    ap (λ (t : Bool). if t then becomes a.number c.action x else x) (own_effect a c x own ∙ same_fits a b c.principal c.i_number c.action x user number ∙ sym (own_effect b c x (own ∙ user)))
     ∙ ap (λ (n : ℕ). if has_effect b c x then becomes n c.action x else x) number
 
 own_change : (a b : Actor) (c : Change Content) (w v : Tree) (p i : ℕ) → a.user ≡ p → b.user ≡ p → a.number ≡ b.number → w p i ≡ v p i → after_change a c w p i ≡ after_change b c v p i

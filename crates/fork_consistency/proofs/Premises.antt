@@ -4,7 +4,7 @@ use Rattle.std.specs.Prelude.{◌↔◌}
 use Rattle.std.specs.List.{All, Contains, flat_map}
 use Rattle.std.proofs.lemmas.List.Elements.{All-weaker}
 use Rattle.layout.specs.Types.{Bytes, Digest, User}
-use Rattle.update_cert.specs.Change.{Action, Make, Put, Remove, Link, Unlink, AddUser, AddMember, DropMember, Change}
+use Rattle.update_cert.specs.Change.{Action, Make, Put, Remove, Link, Unlink, AddUser, AddMember, DropMember, SetKey, Change}
 use Rattle.update_cert.specs.Cert.{Cert}
 use Rattle.pending_list.specs.declared.signed.Signed.{Signed}
 use Rattle.client_releases.specs.Told.{cert_in}
@@ -80,6 +80,7 @@ module _ (keys : Keys) where
 module _ (keys : Keys) (some few : User → Type 0) (among : (u : User) → few u → some u) where
   fewer_given : (a : Action Digest) → GivesOwnKeyOf some keys a → GivesOwnKeyOf few keys a
   fewer_given (AddUser u key) given = λ one. given (among u one)
+  fewer_given (SetKey u key) given = λ one. given (among u one)
   fewer_given (Make new) given = tt
   fewer_given (Put new) given = tt
   fewer_given Remove given = tt

@@ -3,7 +3,7 @@ use Rattle.std.proofs.Common.{◌≡◌, Bool, true, false, ◌==◌, ◌&&◌, 
 use Rattle.std.specs.Prelude.{◌⊎◌}
 use Rattle.layout.specs.Types.{Digest, INumber, Principal}
 use Rattle.principals.specs.Table.{Table}
-use Rattle.update_cert.specs.Change.{Action, Make, Put, Remove, Link, Unlink, AddUser, AddMember, DropMember, Change}
+use Rattle.update_cert.specs.Change.{Action, Make, Put, Remove, Link, Unlink, AddUser, AddMember, DropMember, SetKey, Change}
 use Rattle.update_cert.specs.Reading.{Reading}
 use Rattle.update_cert.specs.World.{Actor}
 use Rattle.tree_parts.specs.Part.{Slot, Laid}
@@ -23,6 +23,7 @@ Lays (Unlink name) d = ⊥
 Lays (AddUser u key) d = ⊥
 Lays (AddMember g u) d = ⊥
 Lays (DropMember g u) d = ⊥
+Lays (SetKey u key) d = ⊥
 
 -- so one of these changes does
 abbrev pub IsMadeBy : List (Change Digest) → Digest → Type 0
@@ -45,6 +46,7 @@ module _ (reads : Reading) (d : Digest) where
   becomes_laid (AddUser u key) s is = inl is
   becomes_laid (AddMember g u) s is = inl is
   becomes_laid (DropMember g u) s is = inl is
+  becomes_laid (SetKey u key) s is = inl is
 
   change_laid : (actor : Actor) (c : Change Digest) (s : Option Slot) → IsLaid (slot_after_change reads actor c s) → IsLaid s ⊎ Lays c.action d
   unfolding slot_after_change

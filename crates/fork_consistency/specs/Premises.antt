@@ -1,12 +1,12 @@
 -- The premises of fork consistency, which speak of the texts of one run alone: no signature is forged, no digest
--- collides, and user 0's client added each user with the user's own key.
+-- collides, and user 0's client added each user with the user's own key, and set no other.
 use Rattle.std.specs.Prelude.{◌≡◌, List, [], ◌∷◌, IfSome, true, map}
 use Rattle.std.specs.List.{All, Contains}
 use Rattle.layout.specs.Types.{Bytes, Digest, Key, User}
 use Rattle.lms_sign.specs.Signature.{valid}
 use Rattle.itable.specs.File.{NoneCollide}
 use Rattle.principals.specs.TableText.{key as key_form}
-use Rattle.update_cert.specs.Change.{Action, AddUser}
+use Rattle.update_cert.specs.Change.{Action, AddUser, SetKey}
 use Rattle.update_cert.specs.Cert.{cert}
 use Rattle.client_releases.specs.Told.{cert_in}
 use Rattle.agreement.specs.Lines.{line}
@@ -44,9 +44,10 @@ NoForgery keys run = NoneForgedOf everybody keys run run
 abbrev pub NoCollision : Keys → List Event → Type 0
 NoCollision keys run = NoneCollide (hashed keys run) (hashed keys run)
 
--- an action that adds one of these users gives the user's own key
+-- an action that adds one of these users, or sets a key of one, gives the user's own key
 abbrev pub GivesOwnKeyOf : (User → Type 0) → Keys → Action Digest → Type 0
 GivesOwnKeyOf some keys (AddUser u key) = some u → IsOwnKey keys u key
+GivesOwnKeyOf some keys (SetKey u key) = some u → IsOwnKey keys u key
 GivesOwnKeyOf some keys other = Unit {0}
 
 -- each change of this text does so, if it is a certificate of user 0's
@@ -54,7 +55,7 @@ abbrev pub TextAddsOwnKeysOf : (User → Type 0) → Keys → Bytes → Type 0
 TextAddsOwnKeysOf some keys text =
     IfSome (cert_in 0 text) (λ c. All (λ change. GivesOwnKeyOf some keys change.action) c.value.changes)
 
--- each of these users that user 0's client added, in a certificate that it released, has its own key
+-- each of these users that user 0's client added, or gave a key, in a certificate that it released, has its own key
 abbrev pub AddsOwnKeysOf : (User → Type 0) → Keys → List Event → Type 0
 AddsOwnKeysOf some keys run = All (TextAddsOwnKeysOf some keys) (released 0 run)
 

@@ -7,8 +7,8 @@ use Rattle.std.proofs.lemmas.List.Elements.{All-cons, All-head, All-nil, All-tai
 use Rattle.layout.specs.Types.{Key, User}
 use Rattle.principals.specs.declared.table.Renewal.{Renewal}
 use Rattle.principals.specs.Table.{Table, genesis, key_at, key_of}
-use Rattle.principals.proofs.ListedKeys.{EachKey, each_added, key_at_has, key_of_has}
-use Rattle.update_cert.specs.Change.{Action, Make, Put, Remove, Link, Unlink, AddUser, AddMember, DropMember, Change}
+use Rattle.principals.proofs.ListedKeys.{EachKey, each_added, each_set, key_at_has, key_of_has}
+use Rattle.update_cert.specs.Change.{Action, Make, Put, Remove, Link, Unlink, AddUser, AddMember, DropMember, SetKey, Change}
 use Rattle.update_cert.specs.Tables.{alters, table_after, table_after_change, table_becomes, table_effect}
 use Rattle.honest_dialogues.specs.Dialogue.{GivesOwnKey, Keys}
 
@@ -34,6 +34,7 @@ own_becomes keys n Remove t gives h = h
 own_becomes keys n (Link entry) t gives h = h
 own_becomes keys n (Unlink name) t gives h = h
 own_becomes keys n (AddUser w key) t gives h = each_added (IsOwn keys) n w key t gives h
+own_becomes keys n (SetKey w key) t gives h = each_set (IsOwn keys) n w key t gives h
 own_becomes keys n (AddMember g w) t gives h = h
 own_becomes keys n (DropMember g w) t gives h = h
 
@@ -43,9 +44,9 @@ unfolding table_after
 own_after keys user n [] t gives h = h
 own_after keys user n (c ∷ cs) t gives h =
     own_after keys user n cs (table_after_change user n c t) (λ zero. All-tail (λ c. GivesOwnKey keys c.action) c cs (gives zero))
-    (elim (cases_Bool (table_effect user c t)) [
+    (elim (cases_Bool (table_effect user n c t)) [
       | inl e ↦ (
-          let parts = and_parts (user == 0) (alters c.action t) e in
+          let parts = and_parts (user == 0) (alters n c.action t) e in
           rw e (own_becomes keys n c.action t (All-head (λ c. GivesOwnKey keys c.action) c cs (gives (eqb-true user 0 parts.0))) h))
       | inr e ↦ rw e h
     ])

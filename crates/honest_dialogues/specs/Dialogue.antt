@@ -8,7 +8,7 @@ use Rattle.layout.specs.Types.{Bytes, Digest, Handle, Key, User}
 use Rattle.lms_sign.specs.Signature.{valid}
 use Rattle.principals.specs.Table.{Table}
 use Rattle.version_order.specs.Structure.{Structure, structure}
-use Rattle.update_cert.specs.Change.{Action, AddUser}
+use Rattle.update_cert.specs.Change.{Action, AddUser, SetKey}
 use Rattle.update_cert.specs.Cert.{Cert, cert}
 use Rattle.pending_list.specs.declared.signed.Signed.{Signed}
 use Rattle.pending_list.specs.Signed.{signed}
@@ -104,9 +104,10 @@ views (m ∷ older) = view_by m.act ++ views older
 
 -- ---- moves
 
--- an action that adds a user gives the user's own key
+-- an action that adds a user, or sets a key of one, gives the user's own key
 abbrev pub GivesOwnKey : Keys → Action Digest → Type 0
 GivesOwnKey keys (AddUser u key) = key ≡ keys u
+GivesOwnKey keys (SetKey u key) = key ≡ keys u
 GivesOwnKey keys other = Unit {0}
 
 -- The certificate is a user's next one after this last structure; one of user 0's gives each user its own key.

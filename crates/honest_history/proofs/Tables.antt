@@ -1,21 +1,22 @@
 -- What operations of user 0 leave of a table of principals: who was a member at an earlier number, who is listed, and
 -- by which key.
 use Rattle.std.proofs.Common.{◌≡◌, ◌≢◌, ℕ, ◌<◌, ◌≤◌, List, [], ◌∷◌, ◌++◌, map, Option, Some, None, Bool, true, false, cond, refl, sym, ap, ◌∙◌, subst, inl, inr, arith}
-use Rattle.std.specs.Prelude.{◌==◌, ◌&&◌, ◌||◌, find, nat_le}
+use Rattle.std.specs.Prelude.{◌⊎◌, ◌==◌, ◌&&◌, ◌||◌, find, is_none, nat_le}
 use Rattle.std.specs.List.{All, list_any}
 use Rattle.std.specs.Option.{option_and_then}
 use Rattle.std.specs.Ordering.{is_eq, is_lt, nat_cmp}
 use Rattle.std.proofs.lemmas.Bool.{eqb-true, ne_eqb, lt-ltb, le-leb, lt-leb, leb-true, cases_Bool, and_parts, and_from, and_left, and_right, not-true, or_left, or_parts, or_right, true≢false}
 use Rattle.std.proofs.lemmas.Cmp.{nat_cmp_total}
-use Rattle.std.proofs.lemmas.List.Elements.{All-cons, All-nil, All-weaker}
+use Rattle.std.proofs.lemmas.List.Elements.{All-cons, All-nil, All-push, All-weaker}
 use Rattle.layout.specs.Ascending.{with_row}
 use Rattle.layout.specs.AscendingKeys.{key_test}
 use Rattle.layout.specs.AscendingLaws.{all_with_row}
 use Rattle.principals.specs.declared.table.Renewal.{Renewal}
 use Rattle.principals.specs.declared.table.Row.{Row}
-use Rattle.principals.specs.Table.{Listing, Table, counts_at, ended, genesis, is_listed, is_member, is_open, is_row_of, key_at, listed_key_at, lists_user, user_of}
+use Rattle.principals.specs.Table.{Listing, Table, counts_at, ended, genesis, is_listed, is_member, is_open, is_row_of, key_at, key_refused, key_set, listed_key_at, lists_user, user_of}
+use Rattle.principals.proofs.KeyLaws.{all_set, listed_set, not_super, set_apart, set_later}
 use Rattle.principals.proofs.ListedKeys.{IsBy, key_since}
-use Rattle.update_cert.specs.Change.{Action, Make, Put, Remove, Link, Unlink, AddUser, AddMember, DropMember, Change}
+use Rattle.update_cert.specs.Change.{Action, Make, Put, Remove, Link, Unlink, AddUser, AddMember, DropMember, SetKey, Change}
 use Rattle.update_cert.specs.Tables.{alters, table_after, table_after_change, table_becomes, table_effect}
 use Rattle.update_cert.specs.Cert.{Cert}
 use Rattle.pending_list.specs.Groups.{groups, groups_at, raises_at, touches}
@@ -26,12 +27,12 @@ use Rattle.honest_history.proofs.Members.{any_from, filter_same, find_some}
 
 -- ---- what each action keeps is kept by all
 
-module _ (holds : Table → Type 0) (user n : ℕ) (keeps : user ≡ 0 → (a : Action (List ℕ)) (t : Table) → alters a t ≡ true → holds t → holds (table_becomes n a t)) where
+module _ (holds : Table → Type 0) (user n : ℕ) (keeps : user ≡ 0 → (a : Action (List ℕ)) (t : Table) → alters n a t ≡ true → holds t → holds (table_becomes n a t)) where
   change_keeps : (c : Change (List ℕ)) (t : Table) → holds t → holds (table_after_change user n c t)
   change_keeps c t h =
-      elim (cases_Bool (table_effect user c t)) [
+      elim (cases_Bool (table_effect user n c t)) [
         | inl e ↦ (
-            let parts = and_parts (user == 0) (alters c.action t) e in
+            let parts = and_parts (user == 0) (alters n c.action t) e in
             rw e (keeps (eqb-true user 0 parts.0) c.action t parts.1 h))
         | inr e ↦ rw e h
       ]
@@ -78,6 +79,7 @@ member_becomes n g u v Remove t l = refl
 member_becomes n g u v (Link entry) t l = refl
 member_becomes n g u v (Unlink name) t l = refl
 member_becomes n g u v (AddUser w key) t l = refl
+member_becomes n g u v (SetKey w key) t l = refl
 member_becomes n g u v (AddMember h w) t l =
     any_push (λ (r : Row). is_row_of g u r && counts_at v r) t.rows (record { group = h; user = w; begins = n; until = 0 })
     (and_right ((h == g) && (w == u)) _ (and_left (nat_le n v) _ (lt-leb n v l)))
@@ -122,13 +124,14 @@ find_with f (l ∷ ls) new e none =
       | inr more ↦ rw (more, other, e) refl
     ]
 
-listed_becomes : (n u v : ℕ) (a : Action (List ℕ)) (t : Table) → alters a t ≡ true → is_listed t u v ≡ true → is_listed (table_becomes n a t) u v ≡ true
+listed_becomes : (n u v : ℕ) (a : Action (List ℕ)) (t : Table) → alters n a t ≡ true → is_listed t u v ≡ true → is_listed (table_becomes n a t) u v ≡ true
 listed_becomes n u v (Make new) t e h = h
 listed_becomes n u v (Put new) t e h = h
 listed_becomes n u v Remove t e h = h
 listed_becomes n u v (Link entry) t e h = h
 listed_becomes n u v (Unlink name) t e h = h
 listed_becomes n u v (AddUser w key) t e h = any_with (λ l. (l.user == u) && nat_le l.since v) t.users (record { user = w; since = n; key = key; later = [] }) h (not-true (lists_user t w) e)
+listed_becomes n u v (SetKey w key) t e h = listed_set n w key t u v ∙ h
 listed_becomes n u v (AddMember g w) t e h = h
 listed_becomes n u v (DropMember g w) t e h = h
 
@@ -159,6 +162,8 @@ since_becomes n Remove t h = h
 since_becomes n (Link entry) t h = h
 since_becomes n (Unlink name) t h = h
 since_becomes n (AddUser w key) t h = all_with_row nat_cmp user_of nat_cmp_total (IsBy n) t.users (record { user = w; since = n; key = key; later = [] }) (omega arith, All-nil (λ (r : Renewal). r.since ≤ n)) h
+since_becomes n (SetKey w key) t h =
+    all_set (IsBy n) n w key t.users (λ l is old. (old.0, All-push (λ (r : Renewal). r.since ≤ n) l.later (record { since = n; key = key }) old.1 (omega arith))) h
 since_becomes n (AddMember g w) t h = h
 since_becomes n (DropMember g w) t h = h
 
@@ -193,26 +198,35 @@ key_listed t u v k h = go (find (λ l. l.user == u) t.users) refl h
     go None e m = absurd (cc m)
     go (Some l) e m = let r = find_some (λ (l : Listing). l.user == u) t.users l e in any_from (λ (l : Listing). l.user == u) t.users l r.0 r.1
 
-key_becomes : (n u v : ℕ) (k : List ℕ) (a : Action (List ℕ)) (t : Table) → alters a t ≡ true → key_at u v t ≡ Some k → key_at u v (table_becomes n a t) ≡ Some k
-key_becomes n u v k (Make new) t e h = h
-key_becomes n u v k (Put new) t e h = h
-key_becomes n u v k Remove t e h = h
-key_becomes n u v k (Link entry) t e h = h
-key_becomes n u v k (Unlink name) t e h = h
-key_becomes n u v k (AddUser w key) t e h =
+-- an operation of this number leaves the keys for numbers before it, and user 0's
+abbrev IsLeft : ℕ → ℕ → ℕ → Type 0
+IsLeft n u v = (v < n) ⊎ (u ≡ 0)
+
+set_becomes : (n u v w : ℕ) (key : List ℕ) (t : Table) → IsLeft n u v → is_none (key_refused t w n) ≡ true → key_at u v (key_set n w key t) ≡ key_at u v t
+set_becomes n u v w key t (inl before) e = set_later n w key t u v before
+set_becomes n u v w key t (inr zero) e = set_apart n w key t u v (λ same. not_super t w n e (same ∙ zero))
+
+key_becomes : (n u v : ℕ) (k : List ℕ) (a : Action (List ℕ)) (t : Table) → IsLeft n u v → alters n a t ≡ true → key_at u v t ≡ Some k → key_at u v (table_becomes n a t) ≡ Some k
+key_becomes n u v k (Make new) t left e h = h
+key_becomes n u v k (Put new) t left e h = h
+key_becomes n u v k Remove t left e h = h
+key_becomes n u v k (Link entry) t left e h = h
+key_becomes n u v k (Unlink name) t left e h = h
+key_becomes n u v k (AddUser w key) t left e h =
     let none : lists_user t w ≡ false = not-true (lists_user t w) e in
     let other : (w == u) ≡ false = ne_eqb w u (λ same. true≢false (sym (key_listed t u v k h) ∙ ap (lists_user t) (sym same) ∙ none)) in
     ap (option_and_then (listed_key_at v)) (find_with (λ l. l.user == u) t.users (record { user = w; since = n; key = key; later = [] }) other none) ∙ h
-key_becomes n u v k (AddMember g w) t e h = h
-key_becomes n u v k (DropMember g w) t e h = h
+key_becomes n u v k (SetKey w key) t left e h = set_becomes n u v w key t left e ∙ h
+key_becomes n u v k (AddMember g w) t left e h = h
+key_becomes n u v k (DropMember g w) t left e h = h
 
-key_kept : (c : Cert) (t : Table) (u v : ℕ) (k : List ℕ) → key_for t u v ≡ Some k → key_for (after_operation c t) u v ≡ Some k
-key_kept c t u v k h = all_keep (λ w. key_for w u v ≡ Some k) c.user c.number (λ zero a w e. key_becomes c.number u v k a w e) c.changes t h
+key_kept : (c : Cert) (t : Table) (u v : ℕ) (k : List ℕ) → (c.user ≡ 0 → IsLeft c.number u v) → key_for t u v ≡ Some k → key_for (after_operation c t) u v ≡ Some k
+key_kept c t u v k left h = all_keep (λ w. key_for w u v ≡ Some k) c.user c.number (λ zero a w e. key_becomes c.number u v k a w (left zero) e) c.changes t h
 
 -- an operation of user 0 leaves the keys for numbers before its own
 pub key_stays : (c : Cert) (t : Table) (u v : ℕ) (k : List ℕ) → (c.user ≡ 0 → v < c.number) → key_for t u v ≡ Some k → key_for (after_operation c t) u v ≡ Some k
-key_stays c t u v k below h = key_kept c t u v k h
+key_stays c t u v k below h = key_kept c t u v k (λ zero. inl (below zero)) h
 
 -- and user 0 has one key for good
 pub super_stays : (c : Cert) (t : Table) (v : ℕ) (k : List ℕ) → key_for t 0 v ≡ Some k → key_for (after_operation c t) 0 v ≡ Some k
-super_stays c t v k h = key_kept c t 0 v k h
+super_stays c t v k h = key_kept c t 0 v k (λ zero. inr refl) h

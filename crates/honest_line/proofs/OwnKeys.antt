@@ -6,7 +6,7 @@ use Rattle.layout.specs.Types.{Bytes, Digest, User}
 use Rattle.lms_sign.specs.Signature.{signature_of}
 use Rattle.lms_sign.proofs.Validity.{length-signature}
 use Rattle.leaf_ledger.specs.Ledger.{LeafNumber}
-use Rattle.update_cert.specs.Change.{Action, AddUser, Change}
+use Rattle.update_cert.specs.Change.{Action, AddUser, SetKey, Change}
 use Rattle.update_cert.specs.Cert.{Cert, cert}
 use Rattle.pending_list.specs.declared.signed.Signed.{Signed}
 use Rattle.release_runs.proofs.Stories.{OfCert, text}
@@ -18,6 +18,7 @@ use Rattle.honest_dialogues.specs.Dialogue.{GivesOwnKey}
 
 gives : (keys : Keys) (a : Action Digest) → GivesOwnKeyOf everybody keys a → GivesOwnKey (public_key keys) a
 gives keys (AddUser u key) g = g tt
+gives keys (SetKey u key) g = g tt
 gives keys other g = tt
 
 all_give : (keys : Keys) (changes : List (Change Digest)) → All (λ change. GivesOwnKeyOf everybody keys change.action) changes → All (λ change. GivesOwnKey (public_key keys) change.action) changes

@@ -31,7 +31,8 @@ bytes_placed k = search (spelling, bytes_action) depth 9
 bytes_table_fields : (k : ℕ) → SpellsBytes (table_fields k)
 bytes_table_fields zero = search spelling depth 9
 bytes_table_fields (suc zero) = search spelling depth 9
-bytes_table_fields (suc (suc n)) = search spelling depth 9
+bytes_table_fields (suc (suc zero)) = search spelling depth 9
+bytes_table_fields (suc (suc (suc n))) = search spelling depth 9
 
 bytes_fields : (k : ℕ) → SpellsBytes (fields k)
 bytes_fields zero = bytes_placed 0

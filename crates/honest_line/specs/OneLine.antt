@@ -58,7 +58,7 @@ pub record AreOnOneLine (keys : Keys) (run : List HonestEvent) : Type 0 where
   -- and what it shows is the world of that line.
   pub consistent : AreForkConsistent keys (events run)
 
--- No digest collides, and user 0's client added each user with the user's own key.
+-- No digest collides, and user 0's client added each user with the user's own key, and set no other.
 pub record HonestPremises (keys : Keys) (run : List HonestEvent) : Type 0 where
   pub no_collision : NoneCollide (all_texts keys run) (all_texts keys run)
   pub added : AddsOwnKeys keys (events run)

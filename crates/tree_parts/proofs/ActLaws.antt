@@ -11,12 +11,12 @@ use Rattle.layout.specs.Ascending.{Stands, row_at, with_row}
 use Rattle.directory.specs.Directory.{Entry, linked, unlinked}
 use Rattle.itable.specs.ITable.{digest_at}
 use Rattle.layout.specs.Types.{Digest}
-use Rattle.update_cert.specs.Change.{Action, Make, Put, Remove, Link, Unlink, AddUser, AddMember, DropMember, Change, action_of, table_action_of}
+use Rattle.update_cert.specs.Change.{Action, Make, Put, Remove, Link, Unlink, AddUser, AddMember, DropMember, SetKey, Change, action_of, table_action_of}
 use Rattle.update_cert.specs.declared.change.Action.{Action as Held}
 use Rattle.update_cert.specs.declared.change.Action.TheVariants as held
 use Rattle.update_cert.specs.declared.change.TableChange.{TableChange}
 use Rattle.update_cert.specs.declared.change.TableChange.TheVariants as table_change
-use Rattle.principals.specs.Table.{Table, user_added, member_added, member_dropped}
+use Rattle.principals.specs.Table.{Table, user_added, member_added, member_dropped, key_set}
 use Rattle.update_cert.specs.World.{Content, File, Directory, Principals, Actor, Tree, permitted, has_effect, action_fits, fits, has_room, has_name, entries_of, becomes, content_after, after, after_change, is_removable, is_root, is_table, changes_table}
 use Rattle.update_cert.specs.Reading.{Reading, after_read, read_action, read_change}
 use Rattle.tree_parts.specs.Part.{Open, Part, Slot, Changed, HasTable, IsPart, IsPartOf, number_of, opened_at, slot_at, slot_here, slot_of, stands_at}
@@ -185,6 +185,7 @@ none_fits actor p i (Unlink name) content place none = absurd cc
 none_fits actor p i (AddUser u key) content place none = rw place refl
 none_fits actor p i (AddMember g u) content place none = rw place refl
 none_fits actor p i (DropMember g u) content place none = rw place refl
+none_fits actor p i (SetKey u key) content place none = rw place refl
 
 pub unneeded : (reads : Reading) (actor : Actor) (c : Change Digest) (s : Option Slot) → is_table c.principal c.i_number ≡ false → needs_slot actor.user c.principal c.i_number c.action ≡ false → slot_changes reads actor c s ≡ false
 unfolding slot_changes has_effect
@@ -250,6 +251,7 @@ table_stays number actor p i true (Unlink name) t = (t, refl)
 table_stays number actor p i true (AddUser u key) t = chosen _ (user_added number u key t) t
 table_stays number actor p i true (AddMember g u) t = chosen _ (member_added number g u t) t
 table_stays number actor p i true (DropMember g u) t = chosen _ (member_dropped number g u t) t
+table_stays number actor p i true (SetKey u key) t = chosen _ (key_set number u key t) t
 
 table_after : (actor : Actor) (c : Change Content) (content : Option Content) → IsTableContent content → IsTableContent (content_after actor c content)
 unfolding content_after has_effect
@@ -277,6 +279,7 @@ content_becomes reads number actor p i (Unlink name) s place fit = refl
 content_becomes reads number actor p i (AddUser u key) s place fit = let clash = rw place at fit in absurd cc
 content_becomes reads number actor p i (AddMember g u) s place fit = let clash = rw place at fit in absurd cc
 content_becomes reads number actor p i (DropMember g u) s place fit = let clash = rw place at fit in absurd cc
+content_becomes reads number actor p i (SetKey u key) s place fit = let clash = rw place at fit in absurd cc
 
 content_step : (reads : Reading) (number : ℕ) (actor : Actor) (p i : ℕ) (a : Action Digest) (s : Option Slot) (may : Bool) → is_table p i ≡ false
     → content_in reads (if may && action_fits actor p i a (content_in reads s) then slot_becomes reads a s else s)
@@ -359,6 +362,7 @@ pub is_tables : (c : TableChange) → changes_table (table_action_of c) ≡ true
 is_tables (table_change.AddUser u key) = refl
 is_tables (table_change.AddMember g u) = refl
 is_tables (table_change.DropMember g u) = refl
+is_tables (table_change.SetKey u key) = refl
 
 -- it is void in no part
 pub not_of_part : (actor : Actor) (p : ℕ) (c : Change Digest) (tree : Tree) → changes_table c.action ≡ true → false ≡ is_void_of actor p c tree

@@ -6,7 +6,7 @@ use Rattle.std.proofs.Math.Bool.{and-false}
 use Rattle.std.proofs.lemmas.Bool.{and_parts, cases_lt}
 use Rattle.std.proofs.lemmas.Bool.Decides.{nat_tests}
 use Rattle.std.proofs.lemmas.Option.{slice_get_read, slice_get_within}
-use Rattle.update_cert.specs.Change.{Action, Make, Put, Remove, Link, Unlink, AddUser, AddMember, DropMember, Change}
+use Rattle.update_cert.specs.Change.{Action, Make, Put, Remove, Link, Unlink, AddUser, AddMember, DropMember, SetKey, Change}
 use Rattle.layout.specs.Types.{Digest, INumber}
 use Rattle.update_cert.specs.World.{Actor, is_root, is_table, permitted}
 use Rattle.directory.specs.Directory.{Entry}
@@ -141,6 +141,7 @@ inode_and_slot user p i (Unlink name) needs = refl
 inode_and_slot user p i (AddUser u key) needs = absurd cc
 inode_and_slot user p i (AddMember g u) needs = absurd cc
 inode_and_slot user p i (DropMember g u) needs = absurd cc
+inode_and_slot user p i (SetKey u key) needs = absurd cc
 
 -- where it asks for the i-node, it asks for the chunk
 asks_there : (actor : Actor) (c : Change Digest) → asks actor c ≡ true → asks_slot actor c ≡ true

@@ -4,7 +4,7 @@ use Rattle.std.specs.Prelude.{◌≡◌, ◌⊎◌, ◌==◌, ℕ, Bool, true, f
 use Rattle.std.specs.Option.{option_map}
 use Rattle.itable.specs.declared.inode.Kind.{Kind}
 use Rattle.itable.specs.declared.inode.Kind.TheVariants as kind
-use Rattle.update_cert.specs.Change.{Action, Make, Put, Remove, Link, Unlink, AddUser, AddMember, DropMember, Change}
+use Rattle.update_cert.specs.Change.{Action, Make, Put, Remove, Link, Unlink, AddUser, AddMember, DropMember, SetKey, Change}
 use Rattle.layout.specs.Types.{Digest, Handle, INumber, Principal, User}
 use Rattle.itable.specs.Chunk.{chunk_number}
 use Rattle.itable.specs.Root.{chunk_at}
@@ -115,6 +115,7 @@ needs_slot user p i (Unlink name) = true
 needs_slot user p i (AddUser u key) = false
 needs_slot user p i (AddMember g u) = false
 needs_slot user p i (DropMember g u) = false
+needs_slot user p i (SetKey u key) = false
 
 -- so it asks for the chunk that the i-number is in
 abbrev pub asks_slot : {C : Type 0} → Actor → Change C → Bool
@@ -133,6 +134,7 @@ needs_inode p i (Unlink name) = true
 needs_inode p i (AddUser u key) = false
 needs_inode p i (AddMember g u) = false
 needs_inode p i (DropMember g u) = false
+needs_inode p i (SetKey u key) = false
 
 -- and on its entries, where it is a directory
 abbrev pub needs_entries : {C : Type 0} → Action C → Bool
@@ -144,6 +146,7 @@ needs_entries (Unlink name) = true
 needs_entries (AddUser u key) = false
 needs_entries (AddMember g u) = false
 needs_entries (DropMember g u) = false
+needs_entries (SetKey u key) = false
 
 -- the change asks for what stands at its i-number
 abbrev pub asks : {C : Type 0} → Actor → Change C → Bool

@@ -10,7 +10,7 @@ use Rattle.itable.specs.ITable.{ITable, digest_at}
 use Rattle.itable.specs.declared.inode.Kind.TheVariants as kind
 use Rattle.directory.specs.Directory.{Entry, directory, linked, unlinked}
 use Rattle.layout.specs.Types.{Bytes, Digest, INumber, Principal}
-use Rattle.update_cert.specs.Change.{Action, Make, Put, Remove, Link, Unlink, AddUser, AddMember, DropMember, Change}
+use Rattle.update_cert.specs.Change.{Action, Make, Put, Remove, Link, Unlink, AddUser, AddMember, DropMember, SetKey, Change}
 use Rattle.update_cert.specs.World.{Content, Directory, Actor, entries_of, has_effect, is_table}
 use Rattle.update_cert.specs.Reading.{Reading}
 use Rattle.tree_parts.specs.Blocks.{Blocks, ForEachReading, IsHeld}
@@ -36,6 +36,7 @@ slot_becomes reads (Unlink name) s = Some (Changed (laid_under s) (unlinked (ent
 slot_becomes reads (AddUser u key) s = s
 slot_becomes reads (AddMember g u) s = s
 slot_becomes reads (DropMember g u) s = s
+slot_becomes reads (SetKey u key) s = s
 
 -- a change has effect on the slot at its i-number; the table of principals is no part's
 unfoldable pub slot_changes : Reading → Actor → Change Digest → Option Slot → Bool

@@ -4,7 +4,7 @@ use Rattle.std.specs.Prelude.{◌&&◌, IsSomeAnd, if◌then◌else◌}
 use Rattle.std.proofs.lemmas.Bool.Decides.{nat_tests}
 use Rattle.layout.specs.Types.{Digest}
 use Rattle.principals.specs.Table.{Table}
-use Rattle.update_cert.specs.Change.{Action, Make, Put, Remove, Link, Unlink, AddUser, AddMember, DropMember, Change, change}
+use Rattle.update_cert.specs.Change.{Action, Make, Put, Remove, Link, Unlink, AddUser, AddMember, DropMember, SetKey, Change, change}
 use Rattle.update_cert.specs.World.{Content, Principals, Actor, permitted, has_effect, action_fits, is_table, changes_table}
 use Rattle.update_cert.specs.Reading.{Reading, read_action, read_change}
 
@@ -18,6 +18,7 @@ fits_read reads actor p i (Unlink name) content = refl
 fits_read reads actor p i (AddUser u key) content = refl
 fits_read reads actor p i (AddMember g u) content = refl
 fits_read reads actor p i (DropMember g u) content = refl
+fits_read reads actor p i (SetKey u key) content = refl
 
 pub effect_read : (reads : Reading) (actor : Actor) (c : Change Digest) (content : Option Content) → has_effect actor (read_change reads c) content ≡ has_effect actor c content
 unfolding has_effect
@@ -33,6 +34,7 @@ kind_read reads (Unlink name) = refl
 kind_read reads (AddUser u key) = refl
 kind_read reads (AddMember g u) = refl
 kind_read reads (DropMember g u) = refl
+kind_read reads (SetKey u key) = refl
 
 -- no change but those of the table fits where the table of principals stands
 pub other_void : {C : Type 0} (actor : Actor) (p i : ℕ) (a : Action C) (t : Table) → changes_table a ≡ false → action_fits actor p i a (Some (Principals t)) ≡ false
@@ -44,6 +46,7 @@ other_void actor p i (Unlink name) t other = refl
 other_void actor p i (AddUser u key) t other = absurd cc
 other_void actor p i (AddMember g u) t other = absurd cc
 other_void actor p i (DropMember g u) t other = absurd cc
+other_void actor p i (SetKey u key) t other = absurd cc
 
 pub table_place : (p i : ℕ) → is_table p i ≡ true → (p ≡ 0) × (i ≡ 1)
 table_place p i is = grind (arith, nat_tests)
@@ -61,6 +64,7 @@ place_fits p i (Unlink name) fits is = absurd cc
 place_fits p i (AddUser u k) fits is = if_some _ (is_table p i) (Some (u, k)) fits.1
 place_fits p i (AddMember g u) fits is = if_some _ (is_table p i) (Some (g, u)) fits.1
 place_fits p i (DropMember g u) fits is = if_some _ (is_table p i) (Some (g, u)) fits.1
+place_fits p i (SetKey u k) fits is = if_some _ (is_table p i) (Some (u, k)) fits.1
 
 -- a change of the table is made at its place
 pub at_table : (c : Change Digest) → change.Fits c → changes_table c.action ≡ true → is_table c.principal c.i_number ≡ true

@@ -8,7 +8,7 @@ use Rattle.std.proofs.lemmas.List.Elements.{All-cons, All-head, All-nil, All-tai
 use Rattle.layout.specs.Format.{after_row, FitRows}
 use Rattle.layout.specs.Types.{Digest}
 use Rattle.principals.specs.Table.{Table}
-use Rattle.update_cert.specs.Change.{Action, Make, Put, Remove, Link, Unlink, AddUser, AddMember, DropMember, Change, change}
+use Rattle.update_cert.specs.Change.{Action, Make, Put, Remove, Link, Unlink, AddUser, AddMember, DropMember, SetKey, Change, change}
 use Rattle.update_cert.specs.Cert.{Cert, cert, change_rows}
 use Rattle.update_cert.specs.World.{Actor, Content, Principals, Tree, permitted, has_effect, action_fits, becomes, content_after, after_change, after, void_from, is_table, changes_table, is_of_table}
 use Rattle.update_cert.specs.Reading.{Reading, read_action, read_change, read_changes, after_read, void_of_table_read}
@@ -38,7 +38,7 @@ or_false false = refl
 may_change : (actor : Actor) (c : Change Digest) → c.principal ≡ 0 → permitted actor c ≡ (actor.user == 0)
 may_change actor c of = rw of (or_false (0 == actor.user) ∙ zero_test actor.user)
 
-fits_is : (actor : Actor) (p i : ℕ) (a : Action Digest) (t : Table) → is_table p i ≡ true → changes_table a ≡ true → action_fits actor p i a (Some (Principals t)) ≡ alters a t
+fits_is : (actor : Actor) (p i : ℕ) (a : Action Digest) (t : Table) → is_table p i ≡ true → changes_table a ≡ true → action_fits actor p i a (Some (Principals t)) ≡ alters actor.number a t
 fits_is actor p i (Make new) t place is = absurd cc
 fits_is actor p i (Put new) t place is = absurd cc
 fits_is actor p i Remove t place is = absurd cc
@@ -47,6 +47,7 @@ fits_is actor p i (Unlink name) t place is = absurd cc
 fits_is actor p i (AddUser u key) t place is = rw place refl
 fits_is actor p i (AddMember g u) t place is = rw place refl
 fits_is actor p i (DropMember g u) t place is = rw place refl
+fits_is actor p i (SetKey u key) t place is = rw place refl
 
 becomes_is : (reads : Reading) (number : ℕ) (a : Action Digest) (t : Table) → changes_table a ≡ true → becomes number (read_action reads a) (Some (Principals t)) ≡ Some (Principals (table_becomes number a t))
 becomes_is reads number (Make new) t is = absurd cc
@@ -57,9 +58,10 @@ becomes_is reads number (Unlink name) t is = absurd cc
 becomes_is reads number (AddUser u key) t is = refl
 becomes_is reads number (AddMember g u) t is = refl
 becomes_is reads number (DropMember g u) t is = refl
+becomes_is reads number (SetKey u key) t is = refl
 
 -- it has effect in the tree where it has on the table
-tables_effect : (actor : Actor) (c : Change Digest) (t : Table) → is_table c.principal c.i_number ≡ true → changes_table c.action ≡ true → has_effect actor c (Some (Principals t)) ≡ table_effect actor.user c t
+tables_effect : (actor : Actor) (c : Change Digest) (t : Table) → is_table c.principal c.i_number ≡ true → changes_table c.action ≡ true → has_effect actor c (Some (Principals t)) ≡ table_effect actor.user actor.number c t
 unfolding has_effect
 tables_effect actor c t place is =
     let of = (table_place c.principal c.i_number place).0 in
@@ -78,7 +80,7 @@ tables_content : (reads : Reading) (actor : Actor) (c : Change Digest) (t : Tabl
 unfolding content_after
 tables_content reads actor c t place is =
     let e = effect_read reads actor c (Some (Principals t)) ∙ tables_effect actor c t place is in
-    rw e (content_if (table_effect actor.user c t) (becomes actor.number (read_action reads c.action) (Some (Principals t))) (table_becomes actor.number c.action t) t (becomes_is reads actor.number c.action t is))
+    rw e (content_if (table_effect actor.user actor.number c t) (becomes actor.number (read_action reads c.action) (Some (Principals t))) (table_becomes actor.number c.action t) t (becomes_is reads actor.number c.action t is))
 
 others_content : (reads : Reading) (actor : Actor) (c : Change Digest) (t : Table) → changes_table c.action ≡ false
     → content_after actor (read_change reads c) (Some (Principals t)) ≡ Some (Principals t)
@@ -86,7 +88,7 @@ unfolding content_after
 others_content reads actor c t other = rw (effect_read reads actor c (Some (Principals t)) ∙ others_effect actor c t other) refl
 
 others_change : (user number : ℕ) (c : Change Digest) (t : Table) → changes_table c.action ≡ false → table_after_change user number c t ≡ t
-others_change user number c t other = rw (other_alters c.action t other) (rw (and-false (user == 0)) refl)
+others_change user number c t other = rw (other_alters number c.action t other) (rw (and-false (user == 0)) refl)
 
 here : (p i : ℕ) → is_table p i ≡ true → ((0 == p) && (1 == i)) ≡ true
 here p i place = grind (arith, nat_tests)
@@ -105,7 +107,7 @@ stands_step reads actor c tree t false is fits stood =
     ∙ sym (ap (λ (x : Table). Some (Principals x)) (others_change actor.user actor.number c t is))
 
 void_is : (reads : Reading) (actor : Actor) (c : Change Digest) (tree : Tree) (t : Table) (is : Bool) → changes_table c.action ≡ is → change.Fits c → tree 0 1 ≡ Some (Principals t)
-    → (is_of_table (read_change reads c) && not (has_effect actor (read_change reads c) (tree c.principal c.i_number))) ≡ is_void_on actor.user c t
+    → (is_of_table (read_change reads c) && not (has_effect actor (read_change reads c) (tree c.principal c.i_number))) ≡ is_void_on actor.user actor.number c t
 void_is reads actor c tree t true is fits stood =
     let place = at_table c fits is in
     let at = table_place c.principal c.i_number place in
@@ -136,7 +138,7 @@ voids_from n reads actor (c ∷ cs) tree t fits stood =
     let next = after_change actor (read_change reads c) tree in
     let table = table_after_change actor.user actor.number c t in
     let c_fits = All-head change.Fits c cs fits in
-    voids_step n (is_of_table (read_change reads c) && not (has_effect actor (read_change reads c) (tree c.principal c.i_number))) (is_void_on actor.user c t) (void_from (n + 1) actor is_of_table (read_changes reads cs) next) (table_voids (n + 1) actor.user actor.number cs table)
+    voids_step n (is_of_table (read_change reads c) && not (has_effect actor (read_change reads c) (tree c.principal c.i_number))) (is_void_on actor.user actor.number c t) (void_from (n + 1) actor is_of_table (read_changes reads cs) next) (table_voids (n + 1) actor.user actor.number cs table)
     (void_is reads actor c tree t (changes_table c.action) refl c_fits stood)
     (voids_from (n + 1) reads actor cs next table (All-tail change.Fits c cs fits) (stands_step reads actor c tree t (changes_table c.action) refl c_fits stood))
 

@@ -16,7 +16,7 @@ use Rattle.update_cert.specs.declared.change.AnyAction.{AnyAction}
 use Rattle.update_cert.specs.declared.change.AnyAction.TheVariants as any_action
 
 -- What is done. Make and Put have what is to stand there: in a certificate the digest of its i-node, in an operation
--- the content. Link has the new entry, and Unlink the name of one. The last three are done to the table of principals,
+-- the content. Link has the new entry, and Unlink the name of one. The last four are done to the table of principals,
 -- at user 0's i-number 1.
 pub data Action (C : Type 0) : Type 0 where
   Make : C → Action C
@@ -27,6 +27,7 @@ pub data Action (C : Type 0) : Type 0 where
   AddUser : User → Key → Action C
   AddMember : Group → User → Action C
   DropMember : Group → User → Action C
+  SetKey : User → Key → Action C
 
 -- what is done at an i-number of a principal
 pub record Change (C : Type 0) : Type 0 where
@@ -51,6 +52,7 @@ abbrev pub table_action_of : TableChange → Action Digest
 table_action_of (table_change.AddUser u key) = AddUser u key
 table_action_of (table_change.AddMember g u) = AddMember g u
 table_action_of (table_change.DropMember g u) = DropMember g u
+table_action_of (table_change.SetKey u key) = SetKey u key
 
 -- what a change in memory does
 abbrev pub any_action_of : {A : Type 0} → AnyAction A → Action Digest
@@ -69,6 +71,7 @@ kind (Unlink old) = 5
 kind (AddUser u k) = 6
 kind (AddMember g u) = 7
 kind (DropMember g u) = 8
+kind (SetKey u k) = 9
 
 abbrev pub as_make : Action Digest → Option Digest
 as_make (Make inode) = Some inode
@@ -102,6 +105,10 @@ abbrev pub as_drop_member : Action Digest → Option (Group × User)
 as_drop_member (DropMember g u) = Some (g, u)
 as_drop_member other = None
 
+abbrev pub as_set_key : Action Digest → Option (User × Key)
+as_set_key (SetKey u key) = Some (u, key)
+as_set_key other = None
+
 -- what stands after the place of a change: the digest of an i-node for 1 and 2, nothing for 3, an entry for 4, a name
 -- for 5
 abbrev pub action : ℕ → Format (Action Digest)
@@ -123,12 +130,13 @@ placed_fields k =
 abbrev pub in_table : {X : Type 0} → (Action Digest → Option X) → Change Digest → Option X
 in_table from c = if (c.principal == 0) && (c.i_number == 1) then from c.action else None
 
--- The fields after the kinds 6 to 8, of changes of the table, counted from 0: a user and its key, or a group and a
+-- The fields after the kinds 6 to 9, of changes of the table, counted from 0: a user and its key, or a group and a
 -- user. Their place isn't written.
 abbrev pub table_fields : ℕ → Format (Change Digest)
 table_fields zero = variant (λ p. of_table (AddUser p.0 p.1)) (in_table as_add_user) (pair user key)
 table_fields (suc zero) = variant (λ p. of_table (AddMember p.0 p.1)) (in_table as_add_member) (pair group user)
-table_fields (suc (suc n)) = variant (λ p. of_table (DropMember p.0 p.1)) (in_table as_drop_member) (pair group user)
+table_fields (suc (suc zero)) = variant (λ p. of_table (DropMember p.0 p.1)) (in_table as_drop_member) (pair group user)
+table_fields (suc (suc (suc n))) = variant (λ p. of_table (SetKey p.0 p.1)) (in_table as_set_key) (pair user key)
 
 -- the fields after the kind
 abbrev pub fields : ℕ → Format (Change Digest)
@@ -144,4 +152,4 @@ abbrev pub kind_of : {C : Type 0} → Change C → ℕ
 kind_of c = kind c.action
 
 abbrev pub change : Format (Change Digest)
-change = sized (uint_in w8 1 8) kind_of fields
+change = sized (uint_in w8 1 9) kind_of fields

@@ -18,7 +18,7 @@ use Rattle.directory.specs.DirectoryLaws.{lawful_named, at_most_name, at_most_na
 use Rattle.directory.specs.Name.{name}
 use Rattle.directory.specs.NameLaws.{lawful_name}
 use Rattle.update_cert.specs.declared.change.TheConstants.{CHANGE_SIZE}
-use Rattle.update_cert.specs.Change.{Action, Change, of_table, kind, as_make, as_put, as_remove, as_link, as_unlink, as_add_user, as_add_member, as_drop_member, action, placed_fields, in_table, table_fields, fields, kind_of, change, Make, Put, Remove, Link, Unlink, AddUser, AddMember, DropMember}
+use Rattle.update_cert.specs.Change.{Action, Change, of_table, kind, as_make, as_put, as_remove, as_link, as_unlink, as_add_user, as_add_member, as_drop_member, as_set_key, action, placed_fields, in_table, table_fields, fields, kind_of, change, Make, Put, Remove, Link, Unlink, AddUser, AddMember, DropMember, SetKey}
 
 -- ---- its laws
 
@@ -62,6 +62,10 @@ is_drop_member : (a : Action Digest) (x : Group × User) → as_drop_member a �
 is_drop_member (DropMember g u) x e = cc
 is_drop_member other x e = absurd cc
 
+is_set_key : (a : Action Digest) (x : User × Key) → as_set_key a ≡ Some x → SetKey x.0 x.1 ≡ a
+is_set_key (SetKey u key) x e = cc
+is_set_key other x e = absurd cc
+
 in_table_at : {X : Type 0} (t : Bool) (o : Option X) (x : X) → (if t then o else None) ≡ Some x → (t ≡ true) × (o ≡ Some x)
 in_table_at true o x e = (refl, e)
 in_table_at false o x e = absurd cc
@@ -84,7 +88,8 @@ lawful_placed k = search (laws, lawful_action) depth 9
 lawful_table_fields : (k : ℕ) → Lawful (table_fields k)
 lawful_table_fields zero = lawful_variant (λ p. of_table (AddUser p.0 p.1)) (in_table as_add_user) (pair user key) (λ x. refl) (table_is (λ p. AddUser p.0 p.1) as_add_user is_add_user) (search (laws, lawful_key))
 lawful_table_fields (suc zero) = lawful_variant (λ p. of_table (AddMember p.0 p.1)) (in_table as_add_member) (pair group user) (λ x. refl) (table_is (λ p. AddMember p.0 p.1) as_add_member is_add_member) (search laws)
-lawful_table_fields (suc (suc n)) = lawful_variant (λ p. of_table (DropMember p.0 p.1)) (in_table as_drop_member) (pair group user) (λ x. refl) (table_is (λ p. DropMember p.0 p.1) as_drop_member is_drop_member) (search laws)
+lawful_table_fields (suc (suc zero)) = lawful_variant (λ p. of_table (DropMember p.0 p.1)) (in_table as_drop_member) (pair group user) (λ x. refl) (table_is (λ p. DropMember p.0 p.1) as_drop_member is_drop_member) (search laws)
+lawful_table_fields (suc (suc (suc n))) = lawful_variant (λ p. of_table (SetKey p.0 p.1)) (in_table as_set_key) (pair user key) (λ x. refl) (table_is (λ p. SetKey p.0 p.1) as_set_key is_set_key) (search (laws, lawful_key))
 
 lawful_fields : (k : ℕ) → Lawful (fields k)
 lawful_fields zero = lawful_placed 0
@@ -95,25 +100,26 @@ lawful_fields (suc (suc (suc (suc zero)))) = lawful_placed 4
 lawful_fields (suc (suc (suc (suc (suc zero))))) = lawful_placed 5
 lawful_fields (suc (suc (suc (suc (suc (suc n)))))) = lawful_table_fields n
 
-same_table_kind : (k : ℕ) (c : Change Digest) → k ≤ 2 → (table_fields k).Fits c → kind_of c ≡ suc (suc (suc (suc (suc (suc k)))))
+same_table_kind : (k : ℕ) (c : Change Digest) → k ≤ 3 → (table_fields k).Fits c → kind_of c ≡ suc (suc (suc (suc (suc (suc k)))))
 same_table_kind zero c few fits = ap kind_of (sym (variant_is _ (in_table as_add_user) (pair user key) (table_is (λ p. AddUser p.0 p.1) as_add_user is_add_user) c fits).1)
 same_table_kind (suc zero) c few fits = ap kind_of (sym (variant_is _ (in_table as_add_member) (pair group user) (table_is (λ p. AddMember p.0 p.1) as_add_member is_add_member) c fits).1)
-same_table_kind (suc (suc n)) c few fits = ap kind_of (sym (variant_is _ (in_table as_drop_member) (pair group user) (table_is (λ p. DropMember p.0 p.1) as_drop_member is_drop_member) c fits).1) ∙ omega (arith, few)
+same_table_kind (suc (suc zero)) c few fits = ap kind_of (sym (variant_is _ (in_table as_drop_member) (pair group user) (table_is (λ p. DropMember p.0 p.1) as_drop_member is_drop_member) c fits).1)
+same_table_kind (suc (suc (suc n))) c few fits = ap kind_of (sym (variant_is _ (in_table as_set_key) (pair user key) (table_is (λ p. SetKey p.0 p.1) as_set_key is_set_key) c fits).1) ∙ omega (arith, few)
 
 -- what is read after a kind is of this kind
-same_kind : (k : ℕ) (c : Change Digest) → (uint_in w8 1 8).Fits k → (fields k).Fits c → kind_of c ≡ k
-same_kind zero c few fits = let range = in_range w8 1 8 zero few in absurd (omega (arith, range.0))
+same_kind : (k : ℕ) (c : Change Digest) → (uint_in w8 1 9).Fits k → (fields k).Fits c → kind_of c ≡ k
+same_kind zero c few fits = let range = in_range w8 1 9 zero few in absurd (omega (arith, range.0))
 same_kind (suc zero) c few fits = ap kind (sym (variant_is _ as_make (raw 32) is_make c.action fits.1.1).1)
 same_kind (suc (suc zero)) c few fits = ap kind (sym (variant_is _ as_put (raw 32) is_put c.action fits.1.1).1)
 same_kind (suc (suc (suc zero))) c few fits = ap kind (sym (variant_is _ as_remove nothing is_remove c.action fits.1.1).1)
 same_kind (suc (suc (suc (suc zero)))) c few fits = ap kind (sym (variant_is _ as_link named is_link c.action fits.1.1).1)
 same_kind (suc (suc (suc (suc (suc zero))))) c few fits = ap kind (sym (variant_is _ as_unlink name is_unlink c.action fits.1.1).1)
 same_kind (suc (suc (suc (suc (suc (suc n)))))) c few fits =
-    let range = in_range w8 1 8 (suc (suc (suc (suc (suc (suc n)))))) few in
+    let range = in_range w8 1 9 (suc (suc (suc (suc (suc (suc n)))))) few in
     same_table_kind n c (omega (arith, range.1)) fits
 
 pub lawful_change : Lawful change
-lawful_change = lawful_sized (uint_in w8 1 8) kind_of fields (search laws) lawful_fields same_kind
+lawful_change = lawful_sized (uint_in w8 1 9) kind_of fields (search laws) lawful_fields same_kind
 
 -- ---- sizes
 
@@ -137,7 +143,8 @@ at_most_member = at_most_more (pair group user) 2 262 (at_most_pair group user 1
 at_most_table_fields : (k : ℕ) → AtMost (table_fields k) 262
 at_most_table_fields zero = at_most_variant (λ p. of_table (AddUser p.0 p.1)) (in_table as_add_user) (pair user key) 262 at_most_listing
 at_most_table_fields (suc zero) = at_most_variant (λ p. of_table (AddMember p.0 p.1)) (in_table as_add_member) (pair group user) 262 at_most_member
-at_most_table_fields (suc (suc n)) = at_most_variant (λ p. of_table (DropMember p.0 p.1)) (in_table as_drop_member) (pair group user) 262 at_most_member
+at_most_table_fields (suc (suc zero)) = at_most_variant (λ p. of_table (DropMember p.0 p.1)) (in_table as_drop_member) (pair group user) 262 at_most_member
+at_most_table_fields (suc (suc (suc n))) = at_most_variant (λ p. of_table (SetKey p.0 p.1)) (in_table as_set_key) (pair user key) 262 at_most_listing
 
 at_most_fields : (k : ℕ) → AtMost (fields k) 262
 at_most_fields zero = at_most_placed 0
@@ -149,4 +156,4 @@ at_most_fields (suc (suc (suc (suc (suc zero))))) = at_most_placed 5
 at_most_fields (suc (suc (suc (suc (suc (suc n)))))) = at_most_table_fields n
 
 pub at_most_change : AtMost change CHANGE_SIZE
-at_most_change = at_most_sized (uint_in w8 1 8) kind_of fields 1 262 (at_most_uint_in w8 1 8 wide8) at_most_fields
+at_most_change = at_most_sized (uint_in w8 1 9) kind_of fields 1 262 (at_most_uint_in w8 1 9 wide8) at_most_fields

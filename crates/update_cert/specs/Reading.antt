@@ -1,7 +1,7 @@
 -- What digests stand for, and the changes of a certificate so read.
 use Rattle.std.specs.Prelude.{ℕ, List, Option, map}
 use Rattle.layout.specs.Types.{Digest, Handle, INumber, Principal}
-use Rattle.update_cert.specs.Change.{Action, Make, Put, Remove, Link, Unlink, AddUser, AddMember, DropMember, Change}
+use Rattle.update_cert.specs.Change.{Action, Make, Put, Remove, Link, Unlink, AddUser, AddMember, DropMember, SetKey, Change}
 use Rattle.update_cert.specs.World.{Actor, Content, Tree, after, void, void_of, void_of_table}
 
 -- what the i-node of a digest is of, and the digest of the i-node at an i-number of a principal's i-table with a
@@ -21,6 +21,7 @@ read_action reads (Unlink name) = Unlink name
 read_action reads (AddUser u key) = AddUser u key
 read_action reads (AddMember g u) = AddMember g u
 read_action reads (DropMember g u) = DropMember g u
+read_action reads (SetKey u key) = SetKey u key
 
 abbrev pub read_change : Reading → Change Digest → Change Content
 read_change reads c = record { principal = c.principal; i_number = c.i_number; action = read_action reads c.action }

@@ -9,15 +9,15 @@ use Rattle.update_cert.specs.Change.{Change}
 use Rattle.update_cert.specs.World.{is_of_table}
 use Rattle.update_cert.specs.Tables.{table_effect, table_after_change}
 
--- the change is one of the table, and has no effect on it in an operation of the user's
-abbrev pub is_void_on : {C : Type 0} → User → Change C → Table → Bool
-is_void_on user c t = is_of_table c && not (table_effect user c t)
+-- the change is one of the table, and has no effect on it in the user's operation of this number
+abbrev pub is_void_on : {C : Type 0} → User → Version → Change C → Table → Bool
+is_void_on user number c t = is_of_table c && not (table_effect user number c t)
 
 -- the numbers of such changes, counted from this one
 unfoldable pub table_voids : {C : Type 0} → ℕ → User → Version → List (Change C) → Table → List ℕ
 table_voids n user number [] t = []
 table_voids n user number (c ∷ cs) t =
-    if is_void_on user c t
+    if is_void_on user number c t
     then n ∷ table_voids (n + 1) user number cs (table_after_change user number c t)
     else table_voids (n + 1) user number cs (table_after_change user number c t)
 

@@ -1,12 +1,12 @@
 -- The file system of all users and groups, and what an operation makes of it: its changes in turn, each with its effect
 -- where it is permitted and fits what stands at its i-number then, else with none.
 -- What changes do stands in docs/RULES.md.
-use Rattle.std.specs.Prelude.{ℕ, ◌+◌, ◌/◌, ◌==◌, Bool, true, false, ◌&&◌, ◌||◌, not, List, [], ◌∷◌, length, Option, Some, None, is_some, nat_le, nat_lt, if◌then◌else◌}
+use Rattle.std.specs.Prelude.{ℕ, ◌+◌, ◌/◌, ◌==◌, Bool, true, false, ◌&&◌, ◌||◌, not, List, [], ◌∷◌, length, Option, Some, None, is_none, is_some, nat_le, nat_lt, if◌then◌else◌}
 use Rattle.layout.specs.Types.{Bytes, Group, INumber, Key, Principal, User, Version}
 use Rattle.directory.specs.Directory.{Entry, target_of, linked, unlinked}
 use Rattle.directory.specs.declared.directory.TheConstants.{MOST_ENTRIES}
-use Rattle.principals.specs.Table.{Table, genesis as first_table, lists_user, is_member_now, user_added, member_added, member_dropped}
-use Rattle.update_cert.specs.Change.{Action, Make, Put, Remove, Link, Unlink, AddUser, AddMember, DropMember, Change}
+use Rattle.principals.specs.Table.{Table, genesis as first_table, lists_user, is_member_now, user_added, member_added, member_dropped, key_set, key_refused}
+use Rattle.update_cert.specs.Change.{Action, Make, Put, Remove, Link, Unlink, AddUser, AddMember, DropMember, SetKey, Change}
 
 -- a file of these bytes, a directory of these entries, or the table of principals
 pub data Content : Type 0 where
@@ -98,6 +98,13 @@ has_member g u (Some (File bytes)) = false
 has_member g u (Some (Directory entries)) = false
 has_member g u (Some (Principals table)) = is_member_now table g u
 
+-- a table in which the user takes one more key at this number
+abbrev pub takes_key : User → Version → Option Content → Bool
+takes_key u number None = false
+takes_key u number (Some (File bytes)) = false
+takes_key u number (Some (Directory entries)) = false
+takes_key u number (Some (Principals table)) = is_none (key_refused table u number)
+
 -- an action at an i-number of a principal, in this actor's operation, fits what stands there
 abbrev pub action_fits : {C : Type 0} → Actor → Principal → INumber → Action C → Option Content → Bool
 action_fits actor p i (Make new) content = not (is_some content) && may_make actor.user p i
@@ -108,6 +115,7 @@ action_fits actor p i (Unlink name) content = has_name name content
 action_fits actor p i (AddUser u key) content = is_table p i && lacks_user u content
 action_fits actor p i (AddMember g u) content = is_table p i && lacks_member g u content
 action_fits actor p i (DropMember g u) content = is_table p i && has_member g u content
+action_fits actor p i (SetKey u key) content = is_table p i && takes_key u actor.number content
 
 abbrev pub fits : {C : Type 0} → Actor → Change C → Option Content → Bool
 fits actor c content = action_fits actor c.principal c.i_number c.action content
@@ -142,6 +150,7 @@ becomes number (Unlink name) content = Some (Directory (unlinked (entries_of con
 becomes number (AddUser u key) content = Some (Principals (user_added number u key (table_of content)))
 becomes number (AddMember g u) content = Some (Principals (member_added number g u (table_of content)))
 becomes number (DropMember g u) content = Some (Principals (member_dropped number g u (table_of content)))
+becomes number (SetKey u key) content = Some (Principals (key_set number u key (table_of content)))
 
 -- what stands at its i-number after the change
 unfoldable pub content_after : Actor → Change Content → Option Content → Option Content
@@ -179,6 +188,7 @@ changes_table (Unlink name) = false
 changes_table (AddUser u key) = true
 changes_table (AddMember g u) = true
 changes_table (DropMember g u) = true
+changes_table (SetKey u key) = true
 
 -- the change is one of the table
 abbrev pub is_of_table : {C : Type 0} → Change C → Bool

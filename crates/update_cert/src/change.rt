@@ -42,6 +42,8 @@ pub enum TableChange {
     AddMember(Group, User),
     /// The user is no member of the group any more.
     DropMember(Group, User),
+    /// The user has this key, too, from now on.
+    SetKey(User, PublicKey),
 }
 
 /// What a change does: at an i-number, or to the table.
@@ -149,7 +151,7 @@ impl<A: Allocator + Copy> Action<A> {
 /// A change of this kind of the table, in what is left of a text.
 fn read_table_change(reader: &mut Reader<'_>, kind: u8) -> Result<TableChange, ReadError>
     requires low { 6 ≤ kind }
-    requires high { kind ≤ 8 }
+    requires high { kind ≤ 9 }
     ensures reads { ReadsAs (λ change. of_table (table_action_of change)) result reader.new
         ((fields kind).read reader.old) }
     ensures no_memory { IfErr result (λ e. e ≢ read_error.Memory) }
@@ -163,10 +165,15 @@ fn read_table_change(reader: &mut Reader<'_>, kind: u8) -> Result<TableChange, R
             let group = reader.group()?;
             Ok(TableChange::AddMember(group, reader.user()?))
         }
-        _ => {
+        8 => {
             let group = reader.group()?;
             Ok(TableChange::DropMember(group, reader.user()?))
         }
+        9 => {
+            let user = reader.user()?;
+            Ok(TableChange::SetKey(user, read_key(reader)?))
+        }
+        _ => unreachable!(),
     }
 }
 
@@ -179,6 +186,7 @@ impl TableChange {
             TableChange::AddUser(_, _) => 6,
             TableChange::AddMember(_, _) => 7,
             TableChange::DropMember(_, _) => 8,
+            TableChange::SetKey(_, _) => 9,
         }
     }
 
@@ -187,7 +195,7 @@ impl TableChange {
         ensures { (fields (kind (table_action_of self.now))).Fits (of_table (table_action_of self.now)) }
     {
         match self {
-            TableChange::AddUser(user, key) => {
+            TableChange::AddUser(user, key) | TableChange::SetKey(user, key) => {
                 let _number = user.get();
                 key_invariant(key);
             }
@@ -204,7 +212,7 @@ impl TableChange {
         ensures front { BeginsWith writer.new writer.old }
     {
         match self {
-            TableChange::AddUser(user, key) => {
+            TableChange::AddUser(user, key) | TableChange::SetKey(user, key) => {
                 writer.user(*user)?;
                 writer.bytes(key.as_bytes())
             }
@@ -223,7 +231,7 @@ fn read_after_kind<A: Allocator + Copy>(
     kind: u8,
 ) -> Result<Change<A>, ReadError>
     requires low { 1 ≤ kind }
-    requires high { kind ≤ 8 }
+    requires high { kind ≤ 9 }
     ensures reads { Reads result reader.new ((fields kind).read reader.old) }
 {
     if kind > 5 {
@@ -252,7 +260,7 @@ impl<A: Allocator + Copy> RowFormat<A> for Changes {
         reader: &mut Reader<'_>,
         _before: Option<&Change<A>>,
     ) -> Result<Change<A>, ReadError> {
-        let kind = reader.u8_in(1, 8)?;
+        let kind = reader.u8_in(1, 9)?;
         read_after_kind(alloc, reader, kind)
     }
 

@@ -36,9 +36,9 @@ fn alter<A: Allocator + Copy>(
     number: Version,
     change: &TableChange,
 ) -> Result<bool, Memory>
-    ensures effect { IfOk result (λ effect. effect ≡ alters (table_action_of change.now) table.old) }
+    ensures effect { IfOk result (λ effect. effect ≡ alters number (table_action_of change.now) table.old) }
     ensures table { OnOk result (table.new
-        ≡ (if alters (table_action_of change.now) table.old
+        ≡ (if alters number (table_action_of change.now) table.old
         then table_becomes number (table_action_of change.now) table.old else table.old)) }
     ensures fits { table_format.Fits table.old → NoneAfter number table.old
         → OnOk result (table_format.Fits table.new) }
@@ -51,6 +51,7 @@ fn alter<A: Allocator + Copy>(
             had_effect(table.add_member(number, Principal::from(*group), *user))
         }
         TableChange::DropMember(group, user) => Ok(table.end_member(number, *group, *user)),
+        TableChange::SetKey(user, key) => had_effect(table.set_key(number, *user, *key)),
     }
 }
 
@@ -62,7 +63,7 @@ fn apply_change<A: Allocator + Copy>(
     number: Version,
     change: &Change<A>,
 ) -> Result<bool, Memory>
-    ensures void { IfOk result (λ is_void. is_void ≡ is_void_on user change.now table.old) }
+    ensures void { IfOk result (λ is_void. is_void ≡ is_void_on user number change.now table.old) }
     ensures table { OnOk result (table.new ≡ table_after_change user number change.now table.old) }
     ensures fits { table_format.Fits table.old → NoneAfter number table.old
         → OnOk result (table_format.Fits table.new) }

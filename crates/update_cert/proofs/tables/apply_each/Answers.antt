@@ -35,7 +35,7 @@ loop-place-preserved g c =
     let at = rw c.changes-change-items.ensures at c.change-item.is in
     let front = take_next cs k change inside at in
     let long : length (take k cs) ≡ k = length-take k cs ∙ omega (arith, inside) in
-    let told = done.void ∙ ap (λ (u : ℕ). is_void_on u change old) c.user-user.ensures.same in
+    let told = done.void ∙ ap (λ (u : ℕ). is_void_on u c.number-number.result change old) c.user-user.ensures.same ∙ ap (λ (n : ℕ). is_void_on user n change old) c.number-number.ensures in
     let moved = done.table ∙ ap (λ (u : ℕ). table_after_change u c.number-number.result change old) c.user-user.ensures.same ∙ ap (λ (n : ℕ). table_after_change user n change old) c.number-number.ensures in
     record {
       table = table_next user number (take k cs) (take (k + 1) cs) change first old new front inv.table moved;
