@@ -69,7 +69,7 @@ static CERTIFICATES: &[u8] = b"\
     range|SUC1\0\0\0\0\0\n\
     range|$cert|\x11\n\
     range|$cert|\x01\0\n\
-    range|$cert|\x01\x09\n\
+    range|$cert|\x01|$kind 10\n\
     range|$cert|\x01\x03\x60\n\
     range|$cert|\x01\x03\0\0\0\n\
     range|$cert|\x01\x03\0\x10\0\n\
@@ -82,7 +82,7 @@ static CERTIFICATES: &[u8] = b"\
     range|$cert|\x01\x05\0\0\x02\0\n\
     range|$cert|\x01\x05\0\0\x02\x01/\n\
     range|$cert|\x01\x05\0\0\x02\x01.\n\
-    range|$cert|\x02\x03\0\0\x01\x09\n\
+    range|$cert|\x02\x03\0\0\x01|$kind 10\n\
     # one change of each kind\n\
     none|$cert|\x01\x01\0\0\x03|$digest\n\
     none|$cert|\x01\x02\x3f\x01\x04|$digest\n\
@@ -263,7 +263,7 @@ const OTHER_TREE: &[u8; 56] =
 const OTHER_ONCE: &[u8; 56] =
     b"\x00\x00\x00\x06\x00\x00\x00\x04................................................";
 
-/// Certificates with changes of the table of principals: kinds 6 to 8, and 9.
+/// Certificates with changes of the table of principals: kinds 6 to 9, and 10.
 static TABLE_CHANGES: &[u8] = b"\
     none|$cert|\x01\x06\x01|$key\n\
     none|$cert|\x01\x06\x3f|$key\n\
@@ -279,7 +279,12 @@ static TABLE_CHANGES: &[u8] = b"\
     none|$cert|\x01\x08\x5f\x3f\n\
     range|$cert|\x01\x08\x3f\0\n\
     range|$cert|\x01\x08\x40\x40\n\
-    range|$cert|\x01\x09";
+    none|$cert|\x01\x09\x01|$key\n\
+    none|$cert|\x01\x09\x3f|$key\n\
+    range|$cert|\x01\x09\x40\n\
+    short|$cert|\x01\x09\x01\0\0\0\x06\0\0\0\x04\n\
+    range|$cert|\x01\x09\x01|$other once\n\
+    range|$cert|\x01|$kind 10";
 
 /// Tables of principals up to the end of the users.
 static USERS: &[u8] = b"\
@@ -456,7 +461,7 @@ fn ends_there(rt: &impl Host, kind: &Kind, text: &[u8]) {
 }
 
 /// What the names of pieces stand for.
-static PIECES: [(&[u8], &[u8]); 14] = [
+static PIECES: [(&[u8], &[u8]); 15] = [
     (b"$digest", DIGEST),
     (b"$signature", SIGNATURE),
     (b"$cert", CERT),
@@ -468,6 +473,7 @@ static PIECES: [(&[u8], &[u8]); 14] = [
     (b"$other tree", OTHER_TREE),
     (b"$other once", OTHER_ONCE),
     (b"$two users", TWO_USERS),
+    (b"$kind 10", b"\x0a"),
     (b"$31 zeros", &[0; 31]),
     (b"$2080 zeros", &[0; 2080]),
     (b"$255 letters", &[b'x'; 255]),
@@ -532,7 +538,7 @@ fn texts_have_their_faults(rt: HostRuntime) {
         (Kind::Chunk, CHUNKS, 19),
         (Kind::Root, ROOTS, 13),
         (Kind::Directory, DIRECTORIES, 28),
-        (Kind::Certificate, TABLE_CHANGES, 15),
+        (Kind::Certificate, TABLE_CHANGES, 20),
         (Kind::Principals, USERS, 17),
         (Kind::Principals, SEVERAL_KEYS, 31),
         (Kind::Principals, MEMBERS, 19),

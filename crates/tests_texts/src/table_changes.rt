@@ -82,6 +82,22 @@ fn text_of_the_tables_changes(rt: HostRuntime) {
     let_go(again);
 }
 
+#[test]
+fn text_of_set_keys(rt: HostRuntime) {
+    let rt = (rt, Here);
+    let changes = [
+        TableChange::SetKey(user(&rt, 1), key(&rt, KEY)),
+        TableChange::SetKey(user(&rt, 63), key(&rt, PINNED)),
+    ];
+    let cert = cert_of(&rt, User::superuser(), 1, &changes);
+    let by_hand = joined(&rt, &[CERT, b"\x02\x09\x01", KEY, b"\x09\x3f", PINNED]);
+    is_spelled(&rt, &cert, &by_hand);
+    let_go(cert);
+    let again: Cert<Global> = Cert::read(rt.alloc(), &by_hand).expect(&rt, "a certificate");
+    are_of_table(&rt, again.changes());
+    let_go(again);
+}
+
 /// The table after an operation, whose changes of these numbers have no effect.
 fn applied(rt: &impl Host, table: &mut Table<Global>, cert: &Cert<Global>, void: &[u8]) {
     let voids = apply_table(rt.alloc(), table, cert).expect(rt, "memory");
@@ -130,4 +146,47 @@ fn table_of_three_operations(rt: HostRuntime) {
     after(&rt, &table, &second, Some(b"\x40\x01\0\0\0\x01\0\0\0\x02"));
     applied(&rt, &mut table, &second, &[2]);
     assert!(rt; table.is_member(group, one, 1) && !table.is_member(group, one, 2));
+}
+
+/// The key of user 1 is set once in an operation; user 0's isn't, nor is that of a user who isn't listed, nor does
+/// another user set one.
+#[test]
+fn second_key_in_an_operation(rt: HostRuntime) {
+    let rt = (rt, Here);
+    let (zero, one, two) = (User::superuser(), user(&rt, 1), user(&rt, 2));
+    let mut table = Table::genesis(rt.alloc(), key(&rt, PINNED));
+    let listed = [
+        TableChange::AddUser(one, key(&rt, PINNED)),
+        TableChange::SetKey(one, key(&rt, KEY)),
+    ];
+    applied(&rt, &mut table, &cert_of(&rt, zero, 1, &listed), &[2]);
+    let set = [
+        TableChange::SetKey(zero, key(&rt, KEY)),
+        TableChange::SetKey(one, key(&rt, KEY)),
+        TableChange::SetKey(one, key(&rt, PINNED)),
+        TableChange::SetKey(two, key(&rt, KEY)),
+    ];
+    applied(&rt, &mut table, &cert_of(&rt, one, 2, &set), &[1, 2, 3, 4]);
+    applied(&rt, &mut table, &cert_of(&rt, zero, 2, &set), &[1, 3, 4]);
+    let wanted: [&[u8]; 7] = [
+        b"SPT2\x02\0\x01\0\0\0\0",
+        PINNED,
+        b"\x01\x02\0\0\0\x01",
+        PINNED,
+        b"\0\0\0\x02",
+        KEY,
+        b"\0\0",
+    ];
+    is_spelled(&rt, &table, &joined(&rt, &wanted));
+    check(
+        &rt,
+        table.key_at(one, 1) == Some(key(&rt, PINNED)),
+        "the first",
+    );
+    check(
+        &rt,
+        table.key_at(one, 2) == Some(key(&rt, KEY)),
+        "the second",
+    );
+    let_go(table);
 }
