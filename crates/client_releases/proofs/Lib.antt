@@ -5,3 +5,4 @@ pub mod Seen
 pub mod Standing
 pub mod Telling
 pub mod Untouched
+pub mod UsedUp

@@ -1,6 +1,7 @@
 -- Opening both devices, and what the journal tells then.
 use Rattle.std.proofs.Common.{◌≡◌, ◌≢◌, ◌⊎◌, ◌<◌, ◌≤◌, arith, ℕ, List, Option, Some, None, true, refl, sym, subst, inl, inr}
 use Rattle.lms_sign.specs.Keys.{public_key_of}
+use Rattle.lms_sign.specs.Secret.{Secret}
 use Rattle.leaf_ledger.specs.Device.{HasRisen, History, Leaves, Throughout, at_rest, last_count}
 use Rattle.leaf_ledger.specs.Ledger.{IsFileOf, KeepsLedger, LedgerState}
 use Rattle.leaf_ledger.specs.Life.{Call}
@@ -104,11 +105,11 @@ told_before before after rs a b s t = record {
 
 -- ---- the client
 
-pub opened : (user : ℕ) (seed id : List ℕ) (l : LedgerState) (j old : JournalFile) (n : ℕ) (last : Option (Signed Structure)) (how : Phase) (text : List ℕ) → l.key ≡ public_key_of seed id → l.usable ≡ true → l.outstanding ≡ 0
-    → l.file.now ≡ at_rest l.file.now.text → IsFileOf (public_key_of seed id) l.file.now.text → j.usable ≡ true → old.file.now ≡ at_rest old.file.now.text → j.file ≡ old.file
+pub opened : (user : ℕ) (secret : Secret) (l : LedgerState) (j old : JournalFile) (n : ℕ) (last : Option (Signed Structure)) (how : Phase) (text : List ℕ) → l.key ≡ public_key_of secret → l.usable ≡ true → l.outstanding ≡ 0
+    → l.file.now ≡ at_rest l.file.now.text → IsFileOf (public_key_of secret) l.file.now.text → j.usable ≡ true → old.file.now ≡ at_rest old.file.now.text → j.file ≡ old.file
     → (recorded : Recorded) → TellsState recorded old.file.now.text → told_by user recorded ≡ Some (record { number = n; last = last; phase = how; text = text })
-    → IsReleased (record { user = user; seed = seed; id = id; devices = record { ledger = l; journal = j }; number = n; last = last; phase = how; text = text })
-opened user seed id l j old n last how text key usable settled rest own journal_usable journal_rest same recorded tells told = record {
+    → IsReleased (record { user = user; secret = secret; devices = record { ledger = l; journal = j }; number = n; last = last; phase = how; text = text })
+opened user secret l j old n last how text key usable settled rest own journal_usable journal_rest same recorded tells told = record {
   own_key = key;
   settled = settled;
   stands = λ _. record {

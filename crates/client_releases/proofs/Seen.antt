@@ -12,13 +12,13 @@ use Rattle.client_releases.specs.declared.phase.Phase.TheVariants as phase
 
 -- a client with what a call changes
 abbrev pub declared_with : Released → Devices → ℕ → List ℕ → Released
-declared_with r new n text = record { user = r.user; seed = r.seed; id = r.id; devices = new; number = n; last = r.last; phase = phase.Declared; text = text }
+declared_with r new n text = record { user = r.user; secret = r.secret; devices = new; number = n; last = r.last; phase = phase.Declared; text = text }
 
 abbrev pub signed_with : Released → Devices → Signed Structure → List ℕ → Released
-signed_with r new z text = record { user = r.user; seed = r.seed; id = r.id; devices = new; number = r.number; last = Some z; phase = phase.Signed; text = text }
+signed_with r new z text = record { user = r.user; secret = r.secret; devices = new; number = r.number; last = Some z; phase = phase.Signed; text = text }
 
 abbrev pub failed_with : Released → Devices → Released
-failed_with r new = record { user = r.user; seed = r.seed; id = r.id; devices = new; number = r.number; last = r.last; phase = phase.Failed; text = r.text }
+failed_with r new = record { user = r.user; secret = r.secret; devices = new; number = r.number; last = r.last; phase = phase.Failed; text = r.text }
 
 abbrev pub with_signature : Structure → List ℕ → Signed Structure
 with_signature z signature = record { value = z; signature = signature }
@@ -34,7 +34,7 @@ module _ (r old : Released) (is : r ≡ old) (unsigned : List ℕ) (new : Device
   pub risen_of : OneHasRisen r.devices new → OneHasRisen old.devices new
   risen_of risen = subst (λ (o : Released). OneHasRisen o.devices new) is risen
 
-  module _ (signature text : List ℕ) (leaf : LeafNumber) (made : signature ≡ signature_of r.seed r.id leaf unsigned) (all : text ≡ unsigned ++ signature) where
+  module _ (signature text : List ℕ) (leaf : LeafNumber) (made : signature ≡ signature_of r.secret leaf unsigned) (all : text ≡ unsigned ++ signature) where
     text_is : text ≡ sent old leaf unsigned
     text_is = all ∙ ap (λ (s : List ℕ). unsigned ++ s) made ∙ ap (λ (o : Released). sent o leaf unsigned) is
 
@@ -50,20 +50,20 @@ module _ (r old : Released) (is : r ≡ old) (unsigned : List ℕ) (new : Device
       ap (λ (o : Released). declared_with o new n text) is ∙ ap (λ (t : List ℕ). declared_with old new n t) text_is ∙ ap (λ (k : ℕ). declared_with old new k (sent old leaf unsigned)) number,
     )
 
-    signed_is : (z : Structure) → unsigned ≡ structure.spell z → with_signature z signature ≡ signed_by old.seed old.id leaf z
+    signed_is : (z : Structure) → unsigned ≡ structure.spell z → with_signature z signature ≡ signed_by old.secret leaf z
     signed_is z spelled =
-        let there : signature ≡ signature_of old.seed old.id leaf (structure.spell z) =
-        made ∙ ap (λ (o : Released). signature_of o.seed o.id leaf unsigned) is ∙ ap (λ (u : List ℕ). signature_of old.seed old.id leaf u) spelled in
+        let there : signature ≡ signature_of old.secret leaf (structure.spell z) =
+        made ∙ ap (λ (o : Released). signature_of o.secret leaf unsigned) is ∙ ap (λ (u : List ℕ). signature_of old.secret leaf u) spelled in
         ap (λ (s : List ℕ). with_signature z s) there
 
     pub signed_of : (z : Structure) → unsigned ≡ structure.spell z → IsKept leaf (record { kind = kind.Structure; text = text }) r.devices new
-        → (k : LeafNumber) × IsKept k (structure_record (sent old k unsigned)) old.devices new × (signed_with r new (with_signature z signature) text ≡ signed_with old new (signed_by old.seed old.id k z) (sent old k unsigned))
+        → (k : LeafNumber) × IsKept k (structure_record (sent old k unsigned)) old.devices new × (signed_with r new (with_signature z signature) text ≡ signed_with old new (signed_by old.secret k z) (sent old k unsigned))
     signed_of z spelled kept = (
       leaf,
       kept_of kind.Structure kept,
       ap (λ (o : Released). signed_with o new (with_signature z signature) text) is
           ∙ ap (λ (s : Signed Structure). signed_with old new s text) (signed_is z spelled)
-          ∙ ap (λ (t : List ℕ). signed_with old new (signed_by old.seed old.id leaf z) t) text_is,
+          ∙ ap (λ (t : List ℕ). signed_with old new (signed_by old.secret leaf z) t) text_is,
     )
 
 -- a client of which a device failed

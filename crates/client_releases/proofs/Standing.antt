@@ -67,7 +67,7 @@ module _ (r : Released) (is : IsReleased r) (new : Devices) (usable : new.ledger
     (own : IsFileOf r.devices.ledger.key new.ledger.file.now.text) (settled : new.ledger.outstanding ≡ 0) (leaf : LeafNumber) (text : List ℕ) (n : ℕ) where
   -- after a certificate
   pub after_declare : IsKept leaf (cert_record text) r.devices new → r.phase ≡ phase.Idle → (c : Signed Cert) → cert_in r.user text ≡ Some c → n ≡ c.value.number
-      → IsReleased (record { user = r.user; seed = r.seed; id = r.id; devices = new; number = n; last = r.last; phase = phase.Declared; text = text })
+      → IsReleased (record { user = r.user; secret = r.secret; devices = new; number = n; last = r.last; phase = phase.Declared; text = text })
   after_declare kept idle c read number = record {
     own_key = same_key ∙ is.own_key;
     settled = settled;
@@ -93,7 +93,7 @@ module _ (r : Released) (is : IsReleased r) (new : Devices) (usable : new.ledger
 
   -- after a structure
   pub after_sign : IsKept leaf (structure_record text) r.devices new → r.phase ≡ phase.Declared → (z : Signed Structure) → structure_in r.user text ≡ Some z → n ≡ z.value.plan.number
-      → IsReleased (record { user = r.user; seed = r.seed; id = r.id; devices = new; number = n; last = Some z; phase = phase.Signed; text = text })
+      → IsReleased (record { user = r.user; secret = r.secret; devices = new; number = n; last = Some z; phase = phase.Signed; text = text })
   after_sign kept declared z read number = record {
     own_key = same_key ∙ is.own_key;
     settled = settled;
@@ -119,7 +119,7 @@ module _ (r : Released) (is : IsReleased r) (new : Devices) (usable : new.ledger
 
 -- after a device failed
 pub after_fault : (r : Released) → IsReleased r → (new : Devices) → new.ledger.key ≡ r.devices.ledger.key → new.ledger.outstanding ≡ 0
-    → IsReleased (record { user = r.user; seed = r.seed; id = r.id; devices = new; number = r.number; last = r.last; phase = phase.Failed; text = r.text })
+    → IsReleased (record { user = r.user; secret = r.secret; devices = new; number = r.number; last = r.last; phase = phase.Failed; text = r.text })
 after_fault r is new same_key settled = record { own_key = same_key ∙ is.own_key; settled = settled; stands = λ stands. absurd (stands refl) }
 
 committed : (p : Phase) → IsPhase p phase.Signed → IsPhase p phase.Idle
@@ -128,7 +128,7 @@ committed p (inr both) = let two : phase.Signed ≡ phase.Idle = both.1 in absur
 
 -- after a commit
 pub after_commit : (r : Released) → IsReleased r → r.phase ≡ phase.Signed
-    → IsReleased (record { user = r.user; seed = r.seed; id = r.id; devices = r.devices; number = r.number; last = r.last; phase = phase.Idle; text = r.text })
+    → IsReleased (record { user = r.user; secret = r.secret; devices = r.devices; number = r.number; last = r.last; phase = phase.Idle; text = r.text })
 after_commit r is signed = record {
   own_key = is.own_key;
   settled = is.settled;

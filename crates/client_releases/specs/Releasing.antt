@@ -1,6 +1,7 @@
 -- What a client's two devices go through in a call, in the ledger's and the journal's words.
 use Rattle.std.specs.Prelude.{◌≡◌, ◌⊎◌, List, [], ◌∷◌, ◌++◌, Some, None}
 use Rattle.layout.specs.Types.{Bytes}
+use Rattle.lms_sign.specs.Secret.{HasLeaf, Secret}
 use Rattle.leaf_ledger.specs.Device.{History, HasRisen, Leaves, Throughout, at_rest}
 use Rattle.leaf_ledger.specs.Ledger.{IsFileOf, IsLeastFree, KeepsLedger, LeafNumber, LedgerState, UsedWithOrWithout, with_mark}
 use Rattle.leaf_ledger.specs.Life.{Call}
@@ -13,6 +14,10 @@ cert_record text = record { kind = Certificate; text = text }
 
 abbrev pub structure_record : Bytes → Record
 structure_record text = record { kind = Structure; text = text }
+
+-- No leaf is left that can be used: none is free in the ledger, or the least free one can't sign.
+abbrev pub IsUsedUp : Secret → LedgerState → Type 0
+IsUsedUp secret ledger = (leaf : LeafNumber) → IsLeastFree ledger.file.now.text leaf → HasLeaf secret leaf → ⊥
 
 -- two devices: the ledger's and the journal's
 pub record Devices : Type 0 where

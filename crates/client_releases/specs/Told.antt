@@ -5,6 +5,7 @@ use Rattle.std.specs.Result.{result_ok}
 use Rattle.layout.specs.Format.{Format, whole}
 use Rattle.layout.specs.Types.{Bytes, User, Version}
 use Rattle.lms_sign.specs.Keys.{public_key_of}
+use Rattle.lms_sign.specs.Secret.{Secret}
 use Rattle.lms_sign.specs.Signature.{signature_of}
 use Rattle.version_order.specs.Structure.{Structure, structure}
 use Rattle.update_cert.specs.Cert.{Cert, cert}
@@ -56,8 +57,7 @@ told_by user (Ended text) = option_map (after_structure text) (structure_in user
 -- and what these tell.
 pub record Released : Type 0 where
   pub user : User
-  pub seed : Bytes
-  pub id : Bytes
+  pub secret : Secret
   pub devices : Devices
   pub number : Version
   pub last : Option (Signed Structure)
@@ -66,11 +66,11 @@ pub record Released : Type 0 where
 
 -- a text with its signature by this leaf
 abbrev pub sent : Released → LeafNumber → Bytes → Bytes
-sent r leaf text = text ++ signature_of r.seed r.id leaf text
+sent r leaf text = text ++ signature_of r.secret leaf text
 
 -- a structure with its signature by this leaf
-abbrev pub signed_by : Bytes → Bytes → LeafNumber → Structure → Signed Structure
-signed_by seed id leaf z = record { value = z; signature = signature_of seed id leaf (structure.spell z) }
+abbrev pub signed_by : Secret → LeafNumber → Structure → Signed Structure
+signed_by secret leaf z = record { value = z; signature = signature_of secret leaf (structure.spell z) }
 
 -- what is released tells so, in this phase
 abbrev pub told_of : Phase → Released → Told
@@ -108,6 +108,6 @@ pub record Stands (r : Released) : Type 0 where
 -- What is true of it at all times: the ledger is the own key's, no leaf is outstanding, and it stands unless a device
 -- has failed.
 pub record IsReleased (r : Released) : Type 0 where
-  pub own_key : r.devices.ledger.key ≡ public_key_of r.seed r.id
+  pub own_key : r.devices.ledger.key ≡ public_key_of r.secret
   pub settled : r.devices.ledger.outstanding ≡ 0
   pub stands : (r.phase ≡ phase.Failed → ⊥) → Stands r

@@ -16,7 +16,7 @@ pub enum ClientError {
     /// Memory ran out.
     #[error("out of memory")]
     Memory,
-    /// Each leaf of the key was used.
+    /// No leaf is left that can be used: each was used, or the next one of a key that was kept can't sign.
     #[error("no leaf is left")]
     NoLeaf,
     /// A device failed: the client has to be opened again, and tells then what was released.

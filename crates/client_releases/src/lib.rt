@@ -6,6 +6,7 @@
 #![tactic(auto)]
 
 mod error;
+mod laws;
 mod parts;
 mod phase;
 mod releases;
@@ -14,6 +15,7 @@ mod signing;
 mod told;
 
 pub use error::ClientError;
+pub use laws::drawn_is_used_up;
 pub use parts::Parts;
 pub use phase::Phase;
 pub use releases::Releases;

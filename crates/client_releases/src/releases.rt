@@ -4,12 +4,12 @@ ghost use Rattle.std.specs.Prelude.{◌≡◌, ◌≢◌, ◌⊎◌, ◌↔◌, 
 ghost use Rattle.std.specs.Option.{option_copied};
 ghost use Rattle.lms_sign.specs.Keys.{public_key_of};
 ghost use Rattle.leaf_ledger.specs.Device.{HasRisen, at_rest};
-ghost use Rattle.leaf_ledger.specs.Ledger.{IsFileOf, IsForeign, IsFull, IsLeastFree, LeafNumber, UsedAsBefore};
+ghost use Rattle.leaf_ledger.specs.Ledger.{IsFileOf, IsForeign, IsLeastFree, LeafNumber, UsedAsBefore};
 ghost use Rattle.client_journal.specs.Records.{IsDamaged, State as Recorded, TellsState};
 ghost use Rattle.version_order.specs.Structure.{structure as structure_format};
 ghost use Rattle.update_cert.specs.Cert.{Cert as PureCert, cert};
-ghost use Rattle.client_releases.specs.Releasing.{AnyMoment, IsKept, IsOpening, IsTried, OneHasRisen, cert_record};
-ghost use Rattle.client_releases.specs.Releasing.{structure_record};
+ghost use Rattle.client_releases.specs.Releasing.{AnyMoment, IsKept, IsOpening, IsTried, IsUsedUp, OneHasRisen};
+ghost use Rattle.client_releases.specs.Releasing.{cert_record, structure_record};
 ghost use Rattle.client_releases.specs.Told.{IsToldBy, TellsOfOther, sent, signed_by, told_by};
 
 use crate::error::ClientError;
@@ -48,8 +48,7 @@ impl<L: Device, J: Device, A: Allocator> Model for Releases<L, J, A> {
 
     ghost view = { λ r. record {
       user = r.user;
-      seed = r.key.seed;
-      id = r.key.id;
+      secret = r.key;
       devices = record { ledger = r.ledger; journal = r.journal };
       number = r.number;
       last = r.last;
@@ -59,8 +58,7 @@ impl<L: Device, J: Device, A: Allocator> Model for Releases<L, J, A> {
 
     ghost invariant = { λ r. IsReleased (record {
       user = r.user;
-      seed = r.key.seed;
-      id = r.key.id;
+      secret = r.key;
       devices = record { ledger = r.ledger; journal = r.journal };
       number = r.number;
       last = r.last;
@@ -137,7 +135,7 @@ impl<L: Device, J: Device, A: Allocator + Copy> Releases<L, J, A> {
         ledger: L,
         journal: J,
     ) -> Result<Releases<L, J, A>, (ClientError, Parts<L, J, A>)>
-        ensures whose { IfOk result (λ r. (r.user ≡ user) × (r.seed ≡ key.seed) × (r.id ≡ key.id)) }
+        ensures whose { IfOk result (λ r. (r.user ≡ user) × (r.secret ≡ key)) }
         ensures told { IfOk result (λ r. IsToldBy (J.history journal).now.text r) }
         ensures moments { IfOk result (λ r. IsOpening (L.history ledger) (J.history journal) r.devices.ledger.file
             r.devices.journal.file) }
@@ -145,9 +143,9 @@ impl<L: Device, J: Device, A: Allocator + Copy> Releases<L, J, A> {
             (λ e. IsOpening (L.history ledger) (J.history journal) (L.history e.1.ledger) (J.history e.1.journal)) }
         // The same leaves are used as before: none of a new ledger.
         ensures used { IfOk result (λ r. UsedAsBefore (L.history ledger).now.text r.devices.ledger.file.now.text) }
-        ensures own { IfOk result (λ _. IsForeign (public_key_of key.seed key.id) (L.history ledger).now.text → ⊥) }
+        ensures own { IfOk result (λ _. IsForeign (public_key_of key) (L.history ledger).now.text → ⊥) }
         ensures foreign { IfErr result (λ e. e.0 ≡ ClientError.Foreign
-            → IsForeign (public_key_of key.seed key.id) (L.history ledger).now.text) }
+            → IsForeign (public_key_of key) (L.history ledger).now.text) }
         ensures damaged { IfErr result (λ e. e.0 ≡ ClientError.Damaged
             → IsDamaged (J.history journal).now.text ⊎ TellsOfOther user (J.history journal).now.text) }
         ensures device { IfErr result (λ e. e.0 ≡ ClientError.Device
@@ -221,7 +219,7 @@ impl<L: Device, J: Device, A: Allocator> Releases<L, J, A> {
 
     /// The public key whose leaves sign.
     pub fn key(&self) -> PublicKey
-        ensures { result ≡ public_key_of self.now.seed self.now.id }
+        ensures { result ≡ public_key_of self.now.secret }
     {
         self.key.public()
     }
@@ -277,12 +275,15 @@ impl<L: Device, J: Device, A: Allocator> Releases<L, J, A> {
         let _phase = &self.phase;
     }
 
-    /// Whether a leaf is free.
+    /// Whether a leaf is free that can sign: the next one is tried, which takes some hashes where the key was kept.
     pub fn has_free_leaf(&self) -> bool
         requires { self.now.phase ≢ Phase.Failed }
-        ensures { result ≡ false ↔ IsFull self.now.devices.ledger.file.now.text }
+        ensures { result ≡ false ↔ IsUsedUp self.now.secret self.now.devices.ledger }
     {
-        self.ledger.has_free()
+        match self.ledger.next_free() {
+            Some(leaf) => self.key.has_leaf(leaf),
+            None => false,
+        }
     }
 
     /// Releases the certificate of the next operation, of this number: it is signed and journaled, and then handed out.
@@ -293,7 +294,7 @@ impl<L: Device, J: Device, A: Allocator> Releases<L, J, A> {
         unsigned: Unsigned<A>,
     ) -> Result<Vec<u8, A>, ClientError>
         requires idle { self.old.phase ≡ Phase.Idle }
-        requires free { IsFull self.old.devices.ledger.file.now.text → ⊥ }
+        requires free { IsUsedUp self.old.secret self.old.devices.ledger → ⊥ }
         requires own { (c : PureCert) × (unsigned ≡ cert.spell c) × cert.Fits c × (c.user ≡ self.old.user)
             × (c.number ≡ number) }
         ensures declared { OnOk result ((leaf : LeafNumber)
@@ -345,14 +346,14 @@ impl<L: Device, J: Device, A: Allocator> Releases<L, J, A> {
         unsigned: Unsigned<A>,
     ) -> Result<(Vec<u8, A>, Signature), ClientError>
         requires declared { self.old.phase ≡ Phase.Declared }
-        requires free { IsFull self.old.devices.ledger.file.now.text → ⊥ }
+        requires free { IsUsedUp self.old.secret self.old.devices.ledger → ⊥ }
         requires text { unsigned ≡ structure_format.spell structure }
         requires own { (structure.plan.user ≡ self.old.user) × (structure.plan.number ≡ self.old.number) }
         ensures signed { OnOk result ((leaf : LeafNumber)
             × IsKept leaf (structure_record (sent self.old leaf unsigned)) self.old.devices self.new.devices
             × (self.new ≡ record self.old {
               devices = self.new.devices;
-              last = Some (signed_by self.old.seed self.old.id leaf structure);
+              last = Some (signed_by self.old.secret leaf structure);
               phase = Phase.Signed;
               text = sent self.old leaf unsigned;
             })) }
@@ -407,7 +408,7 @@ impl<L: Device, J: Device, A: Allocator> Releases<L, J, A> {
 
     /// Hands back what it was opened over.
     pub fn close(self) -> Parts<L, J, A>
-        ensures key { (result.key.seed ≡ self.seed) × (result.key.id ≡ self.id) }
+        ensures key { result.key ≡ self.secret }
         ensures ledger { L.history result.ledger ≡ self.devices.ledger.file }
         ensures journal { J.history result.journal ≡ self.devices.journal.file }
         ensures faults { (L.fault_count result.ledger ≡ self.devices.ledger.faults)

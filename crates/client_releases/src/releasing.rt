@@ -5,9 +5,9 @@ ghost use Rattle.lms_sign.specs.Keys.{public_key_of};
 ghost use Rattle.lms_sign.specs.Signature.{signature_of};
 ghost use Rattle.pending_list.specs.Signed.{signature as signature_format};
 ghost use Rattle.leaf_ledger.specs.Device.{at_rest};
-ghost use Rattle.leaf_ledger.specs.Ledger.{IsFileOf, IsFull, IsLeastFree, LeafNumber};
+ghost use Rattle.leaf_ledger.specs.Ledger.{IsFileOf, IsLeastFree, LeafNumber};
 ghost use Rattle.client_journal.specs.Records.{MayCome};
-ghost use Rattle.client_releases.specs.Releasing.{AnyMoment, IsKept, IsTried, OneHasRisen};
+ghost use Rattle.client_releases.specs.Releasing.{AnyMoment, IsKept, IsTried, IsUsedUp, OneHasRisen};
 
 use crate::error::ClientError;
 use crate::signing::{Sealed, Unsigned};
@@ -27,26 +27,26 @@ pub(crate) fn keep<L: Device, J: Device, A: Allocator>(
     unsigned: Unsigned<A>,
 ) -> Result<Sealed<A>, ClientError>
     requires ledger_usable { ledger.old.usable ≡ true }
-    requires own_key { ledger.old.key ≡ public_key_of key.now.seed key.now.id }
+    requires own_key { ledger.old.key ≡ public_key_of key.now }
     requires settled { ledger.old.outstanding ≡ 0 }
-    requires free { IsFull ledger.old.file.now.text → ⊥ }
+    requires free { IsUsedUp key.now ledger.old → ⊥ }
     requires journal_usable { journal.old.usable ≡ true }
     requires journal_rests { journal.old.file.now ≡ at_rest journal.old.file.now.text }
     requires turn { MayCome kind journal.old.file.now.text }
     requires short { length unsigned + SIGNATURE_SIZE < 2 ^ 32 }
     ensures kept { IfOk result (λ s. (leaf : LeafNumber)
-        × (s.signature ≡ signature_of key.now.seed key.now.id leaf unsigned) × (s.kept.items ≡ unsigned ++ s.signature)
+        × (s.signature ≡ signature_of key.now leaf unsigned) × (s.kept.items ≡ unsigned ++ s.signature)
         × IsKept leaf (record { kind = kind; text = s.kept.items })
         (record { ledger = ledger.old; journal = journal.old })
         (record { ledger = ledger.new; journal = journal.new })) }
     ensures sent { IfOk result (λ s. s.sent.items ≡ s.kept.items) }
     ensures fits { IfOk result (λ s. signature_format.Fits s.signature) }
     ensures any_moment { (leaf : LeafNumber) → IsLeastFree ledger.old.file.now.text leaf
-        → AnyMoment leaf (record { kind = kind; text = unsigned ++ signature_of key.now.seed key.now.id leaf unsigned })
+        → AnyMoment leaf (record { kind = kind; text = unsigned ++ signature_of key.now leaf unsigned })
         (record { ledger = ledger.old; journal = journal.old })
         (record { ledger = ledger.new; journal = journal.new }) }
     ensures tried { OnErr result (IsTried
-        (λ leaf. record { kind = kind; text = unsigned ++ signature_of key.now.seed key.now.id leaf unsigned })
+        (λ leaf. record { kind = kind; text = unsigned ++ signature_of key.now leaf unsigned })
         (record { ledger = ledger.old; journal = journal.old })
         (record { ledger = ledger.new; journal = journal.new })) }
     ensures device { IfErr result (λ e. (e ≡ ClientError.Device)

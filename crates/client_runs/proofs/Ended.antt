@@ -4,6 +4,7 @@ use Rattle.std.proofs.lemmas.Bool.{eqb-true, eqb-false}
 use Rattle.std.proofs.lemmas.List.{get_or-set_other, get_or-set_same, get_or_read, length-set, take_all, take_more}
 use Rattle.layout.specs.Types.{Bytes, Key, User}
 use Rattle.lms_sign.specs.Keys.{public_key_of}
+use Rattle.lms_sign.specs.Secret.{Secret}
 use Rattle.client_runs.specs.declared.slot.Slot.{Slot}
 use Rattle.client_runs.specs.declared.slot.Slot.TheVariants as slot
 use Rattle.client_runs.specs.declared.world.Act.{Act}
@@ -79,10 +80,8 @@ none_named {A} slots none u = in_table slots u ∙ ap (λ (z : Slot A). client_i
 by_name : (u : User) → u ≡ 0 → public_key script_keys u ≡ public_key script_keys 0
 by_name u is = ap (λ (n : User). public_key script_keys n) is
 
-pub pinned_by : (key : Key) (u : User) (seed id : Bytes) → key ≡ public_key_of seed id → seed ≡ (owner script_keys u).seed → id ≡ (owner script_keys u).id
-    → u ≡ 0 → key ≡ public_key script_keys 0
-pinned_by key u seed id made at_seed at_id is =
-    made ∙ ap (λ (x : Bytes). public_key_of x id) at_seed ∙ ap (λ (x : Bytes). public_key_of (owner script_keys u).seed x) at_id ∙ by_name u is
+pub pinned_by : (key : Key) (u : User) (secret : Secret) → key ≡ public_key_of secret → secret ≡ script_keys u → u ≡ 0 → key ≡ public_key script_keys 0
+pinned_by key u secret made same is = made ∙ ap public_key_of same ∙ by_name u is
 
 -- a table whose slot at one place is taken out, and another put there
 module _ {A : Type 0} (slots : List (Slot A)) (place : ℕ) (within : place < length slots) (x y : Slot A) where

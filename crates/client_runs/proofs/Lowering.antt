@@ -12,7 +12,7 @@ use Rattle.client_steps.specs.Steps.{Client, Closed, HasBegun, HasSigned, IsHand
 
 -- the owner, the devices and the client, as client_releases has them
 abbrev pub low_owner : Owner → low.Owner
-low_owner o = record { user = o.user; seed = o.seed; id = o.id }
+low_owner o = record { user = o.user; secret = o.secret }
 
 abbrev pub low_parts : Parts → low.Parts
 low_parts p = record { ledger = p.ledger.history; journal = p.journal.history }
@@ -26,7 +26,7 @@ low_left (Closed q) p is = record { ledger_text = is.ledger_text; journal_text =
 low_left (Open s) p is = record { ledger_text = is.ledger_text; journal_text = is.journal_text; ledger_may = is.ledger_may; journal_may = is.journal_may; ledger = is.ledger; journal = is.journal }
 
 pub low_opened : (o : Owner) (p : Parts) (s : State) → IsOpened o p s → low.IsOpened (low_owner o) (low_parts p) (released s)
-low_opened o p s is = record { user = is.user; seed = is.seed; id = is.id; told = is.told; moments = is.moments }
+low_opened o p s is = record { user = is.user; secret = is.secret; told = is.told; moments = is.moments }
 
 pub low_handed_back : (s : State) (p : Parts) → IsHandedBack s p → low.IsHandedBack (released s) (low_parts p)
 low_handed_back s p is = record { ledger = is.ledger; journal = is.journal }

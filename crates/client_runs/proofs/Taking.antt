@@ -3,6 +3,7 @@ use Rattle.std.proofs.Common.{◌≡◌, ℕ, ◌≤◌, Option, Ok, Err, Result
 use Rattle.std.specs.Vec.{vec_items}
 use Rattle.std.specs.declared.vec.Vec.{Vec}
 use Rattle.layout.specs.Types.{Bytes, Digest, INumber, Key, Principal}
+use Rattle.lms_sign.specs.Secret.{Secret}
 use Rattle.leaf_ledger.specs.Device.{History, MayLeave, started}
 use Rattle.update_cert.specs.Change.{Change}
 use Rattle.client_tree.specs.declared.questions.Question.TheVariants as question
@@ -150,8 +151,8 @@ module _ {A : Type 0} (o : Owner) (before : Client) (t : Act A) (ledger journal 
 -- ---- a closed client
 
 -- the owner of these is that one by another name
-pub same_owner : (o : Owner) (pinned : Key) (seed id : Bytes) → pinned ≡ o.pinned → seed ≡ o.seed → id ≡ o.id → owner_of o.user seed id pinned ≡ o
-same_owner o pinned seed id at_pinned at_seed at_id = rw (at_pinned, at_seed, at_id) refl
+pub same_owner : (o : Owner) (pinned : Key) (secret : Secret) → pinned ≡ o.pinned → secret ≡ o.secret → owner_of o.user secret pinned ≡ o
+same_owner o pinned secret at_pinned at_secret = rw (at_pinned, at_secret) refl
 
 module _ (o : Owner) (p : Parts) where
   pub opens : {A : Type 0} (s : State) (how : Phase) (text : Vec ℕ A) → IsOpened o p s → IsSound (Open s) → how ≡ s.phase → text.items ≡ resent s.phase s.text

@@ -1,6 +1,7 @@
 -- Steps that were carried out: they are a run.
 use Rattle.std.specs.Prelude.{◌≡◌, List, [], ◌∷◌, Some, replicate, reverse}
 use Rattle.layout.specs.Types.{User}
+use Rattle.lms_sign.specs.Secret.{drawn_from}
 use Rattle.client_runs.specs.declared.world.Act.{Act}
 use Rattle.client_runs.specs.declared.world.Answer.{Answer}
 use Rattle.client_runs.specs.declared.world.Answer.TheVariants as answer
@@ -11,9 +12,9 @@ use Rattle.client_runs.specs.UsedOnce.{CertificatesOnce, LeavesOnce, StructuresO
 use Rattle.client_runs.specs.Told.{IsTold, call_of}
 use Rattle.client_runs.specs.NotTaken.{CantBeTaken}
 
--- the keys of scripts: a user's seed and identifier are bytes of the user's number
+-- the keys of scripts: each is drawn from bytes of the user's number
 abbrev pub script_keys : Keys
-script_keys u = record { seed = replicate 32 u; id = replicate 16 u }
+script_keys u = drawn_from (replicate 32 u) (replicate 16 u)
 
 -- the event of a step that gave this answer
 pub record IsEventOf {A : Type 0} (step : WorldStep A) (answer : Answer A) (e : Event) : Type 0 where

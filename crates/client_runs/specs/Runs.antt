@@ -2,7 +2,8 @@
 -- crashes and restarts. Of servers and stores nothing is said: replies and blocks are any bytes.
 use Rattle.std.specs.Prelude.{◌≡◌, List, [], ◌∷◌, ◌==◌, if◌then◌else◌}
 use Rattle.layout.specs.Types.{Key, User}
-use Rattle.lms_sign.specs.Keys.{Secret, public_key_of}
+use Rattle.lms_sign.specs.Keys.{public_key_of}
+use Rattle.lms_sign.specs.Secret.{Secret}
 use Rattle.client_steps.specs.Steps.{Call, Client, IsSound, IsStep, Owner, first}
 
 -- what each user's key is made of
@@ -10,7 +11,7 @@ abbrev pub Keys : Type 0
 Keys = User → Secret
 
 abbrev pub public_key : Keys → User → Key
-public_key keys u = public_key_of (keys u).seed (keys u).id
+public_key keys u = public_key_of (keys u)
 
 -- user 0's public key, which every client knows
 abbrev pub pinned : Keys → Key
@@ -21,7 +22,7 @@ abbrev pub IsOwnKey : Keys → User → Key → Type 0
 IsOwnKey keys u key = key ≡ public_key keys u
 
 abbrev pub owner : Keys → User → Owner
-owner keys u = record { user = u; seed = (keys u).seed; id = (keys u).id; pinned = pinned keys }
+owner keys u = record { user = u; secret = keys u; pinned = pinned keys }
 
 -- a step of a user's client, and the client after it
 pub record Event : Type 0 where

@@ -20,12 +20,12 @@ client_in (slot.Open s) = Open s
 -- it has this owner's key
 abbrev pub IsOf : {A : Type 0} → Owner → Slot A → Type 0
 IsOf o slot.Unmade = Unit {0}
-IsOf o (slot.Closed p) = (p.key.seed ≡ o.seed) × (p.key.id ≡ o.id)
-IsOf o (slot.Open s) = (s.seed ≡ o.seed) × (s.id ≡ o.id)
+IsOf o (slot.Closed p) = p.key ≡ o.secret
+IsOf o (slot.Open s) = s.secret ≡ o.secret
 
 -- the client of the same key
 abbrev pub AreSame : State → State → Type 0
-AreSame old new = (new.seed ≡ old.seed) × (new.id ≡ old.id)
+AreSame old new = new.secret ≡ old.secret
 
 -- what neither closes an open client nor lets it crash
 abbrev pub StaysOpen : {A : Type 0} → Act A → Type 0

@@ -41,10 +41,9 @@ pub(crate) struct Orders<A: Allocator + Copy> {
     pub(crate) journal: Order<A>,
 }
 
-/// The key of a user's client: its seed and its identifier are bytes of the user's number.
-pub(crate) fn key_of<A: Allocator>(alloc: A, user: User) -> Result<PrivateKey<A>, Memory>
-    ensures seed { IfOk result (λ key. key.seed ≡ (owner script_keys user).seed) }
-    ensures id { IfOk result (λ key. key.id ≡ (owner script_keys user).id) }
+/// The key of a user's client, which is drawn from bytes of the user's number.
+pub(crate) fn key_of<A: Allocator + Copy>(alloc: A, user: User) -> Result<PrivateKey<A>, Memory>
+    ensures { IfOk result (λ key. key ≡ script_keys user) }
 {
     PrivateKey::from_seed(alloc, [user.get(); 32], [user.get(); 16])
 }
@@ -257,7 +256,7 @@ fn open_step<A: Allocator + Copy>(
     act: &Act<A>,
 ) -> Result<(Slot<A>, Answer<A>), Memory>
     ensures step { IfOk result (λ r. (o : Owner) → ComesOf o (Open client) act.now r.1 (client_in r.0)) }
-    ensures own { IfOk result (λ r. (o : Owner) → client.seed ≡ o.seed → client.id ≡ o.id → IsOf o r.0) }
+    ensures own { IfOk result (λ r. (o : Owner) → client.secret ≡ o.secret → IsOf o r.0) }
 {
     match act {
         Act::Close => Ok((Slot::Closed(client.close()), Answer::Closed)),

@@ -5,7 +5,7 @@ use Rattle.std.specs.Vec.{vec_items}
 use Rattle.std.specs.declared.vec.Vec.{Vec}
 use Rattle.layout.specs.Ranges.{last_version}
 use Rattle.layout.specs.Types.{Bytes, Digest}
-use Rattle.leaf_ledger.specs.Ledger.{IsFull, IsLeastFree, LeafNumber}
+use Rattle.leaf_ledger.specs.Ledger.{IsLeastFree, LeafNumber}
 use Rattle.version_order.specs.Structure.{structure}
 use Rattle.update_cert.specs.Change.{Change}
 use Rattle.update_cert.specs.Cert.{cert}
@@ -13,7 +13,7 @@ use Rattle.update_cert.specs.declared.cert.TheConstants.{MOST_CHANGES}
 use Rattle.client_releases.specs.declared.error.ClientError.{ClientError}
 use Rattle.client_releases.specs.declared.error.ClientError.TheVariants as error
 use Rattle.client_releases.specs.declared.phase.Phase.TheVariants as phase
-use Rattle.client_releases.specs.Releasing.{AnyMoment, IsKept, IsTried, OneHasRisen, cert_record, structure_record}
+use Rattle.client_releases.specs.Releasing.{AnyMoment, IsKept, IsTried, IsUsedUp, OneHasRisen, cert_record, structure_record}
 use Rattle.client_verify.specs.Laid.{are_laid}
 use Rattle.checked_blocks.specs.CheckedBlocks.{LetsGo}
 use Rattle.client_verify.specs.Holding.{LaysOut}
@@ -48,8 +48,8 @@ module _ {A : Type 0} (s new : State) (changes : List (Change Digest)) (laid : L
       → OnOk answer (cert.Fits (next_cert s changes))
       → ((leaf : LeafNumber) → IsLeastFree s.devices.ledger.file.now.text leaf → AnyMoment leaf (cert_record (declared_text s leaf changes)) s.devices new.devices)
       → OnErr answer (IsTried (λ leaf. cert_record (declared_text s leaf changes)) s.devices new.devices)
-      → (IsErrOf answer error.NoLeaf ↔ IsFull s.devices.ledger.file.now.text)
-      → (IsErrOf answer error.NoNumber ↔ ((s.number ≡ last_version) × (IsFull s.devices.ledger.file.now.text → ⊥)))
+      → (IsErrOf answer error.NoLeaf ↔ IsUsedUp s.secret s.devices.ledger)
+      → (IsErrOf answer error.NoNumber ↔ ((s.number ≡ last_version) × (IsUsedUp s.secret s.devices.ledger → ⊥)))
       → (IsErrOf answer error.Device → OneHasRisen s.devices new.devices)
       → (IsErrOf answer error.Device → new ≡ over new.blocks (on new.devices (failed s)))
       → (IsErrOf answer error.Device → LaysOut s laid new.blocks)
@@ -68,8 +68,8 @@ module _ {A : Type 0} (s new : State) (changes : List (Change Digest)) (laid : L
         fits = f;
         any_moment = any;
         tried = tr;
-        no_leaf = told_errs (Ok x) error.NoLeaf (IsFull s.devices.ledger.file.now.text) nl;
-        no_number = told_errs (Ok x) error.NoNumber ((s.number ≡ last_version) × (IsFull s.devices.ledger.file.now.text → ⊥)) nn;
+        no_leaf = told_errs (Ok x) error.NoLeaf (IsUsedUp s.secret s.devices.ledger) nl;
+        no_number = told_errs (Ok x) error.NoNumber ((s.number ≡ last_version) × (IsUsedUp s.secret s.devices.ledger → ⊥)) nn;
         rose = λ h. r (told_err (Ok x) error.Device h);
         fails = λ h. fl (told_err (Ok x) error.Device h);
         kept_device = λ h. kd (told_err (Ok x) error.Device h);
@@ -88,8 +88,8 @@ module _ {A : Type 0} (s new : State) (changes : List (Change Digest)) (laid : L
         fits = f;
         any_moment = any;
         tried = tr;
-        no_leaf = told_errs (Err x) error.NoLeaf (IsFull s.devices.ledger.file.now.text) nl;
-        no_number = told_errs (Err x) error.NoNumber ((s.number ≡ last_version) × (IsFull s.devices.ledger.file.now.text → ⊥)) nn;
+        no_leaf = told_errs (Err x) error.NoLeaf (IsUsedUp s.secret s.devices.ledger) nl;
+        no_number = told_errs (Err x) error.NoNumber ((s.number ≡ last_version) × (IsUsedUp s.secret s.devices.ledger → ⊥)) nn;
         rose = λ h. r (told_err (Err x) error.Device h);
         fails = λ h. fl (told_err (Err x) error.Device h);
         kept_device = λ h. kd (told_err (Err x) error.Device h);
@@ -115,7 +115,7 @@ module _ {A : Type 0} (s new : State) where
       → OnOk answer (IfSome s.accepted (λ r. structure.Fits (next_structure s r)))
       → IfSome s.accepted (λ r. (leaf : LeafNumber) → IsLeastFree s.devices.ledger.file.now.text leaf → AnyMoment leaf (structure_record (signed_text s leaf r)) s.devices new.devices)
       → IfSome s.accepted (λ r. OnErr answer (IsTried (λ leaf. structure_record (signed_text s leaf r)) s.devices new.devices))
-      → (IsErrOf answer error.NoLeaf ↔ IsFull s.devices.ledger.file.now.text)
+      → (IsErrOf answer error.NoLeaf ↔ IsUsedUp s.secret s.devices.ledger)
       → (IsErrOf answer error.Device → OneHasRisen s.devices new.devices)
       → (IsErrOf answer error.Device → new ≡ on new.devices (failed s))
       → (IsErrOf answer error.Device → IfSome s.accepted (λ r. structure.Fits (next_structure s r)))
@@ -131,7 +131,7 @@ module _ {A : Type 0} (s new : State) where
         fits = f;
         any_moment = any;
         tried = tr_on (Ok x) s.accepted tr;
-        no_leaf = told_errs (Ok x) error.NoLeaf (IsFull s.devices.ledger.file.now.text) nl;
+        no_leaf = told_errs (Ok x) error.NoLeaf (IsUsedUp s.secret s.devices.ledger) nl;
         rose = λ h. r (told_err (Ok x) error.Device h);
         fails = λ h. fl (told_err (Ok x) error.Device h);
         fits_device = λ h. fd (told_err (Ok x) error.Device h);
@@ -147,7 +147,7 @@ module _ {A : Type 0} (s new : State) where
         fits = f;
         any_moment = any;
         tried = tr_on (Err x) s.accepted tr;
-        no_leaf = told_errs (Err x) error.NoLeaf (IsFull s.devices.ledger.file.now.text) nl;
+        no_leaf = told_errs (Err x) error.NoLeaf (IsUsedUp s.secret s.devices.ledger) nl;
         rose = λ h. r (told_err (Err x) error.Device h);
         fails = λ h. fl (told_err (Err x) error.Device h);
         fits_device = λ h. fd (told_err (Err x) error.Device h);

@@ -14,7 +14,7 @@ use Rattle.client_steps.specs.Steps.{Closed, IsStep, Open, Opens, Owner, Parts, 
 module _ {Q : Type 0} (o : Owner) (p : Parts) (parts_of : Q → Parts) where
   pub opens : (r : Result State (ClientError × Q))
       → IfOk r (λ s. s ≡ opened o.pinned (released s))
-      → IfOk r (λ s. (s.user ≡ o.user) × (s.seed ≡ o.seed) × (s.id ≡ o.id))
+      → IfOk r (λ s. (s.user ≡ o.user) × (s.secret ≡ o.secret))
       → IfOk r (λ s. IsToldBy p.journal.history.now.text (released s))
       → IfOk r (λ s. IsOpening p.ledger.history p.journal.history s.devices.ledger.file s.devices.journal.file)
       → IfOk r (λ s. UsedAsBefore p.ledger.history.now.text s.devices.ledger.file.now.text)
@@ -25,8 +25,7 @@ module _ {Q : Type 0} (o : Owner) (p : Parts) (parts_of : Q → Parts) where
   opens (Ok s) state whose told moments used own later = record {
     state = state;
     user = whose.0;
-    seed = whose.1;
-    id = whose.2;
+    secret = whose.1;
     told = told;
     moments = moments;
     used = used;

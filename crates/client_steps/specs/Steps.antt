@@ -7,8 +7,9 @@ use Rattle.layout.specs.Format.{IsBytes}
 use Rattle.layout.specs.Ranges.{last_version}
 use Rattle.layout.specs.Types.{Bytes, Digest, Key, Principal, User}
 use Rattle.lms_sign.specs.Keys.{public_key_of}
+use Rattle.lms_sign.specs.Secret.{Secret}
 use Rattle.leaf_ledger.specs.Device.{HasRisen, History, MayLeave, started}
-use Rattle.leaf_ledger.specs.Ledger.{IsForeign, IsFull, IsLeastFree, LeafNumber, UsedAsBefore}
+use Rattle.leaf_ledger.specs.Ledger.{IsForeign, IsLeastFree, LeafNumber, UsedAsBefore}
 use Rattle.client_journal.specs.Records.{IsDamaged}
 use Rattle.version_order.specs.Structure.{structure}
 use Rattle.update_cert.specs.Change.{Change}
@@ -22,7 +23,7 @@ use Rattle.wire.specs.declared.kinds.Status.{Status}
 use Rattle.client_releases.specs.declared.error.ClientError.{ClientError}
 use Rattle.client_releases.specs.declared.error.ClientError.TheVariants as error
 use Rattle.client_releases.specs.declared.phase.Phase.TheVariants as phase
-use Rattle.client_releases.specs.Releasing.{AnyMoment, IsKept, IsOpening, IsTried, OneHasRisen, cert_record, structure_record}
+use Rattle.client_releases.specs.Releasing.{AnyMoment, IsKept, IsOpening, IsTried, IsUsedUp, OneHasRisen, cert_record, structure_record}
 use Rattle.client_releases.specs.Told.{IsReleased, IsToldBy, TellsOfOther}
 use Rattle.client_verify.specs.declared.look.Look.{Look}
 use Rattle.client_verify.specs.declared.step.Step.{Step}
@@ -78,15 +79,14 @@ closed_over ledger ledger_faults journal journal_faults =
 -- whose client it is: the user, what the own key is made of, and user 0's public key
 pub record Owner : Type 0 where
   pub user : User
-  pub seed : Bytes
-  pub id : Bytes
+  pub secret : Secret
   pub pinned : Key
 
-abbrev pub owner_of : User → Bytes → Bytes → Key → Owner
-owner_of user seed id pinned = record { user = user; seed = seed; id = id; pinned = pinned }
+abbrev pub owner_of : User → Secret → Key → Owner
+owner_of user secret pinned = record { user = user; secret = secret; pinned = pinned }
 
 abbrev pub own_key : Owner → Key
-own_key o = public_key_of o.seed o.id
+own_key o = public_key_of o.secret
 
 -- what a client asks for, and what it sees, wherever that lies in memory
 abbrev pub Asks : Type 0
@@ -114,8 +114,7 @@ pub data Call : Type 0 where
 pub record IsOpened (o : Owner) (p : Parts) (new : State) : Type 0 where
   pub state : new ≡ opened o.pinned (released new)
   pub user : new.user ≡ o.user
-  pub seed : new.seed ≡ o.seed
-  pub id : new.id ≡ o.id
+  pub secret : new.secret ≡ o.secret
   pub told : IsToldBy p.journal.history.now.text (released new)
   pub moments : IsOpening p.ledger.history p.journal.history new.devices.ledger.file new.devices.journal.file
   pub used : UsedAsBefore p.ledger.history.now.text new.devices.ledger.file.now.text
@@ -155,9 +154,9 @@ pub record HasBegun (s : State) (changes : List (Change Digest)) (laid : List By
   pub any_moment : (leaf : LeafNumber) → IsLeastFree s.devices.ledger.file.now.text leaf
       → AnyMoment leaf (cert_record (declared_text s leaf changes)) s.devices new.devices
   pub tried : OnErr answer (IsTried (λ leaf. cert_record (declared_text s leaf changes)) s.devices new.devices)
-  pub no_leaf : IsErrOf answer error.NoLeaf ↔ IsFull s.devices.ledger.file.now.text
+  pub no_leaf : IsErrOf answer error.NoLeaf ↔ IsUsedUp s.secret s.devices.ledger
   pub no_number : IsErrOf answer error.NoNumber
-      ↔ ((s.number ≡ last_version) × (IsFull s.devices.ledger.file.now.text → ⊥))
+      ↔ ((s.number ≡ last_version) × (IsUsedUp s.secret s.devices.ledger → ⊥))
   pub rose : IsErrOf answer error.Device → OneHasRisen s.devices new.devices
   pub fails : IsErrOf answer error.Device → new ≡ over new.blocks (on new.devices (failed s))
   pub kept_device : IsErrOf answer error.Device → LaysOut s laid new.blocks
@@ -195,7 +194,7 @@ pub record HasSigned (s : State) (answer : Result Bytes ClientError) (new : Stat
       → AnyMoment leaf (structure_record (signed_text s leaf r)) s.devices new.devices)
   pub tried : IfSome s.accepted (λ r.
       OnErr answer (IsTried (λ leaf. structure_record (signed_text s leaf r)) s.devices new.devices))
-  pub no_leaf : IsErrOf answer error.NoLeaf ↔ IsFull s.devices.ledger.file.now.text
+  pub no_leaf : IsErrOf answer error.NoLeaf ↔ IsUsedUp s.secret s.devices.ledger
   pub rose : IsErrOf answer error.Device → OneHasRisen s.devices new.devices
   pub fails : IsErrOf answer error.Device → new ≡ on new.devices (failed s)
   pub fits_device : IsErrOf answer error.Device → IfSome s.accepted (λ r. structure.Fits (next_structure s r))

@@ -29,11 +29,11 @@ pub fn open<L: Device, J: Device, A: Allocator + Copy>(
     pinned: PublicKey,
     parts: Parts<L, J, A>,
 ) -> Result<Client<L, J, A>, (ClientError, Parts<L, J, A>)>
-    ensures opened { IfOk result (λ client. IsStep (owner_of user parts.key.seed parts.key.id pinned)
+    ensures opened { IfOk result (λ client. IsStep (owner_of user parts.key pinned)
         (closed_over (L.history parts.ledger) (L.fault_count parts.ledger) (J.history parts.journal)
         (J.fault_count parts.journal)) (Opens (Ok tt)) (Open client)) }
     ensures sound { IfOk result (λ client. IsSound (Open client)) }
-    ensures refused { IfErr result (λ e. IsStep (owner_of user parts.key.seed parts.key.id pinned)
+    ensures refused { IfErr result (λ e. IsStep (owner_of user parts.key pinned)
         (closed_over (L.history parts.ledger) (L.fault_count parts.ledger) (J.history parts.journal)
         (J.fault_count parts.journal)) (Opens (Err e.0))
         (closed_over (L.history e.1.ledger) (L.fault_count e.1.ledger) (J.history e.1.journal)
@@ -67,7 +67,7 @@ pub fn close<L: Device, J: Device, A: Allocator + Copy>(client: Client<L, J, A>)
     ensures closed { (o : Owner) → IsStep o (Open client) Closes
         (closed_over (L.history result.ledger) (L.fault_count result.ledger) (J.history result.journal)
         (J.fault_count result.journal)) }
-    ensures key { (result.key.seed ≡ client.seed) × (result.key.id ≡ client.id) }
+    ensures key { result.key ≡ client.secret }
 {
     client.close()
 }

@@ -4,11 +4,12 @@ use Rattle.std.specs.Prelude.{◌↔◌, ◌⊎◌, Result, IfErr, IfSome, IsErr
 use Rattle.layout.specs.Types.{Bytes, Digest}
 use Rattle.layout.specs.Format.{be}
 use Rattle.layout.specs.HashLaws.{length-hash}
+use Rattle.lms_sign.specs.Secret.{HasLeaf, Secret}
 use Rattle.lms_sign.specs.Tree.{inner_node, node}
 use Rattle.lms_sign.specs.Keys.{lms_type, ots_type, public_key_of}
 use Rattle.lms_sign.specs.Signature.{signature_of}
 use Rattle.lms_sign.proofs.Validity.{length-signature, signed_valid}
-use Rattle.leaf_ledger.specs.Ledger.{IsFull, LeafNumber}
+use Rattle.leaf_ledger.specs.Ledger.{LeafNumber}
 use Rattle.client_journal.specs.Records.{Record}
 use Rattle.version_order.specs.Structure.{Structure, structure}
 use Rattle.update_cert.specs.Change.{Change}
@@ -18,7 +19,7 @@ use Rattle.principals.specs.Table.{Table}
 use Rattle.reply_rules.specs.Lists.{Lists}
 use Rattle.pending_list.specs.Reply.{digest_of_last}
 use Rattle.checked_blocks.specs.CheckedBlocks.{CheckedBlocks}
-use Rattle.client_releases.specs.Releasing.{AnyMoment, Devices, IsKept, IsTried, cert_record, structure_record}
+use Rattle.client_releases.specs.Releasing.{AnyMoment, Devices, IsKept, IsTried, IsUsedUp, cert_record, structure_record}
 use Rattle.client_releases.specs.Told.{IsReleased, Released, Stands, sent, signed_by}
 use Rattle.client_releases.specs.declared.error.ClientError.{ClientError}
 use Rattle.client_releases.specs.declared.error.ClientError.TheVariants as error
@@ -26,6 +27,7 @@ use Rattle.client_releases.specs.declared.phase.Phase.{Phase}
 use Rattle.client_releases.specs.declared.phase.Phase.TheVariants as phase
 use Rattle.client_releases.proofs.Seen.{declared_with, failed_with, signed_with, with_signature}
 use Rattle.client_releases.proofs.Untouched.{none_tried, untouched}
+use Rattle.client_releases.proofs.UsedUp.{can_sign}
 use Rattle.client_verify.specs.State.{AcceptedView, Checked, IsOfDeclared, Ready, State, declared, declared_text, failed, next_cert, next_structure, on, over, released, signed_over, signed_structure, signed_text, view_of}
 use Rattle.reply_check.specs.Good.{with_own}
 use Rattle.reply_check.specs.Verified.{AreOwn, IsSealed}
@@ -35,8 +37,7 @@ use Rattle.reply_check.proofs.VerifiedLaws.{seals}
 abbrev pub client_over : Released → List ℕ → CheckedBlocks → Option Checked → Option Ready → Option AcceptedView → State
 client_over r pinned blocks checked accepted view = record {
   user = r.user;
-  seed = r.seed;
-  id = r.id;
+  secret = r.secret;
   pinned = pinned;
   devices = r.devices;
   number = r.number;
@@ -113,10 +114,10 @@ pub always : {A : Type 0} (o : Option A) (P : A → Type 0) → ((a : A) → P a
 always None P each = tt
 always (Some a) P each = each a
 
--- where a leaf is free the ledger isn't full
-pub no_full : (r s : Released) (free : Bool) → r ≡ s → ((free ≡ false) ↔ IsFull r.devices.ledger.file.now.text) → free ≡ true → IsFull s.devices.ledger.file.now.text → ⊥
+-- where a leaf can be used the key isn't used up
+pub no_full : (r s : Released) (free : Bool) → r ≡ s → ((free ≡ false) ↔ IsUsedUp r.secret r.devices.ledger) → free ≡ true → IsUsedUp s.secret s.devices.ledger → ⊥
 no_full r s free is told has full =
-    let none : free ≡ false = told.1 (subst (λ (o : Released). IsFull o.devices.ledger.file.now.text) (sym is) full) in
+    let none : free ≡ false = told.1 (subst (λ (o : Released). IsUsedUp o.secret o.devices.ledger) (sym is) full) in
     let two : true ≡ false = sym has ∙ none in
     cc two
 
@@ -180,22 +181,22 @@ module _ (r new : Released) (s : State) (pinned : List ℕ) (blocks : CheckedBlo
       rw (same, of_table, of_lost, all) refl
 
   pub shown_is : (y : Ready) (leaf : LeafNumber) (z shown : Structure) (signature text : List ℕ) → z ≡ next_structure s y → shown ≡ z → new.last ≡ Some (record { value = z; signature = signature })
-      → new ≡ signed_with r new.devices (signed_by r.seed r.id leaf z) text → with_signature shown signature ≡ signed_structure s leaf y
+      → new ≡ signed_with r new.devices (signed_by r.secret leaf z) text → with_signature shown signature ≡ signed_structure s leaf y
   shown_is y leaf z shown signature text next same last made =
-      let both : Some (with_signature z signature) ≡ Some (signed_by r.seed r.id leaf z) = sym last ∙ ap (λ (o : Released). o.last) made in
-      let one : with_signature z signature ≡ signed_by r.seed r.id leaf z = cc in
-      ap (λ (q : Structure). with_signature q signature) same ∙ one ∙ ap (λ (o : Released). signed_by o.seed o.id leaf z) (ap released is) ∙ ap (λ (q : Structure). signed_by s.seed s.id leaf q) next
+      let both : Some (with_signature z signature) ≡ Some (signed_by r.secret leaf z) = sym last ∙ ap (λ (o : Released). o.last) made in
+      let one : with_signature z signature ≡ signed_by r.secret leaf z = cc in
+      ap (λ (q : Structure). with_signature q signature) same ∙ one ∙ ap (λ (o : Released). signed_by o.secret leaf z) (ap released is) ∙ ap (λ (q : Structure). signed_by s.secret leaf q) next
 
   signed_is : (y : Ready) (leaf : LeafNumber) (z : Structure) (unsigned : Bytes) → z ≡ next_structure s y → unsigned ≡ structure.spell z
-      → signed_with r new.devices (signed_by r.seed r.id leaf z) (sent r leaf unsigned) ≡ signed_with (released s) new.devices (signed_structure s leaf y) (signed_text s leaf y)
+      → signed_with r new.devices (signed_by r.secret leaf z) (sent r leaf unsigned) ≡ signed_with (released s) new.devices (signed_structure s leaf y) (signed_text s leaf y)
   signed_is y leaf z unsigned next spelled =
       let of_text : unsigned ≡ structure.spell (next_structure s y) = spelled ∙ ap structure.spell next in
-      ap (λ (o : Released). signed_with o new.devices (signed_by o.seed o.id leaf z) (sent o leaf unsigned)) (ap released is)
-      ∙ ap (λ (q : Structure). signed_with (released s) new.devices (signed_by s.seed s.id leaf q) (sent (released s) leaf unsigned)) next
+      ap (λ (o : Released). signed_with o new.devices (signed_by o.secret leaf z) (sent o leaf unsigned)) (ap released is)
+      ∙ ap (λ (q : Structure). signed_with (released s) new.devices (signed_by s.secret leaf q) (sent (released s) leaf unsigned)) next
       ∙ ap (λ (t : Bytes). signed_with (released s) new.devices (signed_structure s leaf y) (sent (released s) leaf t)) of_text
 
   pub signed_of : (after : CheckedBlocks) (y : Ready) (leaf : LeafNumber) (z : Structure) (unsigned : Bytes) (shown : Option AcceptedView) → z ≡ next_structure s y → unsigned ≡ structure.spell z → IsKept leaf (structure_record (sent r leaf unsigned)) r.devices new.devices
-      → new ≡ signed_with r new.devices (signed_by r.seed r.id leaf z) (sent r leaf unsigned) → shown ≡ Some (view_of s leaf y)
+      → new ≡ signed_with r new.devices (signed_by r.secret leaf z) (sent r leaf unsigned) → shown ≡ Some (view_of s leaf y)
       → (k : LeafNumber) × IsKept k (structure_record (signed_text s k y)) s.devices new.devices × (client_over new pinned after None None shown ≡ over after (on new.devices (signed_over s k y)))
   signed_of after y leaf z unsigned shown next spelled kept made seen_is = (
     leaf,
@@ -213,34 +214,35 @@ also_four : length ots_type ≡ 4
 unfolding be
 also_four = refl
 
-node_size : (seed id : List ℕ) → length (node seed id 10 1) ≡ 32
+node_size : (secret : Secret) → length (node secret 10 1) ≡ 32
 unfolding node inner_node
-node_size seed id = length-hash _
+node_size secret = length-hash _
 
-id_size : (seed id key : List ℕ) → key ≡ public_key_of seed id → length key ≡ 56 → length id ≡ 16
+id_size : (secret : Secret) (key : List ℕ) → key ≡ public_key_of secret → length key ≡ 56 → length secret.id ≡ 16
 unfolding public_key_of
-id_size seed id key is size =
-    let all : length (lms_type ++ ots_type ++ id ++ node seed id 10 1) ≡ 56 = sym (ap length is) ∙ size in
-    omega (arith, all, four, also_four, node_size seed id, length-append (lms_type ++ ots_type ++ id) (node seed id 10 1), length-append (lms_type ++ ots_type) id, length-append lms_type ots_type)
+id_size secret key is size =
+    let id = secret.id in
+    let all : length (lms_type ++ ots_type ++ id ++ node secret 10 1) ≡ 56 = sym (ap length is) ∙ size in
+    omega (arith, all, four, also_four, node_size secret, length-append (lms_type ++ ots_type ++ id) (node secret 10 1), length-append (lms_type ++ ots_type) id, length-append lms_type ots_type)
 
-module _ (r : Released) (key : List ℕ) (is : key ≡ public_key_of r.seed r.id) (size : length key ≡ 56) (leaf : LeafNumber) (small : leaf < 1024) where
-  pub seals_sent : (unsigned : Bytes) → IsSealed (public_key_of r.seed r.id) (sent r leaf unsigned)
+module _ (r : Released) (key : List ℕ) (is : key ≡ public_key_of r.secret) (size : length key ≡ 56) (leaf : LeafNumber) (small : leaf < 1024) (has : HasLeaf r.secret leaf) where
+  pub seals_sent : (unsigned : Bytes) → IsSealed (public_key_of r.secret) (sent r leaf unsigned)
   seals_sent unsigned =
-      seals (public_key_of r.seed r.id) unsigned (signature_of r.seed r.id leaf unsigned) (length-signature r.seed r.id unsigned leaf) (signed_valid r.seed r.id unsigned leaf (id_size r.seed r.id key is size) small)
+      seals (public_key_of r.secret) unsigned (signature_of r.secret leaf unsigned) (length-signature r.secret unsigned leaf) (signed_valid r.secret unsigned leaf (id_size r.secret key is size) small has)
 
   -- after a certificate was declared, the last structure is as it was
-  pub own_begun : (new : Released) (n : ℕ) (unsigned : Bytes) → new ≡ declared_with r new.devices n (sent r leaf unsigned) → AreOwn (public_key_of r.seed r.id) r.last r.text → AreOwn (public_key_of new.seed new.id) new.last new.text
+  pub own_begun : (new : Released) (n : ℕ) (unsigned : Bytes) → new ≡ declared_with r new.devices n (sent r leaf unsigned) → AreOwn (public_key_of r.secret) r.last r.text → AreOwn (public_key_of new.secret) new.last new.text
   own_begun new n unsigned made own =
-      subst (λ (o : Released). AreOwn (public_key_of o.seed o.id) o.last o.text) (sym made) (record { structure = own.structure; sealed = seals_sent unsigned })
+      subst (λ (o : Released). AreOwn (public_key_of o.secret) o.last o.text) (sym made) (record { structure = own.structure; sealed = seals_sent unsigned })
 
-  pub own_signed : (new : Released) (z : Structure) (unsigned : Bytes) → new ≡ signed_with r new.devices (signed_by r.seed r.id leaf z) (sent r leaf unsigned) → AreOwn (public_key_of new.seed new.id) new.last new.text
+  pub own_signed : (new : Released) (z : Structure) (unsigned : Bytes) → new ≡ signed_with r new.devices (signed_by r.secret leaf z) (sent r leaf unsigned) → AreOwn (public_key_of new.secret) new.last new.text
   own_signed new z unsigned made =
-      subst (λ (o : Released). AreOwn (public_key_of o.seed o.id) o.last o.text) (sym made)
-      (record { structure = signed_valid r.seed r.id (structure.spell z) leaf (id_size r.seed r.id key is size) small; sealed = seals_sent unsigned })
+      subst (λ (o : Released). AreOwn (public_key_of o.secret) o.last o.text) (sym made)
+      (record { structure = signed_valid r.secret (structure.spell z) leaf (id_size r.secret key is size) small has; sealed = seals_sent unsigned })
 
 -- after a device failed both are as they were
-pub own_failed : (r new : Released) → new ≡ failed_with r new.devices → AreOwn (public_key_of r.seed r.id) r.last r.text → AreOwn (public_key_of new.seed new.id) new.last new.text
-own_failed r new made own = subst (λ (o : Released). AreOwn (public_key_of o.seed o.id) o.last o.text) (sym made) own
+pub own_failed : (r new : Released) → new ≡ failed_with r new.devices → AreOwn (public_key_of r.secret) r.last r.text → AreOwn (public_key_of new.secret) new.last new.text
+own_failed r new made own = subst (λ (o : Released). AreOwn (public_key_of o.secret) o.last o.text) (sym made) own
 
 -- what a certificate that comes next says fits, where its parts do
 pub fits_next : (s : State) (user number : ℕ) (last : Digest) (changes : List (Change Digest)) → user ≡ s.user → number ≡ s.number + 1 → last ≡ digest_of_last s.last → cert.Fits (record { user = user; number = number; last = last; changes = changes }) → cert.Fits (next_cert s changes)
@@ -252,11 +254,11 @@ fits_next s user number last changes of_user of_number of_last fits =
 -- ---- what is under way
 
 -- the own texts after a call that declared, or failed
-pub own_after : {T E : Type 0} (res : Result T E) (r new : Released) (key : List ℕ) (n : ℕ) (unsigned : Bytes) → key ≡ public_key_of r.seed r.id → length key ≡ 56
+pub own_after : {T E : Type 0} (res : Result T E) (r new : Released) (key : List ℕ) (n : ℕ) (unsigned : Bytes) → key ≡ public_key_of r.secret → length key ≡ 56 → (IsUsedUp r.secret r.devices.ledger → ⊥)
     → OnOk res ((leaf : LeafNumber) × IsKept leaf (cert_record (sent r leaf unsigned)) r.devices new.devices × (new ≡ declared_with r new.devices n (sent r leaf unsigned))) → OnErr res (new ≡ failed_with r new.devices)
-    → AreOwn (public_key_of r.seed r.id) r.last r.text → AreOwn (public_key_of new.seed new.id) new.last new.text
-own_after (Ok v) r new key n unsigned is size done fault own = own_begun r key is size done.0 done.1.least.below new n unsigned done.2 own
-own_after (Err e) r new key n unsigned is size done fault own = own_failed r new fault own
+    → AreOwn (public_key_of r.secret) r.last r.text → AreOwn (public_key_of new.secret) new.last new.text
+own_after (Ok v) r new key n unsigned is size some done fault own = own_begun r key is size done.0 done.1.least.below (can_sign r.secret r.devices.ledger done.0 done.1.least some) new n unsigned done.2 own
+own_after (Err e) r new key n unsigned is size some done fault own = own_failed r new fault own
 
 -- what is under check is a reply to the declared operation, as its callers see it or by its fields
 pub replied : (r q : Released) (o : Option Lists) → r ≡ q → IsSomeAnd o (λ x. IsOfDeclared q x.own.plan) → IsSomeAnd o (λ x. IsOfDeclared r x.own.plan)

@@ -4,6 +4,7 @@ use Rattle.std.specs.Option.{option_map_or}
 use Rattle.std.specs.Ordering.{nat_cmp}
 use Rattle.layout.specs.Ascending.{with_row}
 use Rattle.layout.specs.Types.{Bytes, Digest, Handle, Key, User, Version}
+use Rattle.lms_sign.specs.Secret.{Secret}
 use Rattle.leaf_ledger.specs.Ledger.{LeafNumber}
 use Rattle.version_order.specs.declared.structure.GroupRecord.{GroupRecord}
 use Rattle.version_order.specs.Plan.{Plan}
@@ -66,8 +67,7 @@ pub record AcceptedView : Type 0 where
 pub record State : Type 0 where
   pub user : User
   -- what the own key is made of
-  pub seed : Bytes
-  pub id : Bytes
+  pub secret : Secret
   -- user 0's public key
   pub pinned : Key
   -- the leaves of the own key, and the signed texts that were released
@@ -96,8 +96,7 @@ known s = record { user = s.user; pinned = s.pinned; last = s.last; declared = s
 abbrev pub opened : Key → Released → State
 opened pinned r = record {
   user = r.user;
-  seed = r.seed;
-  id = r.id;
+  secret = r.secret;
   pinned = pinned;
   devices = r.devices;
   number = r.number;
@@ -115,8 +114,7 @@ abbrev pub released : State → Released
 released s =
     record {
       user = s.user;
-      seed = s.seed;
-      id = s.id;
+      secret = s.secret;
       devices = s.devices;
       number = s.number;
       last = s.last;
@@ -185,7 +183,7 @@ abbrev pub next_structure : State → Ready → Structure
 next_structure s r = structure_over r.handle r.records s.last r.lists.own.plan
 
 abbrev pub signed_structure : State → LeafNumber → Ready → Signed Structure
-signed_structure s leaf r = signed_by s.seed s.id leaf (next_structure s r)
+signed_structure s leaf r = signed_by s.secret leaf (next_structure s r)
 
 -- the structure over an accepted reply, as it is sent, signed by this leaf
 abbrev pub signed_text : State → LeafNumber → Ready → Bytes

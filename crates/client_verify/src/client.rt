@@ -47,8 +47,7 @@ impl<L: Device, J: Device, A: Allocator> Model for Client<L, J, A> {
 
     ghost view = { λ c. record {
       user = c.releases.user;
-      seed = c.releases.seed;
-      id = c.releases.id;
+      secret = c.releases.secret;
       pinned = c.pinned;
       devices = c.releases.devices;
       number = c.releases.number;
@@ -62,7 +61,7 @@ impl<L: Device, J: Device, A: Allocator> Model for Client<L, J, A> {
     } };
 
     ghost invariant = { λ c. AreReplies c.releases (checked_of c.progress) (accepted_of c.progress)
-        × (c.is_own ≡ true → AreOwn (public_key_of c.releases.seed c.releases.id) c.releases.last c.releases.text) };
+        × (c.is_own ≡ true → AreOwn (public_key_of c.releases.secret) c.releases.last c.releases.text) };
 }
 
 /// Whether nothing was released yet.
@@ -112,7 +111,7 @@ impl<L: Device, J: Device, A: Allocator + Copy> Client<L, J, A> {
         journal: J,
     ) -> Result<Client<L, J, A>, (ClientError, Parts<L, J, A>)>
         ensures state { IfOk result (λ client. client ≡ opened pinned (released client)) }
-        ensures whose { IfOk result (λ client. (client.user ≡ user) × (client.seed ≡ key.seed) × (client.id ≡ key.id)) }
+        ensures whose { IfOk result (λ client. (client.user ≡ user) × (client.secret ≡ key)) }
         // It is as the journal told, and as it tells still.
         ensures told { IfOk result (λ client. IsToldBy (J.history journal).now.text (released client)) }
         // What both devices go through meanwhile.
@@ -123,9 +122,9 @@ impl<L: Device, J: Device, A: Allocator + Copy> Client<L, J, A> {
         // The same leaves are used as before: none of a new ledger.
         ensures used { IfOk result (λ client. UsedAsBefore (L.history ledger).now.text
             client.devices.ledger.file.now.text) }
-        ensures own { IfOk result (λ _. IsForeign (public_key_of key.seed key.id) (L.history ledger).now.text → ⊥) }
+        ensures own { IfOk result (λ _. IsForeign (public_key_of key) (L.history ledger).now.text → ⊥) }
         ensures foreign { IfErr result (λ e. e.0 ≡ ClientError.Foreign
-            → IsForeign (public_key_of key.seed key.id) (L.history ledger).now.text) }
+            → IsForeign (public_key_of key) (L.history ledger).now.text) }
         ensures damaged { IfErr result (λ e. e.0 ≡ ClientError.Damaged
             → IsDamaged (J.history journal).now.text ⊎ TellsOfOther user (J.history journal).now.text) }
         ensures device { IfErr result (λ e. e.0 ≡ ClientError.Device
@@ -176,7 +175,7 @@ impl<L: Device, J: Device, A: Allocator + Copy> Client<L, J, A> {
 
     /// Hands back what it was opened over, in any phase.
     pub fn close(self) -> Parts<L, J, A>
-        ensures key { (result.key.seed ≡ self.seed) × (result.key.id ≡ self.id) }
+        ensures key { result.key ≡ self.secret }
         ensures ledger { L.history result.ledger ≡ self.devices.ledger.file }
         ensures journal { J.history result.journal ≡ self.devices.journal.file }
         ensures faults { (L.fault_count result.ledger ≡ self.devices.ledger.faults)

@@ -3,9 +3,9 @@
 ghost use Rattle.std.specs.Prelude.{◌+◌, ◌↔◌, ◌≡◌, ◌≢◌, ◌≤◌, ◌⊎◌, IfErr, IfOk, IsErrOf, OnErr, OnOk, length, map, true};
 ghost use Rattle.std.specs.Vec.{vec_items};
 ghost use Rattle.layout.specs.Ranges.{last_version};
-ghost use Rattle.leaf_ledger.specs.Ledger.{IsFull, IsLeastFree, LeafNumber};
+ghost use Rattle.leaf_ledger.specs.Ledger.{IsLeastFree, LeafNumber};
 ghost use Rattle.update_cert.specs.Cert.{cert};
-ghost use Rattle.client_releases.specs.Releasing.{AnyMoment, IsKept, IsTried, OneHasRisen, cert_record};
+ghost use Rattle.client_releases.specs.Releasing.{AnyMoment, IsKept, IsTried, IsUsedUp, OneHasRisen, cert_record};
 ghost use Rattle.client_verify.specs.Holding.{LaysOut};
 ghost use Rattle.client_verify.specs.Laid.{are_laid};
 ghost use Rattle.client_verify.specs.State.{declared, declared_text, failed, next_cert, on, over};
@@ -20,13 +20,13 @@ use std::alloc::Allocator;
 use update_cert::{Change, MOST_CHANGES, cert_text};
 
 impl<L: Device, J: Device, A: Allocator + Copy> Client<L, J, A> {
-    /// The number of the next operation, where a leaf is free.
+    /// The number of the next operation, where a leaf is free that can sign.
     fn next_number(&self) -> Result<Version, ClientError>
         requires { self.now.phase ≡ Phase.Idle }
         ensures number { IfOk result (λ number. number ≡ self.now.number + 1) }
-        ensures no_leaf { IsErrOf result ClientError.NoLeaf ↔ IsFull self.now.devices.ledger.file.now.text }
+        ensures no_leaf { IsErrOf result ClientError.NoLeaf ↔ IsUsedUp self.now.secret self.now.devices.ledger }
         ensures no_number { IsErrOf result ClientError.NoNumber
-            ↔ ((self.now.number ≡ last_version) × (IsFull self.now.devices.ledger.file.now.text → ⊥)) }
+            ↔ ((self.now.number ≡ last_version) × (IsUsedUp self.now.secret self.now.devices.ledger → ⊥)) }
         ensures only { IfErr result (λ e. (e ≡ ClientError.NoLeaf) ⊎ (e ≡ ClientError.NoNumber)) }
     {
         if !self.releases.has_free_leaf() {
@@ -75,11 +75,11 @@ impl<L: Device, J: Device, A: Allocator + Copy> Client<L, J, A> {
         ensures number { IfOk result (λ p. p.0 ≡ self.old.number + 1) }
         ensures text { IfOk result (λ p. p.1 ≡ cert.spell (next_cert self.old changes.now)) }
         ensures fits { OnOk result (cert.Fits (next_cert self.old changes.now)) }
-        ensures free { OnOk result (IsFull self.old.devices.ledger.file.now.text → ⊥) }
+        ensures free { OnOk result (IsUsedUp self.old.secret self.old.devices.ledger → ⊥) }
         ensures below { OnOk result (self.old.number ≢ last_version) }
-        ensures no_leaf { IsErrOf result ClientError.NoLeaf ↔ IsFull self.old.devices.ledger.file.now.text }
+        ensures no_leaf { IsErrOf result ClientError.NoLeaf ↔ IsUsedUp self.old.secret self.old.devices.ledger }
         ensures no_number { IsErrOf result ClientError.NoNumber
-            ↔ ((self.old.number ≡ last_version) × (IsFull self.old.devices.ledger.file.now.text → ⊥)) }
+            ↔ ((self.old.number ≡ last_version) × (IsUsedUp self.old.secret self.old.devices.ledger → ⊥)) }
         ensures only { IfErr result (λ e. (e ≢ ClientError.Device) × (e ≢ ClientError.Foreign)
             × (e ≢ ClientError.Damaged)) }
         ensures err { OnErr result (self.new ≡ self.old) }
@@ -115,9 +115,9 @@ impl<L: Device, J: Device, A: Allocator + Copy> Client<L, J, A> {
             → AnyMoment leaf (cert_record (declared_text self.old leaf changes.now)) self.old.devices self.new.devices }
         ensures tried { OnErr result (IsTried (λ leaf. cert_record (declared_text self.old leaf changes.now))
             self.old.devices self.new.devices) }
-        ensures no_leaf { IsErrOf result ClientError.NoLeaf ↔ IsFull self.old.devices.ledger.file.now.text }
+        ensures no_leaf { IsErrOf result ClientError.NoLeaf ↔ IsUsedUp self.old.secret self.old.devices.ledger }
         ensures no_number { IsErrOf result ClientError.NoNumber
-            ↔ ((self.old.number ≡ last_version) × (IsFull self.old.devices.ledger.file.now.text → ⊥)) }
+            ↔ ((self.old.number ≡ last_version) × (IsUsedUp self.old.secret self.old.devices.ledger → ⊥)) }
         ensures rose { IsErrOf result ClientError.Device → OneHasRisen self.old.devices self.new.devices }
         ensures fails { IsErrOf result ClientError.Device
             → self.new ≡ over self.new.blocks (on self.new.devices (failed self.old)) }

@@ -4,10 +4,11 @@ ghost use Rattle.std.specs.Prelude.{◌<◌, ◌↔◌, ◌≡◌, ◌≢◌, If
 ghost use Rattle.std.specs.Prelude.{vec_capacity, vec_len};
 ghost use Rattle.std.specs.Ordering.{nat_cmp};
 ghost use Rattle.layout.specs.Ascending.{Ascends};
-ghost use Rattle.leaf_ledger.specs.Ledger.{IsFull, IsLeastFree, LeafNumber};
+ghost use Rattle.leaf_ledger.specs.Ledger.{IsLeastFree, LeafNumber};
 ghost use Rattle.version_order.specs.Structure.{structure};
 ghost use Rattle.pending_list.specs.Reply.{user_of};
-ghost use Rattle.client_releases.specs.Releasing.{AnyMoment, IsKept, IsTried, OneHasRisen, structure_record};
+ghost use Rattle.client_releases.specs.Releasing.{AnyMoment, IsKept, IsTried, IsUsedUp, OneHasRisen};
+ghost use Rattle.client_releases.specs.Releasing.{structure_record};
 ghost use Rattle.client_verify.specs.State.{committed, failed, next_structure, on, over, signed_over, signed_text};
 ghost use Rattle.checked_blocks.specs.CheckedBlocks.{LetsGo};
 
@@ -68,7 +69,7 @@ impl<L: Device, J: Device, A: Allocator + Copy> Client<L, J, A> {
         ensures tried { IfSome self.old.accepted
             (λ r. OnErr result (IsTried (λ leaf. structure_record (signed_text self.old leaf r)) self.old.devices
             self.new.devices)) }
-        ensures no_leaf { IsErrOf result ClientError.NoLeaf ↔ IsFull self.old.devices.ledger.file.now.text }
+        ensures no_leaf { IsErrOf result ClientError.NoLeaf ↔ IsUsedUp self.old.secret self.old.devices.ledger }
         ensures rose { IsErrOf result ClientError.Device → OneHasRisen self.old.devices self.new.devices }
         ensures fails { IsErrOf result ClientError.Device → self.new ≡ on self.new.devices (failed self.old) }
         // What is signed can be read again.

@@ -263,10 +263,10 @@ module _ (Inside : Cert → List Bytes → Type 0) where
         go : (h : Holds (owner keys u) (client_of u run) (released u run)) → (r : Release) → In r h.story → cert_in u (release_text own r) ≡ Some s → IsBegun s.value
         go h (OfCert d q) j some =
             let before = came own h.story h.low.is_story (OfCert d q) j in
-            let two : Some (record { value = d; signature = signature_of own.seed own.id q (cert.spell d) }) ≡ Some s = sym (cert_of own d q before.0 before.1) ∙ some in
-            let same : record { value = d; signature = signature_of own.seed own.id q (cert.spell d) } ≡ s = cc two in
+            let two : Some (record { value = d; signature = signature_of own.secret q (cert.spell d) }) ≡ Some s = sym (cert_of own d q before.0 before.1) ∙ some in
+            let same : record { value = d; signature = signature_of own.secret q (cert.spell d) } ≡ s = cc two in
             subst (λ (y : Signed Cert). IsBegun y.value) same (h.certs d q j)
-        go h (OfStructure z q) j some = absurd (cc (sym (no_cert u z (signature_of own.seed own.id q (structure.spell z))) ∙ some))
+        go h (OfStructure z q) j some = absurd (cc (sym (no_cert u z (signature_of own.secret q (structure.spell z))) ∙ some))
 
 -- ---- among texts
 

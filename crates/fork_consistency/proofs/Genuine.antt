@@ -77,8 +77,8 @@ in_structures (OfStructure z p ∷ older) y q (inr i) = inr (in_structures older
 
 module _ (o : low.Owner) where
   pub message_of : (r : Release) → unsigned (release_text o r) ≡ message r
-  message_of (OfCert c q) = unsigned_of (cert.spell c) (signature_of o.seed o.id q (cert.spell c)) (length-signature o.seed o.id (cert.spell c) q)
-  message_of (OfStructure z q) = unsigned_of (structure.spell z) (signature_of o.seed o.id q (structure.spell z)) (length-signature o.seed o.id (structure.spell z) q)
+  message_of (OfCert c q) = unsigned_of (cert.spell c) (signature_of o.secret q (cert.spell c)) (length-signature o.secret (cert.spell c) q)
+  message_of (OfStructure z q) = unsigned_of (structure.spell z) (signature_of o.secret q (structure.spell z)) (length-signature o.secret (structure.spell z) q)
 
 module _ (o : low.Owner) (z : Structure) (fits : structure.Fits z) where
   of_release : (story : List Release) → IsStory o story → (r : Release) → In r story → structure.spell z ≡ message r → In z (structures story)
@@ -89,7 +89,7 @@ module _ (o : low.Owner) (z : Structure) (fits : structure.Fits z) where
   of_release story is_story (OfCert c q) j spelled =
       let before = came o story is_story (OfCert c q) j in
       let some = cert_of o c q before.0 before.1 in
-      let none = ap (λ (m : Bytes). cert_in o.user (m ++ signature_of o.seed o.id q (cert.spell c))) (sym spelled) ∙ no_cert o.user z (signature_of o.seed o.id q (cert.spell c)) in
+      let none = ap (λ (m : Bytes). cert_in o.user (m ++ signature_of o.secret q (cert.spell c))) (sym spelled) ∙ no_cert o.user z (signature_of o.secret q (cert.spell c)) in
       absurd (cc (sym some ∙ none))
 
 -- a structure whose text was released is signed over an accepted view

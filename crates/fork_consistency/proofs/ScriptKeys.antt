@@ -9,6 +9,7 @@ use Rattle.layout.specs.Format.{IsBytes, be}
 use Rattle.layout.specs.HashLaws.{hash_fits}
 use Rattle.layout.specs.Types.{Bytes}
 use Rattle.lms_sign.specs.Keys.{lms_type, ots_type, public_key_of}
+use Rattle.lms_sign.specs.Secret.{Secret}
 use Rattle.lms_sign.specs.Tree.{inner_node, node}
 use Rattle.lms_sign.proofs.Validity.{is_key-public, length-public_key}
 use Rattle.principals.specs.TableText.{key as key_form}
@@ -37,22 +38,22 @@ word_bytes n (suc (suc zero)) = omega arith
 word_bytes n (suc (suc (suc zero))) = omega arith
 word_bytes n (suc (suc (suc (suc i)))) = omega arith
 
-root_bytes : (seed id : Bytes) → IsBytes (node seed id 10 1)
+root_bytes : (secret : Secret) → IsBytes (node secret 10 1)
 unfolding node inner_node
-root_bytes seed id = (hash_fits _).1
+root_bytes secret = (hash_fits _).1
 
 -- ---- keys
 
-key_bytes : (seed id : Bytes) → IsBytes id → IsBytes (public_key_of seed id)
+key_bytes : (secret : Secret) → IsBytes secret.id → IsBytes (public_key_of secret)
 unfolding public_key_of
-key_bytes seed id are =
-    joined_bytes (lms_type ++ ots_type ++ id) (node seed id 10 1)
-    (joined_bytes (lms_type ++ ots_type) id (joined_bytes lms_type ots_type (word_bytes 6) (word_bytes 3)) are)
-    (root_bytes seed id)
+key_bytes secret are =
+    joined_bytes (lms_type ++ ots_type ++ secret.id) (node secret 10 1)
+    (joined_bytes (lms_type ++ ots_type) secret.id (joined_bytes lms_type ots_type (word_bytes 6) (word_bytes 3)) are)
+    (root_bytes secret)
 
-key_fits : (seed id : Bytes) → length id ≡ 16 → IsBytes id → key_form.Fits (public_key_of seed id)
-key_fits seed id size are = ((length-public_key seed id size, key_bytes seed id are), is_key-public seed id size)
+key_fits : (secret : Secret) → length secret.id ≡ 16 → IsBytes secret.id → key_form.Fits (public_key_of secret)
+key_fits secret size are = ((length-public_key secret size, key_bytes secret are), is_key-public secret size)
 
 -- user 0's, which every client knows, has it
 pub pinned_fits : key_form.Fits (public_key script_keys 0)
-pinned_fits = key_fits (replicate 32 0) (replicate 16 0) (length-replicate {A = ℕ} 16 0) (same_bytes 16 0 (omega arith))
+pinned_fits = key_fits (script_keys 0) (length-replicate {A = ℕ} 16 0) (same_bytes 16 0 (omega arith))

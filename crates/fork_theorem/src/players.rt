@@ -27,8 +27,8 @@ pub(crate) struct Players<A: Allocator + Copy> {
     pub(crate) list: Vec<Player<A>, A>,
 }
 
-/// The key of a user in a script: its seed and its identifier are bytes of the user's number.
-fn first_key<A: Allocator>(alloc: A, user: User) -> Result<PrivateKey<A>, Memory> {
+/// The key of a user in a script, which is drawn from bytes of the user's number.
+fn first_key<A: Allocator + Copy>(alloc: A, user: User) -> Result<PrivateKey<A>, Memory> {
     PrivateKey::from_seed(alloc, [user.get(); 32], [user.get(); 16])
 }
 

@@ -31,10 +31,10 @@ module _ (keys : Keys) (naming : Naming) (u : User) where
   o = low_owner (owner keys u)
 
   abbrev pub signed_cert : Cert → LeafNumber → Signed Cert
-  signed_cert c q = record { value = c; signature = signature_of o.seed o.id q (cert.spell c) }
+  signed_cert c q = record { value = c; signature = signature_of o.secret q (cert.spell c) }
 
   abbrev pub signed_structure : Structure → LeafNumber → Signed Structure
-  signed_structure z q = signed_by o.seed o.id q z
+  signed_structure z q = signed_by o.secret q z
 
   -- ---- what may come
 

@@ -43,7 +43,7 @@ module _ (keys : Keys) (run : List HonestEvent) (is : IsHonestRun keys run) (p :
 
   pub grounds : Grounds keys naming texts
   grounds = record {
-    ids = p.identifiers;
+    signers = p.signers;
     is_naming = is_naming keys es (are_runs keys run is) honest;
     apart = apart;
     first_in = first_in keys es (are_runs keys run is) honest;

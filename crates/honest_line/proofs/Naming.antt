@@ -34,6 +34,7 @@ use Rattle.honest_runs.specs.HonestRuns.{HonestEvent, IsHonestRun, events}
 use Rattle.honest_line.specs.OneLine.{all_texts}
 use Rattle.honest_line.specs.Naming.{first_named, named_by, naming_of}
 use Rattle.honest_line.proofs.Genuine.{nothing_forged}
+use Rattle.honest_line.proofs.Signing.{CanSign}
 
 -- ---- premises
 
@@ -46,7 +47,7 @@ pub record KeysTrue (keys : Keys) (run : List Event) : Type 0 where
 pub record IsAssumed (keys : Keys) (run : List HonestEvent) : Type 0 where
   pub no_collision : NoneCollide (all_texts keys run) (all_texts keys run)
   pub true_keys : KeysTrue keys (events run)
-  pub identifiers : (u : User) → length (keys u).id ≡ 16
+  pub signers : (u : User) → CanSign keys u
 
 -- of an honest run the premise on forgery is none
 pub premises : (keys : Keys) (run : List HonestEvent) → IsHonestRun keys run → NoCollision keys (events run) → KeysTrue keys (events run) → Premises keys (events run)

@@ -83,7 +83,7 @@ module _ (keys : Keys) (run : List HonestEvent) (is : IsHonestRun keys run) (p :
               to_all (TextAddsOwnKeysOf everybody keys) (released 0 (events (h ∷ run)))
               (λ t i. of_all (TextAddsOwnKeysOf everybody keys) (released 0 es) p.true_keys.added t (none_released t i));
         };
-        identifiers = p.identifiers;
+        signers = p.signers;
       }
 
       honest : IsStep (owner keys u) (Open s) call (Open new) → IsHandedIn (h ∷ run) (Open s) (held (stored run)) call → new ≡ s → IsHonestStep keys run h

@@ -1,6 +1,7 @@
 -- Over each honest run all stand in one line.
-use Rattle.std.proofs.Common.{ℕ, List, Result, Ok, Err, IfOk}
+use Rattle.std.proofs.Common.{ℕ, List, replicate, Result, Ok, Err, IfOk}
 use Rattle.std.proofs.lemmas.List.{length-replicate}
+use Rattle.lms_sign.proofs.Drawn.{drawn_has}
 use Rattle.agreement.specs.Lines.{IsBeginning, line}
 use Rattle.agreement.proofs.Members.{to_all}
 use Rattle.client_runs.specs.declared.world.Answer.{Answer}
@@ -37,13 +38,17 @@ pub each_honest_run : EachHonestRun
 each_honest_run keys run is are p = on_one_line keys run is (record {
   no_collision = p.no_collision;
   true_keys = record { pinned = are.pinned; added = p.added };
-  identifiers = are.identifiers;
+  signers = λ u. (are.identifiers u, are.leaves u);
 })
 
 -- ---- steps that are carried out
 
 script_keys_are : AreKeys script_keys
-script_keys_are = record { pinned = pinned_fits; identifiers = λ u. length-replicate {A = ℕ} 16 u }
+script_keys_are = record {
+  pinned = pinned_fits;
+  identifiers = λ u. length-replicate {A = ℕ} 16 u;
+  leaves = λ u. drawn_has (replicate 32 u) (replicate 16 u);
+}
 
 carried : {A : Type 0} (steps : List (HonestStep A)) (answers : List (Answer A)) → AreServed steps answers → IsOneLine steps answers
 carried steps answers c =

@@ -34,6 +34,6 @@ module _ (keys : Keys) (u : User) (c : Cert) (q : LeafNumber) (fits : cert.Fits 
 
   pub own_keys : (u ≡ 0 → TextAddsOwnKeysOf everybody keys sent) → u ≡ 0 → All (λ change. GivesOwnKey (public_key keys) change.action) c.changes
   own_keys adds zero =
-      let sig = signature_of (keys u).seed (keys u).id q (cert.spell c) in
-      let read = cert_read 0 sig (length-signature (keys u).seed (keys u).id (cert.spell c) q) c fits (user ∙ zero) in
+      let sig = signature_of (keys u) q (cert.spell c) in
+      let read = cert_read 0 sig (length-signature (keys u) (cert.spell c) q) c fits (user ∙ zero) in
       all_give keys c.changes (subst (λ (o : Option (Signed Cert)). IfSome o (λ d. All (λ change. GivesOwnKeyOf everybody keys change.action) d.value.changes)) read (adds zero))

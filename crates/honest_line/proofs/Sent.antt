@@ -86,15 +86,15 @@ module _ (keys : Keys) (u : User) (run : List Event) (is : IsRun keys run) where
   latest_cert [] story kept now = absurd (let two : phase.Idle ≡ phase.Declared = now in cc two)
   latest_cert (OfStructure z q ∷ older) story kept now = absurd (let two : phase.Signed ≡ phase.Declared = now in cc two)
   latest_cert (OfCert c q ∷ older) story kept now =
-      let signature = signature_of o.seed o.id q (cert.spell c) in
-      let long = length-signature o.seed o.id (cert.spell c) q in
+      let signature = signature_of o.secret q (cert.spell c) in
+      let long = length-signature o.secret (cert.spell c) q in
       let next = story.0.next in
       record {
         value = record { value = c; signature = signature };
         spelled = refl;
         user = next.user;
         is_released = record {
-          fits = (next.fits, (long, signature_is_bytes o.seed o.id (cert.spell c) q));
+          fits = (next.fits, (long, signature_is_bytes o.secret (cert.spell c) q));
           released = released_one (cert.spell c) signature c.user next.user long (kept (OfCert c q) (inl refl));
         };
       }
@@ -103,15 +103,15 @@ module _ (keys : Keys) (u : User) (run : List Event) (is : IsRun keys run) where
   latest_structure [] story kept now = absurd (let two : phase.Idle ≡ phase.Signed = now in cc two)
   latest_structure (OfCert c q ∷ older) story kept now = absurd (let two : phase.Declared ≡ phase.Signed = now in cc two)
   latest_structure (OfStructure z q ∷ older) story kept now =
-      let signature = signature_of o.seed o.id q (structure.spell z) in
-      let long = length-signature o.seed o.id (structure.spell z) q in
+      let signature = signature_of o.secret q (structure.spell z) in
+      let long = length-signature o.secret (structure.spell z) q in
       let next = story.0.next in
       record {
         value = record { value = z; signature = signature };
         spelled = refl;
         user = next.user;
         is_released = record {
-          fits = (next.fits, (long, signature_is_bytes o.seed o.id (structure.spell z) q));
+          fits = (next.fits, (long, signature_is_bytes o.secret (structure.spell z) q));
           released = released_one (structure.spell z) signature z.plan.user next.user long (kept (OfStructure z q) (inl refl));
         };
       }

@@ -10,6 +10,7 @@ use Rattle.lms_sign.specs.Hashing.{joined}
 use Rattle.lms_sign.specs.Chains.{step, chained, drawn}
 use Rattle.lms_sign.specs.Digits.{digit}
 use Rattle.lms_sign.specs.OneTime.{randomizer_of, digest_of, signed_value}
+use Rattle.lms_sign.specs.Secret.{Secret}
 use Rattle.lms_sign.specs.Tree.{leaf_node, inner_node, node, ancestor, sibling}
 use Rattle.lms_sign.specs.Keys.{lms_type, ots_type}
 use Rattle.lms_sign.specs.Signature.{path_of, signature_of}
@@ -37,10 +38,10 @@ signed_value_is_bytes : (seed id : Bytes) (leaf : ℕ) (digest : Bytes) (chain :
 unfolding signed_value
 signed_value_is_bytes seed id leaf digest chain = chained_is_bytes id (drawn seed id leaf chain) leaf chain 0 (digit digest chain) (drawn_is_bytes seed id leaf chain)
 
-node_is_bytes : (seed id : Bytes) (height number : ℕ) → IsBytes (node seed id height number)
+node_is_bytes : (secret : Secret) (height number : ℕ) → IsBytes (node secret height number)
 unfolding node leaf_node inner_node
-node_is_bytes seed id zero number = hash_is_bytes _
-node_is_bytes seed id (suc height) number = hash_is_bytes _
+node_is_bytes secret zero number = hash_is_bytes _
+node_is_bytes secret (suc height) number = hash_is_bytes _
 
 joined_is_bytes : (count : ℕ) (piece : ℕ → Bytes) → ((k : ℕ) → IsBytes (piece k)) → IsBytes (joined count piece)
 unfolding joined
@@ -51,15 +52,17 @@ six_are_bytes : (a b c v l p : Bytes) → IsBytes a → IsBytes b → IsBytes c 
 six_are_bytes a b c v l p ha hb hc hv hl hp =
     bytes_joined (a ++ b ++ c ++ v ++ l) p (bytes_joined (a ++ b ++ c ++ v) l (bytes_joined (a ++ b ++ c) v (bytes_joined (a ++ b) c (bytes_joined a b ha hb) hc) hv) hl) hp
 
-pub signature_is_bytes : (seed id text : Bytes) (leaf : ℕ) → IsBytes (signature_of seed id leaf text)
+pub signature_is_bytes : (secret : Secret) (text : Bytes) (leaf : ℕ) → IsBytes (signature_of secret leaf text)
 unfolding signature_of
-signature_is_bytes seed id text leaf =
+signature_is_bytes secret text leaf =
+    let seed = secret.seed in
+    let id = secret.id in
     let randomizer = randomizer_of seed id leaf in
     let value : ℕ → Bytes = signed_value seed id leaf (digest_of id leaf randomizer text) in
-    six_are_bytes (be w32 leaf) ots_type randomizer (joined 67 value) lms_type (joined 10 (path_of seed id leaf))
+    six_are_bytes (be w32 leaf) ots_type randomizer (joined 67 value) lms_type (joined 10 (path_of secret leaf))
     (number_is_bytes w32 leaf) (number_is_bytes w32 3) (randomizer_is_bytes seed id leaf)
     (joined_is_bytes 67 value (signed_value_is_bytes seed id leaf (digest_of id leaf randomizer text))) (number_is_bytes w32 6)
-    (joined_is_bytes 10 (path_of seed id leaf) (λ height. node_is_bytes seed id height (sibling (ancestor (1024 + leaf) height))))
+    (joined_is_bytes 10 (path_of secret leaf) (λ height. node_is_bytes secret height (sibling (ancestor (1024 + leaf) height))))
 
-pub signed_fits : (seed id text : Bytes) (leaf : ℕ) → signature.Fits (signature_of seed id leaf text)
-signed_fits seed id text leaf = (length-signature seed id text leaf, signature_is_bytes seed id text leaf)
+pub signed_fits : (secret : Secret) (text : Bytes) (leaf : ℕ) → signature.Fits (signature_of secret leaf text)
+signed_fits secret text leaf = (length-signature secret text leaf, signature_is_bytes secret text leaf)

@@ -1,6 +1,7 @@
 -- What a client declares and signs is what honest clients declare and sign.
 use Rattle.std.proofs.Common.{◌≡◌, ◌+◌, ◌<◌, List, [], ◌∷◌, length, Option, refl, sym}
 use Rattle.layout.specs.Types.{User}
+use Rattle.lms_sign.specs.Secret.{HasLeaf}
 use Rattle.lms_sign.proofs.Validity.{signed_valid}
 use Rattle.leaf_ledger.specs.Ledger.{LeafNumber}
 use Rattle.version_order.specs.Structure.{Structure, structure}
@@ -21,6 +22,10 @@ use Rattle.honest_line.proofs.Follows.{MayDeclare, MaySeal, o, signed_cert, sign
 use Rattle.honest_line.proofs.SignatureBytes.{signed_fits}
 use Rattle.honest_line.proofs.Spelled.{signed_cert_is_bytes, signed_structure_is_bytes}
 
+-- a user's key has an identifier of 16 bytes, and each of its leaves can sign
+abbrev pub CanSign : Keys → User → Type 0
+CanSign keys u = (length (keys u).id ≡ 16) × ((leaf : LeafNumber) → leaf < 1024 → HasLeaf (keys u) leaf)
+
 module _ (keys : Keys) (naming : Naming) (u : User) where
   -- the number of a client that has declared nothing is that of its last structure
   pub number_is : (story : List Release) → IsStory (o keys naming u) story → (phase_in story ≡ phase.Declared → ⊥) → stories.number_in story ≡ number_in (last_in (o keys naming u) story)
@@ -28,15 +33,15 @@ module _ (keys : Keys) (naming : Naming) (u : User) where
   number_is (OfCert c q ∷ older) is up = absurd (up refl)
   number_is (OfStructure z q ∷ older) is up = sym is.0.next.number
 
-  module _ (has_id : length (keys u).id ≡ 16) where
+  module _ (can : CanSign keys u) where
     pub may_declare : (last : Option (Signed Structure)) (c : Cert) (q : LeafNumber) → cert.Fits c → q < 1024 → c.user ≡ u → c.number ≡ number_in last + 1 → c.last ≡ digest_of_last last → MayDeclare keys naming u last (signed_cert keys naming u c q)
     may_declare last c q fits small user number digest true_keys = record {
       user = user;
       number = number;
       last_digest = digest;
-      fits = (fits, signed_fits (keys u).seed (keys u).id (cert.spell c) q);
-      bytes = signed_cert_is_bytes (keys u).seed (keys u).id q c fits;
-      is_signed = signed_valid (keys u).seed (keys u).id (cert.spell c) q has_id small;
+      fits = (fits, signed_fits (keys u) (cert.spell c) q);
+      bytes = signed_cert_is_bytes (keys u) q c fits;
+      is_signed = signed_valid (keys u) (cert.spell c) q can.0 small (can.1 q small);
       true_keys = true_keys;
     }
 
@@ -47,7 +52,7 @@ module _ (keys : Keys) (naming : Naming) (u : User) where
       table = table;
       view_signed = refl;
       over = each_signs_over naming s y records names;
-      fits = (fits, signed_fits (keys u).seed (keys u).id (structure.spell (next_structure s y)) q);
-      bytes = signed_structure_is_bytes (keys u).seed (keys u).id q (next_structure s y) fits;
-      is_signed = signed_valid (keys u).seed (keys u).id (structure.spell (next_structure s y)) q has_id small;
+      fits = (fits, signed_fits (keys u) (structure.spell (next_structure s y)) q);
+      bytes = signed_structure_is_bytes (keys u) q (next_structure s y) fits;
+      is_signed = signed_valid (keys u) (structure.spell (next_structure s y)) q can.0 small (can.1 q small);
     }

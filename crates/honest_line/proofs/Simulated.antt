@@ -67,6 +67,7 @@ use Rattle.honest_runs.proofs.Events.{events_with, with_exchange, with_step}
 use Rattle.honest_line.proofs.Answering.{commit_answered, reply_answered}
 use Rattle.honest_line.proofs.Follows.{Follows, Goes, in_phase_at, signed_cert, signed_structure}
 use Rattle.honest_line.proofs.InHand as hand
+use Rattle.honest_line.proofs.Signing.{CanSign}
 use Rattle.honest_line.proofs.Stepping as stepping
 
 -- members as the runs of releases have them
@@ -77,7 +78,7 @@ in_too x (y ∷ ys) (inr i) = inr (in_too x ys i)
 
 -- What an honest run is compared with: naming of handles, and texts of which no two have one digest.
 pub record Grounds (keys : Keys) (naming : Naming) (texts : List Bytes) : Type 0 where
-  pub ids : (u : User) → length (keys u).id ≡ 16
+  pub signers : (u : User) → CanSign keys u
   pub is_naming : IsNaming (public_key keys) naming
   pub apart : NoneCollide texts texts
   pub first_in : (t : Bytes) → In t (first_texts (public_key keys 0)) → In t texts
@@ -368,14 +369,14 @@ module _ (keys : Keys) (naming : Naming) (texts : List Bytes) (g : Grounds keys 
 
     module _ (t new : State) (is : client_of u es ≡ Open t) (sound : IsSound (Open new)) where
       same : (call : Call) → Keeps call (Open new) → new ≡ t → Follows keys naming u (Open new) given view stage_now
-      same call k e = stepping.same_as keys naming u (g.ids u) (calls s.moves) given view stage_now t new sound (f (Open t) is call (Open new) k) e
+      same call k e = stepping.same_as keys naming u (g.signers u) (calls s.moves) given view stage_now t new sound (f (Open t) is call (Open new) k) e
 
       begins : (changes : List (Change Digest)) (laid : List Bytes) (answer : Result Bytes ClientError) → Keeps (Begins changes laid answer) (Open new) → HasBegun t changes laid answer new → From (Open t) (Begins changes laid answer) (Open new)
       begins changes laid (Ok answer) k b =
           let call = Begins changes laid (Ok answer) in
-          inr (stepping.begins keys naming u (g.ids u) (calls s.moves) given view stage_now t new (f (Open t) is call (Open new) k) sound changes laid answer b (has_own_now (Open t) is call (Open new) k))
+          inr (stepping.begins keys naming u (g.signers u) (calls s.moves) given view stage_now t new (f (Open t) is call (Open new) k) sound changes laid answer b (has_own_now (Open t) is call (Open new) k))
       begins changes laid (Err error.Device) k b =
-          inl (refl, refl, stepping.begin_fails keys naming u (g.ids u) (calls s.moves) given view stage_now t new (f (Open t) is (Begins changes laid (Err error.Device)) (Open new) k) sound changes laid b)
+          inl (refl, refl, stepping.begin_fails keys naming u (g.signers u) (calls s.moves) given view stage_now t new (f (Open t) is (Begins changes laid (Err error.Device)) (Open new) k) sound changes laid b)
       begins changes laid (Err error.Memory) k b = inl (refl, refl, same (Begins changes laid (Err error.Memory)) k (b.err (λ d. cc d)))
       begins changes laid (Err error.NoLeaf) k b = inl (refl, refl, same (Begins changes laid (Err error.NoLeaf)) k (b.err (λ d. cc d)))
       begins changes laid (Err error.NoNumber) k b = inl (refl, refl, same (Begins changes laid (Err error.NoNumber)) k (b.err (λ d. cc d)))
@@ -386,7 +387,7 @@ module _ (keys : Keys) (naming : Naming) (texts : List Bytes) (g : Grounds keys 
       signs (Ok answer) k b =
           let call = Signs (Ok answer) in
           with_ready t (From (Open t) call (Open new)) b.ready (λ y ready.
-          inr (stepping.signs_ok keys naming u (g.ids u) (calls s.moves) given view stage_now t new (f (Open t) is call (Open new) k) sound y ready
+          inr (stepping.signs_ok keys naming u (g.signers u) (calls s.moves) given view stage_now t new (f (Open t) is call (Open new) k) sound y ready
           (accepted_table sent es s (keeps_older keys naming texts (event call (Open new)) es k) u t is y ready)
           (accepted_records sent es s (keeps_older keys naming texts (event call (Open new)) es k) u t is y ready) answer b (covers_now (Open t) is call (Open new) k)))
       signs (Err error.Device) k b =
@@ -395,7 +396,7 @@ module _ (keys : Keys) (naming : Naming) (texts : List Bytes) (g : Grounds keys 
           inl (
             refl,
             refl,
-            stepping.sign_fails_here keys naming u (g.ids u) (calls s.moves) given view stage_now t new (f (Open t) is call (Open new) k) sound y ready
+            stepping.sign_fails_here keys naming u (g.signers u) (calls s.moves) given view stage_now t new (f (Open t) is call (Open new) k) sound y ready
                 (accepted_table sent es s (keeps_older keys naming texts (event call (Open new)) es k) u t is y ready)
                 (accepted_records sent es s (keeps_older keys naming texts (event call (Open new)) es k) u t is y ready) b,
           ))
@@ -407,25 +408,25 @@ module _ (keys : Keys) (naming : Naming) (texts : List Bytes) (g : Grounds keys 
 
       takes : (block : Option Bytes) (answer : Result Asks ClientError) → Keeps (Takes block answer) (Open new) → HasTaken t block answer new → From (Open t) (Takes block answer) (Open new)
       takes block answer k b =
-          inl (refl, refl, stepping.stays keys naming u (g.ids u) (calls s.moves) given view stage_now t new sound (f (Open t) is (Takes block answer) (Open new) k) (quiet.takes t block answer new b) (hand.takes keys naming u t block answer new b))
+          inl (refl, refl, stepping.stays keys naming u (g.signers u) (calls s.moves) given view stage_now t new sound (f (Open t) is (Takes block answer) (Open new) k) (quiet.takes t block answer new b) (hand.takes keys naming u t block answer new b))
 
       kept_on : (call : Call) → Keeps call (Open new) → kept new ≡ kept t → Follows keys naming u (Open new) given view stage_now
       kept_on call k e =
-          stepping.stays keys naming u (g.ids u) (calls s.moves) given view stage_now t new sound (f (Open t) is call (Open new) k) (ap (λ (x : Kept). x.0) e) (λ heard h. hand.kept_in_hand keys naming u t new heard e h)
+          stepping.stays keys naming u (g.signers u) (calls s.moves) given view stage_now t new sound (f (Open t) is call (Open new) k) (ap (λ (x : Kept). x.0) e) (λ heard h. hand.kept_in_hand keys naming u t new heard e h)
 
     goes : (before : Client) → client_of u es ≡ before → (call : Call) (after : Client) → Keeps call after → IsStep (owner keys u) before call after → IsSound after → IsSilent call before after → From before call after
     goes (Closed p) is (Opens (Ok x)) (Open t) k step sound silent =
-        stepping.opens keys naming u (g.ids u) (calls s.moves) given view stage_now p t x (f (Closed p) is (Opens (Ok x)) (Open t) k) step sound
+        stepping.opens keys naming u (g.signers u) (calls s.moves) given view stage_now p t x (f (Closed p) is (Opens (Ok x)) (Open t) k) step sound
         (has_own_now (Closed p) is (Opens (Ok x)) (Open t) k) (covers_now (Closed p) is (Opens (Ok x)) (Open t) k)
     goes (Closed p) is (Opens (Err e)) (Closed q) k step sound silent =
-        inl (refl, refl, stepping.refused keys naming u (g.ids u) (calls s.moves) given view stage_now p e q (f (Closed p) is (Opens (Err e)) (Closed q) k) step)
+        inl (refl, refl, stepping.refused keys naming u (g.signers u) (calls s.moves) given view stage_now p e q (f (Closed p) is (Opens (Err e)) (Closed q) k) step)
     goes (Closed p) is Crashes (Closed q) k step sound silent =
-        inl (refl, refl, stepping.left keys naming u (g.ids u) (calls s.moves) given view stage_now (Closed p) q (f (Closed p) is Crashes (Closed q) k) step)
+        inl (refl, refl, stepping.left keys naming u (g.signers u) (calls s.moves) given view stage_now (Closed p) q (f (Closed p) is Crashes (Closed q) k) step)
     goes (Closed p) is call after k step sound silent = absurd step
     goes (Open t) is Closes (Closed p) k step sound silent =
-        inl (refl, refl, stepping.handed_back keys naming u (g.ids u) (calls s.moves) given view stage_now t p (f (Open t) is Closes (Closed p) k) step)
+        inl (refl, refl, stepping.handed_back keys naming u (g.signers u) (calls s.moves) given view stage_now t p (f (Open t) is Closes (Closed p) k) step)
     goes (Open t) is Crashes (Closed p) k step sound silent =
-        inl (refl, refl, stepping.left keys naming u (g.ids u) (calls s.moves) given view stage_now (Open t) p (f (Open t) is Crashes (Closed p) k) step)
+        inl (refl, refl, stepping.left keys naming u (g.signers u) (calls s.moves) given view stage_now (Open t) p (f (Open t) is Crashes (Closed p) k) step)
     goes (Open t) is (Begins changes laid answer) (Open new) k step sound silent = begins t new is sound changes laid answer k step
     goes (Open t) is (Hears text answer) (Open new) k step sound silent = inl (refl, refl, same t new is sound (Hears text answer) k silent)
     goes (Open t) is (Takes block answer) (Open new) k step sound silent = takes t new is sound block answer k step
@@ -459,7 +460,7 @@ module _ (keys : Keys) (naming : Naming) (texts : List Bytes) (g : Grounds keys 
             lists = heard.are;
           } in
           moved sent es s (event call (Open new)) k []
-          (inr (stepping.hears keys naming u (g.ids u) (calls s.moves) given view stage_now t new h sound d.0 d.1 d.2 d.3 b.declared (quiet.hears t reply_text (Ok answer) new b) heard.lists heard.in_hand is_reply d.4))
+          (inr (stepping.hears keys naming u (g.signers u) (calls s.moves) given view stage_now t new h sound d.0 d.1 d.2 d.3 b.declared (quiet.hears t reply_text (Ok answer) new b) heard.lists heard.in_hand is_reply d.4))
 
       -- the structure was taken
       committed_step : Keeps (Commits status.Ok) (Open new) → HasCommitted t status.Ok new → (payload : Bytes) → WasAnswered (pk 0) sent (commit_of t.text) (success payload) → Simulates sent (event (Commits status.Ok) (Open new) ∷ es)
@@ -467,7 +468,7 @@ module _ (keys : Keys) (naming : Naming) (texts : List Bytes) (g : Grounds keys 
           let call = Commits status.Ok in
           let done = subst (λ (cs : List ServerCall). WasAnswered (pk 0) cs (commit_of t.text) (success payload)) (sym s.calls_are) was in
           moved sent es s (event call (Open new)) k []
-          (inr (stepping.commits keys naming u (g.ids u) (calls s.moves) given view stage_now t new (here call k) sound b.state b.signed payload done))
+          (inr (stepping.commits keys naming u (g.signers u) (calls s.moves) given view stage_now t new (here call k) sound b.state b.signed payload done))
 
   -- ---- an honest step
 

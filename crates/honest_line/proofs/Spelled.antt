@@ -10,6 +10,7 @@ use Rattle.version_order.specs.declared.structure.GroupRecord.{GroupRecord}
 use Rattle.version_order.specs.Vector.{component, vector}
 use Rattle.version_order.specs.Plan.{entry, entries, plan}
 use Rattle.version_order.specs.Structure.{Structure, group_record, group_records, structure}
+use Rattle.lms_sign.specs.Secret.{Secret}
 use Rattle.lms_sign.specs.Signature.{signature_of}
 use Rattle.pending_list.specs.Signed.{signed}
 use Rattle.honest_line.proofs.SignatureBytes.{signed_fits}
@@ -86,14 +87,14 @@ structure_is_bytes = bytes_structure.holds
 bytes_signed : {V : Type 0} (f : Format V) → SpellsBytes f → SpellsBytes (signed f)
 bytes_signed f law = search spelling
 
-signed_is_bytes : {V : Type 0} (f : Format V) → SpellsBytes f → (seed id : Bytes) (leaf : ℕ) (x : V) → f.Fits x
-    → IsBytes ((signed f).spell (record { value = x; signature = signature_of seed id leaf (f.spell x) }))
-signed_is_bytes f law seed id leaf x fits = (bytes_signed f law).holds (record { value = x; signature = signature_of seed id leaf (f.spell x) }) (fits, signed_fits seed id (f.spell x) leaf)
+signed_is_bytes : {V : Type 0} (f : Format V) → SpellsBytes f → (secret : Secret) (leaf : ℕ) (x : V) → f.Fits x
+    → IsBytes ((signed f).spell (record { value = x; signature = signature_of secret leaf (f.spell x) }))
+signed_is_bytes f law secret leaf x fits = (bytes_signed f law).holds (record { value = x; signature = signature_of secret leaf (f.spell x) }) (fits, signed_fits secret (f.spell x) leaf)
 
-pub signed_cert_is_bytes : (seed id : Bytes) (leaf : ℕ) (c : Cert) → cert.Fits c
-    → IsBytes ((signed cert).spell (record { value = c; signature = signature_of seed id leaf (cert.spell c) }))
+pub signed_cert_is_bytes : (secret : Secret) (leaf : ℕ) (c : Cert) → cert.Fits c
+    → IsBytes ((signed cert).spell (record { value = c; signature = signature_of secret leaf (cert.spell c) }))
 signed_cert_is_bytes = signed_is_bytes cert bytes_cert
 
-pub signed_structure_is_bytes : (seed id : Bytes) (leaf : ℕ) (z : Structure) → structure.Fits z
-    → IsBytes ((signed structure).spell (record { value = z; signature = signature_of seed id leaf (structure.spell z) }))
+pub signed_structure_is_bytes : (secret : Secret) (leaf : ℕ) (z : Structure) → structure.Fits z
+    → IsBytes ((signed structure).spell (record { value = z; signature = signature_of secret leaf (structure.spell z) }))
 signed_structure_is_bytes = signed_is_bytes structure bytes_structure

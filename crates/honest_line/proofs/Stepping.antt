@@ -39,9 +39,9 @@ use Rattle.honest_dialogues.specs.Dialogue.{Accepts, Declared, Declares, Idle, E
 use Rattle.honest_dialogues.specs.Signing.{HasRecords}
 use Rattle.honest_line.proofs.Follows.{Follows, Goes, HoldsHeard, IsInPhase, IsMove, IsOfStory, IsTriedAt, MayDeclare, MaySeal, declared_at, failed_at, idle_at, in_phase_at, none_in_hand, o, signed_at, signed_cert, signed_structure}
 use Rattle.honest_line.proofs.OwnKeys.{own_keys}
-use Rattle.honest_line.proofs.Signing.{may_declare, may_seal, number_is}
+use Rattle.honest_line.proofs.Signing.{CanSign, may_declare, may_seal, number_is}
 
-module _ (keys : Keys) (naming : Naming) (u : User) (has_id : length (keys u).id ≡ 16) (history : List ServerCall) (texts : List Bytes) (view : Option View) (stage : Stage) where
+module _ (keys : Keys) (naming : Naming) (u : User) (can : CanSign keys u) (history : List ServerCall) (texts : List Bytes) (view : Option View) (stage : Stage) where
   abbrev At : Client → Option View → Stage → Type 0
   At client view stage = Follows keys naming u client texts view stage
 
@@ -253,7 +253,7 @@ module _ (keys : Keys) (naming : Naming) (u : User) (has_id : length (keys u).id
 
         may_next : (q : LeafNumber) → cert.Fits next → q < 1024 → MayDeclare keys naming u s.last (signed_cert keys naming u next q)
         may_next q fits small =
-            may_declare keys naming u has_id s.last next q fits small f.low.own.user
+            may_declare keys naming u can s.last next q fits small f.low.own.user
             (ap (λ n. n + 1) (at_idle.number ∙ number_is keys naming u f.story f.low.is_story told_idle ∙ ap number_in (sym at_idle.last))) refl
 
       pub begins : (answer : Bytes) → HasBegun s changes laid (Ok answer) new → HasOwn (Begins changes laid (Ok answer)) (Open new) → IsMove keys naming u history stage (Open new) (answer ∷ texts) view [] []
@@ -361,7 +361,7 @@ module _ (keys : Keys) (naming : Naming) (u : User) (has_id : length (keys u).id
           let own = l.own.stands (λ down. let two : phase.Signed ≡ phase.Failed = sym (ap (λ (n : State). n.phase) is) ∙ down in cc two) in
           let now : Stage = Sealed (signed_structure keys naming u z q) in
           let shows : option_to_list (in_hand (Open s)) ≡ v ∷ [] = ap option_to_list hand_is in
-          let may = may_seal keys naming u has_id s y q l.is_story.0.next.fits l.is_story.0.small table records (covers v (subst (λ (vs : List View). In v vs) (sym shows) (inl refl))) in
+          let may = may_seal keys naming u can s y q l.is_story.0.next.fits l.is_story.0.small table records (covers v (subst (λ (vs : List View). In v vs) (sym shows) (inl refl))) in
           record {
             act = Accepts v;
             after = now;
@@ -416,7 +416,7 @@ module _ (keys : Keys) (naming : Naming) (u : User) (has_id : length (keys u).id
                   heard.0,
                   y.lists,
                   heard.1 ∙ ap (λ (l : Option (Signed Structure)). Declared l heard.0 (Some y.lists)) at_declared.last,
-                  subst (λ (l : Option (Signed Structure)). MaySeal keys naming u l y.lists v (signed_structure keys naming u z q)) at_declared.last (may_seal keys naming u has_id s y q here.next.fits here.small table records),
+                  subst (λ (l : Option (Signed Structure)). MaySeal keys naming u l y.lists v (signed_structure keys naming u z q)) at_declared.last (may_seal keys naming u can s y q here.next.fits here.small table records),
                 ),
               )
 

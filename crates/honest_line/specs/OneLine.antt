@@ -1,9 +1,11 @@
 -- One line with an honest server: what holds of honest runs in which no two texts have one digest and keys are true. Of
 -- signatures nothing is assumed.
 -- The rules stand in docs/RULES.md.
-use Rattle.std.specs.Prelude.{◌≡◌, List, ◌++◌, Ok, IfSome, length, reverse}
+use Rattle.std.specs.Prelude.{◌≡◌, ◌<◌, List, ◌++◌, Ok, IfSome, length, reverse}
 use Rattle.std.specs.List.{All, flat_map}
 use Rattle.layout.specs.Types.{Bytes, User}
+use Rattle.lms_sign.specs.Secret.{HasLeaf}
+use Rattle.leaf_ledger.specs.Ledger.{LeafNumber, number_of_leaves}
 use Rattle.itable.specs.File.{NoneCollide}
 use Rattle.client_verify.specs.declared.look.Look.TheVariants as look
 use Rattle.client_verify.specs.declared.step.Step.TheVariants as step
@@ -63,10 +65,11 @@ pub record HonestPremises (keys : Keys) (run : List HonestEvent) : Type 0 where
   pub no_collision : NoneCollide (all_texts keys run) (all_texts keys run)
   pub added : AddsOwnKeys keys (events run)
 
--- User 0's key has the form of a key, and each key's identifier has 16 bytes.
+-- User 0's key has the form of a key, each key's identifier has 16 bytes, and each of its leaves can sign.
 pub record AreKeys (keys : Keys) : Type 0 where
   pub pinned : PinnedIsKey keys
   pub identifiers : (u : User) → length (keys u).id ≡ 16
+  pub leaves : (u : User) (leaf : LeafNumber) → leaf < number_of_leaves → HasLeaf (keys u) leaf
 
 -- so it is over each honest run
 abbrev pub EachHonestRun : Type 0

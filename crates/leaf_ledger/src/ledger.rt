@@ -1,6 +1,7 @@
 //! Ledgers.
 
-ghost use Rattle.std.specs.Prelude.{◌≡◌, ◌≢◌, ◌↔◌, ◌+◌, ◌-◌, ◌≤◌, true, false, IfErr, IfOk, OnOk, OnErr, IsErrOf, None};
+ghost use Rattle.std.specs.Prelude.{◌≡◌, ◌≢◌, ◌+◌, ◌-◌, ◌≤◌, true, false, IfErr, IfNone, IfOk, IfSome, OnOk, OnErr};
+ghost use Rattle.std.specs.Prelude.{IsErrOf, None};
 ghost use Rattle.leaf_ledger.specs.Device.{at_rest, Throughout, HasRisen};
 ghost use Rattle.leaf_ledger.specs.Ledger.{LeafNumber, with_mark, UsedWith, UsedWithOrWithout, UsedAsBefore};
 ghost use Rattle.leaf_ledger.specs.Ledger.{IsLeastFree, IsFull, IsFileOf, IsForeign, KeepsLedger};
@@ -136,12 +137,16 @@ impl<D: Device> Ledger<D> {
         Ok(Leaf::issue(&self.key, number as u32))
     }
 
-    /// Whether a leaf is free, so that `take` fails by its device alone.
-    pub fn has_free(&self) -> bool
+    /// The least leaf that isn't used, which `take` hands out: where there is one, `take` fails by its device alone.
+    pub fn next_free(&self) -> Option<u32>
         requires { self.now.usable ≡ true }
-        ensures { result ≡ false ↔ IsFull self.now.file.now.text }
+        ensures least { IfSome result (λ leaf. IsLeastFree self.now.file.now.text leaf) }
+        ensures none { IfNone result (IsFull self.now.file.now.text) }
     {
-        first_free(&self.marks, self.next).is_some()
+        match first_free(&self.marks, self.next) {
+            Some(number) => Some(number as u32),
+            None => None,
+        }
     }
 
     /// Takes a spent leaf back. It takes no memory.

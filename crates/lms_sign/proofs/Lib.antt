@@ -1,3 +1,4 @@
+pub mod Drawn
 pub mod Filling
 pub mod Grouped
 pub mod Joining

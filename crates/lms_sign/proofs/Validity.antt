@@ -1,5 +1,5 @@
 -- What is signed is valid.
-use Rattle.std.proofs.Common.{◌≡◌, ℕ, zero, suc, ◌+◌, ◌-◌, ◌*◌, ◌%◌, ◌<◌, Bool, true, false, cond, ◌&&◌, nat_eq, nat_lt, List, [], ◌++◌, length, refl, sym, ap, ◌∙◌, append_assoc, length-append, eq-eqb, arith}
+use Rattle.std.proofs.Common.{◌≡◌, ℕ, zero, suc, ◌+◌, ◌-◌, ◌*◌, ◌%◌, ◌<◌, Bool, true, false, cond, ◌&&◌, nat_eq, nat_lt, List, [], ◌++◌, length, slice_index_or, refl, sym, ap, ◌∙◌, append_assoc, length-append, eq-eqb, arith}
 use Rattle.std.proofs.lemmas.Bool.{lt-ltb, eqb-true}
 use Rattle.std.proofs.lemmas.Bool.Decides.{Decides-eqb}
 use Rattle.std.proofs.lemmas.List.{append-nil}
@@ -13,6 +13,7 @@ use Rattle.lms_sign.specs.Hashing.{hash_of, part, joined}
 use Rattle.lms_sign.specs.Chains.{step, chained, drawn, value_of, end_from}
 use Rattle.lms_sign.specs.Digits.{coefficient, digit}
 use Rattle.lms_sign.specs.OneTime.{key_from, key_of, randomizer_of, digest_of, signed_value, candidate}
+use Rattle.lms_sign.specs.Secret.{Secret, HasLeaf}
 use Rattle.lms_sign.specs.Tree.{leaf_node, inner_node, node, ancestor, sibling, climbed, parent}
 use Rattle.lms_sign.specs.Keys.{lms_type, ots_type, is_key, id_of, root_of, public_key_of}
 use Rattle.lms_sign.specs.Signature.{path_of, signature_of, leaf_of, randomizer_in, value_in, path_in, is_signature, root_from, valid}
@@ -44,10 +45,10 @@ length-signed : (seed id : List ℕ) (leaf : ℕ) (digest : List ℕ) (chain : �
 unfolding signed_value
 length-signed seed id leaf digest chain = length-chained id (drawn seed id leaf chain) leaf chain 0 (digit digest chain) (length-drawn seed id leaf chain)
 
-length-node : (seed id : List ℕ) (height number : ℕ) → length (node seed id height number) ≡ 32
+length-node : (secret : Secret) (height number : ℕ) → length (node secret height number) ≡ 32
 unfolding node leaf_node inner_node
-length-node seed id zero number = length-hash _
-length-node seed id (suc height) number = length-hash _
+length-node secret zero number = length-hash _
+length-node secret (suc height) number = length-hash _
 
 -- ---- digits
 
@@ -86,16 +87,18 @@ climbed_same id number path other value (suc height) same =
     ∙ ap (parent id (ancestor number height) (other height)) (climbed_same id number path other value height (λ k lt. same k (omega arith)))
 
 -- the leaf's node and its path lead to the root
-climb_is : (seed id : List ℕ) (leaf : ℕ) (path : ℕ → List ℕ) → leaf < 1024 → ((k : ℕ) → k < 10 → path k ≡ path_of seed id leaf k) → climbed id (1024 + leaf) path (leaf_node id (1024 + leaf) (key_of seed id leaf)) 10 ≡ node seed id 10 1
+climb_is : (secret : Secret) (leaf : ℕ) (path : ℕ → List ℕ) → leaf < 1024 → HasLeaf secret leaf → ((k : ℕ) → k < 10 → path k ≡ path_of secret leaf k)
+    → climbed secret.id (1024 + leaf) path (leaf_node secret.id (1024 + leaf) (key_of secret.seed secret.id leaf)) 10 ≡ node secret 10 1
 unfolding node
-climb_is seed id leaf path small are =
+climb_is secret leaf path small has are =
     let within = ancestor_within (1024 + leaf) 10 1 (omega arith) (omega arith) refl in
     let top : ancestor (1024 + leaf) 10 ≡ 1 = omega (arith, within.0, within.1) in
     let same : leaf ≡ 1024 + leaf - 1024 = omega arith in
-    ap (λ n. climbed id (1024 + leaf) path (leaf_node id (1024 + leaf) (key_of seed id n)) 10) same
-    ∙ climbed_same id (1024 + leaf) path (path_of seed id leaf) (node seed id 0 (1024 + leaf)) 10 are
-    ∙ climbed_is seed id (1024 + leaf) 10
-    ∙ ap (node seed id 10) top
+    let from : List ℕ → List ℕ = λ key. climbed secret.id (1024 + leaf) path (leaf_node secret.id (1024 + leaf) key) 10 in
+    ap from (sym has) ∙ ap (λ n. from (slice_index_or secret.leaf_keys n [])) same
+    ∙ climbed_same secret.id (1024 + leaf) path (path_of secret leaf) (node secret 0 (1024 + leaf)) 10 are
+    ∙ climbed_is secret (1024 + leaf) 10
+    ∙ ap (node secret 10) top
 
 -- ---- the parts of a signature
 
@@ -105,14 +108,15 @@ front_size seed id leaf =
     omega (arith, length-append (be w32 leaf ++ ots_type) (randomizer_of seed id leaf), length-append (be w32 leaf) ots_type, length-be32 leaf, length-be32 3, length-randomizer seed id leaf)
 
 -- a signature with these parts
-record Parts (seed id text signature : List ℕ) (leaf : ℕ) : Type 0 where
+record Parts (secret : Secret) (text signature : List ℕ) (leaf : ℕ) : Type 0 where
   size : length signature ≡ 2508
   number : part 0 4 signature ≡ be w32 leaf
   ots : part 4 4 signature ≡ ots_type
-  randomizer : randomizer_in signature ≡ randomizer_of seed id leaf
-  values : (k : ℕ) → k < 67 → value_in signature k ≡ signed_value seed id leaf (digest_of id leaf (randomizer_of seed id leaf) text) k
+  randomizer : randomizer_in signature ≡ randomizer_of secret.seed secret.id leaf
+  values : (k : ℕ) → k < 67
+      → value_in signature k ≡ signed_value secret.seed secret.id leaf (digest_of secret.id leaf (randomizer_of secret.seed secret.id leaf) text) k
   lms : part 2184 4 signature ≡ lms_type
-  path : (k : ℕ) → k < 10 → path_in signature k ≡ path_of seed id leaf k
+  path : (k : ℕ) → k < 10 → path_in signature k ≡ path_of secret leaf k
 
 -- any six texts of these sizes, joined
 six : (a b c v l p : List ℕ) → length a ≡ 4 → length b ≡ 4 → length c ≡ 32 → length v ≡ 2144 → length l ≡ 4 → length p ≡ 320
@@ -134,17 +138,19 @@ six a b c v l p la lb lc lv ll lp =
       part_of (a ++ b ++ c ++ v) l p 2184 4 (omega arith) ll,
     )
 
-parts_of : (seed id text : List ℕ) (leaf : ℕ) → Parts seed id text (signature_of seed id leaf text) leaf
+parts_of : (secret : Secret) (text : List ℕ) (leaf : ℕ) → Parts secret text (signature_of secret leaf text) leaf
 unfolding signature_of
-parts_of seed id text leaf =
+parts_of secret text leaf =
+    let seed = secret.seed in
+    let id = secret.id in
     let a = be w32 leaf in
     let c = randomizer_of seed id leaf in
     let value : ℕ → List ℕ = signed_value seed id leaf (digest_of id leaf c text) in
     let v = joined 67 value in
-    let path : ℕ → List ℕ = path_of seed id leaf in
+    let path : ℕ → List ℕ = path_of secret leaf in
     let p = joined 10 path in
     let lv : length v ≡ 2144 = length-joined 67 value (length-signed seed id leaf (digest_of id leaf c text)) in
-    let path_sizes : (k : ℕ) → length (path k) ≡ 32 = λ k. length-node seed id k (sibling (ancestor (1024 + leaf) k)) in
+    let path_sizes : (k : ℕ) → length (path k) ≡ 32 = λ k. length-node secret k (sibling (ancestor (1024 + leaf) k)) in
     let lp : length p ≡ 320 = length-joined 10 path path_sizes in
     let parts = six a ots_type c v lms_type p (length-be32 leaf) (length-be32 3) (length-randomizer seed id leaf) lv (length-be32 6) lp in
     let front : length (a ++ ots_type ++ c) ≡ 40 = front_size seed id leaf in
@@ -160,24 +166,25 @@ parts_of seed id text leaf =
       path = λ k lt. ap (part (2188 + 32 * k) 32) (sym (append-nil (a ++ ots_type ++ c ++ v ++ lms_type ++ p))) ∙ joined_part 10 (a ++ ots_type ++ c ++ v ++ lms_type) [] path 2188 k path_sizes before lt;
     }
 
-pub length-signature : (seed id text : List ℕ) (leaf : ℕ) → length (signature_of seed id leaf text) ≡ 2508
-length-signature seed id text leaf = (parts_of seed id text leaf).size
+pub length-signature : (secret : Secret) (text : List ℕ) (leaf : ℕ) → length (signature_of secret leaf text) ≡ 2508
+length-signature secret text leaf = (parts_of secret text leaf).size
 
 -- ---- the public key
 
 -- a key with these parts
-record KeyParts (seed id key : List ℕ) : Type 0 where
+record KeyParts (secret : Secret) (key : List ℕ) : Type 0 where
   form : is_key key ≡ true
   size : length key ≡ 56
-  identifier : id_of key ≡ id
-  root : root_of key ≡ node seed id 10 1
+  identifier : id_of key ≡ secret.id
+  root : root_of key ≡ node secret 10 1
 
-key_parts : (seed id : List ℕ) → length id ≡ 16 → KeyParts seed id (public_key_of seed id)
+key_parts : (secret : Secret) → length secret.id ≡ 16 → KeyParts secret (public_key_of secret)
 unfolding public_key_of is_key
-key_parts seed id size =
-    let root = node seed id 10 1 in
+key_parts secret size =
+    let id = secret.id in
+    let root = node secret 10 1 in
     let types = lms_type ++ ots_type in
-    let lr : length root ≡ 32 = length-node seed id 10 1 in
+    let lr : length root ≡ 32 = length-node secret 10 1 in
     let lt : length types ≡ 8 = omega (arith, length-append lms_type ots_type, length-be32 6, length-be32 3) in
     let front : length (types ++ id) ≡ 24 = omega (arith, length-append types id) in
     let all : length (types ++ id ++ root) ≡ 56 = omega (arith, length-append (types ++ id) root) in
@@ -191,30 +198,33 @@ key_parts seed id size =
       root = ap (part 24 32) (sym (append-nil key)) ∙ part_of (types ++ id) root [] 24 32 front lr;
     }
 
-pub length-public_key : (seed id : List ℕ) → length id ≡ 16 → length (public_key_of seed id) ≡ 56
-length-public_key seed id size = (key_parts seed id size).size
+pub length-public_key : (secret : Secret) → length secret.id ≡ 16 → length (public_key_of secret) ≡ 56
+length-public_key secret size = (key_parts secret size).size
 
 -- ---- both
 
 same_is_equal : (xs ys : List ℕ) → xs ≡ ys → bytes_eq xs ys ≡ true
 same_is_equal xs ys = (bytes_eq-Decides xs ys).1
 
-root_is : (seed id text signature : List ℕ) (leaf : ℕ) → leaf < 1024 → leaf_of signature ≡ leaf → Parts seed id text signature leaf → root_from id text signature ≡ node seed id 10 1
+root_is : (secret : Secret) (text signature : List ℕ) (leaf : ℕ) → leaf < 1024 → HasLeaf secret leaf → leaf_of signature ≡ leaf → Parts secret text signature leaf
+    → root_from secret.id text signature ≡ node secret 10 1
 unfolding root_from
-root_is seed id text signature leaf small names parts =
+root_is secret text signature leaf small has names parts =
+    let seed = secret.seed in
+    let id = secret.id in
     let from : ℕ → List ℕ → List ℕ = λ q randomizer. climbed id (1024 + q) (path_in signature) (leaf_node id (1024 + q) (candidate id q (digest_of id q randomizer text) (value_in signature))) 10 in
     let digest = digest_of id leaf (randomizer_of seed id leaf) text in
     ap (λ q. from q (randomizer_in signature)) names ∙ ap (from leaf) parts.randomizer
     ∙ ap (λ (key : List ℕ). climbed id (1024 + leaf) (path_in signature) (leaf_node id (1024 + leaf) key) 10) (candidate_is seed id leaf digest (value_in signature) parts.values)
-    ∙ climb_is seed id leaf (path_in signature) small parts.path
+    ∙ climb_is secret leaf (path_in signature) small has parts.path
 
 both : (a b : Bool) → a ≡ true → b ≡ true → (a && b) ≡ true
 both true b p q = q
 both false b p q = p
 
-form_is : (seed id text signature : List ℕ) (leaf : ℕ) → leaf < 1024 → leaf_of signature ≡ leaf → Parts seed id text signature leaf → is_signature signature ≡ true
+form_is : (secret : Secret) (text signature : List ℕ) (leaf : ℕ) → leaf < 1024 → leaf_of signature ≡ leaf → Parts secret text signature leaf → is_signature signature ≡ true
 unfolding is_signature
-form_is seed id text signature leaf small names parts =
+form_is secret text signature leaf small names parts =
     let below : nat_lt (leaf_of signature) 1024 ≡ true = lt-ltb _ _ (omega (arith, names)) in
     both _ _ (both _ _ (both _ _ (eq-eqb (length signature) 2508 parts.size) (same_is_equal (part 4 4 signature) ots_type parts.ots)) (same_is_equal (part 2184 4 signature) lms_type parts.lms)) below
 
@@ -222,18 +232,18 @@ names_is : (leaf : ℕ) (bytes : List ℕ) → leaf < 1024 → bytes ≡ be w32 
 unfolding be
 names_is leaf bytes small is = ap (from_be_bytes w32) is ∙ from_be_bytes-to_be_bytes_4 leaf (omega arith)
 
--- what a leaf of a key signs is valid under its public key
-pub signed_valid : (seed id text : List ℕ) (leaf : ℕ) → length id ≡ 16 → leaf < 1024 → valid (public_key_of seed id) text (signature_of seed id leaf text) ≡ true
+-- what a leaf of a key signs is valid under its public key, where the leaf can sign
+pub signed_valid : (secret : Secret) (text : List ℕ) (leaf : ℕ) → length secret.id ≡ 16 → leaf < 1024 → HasLeaf secret leaf → valid (public_key_of secret) text (signature_of secret leaf text) ≡ true
 unfolding valid
-signed_valid seed id text leaf size small =
-    let key = public_key_of seed id in
-    let signature = signature_of seed id leaf text in
-    let k = key_parts seed id size in
-    let s = parts_of seed id text leaf in
+signed_valid secret text leaf size small has =
+    let key = public_key_of secret in
+    let signature = signature_of secret leaf text in
+    let k = key_parts secret size in
+    let s = parts_of secret text leaf in
     let names : leaf_of signature ≡ leaf = names_is leaf (part 0 4 signature) small s.number in
     let root : root_from (id_of key) text signature ≡ root_of key =
-    ap (λ (l : List ℕ). root_from l text signature) k.identifier ∙ root_is seed id text signature leaf small names s ∙ sym k.root in
-    both _ _ (both _ _ k.form (form_is seed id text signature leaf small names s)) (same_is_equal (root_from (id_of key) text signature) (root_of key) root)
+    ap (λ (l : List ℕ). root_from l text signature) k.identifier ∙ root_is secret text signature leaf small has names s ∙ sym k.root in
+    both _ _ (both _ _ k.form (form_is secret text signature leaf small names s)) (same_is_equal (root_from (id_of key) text signature) (root_of key) root)
 
 -- ---- what is valid has the right size
 
@@ -257,5 +267,5 @@ pub key_size : (key : List ℕ) → is_key key ≡ true → length key ≡ 56
 unfolding is_key
 key_size key h = eqb-true (length key) 56 (left_true _ _ h)
 
-pub is_key-public : (seed id : List ℕ) → length id ≡ 16 → is_key (public_key_of seed id) ≡ true
-is_key-public seed id size = (key_parts seed id size).form
+pub is_key-public : (secret : Secret) → length secret.id ≡ 16 → is_key (public_key_of secret) ≡ true
+is_key-public secret size = (key_parts secret size).form

@@ -5,6 +5,7 @@ use Rattle.std.specs.List.{starts_with}
 use Rattle.layout.specs.Format.{be}
 use Rattle.layout.specs.Types.{Bytes, Digest, Key}
 use Rattle.lms_sign.specs.Hashing.{part}
+use Rattle.lms_sign.specs.Secret.{Secret}
 use Rattle.lms_sign.specs.Tree.{node}
 
 -- LMS_SHA256_M32_H10
@@ -27,14 +28,9 @@ id_of key = part 8 16 key
 abbrev pub root_of : Key → Digest
 root_of key = part 24 32 key
 
--- the public key that is made of a seed and an identifier
-unfoldable pub public_key_of : Bytes → Bytes → Key
-public_key_of seed id = lms_type ++ ots_type ++ id ++ node seed id 10 1
-
--- what a private key is made of
-pub record Secret : Type 0 where
-  pub seed : Bytes
-  pub id : Bytes
+-- the public key that goes with a private one
+unfoldable pub public_key_of : Secret → Key
+public_key_of secret = lms_type ++ ots_type ++ secret.id ++ node secret 10 1
 
 -- a leaf of a public key
 pub record KeyLeaf : Type 0 where

@@ -4,5 +4,6 @@ pub mod Hashing
 pub mod Keys
 pub mod Nodes
 pub mod OneTime
+pub mod Secret
 pub mod Signature
 pub mod Tree

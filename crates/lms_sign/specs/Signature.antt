@@ -7,20 +7,21 @@ use Rattle.layout.specs.Types.{Bytes, Digest, Key, Signature}
 use Rattle.lms_sign.specs.Hashing.{part, joined}
 use Rattle.lms_sign.specs.Keys.{lms_type, ots_type, is_key, id_of, root_of}
 use Rattle.lms_sign.specs.OneTime.{randomizer_of, digest_of, signed_value, candidate}
+use Rattle.lms_sign.specs.Secret.{Secret}
 use Rattle.lms_sign.specs.Tree.{leaf_node, node, ancestor, sibling, climbed}
 
 -- ---- making
 
 -- the siblings from a leaf's node upwards
-abbrev pub path_of : Bytes → Bytes → ℕ → ℕ → Digest
-path_of seed id leaf height = node seed id height (sibling (ancestor (1024 + leaf) height))
+abbrev pub path_of : Secret → ℕ → ℕ → Digest
+path_of secret leaf height = node secret height (sibling (ancestor (1024 + leaf) height))
 
--- the signature of a text by a leaf of the key that is made of this seed and identifier
-unfoldable pub signature_of : Bytes → Bytes → ℕ → Bytes → Signature
-signature_of seed id leaf text =
-    let randomizer = randomizer_of seed id leaf in
-    let value = signed_value seed id leaf (digest_of id leaf randomizer text) in
-    be w32 leaf ++ ots_type ++ randomizer ++ joined 67 value ++ lms_type ++ joined 10 (path_of seed id leaf)
+-- the signature of a text by a leaf of a private key
+unfoldable pub signature_of : Secret → ℕ → Bytes → Signature
+signature_of secret leaf text =
+    let randomizer = randomizer_of secret.seed secret.id leaf in
+    let value = signed_value secret.seed secret.id leaf (digest_of secret.id leaf randomizer text) in
+    be w32 leaf ++ ots_type ++ randomizer ++ joined 67 value ++ lms_type ++ joined 10 (path_of secret leaf)
 
 -- ---- checking
 

@@ -1,27 +1,23 @@
 -- The tree over the leaves (RFC 8554 section 5.3), whose nodes go by their numbers: the root is 1, below r lie 2r and
 -- 2r + 1, and 1024 + q is the node of leaf q.
-use Rattle.std.specs.Prelude.{ℕ, zero, suc, ◌+◌, ◌-◌, ◌*◌, ◌/◌, ◌%◌, ◌++◌, if◌then◌else◌, ◌==◌}
+use Rattle.std.specs.Prelude.{ℕ, zero, suc, ◌+◌, ◌-◌, ◌*◌, ◌/◌, ◌%◌, ◌++◌, [], if◌then◌else◌, ◌==◌, slice_index_or}
 use Rattle.layout.specs.Types.{Bytes, Digest}
 use Rattle.lms_sign.specs.Hashing.{hash_of}
-use Rattle.lms_sign.specs.OneTime.{key_of}
+use Rattle.lms_sign.specs.Secret.{Secret}
 
 -- the node of a leaf with this key; 0x8282 is D_LEAF
 unfoldable pub leaf_node : Bytes → ℕ → Digest → Digest
 leaf_node id number key = hash_of id number 0x8282 key
-
--- the value of a leaf of the key that is made of a seed and an identifier: its node
-abbrev pub leaf_value : Bytes → Bytes → ℕ → Digest
-leaf_value seed id leaf = leaf_node id (1024 + leaf) (key_of seed id leaf)
 
 -- the node above two; 0x8383 is D_INTR
 unfoldable pub inner_node : Bytes → ℕ → Digest → Digest → Digest
 inner_node id number left right = hash_of id number 0x8383 (left ++ right)
 
 -- T: the node with this number, which lies this high above the leaves
-unfoldable pub node : Bytes → Bytes → ℕ → ℕ → Digest
-node seed id zero number = leaf_node id number (key_of seed id (number - 1024))
-node seed id (suc height) number = inner_node id number (node seed id height (2 * number))
-    (node seed id height (2 * number + 1))
+unfoldable pub node : Secret → ℕ → ℕ → Digest
+node secret zero number = leaf_node secret.id number (slice_index_or secret.leaf_keys (number - 1024) [])
+node secret (suc height) number = inner_node secret.id number (node secret height (2 * number))
+    (node secret height (2 * number + 1))
 
 -- the number of the node so high above another
 unfoldable pub ancestor : ℕ → ℕ → ℕ

@@ -1,19 +1,18 @@
-//! The values of eight leaves, whose chains are hashed side by side.
+//! The one-time public keys of eight leaves, whose chains are hashed side by side.
 
 ghost use Rattle.std.specs.Prelude.{◌≡◌, ℕ, List, [], ◌+◌, ◌<◌, ◌≤◌, slice_index, slice_index_or};
 ghost use Rattle.sha256_lanes.specs.Lanes.{AreWords};
 ghost use Rattle.lms_sign.specs.Chains.{step, value_of};
 ghost use Rattle.lms_sign.specs.OneTime.{key_of};
-ghost use Rattle.lms_sign.specs.Tree.{leaf_value};
 
 use crate::bytes::{DIGEST_SIZE, headed_hasher};
 use crate::digits::LAST_DIGIT;
 use crate::one_time::{CHAIN_COUNT, KEY_KIND};
-use crate::tree::{LEAF_COUNT, leaf_node};
+use crate::tree::LEAF_COUNT;
 use layout::Digest;
 use sha256_lanes::{Values, hash_short};
 
-/// How many leaves are valued side by side.
+/// Of how many leaves the keys are made side by side.
 pub const GROUP_SIZE: usize = 8;
 
 /// How many such groups of leaves a key has.
@@ -94,17 +93,16 @@ fn from(first: u32) -> Leaves
     ]
 }
 
-/// The values of eight leaves, the first of which has this number: each is that of `leaf_value`.
-pub fn leaf_values(seed: &[u8; 32], id: &[u8; 16], first: u32) -> [Digest; 8]
+/// The one-time public keys of eight leaves, the first of which has this number.
+pub fn leaf_keys(seed: &[u8; 32], id: &[u8; 16], first: u32) -> [Digest; 8]
     requires { first + 8 ≤ LEAF_COUNT }
-    ensures { (i : ℕ) → i < 8
-        → slice_index_or result i [] ≡ leaf_value seed.now id.now (first + i) }
+    ensures { (i : ℕ) → i < 8 → slice_index_or result i [] ≡ key_of seed.now id.now (first + i) }
 {
     let all = all_ends(seed, id, from(first));
-    let mut values = [Digest::from_bytes([0; 32]); GROUP_SIZE];
+    let mut keys = [Digest::from_bytes([0; 32]); GROUP_SIZE];
     for place in 0..GROUP_SIZE {
         let leaf = first + place as u32;
-        values[place] = leaf_node(id, LEAF_COUNT + leaf, &key_over(id, leaf, &all, place));
+        keys[place] = key_over(id, leaf, &all, place);
     }
-    values
+    keys
 }

@@ -2,6 +2,7 @@
 
 ghost use Rattle.std.specs.Prelude.{◌≡◌, true, length};
 ghost use Rattle.lms_sign.specs.Keys.{public_key_of};
+ghost use Rattle.lms_sign.specs.Secret.{HasLeaf};
 ghost use Rattle.lms_sign.specs.Signature.{signature_of, valid};
 
 use crate::form::SIGNATURE_SIZE;
@@ -12,9 +13,10 @@ use std::alloc::Allocator;
 
 /// Signs a text with a leaf, and spends the leaf. It takes no memory, and doesn't fail.
 pub fn sign<A: Allocator>(key: &PrivateKey<A>, leaf: Leaf, text: &[u8]) -> ([u8; 2508], SpentLeaf)
-    requires { leaf.key ≡ public_key_of key.now.seed key.now.id }
-    ensures signature { result.0 ≡ signature_of key.now.seed key.now.id leaf.number text.now }
-    ensures valid { valid (public_key_of key.now.seed key.now.id) text.now result.0 ≡ true }
+    requires key { leaf.key ≡ public_key_of key.now }
+    requires has { HasLeaf key.now leaf.number }
+    ensures signature { result.0 ≡ signature_of key.now leaf.number text.now }
+    ensures valid { valid (public_key_of key.now) text.now result.0 ≡ true }
     ensures size { length result.0 ≡ SIGNATURE_SIZE }
     ensures spent { result.1 ≡ leaf }
 {

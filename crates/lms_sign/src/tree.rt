@@ -3,11 +3,10 @@
 ghost use Rattle.std.specs.Prelude.{◌≡◌, ◌+◌, ◌<◌, ◌++◌, [], length, slice_index_or, take};
 ghost use Rattle.lms_sign.specs.Hashing.{joined};
 ghost use Rattle.lms_sign.specs.Signature.{path_in};
-ghost use Rattle.lms_sign.specs.Tree.{leaf_node, leaf_value, inner_node, ancestor, sibling, parent, climbed};
+ghost use Rattle.lms_sign.specs.Tree.{leaf_node, inner_node, ancestor, sibling, parent, climbed};
 
 use crate::bytes::{DIGEST_SIZE, digest_at, headed_hasher, put};
 use crate::form::{PATH_AT, SIGNATURE_SIZE};
-use crate::one_time::leaf_key;
 use layout::Digest;
 
 /// How many leaves a key has: so many texts can be signed.
@@ -30,15 +29,6 @@ pub(crate) fn leaf_node(id: &[u8; 16], number: u32, key: &Digest) -> Digest
     let mut hasher = headed_hasher(id, number, LEAF_KIND);
     hasher.update(key.as_bytes());
     hasher.finish()
-}
-
-/// The value of a leaf of the key that is made of a seed and an identifier: its node, T[1024 + leaf] of RFC 8554 section
-/// 5.3. It takes a thousandth of what the whole key takes.
-pub fn leaf_value(seed: &[u8; 32], id: &[u8; 16], leaf: u32) -> Digest
-    requires { leaf < LEAF_COUNT }
-    ensures { result ≡ leaf_value seed.now id.now leaf }
-{
-    leaf_node(id, LEAF_COUNT + leaf, &leaf_key(seed, id, leaf))
 }
 
 /// The node above two.

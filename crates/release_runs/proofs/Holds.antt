@@ -30,8 +30,7 @@ module _ (o : Owner) where
   -- So it is unless a device has failed.
   pub record IsOwn (story : List Release) (tried : Option Release) (s : Released) : Type 0 where
     pub user : s.user ≡ o.user
-    pub seed : s.seed ≡ o.seed
-    pub id : s.id ≡ o.id
+    pub secret : s.secret ≡ o.secret
     pub stands : (s.phase ≡ phase.Failed → ⊥) → IsAt story tried s
 
   abbrev pub IsOwnClient : List Release → Option Release → Client → Type 0
@@ -89,8 +88,7 @@ module _ (o : Owner) where
       lies = subst (λ (d : Devices). Lies o story tried d.ledger.file d.journal.file) (sym (ap (λ (r : Released). r.devices) is.state)) h.lies;
       own = record {
         user = ap (λ (r : Released). r.user) is.state ∙ h.own.user;
-        seed = ap (λ (r : Released). r.seed) is.state ∙ h.own.seed;
-        id = ap (λ (r : Released). r.id) is.state ∙ h.own.id;
+        secret = ap (λ (r : Released). r.secret) is.state ∙ h.own.secret;
         stands = λ _. committed;
       };
       released = h.released;

@@ -27,8 +27,8 @@ module _ (o : Owner) where
   small_leaf (x ∷ older) is r (inr i) = small_leaf older is.1 r i
 
   pub leaf_told : (r : Release) → leaf r < 1024 → leaf_in (text o r) ≡ leaf r
-  leaf_told (OfCert c q) small = leaf_in_sent o.seed o.id (cert.spell c) q small
-  leaf_told (OfStructure z q) small = leaf_in_sent o.seed o.id (structure.spell z) q small
+  leaf_told (OfCert c q) small = leaf_in_sent o.secret (cert.spell c) q small
+  leaf_told (OfStructure z q) small = leaf_in_sent o.secret (structure.spell z) q small
 
   pub one_leaf : (story : List Release) → IsStory o story → (r s : Release) → In r story → In s story → leaf r ≡ leaf s → r ≡ s
   one_leaf [] is r s i j e = absurd i
@@ -68,11 +68,11 @@ module _ (o : Owner) where
 
   pub of_cert : (r : Release) (older : List Release) → IsNext o older r → (c : Signed Cert) → cert_in o.user (text o r) ≡ Some c → ReleasesCert r c
   of_cert (OfCert d q) older next c e =
-      let two : Some c ≡ Some (record { value = d; signature = signature_of o.seed o.id q (cert.spell d) }) = sym e ∙ cert_of o d q older next in
-      let same : c ≡ record { value = d; signature = signature_of o.seed o.id q (cert.spell d) } = cc in
+      let two : Some c ≡ Some (record { value = d; signature = signature_of o.secret q (cert.spell d) }) = sym e ∙ cert_of o d q older next in
+      let same : c ≡ record { value = d; signature = signature_of o.secret q (cert.spell d) } = cc in
       record { one = d; by = q; is = refl; value = ap (λ (s : Signed Cert). s.value) same }
   of_cert (OfStructure z q) older next c e =
-      let two : Some c ≡ None = sym e ∙ no_cert o.user z (signature_of o.seed o.id q (structure.spell z)) in
+      let two : Some c ≡ None = sym e ∙ no_cert o.user z (signature_of o.secret q (structure.spell z)) in
       absurd cc
 
   -- ---- structures
@@ -107,9 +107,9 @@ module _ (o : Owner) where
 
   pub of_structure : (r : Release) (older : List Release) → IsNext o older r → (s : Signed Structure) → structure_in o.user (text o r) ≡ Some s → ReleasesStructure r s
   of_structure (OfStructure z q) older next s e =
-      let two : Some s ≡ Some (record { value = z; signature = signature_of o.seed o.id q (structure.spell z) }) = sym e ∙ structure_of o z q older next in
-      let same : s ≡ record { value = z; signature = signature_of o.seed o.id q (structure.spell z) } = cc in
+      let two : Some s ≡ Some (record { value = z; signature = signature_of o.secret q (structure.spell z) }) = sym e ∙ structure_of o z q older next in
+      let same : s ≡ record { value = z; signature = signature_of o.secret q (structure.spell z) } = cc in
       record { one = z; by = q; is = refl; value = ap (λ (x : Signed Structure). x.value) same }
   of_structure (OfCert c q) older next s e =
-      let two : Some s ≡ None = sym e ∙ no_structure o.user c (signature_of o.seed o.id q (cert.spell c)) in
+      let two : Some s ≡ None = sym e ∙ no_structure o.user c (signature_of o.secret q (cert.spell c)) in
       absurd cc

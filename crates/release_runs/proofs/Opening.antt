@@ -83,8 +83,8 @@ found_has [] long = absurd (omega arith)
 found_has (x ∷ xs) long = inl refl
 
 long_release : (o : Owner) (r : Release) → 0 < length (text o r)
-long_release o (OfCert c q) = omega (arith, long_text (cert.spell c) (signature_of o.seed o.id q (cert.spell c)) (length-signature o.seed o.id (cert.spell c) q))
-long_release o (OfStructure z q) = omega (arith, long_text (structure.spell z) (signature_of o.seed o.id q (structure.spell z)) (length-signature o.seed o.id (structure.spell z) q))
+long_release o (OfCert c q) = omega (arith, long_text (cert.spell c) (signature_of o.secret q (cert.spell c)) (length-signature o.secret (cert.spell c) q))
+long_release o (OfStructure z q) = omega (arith, long_text (structure.spell z) (signature_of o.secret q (structure.spell z)) (length-signature o.secret (structure.spell z) q))
 
 found_of : (o : Owner) (story : List Release) (a : Bytes) → In a (found_text (text_in o story)) → (r : Release) × In r story × (a ≡ text o r)
 found_of o [] a i = absurd i
@@ -182,8 +182,7 @@ module _ (o : Owner) (InTurn : Type 0) (story : List Release) (tried : Option Re
       lies = f.lies;
       own = record {
         user = opens.user;
-        seed = opens.seed;
-        id = opens.id;
+        secret = opens.secret;
         stands = λ _. record { none_tried = refl; number = f.number; last = f.last; text = f.text; phase = inl f.phase };
       };
       released = λ a i. elim (in-append a (found_text s.text) texts i) [

@@ -2,6 +2,7 @@
 use Rattle.std.proofs.Common.{◌≡◌, ℕ, ◌+◌, ◌<◌, List, [], ◌∷◌, ◌++◌, Option, Some, None, Ok, Err, IfSome, refl, sym, ap, ◌∙◌, subst, inl, inr}
 use Rattle.std.specs.Prelude.{◌⊎◌}
 use Rattle.layout.specs.Types.{Bytes}
+use Rattle.lms_sign.specs.Secret.{Secret}
 use Rattle.lms_sign.specs.Signature.{signature_of}
 use Rattle.leaf_ledger.specs.Ledger.{LeafNumber}
 use Rattle.leaf_ledger.specs.Life.{Call as Handed}
@@ -47,8 +48,8 @@ module _ (o : Owner) (InTurn : Type 0) (story : List Release) (tried : Option Re
   story_numbered t = numbered_older story tried (h.numbered t)
 
   -- a text that was signed by the client is one signed by its owner
-  same_sent : (m : Bytes) (q : LeafNumber) → sent s q m ≡ m ++ signature_of o.seed o.id q m
-  same_sent m q = ap (λ (seed : Bytes). m ++ signature_of seed s.id q m) h.own.seed ∙ ap (λ (id : Bytes). m ++ signature_of o.seed id q m) h.own.id
+  same_sent : (m : Bytes) (q : LeafNumber) → sent s q m ≡ m ++ signature_of o.secret q m
+  same_sent m q = ap (λ (k : Secret). m ++ signature_of k q m) h.own.secret
 
   -- ---- a device fails
 
@@ -62,8 +63,7 @@ module _ (o : Owner) (InTurn : Type 0) (story : List Release) (tried : Option Re
       lies = lies;
       own = record {
         user = ap (λ (r : Released). r.user) is ∙ h.own.user;
-        seed = ap (λ (r : Released). r.seed) is ∙ h.own.seed;
-        id = ap (λ (r : Released). r.id) is ∙ h.own.id;
+        secret = ap (λ (r : Released). r.secret) is ∙ h.own.secret;
         stands = λ up. absurd (up (ap (λ (r : Released). r.phase) is));
       };
       released = h.released;
@@ -108,8 +108,7 @@ module _ (o : Owner) (InTurn : Type 0) (story : List Release) (tried : Option Re
                 (subst (λ (x : Record). Added (Appended x) s.devices.journal.file new.devices.journal.file) (cert_is b.idle q) kept.added);
             own = record {
               user = ap (λ (n : Released). n.user) is ∙ h.own.user;
-              seed = ap (λ (n : Released). n.seed) is ∙ h.own.seed;
-              id = ap (λ (n : Released). n.id) is ∙ h.own.id;
+              secret = ap (λ (n : Released). n.secret) is ∙ h.own.secret;
               stands = λ up. record {
                 none_tried = refl;
                 number = ap (λ (n : Released). n.number) is;
@@ -185,15 +184,14 @@ module _ (o : Owner) (InTurn : Type 0) (story : List Release) (tried : Option Re
                 (subst (λ (x : Record). Added (Appended x) s.devices.journal.file new.devices.journal.file) (structure_is b.declared q) kept.added);
             own = record {
               user = ap (λ (n : Released). n.user) is ∙ h.own.user;
-              seed = ap (λ (n : Released). n.seed) is ∙ h.own.seed;
-              id = ap (λ (n : Released). n.id) is ∙ h.own.id;
+              secret = ap (λ (n : Released). n.secret) is ∙ h.own.secret;
               stands = λ up. record {
                 none_tried = refl;
                 number = ap (λ (n : Released). n.number) is ∙ at.number;
                 last =
                     ap (λ (n : Released). n.last) is
                     ∙ ap (λ (g : Bytes). let last : Option (Signed Structure) = Some (record { value = z; signature = g }) in last)
-                    (ap (λ (seed : Bytes). signature_of seed s.id q (structure.spell z)) h.own.seed ∙ ap (λ (id : Bytes). signature_of o.seed id q (structure.spell z)) h.own.id);
+                    (ap (λ (k : Secret). signature_of k q (structure.spell z)) h.own.secret);
                 text = ap (λ (n : Released). n.text) is ∙ same_sent (structure.spell z) q;
                 phase = inl (ap (λ (n : Released). n.phase) is);
               };

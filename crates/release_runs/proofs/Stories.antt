@@ -54,8 +54,8 @@ IsNumbered (OfStructure z q ∷ older) = IsNumbered older
 module _ (o : Owner) where
   -- the text as it is sent
   abbrev pub text : Release → Bytes
-  text (OfCert c q) = cert.spell c ++ signature_of o.seed o.id q (cert.spell c)
-  text (OfStructure z q) = structure.spell z ++ signature_of o.seed o.id q (structure.spell z)
+  text (OfCert c q) = cert.spell c ++ signature_of o.secret q (cert.spell c)
+  text (OfStructure z q) = structure.spell z ++ signature_of o.secret q (structure.spell z)
 
   abbrev pub record_of : Release → Record
   record_of (OfCert c q) = cert_record (text (OfCert c q))
@@ -70,7 +70,7 @@ module _ (o : Owner) where
   abbrev pub last_in : List Release → Option (Signed Structure)
   last_in [] = None
   last_in (OfCert c q ∷ older) = last_in older
-  last_in (OfStructure z q ∷ older) = Some (signed_by o.seed o.id q z)
+  last_in (OfStructure z q ∷ older) = Some (signed_by o.secret q z)
 
   abbrev pub last_text : List Release → Option Bytes
   last_text [] = None
@@ -151,14 +151,14 @@ module _ (o : Owner) where
       ∙ ap (option_and_then (λ t. next_state t (record_of o r).kind (record_of o r).text)) (state_is older is.1)
       ∙ step_of older r is.0.next
 
-  size_of : (m : Bytes) (q : LeafNumber) → length (signature_of o.seed o.id q m) ≡ 2508
-  size_of m q = length-signature o.seed o.id m q
+  size_of : (m : Bytes) (q : LeafNumber) → length (signature_of o.secret q m) ≡ 2508
+  size_of m q = length-signature o.secret m q
 
-  pub cert_of : (c : Cert) (q : LeafNumber) (older : List Release) → IsNextCert o older c → cert_in o.user (text o (OfCert c q)) ≡ Some (record { value = c; signature = signature_of o.seed o.id q (cert.spell c) })
-  cert_of c q older next = cert_read o.user (signature_of o.seed o.id q (cert.spell c)) (size_of (cert.spell c) q) c next.fits next.user
+  pub cert_of : (c : Cert) (q : LeafNumber) (older : List Release) → IsNextCert o older c → cert_in o.user (text o (OfCert c q)) ≡ Some (record { value = c; signature = signature_of o.secret q (cert.spell c) })
+  cert_of c q older next = cert_read o.user (signature_of o.secret q (cert.spell c)) (size_of (cert.spell c) q) c next.fits next.user
 
-  pub structure_of : (z : Structure) (q : LeafNumber) (older : List Release) → IsNextStructure o older z → structure_in o.user (text o (OfStructure z q)) ≡ Some (signed_by o.seed o.id q z)
-  structure_of z q older next = structure_read o.user (signature_of o.seed o.id q (structure.spell z)) (size_of (structure.spell z) q) z next.fits next.user
+  pub structure_of : (z : Structure) (q : LeafNumber) (older : List Release) → IsNextStructure o older z → structure_in o.user (text o (OfStructure z q)) ≡ Some (signed_by o.secret q z)
+  structure_of z q older next = structure_read o.user (signature_of o.secret q (structure.spell z)) (size_of (structure.spell z) q) z next.fits next.user
 
   -- the journal tells number, structure, phase and text
   pub told_is : (story : List Release) → IsStory o story → told_by o.user (state_in o story) ≡ Some (told_in o story)
@@ -168,10 +168,10 @@ module _ (o : Owner) where
   told_is (OfCert c q ∷ (OfCert d p ∷ older)) is = absurd (is.0.next.turn refl)
   told_is (OfCert c q ∷ (OfStructure z p ∷ older)) is =
       ap (option_and_then (λ y. option_map (after_cert (Some y) (text o (OfCert c q))) (cert_in o.user (text o (OfCert c q))))) (structure_of z p older is.1.0.next)
-      ∙ ap (option_map (after_cert (Some (signed_by o.seed o.id p z)) (text o (OfCert c q)))) (cert_of c q (OfStructure z p ∷ older) is.0.next)
+      ∙ ap (option_map (after_cert (Some (signed_by o.secret p z)) (text o (OfCert c q)))) (cert_of c q (OfStructure z p ∷ older) is.0.next)
   told_is (OfStructure z q ∷ older) is =
       ap (option_map (after_structure (text o (OfStructure z q)))) (structure_of z q older is.0.next)
-      ∙ ap (λ n. Some (record { number = n; last = Some (signed_by o.seed o.id q z); phase = phase.Signed; text = text o (OfStructure z q) })) is.0.next.number
+      ∙ ap (λ n. Some (record { number = n; last = Some (signed_by o.secret q z); phase = phase.Signed; text = text o (OfStructure z q) })) is.0.next.number
 
 -- ---- numbers
 

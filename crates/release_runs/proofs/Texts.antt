@@ -14,6 +14,7 @@ use Rattle.layout.specs.Format.{Answer, Format, be, ends, headed, mapped, nested
 use Rattle.lms_sign.specs.Hashing.{joined}
 use Rattle.lms_sign.specs.Keys.{lms_type, ots_type}
 use Rattle.lms_sign.specs.OneTime.{digest_of, randomizer_of, signed_value}
+use Rattle.lms_sign.specs.Secret.{Secret}
 use Rattle.lms_sign.specs.Signature.{leaf_of, path_of, signature_of}
 use Rattle.lms_sign.proofs.Validity.{length-signature}
 use Rattle.layout.specs.Ranges.{size, user, version}
@@ -50,22 +51,22 @@ read_back : (q : ℕ) → q < 1024 → from_be_bytes w32 (be w32 q) ≡ q
 unfolding be
 read_back q small = from_be_bytes-to_be_bytes_4 q (omega arith)
 
-begins_with_leaf : (seed id text : List ℕ) (q : ℕ) → (rest : List ℕ) × (signature_of seed id q text ≡ be w32 q ++ rest)
+begins_with_leaf : (secret : Secret) (text : List ℕ) (q : ℕ) → (rest : List ℕ) × (signature_of secret q text ≡ be w32 q ++ rest)
 unfolding signature_of
-begins_with_leaf seed id text q =
-    let randomizer = randomizer_of seed id q in
-    let values = joined 67 (signed_value seed id q (digest_of id q randomizer text)) in
-    let path = joined 10 (path_of seed id q) in
+begins_with_leaf secret text q =
+    let randomizer = randomizer_of secret.seed secret.id q in
+    let values = joined 67 (signed_value secret.seed secret.id q (digest_of secret.id q randomizer text)) in
+    let path = joined 10 (path_of secret q) in
     (ots_type ++ (randomizer ++ (values ++ (lms_type ++ path))), simp append_assoc)
 
 -- a signature names the leaf that made it
-pub leaf_of_signature : (seed id text : List ℕ) (q : ℕ) → q < 1024 → leaf_of (signature_of seed id q text) ≡ q
-leaf_of_signature seed id text q small =
-    let b = begins_with_leaf seed id text q in
+pub leaf_of_signature : (secret : Secret) (text : List ℕ) (q : ℕ) → q < 1024 → leaf_of (signature_of secret q text) ≡ q
+leaf_of_signature secret text q small =
+    let b = begins_with_leaf secret text q in
     ap (λ (s : List ℕ). from_be_bytes w32 (take 4 s)) b.1 ∙ ap (from_be_bytes w32) (four_bytes q b.0) ∙ read_back q small
 
-pub leaf_in_sent : (seed id text : List ℕ) (q : ℕ) → q < 1024 → leaf_in (text ++ signature_of seed id q text) ≡ q
-leaf_in_sent seed id text q small = ap leaf_of (signature_at text (signature_of seed id q text) (length-signature seed id text q)) ∙ leaf_of_signature seed id text q small
+pub leaf_in_sent : (secret : Secret) (text : List ℕ) (q : ℕ) → q < 1024 → leaf_in (text ++ signature_of secret q text) ≡ q
+leaf_in_sent secret text q small = ap leaf_of (signature_at text (signature_of secret q text) (length-signature secret text q)) ∙ leaf_of_signature secret text q small
 
 -- ---- what is read from a signed text
 

@@ -5,6 +5,7 @@
 -- one that a device may have done that fails there.
 use Rattle.std.specs.Prelude.{◌≡◌, [], Some, IfOk, OnOk, OnErr, Result, Ok, Err}
 use Rattle.layout.specs.Types.{Bytes, User}
+use Rattle.lms_sign.specs.Secret.{Secret}
 use Rattle.leaf_ledger.specs.Device.{History, MayLeave, started}
 use Rattle.leaf_ledger.specs.Ledger.{LeafNumber}
 use Rattle.version_order.specs.Structure.{Structure, structure}
@@ -42,8 +43,7 @@ journal_of (Open s) = s.devices.journal.file
 -- whose client it is, and what the own key is made of
 pub record Owner : Type 0 where
   pub user : User
-  pub seed : Bytes
-  pub id : Bytes
+  pub secret : Secret
 
 -- a call with its arguments and its answer, or a crash
 pub data Call : Type 0 where
@@ -58,8 +58,7 @@ pub data Call : Type 0 where
 
 pub record IsOpened (o : Owner) (p : Parts) (new : Released) : Type 0 where
   pub user : new.user ≡ o.user
-  pub seed : new.seed ≡ o.seed
-  pub id : new.id ≡ o.id
+  pub secret : new.secret ≡ o.secret
   pub told : IsToldBy p.journal.now.text new
   pub moments : IsOpening p.ledger p.journal new.devices.ledger.file new.devices.journal.file
 
@@ -77,7 +76,7 @@ abbrev pub with_structure : Devices → Released → LeafNumber → Structure �
 with_structure devices s leaf z =
     record s {
       devices = devices;
-      last = Some (signed_by s.seed s.id leaf z);
+      last = Some (signed_by s.secret leaf z);
       phase = phase.Signed;
       text = sent s leaf (structure.spell z);
     }

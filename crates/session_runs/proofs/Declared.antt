@@ -110,7 +110,7 @@ still_has (OfChanges changes) s new same has = subst (λ (r : Released). IsCertO
 pub begins : (s new : State) (changes : List (Change Digest)) (laid : List Bytes) (text : Bytes) → HasBegun s changes laid (Ok text) new → HasDeclared (OfChanges changes) new
 begins s new changes laid text b = record {
   value = next_cert s changes;
-  signature = signature_of s.seed s.id b.declared.0 (cert.spell (next_cert s changes));
+  signature = signature_of s.secret b.declared.0 (cert.spell (next_cert s changes));
   fits = b.fits;
   changes_are = refl;
   spelled = ap (λ (n : State). n.text) b.declared.2;

@@ -102,10 +102,13 @@ pub fn structure(rt: &impl Aided, plan: &[u8], handle: &[u8; 32]) -> Vec<u8> {
     structure_of(rt, plan, handle, b"\0")
 }
 
-/// A text, and after it its signature by a leaf.
+/// A text, and after it its signature by a leaf that can sign.
 pub fn signed(rt: &impl Aided, key: &PrivateKey<Global>, leaf: u32, text: &[u8]) -> Vec<u8>
     requires { leaf < LEAF_COUNT }
 {
+    if !key.has_leaf(leaf) {
+        rt.fail("a leaf that can't sign");
+    }
     let (signature, spent) = sign(key, Leaf::issue(&key.public(), leaf), text);
     spent.end();
     joined(rt, &[text, &signature])

@@ -6,7 +6,7 @@ ghost use Rattle.lms_sign.specs.Keys.{public_key_of};
 use crate::caller::CallError;
 use layout::Memory;
 use leaf_ledger::{Ledger, LedgerError, MemoryDevice};
-use lms_sign::{PrivateKey, sign};
+use lms_sign::{PrivateKey, burn, sign};
 use std::alloc::Global;
 
 /// A key that signs with one leaf after another. Its ledger lies in memory, so that nothing of it is left afterwards.
@@ -14,7 +14,7 @@ use std::alloc::Global;
 pub(crate) struct Signer {
     pub(crate) key: PrivateKey<Global>,
     ledger: Ledger<MemoryDevice<Global>>,
-    ghost own: { ledger.key ≡ public_key_of key.seed key.id },
+    ghost own: { ledger.key ≡ public_key_of key },
 }
 
 impl Signer {
@@ -38,6 +38,10 @@ impl Signer {
             Err(LedgerError::NoLeaf) => return Err(CallError::NoLeaf),
             Err(_) => return Err(CallError::Memory),
         };
+        if !self.key.has_leaf(leaf.number()) {
+            self.ledger.settle(burn(leaf));
+            return Err(CallError::NoLeaf);
+        }
         let (signature, spent) = sign(&self.key, leaf, text);
         self.ledger.settle(spent);
         Ok(signature)

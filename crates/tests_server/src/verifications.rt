@@ -64,6 +64,7 @@ const CERTIFICATE: &[u8] = b"SUC1\0\0\0\0\x01\
 fn signed_by<R: Host>(rt: &R, byte: u8) -> (Vec<u8>, PublicKey) {
     let key = PrivateKey::from_seed(rt.alloc(), [byte; 32], [byte; 16]).expect(rt, "memory");
     let public = key.public();
+    assert!(rt; key.has_leaf(0), "the leaf");
     let (signature, spent) = sign(&key, Leaf::issue(&public, 0), CERTIFICATE);
     spent.end();
     let mut text = Vec::from_slice(rt.alloc(), CERTIFICATE).expect(rt, "memory");

@@ -30,6 +30,7 @@ fn key_of_zeros(rt: HostRuntime) {
     let leaf = Leaf::issue(&key, 0);
     assert_eq!(rt; leaf.number(), 0);
     assert!(rt; leaf.key() == key);
+    assert!(rt; private.has_leaf(0));
     let (signature, spent) = sign(&private, leaf, b"a");
     assert_eq!(rt; spent.number(), 0);
     assert!(rt; spent.key() == key);
@@ -66,6 +67,7 @@ fn signatures_digest<A: std::alloc::Allocator>(
         text[k] = (k % 251) as u8;
     }
     let mut all = Hasher::new();
+    assert!(rt; private.has_leaf(number), "leaf {number}");
     for size in SIZES {
         let text = &text[..size.min(5000)];
         let (signature, spent) = sign(private, Leaf::issue(&key, number), text);

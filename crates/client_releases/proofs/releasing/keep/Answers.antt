@@ -7,6 +7,7 @@ use Rattle.pending_list.specs.Signed.{signature}
 use Rattle.client_journal.specs.declared.error.JournalError.TheVariants as journal
 use Rattle.client_releases.specs.Errors.{of_ledger, of_journal}
 use Rattle.client_releases.proofs.Keeping.{device_only, entry, kept_now, not_taken, not_tried, short_with, taken, tried_one}
+use Rattle.client_releases.proofs.UsedUp.{by_none, can_sign}
 use Rattle.client_releases.proofs.releasing.keep.Goals as goal
 
 on_err : {T E P : Type 0} (r : Result T E) → P → OnErr r P
@@ -24,12 +25,15 @@ append-requires-clause-turn g c = c.requires.turn
 pub append-requires-clause-usable : goal.append-requires-clause-usable
 append-requires-clause-usable g c = c.requires.journal_usable
 
+pub sign-spent-requires-clause-has : goal.sign-spent-requires-clause-has
+sign-spent-requires-clause-has g c = can_sign c.args.key.now c.args.ledger.now c.in_ok-leaf.leaf.number c.in_ok-leaf.ensures.leaf c.requires.free
+
 -- ---- no leaf was taken
 
 pub returns-in_err-leaf-clause-any_moment : goal.returns-in_err-leaf-clause-any_moment
 returns-in_err-leaf-clause-any_moment g c leaf least =
     let t = c.in_err-leaf.ensures in
-    not_taken leaf (entry c.args.kind (c.args.unsigned ++ signature_of c.args.key.now.seed c.args.key.now.id leaf c.args.unsigned)) c.args.ledger.now c.take.new.self c.args.journal.now c.requires.journal_rests t.own_file (t.any_moment leaf least) (t.reads leaf least)
+    not_taken leaf (entry c.args.kind (c.args.unsigned ++ signature_of c.args.key.now leaf c.args.unsigned)) c.args.ledger.now c.take.new.self c.args.journal.now c.requires.journal_rests t.own_file (t.any_moment leaf least) (t.reads leaf least)
 
 pub returns-in_err-leaf-clause-tried : goal.returns-in_err-leaf-clause-tried
 returns-in_err-leaf-clause-tried g c = on_err c.from_residual.result (not_tried _ c.args.ledger.now c.take.new.self c.args.journal.now c.in_err-leaf.ensures.step)
@@ -38,7 +42,7 @@ pub returns-in_err-leaf-clause-device : goal.returns-in_err-leaf-clause-device
 returns-in_err-leaf-clause-device g c =
     let p = err_from_is_err_and c.from_residual.result c.from_residual.ensures.1 in
     let t = c.in_err-leaf.ensures in
-    let is = device_only c.in_err-leaf.field-0.0 (λ none. c.requires.free (t.no_leaf (ap Err none)).0) (λ foreign. t.ours (ap Err foreign)) in
+    let is = device_only c.in_err-leaf.field-0.0 (λ none. c.requires.free (by_none c.args.key.now c.args.ledger.now (t.no_leaf (ap Err none)).0)) (λ foreign. t.ours (ap Err foreign)) in
     rw p.1 (p.2 ∙ ap of_ledger is, inl (t.device (ap Err is)).1)
 
 pub returns-in_err-leaf-clause-own_file : goal.returns-in_err-leaf-clause-own_file
@@ -57,9 +61,9 @@ returns-in_err-append-clause-any_moment g c =
     let t = c.in_ok-leaf.ensures in
     let n = c.in_ok-leaf.leaf.number in
     let same : c.take.new.self.file ≡ c.settle.new.self.file = sym (ap (λ (l : LedgerState). l.file) c.settle.ensures.settled) in
-    let whole : c.deref.result.now ≡ c.args.unsigned ++ signature_of c.args.key.now.seed c.args.key.now.id n c.args.unsigned = cc in
+    let whole : c.deref.result.now ≡ c.args.unsigned ++ signature_of c.args.key.now n c.args.unsigned = cc in
     let a = c.in_err-append.ensures in
-    taken (λ leaf. entry c.args.kind (c.args.unsigned ++ signature_of c.args.key.now.seed c.args.key.now.id leaf c.args.unsigned))
+    taken (λ leaf. entry c.args.kind (c.args.unsigned ++ signature_of c.args.key.now leaf c.args.unsigned))
     c.args.ledger.now c.settle.new.self c.args.journal.now c.append.new.self c.take.new.self.file same n t.leaf (entry c.args.kind c.deref.result.now) (ap (λ (x : List ℕ). entry c.args.kind x) whole) t.own_file t.any_moment t.used a.any_moment a.reads
 
 pub returns-in_err-append-clause-tried : goal.returns-in_err-append-clause-tried
@@ -67,9 +71,9 @@ returns-in_err-append-clause-tried g c =
     let t = c.in_ok-leaf.ensures in
     let n = c.in_ok-leaf.leaf.number in
     let same : c.take.new.self.file ≡ c.settle.new.self.file = sym (ap (λ (l : LedgerState). l.file) c.settle.ensures.settled) in
-    let whole : c.deref.result.now ≡ c.args.unsigned ++ signature_of c.args.key.now.seed c.args.key.now.id n c.args.unsigned = cc in
+    let whole : c.deref.result.now ≡ c.args.unsigned ++ signature_of c.args.key.now n c.args.unsigned = cc in
     on_err c.from_residual-in_err-append.result
-    (tried_one (λ leaf. entry c.args.kind (c.args.unsigned ++ signature_of c.args.key.now.seed c.args.key.now.id leaf c.args.unsigned))
+    (tried_one (λ leaf. entry c.args.kind (c.args.unsigned ++ signature_of c.args.key.now leaf c.args.unsigned))
     c.args.ledger.now c.settle.new.self c.args.journal.now c.append.new.self c.take.new.self.file same n t.leaf (entry c.args.kind c.deref.result.now) (ap (λ (x : List ℕ). entry c.args.kind x) whole) t.step c.in_err-append.ensures.step)
 
 pub returns-in_err-append-clause-device : goal.returns-in_err-append-clause-device
@@ -97,7 +101,7 @@ returns-clause-kept g c =
     let a = c.in_ok-append.ensures in
     let n = c.in_ok-leaf.leaf.number in
     let same : c.take.new.self.file ≡ c.settle.new.self.file = sym (ap (λ (l : LedgerState). l.file) c.settle.ensures.settled) in
-    let signed : c.sealed-sealed.result.signature ≡ signature_of c.args.key.now.seed c.args.key.now.id n c.args.unsigned = cc in
+    let signed : c.sealed-sealed.result.signature ≡ signature_of c.args.key.now n c.args.unsigned = cc in
     let all : c.sealed-sealed.result.kept.items ≡ c.args.unsigned ++ c.sealed-sealed.result.signature = cc in (
       n,
       signed,
@@ -110,9 +114,9 @@ returns-clause-any_moment g c =
     let t = c.in_ok-leaf.ensures in
     let n = c.in_ok-leaf.leaf.number in
     let same : c.take.new.self.file ≡ c.settle.new.self.file = sym (ap (λ (l : LedgerState). l.file) c.settle.ensures.settled) in
-    let whole : c.deref.result.now ≡ c.args.unsigned ++ signature_of c.args.key.now.seed c.args.key.now.id n c.args.unsigned = cc in
+    let whole : c.deref.result.now ≡ c.args.unsigned ++ signature_of c.args.key.now n c.args.unsigned = cc in
     let a = c.in_ok-append.ensures in
-    taken (λ leaf. entry c.args.kind (c.args.unsigned ++ signature_of c.args.key.now.seed c.args.key.now.id leaf c.args.unsigned))
+    taken (λ leaf. entry c.args.kind (c.args.unsigned ++ signature_of c.args.key.now leaf c.args.unsigned))
     c.args.ledger.now c.settle.new.self c.args.journal.now c.append.new.self c.take.new.self.file same n t.leaf (entry c.args.kind c.deref.result.now) (ap (λ (x : List ℕ). entry c.args.kind x) whole) t.own_file t.any_moment t.used a.any_moment a.reads
 
 pub returns-clause-own_file : goal.returns-clause-own_file

@@ -10,7 +10,7 @@ returns-in_ok-client-in-Ok-clause-step g c =
     let o : Owner = owner script_keys c.args.user in
     let p : Parts = record { ledger = c.args.parts.ledger; journal = c.args.parts.journal } in
     let key = c.args.parts.key in
-    let whose = taking.same_owner o c.args.pinned key.seed key.id c.requires.pinned c.requires.own.0 c.requires.own.1 in
+    let whose = taking.same_owner o c.args.pinned key c.requires.pinned c.requires.own in
     rw c.in_ok-client-in-Ok.ensures.same (taking.opens o p c.in-Ok.client c.phase-phase.result c.in_ok-client-in-Ok.text
     (subst (λ (by : Owner). IsStep by (Closed p) (Opens (Ok tt)) (Open c.in-Ok.client)) whose c.in-Ok.ensures.opened)
     c.in-Ok.ensures.sound c.phase-phase.ensures (rw c.in_ok-client-in-Ok.ensures.ok at c.resent-text.ensures))
@@ -21,6 +21,6 @@ returns-in-Err-clause-step g c =
     let p : Parts = record { ledger = c.args.parts.ledger; journal = c.args.parts.journal } in
     let q : Parts = record { ledger = c.in-Err.parts.ledger; journal = c.in-Err.parts.journal } in
     let key = c.args.parts.key in
-    let whose = taking.same_owner o c.args.pinned key.seed key.id c.requires.pinned c.requires.own.0 c.requires.own.1 in
+    let whose = taking.same_owner o c.args.pinned key c.requires.pinned c.requires.own in
     taking.refuses o p {A = g.row.A.Denot} q c.in-Err.error
     (subst (λ (by : Owner). IsStep by (Closed p) (Opens (Err c.in-Err.error)) (Closed q)) whose c.in-Err.ensures.refused)

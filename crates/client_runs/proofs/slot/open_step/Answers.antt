@@ -33,5 +33,5 @@ returns-in_ok-client-in_default g c =
     let tells : Tells old t a new = rw c.in_ok-client-in_default.ensures.ok at c.call-answer.ensures in
     rw c.in_ok-client-in_default.ensures.same (record {
       step = λ o. tells o c.type_invariant.ensures;
-      own = λ o seed id. let same = taking.same_key o old new t a (tells o c.type_invariant.ensures) in (same.0 ∙ seed, same.1 ∙ id);
+      own = λ o own. taking.same_key o old new t a (tells o c.type_invariant.ensures) ∙ own;
     })

@@ -27,5 +27,5 @@ returns-in-Open-clause-own g c =
     let o : Owner = owner script_keys c.args.user in
     let s = c.in-Open.client in
     let own = subst (λ (x : Slot g.row.A.Denot). IsOf o x) c.in-Open.is c.requires.own in
-    taking.on_each c.open_step.result (λ r. (whose : Owner) → s.seed ≡ whose.seed → s.id ≡ whose.id → IsOf whose r.0) (λ r. IsOf o r.0) c.open_step.ensures.own
-    (λ r kept. kept o own.0 own.1)
+    taking.on_each c.open_step.result (λ r. (whose : Owner) → s.secret ≡ whose.secret → IsOf whose r.0) (λ r. IsOf o r.0) c.open_step.ensures.own
+    (λ r kept. kept o own)

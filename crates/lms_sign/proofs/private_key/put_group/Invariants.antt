@@ -3,7 +3,7 @@ use Rattle.lms_sign.proofs.private_key.put_group.Given as goal
 
 abbrev pub invariant-loop-place : goal.invariant-loop-place
 invariant-loop-place l = record {
-  size : length l.nodes ≡ 2048;
-  group : (i : ℕ) → i < l.place → slice_index_or l.nodes (1024 + (8 * l.group + i)) [] ≡ slice_index_or l.values i [];
-  before : (leaf : ℕ) → leaf < 8 * l.group → slice_index_or l.nodes (1024 + leaf) [] ≡ slice_index_or l.initial.nodes (1024 + leaf) [];
+  size : length l.keys ≡ 1024;
+  group : (i : ℕ) → i < l.place → slice_index_or l.keys (8 * l.group + i) [] ≡ slice_index_or l.values i [];
+  before : (leaf : ℕ) → leaf < 8 * l.group → slice_index_or l.keys leaf [] ≡ slice_index_or l.initial.keys leaf [];
 }

@@ -1,7 +1,7 @@
 use Rattle.std.proofs.Common.{◌∙◌, length, sym, ap, subst, arith}
-use Rattle.leaf_ledger.specs.Ledger.{IsFull}
 use Rattle.client_journal.specs.declared.kind.Kind.TheVariants as kind
 use Rattle.update_cert.specs.CertLaws.{at_most_cert}
+use Rattle.client_releases.specs.Releasing.{IsUsedUp}
 use Rattle.client_releases.specs.Told.{Released}
 use Rattle.client_releases.proofs.Seen.{declared_of, failed_of, moments_of, risen_of, tried_of}
 use Rattle.client_releases.proofs.Standing.{after_declare, after_fault, cert_turn, stands_idle}
@@ -18,7 +18,7 @@ pub keep-requires-clause-settled : goal.keep-requires-clause-settled
 keep-requires-clause-settled g c = c.self.invariant.settled
 
 pub keep-requires-clause-free : goal.keep-requires-clause-free
-keep-requires-clause-free g c full = c.requires.free (subst (λ (r : Released). IsFull r.devices.ledger.file.now.text) c.self.view_is full)
+keep-requires-clause-free g c none = c.requires.free (subst (λ (r : Released). IsUsedUp r.secret r.devices.ledger) c.self.view_is none)
 
 pub keep-requires-clause-journal_usable : goal.keep-requires-clause-journal_usable
 keep-requires-clause-journal_usable g c = (stands_idle _ c.self.invariant (ap (λ (r : Released). r.phase) c.self.view_is ∙ c.requires.idle)).journal_usable

@@ -11,8 +11,8 @@ pub invariant_of-result : goal.invariant_of-result
 invariant_of-result g c =
     let o = c.in-Ok.ensures in
     let r = c.in-Ok-remembered.ensures in
-    let key : c.public.result ≡ public_key_of c.args.key.seed c.args.key.id = c.public.ensures in
-    opened c.args.user c.args.key.seed c.args.key.id c.in-Ok.devices.0 c.remembered.new.journal c.in-Ok.devices.1 c.told.inside.number c.told.inside.last c.told.inside.phase c.told.inside.text.items
+    let key : c.public.result ≡ public_key_of c.args.key = c.public.ensures in
+    opened c.args.user c.args.key c.in-Ok.devices.0 c.remembered.new.journal c.in-Ok.devices.1 c.told.inside.number c.told.inside.last c.told.inside.phase c.told.inside.text.items
     (o.opened.0 ∙ key) o.opened.1 o.opened.2 o.rests.0 (subst (λ (k : List ℕ). IsFileOf k c.in-Ok.devices.0.file.now.text) key o.own_file) r.usable o.rests.1 r.same r.told.0 r.told.1 (r.told.2 ∙ ap Some (sym c.told.view_is))
 
 pub returns-in-Ok-remembered-clause-told : goal.returns-in-Ok-remembered-clause-told

@@ -7,7 +7,7 @@ invariant_of-result g c =
     let e = c.in_ok-key_of.ensures in
     let slots = c.in_ok-unmade in
     record {
-      pinned_is = pinned_by c.public-pinned.result c.superuser.result key.seed key.id c.public-pinned.ensures e.seed e.id c.superuser.ensures;
+      pinned_is = pinned_by c.public-pinned.result c.superuser.result key c.public-pinned.ensures e c.superuser.ensures;
       size = slots.ensures.size;
       own = none_own slots.field-0.items slots.ensures.none;
     }

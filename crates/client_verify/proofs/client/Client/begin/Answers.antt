@@ -3,11 +3,11 @@ use Rattle.std.specs.Vec.{vec_items}
 use Rattle.std.proofs.lemmas.Result.{on_err_weaker, on_ok_weaker}
 use Rattle.layout.specs.Types.{Bytes}
 use Rattle.lms_sign.specs.Keys.{public_key_of}
-use Rattle.leaf_ledger.specs.Ledger.{IsFull, IsLeastFree, LeafNumber}
+use Rattle.leaf_ledger.specs.Ledger.{IsLeastFree, LeafNumber}
 use Rattle.update_cert.specs.Cert.{cert}
 use Rattle.client_releases.specs.declared.error.ClientError.TheVariants as error
 use Rattle.client_releases.specs.declared.phase.Phase.TheVariants as phase
-use Rattle.client_releases.specs.Releasing.{AnyMoment, IsTried, OneHasRisen, cert_record}
+use Rattle.client_releases.specs.Releasing.{AnyMoment, IsTried, IsUsedUp, OneHasRisen, cert_record}
 use Rattle.client_releases.specs.Told.{Released, sent}
 use Rattle.checked_blocks.specs.CheckedBlocks.{CheckedBlocks}
 use Rattle.client_verify.specs.Holding.{LaysOut}
@@ -34,7 +34,7 @@ returns-in-Err-clause-no_number g c = same_error c.in-Err.error error.NoNumber _
 pub declare-requires-clause-free : goal.declare-requires-clause-free
 declare-requires-clause-free g c full =
     let is = c.self-2.view_is ∙ c.in-Ok.ensures.over in
-    c.in-Ok.ensures.free (subst (λ (o : Released). IsFull o.devices.ledger.file.now.text) (ap released is) full)
+    c.in-Ok.ensures.free (subst (λ (o : Released). IsUsedUp o.secret o.devices.ledger) (ap released is) full)
 
 pub declare-requires-clause-own : goal.declare-requires-clause-own
 declare-requires-clause-own g c =
@@ -48,8 +48,9 @@ invariant_of-self g c =
     let new = c.declare.new.self in
     let is = c.self-2.view_is ∙ c.in-Ok.ensures.over in
     let same : c.self.inside.releases ≡ r = ap released c.self.view_is ∙ sym (ap released is) in
-    let key = c.as_bytes-size.ensures.same ∙ c.key.ensures ∙ ap (λ (o : Released). public_key_of o.seed o.id) same in
-    rw c.put_in.ensures (record { of_checked = tt; of_accepted = tt }, λ own. own_after c.declare.result r new c.as_bytes-size.result.now c.in-Ok.prepared.0 c.in-Ok.prepared.1 key c.as_bytes-size.ensures.size c.declare.ensures.declared c.declare.ensures.err (c.self-2.invariant.1 own))
+    let key = c.as_bytes-size.ensures.same ∙ c.key.ensures ∙ ap (λ (o : Released). public_key_of o.secret) same in
+    let some : IsUsedUp r.secret r.devices.ledger → ⊥ = λ none. c.in-Ok.ensures.free (subst (λ (o : Released). IsUsedUp o.secret o.devices.ledger) (ap released is) none) in
+    rw c.put_in.ensures (record { of_checked = tt; of_accepted = tt }, λ own. own_after c.declare.result r new c.as_bytes-size.result.now c.in-Ok.prepared.0 c.in-Ok.prepared.1 key c.as_bytes-size.ensures.size some c.declare.ensures.declared c.declare.ensures.err (c.self-2.invariant.1 own))
 
 pub returns-clause-declared : goal.returns-clause-declared
 returns-clause-declared g c =

@@ -13,7 +13,7 @@ returns-in_default-clause-moments_err g c =
 pub invariant_of-result : goal.invariant_of-result
 invariant_of-result g c =
     let r = c.in-Ok-open.releases in
-    (record { of_checked = tt; of_accepted = tt }, λ own. let first = c.is_first-is_own.ensures own in owns_nothing (public_key_of r.seed r.id) r.last r.text first.0 first.1)
+    (record { of_checked = tt; of_accepted = tt }, λ own. let first = c.is_first-is_own.ensures own in owns_nothing (public_key_of r.secret) r.last r.text first.0 first.1)
 
 pub returns-in-Ok-open-clause-genesis : goal.returns-in-Ok-open-clause-genesis
 returns-in-Ok-open-clause-genesis g c =

@@ -2,8 +2,9 @@ use Rattle.std.proofs.Common.{◌≡◌, IsSome, Some, Option, ap, refl, subst, 
 use Rattle.layout.specs.Types.{Bytes}
 use Rattle.leaf_ledger.specs.Ledger.{IsLeastFree, LeafNumber}
 use Rattle.version_order.specs.Structure.{structure}
-use Rattle.client_releases.specs.Releasing.{AnyMoment, IsTried, OneHasRisen, structure_record}
+use Rattle.client_releases.specs.Releasing.{AnyMoment, IsTried, IsUsedUp, OneHasRisen, structure_record}
 use Rattle.client_releases.specs.Told.{Released, sent}
+use Rattle.client_releases.proofs.UsedUp.{can_sign}
 use Rattle.client_verify.specs.Progress.{accepted_of, checked_of}
 use Rattle.client_verify.specs.State.{Ready, State, next_structure, released, signed_text}
 use Rattle.client_verify.proofs.Handing.{if_at}
@@ -13,6 +14,14 @@ use Rattle.client_verify.proofs.client.Client.sign.Goals as goal
 
 pub returns-then-not-has_free_leaf-clause-tried : goal.returns-then-not-has_free_leaf-clause-tried
 returns-then-not-has_free_leaf-clause-tried g c = always c.args.self.now.accepted _ (λ y. refused_tried c.args.self.now c.args.self.now refl (λ leaf. structure_record (signed_text c.args.self.now leaf y)))
+
+pub returns-then-not-has_free_leaf-clause-any_moment : goal.returns-then-not-has_free_leaf-clause-any_moment
+returns-then-not-has_free_leaf-clause-any_moment g c =
+    let s = c.args.self.now in
+    let r = c.self.inside.releases in
+    let some = subst (λ (o : Option Ready). IsSome o) (sym (ap (λ (q : State). q.accepted) c.self.view_is)) c.requires in
+    let stands = stands_ready r (accepted_of c.self.inside.progress) c.type_invariant.ensures c.self.invariant.0.of_accepted some in
+    always s.accepted _ (λ y leaf least. refused_moments r s s (ap released c.self.view_is) stands refl (λ k. structure_record (signed_text s k y)) leaf)
 
 pub returns-in-Err-clause-any_moment : goal.returns-in-Err-clause-any_moment
 returns-in-Err-clause-any_moment g c =
@@ -28,12 +37,17 @@ returns-in-Err-clause-tried g c = always c.args.self.now.accepted _ (λ y. refus
 pub returns-in-Err-clause-no_leaf : goal.returns-in-Err-clause-no_leaf
 returns-in-Err-clause-no_leaf g c = (λ is. absurd (cc is), λ full. absurd (no_full c.self.inside.releases (released c.args.self.now) c.has_free_leaf.result (ap released c.self.view_is) c.has_free_leaf.ensures c.if-not-has_free_leaf.false full))
 
+pub sign-requires-clause-free : goal.sign-requires-clause-free
+sign-requires-clause-free g c = no_full c.self.inside.releases c.self.inside.releases c.has_free_leaf.result refl c.has_free_leaf.ensures c.if-not-has_free_leaf.false
+
 pub invariant_of-self : goal.invariant_of-self
 invariant_of-self g c =
     let d = c.in-Ok-sign.ensures.signed in
+    let r = c.self.inside.releases in
+    let some : IsUsedUp r.secret r.devices.ledger → ⊥ = no_full r r c.has_free_leaf.result refl c.has_free_leaf.ensures c.if-not-has_free_leaf.false in
     rw c.take_accepted-ready.ensures.none (
       record { of_checked = tt; of_accepted = tt },
-      λ _. own_signed c.self.inside.releases c.as_bytes-size.result.now (c.as_bytes-size.ensures.same ∙ c.key.ensures) c.as_bytes-size.ensures.size d.0 d.1.least.below c.sign.new.self c.in-Ok.drawn.0.structure c.in-Ok.drawn.0.text d.2,
+      λ _. own_signed r c.as_bytes-size.result.now (c.as_bytes-size.ensures.same ∙ c.key.ensures) c.as_bytes-size.ensures.size d.0 d.1.least.below (can_sign r.secret r.devices.ledger d.0 d.1.least some) c.sign.new.self c.in-Ok.drawn.0.structure c.in-Ok.drawn.0.text d.2,
     )
 
 pub invariant_of-self-in-Err-sign : goal.invariant_of-self-in-Err-sign

@@ -3,8 +3,9 @@ use Rattle.std.specs.Int.{w32}
 use Rattle.std.proofs.lemmas.List.{take_all}
 use Rattle.layout.specs.Format.{be}
 use Rattle.lms_sign.specs.Hashing.{joined}
-use Rattle.lms_sign.specs.Keys.{Secret, public_key_of, lms_type, ots_type}
+use Rattle.lms_sign.specs.Keys.{public_key_of, lms_type, ots_type}
 use Rattle.lms_sign.specs.OneTime.{randomizer_of, digest_of, signed_value}
+use Rattle.lms_sign.specs.Secret.{HasLeaf, Secret}
 use Rattle.lms_sign.specs.Signature.{path_of, signature_of, valid}
 use Rattle.lms_sign.proofs.Validity.{signed_valid}
 use Rattle.lms_sign.proofs.private_key.PrivateKey.signature.Goals as goal
@@ -23,16 +24,16 @@ returns-clause-signature g c =
     c.put_values.ensures ∙ ap (λ (l : List ℕ). l ++ joined 67 (signed_value key.seed key.id leaf c.text_digest-digest.result)) front
     ∙ ap (λ (d : List ℕ). be w32 leaf ++ ots_type ++ randomizer ++ joined 67 (signed_value key.seed key.id leaf d)) digest in
     let types : take 2188 c.put.new.out ≡ be w32 leaf ++ ots_type ++ randomizer ++ joined 67 value ++ lms_type = c.put.ensures ∙ ap (λ (l : List ℕ). l ++ lms_type) values in
-    let made : c.put_path.new.signature ≡ signature_of key.seed key.id leaf text =
+    let secret : Secret = record { seed = key.seed; id = key.id; leaf_keys = key.leaf_keys.items } in
+    let made : c.put_path.new.signature ≡ signature_of secret leaf text =
     sym (take_all 2508 c.put_path.new.signature (omega arith)) ∙ c.put_path.ensures
-    ∙ ap (λ (s : Secret). take 2188 c.put.new.out ++ joined 10 (path_of s.seed s.id leaf)) (sym c.self.view_is)
-    ∙ ap (λ (l : List ℕ). l ++ joined 10 (path_of key.seed key.id leaf)) types in
-    made ∙ ap (λ (s : Secret). signature_of s.seed s.id leaf text) c.self.view_is
+    ∙ ap (λ (s : Secret). take 2188 c.put.new.out ++ joined 10 (path_of s leaf)) (sym c.self.view_is)
+    ∙ ap (λ (l : List ℕ). l ++ joined 10 (path_of secret leaf)) types in
+    made ∙ ap (λ (s : Secret). signature_of s leaf text) c.self.view_is
 
 pub returns-clause-valid : goal.returns-clause-valid
 returns-clause-valid g c =
-    let key = c.self.inside in
+    let secret : Secret = c.args.self.now in
     let text = c.args.text.now in
-    let size : length key.id ≡ 16 = c.randomizer-randomizer.ensures.id_size in
-    let valid_there : valid (public_key_of key.seed key.id) text (signature_of key.seed key.id c.args.leaf text) ≡ true = signed_valid key.seed key.id text c.args.leaf size c.requires in
-    ap (valid (public_key_of c.args.self.now.seed c.args.self.now.id) text) (returns-clause-signature g c) ∙ subst (λ (s : Secret). valid (public_key_of s.seed s.id) text (signature_of s.seed s.id c.args.leaf text) ≡ true) c.self.view_is valid_there
+    let size : length secret.id ≡ 16 = ap (λ (s : Secret). length s.id) (sym c.self.view_is) ∙ c.randomizer-randomizer.ensures.id_size in
+    ap (valid (public_key_of secret) text) (returns-clause-signature g c) ∙ signed_valid secret text c.args.leaf size c.requires.leaf c.requires.has
