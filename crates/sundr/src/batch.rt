@@ -3,7 +3,7 @@
 use crate::folder::{lock_ledger, read_content, read_keys};
 use crate::hindrance::Hindrance;
 use crate::{
-    Outcome, OwnClient, OwnSession, WORDS, answer, end, open_client, own_key, print, refuse,
+    Outcome, OwnClient, OwnSession, WORDS, answer, end, open_client, own_key_digits, print, refuse,
     session_of, tell,
 };
 use commands::{Answer, Command, Refusal};
@@ -51,7 +51,7 @@ fn obey<H: Net<Stream = TcpStream> + Threads + Sync>(
     wanted: &Wanted<'_>,
 ) -> Result<Outcome, Hindrance> {
     match wanted {
-        Wanted::Key => Ok(Outcome::Key(own_key(rt, host, line)?)),
+        Wanted::Key => Ok(Outcome::Key(own_key_digits(rt, host, line)?)),
         Wanted::Run(command) => Ok(Outcome::Answer(answer(rt, session, command))),
         Wanted::Put { path, file } => Ok(Outcome::Answer(put(rt, session, path, file)?)),
         Wanted::Batch { .. } => Ok(Outcome::Ended(WORDS)),

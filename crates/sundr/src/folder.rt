@@ -2,12 +2,27 @@
 
 use crate::hindrance::Hindrance;
 use commands::Refusal;
+use drawn_key::{LEDGER_SIZE, kept_key};
 use itable::FILE_SIZE;
+use layout::Memory;
 use leaf_ledger::FileDevice;
-use lms_sign::{ID_SIZE, KEY_SIZE, PublicKey, SEED_SIZE};
+use lms_sign::{ID_SIZE, KEPT_SIZE, KEY_SIZE, PrivateKey, PublicKey, SEED_SIZE};
 use std::alloc::{AllocError, Global};
-use std::fs::{File, OpenOptions, TryLockError};
-use std::io::{self, ErrorKind, Read};
+use std::fs::{self, File, OpenOptions, TryLockError};
+use std::io::{self, ErrorKind, Read, Write};
+use std::os::unix::fs::OpenOptionsExt;
+
+/// The file of the ledger.
+pub(crate) const LEDGER: &str = "ledger";
+
+/// The file of the keys of the leaves, so that a key need not be drawn each time.
+const LEAVES: &str = "leaves";
+
+/// What that file is called until it is whole.
+const LEAVES_BESIDE: &str = "leaves.new";
+
+/// The mode of a file that its owner alone reads and writes.
+const OWNERS_ALONE: u32 = 0o600;
 
 /// What a user's own key is drawn from, and user 0's public key.
 #[derive(Clone, Copy)]
@@ -84,6 +99,48 @@ pub(crate) fn read_keys(rt: &HostRuntime, folder: &str) -> Result<Keys, Hindranc
     Ok(Keys { seed, id, pinned })
 }
 
+/// The bytes of a file of a folder, if it can be read and has just so many.
+fn read_sized(rt: &HostRuntime, folder: &str, name: &str, size: usize) -> Option<Vec<u8>> {
+    let path = path_in(rt.alloc(), folder, name).ok()?;
+    let mut bytes = vec![in rt.alloc(); 0u8; size].ok()?;
+    let mut file = File::open(rt, &path).ok()?;
+    read_last(&mut file, &mut bytes)?;
+    Some(bytes)
+}
+
+/// The own key, if it can be made of what was kept of its leaves: it has to be the key of the ledger, and the next leaf
+/// one of the seed's.
+pub(crate) fn read_kept(
+    rt: &HostRuntime,
+    folder: &str,
+    keys: &Keys,
+) -> Result<Option<PrivateKey<Global>>, Memory> {
+    let Some(ledger) = read_sized(rt, folder, LEDGER, LEDGER_SIZE) else {
+        return Ok(None);
+    };
+    let Some(kept) = read_sized(rt, folder, LEAVES, KEPT_SIZE) else {
+        return Ok(None);
+    };
+    kept_key(rt.alloc(), keys.seed, keys.id, &ledger, &kept)
+}
+
+/// Writes the keys of the leaves into a file beside, and moves it into its place, if that can be done. They are no
+/// secret, and need not be there.
+pub(crate) fn keep_leaves(rt: &HostRuntime, folder: &str, key: &PrivateKey<Global>) -> Option<()> {
+    let kept = key.kept_leaves(rt.alloc()).ok()?;
+    let beside = path_in(rt.alloc(), folder, LEAVES_BESIDE).ok()?;
+    let path = path_in(rt.alloc(), folder, LEAVES).ok()?;
+    let mut file = OpenOptions::new()
+        .write(true)
+        .create(true)
+        .truncate(true)
+        .mode(OWNERS_ALONE)
+        .open(rt, &beside)
+        .ok()?;
+    file.write_all(&kept).ok()?;
+    fs::rename(rt, &beside, &path).ok()
+}
+
 /// The bytes of a file of the system, of which one more than a file may have is enough.
 pub(crate) fn read_content(rt: &HostRuntime, path: &str) -> Result<Vec<u8>, Hindrance> {
     let file = File::open(rt, path).map_err(|fault| content_hindrance(&fault))?;
@@ -100,7 +157,7 @@ pub(crate) fn read_content(rt: &HostRuntime, path: &str) -> Result<Vec<u8>, Hind
 /// Locks the ledger's file, unless the system knows no locks: while the handle is open, no other process is given the
 /// lock.
 pub(crate) fn lock_ledger(rt: &HostRuntime, folder: &str) -> Result<File, Hindrance> {
-    let path = path_in(rt.alloc(), folder, "ledger")?;
+    let path = path_in(rt.alloc(), folder, LEDGER)?;
     let file = OpenOptions::new()
         .read(true)
         .write(true)

@@ -12,10 +12,14 @@ use connection::{ConnectionFault, Socket};
 use drawn_key::drawn_key;
 use file_commands::{Line, LineError, Wanted};
 use file_session::{Resumed, Session, refusal_of};
-use folder::{Keys, lock_ledger, open_device, read_content, read_keys, read_seed};
+use folder::{
+    Keys, LEDGER, keep_leaves, lock_ledger, open_device, read_content, read_kept, read_keys,
+    read_seed,
+};
 use hindrance::Hindrance;
 use layout::let_go;
 use leaf_ledger::FileDevice;
+use lms_sign::PrivateKey;
 use std::alloc::Global;
 use std::env;
 use std::io::{self, ErrorKind};
@@ -79,6 +83,22 @@ impl<'a, H: Net<Stream = TcpStream>> Connect<Socket> for Server<'a, H> {
     }
 }
 
+/// The user's own key: made of what was kept of its leaves; or drawn, and then its leaves are kept. That they can't be
+/// is no fault.
+fn own_key<H: Threads + Sync>(
+    rt: &HostRuntime,
+    host: &H,
+    folder: &str,
+    keys: &Keys,
+) -> Result<PrivateKey<Global>, Hindrance> {
+    if let Some(key) = read_kept(rt, folder, keys)? {
+        return Ok(key);
+    }
+    let key = drawn_key(host, rt.alloc(), keys.seed, keys.id)?;
+    let _ = keep_leaves(rt, folder, &key);
+    Ok(key)
+}
+
 /// The user's client.
 fn open_client<H: Threads + Sync>(
     rt: &HostRuntime,
@@ -87,9 +107,9 @@ fn open_client<H: Threads + Sync>(
     keys: &Keys,
 ) -> Result<OwnClient, Hindrance> {
     let alloc = rt.alloc();
-    let ledger = open_device(rt, line.dir, "ledger")?;
+    let ledger = open_device(rt, line.dir, LEDGER)?;
     let journal = open_device(rt, line.dir, "journal")?;
-    let key = drawn_key(host, alloc, keys.seed, keys.id)?;
+    let key = own_key(rt, host, line.dir, keys)?;
     match Client::open(alloc, line.user, key, keys.pinned, ledger, journal) {
         Ok(client) => Ok(client),
         Err((error, parts)) => {
@@ -159,7 +179,7 @@ fn carry_out<H: Net<Stream = TcpStream> + Threads + Sync>(
 }
 
 /// The own public key in hexadecimal digits.
-fn own_key<H: Threads + Sync>(
+fn own_key_digits<H: Threads + Sync>(
     rt: &HostRuntime,
     host: &H,
     line: &Line<'_>,
@@ -204,7 +224,7 @@ fn obey<H: Net<Stream = TcpStream> + Threads + Sync>(
     line: &Line<'_>,
 ) -> Result<Outcome, Hindrance> {
     let answer = match &line.wanted {
-        Wanted::Key => return Ok(Outcome::Key(own_key(rt, host, line)?)),
+        Wanted::Key => return Ok(Outcome::Key(own_key_digits(rt, host, line)?)),
         Wanted::Batch { stops } => {
             return Ok(Outcome::Ended(carry_out_batch(rt, host, line, *stops)?));
         }
