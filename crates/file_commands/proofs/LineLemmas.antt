@@ -1,14 +1,12 @@
 -- A whole line, and the answers of clap that it rests on.
-use Rattle.std.proofs.Common.{codes, subst, ◌≡◌, ◌∙◌, ℕ, true, List, [], ◌∷◌, Option, Some, None, Result, Ok, Err, refl, sym, ap, inl, inr}
+use Rattle.std.proofs.Common.{codes, subst, ◌≡◌, ◌∙◌, ℕ, true, List, [], ◌∷◌, Option, Some, None, Result, Ok, Err, refl, sym, ap}
 use Rattle.std.specs.Prelude.{option_map, unwrap_or}
-use Rattle.clap.specs.Words.{App, HasKind, HasMatchesOf, Kinds, Row, Text, fault_of, found_of, is_simple, is_simple_and_free, kind_of, matches_of, rows_of, subcommand_name_of, subcommand_of, subcommand_rows_of}
-use Rattle.clap.specs.declared.Error.{Error}
-use Rattle.clap.specs.declared.error.ErrorKind.TheVariants.{OutOfMemory}
+use Rattle.clap.specs.Words.{App, HasMatchesOf, Kinds, Row, Text, fault_of, found_of, is_simple, is_simple_and_free, matches_of, rows_of, subcommand_name_of, subcommand_of, subcommand_rows_of}
 use Rattle.clap.specs.declared.parser.ArgMatches.{ArgMatches}
 use Rattle.clap.proofs.OnLiterals.{clap_on_literals}
 use Rattle.clap.proofs.WalkLemmas.{both}
 use Rattle.file_commands.specs.Words.{line_app, sundr_app}
-use Rattle.file_commands.specs.Lines.{Order, Said, judged, line_in, user_in, order_met, text_in, IsFaultOf, IsWhy, IsErrorOf}
+use Rattle.file_commands.specs.Lines.{Order, judged, line_in, user_in, order_met, text_in, IsFaultOf, IsWhy, IsErrorOf}
 use Rattle.file_commands.specs.declared.line.LineError.{LineError}
 use Rattle.file_commands.specs.declared.line.LineError.TheVariants as error
 use Rattle.file_commands.specs.declared.reading.Unread.{Unread}

@@ -1,9 +1,9 @@
 -- The words of a line, a character after another.
-use Rattle.std.proofs.Common.{◌≡◌, ◌∙◌, ◌==◌, ℕ, Bool, true, false, List, [], ◌∷◌, ◌++◌, map, Option, Some, None, refl, sym, ap, subst, append_assoc}
+use Rattle.std.proofs.Common.{◌≡◌, ◌∙◌, ◌==◌, ℕ, true, false, List, [], ◌∷◌, ◌++◌, map, Option, Some, None, refl, sym, ap, subst, append_assoc}
 use Rattle.std.specs.Prelude.{option_map, string_bytes, encode_utf8}
-use Rattle.std.proofs.lemmas.List.{append-nil, map-append}
+use Rattle.std.proofs.lemmas.List.{append-nil}
 use Rattle.file_commands.specs.Splitting.{before, is_blank, is_escapable, split, with_text}
-use Rattle.file_commands.specs.Gathering.{Begins, Keeps, Reads, gathered, joined}
+use Rattle.file_commands.specs.Gathering.{Begins, Keeps, Reads, joined}
 use Rattle.file_commands.specs.declared.splitting.Place.{Place}
 use Rattle.file_commands.specs.declared.splitting.Place.TheVariants.{Between, Comment, Word, Escaped, Single, Double, DoubleEscaped}
 use Rattle.file_commands.specs.declared.splitting.Splitting.{Splitting}

@@ -8,7 +8,7 @@ use lms_sign::{PrivateKey, PublicKey};
 use pending_list::Signed;
 use std::alloc::Global;
 use tests_aids::numbers::{i_number, principal};
-use tests_aids::texts::{changed, key_of, listed, reply_to, shown};
+use tests_aids::texts::key_of;
 use tests_aids::{Aided, check, found, given};
 use update_cert::{Change, MOST_CHANGES};
 use version_order::Structure;
@@ -86,11 +86,6 @@ pub fn first_key(rt: &impl Aided) -> PublicKey {
     key_of(rt, 0).public()
 }
 
-/// The client of user 0, which knows its own key.
-pub fn superuser(rt: &impl Aided) -> MemoryClient {
-    client_of(rt, 0, 0)
-}
-
 /// What the client answers to the declaration of its next operation, of these changes, for which these texts were laid
 /// out.
 pub fn begun(
@@ -116,19 +111,6 @@ pub fn declare_changes(
     laid: Vec<Vec<u8>>,
 ) -> Vec<u8> {
     given(rt, begun(rt, client, &changes, &laid), "a certificate")
-}
-
-/// What the client answers to the declaration of its next operation, without changes.
-pub fn begun_without_changes(
-    rt: &impl Aided,
-    client: &mut MemoryClient,
-) -> Result<Vec<u8>, ClientError> {
-    begun(rt, client, &[], &[])
-}
-
-/// Declares the client's next operation, without changes.
-pub fn declare(rt: &impl Aided, client: &mut MemoryClient) -> Vec<u8> {
-    given(rt, begun_without_changes(rt, client), "a certificate")
 }
 
 /// Hands a reply to the client.
@@ -163,28 +145,6 @@ pub fn breaks(rt: &impl Aided, client: &mut MemoryClient, reply: &[u8], rule: Op
     }
 }
 
-/// The reply to the second certificate that shows this structure breaks the rule, or none.
-fn breaks_after(
-    rt: &impl Aided,
-    client: &mut MemoryClient,
-    update: &[u8],
-    last: &[u8],
-    rule: Option<Rule>,
-) {
-    let structures = listed(rt, &shown(rt, last));
-    breaks(rt, client, &reply_to(rt, &structures, 2, update), rule);
-}
-
-/// User 0's client refuses replies to its second certificate that show no structure, or another than its last one, and
-/// accepts one with it.
-pub fn knows_its_last(rt: &impl Aided, client: &mut MemoryClient, update: &[u8], last: &[u8]) {
-    let without = reply_to(rt, b"\0", 2, update);
-    breaks(rt, client, &without, Some(Rule::OwnLast));
-    let other = changed(rt, last);
-    breaks_after(rt, client, update, &other, Some(Rule::OwnLast));
-    breaks_after(rt, client, update, last, None);
-}
-
 /// What the client answers where it signs the structure over the accepted reply.
 pub fn signed(rt: &impl Aided, client: &mut MemoryClient) -> Result<Vec<u8>, ClientError> {
     if !client.ready() {
@@ -212,11 +172,6 @@ pub fn is_in(rt: &impl Aided, client: &MemoryClient, phase: Phase) {
     if found != phase {
         rt.fail(format_args!("{found:?} and not {phase:?}"));
     }
-}
-
-/// It has declared so many operations.
-pub fn has_number(rt: &impl Aided, client: &MemoryClient, number: u32) {
-    check(rt, client.number() == number, "the number");
 }
 
 /// The one structure in its view.

@@ -1,11 +1,11 @@
 //! A client whose devices fail, or crash, and one that is opened again.
 
-use crate::clients::{Kept, MemoryClient, has_number, is_in};
+use crate::clients::{Kept, MemoryClient, is_in};
 use client_verify::{ClientError, Parts, Phase};
 use leaf_ledger::MemoryDevice;
 use std::alloc::Global;
 use tests_aids::texts::joined;
-use tests_aids::{Aided, check, check_text};
+use tests_aids::{Aided, check};
 
 /// What a crash leaves of a device.
 #[derive(Clone, Copy)]
@@ -73,16 +73,4 @@ pub fn structure(rt: &impl Aided, client: &MemoryClient) -> Vec<u8> {
         rt.fail("nothing is signed");
     }
     joined(rt, &[client.signed()])
-}
-
-/// Its last operation has this number, and its certificate is this one.
-pub fn has_declared(rt: &impl Aided, client: &MemoryClient, number: u32, update: &[u8]) {
-    has_number(rt, client, number);
-    check_text(rt, &declared(rt, client), update);
-}
-
-/// Its last operation has this number, and its structure is this one.
-pub fn has_signed(rt: &impl Aided, client: &MemoryClient, number: u32, commit: &[u8]) {
-    has_number(rt, client, number);
-    check_text(rt, &structure(rt, client), commit);
 }

@@ -6,4 +6,3 @@ pub mod changes;
 pub mod clients;
 pub mod crashes;
 pub mod servers;
-pub mod three;
