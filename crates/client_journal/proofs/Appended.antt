@@ -1,19 +1,18 @@
 -- `append`: a record after a gate that isn't open, a sync, and then the gate.
-use Rattle.std.proofs.Common.{◌≡◌, inl, inr, ℕ, ◌+◌, ◌<◌, ◌^◌, List, [], ◌∷◌, ◌++◌, length, get_or, take, drop, true, Some, None, refl, sym, ◌∙◌, ap, subst, arith}
+use Rattle.std.proofs.Common.{◌≡◌, inl, inr, ℕ, ◌+◌, ◌<◌, ◌^◌, List, [], ◌∷◌, ◌++◌, length, get_or, take, drop, true, Some, None, is_some, IfSome, refl, sym, ◌∙◌, ap, subst, arith}
 use Rattle.std.proofs.lemmas.List.{append_assoc, append-nil, take_at, drop_at, take-take, drop-take, get_or-append-add, length-append}
 use Rattle.leaf_ledger.specs.Device.{Disk, History, Torn, Throughout, extent, at_rest, written, wrote_bytes, WroteSome, synced}
 use Rattle.leaf_ledger.specs.Moments.{along, weakened, some_put, all_put}
 use Rattle.leaf_ledger.specs.declared.extent.Extent.{Extent}
-use Rattle.client_journal.specs.Records.{Record, State, Idle, Declared, Signed, next_state, may_come, header, spelled, chain, Tells, TellsWithOrWithout, IsShort}
+use Rattle.client_journal.specs.Records.{Record, State, Idle, Declared, Signed, next_state, header, spelled, chain, MayCome, Tells, TellsWithOrWithout, IsShort}
 use Rattle.client_journal.specs.Places.{part, state_at, IsBelow, AreBelow, Reaches, Ends, IsReady, KeepsFront}
 use Rattle.client_journal.specs.declared.phase.Phase.{Phase}
 use Rattle.client_journal.specs.declared.phase.Phase.TheVariants as phase
-use Rattle.client_journal.specs.declared.kind.Kind.{Kind}
-use Rattle.client_journal.specs.declared.kind.Kind.TheVariants.{Certificate, Structure}
 use Rattle.client_journal.proofs.Headers.{length-header, length-spelled}
 use Rattle.client_journal.proofs.Chains.{state-push, short-push, chain-push, one_telling}
-use Rattle.client_journal.proofs.Reached.{below_later, split, ended}
+use Rattle.client_journal.proofs.Reached.{below_later, split, ended, told_once}
 use Rattle.client_journal.proofs.Staged.{more, kept_front, tells_staged, after_is, torn_gate, tells_after}
+use Rattle.client_journal.proofs.Turns.{there}
 
 -- the same bytes before a place, the same parts before it
 part_same : (a b : List ℕ) (end : ℕ) (e : Extent) → IsBelow end e → take end a ≡ take end b → part e a ≡ part e b
@@ -30,17 +29,8 @@ state_same a b end (phase.Declared (Some structure) certificate) below same =
     ∙ ap (λ (l : List ℕ). Declared (Some (part structure b)) l) (part_same a b end certificate below.1 same)
 state_same a b end (phase.Signed structure) below same = ap (λ (l : List ℕ). Signed l) (part_same a b end structure below same)
 
--- a record that may come isn't out of turn
-pub not_out : (s : State) (kind : Kind) (text : List ℕ) → may_come kind s ≡ true → next_state s kind text ≡ None → ⊥
-not_out Idle Certificate text may out = absurd (cc out)
-not_out Idle Structure text may out = absurd (cc may)
-not_out (Declared last certificate) Certificate text may out = absurd (cc may)
-not_out (Declared last certificate) Structure text may out = absurd (cc out)
-not_out (Signed structure) Certificate text may out = absurd (cc out)
-not_out (Signed structure) Structure text may out = absurd (cc may)
-
-module _ (old : History) (gate : ℕ) (at : Phase) (ready : IsReady old.now gate at) (r : Record) (next : Phase) (small : IsShort r)
-    (leads : (file : List ℕ) → next_state (state_at file at) r.kind (part (extent (gate + 1 + 5) (length r.text)) file) ≡ Some (state_at file next))
+module _ (old : History) (gate : ℕ) (at : Phase) (ready : IsReady old.now gate at) (r : Record) (next : Phase) (small : IsShort r) (turn : MayCome r old.now.text)
+    (leads : (file : List ℕ) → IfSome (next_state (state_at file at) r.kind (part (extent (gate + 1 + 5) (length r.text)) file)) (λ s. s ≡ state_at file next))
     (below : (end : ℕ) → AreBelow end at → IsBelow end (extent (gate + 1 + 5) (length r.text)) → AreBelow end next) where
   abbrev file : List ℕ
   file = old.now.text
@@ -103,9 +93,15 @@ module _ (old : History) (gate : ℕ) (at : Phase) (ready : IsReady old.now gate
       long = omega (arith, reaches.size, length-append (chain rs) (1 ∷ header r.kind (length r.text)), length-header r.kind (length r.text))
 
   in_turn : next_state state r.kind r.text ≡ Some (state_at new_file next)
-  in_turn =
-      sym (ap (λ (s : State). next_state s r.kind (part place new_file)) (state_same new_file file gate at reaches.below same_front) ∙ ap (λ (l : List ℕ). next_state state r.kind l) text_there)
-      ∙ leads new_file
+  in_turn = there (next_state state r.kind r.text) (state_at new_file next) may said
+    where
+      may : is_some (next_state state r.kind r.text) ≡ true
+      may = subst (λ (s : State). is_some (next_state s r.kind r.text) ≡ true) (told_once file gate at turn.state ready.ends turn.tells) turn.in_turn
+
+      said : IfSome (next_state state r.kind r.text) (λ s. s ≡ state_at new_file next)
+      said =
+          subst (λ (x : State). IfSome (next_state x r.kind r.text) (λ s. s ≡ state_at new_file next)) (state_same new_file file gate at reaches.below same_front)
+          (subst (λ (l : List ℕ). IfSome (next_state (state_at new_file at) r.kind l) (λ s. s ≡ state_at new_file next)) text_there (leads new_file))
 
   abbrev P : List ℕ → Type 0
   P = TellsWithOrWithout rs r

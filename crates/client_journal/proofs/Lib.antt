@@ -7,3 +7,4 @@ pub mod Lives
 mod Opened
 mod Reached
 mod Staged
+mod Turns

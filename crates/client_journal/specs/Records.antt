@@ -1,8 +1,9 @@
 -- Records of a journal, the state that they tell, and the file that has them.
 -- The bytes stand in docs/FORMATS.md.
-use Rattle.std.specs.Prelude.{◌≡◌, ◌≢◌, ◌⊎◌, ℕ, ◌+◌, ◌<◌, ◌≤◌, ◌^◌, Bool, true, false, List, [], ◌∷◌, ◌++◌, length, take, drop, Option, Some, None, ◌==◌, if◌then◌else◌}
+use Rattle.std.specs.Prelude.{◌≡◌, ◌≢◌, ◌⊎◌, ℕ, ◌+◌, ◌-◌, ◌<◌, ◌≤◌, ◌^◌, Bool, ◌&&◌, nat_lt, List, [], ◌∷◌, ◌++◌, length, take, drop, Option, Some, None, IsSome, ◌==◌, if◌then◌else◌}
 use Rattle.std.specs.Int.{w32, to_be_bytes, from_be_bytes}
 use Rattle.std.specs.Option.{option_and_then}
+use Rattle.std.specs.Str.{bytes_eq}
 use Rattle.layout.specs.Types.{Bytes}
 use Rattle.leaf_ledger.specs.Device.{History, MayLeave, IsAtMostSynced}
 use Rattle.client_journal.specs.declared.kind.Kind.{Kind}
@@ -20,12 +21,26 @@ pub data State : Type 0 where
   Declared : Option Bytes → Bytes → State
   Signed : Bytes → State
 
--- the state after a record of this kind and text: a certificate follows nothing or a structure, and a structure follows
--- a certificate, else the record is out of turn
+-- the size of the signature at the end of a text
+abbrev pub signature_size : ℕ
+signature_size = 2508
+
+-- the text that was signed
+abbrev pub unsigned : Bytes → Bytes
+unsigned text = take (length text - signature_size) text
+
+-- two texts, each longer than a signature, of which the same was signed
+unfoldable pub same_unsigned : Bytes → Bytes → Bool
+same_unsigned a b =
+    nat_lt signature_size (length a) && nat_lt signature_size (length b) && bytes_eq (unsigned a) (unsigned b)
+
+-- the state after a record of this kind and text: a certificate follows nothing, a structure, or the same certificate
+-- signed once more, and a structure follows a certificate, else the record is out of turn
 abbrev pub next_state : State → Kind → Bytes → Option State
 next_state Idle Certificate text = Some (Declared None text)
 next_state Idle Structure text = None
-next_state (Declared last certificate) Certificate text = None
+next_state (Declared last certificate) Certificate text =
+    if same_unsigned certificate text then Some (Declared last text) else None
 next_state (Declared last certificate) Structure text = Some (Signed text)
 next_state (Signed structure) Certificate text = Some (Declared (Some structure) text)
 next_state (Signed structure) Structure text = None
@@ -37,15 +52,6 @@ state_after state (r ∷ rs) = option_and_then (λ next. state_after next rs) (n
 
 abbrev pub state_of : List Record → Option State
 state_of rs = state_after Idle rs
-
--- whether a record of this kind may come next in this state
-abbrev pub may_come : Kind → State → Bool
-may_come Certificate Idle = true
-may_come Certificate (Declared last certificate) = false
-may_come Certificate (Signed structure) = true
-may_come Structure Idle = false
-may_come Structure (Declared last certificate) = true
-may_come Structure (Signed structure) = false
 
 -- ---- the file
 
@@ -142,11 +148,11 @@ pub record TellsState (state : State) (file : Bytes) : Type 0 where
   pub tells : Tells records file
   pub leads : state_of records ≡ Some state
 
--- a record of this kind may come after those of the file
-pub record MayCome (kind : Kind) (file : Bytes) : Type 0 where
+-- the record may come after those of the file: it isn't out of turn
+pub record MayCome (r : Record) (file : Bytes) : Type 0 where
   pub state : State
   pub tells : TellsState state file
-  pub may : may_come kind state ≡ true
+  pub in_turn : IsSome (next_state state r.kind r.text)
 
 -- the records are these, or these and one more
 abbrev pub TellsWithOrWithout : List Record → Record → Bytes → Type 0

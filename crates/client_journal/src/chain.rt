@@ -11,6 +11,7 @@ use crate::error::JournalError;
 use crate::kind::Kind;
 use crate::phase::Phase;
 use crate::record::{HEADER_SIZE, read_header};
+use crate::turn::is_in_turn;
 use leaf_ledger::{Device, DeviceError, Extent, write_through};
 
 /// A gate that is open: a record stands after it.
@@ -107,13 +108,15 @@ fn advance<D: Device>(device: &mut D, size: usize, end: End) -> Result<Option<En
         return Ok(None);
     }
     match record_after(device, end.gate + 1, size) {
-        Ok((kind, text)) => match end.phase.after(kind, text) {
-            Some(phase) => Ok(Some(End {
+        Ok((kind, text)) => {
+            if !is_in_turn(device, end.phase, kind, text)? {
+                return Err(JournalError::Damaged);
+            }
+            Ok(Some(End {
                 gate: text.at + text.size,
-                phase,
-            })),
-            None => Err(JournalError::Damaged),
-        },
+                phase: end.phase.after(kind, text),
+            }))
+        }
         Err(error) => Err(error),
     }
 }

@@ -1,6 +1,7 @@
 //! Journals.
 
 ghost use Rattle.std.specs.Prelude.{◌≡◌, ◌≢◌, ◌≤◌, List, [], ◌∷◌, ◌++◌, true, false, IfOk, IfErr, OnOk, OnErr, IsErrOf};
+ghost use Rattle.layout.specs.Types.{Bytes};
 ghost use Rattle.leaf_ledger.specs.Device.{at_rest, written, Leaves, Throughout, HasRisen};
 ghost use Rattle.client_journal.specs.Told.{state_of_held};
 ghost use Rattle.client_journal.specs.Records.{Record as PureRecord, Idle, closed_gate, chain, Tells, TellsState};
@@ -88,7 +89,7 @@ impl<D: Device> Journal<D> {
     /// Adds a record. From Ok on it is there, whatever crash comes. It takes no memory.
     pub fn append(&mut self, added: Record<'_>) -> Result<(), JournalError>
         requires usable { self.old.usable ≡ true }
-        requires turn { MayCome added.kind self.old.file.now.text }
+        requires turn { MayCome added self.old.file.now.text }
         requires short { IsShort added }
         // While it runs, a crash leaves the records before, with the new one or without.
         ensures any_moment { (rs : List PureRecord) → Tells rs self.old.file.now.text
@@ -115,9 +116,7 @@ impl<D: Device> Journal<D> {
             at: gate + 1 + HEADER_SIZE,
             size: added.text.len(),
         };
-        let Some(phase) = phase.after(added.kind, text) else {
-            unreachable!();
-        };
+        let phase = phase.after(added.kind, text);
         self.usable = false;
         stage(&mut self.device, gate + 1, &added)?;
         write_through(&mut self.device, gate, &[OPEN])?;
@@ -154,10 +153,10 @@ impl<D: Device> Journal<D> {
         }
     }
 
-    /// The kind of the record that comes next.
+    /// A kind of which a record may come next, whatever its text is.
     pub fn next(&self) -> Kind
         requires { self.now.usable ≡ true }
-        ensures { MayCome result self.now.file.now.text }
+        ensures { (text : Bytes) → MayCome (record { kind = result; text = text }) self.now.file.now.text }
     {
         self.end.phase.next()
     }

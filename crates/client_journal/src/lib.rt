@@ -14,6 +14,7 @@ mod phase;
 mod record;
 mod staging;
 mod state;
+mod turn;
 
 pub use error::JournalError;
 pub use journal::Journal;

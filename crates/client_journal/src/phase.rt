@@ -1,9 +1,9 @@
 //! Where the texts of a journal's state lie in its file.
 
-ghost use Rattle.std.specs.Prelude.{◌≡◌, ℕ, IfSome, IfNone, Some, None, true};
+ghost use Rattle.std.specs.Prelude.{◌≡◌, ℕ, IfSome, IsSome};
 ghost use Rattle.layout.specs.Types.{Bytes};
 ghost use Rattle.client_journal.specs.Places.{part, state_at, IsBelow, AreBelow};
-ghost use Rattle.client_journal.specs.Records.{next_state, may_come};
+ghost use Rattle.client_journal.specs.Records.{next_state};
 
 use crate::kind::Kind;
 use leaf_ledger::Extent;
@@ -20,29 +20,23 @@ pub(crate) enum Phase {
 }
 
 impl Phase {
-    /// The state after one record more, whose text lies there, unless it is out of turn.
-    pub(crate) fn after(self, kind: Kind, text: Extent) -> Option<Phase>
-        ensures next { IfSome result (λ phase. (file : Bytes)
-            → next_state (state_at file self) kind (part text file) ≡ Some (state_at file phase)) }
-        ensures out_of_turn { IfNone result ((file : Bytes)
-            → next_state (state_at file self) kind (part text file) ≡ None) }
-        ensures below { IfSome result (λ phase. (end : ℕ)
-            → AreBelow end self → IsBelow end text → AreBelow end phase) }
+    /// The state after one record more, whose text lies there, if that is in turn.
+    pub(crate) fn after(self, kind: Kind, text: Extent) -> Phase
+        ensures next { (file : Bytes) → IfSome (next_state (state_at file self) kind (part text file))
+            (λ next. next ≡ state_at file result) }
+        ensures below { (end : ℕ) → AreBelow end self → IsBelow end text → AreBelow end result }
     {
         match (self, kind) {
-            (Phase::Idle, Kind::Certificate) => Some(Phase::Declared(None, text)),
-            (Phase::Signed(structure), Kind::Certificate) => {
-                Some(Phase::Declared(Some(structure), text))
-            }
-            (Phase::Declared(_, _), Kind::Structure) => Some(Phase::Signed(text)),
-            (Phase::Idle | Phase::Signed(_), Kind::Structure)
-            | (Phase::Declared(_, _), Kind::Certificate) => None,
+            (Phase::Idle, Kind::Certificate) => Phase::Declared(None, text),
+            (Phase::Declared(last, _), Kind::Certificate) => Phase::Declared(last, text),
+            (Phase::Signed(structure), Kind::Certificate) => Phase::Declared(Some(structure), text),
+            (_, Kind::Structure) => Phase::Signed(text),
         }
     }
 
-    /// The kind of the record that comes next.
+    /// A kind of which a record may come next, whatever its text is.
     pub(crate) fn next(self) -> Kind
-        ensures { (file : Bytes) → may_come result (state_at file self) ≡ true }
+        ensures { (file text : Bytes) → IsSome (next_state (state_at file self) result text) }
     {
         match self {
             Phase::Idle | Phase::Signed(_) => Kind::Certificate,

@@ -1,10 +1,9 @@
 -- What is true of a client at all times: kept by each of its calls.
-use Rattle.std.proofs.Common.{◌≡◌, ℕ, List, [], ◌∷◌, ◌++◌, Option, Some, None, true, refl, sym, ◌∙◌, ap, subst, inl, inr}
+use Rattle.std.proofs.Common.{◌≡◌, ℕ, List, [], ◌∷◌, ◌++◌, Option, Some, None, IsSome, true, refl, sym, ◌∙◌, ap, subst, inl, inr}
 use Rattle.leaf_ledger.specs.Device.{Disk, at_rest}
 use Rattle.leaf_ledger.specs.Ledger.{IsFileOf, LeafNumber, with_mark}
 use Rattle.client_journal.proofs.Chains.{state-push}
-use Rattle.client_journal.specs.Records.{State as Recorded, Idle, Declared, Signed as Ended, MayCome, Record, TellsState, may_come, next_state}
-use Rattle.client_journal.specs.declared.kind.Kind.{Kind}
+use Rattle.client_journal.specs.Records.{State as Recorded, Idle, MayCome, Record, TellsState, next_state}
 use Rattle.client_journal.specs.declared.kind.Kind.TheVariants as kind
 use Rattle.version_order.specs.Structure.{Structure}
 use Rattle.update_cert.specs.Cert.{Cert}
@@ -19,13 +18,9 @@ abbrev pub told_with : ℕ → Option (Signed Structure) → Phase → List ℕ 
 told_with n last how text = record { number = n; last = last; phase = how; text = text }
 
 -- the state after a record that may come
-pub next_of : (s : Recorded) (k : Kind) (text : List ℕ) → may_come k s ≡ true → (next : Recorded) × (next_state s k text ≡ Some next)
-next_of Idle kind.Certificate text may = (Declared None text, refl)
-next_of Idle kind.Structure text may = absurd (cc may)
-next_of (Declared last certificate) kind.Certificate text may = absurd (cc may)
-next_of (Declared last certificate) kind.Structure text may = (Ended text, refl)
-next_of (Ended structure) kind.Certificate text may = (Declared (Some structure) text, refl)
-next_of (Ended structure) kind.Structure text may = absurd (cc may)
+pub next_of : (o : Option Recorded) → IsSome o → (next : Recorded) × (o ≡ Some next)
+next_of None may = absurd (cc may)
+next_of (Some next) may = (next, refl)
 
 -- a disk that rests with some text rests with its own
 pub rests_so : (d : Disk) (text : List ℕ) → d ≡ at_rest text → d ≡ at_rest d.text
@@ -42,17 +37,17 @@ pub stands_signed : (r : Released) → IsReleased r → r.phase ≡ phase.Signed
 stands_signed r is now = is.stands (λ failed. let two : phase.Failed ≡ phase.Signed = sym failed ∙ now in cc two)
 
 -- the record that comes next
-pub cert_may : (r : Released) (s : Stands r) → r.phase ≡ phase.Idle → may_come kind.Certificate s.recorded ≡ true
+pub cert_may : (r : Released) (s : Stands r) → r.phase ≡ phase.Idle → (text : List ℕ) → IsSome (next_state s.recorded kind.Certificate text)
 cert_may r s now = idle_may r.user s.recorded (told_of s.told_phase r) s.told (subst (λ (p : Phase). IsPhase s.told_phase p) now s.is_phase)
 
-pub structure_may : (r : Released) (s : Stands r) → r.phase ≡ phase.Declared → may_come kind.Structure s.recorded ≡ true
+pub structure_may : (r : Released) (s : Stands r) → r.phase ≡ phase.Declared → (text : List ℕ) → IsSome (next_state s.recorded kind.Structure text)
 structure_may r s now = declared_may r.user s.recorded (told_of s.told_phase r) s.told (subst (λ (p : Phase). IsPhase s.told_phase p) now s.is_phase)
 
-pub cert_turn : (r : Released) (s : Stands r) → r.phase ≡ phase.Idle → MayCome kind.Certificate r.devices.journal.file.now.text
-cert_turn r s now = record { state = s.recorded; tells = s.tells; may = cert_may r s now }
+pub cert_turn : (r : Released) (s : Stands r) → r.phase ≡ phase.Idle → (text : List ℕ) → MayCome (cert_record text) r.devices.journal.file.now.text
+cert_turn r s now text = record { state = s.recorded; tells = s.tells; in_turn = cert_may r s now text }
 
-pub structure_turn : (r : Released) (s : Stands r) → r.phase ≡ phase.Declared → MayCome kind.Structure r.devices.journal.file.now.text
-structure_turn r s now = record { state = s.recorded; tells = s.tells; may = structure_may r s now }
+pub structure_turn : (r : Released) (s : Stands r) → r.phase ≡ phase.Declared → (text : List ℕ) → MayCome (structure_record text) r.devices.journal.file.now.text
+structure_turn r s now text = record { state = s.recorded; tells = s.tells; in_turn = structure_may r s now text }
 
 -- one record more, which leads to this state
 tells_next : (leaf : LeafNumber) (x : Record) (old new : Devices) (s next : Recorded) → IsKept leaf x old new → TellsState s old.journal.file.now.text → next_state s x.kind x.text ≡ Some next
@@ -89,7 +84,7 @@ module _ (r : Released) (is : IsReleased r) (new : Devices) (usable : new.ledger
       s = stands_idle r is idle
 
       next : (x : Recorded) × (next_state s.recorded kind.Certificate text ≡ Some x)
-      next = next_of s.recorded kind.Certificate text (cert_may r s idle)
+      next = next_of (next_state s.recorded kind.Certificate text) (cert_may r s idle text)
 
   -- after a structure
   pub after_sign : IsKept leaf (structure_record text) r.devices new → r.phase ≡ phase.Declared → (z : Signed Structure) → structure_in r.user text ≡ Some z → n ≡ z.value.plan.number
@@ -115,7 +110,7 @@ module _ (r : Released) (is : IsReleased r) (new : Devices) (usable : new.ledger
       s = stands_declared r is declared
 
       next : (x : Recorded) × (next_state s.recorded kind.Structure text ≡ Some x)
-      next = next_of s.recorded kind.Structure text (structure_may r s declared)
+      next = next_of (next_state s.recorded kind.Structure text) (structure_may r s declared text)
 
 -- after a device failed
 pub after_fault : (r : Released) → IsReleased r → (new : Devices) → new.ledger.key ≡ r.devices.ledger.key → new.ledger.outstanding ≡ 0

@@ -1,6 +1,7 @@
 //! A text is signed by a leaf of the ledger and put into the journal, before anybody sees it.
 
 ghost use Rattle.std.specs.Prelude.{◌≡◌, ◌+◌, ◌<◌, ◌^◌, ◌++◌, length, true, IfErr, IfOk, OnErr};
+ghost use Rattle.layout.specs.Types.{Bytes};
 ghost use Rattle.lms_sign.specs.Keys.{public_key_of};
 ghost use Rattle.lms_sign.specs.Signature.{signature_of};
 ghost use Rattle.pending_list.specs.Signed.{signature as signature_format};
@@ -32,7 +33,8 @@ pub(crate) fn keep<L: Device, J: Device, A: Allocator>(
     requires free { IsUsedUp key.now ledger.old → ⊥ }
     requires journal_usable { journal.old.usable ≡ true }
     requires journal_rests { journal.old.file.now ≡ at_rest journal.old.file.now.text }
-    requires turn { MayCome kind journal.old.file.now.text }
+    requires turn { (signature : Bytes) → signature_format.Fits signature
+        → MayCome (record { kind = kind; text = unsigned ++ signature }) journal.old.file.now.text }
     requires short { length unsigned + SIGNATURE_SIZE < 2 ^ 32 }
     ensures kept { IfOk result (λ s. (leaf : LeafNumber)
         × (s.signature ≡ signature_of key.now leaf unsigned) × (s.kept.items ≡ unsigned ++ s.signature)

@@ -1,5 +1,4 @@
-use Rattle.std.proofs.Common.{◌≤◌, Result, Ok, Err, OnErr, length, ◌∙◌, ap, arith}
-use Rattle.leaf_ledger.specs.Device.{History}
+use Rattle.std.proofs.Common.{◌≤◌, Result, Ok, Err, OnErr, length, ◌∙◌, arith}
 use Rattle.client_journal.proofs.Opened.{at_most_synced, still_new, synced_once, gate_failed, new_failed, gate_there, gate_written, tells_before, new_ready}
 use Rattle.client_journal.proofs.chain.find_end.Goals as goal
 

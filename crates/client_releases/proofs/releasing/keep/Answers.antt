@@ -4,6 +4,7 @@ use Rattle.lms_sign.specs.Signature.{signature_of}
 use Rattle.leaf_ledger.specs.Device.{History}
 use Rattle.leaf_ledger.specs.Ledger.{IsFileOf, LedgerState}
 use Rattle.pending_list.specs.Signed.{signature}
+use Rattle.client_journal.specs.Records.{MayCome}
 use Rattle.client_journal.specs.declared.error.JournalError.TheVariants as journal
 use Rattle.client_releases.specs.Errors.{of_ledger, of_journal}
 use Rattle.client_releases.proofs.Keeping.{device_only, entry, kept_now, not_taken, not_tried, short_with, taken, tried_one}
@@ -20,7 +21,9 @@ pub append-requires-clause-short : goal.append-requires-clause-short
 append-requires-clause-short g c = short_with c.deref.result.now c.args.unsigned c.from_bytes.result (c.deref.ensures.value ∙ c.sealed-sealed.ensures.kept) c.sealed-sealed.ensures.fits.0 c.requires.short
 
 pub append-requires-clause-turn : goal.append-requires-clause-turn
-append-requires-clause-turn g c = c.requires.turn
+append-requires-clause-turn g c =
+    subst (λ (t : List ℕ). MayCome (entry c.args.kind t) c.args.journal.now.file.now.text) (sym (c.deref.ensures.value ∙ c.sealed-sealed.ensures.kept))
+    (c.requires.turn c.from_bytes.result c.sealed-sealed.ensures.fits)
 
 pub append-requires-clause-usable : goal.append-requires-clause-usable
 append-requires-clause-usable g c = c.requires.journal_usable

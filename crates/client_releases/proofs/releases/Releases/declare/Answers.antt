@@ -1,4 +1,4 @@
-use Rattle.std.proofs.Common.{◌∙◌, length, sym, ap, subst, arith}
+use Rattle.std.proofs.Common.{◌∙◌, ◌++◌, length, sym, ap, subst, arith}
 use Rattle.client_journal.specs.declared.kind.Kind.TheVariants as kind
 use Rattle.update_cert.specs.CertLaws.{at_most_cert}
 use Rattle.client_releases.specs.Releasing.{IsUsedUp}
@@ -27,9 +27,9 @@ pub keep-requires-clause-journal_rests : goal.keep-requires-clause-journal_rests
 keep-requires-clause-journal_rests g c = (stands_idle _ c.self.invariant (ap (λ (r : Released). r.phase) c.self.view_is ∙ c.requires.idle)).journal_rests
 
 pub keep-requires-clause-turn : goal.keep-requires-clause-turn
-keep-requires-clause-turn g c =
+keep-requires-clause-turn g c signature fits =
     let now = ap (λ (r : Released). r.phase) c.self.view_is ∙ c.requires.idle in
-    cert_turn _ (stands_idle _ c.self.invariant now) now
+    cert_turn _ (stands_idle _ c.self.invariant now) now (c.args.unsigned ++ signature)
 
 pub keep-requires-clause-short : goal.keep-requires-clause-short
 keep-requires-clause-short g c =
