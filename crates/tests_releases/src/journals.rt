@@ -6,7 +6,7 @@ use leaf_ledger::{Device, MemoryDevice};
 use std::alloc::Global;
 
 /// The state that the file on a device tells, and the device.
-fn state_of(
+pub(crate) fn state_of(
     alloc: Global,
     device: MemoryDevice<Global>,
 ) -> (

@@ -12,3 +12,5 @@ mod journals;
 mod ledgers;
 #[cfg(test)]
 mod releases;
+#[cfg(test)]
+mod signed_again;
