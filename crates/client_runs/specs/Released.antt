@@ -11,6 +11,7 @@ use Rattle.update_cert.specs.Cert.{cert}
 use Rattle.pending_list.specs.declared.signed.Signed.{Signed}
 use Rattle.pending_list.specs.Reply.{PendingItem, Reply}
 use Rattle.client_tree.specs.Genesis.{first_texts}
+use Rattle.client_journal.specs.Records.{unsigned}
 use Rattle.client_releases.specs.declared.error.ClientError.{ClientError}
 use Rattle.client_releases.specs.declared.error.ClientError.TheVariants as error
 use Rattle.client_releases.specs.declared.phase.Phase.{Phase}
@@ -18,7 +19,7 @@ use Rattle.client_releases.specs.declared.phase.Phase.TheVariants as phase
 use Rattle.client_verify.specs.declared.step.Step.TheVariants as step
 use Rattle.reply_check.specs.FirstBroken.{reply_in}
 use Rattle.agreement.specs.Runs.{View}
-use Rattle.release_runs.specs.Released.{found_text, unsigned}
+use Rattle.release_runs.specs.Released.{found_text}
 use Rattle.client_verify.specs.State.{Ready, State, next_structure}
 use Rattle.client_steps.specs.Steps.{Asks, Call, Opens, Begins, Hears, Takes, Signs, Gives, Client, Closed, Open}
 use Rattle.client_runs.specs.Runs.{Event, Keys, client_of, pinned}

@@ -17,7 +17,7 @@ use Rattle.pending_list.specs.declared.signed.Signed.{Signed}
 use Rattle.client_releases.specs.Told.{cert_in}
 use Rattle.agreement.proofs.Formed.{same_spelled}
 use Rattle.agreement.proofs.Members.{In, contains_in, in-map, in_contains}
-use Rattle.release_runs.specs.Released.{unsigned}
+use Rattle.client_journal.specs.Records.{unsigned}
 use Rattle.release_runs.specs.Steps as low
 use Rattle.release_runs.proofs.Once.{came}
 use Rattle.release_runs.proofs.Stories.{OfCert, OfStructure, Release, cert_of, message, text as release_text}

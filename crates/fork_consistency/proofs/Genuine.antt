@@ -10,7 +10,7 @@ use Rattle.update_cert.specs.Cert.{cert}
 use Rattle.client_releases.specs.Told.{cert_in}
 use Rattle.agreement.proofs.Formed.{same_spelled}
 use Rattle.agreement.proofs.Members.{In, contains_in, in-append, in-map, in-right, in_contains, map-in, of_all, to_all}
-use Rattle.release_runs.specs.Released.{unsigned}
+use Rattle.client_journal.specs.Records.{unsigned}
 use Rattle.release_runs.specs.Steps as low
 use Rattle.release_runs.proofs.Once.{came}
 use Rattle.release_runs.proofs.Stories.{IsStory, OfCert, OfStructure, Release, cert_of, message, text as release_text}

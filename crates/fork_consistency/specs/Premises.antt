@@ -10,7 +10,7 @@ use Rattle.update_cert.specs.Change.{Action, AddUser, SetKey}
 use Rattle.update_cert.specs.Cert.{cert}
 use Rattle.client_releases.specs.Told.{cert_in}
 use Rattle.agreement.specs.Lines.{line}
-use Rattle.release_runs.specs.Released.{unsigned}
+use Rattle.client_journal.specs.Records.{unsigned}
 use Rattle.client_runs.specs.Runs.{Event, IsOwnKey, IsRun, Keys, pinned}
 use Rattle.client_runs.specs.Released.{Shown, hashed, released, shown_by, views}
 use Rattle.client_runs.specs.UsedOnce.{LeavesOnce}

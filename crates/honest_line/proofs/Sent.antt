@@ -11,7 +11,7 @@ use Rattle.pending_list.specs.Signed.{signed}
 use Rattle.client_releases.specs.declared.phase.Phase.{Phase}
 use Rattle.client_releases.specs.declared.phase.Phase.TheVariants as phase
 use Rattle.client_releases.specs.Told.{IsPhase}
-use Rattle.release_runs.specs.Released.{unsigned}
+use Rattle.client_journal.specs.Records.{unsigned}
 use Rattle.release_runs.specs.Runs as low_run
 use Rattle.release_runs.specs.Steps as low
 use Rattle.release_runs.proofs.Runs.{HoldsSome, holds}

@@ -25,8 +25,9 @@ use Rattle.update_cert.specs.Cert.{Cert, cert, changes}
 use Rattle.update_cert.specs.CertLaws.{lawful_cert}
 use Rattle.pending_list.specs.declared.signed.Signed.{Signed}
 use Rattle.pending_list.specs.Signed.{signature, signed}
+use Rattle.client_journal.specs.Records.{unsigned}
 use Rattle.client_releases.specs.Told.{cert_in, own_in, structure_in}
-use Rattle.release_runs.specs.Released.{leaf_in, signature_in, unsigned}
+use Rattle.release_runs.specs.Released.{leaf_in, signature_in}
 
 -- ---- the parts of a text with its signature
 

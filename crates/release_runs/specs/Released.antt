@@ -1,19 +1,13 @@
 -- The texts that a client releases in a run.
-use Rattle.std.specs.Prelude.{ℕ, ◌-◌, List, [], ◌∷◌, ◌++◌, Ok, length, take, drop}
+use Rattle.std.specs.Prelude.{◌-◌, List, [], ◌∷◌, ◌++◌, Ok, length, drop}
 use Rattle.layout.specs.Types.{Bytes}
 use Rattle.lms_sign.specs.Signature.{leaf_of}
 use Rattle.leaf_ledger.specs.Ledger.{LeafNumber}
+use Rattle.client_journal.specs.Records.{signature_size}
 use Rattle.release_runs.specs.Steps.{Call, Client, Closed, Declares, Open, Opens, Signs}
 use Rattle.release_runs.specs.Runs.{Event}
 
--- the size of a signature
-abbrev pub signature_size : ℕ
-signature_size = 2508
-
 -- a released text has its signature at its end
-abbrev pub unsigned : Bytes → Bytes
-unsigned text = take (length text - signature_size) text
-
 abbrev pub signature_in : Bytes → Bytes
 signature_in text = drop (length text - signature_size) text
 
