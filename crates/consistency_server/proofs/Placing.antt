@@ -12,14 +12,16 @@ use Rattle.version_order.specs.declared.vector.Component.{Component}
 use Rattle.version_order.specs.declared.plan.Entry.{Entry}
 use Rattle.version_order.specs.Vector.{version_of, raised, raised_all, can_raise_all}
 use Rattle.version_order.specs.Plan.{Plan, entry_of}
+use Rattle.version_order.specs.Structure.{Structure}
 use Rattle.update_cert.specs.Cert.{Cert, cert, digest_of}
 use Rattle.pending_list.specs.declared.signed.Signed.{Signed}
 use Rattle.pending_list.specs.Reply.{PendingItem, digest_of_last, reply}
-use Rattle.principals.specs.Table.{Table, key_of}
+use Rattle.principals.specs.Table.{Listing, Table, key_of, listing_of, lists_user, since}
+use Rattle.principals.proofs.Users.{lists_is}
 use Rattle.wire.specs.declared.kinds.Status.TheVariants as status
 use Rattle.consistency_server.specs.Event.{Placed, users_below}
 use Rattle.consistency_server.specs.State.{State, Placement, after_operation, next_groups, next_vector, pending_of, entries_of, next_plan, next_item, next_reply, next_placement}
-use Rattle.consistency_server.specs.Answers.{Refused, Happens, structure_of, cert_of, is_next, at_limit, placing, verified_update, read_update}
+use Rattle.consistency_server.specs.Answers.{Refused, Happens, structure_of, cert_of, committing, is_next, at_limit, placing, read_commit, update_beside, verified_update, verifies}
 use Rattle.consistency_server.specs.Judged.{IsNext, table_or}
 use Rattle.consistency_server.proofs.Rows.{find_holds, no_users, more, keys_below}
 
@@ -81,10 +83,13 @@ module _ (state : State) (c : Cert) (u n : ℕ) (d gs : List ℕ) (v : List Comp
       ap (λ (k : ℕ). not (can_raise_all (k ∷ gs) v)) eu ∙ ap (λ (k : List ℕ). not (can_raise_all (c.user ∷ k) v)) eg
       ∙ ap (λ (k : List Component). not (can_raise_all (c.user ∷ next_groups state.table state.vector c) k)) ev
 
--- a certificate that was read, of a user who is listed and signed it
-pub signed_update : (state : State) (c : Signed Cert) (key : List ℕ) (r : Result (Signed Cert) ReadError) → r ≡ Ok c → key_of c.value.user state.table ≡ Some key → valid key (cert.spell c.value) c.signature ≡ true → read_update state r ≡ placing state c
-signed_update state c key r read known true' =
-    ap (read_update state) read ∙ ap (verified_update state c) known ∙ ap (λ b. cond b (placing state c) (Refused status.BadSignature)) true'
+-- a certificate that isn't pending, of a user who is listed and signed it
+pub signed_update : (state : State) (c : Signed Cert) (key : List ℕ) → key_of c.value.user state.table ≡ Some key → valid key (cert.spell c.value) c.signature ≡ true → update_beside None state c ≡ placing state c
+signed_update state c key known true' = ap (verified_update state c) known ∙ ap (λ b. cond b (placing state c) (Refused status.BadSignature)) true'
+
+-- a structure that was read, of a user who is listed and signed it
+pub signed_commit : (state : State) (s : Signed Structure) (r : Result (Signed Structure) ReadError) → r ≡ Ok s → lists_user state.table s.value.plan.user ≡ true → verifies state.table s ≡ true → read_commit state r ≡ committing state s
+signed_commit state s r read listed signed = ap (read_commit state) read ∙ rw (listed, signed) refl
 
 pub placed_judged : (state : State) (found : Signed Cert) (t : Option Table) (v : List Component) (w : Placement) (payload : List ℕ) → cert.Fits found.value → pending_of found.value.user state.pending ≡ None
     → table_or t state.table ≡ after_operation found.value state.table → v ≡ next_vector state.table state.vector found.value → w.item ≡ next_item state found → w.reply ≡ reply.spell (next_reply state found) → payload ≡ w.reply
@@ -106,3 +111,11 @@ placed_judged state found t v w payload fits free table vector item text same =
 pub table_made : (after : Option Table) (kept new : Table) → IfSome after (λ t. t ≡ new) → (IsNone after → new ≡ kept) → table_or after kept ≡ new
 table_made None kept new changed same = sym (same refl)
 table_made (Some t) kept new changed same = changed
+
+-- a user is listed who is so since some number
+pub listed_since : (t : Table) (u : ℕ) (o : Option ℕ) → o ≡ since u t → is_some o ≡ lists_user t u
+listed_since t u o is = ap is_some is ∙ mapped (listing_of u t) ∙ lists_is t.users u
+  where
+    mapped : (l : Option Listing) → is_some (option_map (λ (x : Listing). x.since) l) ≡ is_some l
+    mapped None = refl
+    mapped (Some l) = refl

@@ -10,14 +10,14 @@ use Rattle.update_cert.specs.Cert.{Cert, cert}
 use Rattle.pending_list.specs.declared.signed.Signed.{Signed}
 use Rattle.pending_list.specs.Signed.{signed}
 use Rattle.pending_list.specs.Reply.{reply}
-use Rattle.principals.specs.Table.{genesis, key_of}
+use Rattle.principals.specs.Table.{genesis, key_of, lists_user}
 use Rattle.wire.specs.declared.kinds.Status.TheVariants as status
 use Rattle.consistency_server.specs.declared.call.CallKind.{CallKind}
 use Rattle.consistency_server.specs.declared.call.CallKind.TheVariants.{Update, Commit}
 use Rattle.consistency_server.specs.declared.state.Verdict.{Verdict}
 use Rattle.consistency_server.specs.Event.{Placed, Committed}
 use Rattle.consistency_server.specs.State.{Placement, State, next_reply}
-use Rattle.consistency_server.specs.Answers.{Call, Outcome, Refused, Repeated, Happens, answer, outcome_of, by_kind, same_cert, is_next, at_limit, placing_beside, placing, verified_update, read_update, structure_of, same_structure, is_pending, committing, verified_commit, read_commit}
+use Rattle.consistency_server.specs.Answers.{Call, Outcome, Refused, Repeated, Happens, answer, outcome_of, by_kind, same_cert, is_next, at_limit, placing, verified_update, update_beside, read_update, structure_of, same_structure, is_pending, committing, verifies, read_commit}
 use Rattle.consistency_server.specs.History.{events, kept, is_carried_out}
 use Rattle.consistency_server.specs.Judged.{JudgedAs, state_after}
 use Rattle.consistency_server.proofs.Kept.{kept_at_first, kept_after}
@@ -31,34 +31,34 @@ either_serves : (b : Bool) (x y : Outcome) → Serves x → Serves y → Serves 
 either_serves true x y p q = p
 either_serves false x y p q = q
 
-beside_serves : (o : Option Placement) (state : State) (c : Signed Cert) → Serves (placing_beside o state c)
-beside_serves (Some w) state c = refl
-beside_serves None state c =
+placing_serves : (state : State) (c : Signed Cert) → Serves (placing state c)
+placing_serves state c =
     either_serves (not (is_next state c.value)) (Refused status.WrongNumber) _ refl
     (either_serves (at_limit state c.value) (Refused status.TooLarge) (Happens (Placed c) (reply.spell (next_reply state c))) refl refl)
 
 verified_update_serves : (state : State) (c : Signed Cert) (key : Option (List ℕ)) → Serves (verified_update state c key)
 verified_update_serves state c None = refl
 verified_update_serves state c (Some key) =
-    either_serves (valid key (cert.spell c.value) c.signature) (placing state c) (Refused status.BadSignature) (beside_serves (find (same_cert c) state.pending) state c) refl
+    either_serves (valid key (cert.spell c.value) c.signature) (placing state c) (Refused status.BadSignature) (placing_serves state c) refl
+
+beside_serves : (o : Option Placement) (state : State) (c : Signed Cert) → Serves (update_beside o state c)
+beside_serves (Some w) state c = refl
+beside_serves None state c = verified_update_serves state c (key_of c.value.user state.table)
 
 read_update_serves : (state : State) (r : Result (Signed Cert) ReadError) → Serves (read_update state r)
 read_update_serves state (Err e) = refl
-read_update_serves state (Ok c) = verified_update_serves state c (key_of c.value.user state.table)
+read_update_serves state (Ok c) = beside_serves (find (same_cert c) state.pending) state c
 
 committing_serves : (state : State) (s : Signed Structure) → Serves (committing state s)
 committing_serves state s =
     either_serves (option_map_or (same_structure s) (structure_of s.value.plan.user state) false) (Repeated []) _ refl
     (either_serves (is_pending state s.value) (Happens (Committed s) []) (Refused status.NotPending) refl refl)
 
-verified_commit_serves : (state : State) (s : Signed Structure) (key : Option (List ℕ)) → Serves (verified_commit state s key)
-verified_commit_serves state s None = refl
-verified_commit_serves state s (Some key) =
-    either_serves (valid key (structure.spell s.value) s.signature) (committing state s) (Refused status.BadSignature) (committing_serves state s) refl
-
 read_commit_serves : (state : State) (r : Result (Signed Structure) ReadError) → Serves (read_commit state r)
 read_commit_serves state (Err e) = refl
-read_commit_serves state (Ok s) = verified_commit_serves state s (key_of s.value.plan.user state.table)
+read_commit_serves state (Ok s) =
+    either_serves (not (lists_user state.table s.value.plan.user)) (Refused status.UnknownUser) _ refl
+    (either_serves (not (verifies state.table s)) (Refused status.BadSignature) (committing state s) refl (committing_serves state s))
 
 by_kind_serves : (state : State) (text : List ℕ) (kind : CallKind) → Serves (by_kind state text kind)
 by_kind_serves state text Update = read_update_serves state (whole (signed cert) text)

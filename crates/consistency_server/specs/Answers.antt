@@ -14,7 +14,7 @@ use Rattle.update_cert.specs.Cert.{Cert, cert}
 use Rattle.pending_list.specs.declared.signed.Signed.{Signed}
 use Rattle.pending_list.specs.Signed.{signed}
 use Rattle.pending_list.specs.Reply.{PendingItem, digest_of_last, reply}
-use Rattle.principals.specs.Table.{key_of}
+use Rattle.principals.specs.Table.{Table, key_at, key_of, lists_user}
 use Rattle.wire.specs.declared.kinds.Status.{Status}
 use Rattle.wire.specs.declared.kinds.Status.TheVariants as status
 use Rattle.consistency_server.specs.declared.call.CallKind.{CallKind}
@@ -62,25 +62,28 @@ is_next state c =
 abbrev pub at_limit : State → Cert → Bool
 at_limit state c = not (can_raise_all (c.user ∷ next_groups state.table state.vector c) state.vector)
 
--- what a certificate leads to, beside the operation that is pending with it, if there is one
-abbrev pub placing_beside : Option Placement → State → Signed Cert → Outcome
-placing_beside (Some w) state c = Repeated w.reply
-placing_beside None state c =
+-- what a certificate leads to that isn't pending, and that its user signed
+abbrev pub placing : State → Signed Cert → Outcome
+placing state c =
     if not (is_next state c.value) then Refused status.WrongNumber
     else if at_limit state c.value then Refused status.TooLarge
     else Happens (Placed c) (reply.spell (next_reply state c))
 
-abbrev pub placing : State → Signed Cert → Outcome
-placing state c = placing_beside (find (same_cert c) state.pending) state c
-
+-- it is judged by the key of its user that came last
 abbrev pub verified_update : State → Signed Cert → Option Key → Outcome
 verified_update state c None = Refused status.UnknownUser
 verified_update state c (Some key) = if valid key (cert.spell c.value) c.signature then placing state c
     else Refused status.BadSignature
 
+-- what a certificate leads to, beside the operation that is pending with it, if there is one: before anything else that
+-- one's reply comes again
+abbrev pub update_beside : Option Placement → State → Signed Cert → Outcome
+update_beside (Some w) state c = Repeated w.reply
+update_beside None state c = verified_update state c (key_of c.value.user state.table)
+
 abbrev pub read_update : State → Result (Signed Cert) ReadError → Outcome
 read_update state (Err e) = Refused status.Form
-read_update state (Ok c) = verified_update state c (key_of c.value.user state.table)
+read_update state (Ok c) = update_beside (find (same_cert c) state.pending) state c
 
 -- ---- COMMIT
 
@@ -101,14 +104,17 @@ committing state s =
     else if is_pending state s.value then Happens (Committed s) []
     else Refused status.NotPending
 
-abbrev pub verified_commit : State → Signed Structure → Option Key → Outcome
-verified_commit state s None = Refused status.UnknownUser
-verified_commit state s (Some key) = if valid key (structure.spell s.value) s.signature then committing state s
-    else Refused status.BadSignature
+-- a structure verifies under the key that its user has at its plan's version of user 0
+abbrev pub verifies : Table → Signed Structure → Bool
+verifies table s = option_map_or (λ key. valid key (structure.spell s.value) s.signature)
+    (key_at s.value.plan.user (version_of 0 s.value.plan.vector) table) false
 
 abbrev pub read_commit : State → Result (Signed Structure) ReadError → Outcome
 read_commit state (Err e) = Refused status.Form
-read_commit state (Ok s) = verified_commit state s (key_of s.value.plan.user state.table)
+read_commit state (Ok s) =
+    if not (lists_user state.table s.value.plan.user) then Refused status.UnknownUser
+    else if not (verifies state.table s) then Refused status.BadSignature
+    else committing state s
 
 -- ---- calls
 

@@ -19,5 +19,5 @@ mod verification;
 pub use call::{Answer, Call, CallKind};
 pub use log::{Log, LogFull, MemoryLog};
 pub use server::Ordered;
-pub use signer::signer_of;
+pub use signer::{Signer, signer_of};
 pub use verification::Verification;

@@ -8,6 +8,7 @@ use crate::call::{Answer, Call, CallKind};
 use crate::log::Log;
 use crate::past::{Past, add, take_back};
 use crate::refusal::Refusal;
+use crate::signer::Signer;
 use crate::state::{State, Verdict};
 use crate::verification::Verification;
 use layout::{User, let_go};
@@ -100,6 +101,7 @@ fn carry_out<A: Allocator + Copy, G: Log<Call<A>>>(
 impl<A: Allocator + Copy> Ordered<A> {
     ghost use Rattle.consistency_server.specs.History.{call_of, update_of, commit_of, answer_of, logged};
     ghost use Rattle.consistency_server.specs.History.{IfCarriedOut, IfNotCarriedOut, is_carried_out, kept};
+    ghost use Rattle.consistency_server.specs.Signer.{judging_key};
     ghost use Rattle.principals.specs.Table.{key_of};
     ghost use Rattle.wire.specs.declared.kinds.Status.TheVariants as status;
 
@@ -121,11 +123,18 @@ impl<A: Allocator + Copy> Ordered<A> {
         self.history.len()
     }
 
-    /// The key by which a signature of the user is judged in the next call.
-    pub fn key_of(&self, user: User) -> Option<PublicKey>
+    /// The key by which a signature is judged in the next call.
+    pub fn key_of(&self, signer: Signer) -> Option<PublicKey>
+        ensures { result ≡ judging_key signer (kept self.now.pinned self.now.history).table }
+    {
+        self.state.key_of(signer)
+    }
+
+    /// The key of a user that came last: by it the user's next certificate is judged.
+    pub fn last_key(&self, user: User) -> Option<PublicKey>
         ensures { result ≡ key_of user (kept self.now.pinned self.now.history).table }
     {
-        self.state.key_of(user)
+        self.state.last_key(user)
     }
 
     /// Answers an UPDATE, whose text is a signed certificate.

@@ -1,7 +1,7 @@
 //! What the server keeps of its events, and what a call leads to by it.
 
 ghost use Rattle.std.specs.Prelude.{◌≡◌, ◌<◌, ◌∷◌, ◌++◌, [], true, false, None, Err, OnOk, OnErr, IfOk, IsTrue, not};
-ghost use Rattle.std.specs.Prelude.{filter, vec_len, vec_capacity};
+ghost use Rattle.std.specs.Prelude.{filter, find, vec_len, vec_capacity};
 ghost use Rattle.std.specs.Option.{option_copied, option_map_or};
 ghost use Rattle.std.specs.Ordering.{nat_cmp};
 ghost use Rattle.layout.specs.Ascending.{Ascends, with_row};
@@ -11,12 +11,13 @@ ghost use Rattle.version_order.specs.Structure.{structure};
 ghost use Rattle.update_cert.specs.Cert.{cert, digest_of};
 ghost use Rattle.pending_list.specs.Signed.{signed};
 ghost use Rattle.pending_list.specs.Reply.{user_of, reply};
-ghost use Rattle.principals.specs.Table.{genesis, key_of};
+ghost use Rattle.principals.specs.Table.{genesis, key_of, lists_user};
 ghost use Rattle.consistency_server.specs.Event.{Placed};
 ghost use Rattle.consistency_server.specs.State.{after_operation, pending_of, next_plan, next_reply, commits};
-ghost use Rattle.consistency_server.specs.Answers.{Happens, outcome_of, read_update, read_commit, placing};
-ghost use Rattle.consistency_server.specs.Answers.{placing_beside, committing, same_structure, structure_of, is_next};
-ghost use Rattle.consistency_server.specs.Answers.{at_limit};
+ghost use Rattle.consistency_server.specs.Answers.{Happens, outcome_of, read_update, read_commit, update_beside};
+ghost use Rattle.consistency_server.specs.Answers.{placing, committing, same_cert, same_structure, structure_of};
+ghost use Rattle.consistency_server.specs.Answers.{at_limit, is_next, verifies};
+ghost use Rattle.consistency_server.specs.Signer.{judging_key};
 ghost use Rattle.consistency_server.specs.History.{call_of};
 ghost use Rattle.consistency_server.specs.Judged.{JudgedAs, Admits, changed, reply_beside, table_or};
 
@@ -28,6 +29,7 @@ use crate::placement::{Placement, entries_of, have_plan, pending_of, place, take
 use crate::refusal::Refusal;
 use crate::reply_text::reply_text;
 use crate::signed_text::{is_signed, read_cert, read_structure, unsigned};
+use crate::signer::Signer;
 use crate::structures::{SpelledStructure, digest_of_last, put, structure_of};
 use crate::verification::Verification;
 use layout::{Digest, Memory, Principal, User, digest, let_go, put_in};
@@ -191,11 +193,28 @@ impl<A: Allocator + Copy> State<A> {
         }
     }
 
-    /// The key of a user.
-    pub(crate) fn key_of(&self, user: User) -> Option<PublicKey>
+    /// The key of a user that came last.
+    pub(crate) fn last_key(&self, user: User) -> Option<PublicKey>
         ensures { result ≡ key_of user self.now.table }
     {
         self.table.key_of(user)
+    }
+
+    /// The key by which a signature is judged.
+    pub(crate) fn key_of(&self, signer: Signer) -> Option<PublicKey>
+        ensures { result ≡ judging_key signer self.now.table }
+    {
+        match signer.version {
+            Some(version) => self.table.key_at(signer.user, version),
+            None => self.last_key(signer.user),
+        }
+    }
+
+    /// Whether a user is listed.
+    fn lists(&self, user: User) -> bool
+        ensures { result ≡ lists_user self.now.table user }
+    {
+        self.table.since(user).is_some()
     }
 
     /// What a call leads to.
@@ -225,38 +244,57 @@ impl<A: Allocator + Copy> State<A> {
         ensures { IfOk result (λ judged. JudgedAs self.now judged
             (read_update self.now (whole (signed cert) text.now))) }
     {
-        let Some(found) = read_cert(alloc, text)? else {
-            return Ok(Verdict::Refused(Status::Form));
-        };
-        let Some(key) = self.table.key_of(found.value.user()) else {
-            return Ok(Verdict::Refused(Status::UnknownUser));
-        };
-        if !is_signed::<A, Cert<A>>(&key, &found, text, known) {
-            return Ok(Verdict::Refused(Status::BadSignature));
+        match read_cert(alloc, text)? {
+            Some(found) => self.judge_certificate(alloc, text, found, known),
+            None => Ok(Verdict::Refused(Status::Form)),
         }
-        self.judge_certificate(alloc, text, found)
     }
 
-    /// What a certificate leads to, of a user who signed it.
+    /// What a certificate leads to: the reply of the operation that is pending with it, before anything else.
     fn judge_certificate(
         &self,
         alloc: A,
         text: &[u8],
         found: Signed<Cert<A>>,
+        known: Option<&Verification<'_>>,
     ) -> Result<Verdict<A>, Memory>
         requires { text.now ≡ (signed cert).spell found }
-        ensures { IfOk result (λ judged. JudgedAs self.now judged (placing self.now found)) }
+        ensures { IfOk result (λ judged. JudgedAs self.now judged
+            (update_beside (find (same_cert found) self.now.pending) self.now found)) }
     {
         match with_cert(&self.pending, text) {
             Some(placement) => Ok(Verdict::Repeated(placement.reply().share()?)),
-            None => self.judge_new(alloc, text, found),
+            None => self.judge_signed(alloc, text, found, known),
         }
     }
 
-    /// What a certificate leads to that isn't pending.
+    /// What a certificate leads to that isn't pending: by its signature first, under the key of its user that came
+    /// last.
+    fn judge_signed(
+        &self,
+        alloc: A,
+        text: &[u8],
+        found: Signed<Cert<A>>,
+        known: Option<&Verification<'_>>,
+    ) -> Result<Verdict<A>, Memory>
+        requires { text.now ≡ (signed cert).spell found }
+        ensures { IfOk result (λ judged. JudgedAs self.now judged (update_beside None self.now found)) }
+    {
+        let Some(key) = self.last_key(found.value.user()) else {
+            let_go(found);
+            return Ok(Verdict::Refused(Status::UnknownUser));
+        };
+        if !is_signed::<A, Cert<A>>(&key, &found, text, known) {
+            let_go(found);
+            return Ok(Verdict::Refused(Status::BadSignature));
+        }
+        self.judge_new(alloc, text, found)
+    }
+
+    /// What a certificate leads to that isn't pending, and that its user signed.
     fn judge_new(&self, alloc: A, text: &[u8], found: Signed<Cert<A>>) -> Result<Verdict<A>, Memory>
         requires { text.now ≡ (signed cert).spell found }
-        ensures { IfOk result (λ judged. JudgedAs self.now judged (placing_beside None self.now found)) }
+        ensures { IfOk result (λ judged. JudgedAs self.now judged (placing self.now found)) }
     {
         if !self.is_next(&found.value) {
             let_go(found);
@@ -391,15 +429,33 @@ impl<A: Allocator + Copy> State<A> {
         let Some(found) = read_structure(alloc, text)? else {
             return Ok(Verdict::Refused(Status::Form));
         };
-        let Some(key) = self.table.key_of(found.value.plan().user()) else {
+        if !self.lists(found.value.plan().user()) {
             let_go(found);
             return Ok(Verdict::Refused(Status::UnknownUser));
-        };
-        if !is_signed::<A, Structure<A>>(&key, &found, text, known) {
+        }
+        if !self.has_signed(&found, text, known) {
             let_go(found);
             return Ok(Verdict::Refused(Status::BadSignature));
         }
         self.judge_structure(alloc, text, found)
+    }
+
+    /// Whether a structure is signed by the key that its user has at its plan's version of user 0.
+    fn has_signed(
+        &self,
+        found: &Signed<Structure<A>>,
+        text: &[u8],
+        known: Option<&Verification<'_>>,
+    ) -> bool
+        requires { text.now ≡ (signed structure).spell found.now }
+        ensures { result ≡ verifies self.now.table found.now }
+    {
+        let plan = found.value.plan();
+        let version = plan.vector().version_of(Principal::from(User::superuser()));
+        match self.table.key_at(plan.user(), version) {
+            Some(key) => is_signed::<A, Structure<A>>(&key, found, text, known),
+            None => false,
+        }
     }
 
     /// What a structure leads to, of a user who signed it.

@@ -6,3 +6,4 @@ pub mod Flushing
 pub mod Hands
 pub mod Records
 pub mod Relay
+pub mod Seen

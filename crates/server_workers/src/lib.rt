@@ -12,6 +12,7 @@ mod new_queue;
 mod places;
 mod queue_log;
 mod reply;
+mod seen;
 mod server;
 mod shared;
 mod tally;

@@ -1,18 +1,20 @@
 //! What lies under the lock.
 
 ghost use Rattle.std.specs.Prelude.{◌≡◌, [], ◌∷◌, ◌+◌, ◌<◌, true, false, length, leb, IsTrue};
-ghost use Rattle.principals.specs.Table.{key_of};
+ghost use Rattle.consistency_server.specs.Signer.{judging_key};
 ghost use Rattle.consistency_server.specs.History.{IfCarriedOut, IfNotCarriedOut, answer_of, log_of};
 ghost use Rattle.consistency_server.specs.History.{is_carried_out, kept};
 ghost use Rattle.wire.specs.declared.kinds.Status.TheVariants as status;
 ghost use Rattle.server_workers.specs.Hands.{hand, hand_of};
 ghost use Rattle.server_workers.specs.Counting.{count_of};
+ghost use Rattle.server_workers.specs.Seen.{told_of};
 ghost use Rattle.server_workers.specs.declared.call_queue.TheConstants.{QUEUE_ROOM};
 
 use crate::call_queue::{CallPass, ServerName};
 use crate::queue_log::QueueLog;
+use crate::seen::SeenKey;
 use crate::tally::Tally;
-use consistency_server::{Answer, Call, Log, Ordered, Verification};
+use consistency_server::{Answer, Call, Log, Ordered, Signer, Verification};
 use layout::User;
 use lms_sign::PublicKey;
 use std::alloc::Allocator;
@@ -89,15 +91,49 @@ impl<'a, A: Allocator + Copy, B: ServerName, L: Ledger, R: Wait> Locked<'a, A, B
         Locked { ordered, log, book }
     }
 
-    /// The key by which a signature of the user is judged in the next call.
-    pub(crate) fn key_of(&self, user: User) -> Option<PublicKey>
-        ensures { result ≡ key_of user (kept B.pinned self.now.history).table }
+    /// The key by which a signature is judged in the next call.
+    pub(crate) fn key_of(&self, signer: Signer) -> Option<PublicKey>
+        ensures { result ≡ judging_key signer (kept B.pinned self.now.history).table }
     {
-        self.ordered.key_of(user)
+        self.ordered.key_of(signer)
+    }
+
+    /// The user's key that came last, if a user is asked for and listed.
+    fn seen(&self, user: Option<User>) -> Option<SeenKey>
+        ensures { result ≡ told_of user (kept B.pinned self.now.history).table }
+    {
+        let user = user?;
+        let key = self.ordered.last_key(user)?;
+        Some(SeenKey { user, key })
+    }
+
+    /// Carries out a call, and counts it where it is answered otherwise than busy or out of memory. Tells the key of
+    /// this user that came last, as it stands then.
+    pub(crate) fn call(
+        &mut self,
+        mine: &mut Tally<L>,
+        call: Call<A>,
+        known: Option<&Verification<'_>>,
+        user: Option<User>,
+    ) -> (Answer<A>, Option<SeenKey>)
+        requires { 0 < mine.old.share.parts }
+        ensures answer { IfCarriedOut result.0 (result.0 ≡ answer_of B.pinned self.old.history call) }
+        ensures history { IfCarriedOut result.0 (self.new ≡ record self.old { history = call ∷ self.old.history }) }
+        ensures same { IfNotCarriedOut result.0 (self.new ≡ self.old) }
+        ensures bare { IfNotCarriedOut result.0 (result.0.payload ≡ []) }
+        ensures busy { result.0.status ≡ status.Busy
+            → IsTrue (leb QUEUE_ROOM (length (log_of B.pinned self.old.history))) }
+        ensures counted { mine.new.answered ≡ mine.old.answered + count_of result.0.status }
+        ensures parts { mine.new.share.parts ≡ mine.old.share.parts }
+        ensures seen { result.1 ≡ told_of user (kept B.pinned self.new.history).table }
+    {
+        let answer = self.answer(mine, call, known);
+        let seen = self.seen(user);
+        (answer, seen)
     }
 
     /// Carries out a call, and counts it where it is answered otherwise than busy or out of memory.
-    pub(crate) fn call(
+    fn answer(
         &mut self,
         mine: &mut Tally<L>,
         call: Call<A>,

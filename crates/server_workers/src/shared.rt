@@ -14,24 +14,17 @@ use crate::gate::Gate;
 use crate::locked::Locked;
 use crate::queue_log::QueueLog;
 use crate::reply::ReplyBody;
+use crate::seen::{SeenKey, certifier, see, seen_for};
 use crate::tally::Tally;
 use block_store::{Store, StoreError};
-use consistency_server::{Call, CallKind, Ordered, Verification, signer_of};
-use layout::{Digest, User};
+use consistency_server::{Call, CallKind, Ordered, Signer, Verification, signer_of};
+use layout::Digest;
 use lms_sign::PublicKey;
 use std::alloc::Allocator;
 use std::sync::atomic::{AtomicU64, Ordering};
 use std::sync::ledger::{Blank, Ledger};
 use std::sync::{Mutex, Wait};
 use wire::{RequestKind, Status, request_of};
-
-/// The key of the user by whom the last call of a connection was signed. Under the lock it is compared with the key
-/// that is listed then.
-#[derive(Clone, Copy)]
-pub(crate) struct SeenKey {
-    user: User,
-    key: PublicKey,
-}
 
 /// The one order of calls under its lock, the store of blocks, and the number of the last call at the gate.
 #[derive(Drop)]
@@ -122,42 +115,51 @@ impl<'a, A: Allocator + Copy, B: ServerName, L: Ledger, R: Wait> Shared<'a, A, B
                 .fetch_add(1, Ordering::SeqCst)
                 .wrapping_add(1),
         );
-        let verified = self.verification(rt, seen, kind, text);
-        let Ok(copy) = Vec::from_slice(self.alloc, text) else {
+        let signer = self.signer(kind, text);
+        // A copy is handed down, since the user is asked for afterwards.
+        let copy = signer;
+        let verified = self.verification(rt, *seen, copy, text);
+        let Ok(owned) = Vec::from_slice(self.alloc, text) else {
             return ReplyBody::bare(self.alloc, Status::Memory);
         };
-        let call = Call::new(kind, copy);
-        let answer = self.locked.lock(rt).call(tally, call, verified.as_ref());
+        let call = Call::new(kind, owned);
+        let user = certifier(signer);
+        let known = verified.as_ref();
+        let (answer, later) = self.locked.lock(rt).call(tally, call, known, user);
+        see(seen, later);
         ReplyBody::of(answer)
     }
 
-    /// The signature of a call's text, verified without the lock. None where the signer has no key, or memory runs out:
+    /// Whose signature a call's text bears. None where it bears none, or memory runs out.
+    fn signer(&self, kind: CallKind, text: &[u8]) -> Option<Signer> {
+        match signer_of(self.alloc, kind, text) {
+            Ok(signer) => signer,
+            Err(_) => None,
+        }
+    }
+
+    /// The signature of a call's text, verified without the lock. None where there is none, or the signer has no key:
     /// what isn't known is found out under the lock.
     fn verification<'t>(
         &self,
         rt: &R,
-        seen: &mut Option<SeenKey>,
-        kind: CallKind,
+        seen: Option<SeenKey>,
+        signer: Option<Signer>,
         text: &'t [u8],
     ) -> Option<Verification<'t>> {
-        let Ok(Some(signer)) = signer_of(self.alloc, kind, text) else {
-            return None;
-        };
-        let key = self.key_of(rt, seen, signer)?;
+        let key = self.key_of(rt, seen, signer?)?;
         Some(Verification::new(key, text))
     }
 
-    /// The signer's key: the one that was seen last where it is this user's, else the lock is taken for a look at it.
-    fn key_of(&self, rt: &R, seen: &mut Option<SeenKey>, signer: User) -> Option<PublicKey> {
-        if let Some(SeenKey { user, key }) = *seen
-            && user == signer
-        {
-            return Some(key);
+    /// The key by which a signer is judged: the one that was seen last where it is this one, else the lock is taken
+    /// for a look at it.
+    fn key_of(&self, rt: &R, seen: Option<SeenKey>, signer: Signer) -> Option<PublicKey> {
+        // A copy is handed down, since the lock may be asked next.
+        let copy = signer;
+        match seen_for(seen, copy) {
+            Some(key) => Some(key),
+            None => self.locked.lock(rt).key_of(signer),
         }
-        let found = self.locked.lock(rt).key_of(signer);
-        let key = found?;
-        *seen = Some(SeenKey { user: signer, key });
-        Some(key)
     }
 
     /// Stores a block. Where the blocks have no room left, that is told as want of memory.

@@ -1,5 +1,5 @@
 -- What holds of the lists goes on holding.
-use Rattle.std.proofs.Common.{◌≡◌, ◌++◌, ◌∷◌, [], Result, Ok, Err, sym, ap, subst, ◌∙◌, List}
+use Rattle.std.proofs.Common.{◌++◌, ◌∷◌, [], Result, Ok, Err, sym, ap, subst, ◌∙◌, List}
 use Rattle.std.specs.Prelude.{OnOk, filter, not}
 use Rattle.std.specs.Ordering.{nat_cmp}
 use Rattle.layout.specs.Ascending.{with_row}

@@ -8,7 +8,7 @@ use Rattle.update_cert.specs.Cert.{Cert, cert}
 use Rattle.pending_list.specs.declared.signed.Signed.{Signed}
 use Rattle.pending_list.specs.Signed.{signed}
 use Rattle.consistency_server.specs.State.{State, Placement}
-use Rattle.consistency_server.specs.Answers.{Repeated, cert_of, same_cert, placing_beside}
+use Rattle.consistency_server.specs.Answers.{Repeated, cert_of, same_cert, update_beside}
 use Rattle.consistency_server.specs.Judged.{JudgedAs}
 use Rattle.consistency_server.proofs.Texts.{with_ok}
 use Rattle.consistency_server.proofs.state.State.judge_certificate.Goals as goal
@@ -24,7 +24,7 @@ returns-in-None g c =
     let none : find (same_cert found) state.pending ≡ None
     = ap (λ (s : State). find (same_cert found) s.pending) (sym c.self.view_is) ∙ ap (find (same_cert found)) (sym c.deref.ensures.value)
     ∙ by_cert found c.args.text.now c.deref.result.now (option_copied c.with_cert.result) c.requires c.with_cert.ensures ∙ ap option_copied c.in-None.is in
-    with_ok c.judge_new.result _ _ (λ j is. subst (JudgedAs state j) (sym (ap (λ o. placing_beside o state found) none)) is) c.judge_new.ensures
+    with_ok c.judge_signed.result _ _ (λ j is. subst (JudgedAs state j) (sym (ap (λ o. update_beside o state found) none)) is) c.judge_signed.ensures
 
 pub returns-in_ok-share-in-Some : goal.returns-in_ok-share-in-Some
 returns-in_ok-share-in-Some g c =
@@ -33,4 +33,4 @@ returns-in_ok-share-in-Some g c =
     let there : find (same_cert found) state.pending ≡ Some c.in-Some.placement.now
     = ap (λ (s : State). find (same_cert found) s.pending) (sym c.self.view_is) ∙ ap (find (same_cert found)) (sym c.deref.ensures.value)
     ∙ by_cert found c.args.text.now c.deref.result.now (option_copied c.with_cert.result) c.requires c.with_cert.ensures ∙ ap option_copied c.in-Some.is in
-    ap (λ o. placing_beside o state found) there ∙ ap Repeated (sym (c.in_ok-share-in-Some.ensures ∙ c.reply.ensures))
+    ap (λ o. update_beside o state found) there ∙ ap Repeated (sym (c.in_ok-share-in-Some.ensures ∙ c.reply.ensures))
