@@ -7,12 +7,12 @@ use Rattle.layout.specs.Types.{Bytes, Key}
 use Rattle.lms_sign.specs.Signature.{valid}
 use Rattle.principals.specs.Table.{Table, key_at, key_of}
 use Rattle.version_order.specs.Structure.{Structure, structure}
+use Rattle.version_order.specs.Vector.{version_of}
 use Rattle.update_cert.specs.Cert.{Cert, cert}
 use Rattle.update_cert.specs.CertLaws.{lawful_cert}
 use Rattle.pending_list.specs.declared.signed.Signed.{Signed}
 use Rattle.pending_list.specs.Signed.{signed}
 use Rattle.pending_list.specs.SignedLaws.{lawful_signed}
-use Rattle.pending_list.specs.Groups.{table_version}
 use Rattle.pending_list.specs.Reply.{digest_of_last}
 use Rattle.wire.specs.declared.kinds.Status.TheVariants as status
 use Rattle.reply_rules.specs.Lists.{Lists}
@@ -110,8 +110,7 @@ module _ (keys : Keys) (naming : Naming) (history : List Call) (h : IsHonestHist
         record {
           fits = d.fits;
           sent = elim d.sent [ inl k ↦ inl (ap (λ v. last_of v es) d.user_is ∙ k.0) | inr k ↦ inr k ];
-          signed = under_table keys (table_after pinned es) z.value.plan.user (structure.spell z.value) z.signature own under_key;
-          planned = under_plan keys (table_after pinned es) z.value.plan.user (table_version z.value.plan) (structure.spell z.value) z.signature own under_key;
+          signed = under_plan keys (table_after pinned es) z.value.plan.user (version_of 0 z.value.plan.vector) (structure.spell z.value) z.signature own under_key;
         }
 
     pub good_commit : IsGoodCommit keys history z

@@ -9,8 +9,7 @@ use Rattle.layout.specs.Format.{IsBytes, whole}
 use Rattle.layout.specs.Laws.{in_range, whole_again}
 use Rattle.layout.specs.Types.{Bytes, Key}
 use Rattle.lms_sign.specs.Signature.{valid}
-use Rattle.principals.specs.Table.{Listing, key_of, last_key, lists_user}
-use Rattle.principals.proofs.ListedKeys.{has_last}
+use Rattle.principals.specs.Table.{Listing, key_at, key_of, last_key, lists_user}
 use Rattle.version_order.specs.Plan.{Plan, plan}
 use Rattle.version_order.specs.Structure.{Structure, structure}
 use Rattle.version_order.specs.StructureLaws.{lawful_structure}
@@ -20,15 +19,16 @@ use Rattle.update_cert.specs.CertLaws.{lawful_cert}
 use Rattle.pending_list.specs.declared.signed.Signed.{Signed}
 use Rattle.pending_list.specs.Signed.{signed}
 use Rattle.pending_list.specs.SignedLaws.{lawful_signed}
+use Rattle.pending_list.specs.Groups.{table_version}
 use Rattle.pending_list.specs.Reply.{PendingItem, digest_of_last, reply}
 use Rattle.wire.specs.declared.kinds.Status.TheVariants as status
 use Rattle.consistency_server.specs.Event.{Event, Placed, Committed, committed, last_of}
 use Rattle.consistency_server.specs.State.{Placement, State, next_item, next_placement, next_reply, pending_of, state_after, table_after}
-use Rattle.consistency_server.specs.Answers.{Call, Outcome, Refused, Repeated, Happens, answer, at_limit, committing, happened, is_next, is_pending, outcome_of, placing_beside, read_commit, read_update, same_cert, same_plan, same_structure, structure_of, verified_commit, verified_update}
+use Rattle.consistency_server.specs.Answers.{Call, Outcome, Refused, Repeated, Happens, answer, at_limit, committing, happened, is_next, is_pending, outcome_of, placing, read_commit, read_update, same_cert, same_plan, same_structure, structure_of, update_beside, verified_update, verifies}
 use Rattle.consistency_server.specs.History.{answer_of, commit_of, events, update_of}
 use Rattle.agreement.proofs.Formed.{same_spelled}
 use Rattle.agreement.proofs.Members.{In, contains_in, in_contains, in-map}
-use Rattle.honest_history.specs.Honest.{AreHonest, IsHonest, IsSignedByPlan, Naming}
+use Rattle.honest_history.specs.Honest.{AreHonest, IsHonest, Naming}
 use Rattle.honest_history.specs.Served.{IsHonestHistory}
 use Rattle.honest_history.specs.Answered.{IsDeclared, IsSent, IsUpdateStatus}
 use Rattle.honest_history.proofs.Entries.{last_all, last_seen}
@@ -38,6 +38,8 @@ use Rattle.honest_history.proofs.Good.{Good, in_pending, is_committed, is_of, it
 use Rattle.honest_history.proofs.Members.{any_from, any_none, bytes_equal, bytes_same, bytes_true, find_none, find_nothing, find_some}
 use Rattle.honest_history.proofs.Outcomes.{NewUpdate, NoUpdate, SameUpdate, update_cases}
 use Rattle.honest_history.proofs.Reached.{honest_open, reach, reached}
+use Rattle.honest_history.proofs.Tabled.{plan_key}
+use Rattle.honest_history.proofs.Tables.{key_listed}
 use Rattle.honest_history.proofs.Timeline.{user}
 
 -- ---- UPDATE
@@ -83,13 +85,13 @@ module _ (pinned : Key) (es : List Event) (c : Signed Cert) (g : Good pinned es)
   abbrev Answers : Outcome → Type 0
   Answers o = IsUpdateStatus pinned es c.value (answer o).status
 
-  beside : (o : Option Placement) → find (same_cert c) state.pending ≡ o → Answers (placing_beside o state c)
-  beside (Some w) e = inl refl
-  beside None e =
+  -- it is placed, or one of its versions can grow no further
+  placed : find (same_cert c) state.pending ≡ None → Answers (placing state c)
+  placed e =
       let next = is_the_next (none_waits e) in
       elim (cases_Bool (at_limit state c.value)) [
-        | inl l ↦ (let is : placing_beside None state c ≡ Refused status.TooLarge = rw (next, l) refl in subst Answers (sym is) (inr (inr (refl, l))))
-        | inr l ↦ (let is : placing_beside None state c ≡ Happens (Placed c) (reply.spell (next_reply state c)) = rw (next, l) refl in subst Answers (sym is) (inl refl))
+        | inl l ↦ (let is : placing state c ≡ Refused status.TooLarge = rw (next, l) refl in subst Answers (sym is) (inr (inr (refl, l))))
+        | inr l ↦ (let is : placing state c ≡ Happens (Placed c) (reply.spell (next_reply state c)) = rw (next, l) refl in subst Answers (sym is) (inl refl))
       ]
 
   -- who has no key isn't listed
@@ -100,15 +102,19 @@ module _ (pinned : Key) (es : List Event) (c : Signed Cert) (g : Good pinned es)
       go None f m = any_none (λ (l : Listing). l.user == c.value.user) state.table.users (find_nothing (λ (l : Listing). l.user == c.value.user) state.table.users f)
       go (Some l) f m = cc
 
-  verified : (o : Option Key) → key_of c.value.user state.table ≡ o → IfSome o (λ key. valid key (cert.spell c.value) c.signature ≡ true) → Answers (verified_update state c o)
-  verified None e h = inr (inl (refl, not_listed e))
-  verified (Some key) e h = rw h (beside (find (same_cert c) state.pending) refl)
+  verified : find (same_cert c) state.pending ≡ None → (o : Option Key) → key_of c.value.user state.table ≡ o → IfSome o (λ key. valid key (cert.spell c.value) c.signature ≡ true) → Answers (verified_update state c o)
+  verified free None e h = inr (inl (refl, not_listed e))
+  verified free (Some key) e h = rw h (placed free)
+
+  beside : (o : Option Placement) → find (same_cert c) state.pending ≡ o → Answers (update_beside o state c)
+  beside (Some w) e = inl refl
+  beside None e = verified e (key_of c.value.user state.table) refl d.signed
 
   pub update_answered : Answers (outcome_of state (update_of ((signed cert).spell c)))
   unfolding outcome_of
   update_answered =
       subst (λ r. Answers (read_update state r)) (sym (whole_again (signed cert) (lawful_signed cert lawful_cert) c d.fits))
-      (verified (key_of c.value.user state.table) refl d.signed)
+      (beside (find (same_cert c) state.pending) refl)
 
 pub each_update : (naming : Naming) (pinned : Key) (history : List Call) → IsHonestHistory naming pinned history → (c : Signed Cert) → IsDeclared pinned (events pinned history) c → IsUpdateStatus pinned (events pinned history) c.value (answer_of pinned history (update_of ((signed cert).spell c))).status
 each_update naming pinned history h c d = update_answered pinned (events pinned history) c (reached naming pinned (events pinned history) (reach naming pinned history h.bytes h.honest)).0 d
@@ -150,21 +156,23 @@ module _ (naming : Naming) (pinned : Key) (es : List Event) (z : Signed Structur
       let of_own : is_of own y ≡ true = and_from _ _ (eq-eqb y.value.plan.user own.plan.user (ap (λ (p : Plan). p.user) plan)) (eq-eqb y.value.plan.number own.plan.number (ap (λ (p : Plan). p.number) plan)) in
       true≢false (sym (any_from (is_of own) (committed es) y there of_own) ∙ opened))
 
-  -- its user is listed
-  key_there : (key : Key) × (key_of z.value.plan.user now.table ≡ Some key)
+  -- its user has a key at the number of its plan
+  key_there : (key : Key) × (key_at z.value.plan.user (version_of 0 z.value.plan.vector) now.table ≡ Some key)
   key_there =
+      let p : Plan = z.value.plan in
+      let same = plan_key now.table pinned p g.super_key in
       elim d.sent [
         | inl last ↦ (
-            let r = find_some (λ (y : Signed Structure). y.value.plan.user == z.value.plan.user) (committed es) z last in
+            let r = find_some (λ (y : Signed Structure). y.value.plan.user == p.user) (committed es) z last in
             let s = g.signed z r.0 in
-            has_last z.value.plan.user _ now.table s.0 s.1)
+            (s.0, same ∙ s.1))
         | inr honest ↦ (
             let own = next_item (state_after pinned honest.earlier) honest.cert in
             let here = honest_open pinned es z.value naming g honest in
             let s = g.tabled.signed own here.0 in
-            let of_user : own.cert.user ≡ z.value.plan.user = ap (λ (p : Plan). p.user) (sym honest.over.plan) in
-            let last = has_last own.cert.user _ now.table s.0 s.1 in
-            (last.0, ap (λ u. key_of u now.table) (sym of_user) ∙ last.1))
+            let at : key_at own.cert.user (table_version p) now.table ≡ Some s.0 = ap (λ (q : Plan). key_at own.cert.user (table_version q) now.table) honest.over.plan ∙ s.1 in
+            let of_user : own.cert.user ≡ p.user = ap (λ (q : Plan). q.user) (sym honest.over.plan) in
+            (s.0, same ∙ ap (λ u. key_at u (table_version p) now.table) (sym of_user) ∙ at))
       ]
 
   -- it comes to the test whether its operation is pending
@@ -173,9 +181,10 @@ module _ (naming : Naming) (pinned : Key) (es : List Event) (z : Signed Structur
   goes_on =
       let (key, has) = key_there in
       let sign : valid key (structure.spell z.value) z.signature ≡ true = subst (λ o. IfSome o (λ key. valid key (structure.spell z.value) z.signature ≡ true)) has d.signed in
+      let verified : verifies now.table z ≡ true = ap (λ o. option_map_or (λ key. valid key (structure.spell z.value) z.signature) o false) has ∙ sign in
+      let listed : lists_user now.table z.value.plan.user ≡ true = key_listed now.table z.value.plan.user (version_of 0 z.value.plan.vector) key has in
       ap (read_commit now) (whole_again (signed structure) (lawful_signed structure lawful_structure) z d.fits)
-      ∙ ap (verified_commit now z) has
-      ∙ rw sign refl
+      ∙ rw (listed, verified) refl
 
   pub commit_again : last_of z.value.plan.user es ≡ Some z → outcome_of now (commit_of ((signed structure).spell z)) ≡ Repeated []
   commit_again last =
@@ -196,9 +205,9 @@ commit_ok : (naming : Naming) (pinned : Key) (es : List Event) (z : Signed Struc
 commit_ok naming pinned es z o (inl e) = ap (λ o. (answer o).status) e.1
 commit_ok naming pinned es z o (inr e) = ap (λ o. (answer o).status) e.1
 
-commit_honest : (naming : Naming) (pinned : Key) (es : List Event) (z : Signed Structure) (o : Outcome) → IsSignedByPlan (table_after pinned es) z → AreHonest naming pinned es → Commits naming pinned es z o → AreHonest naming pinned (happened o ++ es)
-commit_honest naming pinned es z o planned h (inl e) = subst (λ o. AreHonest naming pinned (happened o ++ es)) (sym e.1) h
-commit_honest naming pinned es z o planned h (inr e) = subst (λ o. AreHonest naming pinned (happened o ++ es)) (sym e.1) (e.0, planned, h)
+commit_honest : (naming : Naming) (pinned : Key) (es : List Event) (z : Signed Structure) (o : Outcome) → AreHonest naming pinned es → Commits naming pinned es z o → AreHonest naming pinned (happened o ++ es)
+commit_honest naming pinned es z o h (inl e) = subst (λ o. AreHonest naming pinned (happened o ++ es)) (sym e.1) h
+commit_honest naming pinned es z o h (inr e) = subst (λ o. AreHonest naming pinned (happened o ++ es)) (sym e.1) (e.0, h)
 
 update_honest : (naming : Naming) (pinned : Key) (es : List Event) (text : Bytes) → AreHonest naming pinned es → AreHonest naming pinned (happened (read_update (state_after pinned es) (whole (signed cert) text)) ++ es)
 update_honest naming pinned es text h =
@@ -236,7 +245,7 @@ module _ (naming : Naming) (pinned : Key) (history : List Call) (h : IsHonestHis
       record {
         first = h.first;
         bytes = All-cons (λ call. IsBytes call.text) (commit_of ((signed structure).spell z)) history bytes h.bytes;
-        honest = commit_honest naming pinned es z (outcome_of (state_after pinned es) (commit_of ((signed structure).spell z))) d.planned h.honest (commit_goes naming pinned es z good fits d);
+        honest = commit_honest naming pinned es z (outcome_of (state_after pinned es) (commit_of ((signed structure).spell z))) h.honest (commit_goes naming pinned es z good fits d);
       }
 
 pub each_commit : (naming : Naming) (pinned : Key) (history : List Call) → IsHonestHistory naming pinned history → (z : Signed Structure) → IsSent naming pinned (events pinned history) z → (answer_of pinned history (commit_of ((signed structure).spell z))).status ≡ status.Ok

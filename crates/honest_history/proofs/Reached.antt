@@ -1,5 +1,5 @@
 -- All of it holds after each history in which honest clients signed what was committed.
-use Rattle.std.proofs.Common.{◌≡◌, ◌+◌, ◌<◌, List, [], ◌∷◌, ◌++◌, Option, Some, None, IfSome, true, false, refl, sym, ap, ◌∙◌, subst, arith}
+use Rattle.std.proofs.Common.{◌≡◌, ◌+◌, ◌<◌, List, [], ◌∷◌, ◌++◌, Option, Some, None, true, false, refl, sym, ap, ◌∙◌, subst, arith}
 use Rattle.std.specs.Prelude.{◌==◌, ◌&&◌, is_some, not}
 use Rattle.std.specs.Int.{w8}
 use Rattle.std.specs.List.{All}
@@ -9,8 +9,6 @@ use Rattle.std.proofs.lemmas.List.Elements.{All-head, All-tail}
 use Rattle.layout.specs.Format.{IsBytes, whole}
 use Rattle.layout.specs.Laws.{in_range}
 use Rattle.layout.specs.Types.{Bytes, Key}
-use Rattle.lms_sign.specs.Signature.{valid}
-use Rattle.principals.specs.Table.{key_at}
 use Rattle.principals.proofs.ListedKeys.{key_since}
 use Rattle.version_order.specs.Plan.{Plan}
 use Rattle.version_order.specs.Structure.{Structure, structure}
@@ -20,7 +18,6 @@ use Rattle.update_cert.specs.Cert.{Cert, cert}
 use Rattle.update_cert.specs.CertLaws.{lawful_cert}
 use Rattle.pending_list.specs.declared.signed.Signed.{Signed}
 use Rattle.pending_list.specs.Signed.{signed}
-use Rattle.pending_list.specs.Groups.{table_version}
 use Rattle.pending_list.specs.Reply.{digest_of_last}
 use Rattle.consistency_server.specs.declared.call.CallKind.{CallKind}
 use Rattle.consistency_server.specs.declared.call.CallKind.TheVariants.{Update, Commit}
@@ -29,7 +26,7 @@ use Rattle.consistency_server.specs.State.{Placement, State, next_groups, next_i
 use Rattle.consistency_server.specs.Answers.{Call, Outcome, Refused, Repeated, Happens, at_limit, by_kind, happened, is_next, outcome_of, read_update, structure_of}
 use Rattle.consistency_server.specs.History.{events}
 use Rattle.honest_history.specs.Placed.{IsSince}
-use Rattle.honest_history.specs.Honest.{AreHonest, IsHonest, IsSignedByPlan, Naming}
+use Rattle.honest_history.specs.Honest.{AreHonest, IsHonest, Naming}
 use Rattle.agreement.proofs.Members.{In, contains_in, map-in}
 use Rattle.honest_history.proofs.Committing.{good_committed}
 use Rattle.honest_history.proofs.Events.{latests_after}
@@ -38,7 +35,7 @@ use Rattle.honest_history.proofs.Members.{bytes_true}
 use Rattle.honest_history.proofs.Outcomes.{IsCert, IsStructure, NewCommit, NewUpdate, NoCommit, NoUpdate, SameCommit, SameUpdate, commit_cases, read_whole, update_cases}
 use Rattle.honest_history.proofs.Placing.{CanPlace, good_placed}
 use Rattle.honest_history.proofs.Signing.{sign_records}
-use Rattle.honest_history.proofs.Tabled.{IsStructureSigned}
+use Rattle.honest_history.proofs.Tabled.{IsStructureSigned, plan_key}
 use Rattle.honest_history.proofs.Waiting.{CanCommit, Grown, Kept, kept}
 
 -- each event came as it may: an operation that was next, or a structure that an honest client signed
@@ -118,17 +115,9 @@ module _ (names : Naming) (pinned : Key) where
         fits,
       )
 
-  -- the structure of an operation that was placed is signed under the key of its plan, by which its certificate was
-  structure_signed : (es : List Event) (text : Bytes) (z : Signed Structure) → IsStructure (state_after pinned es) text z → Good pinned es → IsHonest names pinned es z.value → IsSignedByPlan (table_after pinned es) z → IsStructureSigned (table_after pinned es) z
-  structure_signed es text z is good honest by_plan =
-      let own = next_item (state_after pinned honest.earlier) honest.cert in
-      let (there, opened) = honest_open pinned es z.value names good honest in
-      let u = z.value.plan.user in
-      let v = table_version z.value.plan in
-      let (k, has, sign) = good.tabled.signed own there in
-      let user : own.cert.user ≡ u = sym (ap (λ (p : Plan). p.user) honest.over.plan ∙ good.placing.planned_user own there) in
-      let at : key_at u v (table_after pinned es) ≡ Some k = ap (λ w. key_at w v (table_after pinned es)) (sym user) ∙ ap (λ (p : Plan). key_at own.cert.user (table_version p) (table_after pinned es)) honest.over.plan ∙ has in
-      (k, at, subst (λ o. IfSome o (λ key. valid key (structure.spell z.value) z.signature ≡ true)) at by_plan)
+  -- a structure that is taken is signed under the key of its plan
+  structure_signed : (es : List Event) (text : Bytes) (z : Signed Structure) → IsStructure (state_after pinned es) text z → Good pinned es → IsStructureSigned (table_after pinned es) z
+  structure_signed es text z is good = (is.key, sym (plan_key (table_after pinned es) pinned z.value.plan good.super_key) ∙ is.has, is.signed)
 
   abbrev Goes : List Event → Outcome → Type 0
   Goes es o = AreHonest names pinned (happened o ++ es) → Reached names pinned es → Reached names pinned (happened o ++ es)
@@ -145,14 +134,14 @@ module _ (names : Naming) (pinned : Key) where
       elim (commit_cases (state_after pinned es) text (whole (signed structure) text) refl) [
         | NoCommit s refused e ↦ subst (Goes es) (sym e) (λ h r. r)
         | SameCommit z is f e ↦ subst (Goes es) (sym e) (λ h r. r)
-        | NewCommit z is p e ↦ subst (Goes es) (sym e) (λ h r. (structure_signed es text z is (reached es r).0 h.0 h.1, (read_whole structure lawful_structure text z bytes is.read).0, h.0, r))
+        | NewCommit z is p e ↦ subst (Goes es) (sym e) (λ h r. (structure_signed es text z is (reached es r).0, (read_whole structure lawful_structure text z bytes is.read).0, h.0, r))
       ]
 
   pub honest_before : (es : List Event) (o : Outcome) → AreHonest names pinned (happened o ++ es) → AreHonest names pinned es
   honest_before es (Refused s) h = h
   honest_before es (Repeated text) h = h
   honest_before es (Happens (Placed c) text) h = h
-  honest_before es (Happens (Committed z) text) h = h.2
+  honest_before es (Happens (Committed z) text) h = h.1
 
   pub reach : (history : List Call) → All (λ call. IsBytes call.text) history → AreHonest names pinned (events pinned history) → Reached names pinned (events pinned history)
   unfolding events outcome_of

@@ -155,8 +155,8 @@ module _ (naming : Naming) (pinned : Key) (first : NamesFirst naming pinned) whe
         elim (update_cases (state_after pinned es) text (whole (signed cert) text) refl) [
           | NoUpdate s refused e ↦ subst Answers (sym e) (λ a now. absurd (refused (ap (λ (x : Answer). x.status) a)))
           | SameUpdate c w is f e ↦ subst Answers (sym e) (λ a now.
-              let here = read_whole cert lawful_cert text c bytes is.read in
-              served_again c w (is.read, here.1) here.0 f now (sym (same_payload w.reply payload a)))
+              let here = read_whole cert lawful_cert text c bytes is in
+              served_again c w (is, here.1) here.0 f now (sym (same_payload w.reply payload a)))
           | NewUpdate c is n l e ↦ subst Answers (sym e) (λ a now.
               let here = read_whole cert lawful_cert text c bytes is.read in
               let can = can_place naming pinned es text c bytes is n l (reached naming pinned es r).0 in

@@ -39,6 +39,15 @@ IsCertSigned t i = IsSigned t i.cert.user (table_version i.plan) (cert.spell i.c
 abbrev pub IsStructureSigned : Table → Signed Structure → Type 0
 IsStructureSigned t z = IsSigned t z.value.plan.user (table_version z.value.plan) (structure.spell z.value) z.signature
 
+-- The user of a plan has one key at the plan's table version and at its version of user 0: they differ for user 0 alone,
+-- whose key is the same at each number.
+pub plan_key : (b : Table) (pinned : List ℕ) (p : Plan) → ((v : ℕ) → key_for b 0 v ≡ Some pinned) → key_for b p.user (version_of 0 p.vector) ≡ key_for b p.user (table_version p)
+plan_key b pinned p one =
+    elim (cases_eq p.user 0) [
+      | inl zero ↦ ap (λ u. key_for b u (version_of 0 p.vector)) zero ∙ one (version_of 0 p.vector) ∙ sym (ap (λ u. key_for b u (table_version p)) zero ∙ one (table_version p))
+      | inr other ↦ (let at : table_version p ≡ version_of 0 p.vector = rw (ne_eqb p.user 0 other) refl in ap (key_for b p.user) (sym at))
+    ]
+
 pub record Tabled (b : Table) (is : List PendingItem) (v : List Component) : Type 0 where
   pub listed : (i : PendingItem) → In i is → is_listed b (user i) (version 0 i) ≡ true
   pub since : Since (version_of 0 v) b

@@ -4,8 +4,9 @@ use Rattle.std.specs.List.{Contains}
 use Rattle.layout.specs.Format.{IsBytes}
 use Rattle.layout.specs.Types.{Bytes, Key}
 use Rattle.lms_sign.specs.Signature.{valid}
-use Rattle.principals.specs.Table.{key_of, lists_user}
+use Rattle.principals.specs.Table.{key_at, key_of, lists_user}
 use Rattle.version_order.specs.Structure.{Structure, structure}
+use Rattle.version_order.specs.Vector.{version_of}
 use Rattle.update_cert.specs.Cert.{Cert, cert}
 use Rattle.pending_list.specs.declared.signed.Signed.{Signed}
 use Rattle.pending_list.specs.Signed.{signed}
@@ -16,7 +17,7 @@ use Rattle.consistency_server.specs.Event.{Event, last_of}
 use Rattle.consistency_server.specs.State.{Placement, pending_after, state_after, table_after}
 use Rattle.consistency_server.specs.Answers.{Call, at_limit, cert_of}
 use Rattle.consistency_server.specs.History.{answer_of, commit_of, events, update_of}
-use Rattle.honest_history.specs.Honest.{IsHonest, IsSignedByPlan, Naming, number_in}
+use Rattle.honest_history.specs.Honest.{IsHonest, Naming, number_in}
 use Rattle.honest_history.specs.Served.{IsHonestHistory}
 
 -- The certificate is one that an honest client declares whose last structure the server took last of the user: the
@@ -31,14 +32,13 @@ pub record IsDeclared (pinned : Key) (es : List Event) (c : Signed Cert) : Type 
       → cert_of w.item ≡ c
 
 -- The structure is one that an honest client sends: the one that the server took last of the user, or one over the
--- reply to the user's pending operation, signed under the key that the table has of the user, also at the number of its
--- plan.
+-- reply to the user's pending operation, signed under the key that the table has of the user at the plan's version of
+-- user 0, if it has one.
 pub record IsSent (naming : Naming) (pinned : Key) (es : List Event) (z : Signed Structure) : Type 0 where
   pub fits : (signed structure).Fits z
   pub sent : (last_of z.value.plan.user es ≡ Some z) ⊎ IsHonest naming pinned es z.value
-  pub signed : IfSome (key_of z.value.plan.user (table_after pinned es))
+  pub signed : IfSome (key_at z.value.plan.user (version_of 0 z.value.plan.vector) (table_after pinned es))
       (λ key. valid key (structure.spell z.value) z.signature ≡ true)
-  pub planned : IsSignedByPlan (table_after pinned es) z
 
 -- success; or the user isn't listed; or one of the versions that the operation raises can grow no further
 abbrev pub IsUpdateStatus : Key → List Event → Cert → Status → Type 0

@@ -1,17 +1,16 @@
 -- What honest clients sign over the replies of a server.
-use Rattle.std.specs.Prelude.{◌≡◌, ◌⊎◌, true, false, List, [], ◌∷◌, Option, IfSome}
+use Rattle.std.specs.Prelude.{◌≡◌, ◌⊎◌, true, false, List, [], ◌∷◌, Option}
 use Rattle.std.specs.List.{Contains}
 use Rattle.std.specs.Option.{option_map_or}
 use Rattle.layout.specs.Types.{Group, Handle, Key, Version}
-use Rattle.lms_sign.specs.Signature.{valid}
 use Rattle.version_order.specs.declared.structure.GroupRecord.{GroupRecord}
-use Rattle.version_order.specs.Structure.{Structure, structure}
+use Rattle.version_order.specs.Structure.{Structure}
 use Rattle.version_order.specs.Vector.{version_of}
 use Rattle.update_cert.specs.Cert.{Cert}
 use Rattle.pending_list.specs.declared.signed.Signed.{Signed}
 use Rattle.pending_list.specs.Groups.{raises, table_version}
 use Rattle.pending_list.specs.Reply.{PendingItem}
-use Rattle.principals.specs.Table.{Table, key_at}
+use Rattle.principals.specs.Table.{Table}
 use Rattle.reply_rules.specs.Lists.{Lists}
 use Rattle.consistency_server.specs.Event.{Event, Placed, Committed, last_of}
 use Rattle.consistency_server.specs.State.{next_placement, pending_after, state_after, table_after}
@@ -70,15 +69,8 @@ pub record IsHonest (naming : Naming) (pinned : Key) (es : List Event) (z : Stru
   pub over : SignsOver naming (table_to pinned earlier cert) (last_of cert.value.user earlier)
       (lists_to pinned earlier cert) z
 
--- it is signed under the key that the table has of its user at the number of its plan, if it has one
-abbrev pub IsSignedByPlan : Table → Signed Structure → Type 0
-IsSignedByPlan t z =
-    IfSome (key_at z.value.plan.user (table_version z.value.plan) t)
-    (λ key. valid key (structure.spell z.value) z.signature ≡ true)
-
 -- so is each structure that was committed
 abbrev pub AreHonest : Naming → Key → List Event → Type 0
 AreHonest naming pinned [] = Unit {0}
 AreHonest naming pinned (Placed c ∷ es) = AreHonest naming pinned es
-AreHonest naming pinned (Committed z ∷ es) =
-    IsHonest naming pinned es z.value × IsSignedByPlan (table_after pinned es) z × AreHonest naming pinned es
+AreHonest naming pinned (Committed z ∷ es) = IsHonest naming pinned es z.value × AreHonest naming pinned es
