@@ -142,21 +142,35 @@ impl<A: Allocator + Copy> Hostile<A> {
         Ok(())
     }
 
-    /// Whether the user of a signed text is listed, and signed it.
-    fn judge_signature(&self, user: User, text: &[u8]) -> Result<(), Refused> {
-        match self.table.key_of(user) {
+    /// Whether the certificate of this text is signed by the key of its user that came last.
+    fn judge_cert(&self, text: &[u8], cert: &Cert<A>) -> Result<(), Refused> {
+        match self.table.key_of(cert.user()) {
             Some(key) if is_signed(&key, text) => Ok(()),
             Some(_) => Err(Refused(Status::BadSignature)),
             None => Err(Refused(Status::UnknownUser)),
         }
     }
 
-    /// The reply that was made for the certificate of this text, if it is pending; none where it is the user's next.
+    /// Whether a structure's text is signed by the key that its user has at its plan's version of user 0.
+    fn judge_structure(&self, text: &[u8], plan: &Plan<A>) -> Result<(), Refused> {
+        let user = plan.user();
+        if self.table.since(user).is_none() {
+            return Err(Refused(Status::UnknownUser));
+        }
+        let version = plan.vector().version_of(Principal::from(User::superuser()));
+        match self.table.key_at(user, version) {
+            Some(key) if is_signed(&key, text) => Ok(()),
+            _ => Err(Refused(Status::BadSignature)),
+        }
+    }
+
+    /// The reply that was made for the certificate of this text, if it is pending, before anything else; none where it
+    /// is the user's next.
     fn judge_update(&self, text: &[u8], cert: &Cert<A>) -> Result<Option<Vec<u8, A>>, Refused> {
-        self.judge_signature(cert.user(), text)?;
         if let Some(reply) = self.pending.reply_to(text) {
             return Ok(Some(copy_text(self.alloc, reply)?));
         }
+        self.judge_cert(text, cert)?;
         if self.is_next(cert)? {
             Ok(None)
         } else {
@@ -182,7 +196,7 @@ impl<A: Allocator + Copy> Hostile<A> {
     /// Whether a structure is to be committed: not where it is its user's latest one already.
     fn judge_commit(&self, text: &[u8], found: &Signed<Structure<A>>) -> Result<bool, Refused> {
         let plan = found.value.plan();
-        self.judge_signature(plan.user(), text)?;
+        self.judge_structure(text, plan)?;
         if self.is_latest(plan.user(), text)? {
             return Ok(false);
         }
