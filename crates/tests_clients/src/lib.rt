@@ -37,6 +37,8 @@ mod place_of_table;
 #[cfg(test)]
 mod refusals;
 #[cfg(test)]
+mod renewed_keys;
+#[cfg(test)]
 mod reopening;
 #[cfg(test)]
 mod restarts;

@@ -75,10 +75,13 @@ pub(crate) fn client_in<'a>(
     slot_of(rt, users, user).as_mut().expect(rt, "a client")
 }
 
-/// A status by the first letter of its name.
+/// A status by its name.
 fn status_of(rt: &impl Host, word: &[u8]) -> Status {
     match word {
         b"ok" => Status::Ok,
+        b"unknown_user" => Status::UnknownUser,
+        b"bad_signature" => Status::BadSignature,
+        b"wrong_number" => Status::WrongNumber,
         b"not_pending" => Status::NotPending,
         _ => panic!(rt; "no status"),
     }
