@@ -29,6 +29,8 @@ mod operations;
 #[cfg(test)]
 mod overlap;
 #[cfg(test)]
+mod renewed_key;
+#[cfg(test)]
 mod requests;
 #[cfg(test)]
 mod serving;

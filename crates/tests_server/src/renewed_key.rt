@@ -1,0 +1,137 @@
+//! A connection whose user got another key: its calls are verified once each from the second one on, as those of a
+//! connection that began afterwards.
+
+use crate::requests::{joined, put_frame};
+use crate::serving::{Host, serve_beside};
+use crate::users::with_users;
+use lms_sign::{Leaf, PrivateKey, PublicKey, sign};
+use server_workers::OpenGate;
+use std::alloc::Global;
+use std::io::{Read, Write};
+use std::net::TcpStream;
+use std::time::{Duration, Instant};
+use tests_plain_user::{Caller, PlainUser};
+use wire::Status;
+
+/// How many calls are sent at once, and how often that is over each connection.
+const CALLS: usize = 40;
+
+const ROUNDS: u32 = 40;
+
+/// User 1's certificate of number 7, which is none of its next ones, without changes.
+const CERTIFICATE: &[u8] = b"SUC1\x01\0\0\0\x07\
+    \0\0\0\0\0\0\0\0\0\0\0\0\0\0\0\0\0\0\0\0\0\0\0\0\0\0\0\0\0\0\0\0\0";
+
+/// The reply to it: the number is wrong.
+const WRONG_NUMBER: &[u8] = b"\0\0\0\x01\x04";
+
+/// The key whose seed and identifier have this byte everywhere.
+fn key_of<R: Host>(rt: &R, byte: u8) -> PrivateKey<Global> {
+    PrivateKey::from_seed(rt.alloc(), [byte; 32], [byte; 16]).expect(rt, "memory")
+}
+
+/// So many frames of the certificate, signed by the first leaf of a key.
+fn frames<R: Host>(rt: &R, key: &PrivateKey<Global>, count: usize) -> Vec<u8> {
+    assert!(rt; key.has_leaf(0), "the leaf");
+    let (signature, spent) = sign(key, Leaf::issue(&key.public(), 0), CERTIFICATE);
+    spent.end();
+    let text = joined(rt, &[CERTIFICATE, &signature]);
+    let mut frames = Vec::new(rt.alloc());
+    for _call in 0..count {
+        put_frame(rt, &mut frames, 1, &text);
+    }
+    frames
+}
+
+/// The frames are sent at once, and each is replied that its number is wrong.
+fn are_refused<R: Host>(rt: &R, stream: &mut TcpStream, frames: &[u8], count: usize) {
+    assert!(rt; stream.write_all(frames).is_ok(), "sent");
+    for _call in 0..count {
+        let mut reply = [0; 5];
+        assert!(rt; stream.read_exact(&mut reply).is_ok(), "a reply");
+        assert!(rt; reply.as_slice() == WRONG_NUMBER, "the status");
+    }
+}
+
+/// How long that takes.
+fn time_of<R: Host>(rt: &R, stream: &mut TcpStream, frames: &[u8]) -> Duration {
+    let start = Instant::now(rt).expect(rt, "the time");
+    are_refused(rt, stream, frames, CALLS);
+    start.elapsed(rt).expect(rt, "the time")
+}
+
+/// User 0 makes an operation of these changes.
+fn operate<R: Host>(
+    rt: &R,
+    caller: &mut Caller<TcpStream>,
+    superuser: &mut PlainUser,
+    changes: &[u8],
+) {
+    let statuses = superuser
+        .operate(caller, changes)
+        .expect(rt, "an operation");
+    assert!(rt; statuses == (Status::Ok, Status::Ok), "{statuses:?}");
+}
+
+/// One change, after the count of changes: its kind, a user and a key.
+fn change<R: Host>(rt: &R, kind_and_user: [u8; 2], key: &PublicKey) -> Vec<u8> {
+    joined(rt, &[&[1], &kind_and_user, key.as_bytes()])
+}
+
+/// The least time that the calls take over each of two connections, in rounds that alternate.
+fn least_times<R: Host>(
+    rt: &R,
+    first: &mut TcpStream,
+    second: &mut TcpStream,
+    frames: &[u8],
+) -> (Duration, Duration) {
+    let mut least = (Duration::MAX, Duration::MAX);
+    for _round in 0..ROUNDS {
+        let (one, other) = (time_of(rt, first, frames), time_of(rt, second, frames));
+        least = (least.0.min(one), least.1.min(other));
+    }
+    least
+}
+
+/// The first connection has user 1's old key before user 0 gives user 1 another one. Were each of its calls verified
+/// under both, they would take twice as long as those over the second connection, which began afterwards.
+fn are_verified_once<R: Host>(
+    rt: &R,
+    old: &mut TcpStream,
+    new: &mut TcpStream,
+    caller: &mut Caller<TcpStream>,
+    superuser: &mut PlainUser,
+) {
+    let (first, second) = (key_of(rt, 1), key_of(rt, 2));
+    let listing = change(rt, [6, 1], &first.public());
+    operate(rt, caller, superuser, &listing);
+    are_refused(rt, old, &frames(rt, &first, 1), 1);
+    let renewal = change(rt, [9, 1], &second.public());
+    operate(rt, caller, superuser, &renewal);
+    let by_second = frames(rt, &second, CALLS);
+    are_refused(rt, old, &by_second, CALLS);
+    are_refused(rt, new, &by_second, CALLS);
+    let (old, new) = least_times(rt, old, new, &by_second);
+    let is_once = old.saturating_mul(2) < new.saturating_mul(3);
+    assert!(rt; is_once, "{old:?} beside {new:?}");
+}
+
+/// Three connections of a server that user 0 and user 1 use.
+fn talk<R: Host>(rt: &R, streams: Vec<TcpStream>, superuser: &mut PlainUser) {
+    let mut streams = streams;
+    let mut old = streams.pop().expect(rt, "a connection");
+    let mut new = streams.pop().expect(rt, "a connection");
+    let mut caller = Caller::new(rt.alloc(), streams.pop().expect(rt, "a connection"));
+    are_verified_once(rt, &mut old, &mut new, &mut caller, superuser);
+}
+
+#[test]
+fn verified_once_after_renewal(rt: HostRuntime) {
+    with_users(&rt, 0, |superuser, _| {
+        let pinned = superuser.public();
+        let served = serve_beside(&rt, &OpenGate, 3, pinned, |streams| {
+            talk(&rt, streams, superuser)
+        });
+        assert_eq!(rt; served.unserved, 0);
+    });
+}
