@@ -1,15 +1,17 @@
 //! Commands that come on standard input, a line each.
 
-use crate::folder::{lock_ledger, read_content, read_keys};
+use crate::folder::{check_folder, lock_ledger, read_content, read_keys};
 use crate::hindrance::Hindrance;
+use crate::reaching::{Reach, Server};
 use crate::{
-    Outcome, OwnClient, OwnSession, WORDS, answer, end, open_client, own_key_digits, print, refuse,
-    session_of, tell,
+    Outcome, OwnClient, OwnSession, WORDS, answer, end, open_client, own_key_digits,
+    print_with_reason, refuse, session_of, tell,
 };
 use commands::{Answer, Command, Refusal};
 use file_commands::{Line, Wanted, split_words};
 use layout::let_go;
 use std::alloc::{AllocError, Global};
+use std::cell::Cell;
 use std::io::{self, ErrorKind, Input};
 use std::net::{Net, TcpStream};
 use std::thread::Threads;
@@ -45,17 +47,18 @@ fn put<H: Net<Stream = TcpStream>>(
 /// Does what a line of a batch wants; a batch is none.
 fn obey<H: Net<Stream = TcpStream> + Threads + Sync>(
     rt: &HostRuntime,
-    host: &H,
+    server: &Server<'_, H>,
     line: &Line<'_>,
     session: &mut OwnSession<'_, H>,
     wanted: &Wanted<'_>,
 ) -> Result<Outcome, Hindrance> {
-    match wanted {
-        Wanted::Key => Ok(Outcome::Key(own_key_digits(rt, host, line)?)),
-        Wanted::Run(command) => Ok(Outcome::Answer(answer(rt, session, command))),
-        Wanted::Put { path, file } => Ok(Outcome::Answer(put(rt, session, path, file)?)),
-        Wanted::Batch { .. } => Ok(Outcome::Ended(WORDS)),
-    }
+    let answer = match wanted {
+        Wanted::Key => return Ok(Outcome::Key(own_key_digits(rt, server.host(), line)?)),
+        Wanted::Batch { .. } => return Ok(Outcome::Ended(WORDS)),
+        Wanted::Run(command) => answer(rt, session, command),
+        Wanted::Put { path, file } => put(rt, session, path, file)?,
+    };
+    Ok(Outcome::Answer(answer, server.reach()))
 }
 
 /// Whether an answer tells that nothing can be sent any more over the connection that its command went over.
@@ -69,7 +72,7 @@ fn tells_cut(answer: &Answer<Global>) -> bool {
 /// Whether what came of a line tells this.
 fn is_cut(outcome: &Outcome) -> bool {
     match outcome {
-        Outcome::Answer(answer) => tells_cut(answer),
+        Outcome::Answer(answer, _) => tells_cut(answer),
         Outcome::Key(_) | Outcome::Ended(_) => false,
     }
 }
@@ -105,7 +108,7 @@ impl Ended {
 /// Carries out what stands in a line, and prints what comes of it. Where it has no words, that is nothing.
 fn carry_out<H: Net<Stream = TcpStream> + Threads + Sync>(
     rt: &HostRuntime,
-    host: &H,
+    server: &Server<'_, H>,
     line: &Line<'_>,
     session: &mut OwnSession<'_, H>,
     text: &str,
@@ -126,12 +129,12 @@ fn carry_out<H: Net<Stream = TcpStream> + Threads + Sync>(
             return Ok(Ended::unsent(status?));
         }
     };
-    let outcome = obey(rt, host, line, session, &wanted);
+    let outcome = obey(rt, server, line, session, &wanted);
     let is_cut = match &outcome {
         Ok(outcome) => is_cut(outcome),
         Err(_) => false,
     };
-    let status = print(rt, &outcome);
+    let status = print_with_reason(rt, line, &wanted, &outcome);
     let_go(outcome);
     Ok(Ended {
         status: status?,
@@ -142,13 +145,13 @@ fn carry_out<H: Net<Stream = TcpStream> + Threads + Sync>(
 /// Carries out a line as it was read.
 fn carry_out_read<H: Net<Stream = TcpStream> + Threads + Sync>(
     rt: &HostRuntime,
-    host: &H,
+    server: &Server<'_, H>,
     line: &Line<'_>,
     session: &mut OwnSession<'_, H>,
     text: io::Result<String>,
 ) -> anyhow::Result<Ended> {
     match text {
-        Ok(text) => carry_out(rt, host, line, session, &text),
+        Ok(text) => carry_out(rt, server, line, session, &text),
         Err(fault) if fault.kind() == ErrorKind::InvalidData => {
             let _ = eprintln!(rt; "error: a word isn't UTF-8");
             Ok(Ended::unsent(WORDS))
@@ -160,31 +163,30 @@ fn carry_out_read<H: Net<Stream = TcpStream> + Threads + Sync>(
 /// The same client, that isn't connected.
 fn reconnect<'a, H: Net<Stream = TcpStream>>(
     rt: &HostRuntime,
-    host: &'a H,
-    address: &'a str,
+    server: &Server<'a, H>,
     session: OwnSession<'a, H>,
 ) -> OwnSession<'a, H> {
     let (client, transport) = session.close();
     let_go(transport);
-    session_of(rt, host, address, client)
+    session_of(rt, server.again(), client)
 }
 
 /// Carries out a line with its number, from 1 on. A status that isn't 0 is told with it.
 fn carry_out_numbered<'a, H: Net<Stream = TcpStream> + Threads + Sync>(
     rt: &HostRuntime,
-    host: &'a H,
-    line: &Line<'a>,
+    server: &Server<'a, H>,
+    line: &Line<'_>,
     session: OwnSession<'a, H>,
     (number, text): (usize, io::Result<String>),
 ) -> (OwnSession<'a, H>, anyhow::Result<u8>) {
     let mut session = session;
-    match carry_out_read(rt, host, line, &mut session, text) {
+    match carry_out_read(rt, server, line, &mut session, text) {
         Ok(ended) => {
             if ended.status != 0 {
                 let _ = eprintln!(rt; "line {number}: status {}", ended.status);
             }
             if ended.is_cut {
-                session = reconnect(rt, host, line.server, session);
+                session = reconnect(rt, server, session);
             }
             (session, Ok(ended.status))
         }
@@ -194,18 +196,18 @@ fn carry_out_numbered<'a, H: Net<Stream = TcpStream> + Threads + Sync>(
 
 /// Carries out the lines of standard input, up to the first whose status isn't 0 where it stops there, or to one that
 /// can't be read or whose answer can't be printed: the first status that isn't 0, or 0.
-fn carry_out_all<'a, H: Net<Stream = TcpStream> + Threads + Sync>(
+fn carry_out_all<H: Net<Stream = TcpStream> + Threads + Sync>(
     rt: &HostRuntime,
-    host: &'a H,
-    line: &Line<'a>,
+    server: &Server<'_, H>,
+    line: &Line<'_>,
     client: OwnClient,
     stops: bool,
 ) -> u8 {
-    let mut session = session_of(rt, host, line.server, client);
+    let mut session = session_of(rt, server.again(), client);
     let mut first = 0;
     for (place, text) in rt.lines(rt.alloc()).enumerate() {
         let numbered = (place.saturating_add(1), text);
-        let (next, ended) = carry_out_numbered(rt, host, line, session, numbered);
+        let (next, ended) = carry_out_numbered(rt, server, line, session, numbered);
         session = next;
         let (status, is_last) = match ended {
             Ok(status) => (status, stops && status != 0),
@@ -230,7 +232,10 @@ pub(crate) fn carry_out_batch<H: Net<Stream = TcpStream> + Threads + Sync>(
     stops: bool,
 ) -> Result<u8, Hindrance> {
     let keys = read_keys(rt, line.dir)?;
+    check_folder(rt, line.dir, line.user)?;
     let _lock = lock_ledger(rt, line.dir)?;
     let client = open_client(rt, host, line, &keys)?;
-    Ok(carry_out_all(rt, host, line, client, stops))
+    let reach = Cell::new(Reach::Untried);
+    let server = Server::new(host, line.server, &reach);
+    Ok(carry_out_all(rt, &server, line, client, stops))
 }

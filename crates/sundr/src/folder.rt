@@ -1,19 +1,20 @@
-//! What a user's folder has: the keys, and the files of the client's ledger and journal; and the file that is put.
+//! What a user's folder has: the keys, the user's number, and the files of the client's ledger and journal; and the
+//! file that is put.
 
-use crate::hindrance::Hindrance;
+use crate::hindrance::{FileFault, FolderFile, Hindrance};
 use commands::Refusal;
 use drawn_key::{LEDGER_SIZE, kept_key};
 use itable::FILE_SIZE;
-use layout::Memory;
+use layout::{Memory, User};
 use leaf_ledger::FileDevice;
 use lms_sign::{ID_SIZE, KEPT_SIZE, KEY_SIZE, PrivateKey, PublicKey, SEED_SIZE};
 use std::alloc::{AllocError, Global};
 use std::fs::{self, File, OpenOptions, TryLockError};
 use std::io::{self, ErrorKind, Read, Write};
-use std::os::unix::fs::OpenOptionsExt;
+use std::os::unix::fs::{MetadataExt, OpenOptionsExt};
 
-/// The file of the ledger.
-pub(crate) const LEDGER: &str = "ledger";
+/// How much is read of the file of a user's number: more than a number and a newline have.
+const USER_SIZE: u64 = 8;
 
 /// The file of the keys of the leaves, so that a key need not be drawn each time.
 const LEAVES: &str = "leaves";
@@ -23,6 +24,9 @@ const LEAVES_BESIDE: &str = "leaves.new";
 
 /// The mode of a file that its owner alone reads and writes.
 const OWNERS_ALONE: u32 = 0o600;
+
+/// What a file's mode has where others than its owner may use it.
+const FOR_OTHERS: u32 = 0o077;
 
 /// What a user's own key is drawn from, and user 0's public key.
 #[derive(Clone, Copy)]
@@ -40,24 +44,35 @@ fn hindrance_of(fault: &io::Error, other: Hindrance) -> Hindrance {
     }
 }
 
-/// What a fault of the system at the ledger or at the journal is told as.
-fn device_hindrance(fault: &io::Error) -> Hindrance {
-    hindrance_of(fault, Hindrance::Refused(Refusal::Device))
+/// What a fault of the system at another file of the folder than those is told as.
+fn device_hindrance(file: FolderFile, fault: &io::Error) -> Hindrance {
+    let other = Hindrance::OfFile(Refusal::Device, file, FileFault::of(fault));
+    hindrance_of(fault, other)
 }
 
-/// What a fault of the system at the seed or at user 0's public key is told as.
-fn key_hindrance(fault: &io::Error) -> Hindrance {
-    hindrance_of(fault, Hindrance::NoKeys)
+/// What a fault of the system at the seed or at user 0's public key is told as, and what one that is too short.
+fn key_hindrance(file: FolderFile, short: FileFault, fault: &io::Error) -> Hindrance {
+    let at_fault = match fault.kind() {
+        ErrorKind::UnexpectedEof => short,
+        ErrorKind::NotFound => FileFault::Unmade,
+        _ => FileFault::of(fault),
+    };
+    hindrance_of(fault, Hindrance::NoKeys(file, at_fault))
 }
 
 /// What a fault of the system at the file that is put is told as.
 fn content_hindrance(fault: &io::Error) -> Hindrance {
-    hindrance_of(fault, Hindrance::NoFile)
+    hindrance_of(fault, Hindrance::NoFile(FileFault::of(fault)))
 }
 
-/// The path of a file of a folder.
+/// The path of a name in a folder.
 fn path_in(alloc: Global, folder: &str, name: &str) -> Result<String, AllocError> {
     format!(in alloc; "{folder}/{name}")
+}
+
+/// The path of a file of a user's folder.
+fn path_of(alloc: Global, folder: &str, file: FolderFile) -> Result<String, AllocError> {
+    path_in(alloc, folder, file.name())
 }
 
 /// Reads the last bytes of a file: none are to follow them.
@@ -69,27 +84,51 @@ fn read_last(file: &mut File, bytes: &mut [u8]) -> Option<()> {
     }
 }
 
+/// What a fault of the system at the seed is told as.
+fn seed_hindrance(fault: &io::Error) -> Hindrance {
+    key_hindrance(FolderFile::Seed, FileFault::NoSeed, fault)
+}
+
+/// The file of the seed. One that others than its owner may use is refused.
+fn open_seed(rt: &HostRuntime, folder: &str) -> Result<File, Hindrance> {
+    let path = path_of(rt.alloc(), folder, FolderFile::Seed)?;
+    let file = File::open(rt, &path).map_err(|fault| seed_hindrance(&fault))?;
+    let found = file.metadata().map_err(|fault| seed_hindrance(&fault))?;
+    if found.mode() & FOR_OTHERS != 0 {
+        return Err(Hindrance::NoKeys(FolderFile::Seed, FileFault::TooOpen));
+    }
+    Ok(file)
+}
+
 /// The seed and the identifier in a user's folder.
 pub(crate) fn read_seed(
     rt: &HostRuntime,
     folder: &str,
 ) -> Result<([u8; SEED_SIZE], [u8; ID_SIZE]), Hindrance> {
-    let path = path_in(rt.alloc(), folder, "seed")?;
     let (mut seed, mut id) = ([0; SEED_SIZE], [0; ID_SIZE]);
-    let mut file = File::open(rt, &path).map_err(|fault| key_hindrance(&fault))?;
+    let mut file = open_seed(rt, folder)?;
     file.read_exact(&mut seed)
-        .map_err(|fault| key_hindrance(&fault))?;
-    read_last(&mut file, &mut id).ok_or(Hindrance::NoKeys)?;
+        .map_err(|fault| seed_hindrance(&fault))?;
+    read_last(&mut file, &mut id).ok_or(Hindrance::NoKeys(FolderFile::Seed, FileFault::NoSeed))?;
     Ok((seed, id))
+}
+
+/// What is told of what isn't user 0's public key.
+fn no_super_key() -> Hindrance {
+    Hindrance::NoKeys(FolderFile::SuperKey, FileFault::NoKey)
 }
 
 /// User 0's public key in a user's folder.
 fn read_pinned(rt: &HostRuntime, folder: &str) -> Result<PublicKey, Hindrance> {
-    let path = path_in(rt.alloc(), folder, "super.pub")?;
+    let path = path_of(rt.alloc(), folder, FolderFile::SuperKey)?;
     let mut bytes = [0; KEY_SIZE];
-    let mut file = File::open(rt, &path).map_err(|fault| key_hindrance(&fault))?;
-    read_last(&mut file, &mut bytes).ok_or(Hindrance::NoKeys)?;
-    PublicKey::from_bytes(bytes).ok_or(Hindrance::NoKeys)
+    let mut file = File::open(rt, &path).map_err(|fault| key_hindrance(
+        FolderFile::SuperKey,
+        FileFault::NoKey,
+        &fault,
+    ))?;
+    read_last(&mut file, &mut bytes).ok_or(no_super_key())?;
+    PublicKey::from_bytes(bytes).ok_or(no_super_key())
 }
 
 /// What a user's folder has of keys.
@@ -115,7 +154,7 @@ pub(crate) fn read_kept(
     folder: &str,
     keys: &Keys,
 ) -> Result<Option<PrivateKey<Global>>, Memory> {
-    let Some(ledger) = read_sized(rt, folder, LEDGER, LEDGER_SIZE) else {
+    let Some(ledger) = read_sized(rt, folder, FolderFile::Ledger.name(), LEDGER_SIZE) else {
         return Ok(None);
     };
     let Some(kept) = read_sized(rt, folder, LEAVES, KEPT_SIZE) else {
@@ -154,20 +193,80 @@ pub(crate) fn read_content(rt: &HostRuntime, path: &str) -> Result<Vec<u8>, Hind
     }
 }
 
+/// The user whose number a text is.
+fn user_of(text: &[u8]) -> Option<User> {
+    let text = std::str::from_utf8(text).ok()?;
+    User::new(text.trim_end().parse::<u8>().ok()?)
+}
+
+/// The user whose folder it is, if it tells that.
+fn read_user(rt: &HostRuntime, folder: &str) -> Result<Option<User>, Hindrance> {
+    let path = path_of(rt.alloc(), folder, FolderFile::User)?;
+    let file = match File::open(rt, &path) {
+        Ok(file) => file,
+        Err(fault) if fault.kind() == ErrorKind::NotFound => return Ok(None),
+        Err(fault) => return Err(device_hindrance(FolderFile::User, &fault)),
+    };
+    let mut text = Vec::new(rt.alloc());
+    file.take(USER_SIZE)
+        .read_to_end(&mut text)
+        .map_err(|fault| device_hindrance(FolderFile::User, &fault))?;
+    match user_of(&text) {
+        Some(user) => Ok(Some(user)),
+        None => Err(Hindrance::OfFile(Refusal::Foreign, FolderFile::User, FileFault::NoNumber)),
+    }
+}
+
+/// Refuses a folder that tells that it is another user's.
+pub(crate) fn check_user(rt: &HostRuntime, folder: &str, user: User) -> Result<(), Hindrance> {
+    match read_user(rt, folder)? {
+        Some(own) if own.get() != user.get() => Err(Hindrance::OfUser(own)),
+        _ => Ok(()),
+    }
+}
+
+/// Whether there is a file of a folder that has bytes.
+fn has_bytes(rt: &HostRuntime, folder: &str, file: FolderFile) -> Result<bool, AllocError> {
+    let path = path_of(rt.alloc(), folder, file)?;
+    Ok(fs::metadata(rt, &path).is_ok_and(|found| found.len() != 0))
+}
+
+/// Refuses a folder whose ledger would be made beside a journal that has something in it: leaves that were used would
+/// be handed out again. The journal is looked at first, since another process makes the ledger before it.
+fn check_ledger(rt: &HostRuntime, folder: &str) -> Result<(), Hindrance> {
+    if has_bytes(rt, folder, FolderFile::Journal)? && !has_bytes(rt, folder, FolderFile::Ledger)? {
+        return Err(Hindrance::OfFile(Refusal::Foreign, FolderFile::Ledger, FileFault::Gone));
+    }
+    Ok(())
+}
+
+/// Refuses a folder that isn't this user's, or hasn't the ledger that it had. Nothing is written.
+pub(crate) fn check_folder(rt: &HostRuntime, folder: &str, user: User) -> Result<(), Hindrance> {
+    check_user(rt, folder, user)?;
+    check_ledger(rt, folder)
+}
+
 /// Locks the ledger's file, unless the system knows no locks: while the handle is open, no other process is given the
 /// lock.
 pub(crate) fn lock_ledger(rt: &HostRuntime, folder: &str) -> Result<File, Hindrance> {
-    let path = path_in(rt.alloc(), folder, LEDGER)?;
+    let path = path_of(rt.alloc(), folder, FolderFile::Ledger)?;
     let file = OpenOptions::new()
         .read(true)
         .write(true)
         .create(true)
         .open(rt, &path)
-        .map_err(|fault| device_hindrance(&fault))?;
+        .map_err(|fault| device_hindrance(FolderFile::Ledger, &fault))?;
     match file.try_lock() {
         Ok(()) => Ok(file),
+        Err(TryLockError::WouldBlock) => {
+            Err(Hindrance::OfFile(Refusal::Device, FolderFile::Ledger, FileFault::InUse))
+        }
         Err(TryLockError::Error(fault)) if fault.kind() == ErrorKind::Unsupported => Ok(file),
-        Err(_) => Err(Hindrance::Refused(Refusal::Device)),
+        Err(TryLockError::Error(fault)) => Err(Hindrance::OfFile(
+            Refusal::Device,
+            FolderFile::Ledger,
+            FileFault::of(&fault),
+        )),
     }
 }
 
@@ -175,8 +274,8 @@ pub(crate) fn lock_ledger(rt: &HostRuntime, folder: &str) -> Result<File, Hindra
 pub(crate) fn open_device(
     rt: &HostRuntime,
     folder: &str,
-    name: &str,
+    file: FolderFile,
 ) -> Result<FileDevice<Global>, Hindrance> {
-    let path = path_in(rt.alloc(), folder, name)?;
-    FileDevice::open(rt, rt.alloc(), folder, &path).map_err(|fault| device_hindrance(&fault))
+    let path = path_of(rt.alloc(), folder, file)?;
+    FileDevice::open(rt, rt.alloc(), folder, &path).map_err(|fault| device_hindrance(file, &fault))
 }

@@ -4,29 +4,34 @@
 mod batch;
 mod folder;
 mod hindrance;
+mod reaching;
+mod reason;
 
 use batch::carry_out_batch;
 use client_verify::Client;
 use commands::{Answer, Command};
-use connection::{ConnectionFault, Socket};
+use connection::Socket;
 use drawn_key::drawn_key;
 use file_commands::{Line, LineError, Wanted};
 use file_session::{Resumed, Session, refusal_of};
 use folder::{
-    Keys, LEDGER, keep_leaves, lock_ledger, open_device, read_content, read_kept, read_keys,
-    read_seed,
+    Keys, check_folder, check_user, keep_leaves, lock_ledger, open_device, read_content, read_kept,
+    read_keys, read_seed,
 };
-use hindrance::Hindrance;
+use hindrance::{FolderFile, Hindrance};
 use layout::let_go;
 use leaf_ledger::FileDevice;
 use lms_sign::PrivateKey;
+use reaching::{Reach, Server};
+use reason::{Reason, reason_of_answer, reason_of_hindrance};
 use std::alloc::Global;
+use std::cell::Cell;
 use std::env;
 use std::io::{self, ErrorKind};
 use std::net::{Net, TcpStream};
 use std::process::ExitCode;
 use std::thread::Threads;
-use transport::{Connect, Connecting};
+use transport::Connecting;
 
 /// The status where the words are at fault.
 const WORDS: u8 = 5;
@@ -53,34 +58,10 @@ type OwnSession<'a, H> = Session<
 enum Outcome {
     /// The own public key in hexadecimal digits.
     Key(String),
-    /// What came of a command.
-    Answer(Answer<Global>),
+    /// What came of a command, and of the latest try to connect.
+    Answer(Answer<Global>, Reach),
     /// Commands were carried out, of which all is printed, and this is the status to end with.
     Ended(u8),
-}
-
-/// The server at an address.
-#[derive(Drop)]
-struct Server<'a, H> {
-    host: &'a H,
-    address: &'a str,
-}
-
-/// A stream to the server. What is written is sent at once.
-fn dial<H: Net<Stream = TcpStream>>(host: &H, address: &str) -> io::Result<Socket> {
-    let stream = TcpStream::connect(host, address)?;
-    stream.set_nodelay(true)?;
-    Socket::new(stream)
-}
-
-impl<'a, H: Net<Stream = TcpStream>> Connect<Socket> for Server<'a, H> {
-    fn connect(&mut self) -> Result<Socket, ConnectionFault> {
-        dial(self.host, self.address).map_err(|_| ConnectionFault)
-    }
-
-    fn may_go_ahead(&self) -> bool {
-        true
-    }
 }
 
 /// The user's own key: made of what was kept of its leaves; or drawn, and then its leaves are kept. That they can't be
@@ -107,8 +88,8 @@ fn open_client<H: Threads + Sync>(
     keys: &Keys,
 ) -> Result<OwnClient, Hindrance> {
     let alloc = rt.alloc();
-    let ledger = open_device(rt, line.dir, LEDGER)?;
-    let journal = open_device(rt, line.dir, "journal")?;
+    let ledger = open_device(rt, line.dir, FolderFile::Ledger)?;
+    let journal = open_device(rt, line.dir, FolderFile::Journal)?;
     let key = own_key(rt, host, line.dir, keys)?;
     match Client::open(alloc, line.user, key, keys.pinned, ledger, journal) {
         Ok(client) => Ok(client),
@@ -134,11 +115,10 @@ fn tell_resumed(rt: &HostRuntime, resumed: &Resumed<Global>) -> io::Result<()> {
 /// A session of a client, that isn't connected.
 fn session_of<'a, H: Net<Stream = TcpStream>>(
     rt: &HostRuntime,
-    host: &'a H,
-    address: &'a str,
+    server: Server<'a, H>,
     client: OwnClient,
 ) -> OwnSession<'a, H> {
-    let transport = Connecting::new(rt.alloc(), Server { host, address });
+    let transport = Connecting::new(rt.alloc(), server);
     Session::new(rt.alloc(), client, transport)
 }
 
@@ -169,13 +149,15 @@ fn carry_out<H: Net<Stream = TcpStream> + Threads + Sync>(
     line: &Line<'_>,
     keys: &Keys,
     command: &Command<'_>,
-) -> Result<Answer<Global>, Hindrance> {
+) -> Result<Outcome, Hindrance> {
+    check_folder(rt, line.dir, line.user)?;
     let _lock = lock_ledger(rt, line.dir)?;
     let client = open_client(rt, host, line, keys)?;
-    let mut session = session_of(rt, host, line.server, client);
+    let reach = Cell::new(Reach::Untried);
+    let mut session = session_of(rt, Server::new(host, line.server, &reach), client);
     let answer = answer(rt, &mut session, command);
     end(session);
-    Ok(answer)
+    Ok(Outcome::Answer(answer, reach.get()))
 }
 
 /// The own public key in hexadecimal digits.
@@ -185,6 +167,7 @@ fn own_key_digits<H: Threads + Sync>(
     line: &Line<'_>,
 ) -> Result<String, Hindrance> {
     let (seed, id) = read_seed(rt, line.dir)?;
+    check_user(rt, line.dir, line.user)?;
     let key = drawn_key(host, rt.alloc(), seed, id)?;
     Ok(hex::encode(rt.alloc(), *key.public().as_bytes())?)
 }
@@ -196,7 +179,7 @@ fn put_file<H: Net<Stream = TcpStream> + Threads + Sync>(
     line: &Line<'_>,
     path: &str,
     file: &str,
-) -> Result<Answer<Global>, Hindrance> {
+) -> Result<Outcome, Hindrance> {
     let keys = read_keys(rt, line.dir)?;
     let content = read_content(rt, file)?;
     let command = Command::Put {
@@ -212,7 +195,7 @@ fn obey_command<H: Net<Stream = TcpStream> + Threads + Sync>(
     host: &H,
     line: &Line<'_>,
     command: &Command<'_>,
-) -> Result<Answer<Global>, Hindrance> {
+) -> Result<Outcome, Hindrance> {
     let keys = read_keys(rt, line.dir)?;
     carry_out(rt, host, line, &keys, command)
 }
@@ -223,21 +206,29 @@ fn obey<H: Net<Stream = TcpStream> + Threads + Sync>(
     host: &H,
     line: &Line<'_>,
 ) -> Result<Outcome, Hindrance> {
-    let answer = match &line.wanted {
-        Wanted::Key => return Ok(Outcome::Key(own_key_digits(rt, host, line)?)),
-        Wanted::Batch { stops } => {
-            return Ok(Outcome::Ended(carry_out_batch(rt, host, line, *stops)?));
-        }
-        Wanted::Run(command) => obey_command(rt, host, line, command)?,
-        Wanted::Put { path, file } => put_file(rt, host, line, path, file)?,
-    };
-    Ok(Outcome::Answer(answer))
+    match &line.wanted {
+        Wanted::Key => Ok(Outcome::Key(own_key_digits(rt, host, line)?)),
+        Wanted::Batch { stops } => Ok(Outcome::Ended(carry_out_batch(rt, host, line, *stops)?)),
+        Wanted::Run(command) => obey_command(rt, host, line, command),
+        Wanted::Put { path, file } => put_file(rt, host, line, path, file),
+    }
 }
 
 /// Prints an answer: the status to end with.
 fn print_answer(rt: &HostRuntime, answer: &Answer<Global>) -> anyhow::Result<u8> {
     answer.write(&mut io::writer(rt))?;
     Ok(answer.status())
+}
+
+/// Prints why a command isn't begun: the status to end with.
+fn print_hindrance(rt: &HostRuntime, hindrance: Hindrance) -> anyhow::Result<u8> {
+    match hindrance.refusal() {
+        Some(refusal) => print_answer(rt, &Answer::Refused(refusal)),
+        None => {
+            println!(rt; "{hindrance}")?;
+            Ok(REFUSED)
+        }
+    }
 }
 
 /// Prints what came of a line: the status to end with.
@@ -247,14 +238,37 @@ fn print(rt: &HostRuntime, outcome: &Result<Outcome, Hindrance>) -> anyhow::Resu
             println!(rt; "{digits}")?;
             Ok(0)
         }
-        Ok(Outcome::Answer(answer)) => print_answer(rt, answer),
+        Ok(Outcome::Answer(answer, _)) => print_answer(rt, answer),
         Ok(Outcome::Ended(status)) => Ok(*status),
-        Err(Hindrance::Refused(refusal)) => print_answer(rt, &Answer::Refused(*refusal)),
-        Err(hindrance) => {
-            println!(rt; "{hindrance}")?;
-            Ok(REFUSED)
-        }
+        Err(hindrance) => print_hindrance(rt, *hindrance),
     }
+}
+
+/// What is told beside what came of something that was wanted, if anything is.
+fn reason_of<'a>(
+    line: &Line<'a>,
+    wanted: &Wanted<'a>,
+    outcome: &Result<Outcome, Hindrance>,
+) -> Option<Reason<'a>> {
+    match outcome {
+        Ok(Outcome::Answer(answer, reach)) => reason_of_answer(line, wanted, *reach, answer),
+        Ok(Outcome::Key(_) | Outcome::Ended(_)) => None,
+        Err(hindrance) => Some(reason_of_hindrance(line, wanted, *hindrance)),
+    }
+}
+
+/// Prints what came of something that was wanted, and tells beside it what that means: the status to end with.
+fn print_with_reason(
+    rt: &HostRuntime,
+    line: &Line<'_>,
+    wanted: &Wanted<'_>,
+    outcome: &Result<Outcome, Hindrance>,
+) -> anyhow::Result<u8> {
+    let status = print(rt, outcome)?;
+    if let Some(reason) = reason_of(line, wanted, outcome) {
+        let _ = eprintln!(rt; "sundr: {reason}");
+    }
+    Ok(status)
 }
 
 /// Tells what the words lack, or the help that they ask for: the status to end with.
@@ -282,7 +296,7 @@ fn obey_and_print<H: Net<Stream = TcpStream> + Threads + Sync>(
     line: &Line<'_>,
 ) -> anyhow::Result<u8> {
     let outcome = obey(rt, host, line);
-    let status = print(rt, &outcome);
+    let status = print_with_reason(rt, line, &line.wanted, &outcome);
     let_go(outcome);
     status
 }

@@ -1,0 +1,300 @@
+//! What is told beside an answer on standard error: what it means, and what can be done.
+
+use crate::hindrance::{FileFault, FolderFile, Hindrance};
+use crate::reaching::Reach;
+use commands::{Answer, Command, Refusal, path_of, place_of};
+use file_commands::{Line, Wanted};
+use reply_rules::Rule;
+use std::alloc::Global;
+use std::fmt;
+use wire::Status;
+
+/// Why a change of what stands at a path had no effect.
+const LOST: &str =
+    "without effect: you may not change what it names, or another user came first: look, and try again";
+
+/// What an answer means: a line of two parts.
+#[derive(Clone, Copy)]
+pub(crate) enum Reason<'a> {
+    /// What is so of a file of the folder.
+    OfFile {
+        folder: &'a str,
+        file: FolderFile,
+        words: &'a str,
+    },
+    /// What is so of something that has a name: a word of the command line, a status, or a command.
+    Of {
+        name: &'a str,
+        words: &'a str,
+    },
+    /// That the folder is one user's, and not another's.
+    OfUser {
+        folder: &'a str,
+        own: u8,
+        other: u8,
+    },
+}
+
+impl<'a> fmt::Display for Reason<'a> {
+    fn fmt<W: fmt::Write>(&self, f: &mut fmt::Formatter<W>) -> fmt::Result {
+        match self {
+            Reason::OfFile {
+                folder,
+                file,
+                words,
+            } => {
+                let file = file.name();
+                write!(f, "{folder}/{file}: {words}")
+            }
+            Reason::Of { name, words } => write!(f, "{name}: {words}"),
+            Reason::OfUser { folder, own, other } => write!(
+                f,
+                "{folder}: the folder of user {own}, not of user {other}: say --user {own}"
+            ),
+        }
+    }
+}
+
+/// The path that a command names, or where it names none what it is called.
+fn name_of<'a>(command: &Command<'a>) -> &'a str {
+    match command {
+        Command::Ls(path) | Command::Cat(path) | Command::Mkdir(path) | Command::Rm(path) => *path,
+        Command::Put { path, .. } | Command::Link { path, .. } => *path,
+        Command::AddUser { .. } => "adduser",
+        Command::AddMember { .. } => "addmember",
+        Command::DropMember { .. } => "dropmember",
+    }
+}
+
+/// The path that is named in what is wanted, or where none is what that is called.
+fn name_in<'a>(wanted: &Wanted<'a>) -> &'a str {
+    match wanted {
+        Wanted::Key => "key",
+        Wanted::Batch { .. } => "batch",
+        Wanted::Put { path, .. } => *path,
+        Wanted::Run(command) => name_of(command),
+    }
+}
+
+/// The file that is to be put, or where none is the path that is named.
+fn file_in<'a>(wanted: &Wanted<'a>) -> &'a str {
+    match wanted {
+        Wanted::Put { file, .. } => *file,
+        _ => name_in(wanted),
+    }
+}
+
+/// The name of a status, and what it means.
+fn reason_of_status<'a>(status: Status) -> Reason<'a> {
+    let (name, words) = match status {
+        Status::Ok => ("Ok", "done"),
+        Status::Form => (
+            "Form",
+            "the server couldn't read what it was sent: are sundr and sundrd of one version?",
+        ),
+        Status::UnknownUser => (
+            "UnknownUser",
+            "the server lists no such user: user 0 has yet to add it (adduser), or the server was started anew or is another one",
+        ),
+        Status::BadSignature => (
+            "BadSignature",
+            "the server lists this user with another key: compare the one that user 0 added with what the command key prints",
+        ),
+        Status::WrongNumber => (
+            "WrongNumber",
+            "server and folder don't fit, one of them is older: the server was started anew, or the folder was copied; never go on with a copy",
+        ),
+        Status::NotPending => (
+            "NotPending",
+            "the server doesn't know what this folder signed last: it was started anew, or the folder was copied; never go on with a copy",
+        ),
+        Status::Busy => ("Busy", "the log of the server is full for now: try again"),
+        Status::TooLarge => (
+            "TooLarge",
+            "a version is the last one, or a block is too large",
+        ),
+        Status::Absent => ("Absent", "the server lacks a block"),
+        Status::Memory => (
+            "Memory",
+            "the server has no memory left, or no room for blocks (sundrd --room): ask who runs it",
+        ),
+    };
+    Reason::Of { name, words }
+}
+
+/// What a broken rule says of a server.
+fn words_of_rule(rule: Rule) -> &'static str {
+    match rule {
+        Rule::SuperSignature => {
+            "its user 0 isn't the one of super.pub, or it showed what no honest server shows: nothing of it was taken; is it the right server?"
+        }
+        _ => {
+            "it showed what no honest server shows: nothing of it was taken; keep the folder, don't go on with this server, and tell the others"
+        }
+    }
+}
+
+/// Why changes of a command had no effect.
+fn words_of_lost(command: &Command<'_>) -> &'static str {
+    match command {
+        Command::AddUser { .. } => "without effect: user 0 alone adds users, and each number once",
+        Command::AddMember { .. } => {
+            "without effect: user 0 alone adds members, who are listed and no members yet"
+        }
+        Command::DropMember { .. } => {
+            "without effect: user 0 alone drops members, and only who is one"
+        }
+        _ => LOST,
+    }
+}
+
+/// Why changes of what is wanted had no effect.
+fn words_of_lost_in(wanted: &Wanted<'_>) -> &'static str {
+    match wanted {
+        Wanted::Run(command) => words_of_lost(command),
+        _ => LOST,
+    }
+}
+
+/// Why a command finds no path where its path is one.
+fn words_of_path(command: &Command<'_>) -> &'static str {
+    match command {
+        Command::Ls(_) => "no such directory: nothing is there, or a file",
+        Command::Cat(_) => "no such file: nothing is there, or a directory",
+        Command::Link { target, .. } if place_of(target).is_none() => {
+            "can't lead to that: what it is to lead to is told as @p:i"
+        }
+        Command::Rm(_) => "nothing is there that can be removed",
+        _ => "can't be made: no such directory above it",
+    }
+}
+
+/// Why what is wanted finds no path.
+fn words_of_path_in(wanted: &Wanted<'_>) -> &'static str {
+    if path_of(name_in(wanted)).is_none() {
+        return "not a path: paths are /, /a/b, @p:i and @p:i/a/b";
+    }
+    match wanted {
+        Wanted::Run(command) => words_of_path(command),
+        _ => "no file can be put there: it is a directory, or no such directory above it",
+    }
+}
+
+/// What is told of a server that said no more.
+fn words_of_reach(reach: Reach) -> &'static str {
+    match reach {
+        Reach::Unreached(unreached) => unreached.words(),
+        Reach::Untried | Reach::Joined => {
+            "no answer came before the connection ended, or within a minute: try again, what was begun is finished first"
+        }
+    }
+}
+
+/// What is told of the folder where a client can't use it.
+fn reason_of_folder<'a>(folder: &'a str, refusal: Refusal) -> Reason<'a> {
+    match refusal {
+        Refusal::Foreign => Reason::OfFile {
+            folder,
+            file: FolderFile::Ledger,
+            words: "not whole, or not of the seed beside it: are files of two folders mixed?",
+        },
+        Refusal::Damaged => Reason::OfFile {
+            folder,
+            file: FolderFile::Journal,
+            words: "changed, cut short, or another user's (is --user right?): leave it, and make a new folder",
+        },
+        Refusal::NoLeaf => Reason::Of {
+            name: folder,
+            words: "its key has signed all that it can, 1024 texts, two an operation: who goes on needs a new folder",
+        },
+        _ => Reason::Of {
+            name: folder,
+            words: "its ledger or journal can't be read, written or synced: is the disk full or failing?",
+        },
+    }
+}
+
+/// What a refusal means.
+fn reason_of_refusal<'a>(
+    line: &Line<'a>,
+    wanted: &Wanted<'a>,
+    reach: Reach,
+    refusal: Refusal,
+) -> Reason<'a> {
+    let (name, words) = match refusal {
+        Refusal::NoPath => (name_in(wanted), words_of_path_in(wanted)),
+        Refusal::There => (name_in(wanted), "already there"),
+        Refusal::NotEmpty => (name_in(wanted), "directory not empty"),
+        Refusal::NoNumber => (
+            name_in(wanted),
+            "no number is free: of its place, or of a further operation",
+        ),
+        Refusal::TooLarge => (
+            file_in(wanted),
+            "more than 4194304 bytes, the most that a file may have",
+        ),
+        Refusal::Cut => (line.server, words_of_reach(reach)),
+        Refusal::Memory => (
+            "memory",
+            "it ran out on this machine: free some, and try again",
+        ),
+        Refusal::NoLeaf | Refusal::Device | Refusal::Foreign | Refusal::Damaged => {
+            return reason_of_folder(line.dir, refusal);
+        }
+    };
+    Reason::Of { name, words }
+}
+
+/// What an answer means, if that is told beside it.
+pub(crate) fn reason_of_answer<'a>(
+    line: &Line<'a>,
+    wanted: &Wanted<'a>,
+    reach: Reach,
+    answer: &Answer<Global>,
+) -> Option<Reason<'a>> {
+    match answer {
+        Answer::Done | Answer::Bytes(_) | Answer::Listing(_) => None,
+        Answer::Lost(_) => Some(Reason::Of {
+            name: name_in(wanted),
+            words: words_of_lost_in(wanted),
+        }),
+        Answer::Broken(rule) => Some(Reason::Of {
+            name: line.server,
+            words: words_of_rule(*rule),
+        }),
+        Answer::Declined(status) => Some(reason_of_status(*status)),
+        Answer::Refused(refusal) => Some(reason_of_refusal(line, wanted, reach, *refusal)),
+    }
+}
+
+/// What is at fault with a file of the folder.
+fn reason_of_file<'a>(line: &Line<'a>, file: FolderFile, fault: FileFault) -> Reason<'a> {
+    Reason::OfFile {
+        folder: line.dir,
+        file,
+        words: fault.words(),
+    }
+}
+
+/// Why a command isn't begun.
+pub(crate) fn reason_of_hindrance<'a>(
+    line: &Line<'a>,
+    wanted: &Wanted<'a>,
+    hindrance: Hindrance,
+) -> Reason<'a> {
+    match hindrance {
+        Hindrance::NoKeys(file, fault) | Hindrance::OfFile(_, file, fault) => {
+            reason_of_file(line, file, fault)
+        }
+        Hindrance::NoFile(fault) => Reason::Of {
+            name: file_in(wanted),
+            words: fault.words(),
+        },
+        Hindrance::OfUser(own) => Reason::OfUser {
+            folder: line.dir,
+            own: own.get(),
+            other: line.user.get(),
+        },
+        Hindrance::Refused(refusal) => reason_of_refusal(line, wanted, Reach::Untried, refusal),
+    }
+}
