@@ -1,2 +1,3 @@
 pub mod BlockLaws
+mod WholeTexts
 mod MoveLaws

@@ -325,6 +325,11 @@ put_next capacity texts cached before rest v c c' so_far is put =
 pub texts_put : (capacity : ℕ) (texts : List Bytes) (cached : Texts) (rest : List Bytes) (cached' : Texts) → PutSoFar capacity texts cached rest cached' → rest ≡ [] → AreCopied capacity texts cached cached'
 texts_put capacity texts cached rest cached' so_far none = so_far.ahead cached' (subst (λ (ts : List Bytes). AreCopied capacity ts cached' cached') (sym none) refl)
 
+-- all were left out
+pub none_copied : (capacity : ℕ) (texts : List Bytes) (cached : Texts) → AreCopied capacity texts cached cached
+none_copied capacity [] cached = refl
+none_copied capacity (text ∷ texts) cached = (cached, inl refl, none_copied capacity texts cached)
+
 keeps_known : (k : CheckedBlocks) (texts : List Bytes) (c' : Texts) (capacity : ℕ) (d : Digest) (x : Bytes) → AreOfTexts texts k.cached c' → known_blocks (checked_blocks k.first k.held c' capacity) d ≡ Some x
     → (known_blocks k d ≡ Some x) ⊎ (Contains texts x × (hash x ≡ d))
 unfolding known_blocks

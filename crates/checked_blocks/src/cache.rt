@@ -2,12 +2,14 @@
 
 ghost use Rattle.std.specs.Prelude.{◌≡◌, ◌⊎◌, ◌+◌, ◌<◌, ◌≤◌, [], if◌then◌else◌, length, map, vec_len};
 ghost use Rattle.std.specs.Vec.{vec_items};
+ghost use Rattle.layout.specs.Hash.{hash};
 ghost use Rattle.indexmap.specs.IndexMap.{spare};
 ghost use Rattle.checked_blocks.specs.CheckedBlocks.{AreCopied, ArePut, IsPut, with_digest};
 ghost use Rattle.checked_blocks.specs.Moves.{AreOfTexts, IsPart, Moved, with_last};
 
+use crate::digests::digests_of_texts;
 use indexmap::IndexMap;
-use layout::{Digest, Memory, digest};
+use layout::{Digest, Memory};
 use lru::{DefaultHasher, LruCache};
 use std::alloc::Allocator;
 use std::cell::Cell;
@@ -189,29 +191,36 @@ pub(crate) fn put_all_back<A: Allocator + Copy>(held: &mut HeldBlocks<A>, cache:
     let _size = cache.len();
 }
 
-/// Puts a copy of a text into the cache, or leaves it out where memory refuses it.
-fn put_copy<A: Allocator + Copy>(cache: &mut Cache<A>, text: &[u8])
+/// Puts a copy of a text, whose digest was computed, into the cache, or leaves it out where memory refuses it.
+fn put_copy<A: Allocator + Copy>(cache: &mut Cache<A>, digest: Digest, text: &[u8])
+    requires { digest ≡ hash text.now }
     ensures put { (cache.new.entries ≡ cache.old.entries)
         ⊎ IsPut cache.old.cap cache.old.entries (with_digest text.now) cache.new.entries }
     ensures capacity { cache.new.cap ≡ cache.old.cap }
 {
     let alloc = *cache.allocator();
     match Vec::from_slice(alloc, text) {
-        Ok(copy) => put(cache, digest(text), MarkedText::new(copy)),
+        Ok(copy) => put(cache, digest, MarkedText::new(copy)),
         Err(_) => {}
     }
 }
 
-/// Puts copies of texts into the cache, the last as the most recently used. One that memory refuses is left out.
+/// Puts copies of texts into the cache, the last as the most recently used. One that memory refuses is left out, and
+/// all are where it refuses their digests.
 pub(crate) fn put_copies<A: Allocator + Copy>(cache: &mut Cache<A>, texts: &[Vec<u8, A>])
     ensures put { AreCopied cache.old.cap (map vec_items texts.now) cache.old.entries cache.new.entries }
     ensures of_texts { AreOfTexts (map vec_items texts.now) cache.old.entries cache.new.entries }
     ensures capacity { cache.new.cap ≡ cache.old.cap }
     ensures few { length cache.new.entries ≤ cache.old.cap }
 {
-    for text in texts {
-        put_copy(cache, text);
-    }
     // No more than it may have.
+    let _size = cache.len();
+    let alloc = *cache.allocator();
+    let Ok(digests) = digests_of_texts(alloc, texts) else {
+        return;
+    };
+    for place in 0..texts.len() {
+        put_copy(cache, digests[place], &texts[place]);
+    }
     let _size = cache.len();
 }

@@ -4,6 +4,7 @@
 
 mod cache;
 mod checked;
+mod digests;
 mod with;
 
 pub use checked::{CACHED_AT_FIRST, CheckedBlocks, MOST_CACHED};
