@@ -1,5 +1,5 @@
 //! Tests of what stands beside the client and below its sessions: commands, their words and their answers, transports,
-//! keys that are drawn over all processors, and what is known of checked blocks.
+//! keys that are drawn over all processors, what is known of checked blocks, and blocks that are kept.
 #![tactic(auto)]
 
 #[cfg(test)]
@@ -12,6 +12,8 @@ mod cached_blocks;
 mod drawn_keys;
 #[cfg(test)]
 mod errors;
+#[cfg(test)]
+mod keeping;
 #[cfg(test)]
 mod lines;
 #[cfg(test)]

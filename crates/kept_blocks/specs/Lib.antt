@@ -1,0 +1,4 @@
+pub mod KeptBlocks
+pub mod KeptBlocksLaws
+pub mod Keeping
+pub mod KeepingLaws
