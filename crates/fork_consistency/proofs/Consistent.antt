@@ -11,7 +11,7 @@ use Rattle.fork_consistency.proofs.ScriptKeys.{pinned_fits}
 use Rattle.fork_consistency.specs.ForkConsistent.{AreForkConsistent, AtEachMoment, HaveLines, IsForkConsistent, StandWhereStolen}
 use Rattle.fork_consistency.specs.OwnParts.{IsOutside, StolenPremises}
 use Rattle.fork_consistency.proofs.OwnParts.{own_keys_stand, own_parts, super_of}
-use Rattle.fork_consistency.proofs.Signed.{are_signed}
+use Rattle.fork_consistency.proofs.Signed.{are_signed, changes_have_causes, groups_stand, users_stand}
 use Rattle.layout.specs.Types.{User}
 use Rattle.fork_consistency.proofs.Growing.{lines_stay, only_grow}
 use Rattle.fork_consistency.proofs.LaidFiles.{name_laid_files}
@@ -43,6 +43,9 @@ consistent keys run is is_key p = record {
   lines = have_lines keys run is is_key p;
   accepted = are_accepted keys run is is_key p;
   signed = are_signed keys run is;
+  users = users_stand keys run is;
+  groups = groups_stand keys run is;
+  causes = changes_have_causes keys run is;
   worlds = are_worlds_in keys run is is_key p;
   tables = by_certificates keys run is (super_honest keys run is_key p);
 }
@@ -63,6 +66,9 @@ stands stolen keys run is is_key others = record {
   one_part = one_part keys run is others.1.no_collision is_key;
   shown = show_trees keys run is others.1.no_collision;
   signed = are_signed keys run is;
+  users = users_stand keys run is;
+  groups = groups_stand keys run is;
+  causes = changes_have_causes keys run is;
 }
 
 pub stands_at_each : (stolen : User → Bool) (keys : Keys) (run : List Event) → IsRun keys run → PinnedIsKey keys → StolenPremises stolen keys run → AtEachMoment (StandWhereStolen stolen keys) run

@@ -34,7 +34,7 @@ use Rattle.client_runs.proofs.Replies.{of_lists}
 use Rattle.fork_consistency.proofs.Views.{over_here}
 use Rattle.fork_consistency.proofs.AllWhole.{newest_in}
 use Rattle.fork_consistency.proofs.Lists.{found_in}
-use Rattle.fork_consistency.specs.Signed.{AreSigned, StandsOnFirstOfGroup, IsSigned, IsSignedBy, IsSignedByItsUser, StandsOnMembers, StandsOnOwn, StandsOnFirstOfUser}
+use Rattle.fork_consistency.specs.Signed.{AreSigned, ChangesAreCaused, ChangesHaveCauses, GroupPartsStand, GroupsStandOnSigned, IsSigned, IsSignedBy, IsSignedByItsUser, StandsOnFirstOfGroup, StandsOnFirstOfUser, StandsOnMembers, StandsOnOwn, UserPartsStand, UsersStandOnSigned}
 
 -- what the rules try of a signature
 signed_by : (pinned : Key) (t : Table) (u : User) (v : Version) (text signature : Bytes) → verifies t u v text signature ≡ true → (not (u == 0) || valid pinned text signature) ≡ true → IsSignedBy pinned t u v text signature
@@ -105,8 +105,15 @@ module _ (pinned : Key) (x : View)
         rw (le-ltb g 64 high, at) refl,
       )
 
+-- a view with all that it stands on
+record IsSignedView (pinned : Key) (x : View) : Type 0 where
+  signed : IsSigned pinned x
+  users : UserPartsStand pinned x
+  groups : GroupPartsStand pinned x
+  causes : ChangesAreCaused pinned x
+
 module _ (keys : Keys) where
-  view_is : (older : List Event) (is : IsRun keys older) (u : User) (x : View) → IsTriedOver (owner keys u) (holds_at keys u older is).story older x → IsSigned (public_key keys 0) x
+  view_is : (older : List Event) (is : IsRun keys older) (u : User) (x : View) → IsTriedOver (owner keys u) (holds_at keys u older is).story older x → IsSignedView (public_key keys 0) x
   view_is older is u x over =
       let r = of_lists x.lists in
       let rules = unbroken (known_in (owner keys u) (holds_at keys u older is).story) r over.good.judged.unbroken in
@@ -116,15 +123,17 @@ module _ (keys : Keys) where
       let certificates_signed = λ (k : PendingItem) (i : In k (items x.lists)).
       signed_by (public_key keys 0) x.table k.cert.user (version_of 0 k.plan.vector) (cert.spell k.cert) k.signature (cert_verified x.table x.lists by.certs k i) (cert_by_super (public_key keys 0) r rules.by_super k i) in
       record {
-        structures = λ z has. structures_signed z (contains_in z x.lists.structures has);
-        certificates = λ k has. certificates_signed k (contains_in k (items x.lists) has);
-        records = λ z g has_z has_g. of_members x.table x.lists by.rules z g (contains_in z x.lists.structures has_z) (contains_in g z.value.groups has_g);
+        signed = record {
+          structures = λ z has. structures_signed z (contains_in z x.lists.structures has);
+          certificates = λ k has. certificates_signed k (contains_in k (items x.lists) has);
+          records = λ z g has_z has_g. of_members x.table x.lists by.rules z g (contains_in z x.lists.structures has_z) (contains_in g z.value.groups has_g);
+        };
         users = λ u low. user_stands (public_key keys 0) x structures_signed u low (structure_of u x.lists.structures) refl;
         groups = λ g high. group_stands (public_key keys 0) x structures_signed (of_members x.table x.lists by.rules) g high (newest g x.lists.structures) refl;
         causes = changes_are_caused (public_key keys 0) x certificates_signed;
       }
 
-  each_signed : (run : List Event) → IsRun keys run → (x : View) → In x (views run) → IsSigned (public_key keys 0) x
+  each_signed : (run : List Event) → IsRun keys run → (x : View) → In x (views run) → IsSignedView (public_key keys 0) x
   each_signed [] is x i = absurd i
   each_signed (e ∷ older) is x i =
       elim (in-append x (accepted_by e.call (client_of e.user older) e.after (tried_view e.user older)) (views older) i) [
@@ -133,4 +142,13 @@ module _ (keys : Keys) where
       ]
 
   pub are_signed : (run : List Event) → IsRun keys run → AreSigned keys run
-  are_signed run is = to_all (IsSigned (public_key keys 0)) (views run) (each_signed run is)
+  are_signed run is = to_all (IsSigned (public_key keys 0)) (views run) (λ x i. (each_signed run is x i).signed)
+
+  pub users_stand : (run : List Event) → IsRun keys run → UsersStandOnSigned keys run
+  users_stand run is = to_all (UserPartsStand (public_key keys 0)) (views run) (λ x i. (each_signed run is x i).users)
+
+  pub groups_stand : (run : List Event) → IsRun keys run → GroupsStandOnSigned keys run
+  groups_stand run is = to_all (GroupPartsStand (public_key keys 0)) (views run) (λ x i. (each_signed run is x i).groups)
+
+  pub changes_have_causes : (run : List Event) → IsRun keys run → ChangesHaveCauses keys run
+  changes_have_causes run is = to_all (ChangesAreCaused (public_key keys 0)) (views run) (λ x i. (each_signed run is x i).causes)

@@ -17,7 +17,7 @@ use Rattle.fork_consistency.specs.LaidFiles.{NameLaidFiles}
 use Rattle.fork_consistency.specs.OwnParts.{IsOutside, OnePart, OwnPartsStand, StolenPremises}
 use Rattle.fork_consistency.specs.SameEvents.{AreTold}
 use Rattle.fork_consistency.specs.Shown.{ShowTrees, ShowWorlds}
-use Rattle.fork_consistency.specs.Signed.{AreSigned}
+use Rattle.fork_consistency.specs.Signed.{AreSigned, ChangesHaveCauses, GroupsStandOnSigned, UsersStandOnSigned}
 use Rattle.fork_consistency.specs.Worlds.{AreWorldsIn, CanBeRead, ListUsers, OneWorld}
 
 -- the line of a view is a beginning of that of each view that its user accepts later
@@ -63,8 +63,12 @@ pub record AreForkConsistent (keys : Keys) (run : List Event) : Type 0 where
   -- Each view is of a reply that breaks no rule: each structure in it was signed over an earlier view, the own one is
   -- the last, and versions, entries and records are as they should be;
   pub accepted : AreAccepted (views run)
-  -- and structures and certificates are signed under the keys that the view's table lists.
+  -- and structures and certificates are signed under the keys that the view's table lists. So are the handles on which
+  -- parts stand, and what the tree has beside what these name.
   pub signed : AreSigned keys run
+  pub users : UsersStandOnSigned keys run
+  pub groups : GroupsStandOnSigned keys run
+  pub causes : ChangesHaveCauses keys run
   -- As each reading of the run's texts tells it, all that is read of a view, its table and what it loses are those of
   -- the world of the line. That an operation changes only the user's part, and those of groups of which the user is a
   -- member then, is so of each world, by what changes do; that a client judges by it is said of trees, losses and
@@ -88,11 +92,16 @@ pub record StandWhereStolen (stolen : User → Bool) (keys : Keys) (run : List E
   pub one_part : OnePart keys run
   -- each answer of a look is so in the tree of the view, and what a client tells of its view is that of the view;
   pub shown : ShowTrees keys run
-  -- and what a view stands on is signed under the keys that its table lists: each user's part stands on a handle in a
-  -- structure signed under the user's key, each group's on one signed under the key of a user who was a member then, or
-  -- on that of the beginning, and where the tree differs from that, a pending certificate is the cause, signed under
-  -- the key of a user who may make the change.
+  -- and what a view stands on is signed under the keys that its table lists:
   pub signed : AreSigned keys run
+  -- each user's part stands on a handle in a structure signed under the user's key, or on that of the beginning;
+  pub users : UsersStandOnSigned keys run
+  -- each group's part stands on the handle of its newest record, in a structure signed under the key of a user who was
+  -- a member at the record's table version, or on that of the beginning;
+  pub groups : GroupsStandOnSigned keys run
+  -- and where the tree differs from what these handles name, a pending certificate is the cause, signed under the key
+  -- of a user who may make the change.
+  pub causes : ChangesHaveCauses keys run
 
 -- ---- at each moment
 

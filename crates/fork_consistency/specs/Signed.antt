@@ -59,6 +59,10 @@ abbrev pub StandsOnFirstOfUser : Key → View → User → Type 0
 StandsOnFirstOfUser pinned x u =
     (structure_of u x.lists.structures ≡ None) × (handle_of (view_in pinned x) u ≡ first_handle u pinned)
 
+-- so each user's part stands on what was signed under the user's key, or on the beginning
+abbrev pub UserPartsStand : Key → View → Type 0
+UserPartsStand pinned x = (u : User) → u < 64 → StandsOnOwn pinned x u ⊎ StandsOnFirstOfUser pinned x u
+
 -- The record is the group's newest in the view. It stands in a structure that is signed under the key of its user, who
 -- was a member at the record's table version.
 pub record IsMembersRecord (pinned : Key) (x : View) (g : Group) (r : GroupRecord) : Type 0 where
@@ -79,6 +83,11 @@ StandsOnMembers pinned x g =
 abbrev pub StandsOnFirstOfGroup : Key → View → Group → Type 0
 StandsOnFirstOfGroup pinned x g =
     (newest g x.lists.structures ≡ None) × (handle_of (view_in pinned x) g ≡ first_handle g pinned)
+
+-- so each group's part stands on what was signed under the key of a user who was a member at the record's table
+-- version, or on the beginning
+abbrev pub GroupPartsStand : Key → View → Type 0
+GroupPartsStand pinned x = (g : Group) → 64 ≤ g → StandsOnMembers pinned x g ⊎ StandsOnFirstOfGroup pinned x g
 
 -- ---- what pending changes rest on
 
@@ -111,17 +120,21 @@ pub record IsSigned (pinned : Key) (x : View) : Type 0 where
   -- the record of a group is of a user who was a member at its table version.
   pub records : (z : Signed Structure) (r : GroupRecord) → Contains x.lists.structures z → Contains z.value.groups r
       → is_member x.table r.group z.value.plan.user r.table ≡ true
-  -- So a user's part stands on a handle in a structure signed under the user's key, or on that of the beginning,
-  pub users : (u : User) → u < 64 → StandsOnOwn pinned x u ⊎ StandsOnFirstOfUser pinned x u
-  -- a group's on that of its newest record, in a structure signed under the key of a user who was a member at the
-  -- record's table version, or on that of the beginning,
-  pub groups : (g : Group) → 64 ≤ g → StandsOnMembers pinned x g ⊎ StandsOnFirstOfGroup pinned x g
-  -- and where the tree differs from what these handles name, a pending change of one who may make it is the cause.
-  pub causes : ChangesAreCaused pinned x
 
--- so it is with each accepted view
+-- so it is with each accepted view of a run: with its structures, certificates and records,
 abbrev pub AreSigned : Keys → List Event → Type 0
 AreSigned keys run = All (IsSigned (pinned keys)) (views run)
+
+-- with the handles on which the parts of users stand, and those of groups,
+abbrev pub UsersStandOnSigned : Keys → List Event → Type 0
+UsersStandOnSigned keys run = All (UserPartsStand (pinned keys)) (views run)
+
+abbrev pub GroupsStandOnSigned : Keys → List Event → Type 0
+GroupsStandOnSigned keys run = All (GroupPartsStand (pinned keys)) (views run)
+
+-- and with what its tree has beside what these handles name
+abbrev pub ChangesHaveCauses : Keys → List Event → Type 0
+ChangesHaveCauses keys run = All (ChangesAreCaused (pinned keys)) (views run)
 
 -- over each run, without any premise
 abbrev pub EachRunAtAll : (Keys → List Event → Type 0) → Type 0

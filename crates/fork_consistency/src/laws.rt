@@ -14,7 +14,8 @@ ghost use Rattle.fork_consistency.specs.LaidFiles.{NameLaidFiles};
 ghost use Rattle.fork_consistency.specs.OwnParts.{EachRunOfOthers, StolenPremises};
 ghost use Rattle.fork_consistency.specs.Shown.{ShowTrees, ShowWorlds};
 ghost use Rattle.fork_consistency.specs.Premises.{AddsOwnKeys, EachRun, EachRunApart, Premises, everybody};
-ghost use Rattle.fork_consistency.specs.Signed.{AreSigned, EachRunAtAll};
+ghost use Rattle.fork_consistency.specs.Signed.{AreSigned, ChangesHaveCauses, EachRunAtAll};
+ghost use Rattle.fork_consistency.specs.Signed.{GroupsStandOnSigned, UsersStandOnSigned};
 ghost use Rattle.fork_consistency.specs.Worlds.{AreWorldsIn, CanBeRead, OneWorld};
 
 /// In each accepted view of a run the table of principals is that of the beginning, changed by the certificates that
@@ -86,11 +87,15 @@ pub fn looks_tell_of_one_tree()
 {}
 
 /// Whoever has whose keys: in each accepted view each structure and each pending certificate is signed under its user's
-/// key by the view's table, and the record of each group is of a user who was a member at its table version. So each
-/// user's part stands on a handle in a structure signed under the user's key, each group's on one in a structure signed
-/// under the key of a user who was a member at the record's table version, or on that of the beginning; and where the
-/// tree differs from what these handles name, a pending certificate has a change of that place, and is signed under the
-/// key of a user who may make it.
+/// key by the view's table, and the record of each group is of a user who was a member at its table version.
 pub fn views_are_signed()
-    ensures { EachRunAtAll AreSigned }
+    ensures signed { EachRunAtAll AreSigned }
+    // So each user's part stands on a handle in a structure signed under the user's key, or on that of the beginning;
+    ensures users { EachRunAtAll UsersStandOnSigned }
+    // each group's on that of its newest record, in a structure signed under the key of a user who was a member at the
+    // record's table version, or on that of the beginning;
+    ensures groups { EachRunAtAll GroupsStandOnSigned }
+    // and where the tree differs from what these handles name, a pending certificate has a change of that place, and is
+    // signed under the key of a user who may make it.
+    ensures causes { EachRunAtAll ChangesHaveCauses }
 {}
