@@ -1,7 +1,8 @@
 //! What a line of a script says.
 
 use crate::task::{Task, tasks_of};
-use crate::words::{ServerName, Unread, i_number, next, number, principal, server, user};
+use crate::who::Who;
+use crate::words::{ServerName, Unread, client, i_number, next, number, principal, server, user};
 use hostile_server::Edit;
 use layout::{INumber, Principal, User, let_go};
 use std::alloc::Allocator;
@@ -10,17 +11,19 @@ use std::str::Split;
 /// A command of a script.
 #[derive(Drop)]
 pub(crate) enum Command<A: Allocator> {
-    /// `begin U` or `begin U CHANGES`: the contents are laid out and stored, and the user declares an operation.
-    Begin(User, Vec<Task<A>, A>),
+    /// `begin U` or `begin U CHANGES`: the contents are laid out and stored, and the client declares an operation.
+    Begin(Who, Vec<Task<A>, A>),
     /// `update U X` or `update U X EDIT`: the certificate is sent, the reply edited and handed in with its blocks and,
     /// where it is accepted, the structure signed.
-    Update(User, ServerName, Option<Edit>),
+    Update(Who, ServerName, Option<Edit>),
     /// `commit U X`: the structure is sent.
-    Commit(User, ServerName),
+    Commit(Who, ServerName),
     /// `restart U`: the client crashes, nothing unsynced is kept, and it is opened again.
-    Restart(User),
-    /// `show U P I`: what stands there in the user's view.
-    Show(User, Principal, INumber),
+    Restart(Who),
+    /// `show U P I`: what stands there in the client's view.
+    Show(Who, Principal, INumber),
+    /// `steal V`: a second client has V's key, and what V's client has released so far. Lines name it `V*`.
+    Steal(User),
     /// `fork X Y`: Y becomes a copy of X.
     Fork(ServerName, ServerName),
     /// `invent X V W`: in X the plan of what V has pending gains an entry of W's committed operation.
@@ -35,12 +38,12 @@ fn begin_of<A: Allocator + Copy>(alloc: A, rest: &str) -> Result<Command<A>, Unr
         Some((word, changes)) => (word, Some(changes)),
         None => (rest, None),
     };
-    let user = user(&mut word.split(' '))?;
+    let who = client(&mut word.split(' '))?;
     let tasks = match changes {
         Some(changes) => tasks_of(alloc, changes)?,
         None => Vec::new(alloc),
     };
-    Ok(Command::Begin(user, tasks))
+    Ok(Command::Begin(who, tasks))
 }
 
 /// What is made of a reply, by this verb.
@@ -60,22 +63,23 @@ fn edit_of(verb: &str, words: &mut Split<'_, char>) -> Result<Edit, Unread> {
 
 /// `U X` or `U X EDIT`.
 fn update_of<A: Allocator>(words: &mut Split<'_, char>) -> Result<Command<A>, Unread> {
-    let user = user(words)?;
+    let who = client(words)?;
     let server = server(words)?;
     let edit = match words.next() {
         Some(verb) => Some(edit_of(verb, words)?),
         None => None,
     };
-    Ok(Command::Update(user, server, edit))
+    Ok(Command::Update(who, server, edit))
 }
 
 /// The command of this name, up to its last word.
 fn command_in<A: Allocator>(name: &str, words: &mut Split<'_, char>) -> Result<Command<A>, Unread> {
     match name {
         "update" => update_of(words),
-        "commit" => Ok(Command::Commit(user(words)?, server(words)?)),
-        "restart" => Ok(Command::Restart(user(words)?)),
-        "show" => Ok(Command::Show(user(words)?, principal(words)?, i_number(words)?)),
+        "commit" => Ok(Command::Commit(client(words)?, server(words)?)),
+        "restart" => Ok(Command::Restart(client(words)?)),
+        "show" => Ok(Command::Show(client(words)?, principal(words)?, i_number(words)?)),
+        "steal" => Ok(Command::Steal(user(words)?)),
         "fork" => Ok(Command::Fork(server(words)?, server(words)?)),
         "invent" => Ok(Command::Invent(server(words)?, user(words)?, user(words)?)),
         "force" => Ok(Command::Force(server(words)?, user(words)?)),

@@ -13,6 +13,7 @@ mod players;
 mod script;
 mod server;
 mod task;
+mod who;
 mod words;
 mod world;
 

@@ -5,10 +5,12 @@ ghost use Rattle.std.specs.Prelude.{◌≡◌, IsSome};
 use crate::blocks::StoredBlocks;
 use crate::laying::Work;
 use crate::outcome::Outcome;
+use crate::players::Player;
 use crate::server::exchange;
+use crate::who::Who;
 use client_verify::{Client, ClientError, Look, Phase, Step, are_laid};
 use hostile_server::{Edit, Hostile};
-use layout::{INumber, Memory, Principal, User, let_go, put_in};
+use layout::{INumber, Memory, Principal, let_go, put_in};
 use leaf_ledger::Device;
 use std::alloc::Allocator;
 use std::sync::Wait;
@@ -16,14 +18,14 @@ use update_cert::MOST_CHANGES;
 use wire::{RequestKind, Status};
 
 /// What a client's error comes to.
-fn stopped<A: Allocator>(user: User, error: ClientError) -> Result<Outcome<A>, Memory> {
+fn stopped<A: Allocator>(who: Who, error: ClientError) -> Result<Outcome<A>, Memory> {
     match error {
         ClientError::Memory => Err(Memory),
-        ClientError::NoLeaf => Ok(Outcome::NoLeaf(user)),
-        ClientError::NoNumber => Ok(Outcome::NoNumber(user)),
-        ClientError::Device => Ok(Outcome::Device(user)),
-        ClientError::Foreign => Ok(Outcome::Foreign(user)),
-        ClientError::Damaged => Ok(Outcome::Damaged(user)),
+        ClientError::NoLeaf => Ok(Outcome::NoLeaf(who)),
+        ClientError::NoNumber => Ok(Outcome::NoNumber(who)),
+        ClientError::Device => Ok(Outcome::Device(who)),
+        ClientError::Foreign => Ok(Outcome::Foreign(who)),
+        ClientError::Damaged => Ok(Outcome::Damaged(who)),
     }
 }
 
@@ -31,12 +33,12 @@ fn stopped<A: Allocator>(user: User, error: ClientError) -> Result<Outcome<A>, M
 fn declare<R: Wait, L: Device, J: Device, A: Allocator + Copy>(
     alloc: A,
     blocks: &StoredBlocks<'_, R, A>,
+    who: Who,
     client: &mut Client<L, J, A>,
     work: Work<A>,
 ) -> Result<Outcome<A>, Memory>
     requires { client.old.phase ≡ Phase.Idle }
 {
-    let user = client.user();
     let Work { changes, laid } = work;
     if changes.len() > MOST_CHANGES
         || !are_laid(alloc, &laid, &changes)?
@@ -45,21 +47,22 @@ fn declare<R: Wait, L: Device, J: Device, A: Allocator + Copy>(
         return Ok(Outcome::Error);
     }
     match client.begin(&changes, &laid) {
-        Ok(_) => Ok(Outcome::Begun(user, client.number())),
-        Err(error) => stopped(user, error),
+        Ok(_) => Ok(Outcome::Begun(who, client.number())),
+        Err(error) => stopped(who, error),
     }
 }
 
 /// Stores what was laid out, and declares the operation, where the client has none.
-pub(crate) fn begin<R: Wait, L: Device, J: Device, A: Allocator + Copy>(
+pub(crate) fn begin<R: Wait, A: Allocator + Copy>(
     alloc: A,
     blocks: &StoredBlocks<'_, R, A>,
-    client: &mut Client<L, J, A>,
+    player: &mut Player<A>,
     work: Work<A>,
 ) -> Result<Outcome<A>, Memory> {
-    match client.phase() {
-        Phase::Idle => declare(alloc, blocks, client, work),
-        _ => Ok(Outcome::Busy(client.user())),
+    let who = player.who;
+    match player.client.phase() {
+        Phase::Idle => declare(alloc, blocks, who, &mut player.client, work),
+        _ => Ok(Outcome::Busy(who)),
     }
 }
 
@@ -90,48 +93,48 @@ fn judged<R: Wait, L: Device, J: Device, A: Allocator + Copy>(
 /// Signs what was accepted. The structure's text is put into `last`.
 fn signed<L: Device, J: Device, A: Allocator + Copy>(
     alloc: A,
+    who: Who,
     client: &mut Client<L, J, A>,
     last: &mut Vec<u8, A>,
 ) -> Result<Outcome<A>, Memory> {
-    let user = client.user();
     if !client.ready() {
         return Ok(Outcome::Error);
     }
     match client.sign() {
         Ok(text) => *last = text,
-        Err(error) => return stopped(user, error),
+        Err(error) => return stopped(who, error),
     }
     if !client.has_view() {
         return Ok(Outcome::Error);
     }
     let lost = Vec::from_slice(alloc, client.lost())?;
-    Ok(Outcome::Accepted(user, client.number(), lost))
+    Ok(Outcome::Accepted(who, client.number(), lost))
 }
 
 /// Hands the reply in with its blocks and, where it is accepted, stores the new texts and signs.
 fn accept<R: Wait, L: Device, J: Device, A: Allocator + Copy>(
     alloc: A,
     blocks: &StoredBlocks<'_, R, A>,
+    who: Who,
     client: &mut Client<L, J, A>,
     last: &mut Vec<u8, A>,
     reply: &[u8],
 ) -> Result<Outcome<A>, Memory>
     requires { client.old.phase ≡ Phase.Declared }
 {
-    let user = client.user();
     match judged(blocks, client, reply) {
-        Ok(Step::Broken(rule)) => Ok(Outcome::Broken(user, rule)),
+        Ok(Step::Broken(rule)) => Ok(Outcome::Broken(who, rule)),
         Ok(Step::Need(_)) => Ok(Outcome::Error),
         Ok(Step::Store(texts)) => {
             let is_stored = blocks.put_all(&texts);
             let_go(texts);
             if is_stored? {
-                signed(alloc, client, last)
+                signed(alloc, who, client, last)
             } else {
                 Ok(Outcome::Error)
             }
         }
-        Err(error) => stopped(user, error),
+        Err(error) => stopped(who, error),
     }
 }
 
@@ -148,43 +151,44 @@ fn edited<A: Allocator + Copy>(
 }
 
 /// Sends the declared certificate, and takes the reply after this edit of it. Where it is accepted, the text of the
-/// signed structure is put into `last`.
-pub(crate) fn update<R: Wait, L: Device, J: Device, A: Allocator + Copy>(
+/// signed structure is the client's last.
+pub(crate) fn update<R: Wait, A: Allocator + Copy>(
     alloc: A,
     server: &mut Hostile<A>,
     edit: Option<Edit>,
     blocks: &StoredBlocks<'_, R, A>,
-    client: &mut Client<L, J, A>,
-    last: &mut Vec<u8, A>,
+    player: &mut Player<A>,
 ) -> Result<Outcome<A>, Memory> {
-    let user = client.user();
+    let who = player.who;
+    let client = &mut player.client;
     if client.phase() != Phase::Declared {
-        return Ok(Outcome::Busy(user));
+        return Ok(Outcome::Busy(who));
     }
     let (status, reply) = exchange(alloc, server, RequestKind::Update, client.declared())?;
     if status != Status::Ok {
-        return Ok(Outcome::Declined(user, status));
+        return Ok(Outcome::Declined(who, status));
     }
     let reply = edited(server, reply, edit)?;
-    accept(alloc, blocks, client, last, &reply)
+    accept(alloc, blocks, who, client, &mut player.last, &reply)
 }
 
 /// Sends the signed structure, and takes the status.
-pub(crate) fn commit<L: Device, J: Device, A: Allocator + Copy>(
+pub(crate) fn commit<A: Allocator + Copy>(
     alloc: A,
     server: &mut Hostile<A>,
-    client: &mut Client<L, J, A>,
+    player: &mut Player<A>,
 ) -> Result<Outcome<A>, Memory> {
-    let user = client.user();
+    let who = player.who;
+    let client = &mut player.client;
     if client.phase() != Phase::Signed {
-        return Ok(Outcome::Busy(user));
+        return Ok(Outcome::Busy(who));
     }
     let (status, _payload) = exchange(alloc, server, RequestKind::Commit, client.signed())?;
     client.on_committed(status);
     if status == Status::Ok {
-        Ok(Outcome::Committed(user))
+        Ok(Outcome::Committed(who))
     } else {
-        Ok(Outcome::Declined(user, status))
+        Ok(Outcome::Declined(who, status))
     }
 }
 
@@ -213,32 +217,33 @@ fn looked<R: Wait, L: Device, J: Device, A: Allocator + Copy>(
 }
 
 /// What stands at an i-number in the client's view.
-pub(crate) fn show<R: Wait, L: Device, J: Device, A: Allocator + Copy>(
+pub(crate) fn show<R: Wait, A: Allocator + Copy>(
     blocks: &StoredBlocks<'_, R, A>,
-    client: &mut Client<L, J, A>,
+    player: &mut Player<A>,
     principal: Principal,
     i_number: INumber,
 ) -> Result<Outcome<A>, Memory> {
-    let user = client.user();
+    let who = player.who;
+    let client = &mut player.client;
     if !client.has_view() {
-        return Ok(Outcome::Nothing(user));
+        return Ok(Outcome::Nothing(who));
     }
     match looked(blocks, client, principal, i_number) {
-        Ok(Look::File(bytes)) => Ok(Outcome::File(user, bytes)),
-        Ok(Look::Dir(directory)) => Ok(Outcome::Directory(user, directory)),
-        Ok(Look::None) => Ok(Outcome::Nothing(user)),
-        Ok(Look::Broken(rule)) => Ok(Outcome::Broken(user, rule)),
+        Ok(Look::File(bytes)) => Ok(Outcome::File(who, bytes)),
+        Ok(Look::Dir(directory)) => Ok(Outcome::Directory(who, directory)),
+        Ok(Look::None) => Ok(Outcome::Nothing(who)),
+        Ok(Look::Broken(rule)) => Ok(Outcome::Broken(who, rule)),
         Ok(Look::Need(_) | Look::Kind(_) | Look::Free(_)) => Ok(Outcome::Error),
-        Err(error) => stopped(user, error),
+        Err(error) => stopped(who, error),
     }
 }
 
 /// What a client's phase is once it was opened again.
-pub(crate) fn restarted<A: Allocator>(user: User, phase: Phase) -> Outcome<A> {
+pub(crate) fn restarted<A: Allocator>(who: Who, phase: Phase) -> Outcome<A> {
     match phase {
-        Phase::Idle => Outcome::Idle(user),
-        Phase::Declared => Outcome::Declared(user),
-        Phase::Signed => Outcome::Signed(user),
-        Phase::Failed => Outcome::Device(user),
+        Phase::Idle => Outcome::Idle(who),
+        Phase::Declared => Outcome::Declared(who),
+        Phase::Signed => Outcome::Signed(who),
+        Phase::Failed => Outcome::Device(who),
     }
 }

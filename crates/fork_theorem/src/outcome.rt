@@ -1,8 +1,8 @@
 //! What a command of a script comes to.
 
+use crate::who::Who;
 use client_verify::Rule;
 use directory::Directory;
-use layout::User;
 use std::alloc::Allocator;
 use std::fmt;
 use std::io::{self, Write};
@@ -14,39 +14,41 @@ pub(crate) enum Outcome<A: Allocator> {
     /// The line is no command that can be carried out.
     Error,
     /// The client isn't in the phase for it.
-    Busy(User),
+    Busy(Who),
     /// The user declared the operation of this number.
-    Begun(User, u32),
+    Begun(Who, u32),
     /// The reply was accepted, and the structure of this number signed; the changes of these numbers had no effect.
-    Accepted(User, u32, Vec<u8, A>),
+    Accepted(Who, u32, Vec<u8, A>),
     /// The reply breaks this rule first.
-    Broken(User, Rule),
+    Broken(Who, Rule),
     /// The server answered another status than 0.
-    Declined(User, Status),
+    Declined(Who, Status),
     /// The structure was committed.
-    Committed(User),
+    Committed(Who),
     /// The user's key has no leaf left.
-    NoLeaf(User),
+    NoLeaf(Who),
     /// The user has no number left.
-    NoNumber(User),
+    NoNumber(Who),
     /// A device of the user's failed.
-    Device(User),
+    Device(Who),
     /// The user's ledger is another key's.
-    Foreign(User),
+    Foreign(Who),
     /// The user's journal is damaged.
-    Damaged(User),
+    Damaged(Who),
     /// The user's client was opened again, and has released nothing.
-    Idle(User),
+    Idle(Who),
     /// It was opened again with a declared operation.
-    Declared(User),
+    Declared(Who),
     /// It was opened again with a signed structure.
-    Signed(User),
+    Signed(Who),
     /// A file of these bytes stands there.
-    File(User, Vec<u8, A>),
+    File(Who, Vec<u8, A>),
     /// This directory stands there.
-    Directory(User, Directory<A>),
+    Directory(Who, Directory<A>),
     /// Nothing stands there.
-    Nothing(User),
+    Nothing(Who),
+    /// A second client has a user's key.
+    Stolen,
     /// A server became a copy of another.
     Forked,
     /// A plan of the server gained an entry.
@@ -80,19 +82,19 @@ fn write_entries<A: Allocator, W: Write>(
     Ok(())
 }
 
-/// The user, and these words.
-fn write_words<W: Write>(user: &User, words: &str, writer: &mut W) -> io::Result<()> {
-    write!(writer, "{} {words}", user.get())
+/// The client, and these words.
+fn write_words<W: Write>(who: &Who, words: &str, writer: &mut W) -> io::Result<()> {
+    write!(writer, "{who} {words}")
 }
 
-/// The user, these words and a number.
-fn write_number<W: Write>(user: &User, words: &str, number: u32, writer: &mut W) -> io::Result<()> {
-    write!(writer, "{} {words} {number}", user.get())
+/// The client, these words and a number.
+fn write_number<W: Write>(who: &Who, words: &str, number: u32, writer: &mut W) -> io::Result<()> {
+    write!(writer, "{who} {words} {number}")
 }
 
 /// The file of these bytes, and the empty one as `-`.
-fn write_file<W: Write>(user: &User, bytes: &[u8], writer: &mut W) -> io::Result<()> {
-    write_words(user, "file ", writer)?;
+fn write_file<W: Write>(who: &Who, bytes: &[u8], writer: &mut W) -> io::Result<()> {
+    write_words(who, "file ", writer)?;
     writer.write_all(if bytes.is_empty() { b"-" } else { bytes })
 }
 
@@ -101,39 +103,40 @@ impl<A: Allocator> Outcome<A> {
     fn write_text<W: Write>(&self, writer: &mut W) -> io::Result<()> {
         match self {
             Outcome::Error => writer.write_all(b"error"),
-            Outcome::Busy(user) => write_words(user, "busy", writer),
-            Outcome::Begun(user, number) => write_number(user, "begin", *number, writer),
-            Outcome::Accepted(user, number, lost) => {
-                write_number(user, "accepted", *number, writer)?;
+            Outcome::Busy(who) => write_words(who, "busy", writer),
+            Outcome::Begun(who, number) => write_number(who, "begin", *number, writer),
+            Outcome::Accepted(who, number, lost) => {
+                write_number(who, "accepted", *number, writer)?;
                 write_lost(lost, writer)
             }
-            Outcome::Broken(user, rule) => write_number(
-                user,
+            Outcome::Broken(who, rule) => write_number(
+                who,
                 "broken",
                 u32::from(rule.number()),
                 writer,
             ),
-            Outcome::Declined(user, status) => write_number(
-                user,
+            Outcome::Declined(who, status) => write_number(
+                who,
                 "status",
                 u32::from(status.number()),
                 writer,
             ),
-            Outcome::Committed(user) => write_words(user, "committed", writer),
-            Outcome::NoLeaf(user) => write_words(user, "no leaf", writer),
-            Outcome::NoNumber(user) => write_words(user, "no number", writer),
-            Outcome::Device(user) => write_words(user, "device", writer),
-            Outcome::Foreign(user) => write_words(user, "foreign", writer),
-            Outcome::Damaged(user) => write_words(user, "damaged", writer),
-            Outcome::Idle(user) => write_words(user, "idle", writer),
-            Outcome::Declared(user) => write_words(user, "declared", writer),
-            Outcome::Signed(user) => write_words(user, "signed", writer),
-            Outcome::File(user, bytes) => write_file(user, bytes, writer),
-            Outcome::Directory(user, directory) => {
-                write_words(user, "dir", writer)?;
+            Outcome::Committed(who) => write_words(who, "committed", writer),
+            Outcome::NoLeaf(who) => write_words(who, "no leaf", writer),
+            Outcome::NoNumber(who) => write_words(who, "no number", writer),
+            Outcome::Device(who) => write_words(who, "device", writer),
+            Outcome::Foreign(who) => write_words(who, "foreign", writer),
+            Outcome::Damaged(who) => write_words(who, "damaged", writer),
+            Outcome::Idle(who) => write_words(who, "idle", writer),
+            Outcome::Declared(who) => write_words(who, "declared", writer),
+            Outcome::Signed(who) => write_words(who, "signed", writer),
+            Outcome::File(who, bytes) => write_file(who, bytes, writer),
+            Outcome::Directory(who, directory) => {
+                write_words(who, "dir", writer)?;
                 write_entries(directory, writer)
             }
-            Outcome::Nothing(user) => write_words(user, "none", writer),
+            Outcome::Nothing(who) => write_words(who, "none", writer),
+            Outcome::Stolen => writer.write_all(b"steal"),
             Outcome::Forked => writer.write_all(b"fork"),
             Outcome::Invented => writer.write_all(b"invent"),
             Outcome::Forced => writer.write_all(b"force"),

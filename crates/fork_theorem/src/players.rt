@@ -2,16 +2,19 @@
 
 ghost use Rattle.std.specs.Prelude.{◌≡◌, ◌<◌, IfOk, IfSome, length, vec_len};
 
+use crate::who::Who;
 use checked_blocks::MOST_CACHED;
 use client_verify::{Client, Parts, Phase};
 use layout::{Memory, User, let_go};
 use leaf_ledger::MemoryDevice;
 use lms_sign::{PrivateKey, PublicKey};
 use std::alloc::Allocator;
+use wire::Status;
 
 /// A client whose devices are in memory, its first key, and what it signed last.
 #[derive(Drop)]
 pub(crate) struct Player<A: Allocator + Copy> {
+    pub(crate) who: Who,
     pub(crate) client: Client<MemoryDevice<A>, MemoryDevice<A>, A>,
     key: PublicKey,
     /// The text of its last signed structure: no bytes before the first.
@@ -45,12 +48,12 @@ fn crashed<A: Allocator + Copy>(
     }
 }
 
-/// A client of a user over these devices, whose last signed structure this is, with a cache for so many blocks, 1 to
+/// A client over these devices, whose last signed structure this is, with a cache for so many blocks, 1 to
 /// 4,096. A device in memory fails by want of memory alone, and what stands on these is the user's own: so nothing else
 /// refuses it.
 fn open<A: Allocator + Copy>(
     alloc: A,
-    user: User,
+    who: Who,
     pinned: PublicKey,
     capacity: usize,
     parts: Parts<MemoryDevice<A>, MemoryDevice<A>, A>,
@@ -62,10 +65,11 @@ fn open<A: Allocator + Copy>(
         journal,
     } = parts;
     let public = key.public();
-    match Client::open(alloc, user, key, pinned, ledger, journal) {
+    match Client::open(alloc, who.user, key, pinned, ledger, journal) {
         Ok(mut client) => {
             client.cache(capacity.clamp(1, MOST_CACHED));
             Ok(Player {
+                who,
                 client,
                 key: public,
                 last,
@@ -78,30 +82,31 @@ fn open<A: Allocator + Copy>(
     }
 }
 
-/// A client of a user by its key, over devices on which nothing stands.
+/// A client by its key, over a new ledger and a journal of this text, which has signed nothing.
 fn first_open<A: Allocator + Copy>(
     alloc: A,
-    user: User,
+    who: Who,
     key: PrivateKey<A>,
     pinned: PublicKey,
     capacity: usize,
+    journal: Vec<u8, A>,
 ) -> Result<Player<A>, Memory> {
     let ledger = MemoryDevice::new(alloc, Vec::new(alloc))?;
-    let journal = MemoryDevice::new(alloc, Vec::new(alloc))?;
+    let journal = MemoryDevice::new(alloc, journal)?;
     let parts = Parts {
         key,
         ledger,
         journal,
     };
-    open(alloc, user, pinned, capacity, parts, Vec::new(alloc))
+    open(alloc, who, pinned, capacity, parts, Vec::new(alloc))
 }
 
-/// Where the client of a user stands in the list, if it was named.
-fn named_at<A: Allocator + Copy>(list: &[Player<A>], user: User) -> Option<usize>
+/// Where a client stands in the list, if it was made.
+fn named_at<A: Allocator + Copy>(list: &[Player<A>], who: Who) -> Option<usize>
     ensures { IfSome result (λ place. place < length list.now) }
 {
     for place in 0..list.len() {
-        if list[place].client.user() == user {
+        if list[place].who == who {
             return Some(place);
         }
     }
@@ -111,9 +116,10 @@ fn named_at<A: Allocator + Copy>(list: &[Player<A>], user: User) -> Option<usize
 impl<A: Allocator + Copy> Players<A> {
     /// Client 0, whose key all clients know. The cache of each client may have so many blocks.
     pub(crate) fn new(alloc: A, capacity: usize) -> Result<Players<A>, Memory> {
-        let key = first_key(alloc, User::superuser())?;
+        let who = Who::own(User::superuser());
+        let key = first_key(alloc, who.user)?;
         let pinned = key.public();
-        let player = first_open(alloc, User::superuser(), key, pinned, capacity)?;
+        let player = first_open(alloc, who, key, pinned, capacity, Vec::new(alloc))?;
         let mut list = Vec::new(alloc);
         list.push(player)?;
         Ok(Players {
@@ -129,24 +135,68 @@ impl<A: Allocator + Copy> Players<A> {
         self.pinned
     }
 
-    /// Where the client of a user stands in the list; it is made when it is first named.
-    pub(crate) fn place_of(&mut self, user: User) -> Result<usize, Memory>
+    /// Makes a client by its user's key, over a new ledger and a journal of this text: where it stands in the list.
+    fn make(&mut self, who: Who, journal: Vec<u8, A>) -> Result<usize, Memory>
         ensures { IfOk result (λ place. place < vec_len self.new.list) }
     {
-        if let Some(place) = named_at(&self.list, user) {
-            return Ok(place);
-        }
-        let key = first_key(self.alloc, user)?;
-        let player = first_open(self.alloc, user, key, self.pinned, self.capacity)?;
+        let key = first_key(self.alloc, who.user)?;
+        let player = first_open(self.alloc, who, key, self.pinned, self.capacity, journal)?;
         self.list.push(player)?;
         Ok(self.list.len() - 1)
     }
 
-    /// Crashes the client of a user, so that nothing unsynced is kept, and opens it again: its phase. Where memory runs
-    /// out the client is gone, and the script ends.
-    pub(crate) fn restart(&mut self, user: User) -> Result<Phase, Memory> {
-        let place = self.place_of(user)?;
+    /// Where the own client of a user stands in the list; it is made when it is first named.
+    fn own_place(&mut self, user: User) -> Result<usize, Memory>
+        ensures { IfOk result (λ place. place < vec_len self.new.list) }
+    {
+        if let Some(place) = named_at(&self.list, Who::own(user)) {
+            return Ok(place);
+        }
+        let journal = Vec::new(self.alloc);
+        self.make(Who::own(user), journal)
+    }
+
+    /// Where a client stands in the list. A user's own is made when it is first named; one that has a user's stolen key
+    /// is there once that was stolen.
+    pub(crate) fn place_of(&mut self, who: Who) -> Result<Option<usize>, Memory>
+        ensures { IfOk result (λ place. IfSome place (λ place. place < vec_len self.new.list)) }
+    {
+        if !who.is_thief {
+            return Ok(Some(self.own_place(who.user)?));
+        }
+        match named_at(&self.list, who) {
+            Some(place) => Ok(Some(place)),
+            None => Ok(None),
+        }
+    }
+
+    /// Opens a second client of a user, by the user's key, over a new ledger and a copy of the journal of the user's
+    /// own client; where that tells of a structure, the new one takes it for committed. Whether the key was stolen by
+    /// this: user 0's can't be, and another's once.
+    pub(crate) fn steal(&mut self, user: User) -> Result<bool, Memory> {
+        if user == User::superuser() || named_at(&self.list, Who::thief(user)).is_some() {
+            return Ok(false);
+        }
+        let alloc = self.alloc;
+        let place = self.own_place(user)?;
+        let journal = Vec::from_slice(alloc, self.list[place].client.journal().text())?;
+        let place = self.make(Who::thief(user), journal)?;
+        let client = &mut self.list[place].client;
+        if client.phase() == Phase::Signed {
+            client.on_committed(Status::Ok);
+        }
+        Ok(true)
+    }
+
+    /// Crashes a client, so that nothing unsynced is kept, and opens it again: its phase, if it was made. Where memory
+    /// runs out the client is gone, and the script ends.
+    pub(crate) fn restart(&mut self, who: Who) -> Result<Option<Phase>, Memory> {
+        let named = who;
+        let Some(place) = self.place_of(named)? else {
+            return Ok(None);
+        };
         let Player {
+            who: _,
             client,
             key: _,
             last,
@@ -163,23 +213,23 @@ impl<A: Allocator + Copy> Players<A> {
             ledger,
             journal,
         };
-        let player = open(self.alloc, user, self.pinned, self.capacity, parts, last)?;
+        let player = open(self.alloc, who, self.pinned, self.capacity, parts, last)?;
         let phase = player.client.phase();
         self.list.push(player)?;
-        Ok(phase)
+        Ok(Some(phase))
     }
 
-    /// The text of the structure that the client of a user signed last: no bytes where it signed none.
+    /// The text of the structure that the own client of a user signed last: no bytes where it signed none.
     pub(crate) fn last_signed(&self, user: User) -> &[u8] {
-        match named_at(&self.list, user) {
+        match named_at(&self.list, Who::own(user)) {
             Some(place) => &self.list[place].last,
             None => &[],
         }
     }
 
-    /// The first key of a user's client.
+    /// The first key of a user's own client.
     pub(crate) fn key_of(&mut self, user: User) -> Result<PublicKey, Memory> {
-        let place = self.place_of(user)?;
+        let place = self.own_place(user)?;
         Ok(self.list[place].key)
     }
 }

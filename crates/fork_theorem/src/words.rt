@@ -1,5 +1,6 @@
 //! The words of a script's lines.
 
+use crate::who::Who;
 use directory::name_text;
 use itable::FILE_SIZE;
 use layout::{Group, INumber, Memory, Principal, User};
@@ -80,6 +81,14 @@ fn user_of(word: &str) -> Option<User> {
     User::new(byte_of(word)?)
 }
 
+/// The client that a word names: `U` is the user's own, `U*` the one that has the user's stolen key.
+fn client_of(word: &str) -> Option<Who> {
+    match word.strip_suffix('*') {
+        Some(word) => Some(Who::thief(user_of(word)?)),
+        None => Some(Who::own(user_of(word)?)),
+    }
+}
+
 fn group_of(word: &str) -> Option<Group> {
     Group::new(byte_of(word)?)
 }
@@ -134,6 +143,11 @@ fn known<T>(value: Option<T>) -> Result<T, Unread> {
 /// The user that the next word names.
 pub(crate) fn user(words: &mut Split<'_, char>) -> Result<User, Unread> {
     known(user_of(next(words)?))
+}
+
+/// The client that the next word names.
+pub(crate) fn client(words: &mut Split<'_, char>) -> Result<Who, Unread> {
+    known(client_of(next(words)?))
 }
 
 /// The group that the next word names.

@@ -8,6 +8,7 @@ use crate::outcome::Outcome;
 use crate::players::Players;
 use crate::server::Servers;
 use crate::task::Task;
+use crate::who::Who;
 use crate::words::ServerName;
 use client_verify::Phase;
 use hostile_server::Edit;
@@ -40,66 +41,88 @@ impl<'a, R: Wait, A: Allocator + Copy> World<'a, R, A> {
         })
     }
 
-    /// Lays out what the tasks name, and declares the operation: only where the user's client has none is anybody
-    /// named.
-    fn begin(&mut self, user: User, tasks: Vec<Task<A>, A>) -> Result<Outcome<A>, Memory> {
-        let place = self.players.place_of(user)?;
+    /// Lays out what the tasks name, and declares the operation: only where the client has none is anybody named.
+    fn begin(&mut self, who: Who, tasks: Vec<Task<A>, A>) -> Result<Outcome<A>, Memory> {
+        let (named, again) = (who, who);
+        let Some(place) = self.players.place_of(named)? else {
+            return Ok(Outcome::Error);
+        };
         if self.players.list[place].client.phase() != Phase::Idle {
-            return Ok(Outcome::Busy(user));
+            return Ok(Outcome::Busy(who));
         }
         let work = match work_of(self.alloc, &mut self.players, tasks) {
             Ok(work) => work,
             Err(LayError::TooLarge) => return Ok(Outcome::Error),
             Err(LayError::Memory) => return Err(Memory),
         };
-        let place = self.players.place_of(user)?;
-        let client = &mut self.players.list[place].client;
-        begin(self.alloc, &self.blocks, client, work)
+        let Some(place) = self.players.place_of(again)? else {
+            return Ok(Outcome::Error);
+        };
+        let player = &mut self.players.list[place];
+        begin(self.alloc, &self.blocks, player, work)
     }
 
-    /// Sends the user's certificate to the server, and hands in its reply after this edit.
+    /// Sends the client's certificate to the server, and hands in its reply after this edit.
     fn update(
         &mut self,
-        user: User,
+        who: Who,
         server: ServerName,
         edit: Option<Edit>,
     ) -> Result<Outcome<A>, Memory> {
         let Some(at) = self.servers.place_of(server) else {
             return Ok(Outcome::Error);
         };
-        let place = self.players.place_of(user)?;
+        let Some(place) = self.players.place_of(who)? else {
+            return Ok(Outcome::Error);
+        };
         let player = &mut self.players.list[place];
         let server = &mut self.servers.list[at].server;
-        update(
-            self.alloc,
-            server,
-            edit,
-            &self.blocks,
-            &mut player.client,
-            &mut player.last,
-        )
+        update(self.alloc, server, edit, &self.blocks, player)
     }
 
-    /// Sends the user's structure to the server.
-    fn commit(&mut self, user: User, server: ServerName) -> Result<Outcome<A>, Memory> {
+    /// Sends the client's structure to the server.
+    fn commit(&mut self, who: Who, server: ServerName) -> Result<Outcome<A>, Memory> {
         let Some(at) = self.servers.place_of(server) else {
             return Ok(Outcome::Error);
         };
-        let place = self.players.place_of(user)?;
-        let client = &mut self.players.list[place].client;
-        commit(self.alloc, &mut self.servers.list[at].server, client)
+        let Some(place) = self.players.place_of(who)? else {
+            return Ok(Outcome::Error);
+        };
+        let player = &mut self.players.list[place];
+        commit(self.alloc, &mut self.servers.list[at].server, player)
     }
 
-    /// What stands at an i-number in the user's view.
+    /// Crashes the client, and opens it again.
+    fn restart(&mut self, who: Who) -> Result<Outcome<A>, Memory> {
+        let named = who;
+        Ok(match self.players.restart(named)? {
+            Some(phase) => restarted(who, phase),
+            None => Outcome::Error,
+        })
+    }
+
+    /// What stands at an i-number in the client's view.
     fn show(
         &mut self,
-        user: User,
+        who: Who,
         principal: Principal,
         i_number: INumber,
     ) -> Result<Outcome<A>, Memory> {
-        let place = self.players.place_of(user)?;
-        let client = &mut self.players.list[place].client;
-        show(&self.blocks, client, principal, i_number)
+        let Some(place) = self.players.place_of(who)? else {
+            return Ok(Outcome::Error);
+        };
+        let player = &mut self.players.list[place];
+        show(&self.blocks, player, principal, i_number)
+    }
+
+    /// Opens a second client with the user's key.
+    fn steal(&mut self, user: User) -> Result<Outcome<A>, Memory> {
+        let is_stolen = self.players.steal(user)?;
+        Ok(if is_stolen {
+            Outcome::Stolen
+        } else {
+            Outcome::Error
+        })
     }
 
     /// Makes the second server a copy of the first.
@@ -147,11 +170,12 @@ impl<'a, R: Wait, A: Allocator + Copy> World<'a, R, A> {
     /// Carries out a command.
     pub(crate) fn run(&mut self, command: Command<A>) -> Result<Outcome<A>, Memory> {
         match command {
-            Command::Begin(user, tasks) => self.begin(user, tasks),
-            Command::Update(user, server, edit) => self.update(user, server, edit),
-            Command::Commit(user, server) => self.commit(user, server),
-            Command::Restart(user) => Ok(restarted(user, self.players.restart(user)?)),
-            Command::Show(user, principal, i_number) => self.show(user, principal, i_number),
+            Command::Begin(who, tasks) => self.begin(who, tasks),
+            Command::Update(who, server, edit) => self.update(who, server, edit),
+            Command::Commit(who, server) => self.commit(who, server),
+            Command::Restart(who) => self.restart(who),
+            Command::Show(who, principal, i_number) => self.show(who, principal, i_number),
+            Command::Steal(user) => self.steal(user),
             Command::Fork(from, to) => self.fork(from, to),
             Command::Invent(server, user, other) => self.invent(server, user, other),
             Command::Force(server, user) => self.force(server, user),

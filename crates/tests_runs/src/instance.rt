@@ -4,13 +4,12 @@
 //! crash and are opened again, and at last what was shown apart is shown to user 2 together.
 
 use crate::here::Here;
-use crate::lines::looks_into_worlds;
+use crate::lines::{Scope, looks_into_worlds};
 use crate::plain_world::Operation;
-use crate::premises::{Ran, keys_are_true, leaves_sign_once, none_collide, none_forged};
-use crate::stage::plays;
+use crate::premises::are_met;
+use crate::written::plays_written;
 use layout::let_go;
-use tests_aids::texts::joined;
-use tests_aids::{Host, check, found, given};
+use tests_aids::check;
 
 /// The operations, by the letters A to I. User 1 makes no i-number of the group that is user 2's; user 0 is no member,
 /// and user 1 is none any more in its second operation.
@@ -82,11 +81,10 @@ static PLACES: [(u8, u8); 9] = [
     (65, 64),
 ];
 
-/// The script (`stage.rt`). A row of one capital letter is the declaration of that operation, and `*` stands for looks
-/// at all places. A to D come to one server. User 2 signs C, which isn't committed; user 1 declares E before D is
-/// placed, and crashes. E, G and I come to one server; C's commit, after a crash, F and H to the other one. At last
-/// user 2 declares its fourth operation, and is shown together what was shown apart: the rule on numbers, 11, is
-/// broken.
+/// The script (`written.rt`). A to D come to one server. User 2 signs C, which isn't committed; user 1 declares E
+/// before D is placed, and crashes. E, G and I come to one server; C's commit, after a crash, F and H to the other one.
+/// At last user 2 declares its fourth operation, and is shown together what was shown apart: the rule on numbers, 11,
+/// is broken.
 static SCRIPT: [&[u8]; 37] = [
     b"A",
     b"0pasc",
@@ -127,62 +125,18 @@ static SCRIPT: [&[u8]; 37] = [
     b"2=!\x0b",
 ];
 
-/// Adds looks of a user at all places.
-fn add_looks(rt: &impl Host, rows: &mut Vec<Vec<u8>>, digit: u8) {
-    for (owner, number) in &PLACES {
-        let row = joined(rt, &[&[digit, b'L', *owner, *number]]);
-        given(rt, rows.push(row), "memory");
-    }
-}
-
-/// The rows, with operations and looks in the place of their letters.
-fn written_out(rt: &impl Host) -> Vec<Vec<u8>> {
-    let mut rows = Vec::new(rt.alloc());
-    for row in &SCRIPT {
-        match *row {
-            [letter] => {
-                let place = usize::from(letter.wrapping_sub(b'A'));
-                let Operation { user, changes } = found(rt, OPERATIONS.get(place), "an operation");
-                let digit = user.wrapping_add(b'0');
-                given(
-                    rt,
-                    rows.push(joined(rt, &[&[digit, b'D'], changes])),
-                    "memory",
-                );
-            }
-            [digit, b'*'] => add_looks(rt, &mut rows, *digit),
-            _ => given(rt, rows.push(joined(rt, &[row])), "memory"),
-        }
-    }
-    rows
-}
-
-/// The premises hold of the run.
-fn are_met(rt: &impl Host, ran: Ran<'_>) {
-    let pinned = found(rt, ran.keys.first(), "a key");
-    check(rt, none_collide(rt, ran, pinned), "no collision");
-    check(rt, none_forged(rt, ran), "no forgery");
-    check(rt, leaves_sign_once(rt, ran), "one text a leaf");
-    check(rt, keys_are_true(rt, ran, ran.keys), "true keys");
-}
-
 /// The premises hold of the run, each of its views is the world of its line, and isn't that of another one.
 #[test]
 fn premises_and_worlds_of_a_run(rt: HostRuntime) {
     let rt = &(rt, Here);
-    let script = written_out(rt);
-    let mut rows = Vec::new(rt.0.alloc());
-    for row in &script {
-        given(rt, rows.push(row.as_slice()), "memory");
-    }
-    let notes = plays(rt, &rows);
+    let notes = plays_written(rt, &OPERATIONS, &PLACES, &SCRIPT);
     let ran = notes.ran();
-    are_met(rt, ran);
-    let looks = looks_into_worlds(rt, ran, &OPERATIONS, &LINES);
+    are_met(rt, ran, &[]);
+    let looks = looks_into_worlds(rt, ran, &Scope::View, &OPERATIONS, &LINES);
     let wanted = LINES.len().wrapping_mul(PLACES.len());
     assert!(rt; looks == Ok(wanted), "{looks:?}");
     for lines in [&WITHOUT_PENDING, &STILL_MEMBER] {
-        let looks = looks_into_worlds(rt, ran, &OPERATIONS, lines);
+        let looks = looks_into_worlds(rt, ran, &Scope::View, &OPERATIONS, lines);
         check(rt, looks.is_err(), "another line");
     }
     let_go(notes);

@@ -1,4 +1,5 @@
-//! Whether a run's answers tell of its accepted views what plain worlds tell of the lines that were meant.
+//! Whether a run's answers tell of its accepted views what plain worlds tell of the lines that were meant: of all of a
+//! view, or of one user's part.
 
 use crate::answers::{count_views, fields_of, view_in};
 use crate::plain_world::{Link, Operation, Place, ROOT, World};
@@ -6,6 +7,25 @@ use crate::premises::Ran;
 use layout::put_in;
 use lms_sign::PublicKey;
 use tests_aids::{Host, found};
+
+/// What is set beside plain worlds.
+#[derive(Clone, Copy)]
+pub(crate) enum Scope {
+    /// All that is told of a view.
+    View,
+    /// What is told of this user's part, and of user 0's the table of principals.
+    Part(u8),
+}
+
+impl Scope {
+    /// Whether this place is in it.
+    fn has(&self, place: Place) -> bool {
+        match self {
+            Scope::View => true,
+            Scope::Part(owner) => place.principal == *owner,
+        }
+    }
+}
 
 /// The world of a line, and what its last operation lost.
 fn world_of(rt: &impl Host, operations: &[Operation], line: &[u8]) -> (World, Vec<u8>) {
@@ -48,14 +68,19 @@ fn has_links(rt: &impl Host, entries: &[u8], links: &[Link]) -> bool {
 /// Whether what is told of a view, if it is of one, is this world, and what its last operation lost.
 fn tells(
     rt: &impl Host,
+    scope: &Scope,
     (world, lost): &(World, Vec<u8>),
     keys: &[PublicKey],
     told: &[u8],
 ) -> bool {
-    match view_in(rt, told) {
-        Some(view) => view.lost == lost.as_slice()
-            && view.table == world.table_text(rt, keys).as_slice(),
-        None => false,
+    let Some(view) = view_in(rt, told) else {
+        return false;
+    };
+    let is_table = view.table == world.table_text(rt, keys).as_slice();
+    match scope {
+        Scope::View => is_table && view.lost == lost.as_slice(),
+        Scope::Part(0) => is_table,
+        Scope::Part(_) => true,
     }
 }
 
@@ -105,10 +130,17 @@ fn last_line(rt: &impl Host, ran: Ran<'_>, user: u8, lines: &[&'static [u8]]) ->
     line
 }
 
-/// Whether the last of these answers, if it tells of a view or of a look that ended, is that of the world of its line.
+/// Whether a look ended with this answer.
+fn ends_look(told: &[u8]) -> bool {
+    matches!(told.first(), Some(b'F' | b'D' | b'0'))
+}
+
+/// Whether the last of these answers, if it tells of a view or of a look in the scope that ended, is that of the world
+/// of its line.
 fn is_last_so(
     rt: &impl Host,
     ran: Ran<'_>,
+    scope: &Scope,
     operations: &[Operation],
     lines: &[&'static [u8]],
 ) -> bool {
@@ -116,47 +148,53 @@ fn is_last_so(
         found(rt, ran.rows.last(), "a row"),
         found(rt, ran.told.last(), "one"),
     );
-    let Some(b's' | b'F' | b'D' | b'0') = told.first() else {
-        return true;
-    };
     let user = *found(rt, row.first(), "a user");
     let world = world_of(rt, operations, last_line(rt, ran, user, lines));
     if told.first() == Some(&b's') {
-        return tells(rt, &world, ran.keys, told);
+        tells(rt, scope, &world, ran.keys, told)
+    } else if ends_look(told) && scope.has(last_place(ran.rows)) {
+        shows(rt, &world.0, ran.keys, last_place(ran.rows), told)
+    } else {
+        true
     }
-    shows(rt, &world.0, ran.keys, last_place(ran.rows), told)
 }
 
-/// How many looks were answered, where each answer, and what is told of each view, is that of the world of its line of
-/// these operations; else the place of the first answer that isn't. A line is told by letters, A for the first
-/// operation, and the lines are those of the accepted views in their order.
+/// The first rows and answers of the run, up to this place.
+fn beginning_of<'a>(rt: &impl Host, ran: Ran<'a>, at: usize) -> Ran<'a> {
+    Ran {
+        rows: found(rt, ran.rows.get(..=at), "rows"),
+        told: found(rt, ran.told.get(..=at), "answers"),
+        keys: ran.keys,
+    }
+}
+
+/// How many looks in the scope were answered, where each answer, and what is told of each view, is that of the world of
+/// its line of these operations; else the place of the first answer that isn't. A line is told by letters, A for the
+/// first operation, and the lines are those of the accepted views in their order.
 pub(crate) fn looks_into_worlds(
     rt: &impl Host,
     ran: Ran<'_>,
+    scope: &Scope,
     operations: &[Operation],
     lines: &[&'static [u8]],
 ) -> Result<usize, usize> {
     for (at, _) in ran.rows.iter().enumerate() {
-        let so_far = Ran {
-            rows: found(rt, ran.rows.get(..=at), "rows"),
-            told: found(rt, ran.told.get(..=at), "answers"),
-            keys: ran.keys,
-        };
-        if !is_last_so(rt, so_far, operations, lines) {
+        let so_far = beginning_of(rt, ran, at);
+        if !is_last_so(rt, so_far, scope, operations, lines) {
             return Err(at);
         }
     }
     if count_views(ran.told) < lines.len() {
         return Err(ran.rows.len());
     }
-    Ok(count_looks(ran.told))
+    Ok(count_looks(rt, ran, scope))
 }
 
-/// How many looks ended.
-fn count_looks(told: &[Vec<u8>]) -> usize {
+/// How many looks in the scope ended.
+fn count_looks(rt: &impl Host, ran: Ran<'_>, scope: &Scope) -> usize {
     let mut looks = 0usize;
-    for told in told {
-        if matches!(told.first(), Some(b'F' | b'D' | b'0')) {
+    for (at, told) in ran.told.iter().enumerate() {
+        if ends_look(told) && scope.has(last_place(beginning_of(rt, ran, at).rows)) {
             looks = looks.wrapping_add(1);
         }
     }

@@ -15,7 +15,7 @@ use tests_aids::{Aided, Host, found, given};
 /// There are users 0 to 2.
 pub(crate) const USERS: u8 = 3;
 
-/// At which server a user's client is, the last texts to and from it, and all structures that it signed.
+/// At which server a user's client is, the last texts to and from it, and all structures that were signed by its key.
 #[derive(Drop)]
 pub(crate) struct Place {
     pub(crate) server: usize,
@@ -94,6 +94,11 @@ impl Notes {
     /// User 0's key.
     pub(crate) fn pinned(&self, rt: &impl Aided) -> PublicKey {
         *found(rt, self.keys.first(), "a key")
+    }
+
+    /// This block is stored.
+    pub(crate) fn store_block(&mut self, rt: &impl Aided, block: &[u8]) {
+        add_by_digest(rt, &mut self.store, block);
     }
 
     /// What is laid out for these changes is stored.
@@ -178,20 +183,43 @@ impl Notes {
     }
 }
 
-/// The pending operation of a user's certificate: the plan has these versions, and no entry.
-fn item_of(rt: &impl Aided, number: u8, update: &[u8], versions: &[u8]) -> Vec<u8> {
+/// The versions that are spelled here, each as a principal and a number.
+fn versions_in(rt: &impl Aided, versions: &[u8]) -> Vec<(u8, u8)> {
     let mut rows = Vec::new(rt.alloc());
-    let mut own = 0;
     for row in versions.chunks(2) {
         let [principal, version] = row else {
             rt.fail("no version")
         };
-        if *principal == number {
-            own = u32::from(*version);
-        }
         given(rt, rows.push((*principal, *version)), "memory");
     }
-    let vector = vector_of(rt, &rows);
-    let plan = plan(rt, number, own, &named(update), &vector, b"\0");
+    rows
+}
+
+/// The version of a principal among these: 0 where there is none.
+pub(crate) fn version_in(versions: &[u8], principal: u8) -> u8 {
+    for row in versions.chunks(2) {
+        match row {
+            [of, version] if *of == principal => return *version,
+            _ => {}
+        }
+    }
+    0
+}
+
+/// The plan of a user's operation, of which this is the digest of the certificate: it has these versions, and no entry.
+pub(crate) fn plan_at(
+    rt: &impl Aided,
+    number: u8,
+    certificate: &[u8; 32],
+    versions: &[u8],
+) -> Vec<u8> {
+    let own = u32::from(version_in(versions, number));
+    let vector = vector_of(rt, &versions_in(rt, versions));
+    plan(rt, number, own, certificate, &vector, b"\0")
+}
+
+/// The pending operation of a user's certificate: the plan has these versions, and no entry.
+fn item_of(rt: &impl Aided, number: u8, update: &[u8], versions: &[u8]) -> Vec<u8> {
+    let plan = plan_at(rt, number, &named(update), versions);
     pending(rt, update, &plan)
 }

@@ -1,7 +1,7 @@
 //! The premises under which a run is fork consistent, as tests of its rows and of what they are answered: no two
 //! different texts that are hashed have one digest; each signed text that a reply shows was released before by its
 //! user's client, and no client released two texts by one leaf; and user 0's client added each user with the user's own
-//! key.
+//! key. Where keys of users are stolen, the tests of signatures and of keys leave these users out.
 
 use crate::answers::{fields_of, released};
 use crate::hashed::{
@@ -13,7 +13,7 @@ use layout::Text;
 use lms_sign::PublicKey;
 use std::alloc::Global;
 use tests_aids::texts::joined;
-use tests_aids::{Host, found, given};
+use tests_aids::{Host, check, found, given};
 use update_cert::{AnyAction, Cert, Change, TableChange};
 
 /// Rows, what they are answered, and the keys of the users from 0 on.
@@ -87,23 +87,32 @@ fn was_released(ran: Ran<'_>, place: usize, shown: &[u8]) -> bool {
     false
 }
 
-/// Whether each signed text that the step of this place shows was released before it.
-fn shows_released(rt: &impl Host, ran: Ran<'_>, place: usize, row: &[u8]) -> bool {
+/// Whether the text that stands after its user is of one of these users.
+fn is_of(users: &[u8], shown: &[u8]) -> bool {
+    match shown.first() {
+        Some(user) => users.contains(user),
+        None => false,
+    }
+}
+
+/// Whether each signed text that the step of this place shows was released before it, but for these users' texts.
+fn shows_released(rt: &impl Host, ran: Ran<'_>, place: usize, row: &[u8], stolen: &[u8]) -> bool {
     let [_, _, _, b'r', reply @ ..] = row else {
         return true;
     };
     for shown in &shown_in(rt, reply).signed {
-        if !was_released(ran, place, shown) {
+        if !is_of(stolen, shown) && !was_released(ran, place, shown) {
             return false;
         }
     }
     true
 }
 
-/// Each signed text that a step of the run shows was released before by its user's client.
-pub(crate) fn none_forged(rt: &impl Host, ran: Ran<'_>) -> bool {
+/// Each signed text that a step of the run shows was released before by its user's client, but for texts of these
+/// users, whose keys are stolen.
+pub(crate) fn none_forged(rt: &impl Host, ran: Ran<'_>, stolen: &[u8]) -> bool {
     for (place, (row, told)) in ran.rows.iter().zip(ran.told).enumerate() {
-        if is_taken(told) && !shows_released(rt, ran, place, row) {
+        if is_taken(told) && !shows_released(rt, ran, place, row, stolen) {
             return false;
         }
     }
@@ -131,23 +140,29 @@ pub(crate) fn leaves_sign_once(rt: &impl Host, ran: Ran<'_>) -> bool {
 
 // ---- keys of users
 
-/// Whether the change adds no user with another key than its own, where these are those of the users from 0 on.
-fn adds_own_key(keys: &[PublicKey], change: &Change<Global>) -> bool {
+/// Whether this is the user's own key, where these are those of the users from 0 on.
+fn is_own(keys: &[PublicKey], user: u8, key: &PublicKey) -> bool {
+    match keys.get(usize::from(user)) {
+        Some(own) => own.as_bytes() == key.as_bytes(),
+        None => false,
+    }
+}
+
+/// Whether the change gives no user but these another key than its own.
+fn gives_own_key(keys: &[PublicKey], stolen: &[u8], change: &Change<Global>) -> bool {
     match change.action() {
-        AnyAction::OfTable(TableChange::AddUser(user, key)) => {
-            match keys.get(usize::from(user.get())) {
-                Some(own) => own.as_bytes() == key.as_bytes(),
-                None => false,
-            }
+        AnyAction::OfTable(TableChange::AddUser(user, key) | TableChange::SetKey(user, key)) => {
+            let user = user.get();
+            stolen.contains(&user) || is_own(keys, user, key)
         }
         _ => true,
     }
 }
 
 /// Whether none of these changes does.
-fn add_own_keys(keys: &[PublicKey], changes: &[Change<Global>]) -> bool {
+fn give_own_keys(keys: &[PublicKey], stolen: &[u8], changes: &[Change<Global>]) -> bool {
     for change in changes {
-        if !adds_own_key(keys, change) {
+        if !gives_own_key(keys, stolen, change) {
             return false;
         }
     }
@@ -155,19 +170,34 @@ fn add_own_keys(keys: &[PublicKey], changes: &[Change<Global>]) -> bool {
 }
 
 /// Whether no change of this signed text does, if it is a certificate.
-fn is_true(rt: &impl Host, keys: &[PublicKey], signed: &[u8]) -> bool {
+fn is_true(rt: &impl Host, keys: &[PublicKey], stolen: &[u8], signed: &[u8]) -> bool {
     match Cert::read(rt.alloc(), before_signature(signed)) {
-        Ok(cert) => add_own_keys(keys, cert.changes()),
+        Ok(cert) => give_own_keys(keys, stolen, cert.changes()),
         Err(_) => true,
     }
 }
 
-/// User 0's client added each user with the user's own key, where these are those of the users from 0 on.
-pub(crate) fn keys_are_true(rt: &impl Host, ran: Ran<'_>, keys: &[PublicKey]) -> bool {
+/// User 0's client added each user with the user's own key, where these are those of the users from 0 on, and set no
+/// other; but for these users, whose keys are stolen.
+pub(crate) fn keys_are_true(
+    rt: &impl Host,
+    ran: Ran<'_>,
+    keys: &[PublicKey],
+    stolen: &[u8],
+) -> bool {
     for (row, told) in ran.rows.iter().zip(ran.told) {
-        if row.first() == Some(&0) && !is_true(rt, keys, released(told)) {
+        if row.first() == Some(&0) && !is_true(rt, keys, stolen, released(told)) {
             return false;
         }
     }
     true
+}
+
+/// The premises hold of the run, where the keys of these users are stolen.
+pub(crate) fn are_met(rt: &impl Host, ran: Ran<'_>, stolen: &[u8]) {
+    let pinned = found(rt, ran.keys.first(), "a key");
+    check(rt, none_collide(rt, ran, pinned), "no collision");
+    check(rt, none_forged(rt, ran, stolen), "no forgery");
+    check(rt, leaves_sign_once(rt, ran), "one text a leaf");
+    check(rt, keys_are_true(rt, ran, ran.keys, stolen), "true keys");
 }

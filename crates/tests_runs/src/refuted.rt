@@ -66,13 +66,26 @@ fn premises_that_fail(rt: HostRuntime) {
         told: &told,
         keys: &keys,
     };
-    check(rt, !none_forged(rt, ran), "a forged signature");
+    check(rt, !none_forged(rt, ran, &[]), "a forged signature");
+    check(rt, !none_forged(rt, ran, &[0, 2]), "of no other user");
+    check(rt, none_forged(rt, ran, &[1]), "by a stolen key");
     check(rt, leaves_sign_once(rt, ran), "one text a leaf in the run");
     check(rt, none_collide(rt, ran, &own), "no collision");
-    check(rt, !keys_are_true(rt, ran, &[own, own]), "another key");
+    let (of_another, as_listed) = ([own, own], [own, other]);
+    check(rt, !keys_are_true(rt, ran, &of_another, &[]), "another key");
     check(
         rt,
-        keys_are_true(rt, ran, &[own, other]),
+        !keys_are_true(rt, ran, &of_another, &[2]),
+        "of no other user",
+    );
+    check(
+        rt,
+        keys_are_true(rt, ran, &of_another, &[1]),
+        "of a stolen one",
+    );
+    check(
+        rt,
+        keys_are_true(rt, ran, &as_listed, &[]),
         "the key that is listed",
     );
     collide(rt, ran, &own);

@@ -17,6 +17,7 @@
 //! - `H`: a reply by hand (`Notes::is_answered`);
 //! - `B`: `u` for a certificate or `c` for a structure; which one: `-`, no bytes, `l`, the last one, `x`, that one
 //!   changed, else a place among those that were signed; and the status that both servers answer;
+//! - `K`: the user's stolen key signs a structure, with these versions (`thief.rt`);
 //! - `I`: another user, an entry of whose last operation is invented; `O`: the structure is forced;
 //! - `=`: the last answer; `~`: its beginning.
 
@@ -25,6 +26,7 @@ use crate::clients::{Clients, acts, acts_failing, goes_through, has_lost, open_a
 use crate::notes::{Notes, Place, latest, new_notes, place_in};
 use crate::planning::user;
 use crate::servers::{Servers, new_servers};
+use crate::thief;
 use layout::{let_go, put_in};
 use tests_aids::texts::{changed, joined};
 use tests_aids::{Host, check, check_text, found, given};
@@ -222,6 +224,7 @@ fn is_row_of_servers(
             check(rt, given(rt, forced, "memory"), "a structure");
         }
         [b'H', reply @ ..] => notes.is_answered(rt, number, reply),
+        [b'K', table, versions @ ..] => thief::signs(rt, notes, number, *table, versions),
         [b'=', told @ ..] => check_text(rt, notes.last(), told),
         [b'~', told @ ..] => check(rt, notes.last().starts_with(told), "the last answer"),
         _ => return false,
