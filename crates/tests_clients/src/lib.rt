@@ -47,6 +47,8 @@ mod script;
 #[cfg(test)]
 mod several_users;
 #[cfg(test)]
+mod stolen_keys;
+#[cfg(test)]
 mod two_users;
 #[cfg(test)]
 mod words;

@@ -8,7 +8,7 @@ use crate::script::play;
 /// User 0's i-table, which is stored, with a table of principals: users 1 and 2 are listed since number 1 of user 0's,
 /// and user 2 has a second key since number 3, that which others have as user 3's. Text R is the root. User 1 has
 /// declared, text u, and text c is the certificate of user 2's first operation.
-static BEGINNING: &[u8] = b"\
+pub(crate) static BEGINNING: &[u8] = b"\
     text T 'SPT2 03 00 01 00000000 !0 01 01 00000001 !1 02 02 00000001 !2 00000003 !3 0000\n\
     measure T = :253\n\
     text I 'SIN1 01 :253 0001 #T\n\
