@@ -1,12 +1,12 @@
 -- A whole line, and the answers of clap that it rests on.
-use Rattle.std.proofs.Common.{codes, subst, ◌≡◌, ◌∙◌, ℕ, true, List, [], ◌∷◌, Option, Some, None, Result, Ok, Err, refl, sym, ap}
+use Rattle.std.proofs.Common.{codes, subst, ◌≡◌, ◌∙◌, ℕ, Bool, true, List, [], ◌∷◌, Option, Some, None, Result, Ok, Err, refl, sym, ap}
 use Rattle.std.specs.Prelude.{option_map, unwrap_or}
 use Rattle.clap.specs.Words.{App, HasMatchesOf, Kinds, Row, Text, fault_of, found_of, is_simple, is_simple_and_free, matches_of, rows_of, subcommand_name_of, subcommand_of, subcommand_rows_of}
 use Rattle.clap.specs.declared.parser.ArgMatches.{ArgMatches}
 use Rattle.clap.proofs.OnLiterals.{clap_on_literals}
 use Rattle.clap.proofs.WalkLemmas.{both}
 use Rattle.file_commands.specs.Words.{line_app, sundr_app}
-use Rattle.file_commands.specs.Lines.{Order, judged, line_in, user_in, order_met, text_in, IsFaultOf, IsWhy, IsErrorOf}
+use Rattle.file_commands.specs.Lines.{Order, is_set, judged, line_in, user_in, order_met, text_in, IsFaultOf, IsWhy, IsErrorOf}
 use Rattle.file_commands.specs.declared.line.LineError.{LineError}
 use Rattle.file_commands.specs.declared.line.LineError.TheVariants as error
 use Rattle.file_commands.specs.declared.reading.Unread.{Unread}
@@ -33,10 +33,11 @@ pub subcommand_met : (m : ArgMatches) (n : Text) (r : List Row) → Some n ≡ s
     → Some r ≡ option_map (λ p. p.1) (subcommand_rows_of m) → subcommand_rows_of m ≡ Some (n, r)
 subcommand_met m n r a b = pair_of (subcommand_rows_of m) n r (a ∙ sym (name_first m)) b
 
-pub line_read : (rows : List Row) (sub : Option (Text × List Row)) (d s : Text) (u : ℕ) (o : Option Order)
+pub line_read : (rows : List Row) (sub : Option (Text × List Row)) (d s : Text) (u : ℕ) (m : Bool) (o : Option Order)
     → text_in (codes "dir") rows ≡ Ok d → text_in (codes "server") rows ≡ Ok s → user_in (codes "user") rows ≡ Ok u
-    → order_met sub ≡ Ok o → Ok (record { dir = d; server = s; user = u; order = o }) ≡ line_in rows sub
-line_read rows sub d s u o a b c e = rw (a, b, c, e) refl
+    → is_set (codes "moved") rows ≡ m → order_met sub ≡ Ok o
+    → Ok (record { dir = d; server = s; user = u; moved = m; order = o }) ≡ line_in rows sub
+line_read rows sub d s u m o a b c f e = rw (a, b, c, f, e) refl
 
 -- ---- both outcomes
 

@@ -26,6 +26,7 @@ pub data Order : Type 0 where
   Ls : Text → Order
   Cat : Text → Order
   Put : Text → Text → Order
+  Get : Text → Text → Order
   Mkdir : Text → Order
   Rm : Text → Order
   Link : Text → Text → Order
@@ -40,6 +41,7 @@ pub record Said : Type 0 where
   pub dir : Text
   pub server : Text
   pub user : User
+  pub moved : Bool
   pub order : Option Order
 
 -- ---- lines in memory
@@ -47,6 +49,7 @@ pub record Said : Type 0 where
 abbrev pub order_of : Wanted → Option Order
 order_of wanted.Key = Some ShowKey
 order_of (wanted.Put path file) = Some (Put path.now file.now)
+order_of (wanted.Get path file) = Some (Get path.now file.now)
 order_of (wanted.Batch stops) = Some (Batch stops)
 order_of (wanted.Run (command.Ls path)) = Some (Ls path.now)
 order_of (wanted.Run (command.Cat path)) = Some (Cat path.now)
@@ -59,7 +62,13 @@ order_of (wanted.Run (command.AddMember group user)) = Some (AddMember group use
 order_of (wanted.Run (command.DropMember group user)) = Some (DropMember group user)
 
 abbrev pub said : Line → Said
-said line = record { dir = line.dir.now; server = line.server.now; user = line.user; order = order_of line.wanted }
+said line = record {
+  dir = line.dir.now;
+  server = line.server.now;
+  user = line.user;
+  moved = line.moved;
+  order = order_of line.wanted;
+}
 
 -- an answer is f of what is read, and what hinders it is the same
 abbrev pub reads : {X Y : Type 0} → (X → Y) → Result X Unread → Result Y Unread
@@ -116,11 +125,12 @@ path_in order rows = do
   path ← text_in (codes "PATH") rows
   Ok (Some (order path))
 
-abbrev pub put_in : List Row → Result (Option Order) Unread
-put_in rows = do
+-- a path, and a file's name
+abbrev pub file_in : (Text → Text → Order) → List Row → Result (Option Order) Unread
+file_in order rows = do
   path ← text_in (codes "PATH") rows
   file ← text_in (codes "FILE") rows
-  Ok (Some (Put path file))
+  Ok (Some (order path file))
 
 abbrev pub link_in : List Row → Result (Option Order) Unread
 link_in rows = do
@@ -158,7 +168,8 @@ abbrev pub order_in : Text → List Row → Result (Option Order) Unread
 order_in name rows = if bytes_eq name (codes "key") then Ok (Some ShowKey)
     else (if bytes_eq name (codes "ls") then path_in Ls rows
     else (if bytes_eq name (codes "cat") then path_in Cat rows
-    else (if bytes_eq name (codes "put") then put_in rows
+    else (if bytes_eq name (codes "put") then file_in Put rows
+    else (if bytes_eq name (codes "get") then file_in Get rows
     else (if bytes_eq name (codes "mkdir") then path_in Mkdir rows
     else (if bytes_eq name (codes "rm") then path_in Rm rows
     else (if bytes_eq name (codes "link") then link_in rows
@@ -166,7 +177,7 @@ order_in name rows = if bytes_eq name (codes "key") then Ok (Some ShowKey)
     else (if bytes_eq name (codes "addmember") then change_in AddMember rows
     else (if bytes_eq name (codes "dropmember") then change_in DropMember rows
     else (if bytes_eq name (codes "batch") then Ok (Some (Batch (is_set (codes "stop") rows)))
-    else Err unread.Words))))))))))
+    else Err unread.Words)))))))))))
 
 abbrev pub order_met : Option (Text × List Row) → Result (Option Order) Unread
 order_met None = Err unread.Words
@@ -180,7 +191,7 @@ line_in rows sub = do
   server ← text_in (codes "server") rows
   user ← user_in (codes "user") rows
   order ← order_met sub
-  Ok (record { dir = dir; server = server; user = user; order = order })
+  Ok (record { dir = dir; server = server; user = user; moved = is_set (codes "moved") rows; order = order })
 
 -- the words are refused where clap finds a fault in them, and else the values that it finds are read
 abbrev pub judged : {X : Type 0} → Kinds → Result X Unread → Result X Unread

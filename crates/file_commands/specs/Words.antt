@@ -42,6 +42,9 @@ path_app name = with_rule (new_app name) (placed (codes "PATH"))
 abbrev pub put_app : App
 put_app = with_rule (path_app (codes "put")) (placed (codes "FILE"))
 
+abbrev pub get_app : App
+get_app = with_rule (path_app (codes "get")) (placed (codes "FILE"))
+
 abbrev pub link_app : App
 link_app = with_rule (path_app (codes "link")) (placed (codes "TARGET"))
 
@@ -60,8 +63,8 @@ batch_app = with_rule (new_app (codes "batch")) (flag (codes "stop"))
 
 abbrev pub options_app : App
 options_app =
-    with_rule (with_rule (with_rule (new_app (codes "sundr")) (option (codes "dir"))) (option (codes "server")))
-    (of_user (option (codes "user")))
+    with_rule (with_rule (with_rule (with_rule (new_app (codes "sundr")) (option (codes "dir")))
+    (option (codes "server"))) (of_user (option (codes "user")))) (flag (codes "moved"))
 
 -- a command is required
 abbrev pub requires_command : App → App
@@ -74,7 +77,7 @@ app with sub = with_subcommand app sub.top
 -- the commands of a user
 abbrev pub with_commands : App → App
 with_commands app = app with key_app with path_app (codes "ls") with path_app (codes "cat") with put_app
-    with path_app (codes "mkdir") with path_app (codes "rm") with link_app with adduser_app
+    with get_app with path_app (codes "mkdir") with path_app (codes "rm") with link_app with adduser_app
     with member_app (codes "addmember") with member_app (codes "dropmember")
 
 abbrev pub sundr_app : App

@@ -32,6 +32,13 @@ pub enum Wanted<'a> {
         /// The file's name.
         file: &'a str,
     },
+    /// To write the content of the file at a path into a file of the system.
+    Get {
+        /// The path.
+        path: &'a str,
+        /// The file's name.
+        file: &'a str,
+    },
     /// To carry out the commands that come on standard input, a line each.
     Batch {
         /// Whether it ends at the first whose status isn't 0.
@@ -48,6 +55,8 @@ pub struct Line<'a> {
     pub server: &'a str,
     /// The user.
     pub user: User,
+    /// Whether the directory was moved, and no other copy of it is used.
+    pub moved: bool,
     /// What is to be done.
     pub wanted: Wanted<'a>,
 }

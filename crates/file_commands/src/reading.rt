@@ -4,7 +4,7 @@ ghost use Rattle.std.specs.Prelude.{◌≡◌, true, Ok, [], map, IfOk, IfErr, M
 ghost use Rattle.clap.specs.Words.{HasMatchesOf, app_of, fault_of, found_of, is_simple_and_free, rows_of};
 ghost use Rattle.clap.specs.Words.{subcommand_rows_of};
 ghost use Rattle.file_commands.specs.Lines.{reads, order_of, said, text_in, number_in, user_in, group_in, key_of};
-ghost use Rattle.file_commands.specs.Lines.{put_in, link_in, adduser_in, member_in, order_in};
+ghost use Rattle.file_commands.specs.Lines.{Get, Put, file_in, link_in, adduser_in, member_in, order_in};
 ghost use Rattle.file_commands.specs.Lines.{command_of, is_set, line_in, line_of, order_met, IsErrorOf, IsFaultOf};
 ghost use Rattle.file_commands.specs.Lines.{IsWhy};
 ghost use Rattle.file_commands.specs.Words.{line_app, sundr_app};
@@ -75,13 +75,22 @@ fn key(text: &str) -> Result<PublicKey, Unread>
     }
 }
 
-/// A path, and a file's name.
+/// A path, and a file's name whose content is put there.
 fn put<'a>(matches: &ArgMatches<'a>) -> Result<Wanted<'a>, Unread>
-    ensures { reads order_of result ≡ put_in (rows_of (found_of matches.now)) }
+    ensures { reads order_of result ≡ file_in Put (rows_of (found_of matches.now)) }
 {
     let path = text(matches, "PATH")?;
     let file = text(matches, "FILE")?;
     Ok(Wanted::Put { path, file })
+}
+
+/// A path, and a file's name into which the content there is written.
+fn get<'a>(matches: &ArgMatches<'a>) -> Result<Wanted<'a>, Unread>
+    ensures { reads order_of result ≡ file_in Get (rows_of (found_of matches.now)) }
+{
+    let path = text(matches, "PATH")?;
+    let file = text(matches, "FILE")?;
+    Ok(Wanted::Get { path, file })
 }
 
 /// A path, and a place.
@@ -121,6 +130,7 @@ fn wanted<'a>(name: &str, matches: &ArgMatches<'a>) -> Result<Wanted<'a>, Unread
             stops: is_set(matches, "stop"),
         }),
         "put" => return put(matches),
+        "get" => return get(matches),
         "link" => return link(matches),
         "adduser" => return adduser(matches),
         "ls" => Command::Ls(text(matches, "PATH")?),
@@ -157,11 +167,13 @@ fn line<'a>(matches: &ArgMatches<'a>) -> Result<Line<'a>, Unread>
     let dir = text(matches, "dir")?;
     let server = text(matches, "server")?;
     let user = user(matches, "user")?;
+    let moved = is_set(matches, "moved");
     match met(matches) {
         Ok(wanted) => Ok(Line {
             dir,
             server,
             user,
+            moved,
             wanted,
         }),
         Err(unread) => Err(unread),

@@ -2,7 +2,7 @@
 
 ghost use Rattle.std.specs.Prelude.{◌≡◌, false, codes, IfOk};
 ghost use Rattle.clap.specs.Words.{app_of, rule_of};
-ghost use Rattle.file_commands.specs.Words.{adduser_app, batch_app, flag, key_app, line_app, link_app, member_app};
+ghost use Rattle.file_commands.specs.Words.{adduser_app, batch_app, flag, get_app, key_app, line_app, link_app, member_app};
 ghost use Rattle.file_commands.specs.Words.{of_group, of_user, option, options_app, path_app, placed, put_app};
 ghost use Rattle.file_commands.specs.Words.{requires_command, sundr_app, valued, with_commands};
 
@@ -29,6 +29,11 @@ const CAT: Help = Help {
 const PUT: Help = Help {
     about: "Writes the bytes of FILE at PATH: over the file there, or as a new one",
     example: "Example: sundr --dir alice --server localhost:7440 --user 1 put /docs/plan plan.txt",
+};
+
+const GET: Help = Help {
+    about: "Writes the bytes of the file at PATH into FILE, once all of them were checked",
+    example: "Example: sundr --dir alice --server localhost:7440 --user 1 get /docs/plan plan.txt",
 };
 
 const MKDIR: Help = Help {
@@ -156,6 +161,16 @@ fn put_command<'a>(alloc: Global) -> Result<Command<'a>, AllocError>
     ))
 }
 
+fn get_command<'a>(alloc: Global) -> Result<Command<'a>, AllocError>
+    ensures { IfOk result (λ c. app_of c ≡ get_app) }
+{
+    path_command(alloc, "get", GET)?.arg(placed(
+        alloc,
+        "FILE",
+        "A file of this system, which is made, or whose bytes are replaced",
+    ))
+}
+
 fn link_command<'a>(alloc: Global) -> Result<Command<'a>, AllocError>
     ensures { IfOk result (λ c. app_of c ≡ link_app) }
 {
@@ -198,10 +213,25 @@ fn options<'a>(alloc: Global) -> Result<Command<'a>, AllocError>
             alloc,
             "dir",
             "DIR",
-            "The directory with seed, super.pub, ledger and journal",
+            "The directory with seed, super.pub, ledger and journal; else that of SUNDR_DIR",
         ))?
-        .arg(option(alloc, "server", "ADDR", "The server's address"))?
-        .arg(of_user(option(alloc, "user", "U", "The own number, 0 to 63")))
+        .arg(option(
+            alloc,
+            "server",
+            "ADDR",
+            "The server's address; else that of SUNDR_SERVER",
+        ))?
+        .arg(of_user(option(
+            alloc,
+            "user",
+            "U",
+            "The own number, 0 to 63; else that of SUNDR_USER",
+        )))?
+        .arg(flag(
+            alloc,
+            "moved",
+            "DIR was moved, and its place before is gone: a copy of DIR, or an older one put back, would sign with leaves that were used, and then others can forge",
+        ))
 }
 
 /// The options, after which a command is required.
@@ -239,6 +269,7 @@ fn with_commands<'a>(alloc: Global, command: Command<'a>) -> Result<Command<'a>,
         .subcommand(path_command(alloc, "ls", LS)?)?
         .subcommand(path_command(alloc, "cat", CAT)?)?
         .subcommand(put_command(alloc)?)?
+        .subcommand(get_command(alloc)?)?
         .subcommand(path_command(alloc, "mkdir", MKDIR)?)?
         .subcommand(path_command(alloc, "rm", RM)?)?
         .subcommand(link_command(alloc)?)?

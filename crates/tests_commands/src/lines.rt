@@ -68,7 +68,11 @@ fn number_of(wanted: &Wanted<'_>) -> u8 {
         Wanted::Run(command) => command_read(command),
         Wanted::Batch { stops: false } => 11,
         Wanted::Batch { stops: true } => 12,
-        Wanted::Put { .. } => 0,
+        Wanted::Get {
+            path: "/p",
+            file: "f",
+        } => 13,
+        Wanted::Put { .. } | Wanted::Get { .. } => 0,
     }
 }
 
@@ -107,6 +111,7 @@ fn lines_of_commands(rt: HostRuntime) {
     assert!(rt; reads(&rt, alloc, &adduser) == 10);
     assert!(rt; reads(&rt, alloc, "batch") == 11);
     assert!(rt; reads(&rt, alloc, "batch --stop") == 12);
+    assert!(rt; reads(&rt, alloc, "get /p f") == 13);
 }
 
 /// The number of what the words of a line of a batch want; 0 where they aren't read.
@@ -119,6 +124,24 @@ fn reads_alone(rt: &impl Abort, alloc: Global, command: &str) -> u8 {
     }
 }
 
+/// Whether the words of user 7 that end with these say that the directory was moved, where they are read.
+fn tells_moved(rt: &impl Abort, alloc: Global, command: &str) -> Option<bool> {
+    let text = of_user_7(rt, alloc, command);
+    let words = words_of(rt, alloc, &text);
+    match &Line::read(alloc, &words) {
+        Ok(line) => Some(line.moved),
+        Err(_) => None,
+    }
+}
+
+#[test]
+fn a_directory_that_was_moved(rt: HostRuntime) {
+    let alloc = rt.alloc();
+    assert!(rt; tells_moved(&rt, alloc, "ls /p") == Some(false));
+    assert!(rt; tells_moved(&rt, alloc, "--moved ls /p") == Some(true));
+    assert!(rt; tells_moved(&rt, alloc, "ls --moved /p").is_none());
+}
+
 #[test]
 fn lines_of_a_batch(rt: HostRuntime) {
     let alloc = rt.alloc();
@@ -127,6 +150,7 @@ fn lines_of_a_batch(rt: HostRuntime) {
         number = number.saturating_add(1);
         assert!(rt; reads_alone(&rt, alloc, command) == number);
     }
+    assert!(rt; reads_alone(&rt, alloc, "get /p f") == 13);
     for command in ["", "batch", "batch --stop", "--user 7 ls /p", "ls"] {
         assert!(rt; reads_alone(&rt, alloc, command) == 0);
     }

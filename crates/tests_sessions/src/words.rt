@@ -49,6 +49,12 @@ fn run_line<'a, T: Transport<Global>>(
     match &line.wanted {
         Wanted::Run(command) => town.run_over(rt, line.user, command, transport),
         Wanted::Put { path, file: _ } => put(rt, town, line.user, (path, content), transport),
+        Wanted::Get { path, file: _ } => town.run_over(
+            rt,
+            line.user,
+            &Command::Cat(path),
+            transport,
+        ),
         Wanted::Key | Wanted::Batch { .. } => rt.fail("no command over a server"),
     }
 }

@@ -7,5 +7,5 @@ use Rattle.file_commands.proofs.reading.line.Goals as goal
 pub returns-in-Ok : goal.returns-in-Ok
 returns-in-Ok c =
     let m = c.args.matches.now in
-    line_read (rows_of (found_of m)) (subcommand_rows_of m) c.in_ok-dir.dir.now c.in_ok-server.server.now c.in_ok-user.user (order_of c.in-Ok.wanted)
-    (sym c.in_ok-dir.ensures) (sym c.in_ok-server.ensures) (sym c.in_ok-user.ensures) (sym c.in-Ok.ensures)
+    line_read (rows_of (found_of m)) (subcommand_rows_of m) c.in_ok-dir.dir.now c.in_ok-server.server.now c.in_ok-user.user c.is_set-moved.result (order_of c.in-Ok.wanted)
+    (sym c.in_ok-dir.ensures) (sym c.in_ok-server.ensures) (sym c.in_ok-user.ensures) (sym c.is_set-moved.ensures) (sym c.in-Ok.ensures)
