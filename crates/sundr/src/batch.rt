@@ -1,11 +1,13 @@
 //! Commands that come on standard input, a line each.
 
-use crate::folder::{check_folder, lock_ledger, read_content, read_keys};
+use crate::folder::{
+    check_folder, check_place, check_target, lock_ledger, read_blocks, read_content, read_keys,
+};
 use crate::hindrance::Hindrance;
 use crate::reaching::{Reach, Server};
 use crate::{
-    Outcome, OwnClient, OwnSession, WORDS, answer, end, open_client, own_key_digits,
-    print_with_reason, refuse, session_of, tell,
+    Outcome, OwnClient, OwnSession, WORDS, answer, end, into_file, open_client, own_key_digits,
+    parted, print_with_reason, refuse, session_of, tell,
 };
 use commands::{Answer, Command, Refusal};
 use file_commands::{Line, Wanted, split_words};
@@ -44,6 +46,18 @@ fn put<H: Net<Stream = TcpStream>>(
     Ok(answer(rt, session, &command))
 }
 
+/// Writes the content of what stands at a path into a file of the system.
+fn get<H: Net<Stream = TcpStream>>(
+    rt: &HostRuntime,
+    session: &mut OwnSession<'_, H>,
+    path: &str,
+    file: &str,
+) -> Result<Answer<Global>, Hindrance> {
+    check_target(rt, file)?;
+    let answer = answer(rt, session, &Command::Cat(path));
+    into_file(rt, answer, file)
+}
+
 /// Does what a line of a batch wants; a batch is none.
 fn obey<H: Net<Stream = TcpStream> + Threads + Sync>(
     rt: &HostRuntime,
@@ -57,6 +71,7 @@ fn obey<H: Net<Stream = TcpStream> + Threads + Sync>(
         Wanted::Batch { .. } => return Ok(Outcome::Ended(WORDS)),
         Wanted::Run(command) => answer(rt, session, command),
         Wanted::Put { path, file } => put(rt, session, path, file)?,
+        Wanted::Get { path, file } => get(rt, session, path, file)?,
     };
     Ok(Outcome::Answer(answer, server.reach()))
 }
@@ -166,9 +181,8 @@ fn reconnect<'a, H: Net<Stream = TcpStream>>(
     server: &Server<'a, H>,
     session: OwnSession<'a, H>,
 ) -> OwnSession<'a, H> {
-    let (client, transport) = session.close();
-    let_go(transport);
-    session_of(rt, server.again(), client)
+    let (client, kept) = parted(session);
+    session_of(rt, server.again(), client, kept)
 }
 
 /// Carries out a line with its number, from 1 on. A status that isn't 0 is told with it.
@@ -203,7 +217,7 @@ fn carry_out_all<H: Net<Stream = TcpStream> + Threads + Sync>(
     client: OwnClient,
     stops: bool,
 ) -> u8 {
-    let mut session = session_of(rt, server.again(), client);
+    let mut session = session_of(rt, server.again(), client, read_blocks(rt, line.dir));
     let mut first = 0;
     for (place, text) in rt.lines(rt.alloc()).enumerate() {
         let numbered = (place.saturating_add(1), text);
@@ -220,7 +234,7 @@ fn carry_out_all<H: Net<Stream = TcpStream> + Threads + Sync>(
             break;
         }
     }
-    end(session);
+    end(rt, line.dir, session);
     first
 }
 
@@ -233,7 +247,8 @@ pub(crate) fn carry_out_batch<H: Net<Stream = TcpStream> + Threads + Sync>(
 ) -> Result<u8, Hindrance> {
     let keys = read_keys(rt, line.dir)?;
     check_folder(rt, line.dir, line.user)?;
-    let _lock = lock_ledger(rt, line.dir)?;
+    let lock = lock_ledger(rt, line.dir)?;
+    check_place(rt, line.dir, &lock, line.moved)?;
     let client = open_client(rt, host, line, &keys)?;
     let reach = Cell::new(Reach::Untried);
     let server = Server::new(host, line.server, &reach);

@@ -5,7 +5,8 @@ use crate::hindrance::{FileFault, FolderFile, Hindrance};
 use commands::Refusal;
 use drawn_key::{LEDGER_SIZE, kept_key};
 use itable::FILE_SIZE;
-use layout::{Memory, User};
+use kept_blocks::{KeptBlocks, MOST_BLOCKS, MOST_BYTES};
+use layout::{Memory, Text, User};
 use leaf_ledger::FileDevice;
 use lms_sign::{ID_SIZE, KEPT_SIZE, KEY_SIZE, PrivateKey, PublicKey, SEED_SIZE};
 use std::alloc::{AllocError, Global};
@@ -21,6 +22,24 @@ const LEAVES: &str = "leaves";
 
 /// What that file is called until it is whole.
 const LEAVES_BESIDE: &str = "leaves.new";
+
+/// The file of blocks that were got or stored before, so that they need not be asked for again.
+const BLOCKS: &str = "blocks";
+
+/// What that file is called until it is whole.
+const BLOCKS_BESIDE: &str = "blocks.new";
+
+/// How many bytes it has at most: a tag and a count; of each block its digest, its size and its bytes.
+const BLOCKS_SIZE: usize = 6 + MOST_BLOCKS * (34 + MOST_BYTES);
+
+/// The file that tells at which place the folder was used last.
+const PLACE: &str = "place";
+
+/// What that file is called until it is whole.
+const PLACE_BESIDE: &str = "place.new";
+
+/// How much is read of it: more than four numbers have.
+const PLACE_SIZE: u64 = 128;
 
 /// The mode of a file that its owner alone reads and writes.
 const OWNERS_ALONE: u32 = 0o600;
@@ -163,21 +182,70 @@ pub(crate) fn read_kept(
     kept_key(rt.alloc(), keys.seed, keys.id, &ledger, &kept)
 }
 
-/// Writes the keys of the leaves into a file beside, and moves it into its place, if that can be done. They are no
-/// secret, and need not be there.
-pub(crate) fn keep_leaves(rt: &HostRuntime, folder: &str, key: &PrivateKey<Global>) -> Option<()> {
-    let kept = key.kept_leaves(rt.alloc()).ok()?;
-    let beside = path_in(rt.alloc(), folder, LEAVES_BESIDE).ok()?;
-    let path = path_in(rt.alloc(), folder, LEAVES).ok()?;
+/// A file of the owner's alone, with these bytes.
+fn written(rt: &HostRuntime, path: &str, bytes: &[u8]) -> io::Result<File> {
     let mut file = OpenOptions::new()
         .write(true)
         .create(true)
         .truncate(true)
         .mode(OWNERS_ALONE)
-        .open(rt, &beside)
-        .ok()?;
-    file.write_all(&kept).ok()?;
+        .open(rt, path)?;
+    file.write_all(bytes)?;
+    Ok(file)
+}
+
+/// Writes bytes into a file beside one of a folder, and moves it into its place, if that can be done.
+fn put_in_place(
+    rt: &HostRuntime,
+    folder: &str,
+    (name, beside): (&str, &str),
+    bytes: &[u8],
+) -> Option<()> {
+    let beside = path_in(rt.alloc(), folder, beside).ok()?;
+    let path = path_in(rt.alloc(), folder, name).ok()?;
+    let _file = written(rt, &beside, bytes).ok()?;
     fs::rename(rt, &beside, &path).ok()
+}
+
+/// Keeps the keys of the leaves, if that can be done. They are no secret, and need not be there.
+pub(crate) fn keep_leaves(rt: &HostRuntime, folder: &str, key: &PrivateKey<Global>) -> Option<()> {
+    let kept = key.kept_leaves(rt.alloc()).ok()?;
+    put_in_place(rt, folder, (LEAVES, LEAVES_BESIDE), &kept)
+}
+
+/// The text of the blocks that were kept, or nothing where none can be read.
+fn read_blocks_text(rt: &HostRuntime, folder: &str) -> Option<Vec<u8>> {
+    let path = path_in(rt.alloc(), folder, BLOCKS).ok()?;
+    let file = File::open(rt, &path).ok()?;
+    let mut text = Vec::new(rt.alloc());
+    file.take(BLOCKS_SIZE as u64 + 1)
+        .read_to_end(&mut text)
+        .ok()?;
+    Some(text)
+}
+
+/// The blocks that were kept, if their file is one of them. Each is compared with its digest when it is asked for.
+pub(crate) fn read_blocks(rt: &HostRuntime, folder: &str) -> KeptBlocks<Global> {
+    let Some(text) = read_blocks_text(rt, folder) else {
+        return KeptBlocks::empty(rt.alloc());
+    };
+    match KeptBlocks::read(rt.alloc(), &text) {
+        Ok(blocks) => blocks,
+        Err(_) => KeptBlocks::empty(rt.alloc()),
+    }
+}
+
+/// Keeps these blocks, if they aren't those that were kept and it can be done.
+pub(crate) fn keep_blocks(
+    rt: &HostRuntime,
+    folder: &str,
+    blocks: &KeptBlocks<Global>,
+) -> Option<()> {
+    let text = blocks.text(rt.alloc()).ok()?;
+    if read_blocks_text(rt, folder).is_some_and(|before| before == text) {
+        return Some(());
+    }
+    put_in_place(rt, folder, (BLOCKS, BLOCKS_BESIDE), &text)
 }
 
 /// The bytes of a file of the system, of which one more than a file may have is enough.
@@ -190,6 +258,35 @@ pub(crate) fn read_content(rt: &HostRuntime, path: &str) -> Result<Vec<u8>, Hind
     {
         Ok(_) => Ok(content),
         Err(fault) => Err(content_hindrance(&fault)),
+    }
+}
+
+/// Refuses a name of the system into which no bytes of a file can be written: one of what is no file.
+pub(crate) fn check_target(rt: &HostRuntime, path: &str) -> Result<(), Hindrance> {
+    match fs::metadata(rt, path) {
+        Ok(found) if found.is_dir() => Err(Hindrance::NoFile(FileFault::Directory)),
+        Ok(found) if !found.is_file() => Err(Hindrance::NoFile(FileFault::NoFile)),
+        _ => Ok(()),
+    }
+}
+
+/// Writes bytes into a file beside, and moves it into its place.
+fn replace(rt: &HostRuntime, beside: &str, path: &str, bytes: &[u8]) -> io::Result<()> {
+    let mut file = File::create(rt, beside)?;
+    file.write_all(bytes)?;
+    file.sync_all()?;
+    fs::rename(rt, beside, path)
+}
+
+/// Writes bytes into a file of the system, which has its former ones until all of them are there.
+pub(crate) fn write_content(rt: &HostRuntime, path: &str, bytes: &[u8]) -> Result<(), Hindrance> {
+    let beside = format!(in rt.alloc(); "{path}.sundr-new")?;
+    match replace(rt, &beside, path, bytes) {
+        Ok(()) => Ok(()),
+        Err(fault) => {
+            let _ = fs::remove_file(rt, &beside);
+            Err(content_hindrance(&fault))
+        }
     }
 }
 
@@ -246,8 +343,8 @@ pub(crate) fn check_folder(rt: &HostRuntime, folder: &str, user: User) -> Result
     check_ledger(rt, folder)
 }
 
-/// Locks the ledger's file, unless the system knows no locks: while the handle is open, no other process is given the
-/// lock.
+/// Locks the ledger's file: while the handle is open, no other process is given the lock. Where the system has no locks
+/// that is refused, since two processes would sign with one leaf.
 pub(crate) fn lock_ledger(rt: &HostRuntime, folder: &str) -> Result<File, Hindrance> {
     let path = path_of(rt.alloc(), folder, FolderFile::Ledger)?;
     let file = OpenOptions::new()
@@ -261,13 +358,72 @@ pub(crate) fn lock_ledger(rt: &HostRuntime, folder: &str) -> Result<File, Hindra
         Err(TryLockError::WouldBlock) => {
             Err(Hindrance::OfFile(Refusal::Device, FolderFile::Ledger, FileFault::InUse))
         }
-        Err(TryLockError::Error(fault)) if fault.kind() == ErrorKind::Unsupported => Ok(file),
         Err(TryLockError::Error(fault)) => Err(Hindrance::OfFile(
             Refusal::Device,
             FolderFile::Ledger,
-            FileFault::of(&fault),
+            FileFault::of_lock(&fault),
         )),
     }
+}
+
+/// Where the system has the folder and its ledger: the devices, and their numbers on these. A copy has others, and so
+/// has a ledger that was put back.
+fn place_text(rt: &HostRuntime, folder: &str, ledger: &File) -> io::Result<String> {
+    let folder = fs::metadata(rt, folder)?;
+    let ledger = ledger.metadata()?;
+    let (device, number) = (folder.dev(), folder.ino());
+    let (own_device, own_number) = (ledger.dev(), ledger.ino());
+    Ok(format!(in rt.alloc(); "{device} {number} {own_device} {own_number}\n")?)
+}
+
+/// What a folder's file tells of its place, if there is one.
+fn read_place(rt: &HostRuntime, folder: &str) -> io::Result<Option<Vec<u8>>> {
+    let path = path_in(rt.alloc(), folder, PLACE)?;
+    let file = match File::open(rt, &path) {
+        Ok(file) => file,
+        Err(fault) if fault.kind() == ErrorKind::NotFound => return Ok(None),
+        Err(fault) => return Err(fault),
+    };
+    let mut text = Vec::new(rt.alloc());
+    file.take(PLACE_SIZE).read_to_end(&mut text)?;
+    Ok(Some(text))
+}
+
+/// Tells a folder its place. The file is synced before it is there: an empty one would be another place.
+fn put_place(rt: &HostRuntime, folder: &str, text: &str) -> io::Result<()> {
+    let beside = path_in(rt.alloc(), folder, PLACE_BESIDE)?;
+    let path = path_in(rt.alloc(), folder, PLACE)?;
+    written(rt, &beside, text.as_bytes())?.sync_all()?;
+    fs::rename(rt, &beside, &path)
+}
+
+/// What a fault of the system at the folder's place is told as.
+fn place_hindrance(fault: &io::Error) -> Hindrance {
+    device_hindrance(FolderFile::Place, fault)
+}
+
+/// Refuses a folder that isn't at the place at which it was used last: it is a copy, or was put back, and would sign with
+/// leaves that were used. One that says that it was moved, or has no place yet, has this one from now on.
+pub(crate) fn check_place(
+    rt: &HostRuntime,
+    folder: &str,
+    ledger: &File,
+    moved: bool,
+) -> Result<(), Hindrance> {
+    let own = place_text(rt, folder, ledger).map_err(|fault| place_hindrance(&fault))?;
+    let found = read_place(rt, folder).map_err(|fault| place_hindrance(&fault))?;
+    match found {
+        Some(text) if text.as_slice() == own.as_bytes() => return Ok(()),
+        Some(_) if !moved => {
+            return Err(Hindrance::OfFile(
+                Refusal::Foreign,
+                FolderFile::Place,
+                FileFault::Elsewhere,
+            ));
+        }
+        _ => (),
+    }
+    put_place(rt, folder, &own).map_err(|fault| place_hindrance(&fault))
 }
 
 /// The device over a file of a folder.

@@ -19,6 +19,8 @@ pub(crate) enum FolderFile {
     Ledger,
     /// That of the journal.
     Journal,
+    /// That of the place at which the folder was used last.
+    Place,
 }
 
 impl FolderFile {
@@ -30,6 +32,7 @@ impl FolderFile {
             FolderFile::User => "user",
             FolderFile::Ledger => "ledger",
             FolderFile::Journal => "journal",
+            FolderFile::Place => "place",
         }
     }
 }
@@ -45,6 +48,8 @@ pub(crate) enum FileFault {
     Denied,
     /// It is a directory.
     Directory,
+    /// It is neither a file nor a directory.
+    NoFile,
     /// The disk has no room.
     Full,
     /// The system tells of another fault.
@@ -57,10 +62,14 @@ pub(crate) enum FileFault {
     TooOpen,
     /// Another process has locked it.
     InUse,
+    /// It can't be locked where it is.
+    NoLocks,
     /// It has nothing, but once had: another file tells so.
     Gone,
     /// It isn't a user's number.
     NoNumber,
+    /// It tells of another place.
+    Elsewhere,
 }
 
 impl FileFault {
@@ -75,6 +84,14 @@ impl FileFault {
         }
     }
 
+    /// What a fault of the system is where a file is locked.
+    pub(crate) fn of_lock(fault: &io::Error) -> FileFault {
+        match fault.kind() {
+            ErrorKind::Unsupported => FileFault::NoLocks,
+            _ => FileFault::of(fault),
+        }
+    }
+
     /// What is told of it, after the file's name.
     pub(crate) fn words(self) -> &'static str {
         match self {
@@ -82,6 +99,7 @@ impl FileFault {
             FileFault::Unmade => "no such file: tools/new_user makes a user's folder",
             FileFault::Denied => "permission denied",
             FileFault::Directory => "is a directory",
+            FileFault::NoFile => "is no file",
             FileFault::Full => "no space left on the disk",
             FileFault::Other => "can't be read or written",
             FileFault::NoSeed => "not a seed of 48 bytes",
@@ -90,7 +108,11 @@ impl FileFault {
             FileFault::InUse => {
                 "in use: another sundr works in this folder, wait until it has ended"
             }
+            FileFault::NoLocks => { "can't be locked: keep the folder on a disk of this machine" }
             FileFault::NoNumber => "not a user's number, 0 to 63",
+            FileFault::Elsewhere => {
+                "the folder was used last at another place, so it is a copy, or was put back, and would sign again with what is used up: never go on with one; if it was only moved, say --moved once"
+            }
             FileFault::Gone => {
                 "gone or empty, though the journal isn't: a new one would sign again with what is used up; put it back, no older copy, or make a new folder"
             }
@@ -104,7 +126,7 @@ pub(crate) enum Hindrance {
     /// The folder hasn't the keys that the command needs: this file of it is at fault.
     #[error("no keys")]
     NoKeys(FolderFile, FileFault),
-    /// The file that is to be put can't be read.
+    /// The file that is to be put can't be read, or the one into which a file is to be written can't be.
     #[error("no file")]
     NoFile(FileFault),
     /// What an answer tells too, since this file of the folder is at fault.

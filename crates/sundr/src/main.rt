@@ -2,6 +2,7 @@
 #![tactic(auto)]
 
 mod batch;
+mod defaults;
 mod folder;
 mod hindrance;
 mod reaching;
@@ -11,14 +12,17 @@ use batch::carry_out_batch;
 use client_verify::Client;
 use commands::{Answer, Command};
 use connection::Socket;
+use defaults::with_defaults;
 use drawn_key::drawn_key;
 use file_commands::{Line, LineError, Wanted};
 use file_session::{Resumed, Session, refusal_of};
 use folder::{
-    Keys, check_folder, check_user, keep_leaves, lock_ledger, open_device, read_content, read_kept,
-    read_keys, read_seed,
+    Keys, check_folder, check_place, check_target, check_user, keep_blocks, keep_leaves,
+    lock_ledger, open_device, read_blocks, read_content, read_kept, read_keys, read_seed,
+    write_content,
 };
 use hindrance::{FolderFile, Hindrance};
+use kept_blocks::{Keeping, KeptBlocks};
 use layout::let_go;
 use leaf_ledger::FileDevice;
 use lms_sign::PrivateKey;
@@ -45,11 +49,14 @@ const UNPRINTED: u8 = 6;
 /// A client over the files of a folder.
 type OwnClient = Client<FileDevice<Global>, FileDevice<Global>, Global>;
 
+/// What carries its requests to the server at an address, unless they ask for blocks that are kept.
+type OwnTransport<'a, H> = Keeping<Connecting<Server<'a, H>, Socket, Global>, Global>;
+
 /// Its session with the server at an address.
 type OwnSession<'a, H> = Session<
     FileDevice<Global>,
     FileDevice<Global>,
-    Connecting<Server<'a, H>, Socket, Global>,
+    OwnTransport<'a, H>,
     Global,
 >;
 
@@ -112,21 +119,33 @@ fn tell_resumed(rt: &HostRuntime, resumed: &Resumed<Global>) -> io::Result<()> {
     eprintln!(rt;)
 }
 
-/// A session of a client, that isn't connected.
+/// A session of a client, that isn't connected and has these blocks.
 fn session_of<'a, H: Net<Stream = TcpStream>>(
     rt: &HostRuntime,
     server: Server<'a, H>,
     client: OwnClient,
+    kept: KeptBlocks<Global>,
 ) -> OwnSession<'a, H> {
-    let transport = Connecting::new(rt.alloc(), server);
-    Session::new(rt.alloc(), client, transport)
+    let connecting = Connecting::new(rt.alloc(), server);
+    Session::new(rt.alloc(), client, Keeping::new(connecting, kept))
 }
 
-/// Ends a session.
-fn end<H: Net<Stream = TcpStream>>(session: OwnSession<'_, H>) {
+/// Parts a session: its client, and the blocks that it has.
+fn parted<H: Net<Stream = TcpStream>>(
+    session: OwnSession<'_, H>,
+) -> (OwnClient, KeptBlocks<Global>) {
     let (client, transport) = session.close();
+    let (connecting, kept) = transport.into_parts();
+    let_go(connecting);
+    (client, kept)
+}
+
+/// Ends a session. The blocks that it has are kept in the folder; that they can't be is no fault.
+fn end<H: Net<Stream = TcpStream>>(rt: &HostRuntime, folder: &str, session: OwnSession<'_, H>) {
+    let (client, kept) = parted(session);
     let_go(client);
-    let_go(transport);
+    let _ = keep_blocks(rt, folder, &kept);
+    let_go(kept);
 }
 
 /// Carries a command out, and tells which operation was finished before it.
@@ -151,12 +170,14 @@ fn carry_out<H: Net<Stream = TcpStream> + Threads + Sync>(
     command: &Command<'_>,
 ) -> Result<Outcome, Hindrance> {
     check_folder(rt, line.dir, line.user)?;
-    let _lock = lock_ledger(rt, line.dir)?;
+    let lock = lock_ledger(rt, line.dir)?;
+    check_place(rt, line.dir, &lock, line.moved)?;
     let client = open_client(rt, host, line, keys)?;
     let reach = Cell::new(Reach::Untried);
-    let mut session = session_of(rt, Server::new(host, line.server, &reach), client);
+    let server = Server::new(host, line.server, &reach);
+    let mut session = session_of(rt, server, client, read_blocks(rt, line.dir));
     let answer = answer(rt, &mut session, command);
-    end(session);
+    end(rt, line.dir, session);
     Ok(Outcome::Answer(answer, reach.get()))
 }
 
@@ -189,6 +210,36 @@ fn put_file<H: Net<Stream = TcpStream> + Threads + Sync>(
     carry_out(rt, host, line, &keys, &command)
 }
 
+/// What came of a command that shows a file: its bytes are written into a file of the system.
+pub(crate) fn into_file(
+    rt: &HostRuntime,
+    answer: Answer<Global>,
+    file: &str,
+) -> Result<Answer<Global>, Hindrance> {
+    match answer {
+        Answer::Bytes(bytes) => {
+            write_content(rt, file, &bytes)?;
+            Ok(Answer::Done)
+        }
+        other => Ok(other),
+    }
+}
+
+/// Writes the content of what stands at a path into a file of the system.
+fn get_file<H: Net<Stream = TcpStream> + Threads + Sync>(
+    rt: &HostRuntime,
+    host: &H,
+    line: &Line<'_>,
+    path: &str,
+    file: &str,
+) -> Result<Outcome, Hindrance> {
+    check_target(rt, file)?;
+    match obey_command(rt, host, line, &Command::Cat(path))? {
+        Outcome::Answer(answer, reach) => Ok(Outcome::Answer(into_file(rt, answer, file)?, reach)),
+        other => Ok(other),
+    }
+}
+
 /// Carries a command out that puts no file.
 fn obey_command<H: Net<Stream = TcpStream> + Threads + Sync>(
     rt: &HostRuntime,
@@ -211,6 +262,7 @@ fn obey<H: Net<Stream = TcpStream> + Threads + Sync>(
         Wanted::Batch { stops } => Ok(Outcome::Ended(carry_out_batch(rt, host, line, *stops)?)),
         Wanted::Run(command) => obey_command(rt, host, line, command),
         Wanted::Put { path, file } => put_file(rt, host, line, path, file),
+        Wanted::Get { path, file } => get_file(rt, host, line, path, file),
     }
 }
 
@@ -301,9 +353,10 @@ fn obey_and_print<H: Net<Stream = TcpStream> + Threads + Sync>(
     status
 }
 
-/// The words that it was given.
+/// The words that it was given, with the options that stand in the environment.
 fn given_words(rt: &HostRuntime) -> io::Result<Vec<String>> {
-    Ok(env::args(rt)?.collect(rt.alloc())?)
+    let words = env::args(rt)?.collect(rt.alloc())?;
+    with_defaults(rt, words)
 }
 
 /// Does what the words say. Threads and connections are made by the host.

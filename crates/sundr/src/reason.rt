@@ -13,6 +13,9 @@ use wire::Status;
 const LOST: &str =
     "without effect: you may not change what it names, or another user came first: look, and try again";
 
+/// Why a file's content can't be shown.
+const NO_FILE_THERE: &str = "no such file: nothing is there, or a directory";
+
 /// What an answer means: a line of two parts.
 #[derive(Clone, Copy)]
 pub(crate) enum Reason<'a> {
@@ -71,15 +74,15 @@ fn name_in<'a>(wanted: &Wanted<'a>) -> &'a str {
     match wanted {
         Wanted::Key => "key",
         Wanted::Batch { .. } => "batch",
-        Wanted::Put { path, .. } => *path,
+        Wanted::Put { path, .. } | Wanted::Get { path, .. } => *path,
         Wanted::Run(command) => name_of(command),
     }
 }
 
-/// The file that is to be put, or where none is the path that is named.
+/// The file of the system that is named, or where none is the path that is.
 fn file_in<'a>(wanted: &Wanted<'a>) -> &'a str {
     match wanted {
-        Wanted::Put { file, .. } => *file,
+        Wanted::Put { file, .. } | Wanted::Get { file, .. } => *file,
         _ => name_in(wanted),
     }
 }
@@ -160,7 +163,7 @@ fn words_of_lost_in(wanted: &Wanted<'_>) -> &'static str {
 fn words_of_path(command: &Command<'_>) -> &'static str {
     match command {
         Command::Ls(_) => "no such directory: nothing is there, or a file",
-        Command::Cat(_) => "no such file: nothing is there, or a directory",
+        Command::Cat(_) => NO_FILE_THERE,
         Command::Link { target, .. } if place_of(target).is_none() => {
             "can't lead to that: what it is to lead to is told as @p:i"
         }
@@ -176,6 +179,7 @@ fn words_of_path_in(wanted: &Wanted<'_>) -> &'static str {
     }
     match wanted {
         Wanted::Run(command) => words_of_path(command),
+        Wanted::Get { .. } => NO_FILE_THERE,
         _ => "no file can be put there: it is a directory, or no such directory above it",
     }
 }
