@@ -13,10 +13,12 @@ use std::time::{Duration, Instant};
 use tests_plain_user::{Caller, PlainUser};
 use wire::Status;
 
-/// How many calls are sent at once, and how often that is over each connection.
+/// How many calls are sent at once, and how often that is over each connection at the least and at the most.
 const CALLS: usize = 40;
 
-const ROUNDS: u32 = 40;
+const LEAST_ROUNDS: u32 = 40;
+
+const MOST_ROUNDS: u32 = 500;
 
 /// User 1's certificate of number 7, which is none of its next ones, without changes.
 const CERTIFICATE: &[u8] = b"SUC1\x01\0\0\0\x07\
@@ -78,7 +80,13 @@ fn change<R: Host>(rt: &R, kind_and_user: [u8; 2], key: &PublicKey) -> Vec<u8> {
     joined(rt, &[&[1], &kind_and_user, key.as_bytes()])
 }
 
-/// The least time that the calls take over each of two connections, in rounds that alternate.
+/// Whether the calls over the first connection take less than one and a half times as long as over the second.
+fn is_once(times: (Duration, Duration)) -> bool {
+    times.0.saturating_mul(2) < times.1.saturating_mul(3)
+}
+
+/// The least time that the calls take over each of two connections, in rounds that alternate. What else the machine
+/// does slows a round down, and may slow one of the two down for long: so there are more rounds until both were alone.
 fn least_times<R: Host>(
     rt: &R,
     first: &mut TcpStream,
@@ -86,7 +94,10 @@ fn least_times<R: Host>(
     frames: &[u8],
 ) -> (Duration, Duration) {
     let mut least = (Duration::MAX, Duration::MAX);
-    for _round in 0..ROUNDS {
+    for round in 0..MOST_ROUNDS {
+        if LEAST_ROUNDS <= round && is_once(least) {
+            break;
+        }
         let (one, other) = (time_of(rt, first, frames), time_of(rt, second, frames));
         least = (least.0.min(one), least.1.min(other));
     }
@@ -111,9 +122,8 @@ fn are_verified_once<R: Host>(
     let by_second = frames(rt, &second, CALLS);
     are_refused(rt, old, &by_second, CALLS);
     are_refused(rt, new, &by_second, CALLS);
-    let (old, new) = least_times(rt, old, new, &by_second);
-    let is_once = old.saturating_mul(2) < new.saturating_mul(3);
-    assert!(rt; is_once, "{old:?} beside {new:?}");
+    let times = least_times(rt, old, new, &by_second);
+    assert!(rt; is_once(times), "{times:?}");
 }
 
 /// Three connections of a server that user 0 and user 1 use.
