@@ -45,14 +45,15 @@ fn value_of(rt: &HostRuntime, variable: &str) -> io::Result<Option<String>> {
     }
 }
 
-/// Puts an option behind the program's name, if no word gives it and the environment has its value.
+/// Puts an option behind the program's name, if no word gives it and the environment has its value. Both are one word,
+/// so that a value is taken for no other option, whatever it begins with.
 fn add(rt: &HostRuntime, words: &mut Vec<String>, default: Default) -> io::Result<()> {
     if words.is_empty() || words.iter().any(|word| gives(word, default.option)) {
         return Ok(());
     }
     if let Some(value) = value_of(rt, default.variable)? {
-        words.insert(1, value)?;
-        words.insert(1, String::from_str(rt.alloc(), default.option)?)?;
+        let option = default.option;
+        words.insert(1, format!(in rt.alloc(); "{option}={value}")?)?;
     }
     Ok(())
 }
