@@ -1,12 +1,12 @@
 -- A whole line, and the answers of clap that it rests on.
 use Rattle.std.proofs.Common.{codes, subst, ◌≡◌, ◌∙◌, ℕ, Bool, true, List, [], ◌∷◌, Option, Some, None, Result, Ok, Err, refl, sym, ap}
 use Rattle.std.specs.Prelude.{option_map, unwrap_or}
-use Rattle.clap.specs.Words.{App, HasMatchesOf, Kinds, Row, Text, fault_of, found_of, is_simple, is_simple_and_free, matches_of, rows_of, subcommand_name_of, subcommand_of, subcommand_rows_of}
+use Rattle.clap.specs.Words.{App, HasMatchesOf, Kinds, Row, Text, fault_of, first_of, found_of, is_simple, is_simple_and_free, matches_of, rows_of, subcommand_name_of, subcommand_of, subcommand_rows_of}
 use Rattle.clap.specs.declared.parser.ArgMatches.{ArgMatches}
 use Rattle.clap.proofs.OnLiterals.{clap_on_literals}
 use Rattle.clap.proofs.WalkLemmas.{both}
 use Rattle.file_commands.specs.Words.{line_app, sundr_app}
-use Rattle.file_commands.specs.Lines.{Order, is_set, judged, line_in, user_in, order_met, text_in, IsFaultOf, IsWhy, IsErrorOf}
+use Rattle.file_commands.specs.Lines.{◌>>=◌, Init, Order, init_in, is_set, judged, line_in, super_key_for, user_in, order_met, text_in, IsFaultOf, IsWhy, IsErrorOf}
 use Rattle.file_commands.specs.declared.line.LineError.{LineError}
 use Rattle.file_commands.specs.declared.line.LineError.TheVariants as error
 use Rattle.file_commands.specs.declared.reading.Unread.{Unread}
@@ -39,6 +39,12 @@ pub line_read : (rows : List Row) (sub : Option (Text × List Row)) (d s : Text)
     → Ok (record { dir = d; server = s; user = u; moved = m; order = o }) ≡ line_in rows sub
 line_read rows sub d s u m o a b c f e = rw (a, b, c, f, e) refl
 
+-- the file of user 0's public key is looked for last
+pub folder_read : (rows : List Row) (d : Text) (u : ℕ) (r : Result (Option Text) Unread)
+    → text_in (codes "DIR") rows ≡ Ok d → user_in (codes "USER") rows ≡ Ok u
+    → r ≡ super_key_for u (first_of (codes "SUPER_PUB") rows) → (r >>= λ k. Ok (Init d u k)) ≡ init_in rows
+folder_read rows d u r a b c = rw (a, b, ← c) refl
+
 -- ---- both outcomes
 
 pub sundr_simple : is_simple_and_free sundr_app ≡ true
@@ -64,6 +70,8 @@ read_ok {X} app a words m f r e simple has none h =
 pub is_why : {X : Type 0} (e : LineError) (why : Unread) (read : Result X Unread) → IsErrorOf e why → Err why ≡ read → IsWhy e read
 is_why (error.Words fault) why read is h = sym h ∙ ap Err is
 is_why error.Key why read is h = sym h ∙ ap Err is
+is_why error.SuperKeyGiven why read is h = sym h ∙ ap Err is
+is_why error.SuperKeyLacking why read is h = sym h ∙ ap Err is
 is_why error.Memory why read is h = tt
 
 refused : {X : Type 0} (ks : Kinds) (read : Result X Unread) → (ks ≡ [] → ⊥) → judged ks read ≡ Err unread.Words
@@ -74,4 +82,6 @@ pub read_err : {X : Type 0} (app a : App) (words : List Text) (read : Result X U
     → IsFaultOf e (fault_of a words) → IsWhy e (judged (fault_of app words) read)
 read_err app a words read (error.Words fault) is some = refused (fault_of app words) read (subst (λ (x : App). fault_of x words ≡ [] → ⊥) is some)
 read_err app a words read error.Key is none = absurd none
+read_err app a words read error.SuperKeyGiven is none = absurd none
+read_err app a words read error.SuperKeyLacking is none = absurd none
 read_err app a words read error.Memory is some = tt

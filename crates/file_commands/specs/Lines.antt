@@ -1,6 +1,6 @@
 -- What the words of a command line say.
-use Rattle.std.specs.Prelude.{◌≡◌, ◌&&◌, ℕ, Bool, nat_le, nat_lt, codes, if◌then◌else◌}
-use Rattle.std.specs.Prelude.{List, [], ◌∷◌, length, Option, Some, None, Result, Ok, Err, false}
+use Rattle.std.specs.Prelude.{◌≡◌, ◌&&◌, ◌==◌, ℕ, Bool, nat_le, nat_lt, codes, if◌then◌else◌}
+use Rattle.std.specs.Prelude.{List, [], ◌∷◌, length, Option, Some, None, Result, Ok, Err, false, is_some, option_map}
 use Rattle.std.specs.List.{list_all}
 use Rattle.std.specs.Option.{ok_or, option_map_or}
 use Rattle.std.specs.Str.{bytes_eq}
@@ -15,6 +15,9 @@ use Rattle.file_commands.specs.Words.{line_app, sundr_app}
 use Rattle.file_commands.specs.declared.line.Line.{Line}
 use Rattle.file_commands.specs.declared.line.Wanted.{Wanted}
 use Rattle.file_commands.specs.declared.line.Wanted.TheVariants as wanted
+use Rattle.file_commands.specs.declared.line.NewFolder.{NewFolder}
+use Rattle.file_commands.specs.declared.line.Request.{Request}
+use Rattle.file_commands.specs.declared.line.Request.TheVariants as request
 use Rattle.file_commands.specs.declared.line.LineError.{LineError}
 use Rattle.file_commands.specs.declared.line.LineError.TheVariants as error
 use Rattle.file_commands.specs.declared.reading.Unread.{Unread}
@@ -44,6 +47,13 @@ pub record Said : Type 0 where
   pub moved : Bool
   pub order : Option Order
 
+-- what a line asks for
+pub data Asked : Type 0 where
+  -- to make a folder: where, whose, and the file of user 0's public key, which every user but 0 is told
+  Init : Text → User → Option Text → Asked
+  -- to do what is ordered, by the files of a folder
+  Work : Said → Asked
+
 -- ---- lines in memory
 
 abbrev pub order_of : Wanted → Option Order
@@ -69,6 +79,13 @@ said line = record {
   moved = line.moved;
   order = order_of line.wanted;
 }
+
+abbrev pub asked_new : NewFolder → Asked
+asked_new folder = Init folder.dir.now folder.user (option_map (λ file. file.now) folder.super_key)
+
+abbrev pub asked : Request → Asked
+asked (request.Init folder) = asked_new folder
+asked (request.Line line) = Work (said line)
 
 -- an answer is f of what is read, and what hinders it is the same
 abbrev pub reads : {X Y : Type 0} → (X → Y) → Result X Unread → Result Y Unread
@@ -117,6 +134,12 @@ decoded_key (Err e) = Err unread.Key
 -- the key of 56 bytes that 112 hexadecimal digits are
 abbrev pub key_of : Text → Result Key Unread
 key_of text = decoded_key (decode_sized text 56)
+
+-- the file of user 0's public key, which every user but 0 is told
+abbrev pub super_key_for : User → Option Text → Result (Option Text) Unread
+super_key_for user given =
+    if user == 0 then (if is_some given then Err unread.SuperKeyGiven else Ok None)
+    else (if is_some given then Ok given else Err unread.SuperKeyLacking)
 
 -- ---- commands
 
@@ -193,14 +216,31 @@ line_in rows sub = do
   order ← order_met sub
   Ok (record { dir = dir; server = server; user = user; moved = is_set (codes "moved") rows; order = order })
 
+abbrev pub init_in : List Row → Result Asked Unread
+init_in rows = do
+  dir ← text_in (codes "DIR") rows
+  user ← user_in (codes "USER") rows
+  super_key ← super_key_for user (first_of (codes "SUPER_PUB") rows)
+  Ok (Init dir user super_key)
+
+abbrev pub work_in : List Row → Option (Text × List Row) → Result Asked Unread
+work_in rows sub = do
+  line ← line_in rows sub
+  Ok (Work line)
+
+abbrev pub request_in : List Row → Option (Text × List Row) → Result Asked Unread
+request_in rows None = work_in rows None
+request_in rows (Some p) = if bytes_eq p.0 (codes "init") then init_in p.1 else work_in rows (Some p)
+
 -- the words are refused where clap finds a fault in them, and else the values that it finds are read
 abbrev pub judged : {X : Type 0} → Kinds → Result X Unread → Result X Unread
 judged [] read = read
 judged (k ∷ ks) read = Err unread.Words
 
 -- what the words say, of which the first is the program's name
-abbrev pub line_of : List Text → Result Said Unread
-line_of words = judged (fault_of sundr_app words) (line_in (matches_of sundr_app words) (subcommand_of sundr_app words))
+abbrev pub request_of : List Text → Result Asked Unread
+request_of words =
+    judged (fault_of sundr_app words) (request_in (matches_of sundr_app words) (subcommand_of sundr_app words))
 
 -- what the words of a line of a batch say, before which the program's name stands
 abbrev pub command_of : List Text → Result (Option Order) Unread
@@ -210,16 +250,22 @@ command_of words = judged (fault_of line_app words) (order_met (subcommand_of li
 abbrev pub IsErrorOf : LineError → Unread → Type 0
 IsErrorOf (error.Words fault) why = why ≡ unread.Words
 IsErrorOf error.Key why = why ≡ unread.Key
+IsErrorOf error.SuperKeyGiven why = why ≡ unread.SuperKeyGiven
+IsErrorOf error.SuperKeyLacking why = why ≡ unread.SuperKeyLacking
 IsErrorOf error.Memory why = Unit {0}
 
 -- clap's text is told where it finds a fault
 abbrev pub IsFaultOf : LineError → Kinds → Type 0
 IsFaultOf (error.Words fault) kinds = kinds ≡ [] → ⊥
 IsFaultOf error.Key kinds = ⊥
+IsFaultOf error.SuperKeyGiven kinds = ⊥
+IsFaultOf error.SuperKeyLacking kinds = ⊥
 IsFaultOf error.Memory kinds = Unit {0}
 
 -- the error is this reading's, or want of memory
 abbrev pub IsWhy : {X : Type 0} → LineError → Result X Unread → Type 0
 IsWhy (error.Words fault) answer = answer ≡ Err unread.Words
 IsWhy error.Key answer = answer ≡ Err unread.Key
+IsWhy error.SuperKeyGiven answer = answer ≡ Err unread.SuperKeyGiven
+IsWhy error.SuperKeyLacking answer = answer ≡ Err unread.SuperKeyLacking
 IsWhy error.Memory answer = Unit {0}

@@ -1,5 +1,5 @@
 -- The words of a line, as a shell reads them (POSIX.1-2017, Shell Command Language, 2.2 and 2.3), without expansions.
-use Rattle.std.specs.Prelude.{ℕ, Bool, ◌||◌, ◌==◌, List, [], ◌∷◌, ◌++◌, map, Option, Some, None, option_map, encode_utf8, if◌then◌else◌}
+use Rattle.std.specs.Prelude.{ℕ, Bool, ◌||◌, ◌==◌, List, [], ◌∷◌, ◌++◌, Option, Some, None, option_map, encode_utf8, if◌then◌else◌}
 use Rattle.file_commands.specs.declared.splitting.Place.{Place}
 use Rattle.file_commands.specs.declared.splitting.Place.TheVariants.{Between, Comment, Word, Escaped, Single, Double, DoubleEscaped}
 

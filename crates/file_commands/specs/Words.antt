@@ -4,17 +4,21 @@ use Rattle.clap.specs.Words.{App, Rule, Text, new_app, new_rule, with_rule, with
 use Rattle.clap.specs.declared.builder.ArgAction.TheVariants.{Set, SetTrue}
 use Rattle.clap.specs.declared.builder.ValueParser.TheVariants as parser
 
+-- a value, by its place, that may be left out
+abbrev pub optional : Text → Rule
+optional id = record (new_rule id) { action = Some Set }
+
 -- a required value, by its place
 abbrev pub placed : Text → Rule
-placed id = record (new_rule id) { action = Some Set; required = true }
+placed id = record (optional id) { required = true }
 
 -- its value has a name in help
 abbrev pub valued : Rule → Rule
 valued rule = record rule { value_names = 1 }
 
--- a required option
+-- an option with a value
 abbrev pub option : Text → Rule
-option id = valued (record (placed id) { long = Some id })
+option id = valued (record (optional id) { long = Some id })
 
 -- an option without a value
 abbrev pub flag : Text → Rule
@@ -55,6 +59,13 @@ adduser_app = with_rule (with_rule (new_app (codes "adduser")) (of_user (placed 
 abbrev pub member_app : Text → App
 member_app name = with_rule (with_rule (new_app name) (of_group (placed (codes "G")))) (of_user (placed (codes "U")))
 
+abbrev pub folder_app : App
+folder_app = with_rule (new_app (codes "init")) (placed (codes "DIR"))
+
+-- a folder is made: where, whose, and by which file of user 0's public key
+abbrev pub init_app : App
+init_app = with_rule (with_rule folder_app (of_user (placed (codes "USER")))) (optional (codes "SUPER_PUB"))
+
 -- commands are read, a line each, from standard input
 abbrev pub batch_app : App
 batch_app = with_rule (new_app (codes "batch")) (flag (codes "stop"))
@@ -70,6 +81,10 @@ options_app =
 abbrev pub requires_command : App → App
 requires_command app = record app { top = record app.top { subcommand_required = true } }
 
+-- it has a version
+abbrev pub versioned : App → App
+versioned app = record app { top = record app.top { has_version = true } }
+
 infixl 10 ◌with◌
 abbrev ◌with◌ : App → App → App
 app with sub = with_subcommand app sub.top
@@ -81,7 +96,7 @@ with_commands app = app with key_app with path_app (codes "ls") with path_app (c
     with member_app (codes "addmember") with member_app (codes "dropmember")
 
 abbrev pub sundr_app : App
-sundr_app = with_commands (requires_command options_app) with batch_app
+sundr_app = with_commands (versioned (requires_command options_app) with init_app) with batch_app
 
 -- a line of a batch: a command without options
 abbrev pub line_app : App

@@ -6,5 +6,5 @@ mod reading;
 mod splitting;
 mod words;
 
-pub use line::{Line, LineError, Wanted};
+pub use line::{Line, LineError, NewFolder, Request, Wanted};
 pub use splitting::{SplitError, split_words};

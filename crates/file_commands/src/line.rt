@@ -13,6 +13,12 @@ pub enum LineError {
     /// What stands for a key isn't one of 112 hexadecimal digits.
     #[error("bad key")]
     Key,
+    /// A file of user 0's public key is named for user 0, whose own key that is.
+    #[error("error: SUPER_PUB is for other users than 0, whose own key it is")]
+    SuperKeyGiven,
+    /// No file of user 0's public key is named for another user.
+    #[error("error: SUPER_PUB is lacking: the file of user 0's public key")]
+    SuperKeyLacking,
     /// Memory ran out.
     #[error("memory")]
     Memory,
@@ -46,7 +52,7 @@ pub enum Wanted<'a> {
     },
 }
 
-/// A command line that was read.
+/// A command line that asks for what is done by the files of a folder.
 #[derive(Clone, Copy)]
 pub struct Line<'a> {
     /// The directory with the user's keys and journal.
@@ -59,4 +65,24 @@ pub struct Line<'a> {
     pub moved: bool,
     /// What is to be done.
     pub wanted: Wanted<'a>,
+}
+
+/// A user's folder that is to be made.
+#[derive(Clone, Copy)]
+pub struct NewFolder<'a> {
+    /// Where it is made.
+    pub dir: &'a str,
+    /// The user whose it is.
+    pub user: User,
+    /// The file of user 0's public key; none where it is user 0's, whose own key that is.
+    pub super_key: Option<&'a str>,
+}
+
+/// What a command line asks for.
+#[derive(Clone, Copy)]
+pub enum Request<'a> {
+    /// To make a user's folder.
+    Init(NewFolder<'a>),
+    /// To do what is wanted by the files of a folder.
+    Line(Line<'a>),
 }

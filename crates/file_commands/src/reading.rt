@@ -1,15 +1,15 @@
 //! The reading of a command line.
 
-ghost use Rattle.std.specs.Prelude.{◌≡◌, true, Ok, [], map, IfOk, IfErr, MatchResult};
+ghost use Rattle.std.specs.Prelude.{◌≡◌, true, Ok, [], map, option_map, IfOk, IfErr, MatchResult};
 ghost use Rattle.clap.specs.Words.{HasMatchesOf, app_of, fault_of, found_of, is_simple_and_free, rows_of};
 ghost use Rattle.clap.specs.Words.{subcommand_rows_of};
 ghost use Rattle.file_commands.specs.Lines.{reads, order_of, said, text_in, number_in, user_in, group_in, key_of};
 ghost use Rattle.file_commands.specs.Lines.{Get, Put, file_in, link_in, adduser_in, member_in, order_in};
-ghost use Rattle.file_commands.specs.Lines.{command_of, is_set, line_in, line_of, order_met, IsErrorOf, IsFaultOf};
-ghost use Rattle.file_commands.specs.Lines.{IsWhy};
+ghost use Rattle.file_commands.specs.Lines.{command_of, is_set, line_in, order_met, IsErrorOf, IsFaultOf, IsWhy};
+ghost use Rattle.file_commands.specs.Lines.{asked, asked_new, init_in, request_in, request_of, super_key_for, work_in};
 ghost use Rattle.file_commands.specs.Words.{line_app, sundr_app};
 
-use crate::line::{Line, LineError, Wanted};
+use crate::line::{Line, LineError, NewFolder, Request, Wanted};
 use crate::words::{command, line_command};
 use clap::error::ErrorKind;
 use clap::{ArgMatches, Command as Words};
@@ -20,6 +20,10 @@ use lms_sign::{KEY_SIZE, PublicKey};
 use std::alloc::Global;
 use std::convert::AsStr;
 
+/// What is told where a value isn't there: clap itself wants each that no variable of the environment stands for.
+const MISSING: &str =
+    "--dir, --server and --user are required, or SUNDR_DIR, SUNDR_SERVER and SUNDR_USER";
+
 /// Why matches aren't read as a line.
 #[derive(Clone, Copy, Debug)]
 pub(crate) enum Unread {
@@ -27,6 +31,10 @@ pub(crate) enum Unread {
     Words,
     /// What stands for a key is none.
     Key,
+    /// A file of user 0's public key is named for user 0.
+    SuperKeyGiven,
+    /// No file of user 0's public key is named for another user.
+    SuperKeyLacking,
 }
 
 /// A value of the matches as text.
@@ -180,14 +188,73 @@ fn line<'a>(matches: &ArgMatches<'a>) -> Result<Line<'a>, Unread>
     }
 }
 
+/// The file of user 0's public key for a user's folder, where this one is named: user 0's own needs none.
+fn super_key<'a>(user: User, given: Option<&'a str>) -> Result<Option<&'a str>, Unread>
+    ensures { reads (option_map (λ file. file.now)) result ≡ super_key_for user (option_map (λ file. file.now) given.entry) }
+{
+    match given {
+        Some(_) if user.get() == 0 => Err(Unread::SuperKeyGiven),
+        None if user.get() != 0 => Err(Unread::SuperKeyLacking),
+        _ => Ok(given),
+    }
+}
+
+/// A folder that is to be made.
+fn new_folder<'a>(matches: &ArgMatches<'a>) -> Result<NewFolder<'a>, Unread>
+    ensures { reads asked_new result ≡ init_in (rows_of (found_of matches.now)) }
+{
+    let dir = text(matches, "DIR")?;
+    let user = user(matches, "USER")?;
+    match super_key(user, matches.get_str("SUPER_PUB")) {
+        Ok(super_key) => Ok(NewFolder {
+            dir,
+            user,
+            super_key,
+        }),
+        Err(unread) => Err(unread),
+    }
+}
+
+/// To make a folder, as these matches give it.
+fn init<'a>(matches: &ArgMatches<'a>) -> Result<Request<'a>, Unread>
+    ensures { reads asked result ≡ init_in (rows_of (found_of matches.now)) }
+{
+    match new_folder(matches) {
+        Ok(folder) => Ok(Request::Init(folder)),
+        Err(unread) => Err(unread),
+    }
+}
+
+/// To do what is wanted, as the matches give it.
+fn work<'a>(matches: &ArgMatches<'a>) -> Result<Request<'a>, Unread>
+    ensures { reads asked result ≡ work_in (rows_of (found_of matches.now)) (subcommand_rows_of matches.now) }
+{
+    match line(matches) {
+        Ok(line) => Ok(Request::Line(line)),
+        Err(unread) => Err(unread),
+    }
+}
+
+/// What the matches ask for.
+fn request<'a>(matches: &ArgMatches<'a>) -> Result<Request<'a>, Unread>
+    ensures { reads asked result ≡ request_in (rows_of (found_of matches.now)) (subcommand_rows_of matches.now) }
+{
+    match matches.subcommand() {
+        Some(("init", inner)) => init(inner),
+        _ => work(matches),
+    }
+}
+
 /// The error of a line that isn't read.
 fn refuse(words: &mut Words<'_>, unread: Unread) -> LineError
     ensures { IsErrorOf result unread }
 {
     match unread {
         Unread::Key => LineError::Key,
+        Unread::SuperKeyGiven => LineError::SuperKeyGiven,
+        Unread::SuperKeyLacking => LineError::SuperKeyLacking,
         Unread::Words => {
-            match words.error(ErrorKind::MissingRequiredArgument, "a value is missing") {
+            match words.error(ErrorKind::MissingRequiredArgument, MISSING) {
                 Ok(fault) => LineError::Words(fault),
                 Err(_) => LineError::Memory,
             }
@@ -212,15 +279,18 @@ fn matched<'a, S: AsStr>(
     }
 }
 
-/// The line that words say.
-fn line_by<'a, S: AsStr>(command: &mut Words<'a>, words: &'a [S]) -> Result<Line<'a>, LineError>
+/// What words ask for.
+fn request_by<'a, S: AsStr>(
+    command: &mut Words<'a>,
+    words: &'a [S],
+) -> Result<Request<'a>, LineError>
     requires { app_of command.old ≡ sundr_app }
-    ensures { MatchResult result (λ line. line_of (map S.text words.entry.now) ≡ Ok (said line))
-        (λ e. IsWhy e (line_of (map S.text words.entry.now))) }
+    ensures { MatchResult result (λ request. request_of (map S.text words.entry.now) ≡ Ok (asked request))
+        (λ e. IsWhy e (request_of (map S.text words.entry.now))) }
 {
     match matched(command, words) {
-        Ok(matches) => match line(&matches) {
-            Ok(line) => Ok(line),
+        Ok(matches) => match request(&matches) {
+            Ok(request) => Ok(request),
             Err(unread) => Err(refuse(command, unread)),
         },
         Err(error) => Err(error),
@@ -242,18 +312,18 @@ fn met_by<'a, S: AsStr>(command: &mut Words<'a>, words: &'a [S]) -> Result<Wante
     }
 }
 
-impl<'a> Line<'a> {
-    /// Reads a line from its words, of which the first is the program's name.
-    pub fn read<S: AsStr>(alloc: Global, words: &'a [S]) -> Result<Line<'a>, LineError>
-        ensures { MatchResult result (λ line. line_of (map S.text words.entry.now) ≡ Ok (said line))
-            (λ e. IsWhy e (line_of (map S.text words.entry.now))) }
+impl<'a> Request<'a> {
+    /// Reads what is asked for from the words of a command line, of which the first is the program's name.
+    pub fn read<S: AsStr>(alloc: Global, words: &'a [S]) -> Result<Request<'a>, LineError>
+        ensures { MatchResult result (λ request. request_of (map S.text words.entry.now) ≡ Ok (asked request))
+            (λ e. IsWhy e (request_of (map S.text words.entry.now))) }
     {
         let Ok(mut command) = command(alloc) else {
             return Err(LineError::Memory);
         };
-        let line = line_by(&mut command, words);
+        let request = request_by(&mut command, words);
         let_go(command);
-        line
+        request
     }
 }
 

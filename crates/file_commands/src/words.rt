@@ -2,12 +2,29 @@
 
 ghost use Rattle.std.specs.Prelude.{◌≡◌, false, codes, IfOk};
 ghost use Rattle.clap.specs.Words.{app_of, rule_of};
-ghost use Rattle.file_commands.specs.Words.{adduser_app, batch_app, flag, get_app, key_app, line_app, link_app, member_app};
-ghost use Rattle.file_commands.specs.Words.{of_group, of_user, option, options_app, path_app, placed, put_app};
-ghost use Rattle.file_commands.specs.Words.{requires_command, sundr_app, valued, with_commands};
+ghost use Rattle.file_commands.specs.Words.{adduser_app, batch_app, flag, folder_app, get_app, init_app, key_app, line_app};
+ghost use Rattle.file_commands.specs.Words.{link_app, member_app, of_group, of_user, option, optional, options_app, path_app, placed};
+ghost use Rattle.file_commands.specs.Words.{put_app, requires_command, sundr_app, valued, versioned, with_commands};
 
 use clap::{Arg, ArgAction, Command, value_parser};
 use std::alloc::{AllocError, Global};
+
+/// The version of the program.
+const VERSION: &str = "0.1.0";
+
+/// How the program's words go together.
+const USAGE: &str = "sundr --dir <DIR> --server <ADDR> --user <U> [--moved] <COMMAND>
+       sundr init <DIR> <USER> [SUPER_PUB]";
+
+/// What the help says at its end: the statuses with which it ends.
+const STATUSES: &str = "Statuses:
+  0  All was done or shown
+  1  lost: changes had no effect
+  2  broken: what the server showed breaks a rule
+  3  declined: the server refused
+  4  Not done, or not known to be: the answer says why, and standard error more
+  5  The words are at fault
+  6  The answer couldn't be printed";
 
 /// What help says of a command: what it does, and an example of its words.
 #[derive(Clone, Copy)]
@@ -61,15 +78,20 @@ const DROP_MEMBER: Help = Help {
     example: "Example: sundr --dir root --server localhost:7440 --user 0 dropmember 64 1",
 };
 
+/// A value, by its place, that may be left out.
+fn optional<'a>(alloc: Global, name: &'a str, help: &'a str) -> Arg<'a>
+    ensures rule { rule_of result ≡ optional name.entry.now }
+    ensures local { result.global ≡ false }
+{
+    Arg::new(alloc, name).action(ArgAction::Set).help(help)
+}
+
 /// A required value, by its place.
 fn placed<'a>(alloc: Global, name: &'a str, help: &'a str) -> Arg<'a>
     ensures rule { rule_of result ≡ placed name.entry.now }
     ensures local { result.global ≡ false }
 {
-    Arg::new(alloc, name)
-        .required(true)
-        .action(ArgAction::Set)
-        .help(help)
+    optional(alloc, name, help).required(true)
 }
 
 /// The same argument, whose value help calls so.
@@ -80,12 +102,12 @@ fn valued<'a>(arg: Arg<'a>, value: &'a str) -> Arg<'a>
     arg.value_name(value)
 }
 
-/// A required option.
+/// An option with a value.
 fn option<'a>(alloc: Global, name: &'a str, value: &'a str, help: &'a str) -> Arg<'a>
     ensures rule { rule_of result ≡ option name.entry.now }
     ensures local { result.global ≡ false }
 {
-    valued(placed(alloc, name, help).long(name), value)
+    valued(optional(alloc, name, help).long(name), value)
 }
 
 /// An option without a value.
@@ -131,6 +153,35 @@ fn user<'a>(alloc: Global) -> Arg<'a>
     ensures local { result.global ≡ false }
 {
     of_user(placed(alloc, "U", "A user, 0 to 63"))
+}
+
+/// The making of a folder, by its place alone.
+fn folder_command<'a>(alloc: Global) -> Result<Command<'a>, AllocError>
+    ensures { IfOk result (λ c. app_of c ≡ folder_app) }
+{
+    Command::new(alloc, "init")
+        .about(
+            "Makes a user's folder with a new key, and prints what user 0 types to add the user, and fingerprints of keys",
+        )
+        .after_help("Example: sundr init alice 1 root/super.pub")
+        .arg(placed(
+            alloc,
+            "DIR",
+            "The user's folder, which is made; one that has a user's files is refused",
+        ))
+}
+
+/// The making of a user's folder.
+fn init_command<'a>(alloc: Global) -> Result<Command<'a>, AllocError>
+    ensures { IfOk result (λ c. app_of c ≡ init_app) }
+{
+    folder_command(alloc)?
+        .arg(of_user(placed(alloc, "USER", "The user's number, 0 to 63")))?
+        .arg(optional(
+            alloc,
+            "SUPER_PUB",
+            "The file of user 0's public key, of 56 bytes or their 112 digits; for all users but 0",
+        ))
 }
 
 fn key_command<'a>(alloc: Global) -> Command<'a>
@@ -236,10 +287,16 @@ fn options<'a>(alloc: Global) -> Result<Command<'a>, AllocError>
 
 /// The options, after which a command is required.
 fn program<'a>(alloc: Global) -> Result<Command<'a>, AllocError>
-    ensures { IfOk result (λ c. app_of c ≡ requires_command options_app) }
+    ensures { IfOk result (λ c. app_of c ≡ versioned (requires_command options_app)) }
 {
     let command = options(alloc)?.subcommand_required(true);
-    Ok(command.about("Works in a file system whose server nobody needs to trust"))
+    Ok(
+        command
+            .version(VERSION)
+            .about("Works in a file system whose server nobody needs to trust")
+            .override_usage(USAGE)
+            .after_help(STATUSES),
+    )
 }
 
 /// Commands that come on standard input.
@@ -282,7 +339,8 @@ fn with_commands<'a>(alloc: Global, command: Command<'a>) -> Result<Command<'a>,
 pub(crate) fn command<'a>(alloc: Global) -> Result<Command<'a>, AllocError>
     ensures { IfOk result (λ c. app_of c ≡ sundr_app) }
 {
-    with_commands(alloc, program(alloc)?)?.subcommand(batch_command(alloc)?)
+    let begun = program(alloc)?.subcommand(init_command(alloc)?)?;
+    with_commands(alloc, begun)?.subcommand(batch_command(alloc)?)
 }
 
 /// The words that a line of a batch may have, after the program's name.

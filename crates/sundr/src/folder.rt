@@ -42,7 +42,7 @@ const PLACE_BESIDE: &str = "place.new";
 const PLACE_SIZE: u64 = 128;
 
 /// The mode of a file that its owner alone reads and writes.
-const OWNERS_ALONE: u32 = 0o600;
+pub(crate) const OWNERS_ALONE: u32 = 0o600;
 
 /// What a file's mode has where others than its owner may use it.
 const FOR_OTHERS: u32 = 0o077;
@@ -56,7 +56,7 @@ pub(crate) struct Keys {
 }
 
 /// What a fault of the system is told as: want of memory as that, and any other as what it hinders.
-fn hindrance_of(fault: &io::Error, other: Hindrance) -> Hindrance {
+pub(crate) fn hindrance_of(fault: &io::Error, other: Hindrance) -> Hindrance {
     match fault.kind() {
         ErrorKind::OutOfMemory => Hindrance::Refused(Refusal::Memory),
         _ => other,
@@ -64,7 +64,7 @@ fn hindrance_of(fault: &io::Error, other: Hindrance) -> Hindrance {
 }
 
 /// What a fault of the system at another file of the folder than those is told as.
-fn device_hindrance(file: FolderFile, fault: &io::Error) -> Hindrance {
+pub(crate) fn device_hindrance(file: FolderFile, fault: &io::Error) -> Hindrance {
     let other = Hindrance::OfFile(Refusal::Device, file, FileFault::of(fault));
     hindrance_of(fault, other)
 }
@@ -79,8 +79,8 @@ fn key_hindrance(file: FolderFile, short: FileFault, fault: &io::Error) -> Hindr
     hindrance_of(fault, Hindrance::NoKeys(file, at_fault))
 }
 
-/// What a fault of the system at the file that is put is told as.
-fn content_hindrance(fault: &io::Error) -> Hindrance {
+/// What a fault of the system at a file that is named is told as.
+pub(crate) fn content_hindrance(fault: &io::Error) -> Hindrance {
     hindrance_of(fault, Hindrance::NoFile(FileFault::of(fault)))
 }
 
@@ -90,7 +90,7 @@ fn path_in(alloc: Global, folder: &str, name: &str) -> Result<String, AllocError
 }
 
 /// The path of a file of a user's folder.
-fn path_of(alloc: Global, folder: &str, file: FolderFile) -> Result<String, AllocError> {
+pub(crate) fn path_of(alloc: Global, folder: &str, file: FolderFile) -> Result<String, AllocError> {
     path_in(alloc, folder, file.name())
 }
 

@@ -42,12 +42,16 @@ impl FolderFile {
 pub(crate) enum FileFault {
     /// There is none.
     Absent,
-    /// There is none, in a folder that a tool makes.
+    /// There is none, in a folder that `init` makes.
     Unmade,
+    /// There is one, where a folder is to be made.
+    Present,
     /// The system doesn't let it be used so.
     Denied,
     /// It is a directory.
     Directory,
+    /// It is no directory.
+    NoDirectory,
     /// It is neither a file nor a directory.
     NoFile,
     /// The disk has no room.
@@ -56,6 +60,8 @@ pub(crate) enum FileFault {
     Other,
     /// It isn't a seed with its identifier.
     NoSeed,
+    /// The system gives no random bytes for it.
+    NoRandom,
     /// It isn't a public key.
     NoKey,
     /// Others than its owner may use it.
@@ -96,13 +102,18 @@ impl FileFault {
     pub(crate) fn words(self) -> &'static str {
         match self {
             FileFault::Absent => "no such file",
-            FileFault::Unmade => "no such file: tools/new_user makes a user's folder",
+            FileFault::Unmade => "no such file: sundr init makes a user's folder",
+            FileFault::Present => {
+                "already there: a folder that has a user's files is left as it is, since a key whose seed is lost can't be made again"
+            }
             FileFault::Denied => "permission denied",
             FileFault::Directory => "is a directory",
+            FileFault::NoDirectory => "is no directory",
             FileFault::NoFile => "is no file",
             FileFault::Full => "no space left on the disk",
             FileFault::Other => "can't be read or written",
             FileFault::NoSeed => "not a seed of 48 bytes",
+            FileFault::NoRandom => "the system gives no random bytes for it",
             FileFault::NoKey => "not a public key of 56 bytes",
             FileFault::TooOpen => "permissions are too open: chmod 600 makes it its owner's alone",
             FileFault::InUse => {
@@ -126,9 +137,13 @@ pub(crate) enum Hindrance {
     /// The folder hasn't the keys that the command needs: this file of it is at fault.
     #[error("no keys")]
     NoKeys(FolderFile, FileFault),
-    /// The file that is to be put can't be read, or the one into which a file is to be written can't be.
+    /// The file that is to be put can't be read, or the one into which a file is to be written can't be, or the one of
+    /// user 0's key of which a folder is to be made.
     #[error("no file")]
     NoFile(FileFault),
+    /// The folder can't be made.
+    #[error("device")]
+    NoFolder(FileFault),
     /// What an answer tells too, since this file of the folder is at fault.
     #[error("{0}")]
     OfFile(Refusal, FolderFile, FileFault),
@@ -145,6 +160,7 @@ impl Hindrance {
     pub(crate) fn refusal(self) -> Option<Refusal> {
         match self {
             Hindrance::NoKeys(..) | Hindrance::NoFile(_) => None,
+            Hindrance::NoFolder(_) => Some(Refusal::Device),
             Hindrance::OfUser(_) => Some(Refusal::Foreign),
             Hindrance::OfFile(refusal, ..) | Hindrance::Refused(refusal) => Some(refusal),
         }

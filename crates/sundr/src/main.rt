@@ -1,10 +1,12 @@
-//! A client of a file system over a server that nobody trusts: it carries out one command, and prints what comes of it.
+//! A client of a file system over a server that nobody trusts: it makes a user's folder, or carries out a command by the
+//! files of one, and prints what comes of it.
 #![tactic(auto)]
 
 mod batch;
 mod defaults;
 mod folder;
 mod hindrance;
+mod init;
 mod reaching;
 mod reason;
 
@@ -14,7 +16,7 @@ use commands::{Answer, Command};
 use connection::Socket;
 use defaults::with_defaults;
 use drawn_key::drawn_key;
-use file_commands::{Line, LineError, Wanted};
+use file_commands::{Line, LineError, NewFolder, Request, Wanted};
 use file_session::{Resumed, Session, refusal_of};
 use folder::{
     Keys, check_folder, check_place, check_target, check_user, keep_blocks, keep_leaves,
@@ -22,12 +24,13 @@ use folder::{
     write_content,
 };
 use hindrance::{FolderFile, Hindrance};
+use init::{init, print_made};
 use kept_blocks::{Keeping, KeptBlocks};
 use layout::let_go;
 use leaf_ledger::FileDevice;
 use lms_sign::PrivateKey;
 use reaching::{Reach, Server};
-use reason::{Reason, reason_of_answer, reason_of_hindrance};
+use reason::{Reason, reason_of_answer, reason_of_hindrance, reason_of_unmade};
 use std::alloc::Global;
 use std::cell::Cell;
 use std::env;
@@ -353,6 +356,27 @@ fn obey_and_print<H: Net<Stream = TcpStream> + Threads + Sync>(
     status
 }
 
+/// Makes a user's folder, and prints what comes of it: the status to end with.
+fn init_and_print<H: Threads + Sync>(
+    rt: &HostRuntime,
+    host: &H,
+    new: &NewFolder<'_>,
+) -> anyhow::Result<u8> {
+    let made = init(rt, host, new);
+    match &made {
+        Ok(made) => {
+            print_made(rt, made)?;
+            Ok(0)
+        }
+        Err(hindrance) => {
+            let status = print_hindrance(rt, *hindrance)?;
+            let reason = reason_of_unmade(new, *hindrance);
+            let _ = eprintln!(rt; "sundr: {reason}");
+            Ok(status)
+        }
+    }
+}
+
 /// The words that it was given, with the options that stand in the environment.
 fn given_words(rt: &HostRuntime) -> io::Result<Vec<String>> {
     let words = env::args(rt)?.collect(rt.alloc())?;
@@ -374,8 +398,9 @@ fn run<H: Net<Stream = TcpStream> + Threads + Sync>(
             return Ok(WORDS);
         }
     };
-    match Line::read(rt.alloc(), words.as_slice()) {
-        Ok(line) => obey_and_print(rt, host, &line),
+    match Request::read(rt.alloc(), words.as_slice()) {
+        Ok(Request::Line(line)) => obey_and_print(rt, host, &line),
+        Ok(Request::Init(new)) => init_and_print(rt, host, &new),
         Err(error) => {
             let status = refuse(rt, &error);
             let_go(error);

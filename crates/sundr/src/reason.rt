@@ -3,7 +3,8 @@
 use crate::hindrance::{FileFault, FolderFile, Hindrance};
 use crate::reaching::Reach;
 use commands::{Answer, Command, Refusal, path_of, place_of};
-use file_commands::{Line, Wanted};
+use file_commands::{Line, NewFolder, Wanted};
+use layout::User;
 use reply_rules::Rule;
 use std::alloc::Global;
 use std::fmt;
@@ -218,6 +219,14 @@ fn reason_of_folder<'a>(folder: &'a str, refusal: Refusal) -> Reason<'a> {
     }
 }
 
+/// What is told where memory ran out.
+fn reason_of_memory<'a>() -> Reason<'a> {
+    Reason::Of {
+        name: "memory",
+        words: "it ran out on this machine: free some, and try again",
+    }
+}
+
 /// What a refusal means.
 fn reason_of_refusal<'a>(
     line: &Line<'a>,
@@ -238,10 +247,7 @@ fn reason_of_refusal<'a>(
             "more than 4194304 bytes, the most that a file may have",
         ),
         Refusal::Cut => (line.server, words_of_reach(reach)),
-        Refusal::Memory => (
-            "memory",
-            "it ran out on this machine: free some, and try again",
-        ),
+        Refusal::Memory => return reason_of_memory(),
         Refusal::NoLeaf | Refusal::Device | Refusal::Foreign | Refusal::Damaged => {
             return reason_of_folder(line.dir, refusal);
         }
@@ -272,11 +278,28 @@ pub(crate) fn reason_of_answer<'a>(
 }
 
 /// What is at fault with a file of the folder.
-fn reason_of_file<'a>(line: &Line<'a>, file: FolderFile, fault: FileFault) -> Reason<'a> {
+fn reason_of_file<'a>(folder: &'a str, file: FolderFile, fault: FileFault) -> Reason<'a> {
     Reason::OfFile {
-        folder: line.dir,
+        folder,
         file,
         words: fault.words(),
+    }
+}
+
+/// What is at fault with what has a name.
+fn reason_of_fault<'a>(name: &'a str, fault: FileFault) -> Reason<'a> {
+    Reason::Of {
+        name,
+        words: fault.words(),
+    }
+}
+
+/// That the folder is one user's, and not another's.
+fn reason_of_user<'a>(folder: &'a str, own: User, other: User) -> Reason<'a> {
+    Reason::OfUser {
+        folder,
+        own: own.get(),
+        other: other.get(),
     }
 }
 
@@ -288,17 +311,25 @@ pub(crate) fn reason_of_hindrance<'a>(
 ) -> Reason<'a> {
     match hindrance {
         Hindrance::NoKeys(file, fault) | Hindrance::OfFile(_, file, fault) => {
-            reason_of_file(line, file, fault)
+            reason_of_file(line.dir, file, fault)
         }
-        Hindrance::NoFile(fault) => Reason::Of {
-            name: file_in(wanted),
-            words: fault.words(),
-        },
-        Hindrance::OfUser(own) => Reason::OfUser {
-            folder: line.dir,
-            own: own.get(),
-            other: line.user.get(),
-        },
+        Hindrance::NoFile(fault) => reason_of_fault(file_in(wanted), fault),
+        Hindrance::NoFolder(fault) => reason_of_fault(line.dir, fault),
+        Hindrance::OfUser(own) => reason_of_user(line.dir, own, line.user),
         Hindrance::Refused(refusal) => reason_of_refusal(line, wanted, Reach::Untried, refusal),
+    }
+}
+
+/// Why a folder isn't made.
+pub(crate) fn reason_of_unmade<'a>(new: &NewFolder<'a>, hindrance: Hindrance) -> Reason<'a> {
+    match hindrance {
+        Hindrance::NoKeys(file, fault) | Hindrance::OfFile(_, file, fault) => {
+            reason_of_file(new.dir, file, fault)
+        }
+        Hindrance::NoFile(fault) => reason_of_fault(new.super_key.unwrap_or(new.dir), fault),
+        Hindrance::NoFolder(fault) => reason_of_fault(new.dir, fault),
+        Hindrance::OfUser(_) => reason_of_folder(new.dir, Refusal::Foreign),
+        Hindrance::Refused(Refusal::Memory) => reason_of_memory(),
+        Hindrance::Refused(refusal) => reason_of_folder(new.dir, refusal),
     }
 }

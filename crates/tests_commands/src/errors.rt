@@ -1,7 +1,7 @@
 //! What the errors of connections, of transports and of command lines print.
 
 use connection::{ConnectionFault, WriteFault};
-use file_commands::{Line, LineError};
+use file_commands::{LineError, Request};
 use std::alloc::Global;
 use std::fmt::Display;
 use std::process::Abort;
@@ -41,7 +41,7 @@ fn errors_print(rt: HostRuntime) {
 #[test]
 fn words_at_fault_print(rt: HostRuntime) {
     let words = ["sundr", "--dir", "d", "--server", "a:1", "--user", "7"];
-    match Line::read(rt.alloc(), &words) {
+    match Request::read(rt.alloc(), &words) {
         Err(fault) => {
             let printed = format!(in rt.alloc(); "{fault}").expect(&rt, "memory");
             assert!(rt; printed.starts_with("error: "), "{printed}");

@@ -2,7 +2,7 @@
 
 use clap::error::ErrorKind;
 use commands::Command;
-use file_commands::{Line, LineError, Wanted};
+use file_commands::{Line, LineError, NewFolder, Request, Wanted};
 use std::alloc::Global;
 use std::process::Abort;
 
@@ -80,8 +80,8 @@ fn number_of(wanted: &Wanted<'_>) -> u8 {
 fn reads(rt: &impl Abort, alloc: Global, command: &str) -> u8 {
     let text = of_user_7(rt, alloc, command);
     let words = words_of(rt, alloc, &text);
-    match &Line::read(alloc, &words) {
-        Ok(line) if is_of_user_7(line) => number_of(&line.wanted),
+    match &Request::read(alloc, &words) {
+        Ok(Request::Line(line)) if is_of_user_7(line) => number_of(&line.wanted),
         _ => 0,
     }
 }
@@ -128,9 +128,9 @@ fn reads_alone(rt: &impl Abort, alloc: Global, command: &str) -> u8 {
 fn tells_moved(rt: &impl Abort, alloc: Global, command: &str) -> Option<bool> {
     let text = of_user_7(rt, alloc, command);
     let words = words_of(rt, alloc, &text);
-    match &Line::read(alloc, &words) {
-        Ok(line) => Some(line.moved),
-        Err(_) => None,
+    match &Request::read(alloc, &words) {
+        Ok(Request::Line(line)) => Some(line.moved),
+        _ => None,
     }
 }
 
@@ -156,19 +156,57 @@ fn lines_of_a_batch(rt: HostRuntime) {
     }
 }
 
+/// Whether a folder is to be made at `d` for this user, with this file of user 0's public key.
+fn is_new(folder: &NewFolder<'_>, user: u8, super_key: Option<&str>) -> bool {
+    folder.dir == "d" && folder.user.get() == user && folder.super_key == super_key
+}
+
+/// Whether these words ask for such a folder.
+fn makes(rt: &impl Abort, alloc: Global, text: &str, user: u8, super_key: Option<&str>) -> bool {
+    let words = words_of(rt, alloc, text);
+    match &Request::read(alloc, &words) {
+        Ok(Request::Init(folder)) => is_new(folder, user, super_key),
+        _ => false,
+    }
+}
+
+#[test]
+fn folders_that_are_made(rt: HostRuntime) {
+    let alloc = rt.alloc();
+    assert!(rt; makes(&rt, alloc, "sundr init d 0", 0, None));
+    assert!(rt;
+        makes(
+            &rt,
+            alloc,
+            "sundr init d 63 root/super.pub",
+            63,
+            Some("root/super.pub")
+        )
+    );
+    assert!(rt;
+        makes(
+            &rt,
+            alloc,
+            "sundr --dir e --user 7 init d 1 f",
+            1,
+            Some("f")
+        )
+    );
+}
+
 /// Whether this is a fault of this kind that clap finds, or else a bad key.
 fn is_fault(error: &LineError, kind: Option<ErrorKind>) -> bool {
     match error {
         LineError::Words(fault) => kind == Some(fault.kind()),
         LineError::Key => kind.is_none(),
-        LineError::Memory => false,
+        LineError::SuperKeyGiven | LineError::SuperKeyLacking | LineError::Memory => false,
     }
 }
 
 /// Whether words aren't read, with such a fault.
 fn has_fault(rt: &impl Abort, alloc: Global, text: &str, kind: Option<ErrorKind>) -> bool {
     let words = words_of(rt, alloc, text);
-    match &Line::read(alloc, &words) {
+    match &Request::read(alloc, &words) {
         Ok(_) => false,
         Err(error) => is_fault(error, kind),
     }
@@ -199,11 +237,35 @@ fn refuses_lines(rt: HostRuntime) {
     assert!(rt; has_fault(&rt, alloc, NO_SERVER, no_argument));
     assert!(rt; has_fault_behind(&rt, alloc, "put /p", no_argument));
     assert!(rt; has_fault_behind(&rt, alloc, "adduser 5 0000000600000003", None));
+    assert!(rt; has_fault(&rt, alloc, "sundr init d 64 f", no_value));
+    assert!(rt; has_fault(&rt, alloc, "sundr init d", no_argument));
+}
+
+/// What is told of these words, which aren't read.
+fn told(rt: &impl Abort, alloc: Global, text: &str) -> String {
+    let words = words_of(rt, alloc, text);
+    match &Request::read(alloc, &words) {
+        Ok(_) => String::new(alloc),
+        Err(error) => format!(in alloc; "{error}").expect(rt, "memory"),
+    }
+}
+
+const GIVEN: &str = "error: SUPER_PUB is for other users than 0, whose own key it is";
+
+const LACKING: &str = "error: SUPER_PUB is lacking: the file of user 0's public key";
+
+#[test]
+fn refuses_folders(rt: HostRuntime) {
+    let alloc = rt.alloc();
+    assert!(rt; told(&rt, alloc, "sundr init d 0 f").as_str() == GIVEN);
+    assert!(rt; told(&rt, alloc, "sundr init d 1").as_str() == LACKING);
 }
 
 #[test]
 fn tells_help(rt: HostRuntime) {
     let help = Some(ErrorKind::DisplayHelp);
+    let version = Some(ErrorKind::DisplayVersion);
+    assert!(rt; has_fault(&rt, rt.alloc(), "sundr --version", version));
     assert!(rt; has_fault(&rt, rt.alloc(), "sundr put --help", help));
     assert!(rt; has_fault(&rt, rt.alloc(), "sundr --help", help));
 }

@@ -5,7 +5,7 @@ use crate::line::{Line as Connected, Turn};
 use crate::memory::Trouble;
 use crate::town::{Outcome, Town, town_of};
 use commands::Command;
-use file_commands::{Line, Wanted};
+use file_commands::{Line, Request, Wanted};
 use layout::{User, let_go};
 use std::alloc::Global;
 use tests_aids::texts::joined;
@@ -72,8 +72,9 @@ pub(crate) fn run_over<T: Transport<Global>>(
     for word in text.split(' ') {
         given(rt, words.push(word), "memory");
     }
-    match &Line::read(rt.alloc(), &words) {
-        Ok(line) => run_line(rt, town, line, content, transport),
+    match &Request::read(rt.alloc(), &words) {
+        Ok(Request::Line(line)) => run_line(rt, town, line, content, transport),
+        Ok(Request::Init(_)) => rt.fail("no command over a server"),
         Err(error) => rt.fail(format_args!("{command}: {error}")),
     }
 }

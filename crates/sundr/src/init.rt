@@ -1,0 +1,282 @@
+//! The making of a user's folder.
+
+use crate::folder::{OWNERS_ALONE, content_hindrance, device_hindrance, hindrance_of, path_of};
+use crate::hindrance::{FileFault, FolderFile, Hindrance};
+use commands::Refusal;
+use drawn_key::drawn_key;
+use file_commands::NewFolder;
+use hex::FromHex;
+use layout::{User, digest, let_go};
+use lms_sign::{ID_SIZE, KEY_SIZE, PublicKey, SEED_SIZE};
+use std::alloc::AllocError;
+use std::fmt;
+use std::fs::{self, DirBuilder, File, OpenOptions};
+use std::io::{self, ErrorKind, Read, Write};
+use std::os::unix::fs::{DirBuilderExt, OpenOptionsExt};
+use std::path::Path;
+use std::random::RandomSource;
+use std::thread::Threads;
+
+/// The mode of a folder that its owner alone enters.
+const OWNERS_FOLDER: u32 = 0o700;
+
+/// How much is read of a file of a public key: more than its digits have.
+const KEY_FILE_SIZE: u64 = 128;
+
+/// How many bytes of a key's digest are told as its fingerprint.
+const FINGERPRINT_SIZE: usize = 12;
+
+/// The files of a user's folder, none of which may be there before it is made.
+const FILES: [FolderFile; 6] = [
+    FolderFile::Seed,
+    FolderFile::SuperKey,
+    FolderFile::User,
+    FolderFile::Ledger,
+    FolderFile::Journal,
+    FolderFile::Place,
+];
+
+/// A folder that was made: whose it is, the user's public key, and user 0's.
+#[derive(Clone, Copy)]
+pub(crate) struct Made {
+    user: User,
+    own: PublicKey,
+    super_key: PublicKey,
+}
+
+/// The first bytes of a key's digest, to be read out to each other: they show that no key was changed on its way.
+#[derive(Clone, Copy)]
+struct Fingerprint([u8; FINGERPRINT_SIZE]);
+
+impl Fingerprint {
+    fn of(key: &PublicKey) -> Fingerprint {
+        let digest = digest(key.as_bytes());
+        let mut first = [0; FINGERPRINT_SIZE];
+        first.copy_from_slice(&digest.as_bytes()[..FINGERPRINT_SIZE]);
+        Fingerprint(first)
+    }
+}
+
+impl fmt::Display for Fingerprint {
+    fn fmt<W: fmt::Write>(&self, f: &mut fmt::Formatter<W>) -> fmt::Result {
+        for (place, byte) in self.0.iter().enumerate() {
+            if place != 0 && place % 2 == 0 {
+                write!(f, " ")?;
+            }
+            write!(f, "{byte:02x}")?;
+        }
+        Ok(())
+    }
+}
+
+/// What a fault of the system at a file that is made is told as.
+fn unmade(file: FolderFile, fault: &io::Error) -> Hindrance {
+    match fault.kind() {
+        ErrorKind::AlreadyExists => Hindrance::OfFile(Refusal::There, file, FileFault::Present),
+        _ => device_hindrance(file, fault),
+    }
+}
+
+/// What a fault of the system at the folder itself is told as.
+fn no_folder(fault: &io::Error) -> Hindrance {
+    let at_fault = match fault.kind() {
+        ErrorKind::AlreadyExists => FileFault::NoDirectory,
+        _ => FileFault::of(fault),
+    };
+    hindrance_of(fault, Hindrance::NoFolder(at_fault))
+}
+
+/// The key of a file's bytes: 56 of them, or their digits.
+fn key_of(text: &[u8]) -> Option<PublicKey> {
+    match <[u8; KEY_SIZE]>::try_from(text) {
+        Ok(bytes) => PublicKey::from_bytes(bytes),
+        Err(_) => {
+            let digits = std::str::from_utf8(text).ok()?.trim_end();
+            PublicKey::from_bytes(<[u8; KEY_SIZE] as FromHex>::from_hex(digits).ok()?)
+        }
+    }
+}
+
+/// User 0's public key in a file of the system.
+fn read_super_key(rt: &HostRuntime, path: &str) -> Result<PublicKey, Hindrance> {
+    let file = File::open(rt, path).map_err(|fault| content_hindrance(&fault))?;
+    let mut text = Vec::new(rt.alloc());
+    file.take(KEY_FILE_SIZE)
+        .read_to_end(&mut text)
+        .map_err(|fault| content_hindrance(&fault))?;
+    key_of(&text).ok_or(Hindrance::NoFile(FileFault::NoKey))
+}
+
+/// Refuses a folder that has a user's files: a key whose seed is lost can't be made again.
+fn check_unmade(rt: &HostRuntime, folder: &str) -> Result<(), Hindrance> {
+    for file in FILES {
+        let path = path_of(rt.alloc(), folder, file)?;
+        if fs::symlink_metadata(rt, &path).is_ok() {
+            return Err(Hindrance::OfFile(Refusal::There, file, FileFault::Present));
+        }
+    }
+    Ok(())
+}
+
+/// A seed and an identifier, from the system's random bytes.
+fn random_seed(rt: &HostRuntime) -> Result<[u8; SEED_SIZE + ID_SIZE], Hindrance> {
+    let mut seed = [0; SEED_SIZE + ID_SIZE];
+    match rt.fill_bytes(&mut seed) {
+        Ok(()) => Ok(seed),
+        Err(_) => Err(Hindrance::OfFile(Refusal::Device, FolderFile::Seed, FileFault::NoRandom)),
+    }
+}
+
+/// The public key of a seed and an identifier.
+fn key_of_seed<H: Threads + Sync>(
+    rt: &HostRuntime,
+    host: &H,
+    seed: &[u8; SEED_SIZE + ID_SIZE],
+) -> Result<PublicKey, Hindrance> {
+    let (mut own_seed, mut id) = ([0; SEED_SIZE], [0; ID_SIZE]);
+    own_seed.copy_from_slice(&seed[..SEED_SIZE]);
+    id.copy_from_slice(&seed[SEED_SIZE..]);
+    let key = drawn_key(host, rt.alloc(), own_seed, id)?;
+    let own = key.public();
+    let_go(key);
+    Ok(own)
+}
+
+/// Makes the folder where there is none.
+fn make_folder(rt: &HostRuntime, folder: &str) -> Result<(), Hindrance> {
+    let found = fs::metadata(rt, folder);
+    if found.is_ok_and(|found| found.is_dir()) {
+        return Ok(());
+    }
+    DirBuilder::new()
+        .mode(OWNERS_FOLDER)
+        .create(rt, folder)
+        .map_err(|fault| no_folder(&fault))
+}
+
+/// Writes the bytes of a file that was made, and syncs it.
+fn fill(file: &mut File, bytes: &[u8]) -> io::Result<()> {
+    file.write_all(bytes)?;
+    file.sync_all()
+}
+
+/// Makes a file of the owner's alone with these bytes, where there is none. Nothing that is there is written over, and
+/// no link is followed.
+fn make_file(rt: &HostRuntime, path: &str, bytes: &[u8]) -> io::Result<()> {
+    let mut file = OpenOptions::new()
+        .write(true)
+        .create_new(true)
+        .mode(OWNERS_ALONE)
+        .open(rt, path)?;
+    let filled = fill(&mut file, bytes);
+    if filled.is_err() {
+        let _ = fs::remove_file(rt, path);
+    }
+    filled
+}
+
+/// Makes a file of a folder, as they are made.
+fn make(rt: &HostRuntime, folder: &str, file: FolderFile, bytes: &[u8]) -> Result<(), Hindrance> {
+    let path = path_of(rt.alloc(), folder, file)?;
+    make_file(rt, &path, bytes).map_err(|fault| unmade(file, &fault))
+}
+
+/// Removes a file that was made.
+fn unmake(rt: &HostRuntime, folder: &str, file: FolderFile) {
+    if let Ok(path) = path_of(rt.alloc(), folder, file) {
+        let _ = fs::remove_file(rt, &path);
+    }
+}
+
+/// Syncs a folder, and the one in which it stands.
+fn sync_folder(rt: &HostRuntime, folder: &str) -> io::Result<()> {
+    File::open(rt, folder)?.sync_all()?;
+    let above = match Path::new(folder).parent() {
+        Some(above) if !above.as_str().is_empty() => above.as_str(),
+        _ => ".",
+    };
+    File::open(rt, above)?.sync_all()
+}
+
+/// Removes the first files of these, so many.
+fn unmake_first(rt: &HostRuntime, folder: &str, files: &[(FolderFile, &[u8])], count: usize) {
+    for (file, _) in files.iter().take(count) {
+        unmake(rt, folder, *file);
+    }
+}
+
+/// Makes these files of a folder, and syncs it. Where that can't be done, none of them is left.
+fn make_files(
+    rt: &HostRuntime,
+    folder: &str,
+    files: &[(FolderFile, &[u8])],
+) -> Result<(), Hindrance> {
+    for (count, (file, bytes)) in files.iter().enumerate() {
+        if let Err(hindrance) = make(rt, folder, *file, *bytes) {
+            unmake_first(rt, folder, files, count);
+            return Err(hindrance);
+        }
+    }
+    match sync_folder(rt, folder) {
+        Ok(()) => Ok(()),
+        Err(fault) => {
+            unmake_first(rt, folder, files, files.len());
+            Err(no_folder(&fault))
+        }
+    }
+}
+
+/// Makes the folder and its files. The seed comes last: where it is, all are.
+fn make_all(
+    rt: &HostRuntime,
+    folder: &str,
+    made: &Made,
+    seed: &[u8; SEED_SIZE + ID_SIZE],
+) -> Result<(), Hindrance> {
+    make_folder(rt, folder)?;
+    let user = made.user.get();
+    let number = format!(in rt.alloc(); "{user}\n")?;
+    let files: [(FolderFile, &[u8]); 3] = [
+        (FolderFile::SuperKey, made.super_key.as_bytes()),
+        (FolderFile::User, number.as_bytes()),
+        (FolderFile::Seed, seed),
+    ];
+    make_files(rt, folder, &files)
+}
+
+/// Makes a user's folder with a new key. Where that can't be done, it has no seed.
+pub(crate) fn init<H: Threads + Sync>(
+    rt: &HostRuntime,
+    host: &H,
+    new: &NewFolder<'_>,
+) -> Result<Made, Hindrance> {
+    let given = match new.super_key {
+        Some(path) => Some(read_super_key(rt, path)?),
+        None => None,
+    };
+    check_unmade(rt, new.dir)?;
+    let seed = random_seed(rt)?;
+    let own = key_of_seed(rt, host, &seed)?;
+    let made = Made {
+        user: new.user,
+        own,
+        super_key: given.unwrap_or(own),
+    };
+    make_all(rt, new.dir, &made, &seed)?;
+    Ok(made)
+}
+
+/// Prints what user 0 types to add the user, or user 0's own key, and fingerprints of the own key and of user 0's.
+pub(crate) fn print_made(rt: &HostRuntime, made: &Made) -> anyhow::Result<()> {
+    let user = made.user.get();
+    let digits = hex::encode(rt.alloc(), *made.own.as_bytes())?;
+    let (own, super_key) = (Fingerprint::of(&made.own), Fingerprint::of(&made.super_key));
+    if user == 0 {
+        println!(rt; "{digits}")?;
+    } else {
+        println!(rt; "adduser {user} {digits}")?;
+        println!(rt; "fingerprint of user {user}'s key: {own}")?;
+    }
+    println!(rt; "fingerprint of user 0's key: {super_key}")?;
+    Ok(())
+}
