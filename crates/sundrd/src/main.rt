@@ -21,6 +21,9 @@ use std::thread::Threads;
 use std::time::Clock;
 use thiserror::Error;
 
+/// The version of the program.
+const VERSION: &str = "0.1.0";
+
 /// The status where the words are at fault.
 const WORDS: u8 = 5;
 
@@ -63,7 +66,12 @@ enum Fault {
 /// What the help says at its end.
 const RESTART: &str =
     "It keeps operations and blocks in memory alone, and reads no log back. So a server that is \
-    started again begins anew: clients of the one before can't go on with it, and need folders of their own for it.";
+    started again begins anew: clients of the one before can't go on with it, and need folders of their own for it.
+
+Statuses:
+  0  All connections have ended, and the log is written
+  1  A fault past the words, of which standard error tells
+  5  The words are at fault";
 
 /// A required option with a value.
 fn option<'a>(alloc: Global, name: &'a str, value: &'a str, help: &'a str) -> Arg<'a> {
@@ -127,6 +135,7 @@ fn room<'a>(alloc: Global, command: Command<'a>) -> Result<Command<'a>, AllocErr
 /// The words that the program takes.
 fn command<'a>(alloc: Global) -> Result<Command<'a>, AllocError> {
     let command = Command::new(alloc, "sundrd")
+        .version(VERSION)
         .about("Serves the clients of a file system that needn't trust it")
         .after_help(RESTART);
     room(alloc, limits(alloc, locations(alloc, command)?)?)
