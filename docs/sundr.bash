@@ -1,0 +1,50 @@
+# Completion of the words of sundr and sundrd for bash: `. docs/sundr.bash`, or tools/install puts it where bash looks.
+
+_sundr() {
+    local word=${COMP_WORDS[COMP_CWORD]} before=${COMP_WORDS[COMP_CWORD - 1]} command= at place=0
+    local commands="init key ls cat put get mkdir rm link adduser addmember dropmember batch help"
+    # The command, and how many words come between it and this one.
+    for ((at = 1; at < COMP_CWORD; at++)); do
+        if [[ -n $command ]]; then
+            ((place += 1))
+        elif [[ ${COMP_WORDS[at]} == --@(dir|server|user) ]]; then
+            ((at += 1))
+        elif [[ ${COMP_WORDS[at]} != -* ]]; then
+            command=${COMP_WORDS[at]}
+        fi
+    done
+    COMPREPLY=()
+    case $command.$place in
+        .*)
+            case $before in
+                --dir) mapfile -t COMPREPLY < <(compgen -d -- "$word") ;;
+                --server | --user) ;;
+                *)
+                    mapfile -t COMPREPLY < <(
+                        compgen -W "--dir --server --user --moved --help --version $commands" -- "$word"
+                    )
+                    ;;
+            esac
+            ;;
+        init.0) mapfile -t COMPREPLY < <(compgen -d -- "$word") ;;
+        init.2 | put.1 | get.1) mapfile -t COMPREPLY < <(compgen -f -- "$word") ;;
+        batch.*) mapfile -t COMPREPLY < <(compgen -W "--stop --help" -- "$word") ;;
+        help.0) mapfile -t COMPREPLY < <(compgen -W "$commands" -- "$word") ;;
+        *) mapfile -t COMPREPLY < <(compgen -W "--help" -- "$word") ;;
+    esac
+}
+complete -F _sundr sundr
+
+_sundrd() {
+    local word=${COMP_WORDS[COMP_CWORD]}
+    case ${COMP_WORDS[COMP_CWORD - 1]} in
+        --super | --log) mapfile -t COMPREPLY < <(compgen -f -- "$word") ;;
+        --listen | --connections | --at-once | --idle | --room) COMPREPLY=() ;;
+        *)
+            mapfile -t COMPREPLY < <(
+                compgen -W "--listen --super --log --connections --at-once --idle --room --help --version" -- "$word"
+            )
+            ;;
+    esac
+}
+complete -F _sundrd sundrd
