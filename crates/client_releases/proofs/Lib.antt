@@ -1,5 +1,6 @@
 pub mod Keeping
 pub mod Opening
+pub mod OwnKeys
 pub mod Reading
 pub mod Seen
 pub mod Standing

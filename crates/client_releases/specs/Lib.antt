@@ -1,3 +1,4 @@
 pub mod Errors
+pub mod OwnKeys
 pub mod Releasing
 pub mod Told

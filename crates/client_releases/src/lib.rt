@@ -7,6 +7,7 @@
 
 mod error;
 mod laws;
+mod own_key;
 mod parts;
 mod phase;
 mod releases;
