@@ -6,4 +6,5 @@ pub mod Seen
 pub mod Standing
 pub mod Telling
 pub mod Untouched
+pub mod Under
 pub mod UsedUp

@@ -1,10 +1,9 @@
 -- Opening both devices, and what the journal tells then.
-use Rattle.std.proofs.Common.{◌≡◌, ◌≢◌, ◌⊎◌, ◌<◌, ◌≤◌, arith, ℕ, List, Option, Some, None, true, refl, sym, subst, inl, inr}
-use Rattle.lms_sign.specs.Keys.{public_key_of}
+use Rattle.std.proofs.Common.{◌≡◌, ◌≢◌, ◌⊎◌, ◌<◌, ◌≤◌, arith, ℕ, List, length, map, get_or, ap, Option, Some, true, refl, sym, subst, inl, inr}
+use Rattle.std.proofs.lemmas.List.{length-map}
 use Rattle.lms_sign.specs.Secret.{Secret}
 use Rattle.leaf_ledger.specs.Device.{HasRisen, History, Leaves, Throughout, at_rest, last_count}
-use Rattle.leaf_ledger.specs.Ledger.{IsFileOf, KeepsLedger, LedgerState}
-use Rattle.leaf_ledger.specs.Life.{Call}
+use Rattle.leaf_ledger.specs.Ledger.{LedgerState}
 use Rattle.leaf_ledger.specs.Moments.{stayed}
 use Rattle.leaf_ledger.specs.declared.error.LedgerError.{LedgerError}
 use Rattle.leaf_ledger.specs.declared.error.LedgerError.TheVariants as ledger
@@ -20,7 +19,9 @@ use Rattle.client_releases.specs.declared.error.ClientError.{ClientError}
 use Rattle.client_releases.specs.declared.error.ClientError.TheVariants as client
 use Rattle.client_releases.specs.declared.phase.Phase.{Phase}
 use Rattle.client_releases.specs.Errors.{of_journal, of_ledger}
-use Rattle.client_releases.specs.Releasing.{IsOpening}
+use Rattle.client_releases.specs.OwnKeys.{AreOpened, AreStill, KeyFile}
+use Rattle.client_releases.specs.Releasing.{IsOpening, no_ledger, no_secret}
+use Rattle.client_releases.proofs.OwnKeys.{OpenedAs, as_many_opened, each_opened, untouched_files}
 use Rattle.client_releases.specs.Told.{IsReleased, TellsOfOther, told_by}
 
 -- ---- errors
@@ -71,29 +72,31 @@ asked_only journal.Device some = inr (inl refl)
 asked_only journal.Memory some = inl refl
 asked_only journal.Damaged some = absurd (some refl)
 
--- ---- both devices
+-- ---- devices
 
--- the ledger is refused: the journal isn't touched
-pub ledger_refused : (l new : History) (j : History) → Call None l new → KeepsLedger l new → IsOpening l j new j
-ledger_refused l new j call kept = record {
-  leaves = call;
-  ledger_kept = kept;
+-- the journal isn't touched
+pub only_ledgers : (l new : List History) (j : History) → AreStill l new → IsOpening l j new j
+only_ledgers l new j still = record {
+  ledgers = still;
   records = no_step j;
   journal_kept = λ _. inl refl;
   left = stayed (MayBeLeft j) j (λ left may. inl may);
   any_moment = λ rs tells leaves. stayed (Tells rs) j leaves;
 }
 
-pub both_tried : (l closed new : History) (j after : History) → closed ≡ new → Call None l new → KeepsLedger l new → Step Nothing j after → KeepsJournal j after → Throughout (MayBeLeft j) j after
-    → ((rs : List Record) → Tells rs j.now.text → Leaves (Tells rs) j.now → Throughout (Tells rs) j after) → IsOpening l j closed after
-both_tried l closed new j after same call kept step kept_too left any = subst (λ (h : History). IsOpening l j h after) (sym same) (record {
-  leaves = call;
-  ledger_kept = kept;
+pub untouched_opening : (l : List History) (j : History) → IsOpening l j l j
+untouched_opening l j = only_ledgers l l j (untouched_files l)
+
+-- the journal is tried, too
+pub all_tried : (l new : List History) (j after : History) → AreStill l new → Step Nothing j after → KeepsJournal j after → Throughout (MayBeLeft j) j after
+    → ((rs : List Record) → Tells rs j.now.text → Leaves (Tells rs) j.now → Throughout (Tells rs) j after) → IsOpening l j new after
+all_tried l new j after still step kept left any = record {
+  ledgers = still;
   records = step;
-  journal_kept = kept_too;
+  journal_kept = kept;
   left = left;
   any_moment = any;
-})
+}
 
 -- the same records were told before
 pub told_before : (before after : List ℕ) (rs : List Record) → Tells rs before → Tells rs after → (s : Recorded) → TellsState s after → TellsState s before
@@ -105,34 +108,39 @@ told_before before after rs a b s t = record {
 
 -- ---- the client
 
-pub opened : (user : ℕ) (secret : Secret) (l : LedgerState) (j old : JournalFile) (n : ℕ) (last : Option (Signed Structure)) (how : Phase) (text : List ℕ) → l.key ≡ public_key_of secret → l.usable ≡ true → l.outstanding ≡ 0
-    → l.file.now ≡ at_rest l.file.now.text → IsFileOf (public_key_of secret) l.file.now.text → j.usable ≡ true → old.file.now ≡ at_rest old.file.now.text → j.file ≡ old.file
-    → (recorded : Recorded) → TellsState recorded old.file.now.text → told_by user recorded ≡ Some (record { number = n; last = last; phase = how; text = text })
-    → IsReleased (record { user = user; secret = secret; devices = record { ledger = l; journal = j }; number = n; last = last; phase = how; text = text })
-opened user secret l j old n last how text key usable settled rest own journal_usable journal_rest same recorded tells told = record {
-  own_key = key;
-  settled = settled;
-  stands = λ _. record {
-    ledger_usable = usable;
-    journal_usable = journal_usable;
-    ledger_rests = rest;
-    own_file = subst (λ (k : List ℕ). IsFileOf k l.file.now.text) (sym key) own;
-    journal_rests = subst (λ (h : History). h.now ≡ at_rest h.now.text) (sym same) journal_rest;
-    recorded = recorded;
-    tells = subst (λ (h : History). TellsState recorded h.now.text) (sym same) tells;
-    told_phase = how;
-    told = told;
-    is_phase = inl refl;
-  };
-}
+module _ (user : ℕ) (secrets : List Secret) (ledgers : List LedgerState) (olds : List KeyFile) (same_secrets : secrets ≡ map (λ k. k.secret) olds) (all : AreOpened olds ledgers) (some : 0 < length olds) where
+  one : (n : ℕ) → n < length secrets → OpenedAs (get_or secrets n no_secret) (get_or ledgers n no_ledger)
+  one n small =
+      subst (λ (l : List Secret). OpenedAs (get_or l n no_secret) (get_or ledgers n no_ledger)) (sym same_secrets)
+      (each_opened olds ledgers all n (omega (arith, ap length same_secrets, length-map olds (λ (k : KeyFile). k.secret))) no_secret no_ledger)
+
+  pub opened : (j old : JournalFile) (n : ℕ) (last : Option (Signed Structure)) (how : Phase) (text : List ℕ) → j.usable ≡ true → old.file.now ≡ at_rest old.file.now.text → j.file ≡ old.file
+      → (recorded : Recorded) → TellsState recorded old.file.now.text → told_by user recorded ≡ Some (record { number = n; last = last; phase = how; text = text })
+      → IsReleased (record { user = user; secrets = secrets; devices = record { ledgers = ledgers; journal = j }; number = n; last = last; phase = how; text = text })
+  opened j old n last how text journal_usable journal_rest same recorded tells told = record {
+    some = omega (arith, some, ap length same_secrets, length-map olds (λ (k : KeyFile). k.secret));
+    as_many = omega (arith, as_many_opened olds ledgers all, ap length same_secrets, length-map olds (λ (k : KeyFile). k.secret));
+    own_keys = λ k small. (one k small).key;
+    settled = λ k small. (one k small).settled;
+    stands = λ _. record {
+      ledgers = λ k small. (let o = one k small in record { usable = o.usable; rests = o.rests; own_file = o.own_file });
+      journal_usable = journal_usable;
+      journal_rests = subst (λ (h : History). h.now ≡ at_rest h.now.text) (sym same) journal_rest;
+      recorded = recorded;
+      tells = subst (λ (h : History). TellsState recorded h.now.text) (sym same) tells;
+      told_phase = how;
+      told = told;
+      is_phase = inl refl;
+    };
+  }
 
 -- another's text was told before
 pub other_before : (user : ℕ) (before after : List ℕ) → ((s : Recorded) → TellsState s after → TellsState s before) → TellsOfOther user after → TellsOfOther user before
 other_before user before after back other = record { recorded = other.recorded; tells = back other.recorded other.tells; untold = other.untold }
 
 -- the same files
-pub opening_of : (l j a b x y : History) → x ≡ a → y ≡ b → IsOpening l j a b → IsOpening l j x y
-opening_of l j a b x y s t opening = subst (λ (h : History). IsOpening l j h y) (sym s) (subst (λ (h : History). IsOpening l j a h) (sym t) opening)
+pub opening_of : (l a x : List History) (j b y : History) → x ≡ a → y ≡ b → IsOpening l j a b → IsOpening l j x y
+opening_of l a x j b y s t opening = subst (λ (h : List History). IsOpening l j h y) (sym s) (subst (λ (h : History). IsOpening l j a h) (sym t) opening)
 
 -- faults since an earlier moment
 pub risen_since : (a b c d : ℕ) → a ≤ b → d ≡ c → HasRisen b c → HasRisen a d

@@ -1,5 +1,5 @@
 -- Keys that are opened together, and handed back.
-use Rattle.std.proofs.Common.{◌≡◌, ◌⊎◌, ◌<◌, ◌≤◌, ℕ, zero, suc, true, List, [], ◌∷◌, ◌++◌, length, map, get_or, inl, inr, refl, sym, ◌∙◌, ap, subst, arith}
+use Rattle.std.proofs.Common.{◌≡◌, ◌<◌, ◌≤◌, ℕ, zero, suc, true, List, [], ◌∷◌, ◌++◌, length, map, get_or, inl, inr, refl, sym, ◌∙◌, ap, subst, arith, append-nil}
 use Rattle.std.specs.List.{remove}
 use Rattle.std.proofs.lemmas.List.{map-append}
 use Rattle.lms_sign.specs.Keys.{public_key_of}
@@ -9,6 +9,7 @@ use Rattle.leaf_ledger.specs.Device.{History, at_rest}
 use Rattle.leaf_ledger.specs.Ledger.{IsFileOf, LedgerState}
 use Rattle.leaf_ledger.specs.declared.error.LedgerError.{LedgerError}
 use Rattle.leaf_ledger.specs.declared.error.LedgerError.TheVariants as error
+use Rattle.client_releases.specs.Releasing.{no_ledger}
 use Rattle.client_releases.specs.OwnKeys.{AreLater, AreOpened, AreSettled, AreStill, IsOpened, IsRefused, IsStill, KeyFile, OneIsForeign, OneIsRefused, OneOfHasRisen, OwnKey, closed_key, key_files, ledgers_of, secrets_of}
 
 -- ---- keys that are closed, the last first
@@ -82,20 +83,25 @@ pub faults_same : {D : Type 0} (history : D → History) (faults : D → ℕ) (k
 faults_same history faults [] = refl
 faults_same history faults (k ∷ keys) = ap (λ (l : List ℕ). faults k.1 ∷ l) (faults_same history faults keys)
 
--- a ledger that isn't touched
-untouched_files : (keys : List KeyFile) → AreStill (map (λ k. k.file) keys) (map (λ k. k.file) keys)
+-- ledgers that aren't touched
+pub untouched_files : (files : List History) → AreStill files files
 untouched_files [] = tt
-untouched_files (k ∷ keys) = (record { leaves = no_call k.file; kept = λ _. inl refl }, untouched_files keys)
+untouched_files (file ∷ files) = (record { leaves = no_call file; kept = λ _. inl refl }, untouched_files files)
 
-untouched_faults : (keys : List KeyFile) → AreLater (map (λ k. k.faults) keys) (map (λ k. k.faults) keys)
-untouched_faults [] = tt
-untouched_faults (k ∷ keys) = (omega arith, untouched_faults keys)
+pub untouched_counts : (counts : List ℕ) → AreLater counts counts
+untouched_counts [] = tt
+untouched_counts (count ∷ counts) = (omega arith, untouched_counts counts)
 
 pub opened_still : (olds : List KeyFile) (news : List LedgerState) → AreOpened olds news → AreStill (map (λ k. k.file) olds) (map (λ l. l.file) news)
 opened_still [] [] all = tt
 opened_still [] (new ∷ news) all = absurd all
 opened_still (old ∷ olds) [] all = absurd all
 opened_still (old ∷ olds) (new ∷ news) all = (all.0.still, opened_still olds news all.1)
+
+-- the first of those that were opened
+pub first_still : (old : History) (news : List LedgerState) → AreStill (old ∷ []) (map (λ l. l.file) news) → IsStill old (get_or news 0 no_ledger).file
+first_still old [] all = absurd all
+first_still old (new ∷ news) all = all.0
 
 -- ---- where one is refused
 
@@ -112,7 +118,7 @@ module _ (e : LedgerError) where
   refused_still [] news all = absurd all
   refused_still (old ∷ olds) [] all = absurd all
   refused_still (old ∷ olds) (new ∷ news) (inl one) =
-      (one.0.still, subst (λ (l : List KeyFile). AreStill (map (λ (k : KeyFile). k.file) olds) (map (λ (k : KeyFile). k.file) l)) (sym one.1) (untouched_files olds))
+      (one.0.still, subst (λ (l : List KeyFile). AreStill (map (λ (k : KeyFile). k.file) olds) (map (λ (k : KeyFile). k.file) l)) (sym one.1) (untouched_files (map (λ (k : KeyFile). k.file) olds)))
   refused_still (old ∷ olds) (new ∷ news) (inr (l, opened, is, all)) =
       (subst (λ (k : KeyFile). IsStill old.file k.file) (sym is) opened.still, refused_still olds news all)
 
@@ -120,7 +126,7 @@ module _ (e : LedgerError) where
   refused_later [] news all = absurd all
   refused_later (old ∷ olds) [] all = absurd all
   refused_later (old ∷ olds) (new ∷ news) (inl one) =
-      (one.0.later, subst (λ (l : List KeyFile). AreLater (map (λ (k : KeyFile). k.faults) olds) (map (λ (k : KeyFile). k.faults) l)) (sym one.1) (untouched_faults olds))
+      (one.0.later, subst (λ (l : List KeyFile). AreLater (map (λ (k : KeyFile). k.faults) olds) (map (λ (k : KeyFile). k.faults) l)) (sym one.1) (untouched_counts (map (λ (k : KeyFile). k.faults) olds)))
   refused_later (old ∷ olds) (new ∷ news) (inr (l, opened, is, all)) =
       (subst (λ (k : KeyFile). old.faults ≤ k.faults) (sym is) opened.later, refused_later olds news all)
 
@@ -165,3 +171,78 @@ each_opened (old ∷ olds) (new ∷ news) all zero small s l =
     let o = all.0 in
     record { key = o.key; usable = o.usable; settled = o.settled; rests = o.rests; own_file = subst (λ (k : List ℕ). IsFileOf k new.file.now.text) (sym o.key) o.own_file }
 each_opened (old ∷ olds) (new ∷ news) all (suc n) small s l = each_opened olds news all.1 n (omega arith) s l
+
+-- no leaf of any of them is outstanding
+pub all_settled : (ledgers : List LedgerState) → ((n : ℕ) → n < length ledgers → (get_or ledgers n no_ledger).outstanding ≡ 0) → AreSettled ledgers
+all_settled [] each = tt
+all_settled (l ∷ ledgers) each = (each 0 (omega arith), all_settled ledgers (λ n small. each (suc n) (omega (arith, small))))
+
+pub opened_later : (olds : List KeyFile) (news : List LedgerState) → AreOpened olds news → AreLater (map (λ k. k.faults) olds) (map (λ l. l.faults) news)
+opened_later [] [] all = tt
+opened_later [] (new ∷ news) all = absurd all
+opened_later (old ∷ olds) [] all = absurd all
+opened_later (old ∷ olds) (new ∷ news) all = (all.0.later, opened_later olds news all.1)
+
+-- ---- ledgers that are handed back
+
+closed_secrets : (own : List OwnKey) → map (λ k. k.secret) (map closed_key own) ≡ secrets_of own
+closed_secrets [] = refl
+closed_secrets (k ∷ own) = ap (λ (l : List Secret). k.secret ∷ l) (closed_secrets own)
+
+closed_files : (own : List OwnKey) → map (λ k. k.file) (map closed_key own) ≡ map (λ l. l.file) (ledgers_of own)
+closed_files [] = refl
+closed_files (k ∷ own) = ap (λ (l : List History). k.ledger.file ∷ l) (closed_files own)
+
+closed_counts : (own : List OwnKey) → map (λ k. k.faults) (map closed_key own) ≡ map (λ l. l.faults) (ledgers_of own)
+closed_counts [] = refl
+closed_counts (k ∷ own) = ap (λ (l : List ℕ). k.ledger.faults ∷ l) (closed_counts own)
+
+module _ {D : Type 0} (history : D → History) (faults : D → ℕ) where
+  abbrev pub files_of : List (Secret × D) → List KeyFile
+  files_of keys = key_files history faults keys
+
+  pub as_many_files : (keys : List (Secret × D)) → length (files_of keys) ≡ length keys
+  as_many_files [] = refl
+  as_many_files (k ∷ keys) = let rest = as_many_files keys in omega (arith, rest)
+
+  -- before none
+  module _ (own : List OwnKey) (back rest : List (Secret × D)) (none : length rest ≡ 0) (closed : files_of back ≡ map closed_key own ++ files_of rest) where
+    alone : files_of back ≡ map closed_key own
+    alone = closed ∙ ap (λ (l : List (Secret × D)). map closed_key own ++ files_of l) (none_left rest none) ∙ append-nil (map closed_key own)
+
+    pub back_keys : map (λ k. k.0) back ≡ secrets_of own
+    back_keys = sym (secrets_same history faults back) ∙ ap (λ (l : List KeyFile). map (λ k. k.secret) l) alone ∙ closed_secrets own
+
+    pub back_files : map (λ k. history k.1) back ≡ map (λ l. l.file) (ledgers_of own)
+    back_files = sym (files_same history faults back) ∙ ap (λ (l : List KeyFile). map (λ k. k.file) l) alone ∙ closed_files own
+
+    pub back_counts : map (λ k. faults k.1) back ≡ map (λ l. l.faults) (ledgers_of own)
+    back_counts = sym (faults_same history faults back) ∙ ap (λ (l : List KeyFile). map (λ k. k.faults) l) alone ∙ closed_counts own
+
+  -- all were opened
+  module _ (keys : List (Secret × D)) (ledgers : List LedgerState) (all : AreOpened (files_of keys) ledgers) where
+    pub still_opened : AreStill (map (λ k. history k.1) keys) (map (λ l. l.file) ledgers)
+    still_opened = subst (λ (l : List History). AreStill l (map (λ x. x.file) ledgers)) (files_same history faults keys) (opened_still (files_of keys) ledgers all)
+
+    pub later_opened : AreLater (map (λ k. faults k.1) keys) (map (λ l. l.faults) ledgers)
+    later_opened = subst (λ (l : List ℕ). AreLater l (map (λ x. x.faults) ledgers)) (faults_same history faults keys) (opened_later (files_of keys) ledgers all)
+
+  -- one was refused
+  module _ (e : LedgerError) (keys back : List (Secret × D)) (one : OneIsRefused e (files_of keys) (files_of back)) where
+    pub still_refused : AreStill (map (λ k. history k.1) keys) (map (λ k. history k.1) back)
+    still_refused =
+        subst (λ (l : List History). AreStill l (map (λ k. history k.1) back)) (files_same history faults keys)
+        (subst (λ (l : List History). AreStill (map (λ k. k.file) (files_of keys)) l) (files_same history faults back) (refused_still e (files_of keys) (files_of back) one))
+
+    pub later_refused : AreLater (map (λ k. faults k.1) keys) (map (λ k. faults k.1) back)
+    later_refused =
+        subst (λ (l : List ℕ). AreLater l (map (λ k. faults k.1) back)) (faults_same history faults keys)
+        (subst (λ (l : List ℕ). AreLater (map (λ k. k.faults) (files_of keys)) l) (faults_same history faults back) (refused_later e (files_of keys) (files_of back) one))
+
+    pub risen_refused : e ≡ error.Device → OneOfHasRisen (map (λ k. faults k.1) keys) (map (λ k. faults k.1) back)
+    risen_refused is =
+        subst (λ (l : List ℕ). OneOfHasRisen l (map (λ k. faults k.1) back)) (faults_same history faults keys)
+        (subst (λ (l : List ℕ). OneOfHasRisen (map (λ k. k.faults) (files_of keys)) l) (faults_same history faults back) (refused_device e is (files_of keys) (files_of back) one))
+
+    pub same_refused : map (λ k. k.0) back ≡ map (λ k. k.0) keys
+    same_refused = sym (secrets_same history faults back) ∙ refused_secrets e (files_of keys) (files_of back) one ∙ secrets_same history faults keys

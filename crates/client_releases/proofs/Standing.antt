@@ -1,15 +1,18 @@
 -- What is true of a client at all times: kept by each of its calls.
-use Rattle.std.proofs.Common.{◌≡◌, ℕ, List, [], ◌∷◌, ◌++◌, Option, Some, None, IsSome, true, refl, sym, ◌∙◌, ap, subst, inl, inr}
+use Rattle.std.proofs.Common.{◌≡◌, ℕ, List, [], ◌∷◌, ◌++◌, Option, Some, None, IsSome, true, length, get_or, refl, sym, ◌∙◌, ap, subst, inl, inr}
+use Rattle.std.proofs.lemmas.Bool.{cases_eq}
+use Rattle.std.proofs.lemmas.List.{get_or-set_other, length-set}
 use Rattle.leaf_ledger.specs.Device.{Disk, at_rest}
-use Rattle.leaf_ledger.specs.Ledger.{IsFileOf, LeafNumber, with_mark}
+use Rattle.lms_sign.specs.Keys.{public_key_of}
+use Rattle.leaf_ledger.specs.Ledger.{IsFileOf, LeafNumber, LedgerState, with_mark}
 use Rattle.client_journal.proofs.Chains.{state-push}
 use Rattle.client_journal.specs.Records.{State as Recorded, Idle, MayCome, Record, TellsState, next_state}
 use Rattle.client_journal.specs.declared.kind.Kind.TheVariants as kind
 use Rattle.version_order.specs.Structure.{Structure}
 use Rattle.update_cert.specs.Cert.{Cert}
 use Rattle.pending_list.specs.declared.signed.Signed.{Signed}
-use Rattle.client_releases.specs.Releasing.{Devices, IsKept, cert_record, structure_record}
-use Rattle.client_releases.specs.Told.{IsPhase, IsReleased, Released, Stands, Told, cert_in, structure_in, told_of}
+use Rattle.client_releases.specs.Releasing.{Devices, IsKept, OthersStay, OwnDevices, cert_record, ledger_at, no_ledger, structure_record, under}
+use Rattle.client_releases.specs.Told.{HasKey, IsPhase, IsReady, IsReleased, Released, Stands, Told, cert_in, secret_at, structure_in, told_of}
 use Rattle.client_releases.specs.declared.phase.Phase.{Phase}
 use Rattle.client_releases.specs.declared.phase.Phase.TheVariants as phase
 use Rattle.client_releases.proofs.Telling.{idle_may, declared_may, told_cert, told_structure}
@@ -58,22 +61,54 @@ tells_next leaf x old new s next kept tells leads = record {
   leads = state-push Idle s next tells.records x tells.leads leads;
 }
 
-module _ (r : Released) (is : IsReleased r) (new : Devices) (usable : new.ledger.usable ≡ true) (journal_usable : new.journal.usable ≡ true) (same_key : new.ledger.key ≡ r.devices.ledger.key)
-    (own : IsFileOf r.devices.ledger.key new.ledger.file.now.text) (settled : new.ledger.outstanding ≡ 0) (leaf : LeafNumber) (text : List ℕ) (n : ℕ) where
+-- ---- ledgers
+
+-- what is so of each ledger stays so where it is so of the one that was used
+pub each_ledger : (P : ℕ → LedgerState → Type 0) (old new : OwnDevices) (n : ℕ) → OthersStay n old new → P n (ledger_at n new) → (k : ℕ) → P k (ledger_at k old) → P k (ledger_at k new)
+each_ledger P old new n others here k before = elim (cases_eq k n) [
+  | inl same ↦ subst (λ (i : ℕ). P i (ledger_at i new)) (sym same) here
+  | inr other ↦
+      let stays : ledger_at k new ≡ ledger_at k old =
+      ap (λ (l : List LedgerState). get_or l k no_ledger) others ∙ get_or-set_other old.ledgers n k (ledger_at n new) no_ledger other in
+      subst (λ (l : LedgerState). P k l) (sym stays) before
+]
+
+pub as_many_ledgers : (old new : OwnDevices) (n : ℕ) → OthersStay n old new → length new.ledgers ≡ length old.ledgers
+as_many_ledgers old new n others = ap (λ (l : List LedgerState). length l) others ∙ length-set old.ledgers n (ledger_at n new)
+
+module _ (r : Released) (is : IsReleased r) (n : ℕ) (has : HasKey n r) (new : OwnDevices) (others : OthersStay n r.devices new) (usable : (ledger_at n new).usable ≡ true) (journal_usable : new.journal.usable ≡ true)
+    (same_key : (ledger_at n new).key ≡ (ledger_at n r.devices).key) (own : IsFileOf (ledger_at n r.devices).key (ledger_at n new).file.now.text) (settled : (ledger_at n new).outstanding ≡ 0) (leaf : LeafNumber) (text : List ℕ) (m : ℕ) where
+  keys_now : (k : ℕ) → HasKey k r → (ledger_at k new).key ≡ public_key_of (secret_at k r)
+  keys_now k there = each_ledger (λ i l. HasKey i r → l.key ≡ public_key_of (secret_at i r)) r.devices new n others (λ here. same_key ∙ is.own_keys n here) k (is.own_keys k) there
+
+  settled_now : (k : ℕ) → HasKey k r → (ledger_at k new).outstanding ≡ 0
+  settled_now k there = each_ledger (λ i l. HasKey i r → l.outstanding ≡ 0) r.devices new n others (λ here. settled) k (is.settled k) there
+
+  module _ (s : Stands r) (x : Record) (kept : IsKept leaf x (under n r.devices) (under n new)) where
+    ready_now : (k : ℕ) → HasKey k r → IsReady (ledger_at k new)
+    ready_now k there = each_ledger (λ i l. HasKey i r → IsReady l) r.devices new n others (λ here. one) k (s.ledgers k) there
+      where
+        one : IsReady (ledger_at n new)
+        one = record {
+          usable = usable;
+          rests = rests_so (ledger_at n new).file.now (with_mark leaf (ledger_at n r.devices).file.now.text) kept.marked;
+          own_file = subst (λ (k : List ℕ). IsFileOf k (ledger_at n new).file.now.text) (sym same_key) own;
+        }
+
   -- after a certificate
-  pub after_declare : IsKept leaf (cert_record text) r.devices new → r.phase ≡ phase.Idle → (c : Signed Cert) → cert_in r.user text ≡ Some c → n ≡ c.value.number
-      → IsReleased (record { user = r.user; secret = r.secret; devices = new; number = n; last = r.last; phase = phase.Declared; text = text })
+  pub after_declare : IsKept leaf (cert_record text) (under n r.devices) (under n new) → r.phase ≡ phase.Idle → (c : Signed Cert) → cert_in r.user text ≡ Some c → m ≡ c.value.number
+      → IsReleased (record { user = r.user; secrets = r.secrets; devices = new; number = m; last = r.last; phase = phase.Declared; text = text })
   after_declare kept idle c read number = record {
-    own_key = same_key ∙ is.own_key;
-    settled = settled;
+    some = is.some;
+    as_many = as_many_ledgers r.devices new n others ∙ is.as_many;
+    own_keys = keys_now;
+    settled = settled_now;
     stands = λ _. record {
-      ledger_usable = usable;
+      ledgers = ready_now s (cert_record text) kept;
       journal_usable = journal_usable;
-      ledger_rests = rests_so new.ledger.file.now (with_mark leaf r.devices.ledger.file.now.text) kept.marked;
-      own_file = subst (λ (k : List ℕ). IsFileOf k new.ledger.file.now.text) (sym same_key) own;
       journal_rests = kept.rests;
       recorded = next.0;
-      tells = tells_next leaf (cert_record text) r.devices new s.recorded next.0 kept s.tells next.1;
+      tells = tells_next leaf (cert_record text) (under n r.devices) (under n new) s.recorded next.0 kept s.tells next.1;
       told_phase = phase.Declared;
       told = told_cert r.user s.recorded next.0 (told_of s.told_phase r) text c s.told read next.1 ∙ ap (λ (k : ℕ). Some (told_with k r.last phase.Declared text)) (sym number);
       is_phase = inl refl;
@@ -87,19 +122,19 @@ module _ (r : Released) (is : IsReleased r) (new : Devices) (usable : new.ledger
       next = next_of (next_state s.recorded kind.Certificate text) (cert_may r s idle text)
 
   -- after a structure
-  pub after_sign : IsKept leaf (structure_record text) r.devices new → r.phase ≡ phase.Declared → (z : Signed Structure) → structure_in r.user text ≡ Some z → n ≡ z.value.plan.number
-      → IsReleased (record { user = r.user; secret = r.secret; devices = new; number = n; last = Some z; phase = phase.Signed; text = text })
+  pub after_sign : IsKept leaf (structure_record text) (under n r.devices) (under n new) → r.phase ≡ phase.Declared → (z : Signed Structure) → structure_in r.user text ≡ Some z → m ≡ z.value.plan.number
+      → IsReleased (record { user = r.user; secrets = r.secrets; devices = new; number = m; last = Some z; phase = phase.Signed; text = text })
   after_sign kept declared z read number = record {
-    own_key = same_key ∙ is.own_key;
-    settled = settled;
+    some = is.some;
+    as_many = as_many_ledgers r.devices new n others ∙ is.as_many;
+    own_keys = keys_now;
+    settled = settled_now;
     stands = λ _. record {
-      ledger_usable = usable;
+      ledgers = ready_now s (structure_record text) kept;
       journal_usable = journal_usable;
-      ledger_rests = rests_so new.ledger.file.now (with_mark leaf r.devices.ledger.file.now.text) kept.marked;
-      own_file = subst (λ (k : List ℕ). IsFileOf k new.ledger.file.now.text) (sym same_key) own;
       journal_rests = kept.rests;
       recorded = next.0;
-      tells = tells_next leaf (structure_record text) r.devices new s.recorded next.0 kept s.tells next.1;
+      tells = tells_next leaf (structure_record text) (under n r.devices) (under n new) s.recorded next.0 kept s.tells next.1;
       told_phase = phase.Signed;
       told = told_structure r.user s.recorded next.0 text z read next.1 ∙ ap (λ (k : ℕ). Some (told_with k (Some z) phase.Signed text)) (sym number);
       is_phase = inl refl;
@@ -113,9 +148,15 @@ module _ (r : Released) (is : IsReleased r) (new : Devices) (usable : new.ledger
       next = next_of (next_state s.recorded kind.Structure text) (structure_may r s declared text)
 
 -- after a device failed
-pub after_fault : (r : Released) → IsReleased r → (new : Devices) → new.ledger.key ≡ r.devices.ledger.key → new.ledger.outstanding ≡ 0
-    → IsReleased (record { user = r.user; secret = r.secret; devices = new; number = r.number; last = r.last; phase = phase.Failed; text = r.text })
-after_fault r is new same_key settled = record { own_key = same_key ∙ is.own_key; settled = settled; stands = λ stands. absurd (stands refl) }
+pub after_fault : (r : Released) → IsReleased r → (n : ℕ) → (new : OwnDevices) → OthersStay n r.devices new → (ledger_at n new).key ≡ (ledger_at n r.devices).key → (ledger_at n new).outstanding ≡ 0
+    → IsReleased (record { user = r.user; secrets = r.secrets; devices = new; number = r.number; last = r.last; phase = phase.Failed; text = r.text })
+after_fault r is n new others same_key settled = record {
+  some = is.some;
+  as_many = as_many_ledgers r.devices new n others ∙ is.as_many;
+  own_keys = λ k there. each_ledger (λ i l. HasKey i r → l.key ≡ public_key_of (secret_at i r)) r.devices new n others (λ here. same_key ∙ is.own_keys n here) k (is.own_keys k) there;
+  settled = λ k there. each_ledger (λ i l. HasKey i r → l.outstanding ≡ 0) r.devices new n others (λ here. settled) k (is.settled k) there;
+  stands = λ stands. absurd (stands refl);
+}
 
 committed : (p : Phase) → IsPhase p phase.Signed → IsPhase p phase.Idle
 committed p (inl same) = inr (sym same, refl)
@@ -123,15 +164,15 @@ committed p (inr both) = let two : phase.Signed ≡ phase.Idle = both.1 in absur
 
 -- after a commit
 pub after_commit : (r : Released) → IsReleased r → r.phase ≡ phase.Signed
-    → IsReleased (record { user = r.user; secret = r.secret; devices = r.devices; number = r.number; last = r.last; phase = phase.Idle; text = r.text })
+    → IsReleased (record { user = r.user; secrets = r.secrets; devices = r.devices; number = r.number; last = r.last; phase = phase.Idle; text = r.text })
 after_commit r is signed = record {
-  own_key = is.own_key;
+  some = is.some;
+  as_many = is.as_many;
+  own_keys = is.own_keys;
   settled = is.settled;
   stands = λ _. record {
-    ledger_usable = s.ledger_usable;
+    ledgers = s.ledgers;
     journal_usable = s.journal_usable;
-    ledger_rests = s.ledger_rests;
-    own_file = s.own_file;
     journal_rests = s.journal_rests;
     recorded = s.recorded;
     tells = s.tells;

@@ -1,5 +1,5 @@
 -- What the records of a journal tell of a client.
-use Rattle.std.specs.Prelude.{◌≡◌, ◌⊎◌, List, [], ◌++◌, Option, Some, None, true, ◌==◌, if◌then◌else◌}
+use Rattle.std.specs.Prelude.{◌≡◌, ◌⊎◌, ◌<◌, ℕ, length, slice_index_or, List, [], ◌++◌, Option, Some, None, true, ◌==◌, if◌then◌else◌}
 use Rattle.std.specs.Option.{option_and_then, option_map}
 use Rattle.std.specs.Result.{result_ok}
 use Rattle.layout.specs.Format.{Format, whole}
@@ -12,9 +12,9 @@ use Rattle.update_cert.specs.Cert.{Cert, cert}
 use Rattle.pending_list.specs.declared.signed.Signed.{Signed}
 use Rattle.pending_list.specs.Signed.{signed}
 use Rattle.leaf_ledger.specs.Device.{at_rest}
-use Rattle.leaf_ledger.specs.Ledger.{IsFileOf, LeafNumber}
+use Rattle.leaf_ledger.specs.Ledger.{IsFileOf, LeafNumber, LedgerState}
 use Rattle.client_journal.specs.Records.{State as Recorded, Idle, Declared, Signed as Ended, TellsState}
-use Rattle.client_releases.specs.Releasing.{Devices}
+use Rattle.client_releases.specs.Releasing.{IsUsedUp, OwnDevices, ledger_at, no_secret}
 use Rattle.client_releases.specs.declared.phase.Phase.{Phase}
 use Rattle.client_releases.specs.declared.phase.Phase.TheVariants as phase
 
@@ -53,20 +53,31 @@ told_by user (Declared (Some last) text) =
     option_and_then (λ z. option_map (after_cert (Some z) text) (cert_in user text)) (structure_in user last)
 told_by user (Ended text) = option_map (after_structure text) (structure_in user text)
 
--- What a client has released, with its devices: whose it is, what the own key is made of, the leaves, the signed texts,
+-- What a client has released, with its devices: whose it is, what its keys are made of, their leaves, the signed texts,
 -- and what these tell.
 pub record Released : Type 0 where
   pub user : User
-  pub secret : Secret
-  pub devices : Devices
+  pub secrets : List Secret
+  pub devices : OwnDevices
   pub number : Version
   pub last : Option (Signed Structure)
   pub phase : Phase
   pub text : Bytes
 
--- a text with its signature by this leaf
-abbrev pub sent : Released → LeafNumber → Bytes → Bytes
-sent r leaf text = text ++ signature_of r.secret leaf text
+-- what the key of this number is made of, of which there is one
+abbrev pub secret_at : ℕ → Released → Secret
+secret_at n r = slice_index_or r.secrets n no_secret
+
+abbrev pub HasKey : ℕ → Released → Type 0
+HasKey n r = n < length r.secrets
+
+-- no leaf of this key is left that can be used
+abbrev pub IsKeyUsedUp : ℕ → Released → Type 0
+IsKeyUsedUp n r = IsUsedUp (secret_at n r) (ledger_at n r.devices)
+
+-- a text with its signature by this leaf of this key
+abbrev pub sent : Released → ℕ → LeafNumber → Bytes → Bytes
+sent r n leaf text = text ++ signature_of (secret_at n r) leaf text
 
 -- a structure with its signature by this leaf
 abbrev pub signed_by : Secret → LeafNumber → Structure → Signed Structure
@@ -92,12 +103,16 @@ pub record TellsOfOther (user : User) (file : Bytes) : Type 0 where
 abbrev pub IsPhase : Phase → Phase → Type 0
 IsPhase told now = (now ≡ told) ⊎ ((told ≡ phase.Signed) × (now ≡ phase.Idle))
 
--- Both devices can be used and are at rest, and the client is as the records of its journal tell.
+-- A ledger can be used and is at rest.
+pub record IsReady (ledger : LedgerState) : Type 0 where
+  pub usable : ledger.usable ≡ true
+  pub rests : ledger.file.now ≡ at_rest ledger.file.now.text
+  pub own_file : IsFileOf ledger.key ledger.file.now.text
+
+-- All devices can be used and are at rest, and the client is as the records of its journal tell.
 pub record Stands (r : Released) : Type 0 where
-  pub ledger_usable : r.devices.ledger.usable ≡ true
+  pub ledgers : (n : ℕ) → HasKey n r → IsReady (ledger_at n r.devices)
   pub journal_usable : r.devices.journal.usable ≡ true
-  pub ledger_rests : r.devices.ledger.file.now ≡ at_rest r.devices.ledger.file.now.text
-  pub own_file : IsFileOf r.devices.ledger.key r.devices.ledger.file.now.text
   pub journal_rests : r.devices.journal.file.now ≡ at_rest r.devices.journal.file.now.text
   pub recorded : Recorded
   pub tells : TellsState recorded r.devices.journal.file.now.text
@@ -105,9 +120,11 @@ pub record Stands (r : Released) : Type 0 where
   pub told : told_by r.user recorded ≡ Some (told_of told_phase r)
   pub is_phase : IsPhase told_phase r.phase
 
--- What is true of it at all times: the ledger is the own key's, no leaf is outstanding, and it stands unless a device
--- has failed.
+-- What is true of it at all times: there is a key, each ledger is its key's, no leaf is outstanding, and it stands
+-- unless a device has failed.
 pub record IsReleased (r : Released) : Type 0 where
-  pub own_key : r.devices.ledger.key ≡ public_key_of r.secret
-  pub settled : r.devices.ledger.outstanding ≡ 0
+  pub some : HasKey 0 r
+  pub as_many : length r.devices.ledgers ≡ length r.secrets
+  pub own_keys : (n : ℕ) → HasKey n r → (ledger_at n r.devices).key ≡ public_key_of (secret_at n r)
+  pub settled : (n : ℕ) → HasKey n r → (ledger_at n r.devices).outstanding ≡ 0
   pub stands : (r.phase ≡ phase.Failed → ⊥) → Stands r

@@ -17,6 +17,7 @@ mod told;
 
 pub use error::ClientError;
 pub use laws::drawn_is_used_up;
+pub use own_key::Keys;
 pub use parts::Parts;
 pub use phase::Phase;
 pub use releases::Releases;

@@ -1,7 +1,8 @@
 //! A client's keys, each with its ledger: how they are opened together, and handed back.
 
 ghost use Rattle.std.specs.Prelude.{◌≡◌, ◌+◌, ◌≤◌, ◌++◌, map, IfErr, IfOk, vec_len, vec_capacity};
-ghost use Rattle.client_releases.specs.OwnKeys.{AreOpened, AreSettled, OneIsRefused, closed_key, key_files, ledgers_of, secrets_of};
+ghost use Rattle.client_releases.specs.OwnKeys.{AreOpened, AreSettled, OneIsRefused, closed_key, key_files};
+ghost use Rattle.client_releases.specs.OwnKeys.{ledgers_of, secrets_of};
 
 use leaf_ledger::{Device, Ledger, LedgerError};
 use lms_sign::PrivateKey;
@@ -48,15 +49,16 @@ pub(crate) fn close_before<L: Device, A: Allocator>(
     keys
 }
 
-/// Opens the ledgers of keys, the first key's first, into a vector that has room for them. A refusal hands the keys back,
-/// in their order. It takes no memory.
+/// Opens the ledgers of keys, the first key's first, into a vector that has room for them. A refusal hands the keys
+/// back, in their order. It takes no memory.
 pub(crate) fn open_ledgers<L: Device, A: Allocator>(
     own: Vec<OwnKey<L, A>, A>,
     keys: Keys<L, A>,
 ) -> Result<(Vec<OwnKey<L, A>, A>, Keys<L, A>), (LedgerError, Keys<L, A>)>
     requires none { vec_len own ≡ 0 }
     requires room { vec_len keys ≤ vec_capacity own }
-    ensures opened { IfOk result (λ r. AreOpened (key_files L.history L.fault_count keys.items) (ledgers_of r.0.items)) }
+    ensures opened { IfOk result
+        (λ r. AreOpened (key_files L.history L.fault_count keys.items) (ledgers_of r.0.items)) }
     ensures secrets { IfOk result (λ r. secrets_of r.0.items ≡ map (λ k. k.0) keys.items) }
     ensures spare { IfOk result (λ r. (vec_len r.1 ≡ 0) × (vec_len r.0 ≤ vec_capacity r.1)) }
     ensures refused { IfErr result (λ e. OneIsRefused e.0 (key_files L.history L.fault_count keys.items)

@@ -1,27 +1,31 @@
 //! What a client releases, and what its devices tell of that.
 
-ghost use Rattle.std.specs.Prelude.{◌≡◌, ◌≢◌, ◌⊎◌, ◌↔◌, ◌≤◌, true, false, Some, IfErr, IfOk, IsErrOf, OnErr, OnOk};
+ghost use Rattle.std.specs.Prelude.{◌≡◌, ◌≢◌, ◌⊎◌, ◌↔◌, ◌<◌, ◌≤◌, length, map, true, false, Some, IfErr, IfOk};
+ghost use Rattle.std.specs.Prelude.{IsErrOf, OnErr, OnOk};
 ghost use Rattle.std.specs.Option.{option_copied};
 ghost use Rattle.lms_sign.specs.Keys.{public_key_of};
-ghost use Rattle.leaf_ledger.specs.Device.{HasRisen, at_rest};
-ghost use Rattle.leaf_ledger.specs.Ledger.{IsFileOf, IsForeign, IsLeastFree, LeafNumber, UsedAsBefore};
+ghost use Rattle.leaf_ledger.specs.Device.{HasRisen};
+ghost use Rattle.leaf_ledger.specs.Ledger.{IsLeastFree, LeafNumber};
 ghost use Rattle.client_journal.specs.Records.{IsDamaged, State as Recorded, TellsState};
 ghost use Rattle.version_order.specs.Structure.{structure as structure_format};
 ghost use Rattle.update_cert.specs.Cert.{Cert as PureCert, cert};
-ghost use Rattle.client_releases.specs.Releasing.{AnyMoment, IsKept, IsOpening, IsTried, IsUsedUp, OneHasRisen};
-ghost use Rattle.client_releases.specs.Releasing.{cert_record, structure_record};
-ghost use Rattle.client_releases.specs.Told.{IsToldBy, TellsOfOther, sent, signed_by, told_by};
+ghost use Rattle.client_releases.specs.OwnKeys.{AreLater, AreOpened, OneIsForeign, OneOfHasRisen, key_files};
+ghost use Rattle.client_releases.specs.Releasing.{AnyMoment, IsKept, IsOpening, IsTried, OneHasRisen};
+ghost use Rattle.client_releases.specs.Releasing.{OthersStay, cert_record, ledger_at, structure_record, under};
+ghost use Rattle.client_releases.specs.Told.{HasKey, IsKeyUsedUp, IsToldBy, TellsOfOther, secret_at, sent};
+ghost use Rattle.client_releases.specs.Told.{signed_by, told_by};
 
 use crate::error::ClientError;
+use crate::own_key::{Keys, OwnKey, close_before, open_ledgers};
 use crate::parts::Parts;
 use crate::phase::Phase;
-use crate::releasing::keep;
+use crate::releasing::keep_under;
 use crate::signing::{Sealed, Unsigned};
 use crate::told::{Told, told_by};
 use client_journal::{Journal, Kind};
 use layout::{User, Version, let_go, put_in};
-use leaf_ledger::{Device, Ledger};
-use lms_sign::{PrivateKey, PublicKey};
+use leaf_ledger::Device;
+use lms_sign::PublicKey;
 use pending_list::{Signature, Signed};
 use std::alloc::Allocator;
 use std::marker::Model;
@@ -32,8 +36,9 @@ use version_order::Structure;
 #[derive(Drop)]
 pub struct Releases<L: Device, J: Device, A: Allocator> {
     user: User,
-    key: PrivateKey<A>,
-    ledger: Ledger<L>,
+    keys: Vec<OwnKey<L, A>, A>,
+    // Empty, with room for the keys when they are handed back.
+    spare: Keys<L, A>,
     journal: Journal<J>,
     number: u32,
     last: Option<Signed<Structure<A>>>,
@@ -42,67 +47,32 @@ pub struct Releases<L: Device, J: Device, A: Allocator> {
 }
 
 impl<L: Device, J: Device, A: Allocator> Model for Releases<L, J, A> {
+    ghost use Rattle.std.specs.Prelude.{◌≡◌, ◌≤◌, vec_capacity, vec_len};
+    ghost use Rattle.client_releases.specs.Releasing.{own_devices};
+    ghost use Rattle.client_releases.specs.OwnKeys.{secrets_of};
     ghost use Rattle.client_releases.specs.Told.{IsReleased, Released};
 
     ghost Value = { Released };
 
     ghost view = { λ r. record {
       user = r.user;
-      secret = r.key;
-      devices = record { ledger = r.ledger; journal = r.journal };
+      secrets = secrets_of r.keys.items;
+      devices = own_devices r.keys.items r.journal;
       number = r.number;
       last = r.last;
       phase = r.phase;
       text = r.text.items;
     } };
 
-    ghost invariant = { λ r. IsReleased (record {
+    ghost invariant = { λ r. (vec_len r.spare ≡ 0) × (vec_len r.keys ≤ vec_capacity r.spare) × IsReleased (record {
       user = r.user;
-      secret = r.key;
-      devices = record { ledger = r.ledger; journal = r.journal };
+      secrets = secrets_of r.keys.items;
+      devices = own_devices r.keys.items r.journal;
       number = r.number;
       last = r.last;
       phase = r.phase;
       text = r.text.items;
     }) };
-}
-
-/// Opens both devices, the ledger first.
-fn open_both<L: Device, J: Device>(
-    key: &PublicKey,
-    ledger: L,
-    journal: J,
-) -> Result<(Ledger<L>, Journal<J>), (ClientError, L, J)>
-    ensures opened { IfOk result (λ d. (d.0.key ≡ key.now) × (d.0.usable ≡ true) × (d.0.outstanding ≡ 0)
-        × (d.1.usable ≡ true)) }
-    ensures rests { IfOk result (λ d. (d.0.file.now ≡ at_rest d.0.file.now.text)
-        × (d.1.file.now ≡ at_rest d.1.file.now.text)) }
-    ensures own_file { IfOk result (λ d. IsFileOf key.now d.0.file.now.text) }
-    ensures moments { IfOk result (λ d. IsOpening (L.history ledger) (J.history journal) d.0.file d.1.file) }
-    ensures moments_err { IfErr result
-        (λ e. IsOpening (L.history ledger) (J.history journal) (L.history e.1) (J.history e.2)) }
-    ensures records { IfOk result (λ d. (recorded : Recorded) → TellsState recorded d.1.file.now.text
-        → TellsState recorded (J.history journal).now.text) }
-    ensures used { IfOk result (λ d. UsedAsBefore (L.history ledger).now.text d.0.file.now.text) }
-    ensures own { IfOk result (λ _. IsForeign key.now (L.history ledger).now.text → ⊥) }
-    ensures foreign { IfErr result (λ e. e.0 ≡ ClientError.Foreign → IsForeign key.now (L.history ledger).now.text) }
-    ensures damaged { IfErr result (λ e. e.0 ≡ ClientError.Damaged → IsDamaged (J.history journal).now.text) }
-    ensures device { IfErr result (λ e. e.0 ≡ ClientError.Device
-        → HasRisen (L.fault_count ledger) (L.fault_count e.1) ⊎ HasRisen (J.fault_count journal) (J.fault_count e.2)) }
-    ensures only { IfErr result (λ e. (e.0 ≡ ClientError.Device)
-        ⊎ ((e.0 ≡ ClientError.Foreign) ⊎ (e.0 ≡ ClientError.Damaged))) }
-    ensures later { IfOk result (λ d. (L.fault_count ledger ≤ d.0.faults) × (J.fault_count journal ≤ d.1.faults)) }
-    ensures later_err { IfErr result
-        (λ e. (L.fault_count ledger ≤ L.fault_count e.1) × (J.fault_count journal ≤ J.fault_count e.2)) }
-{
-    let ledger = match Ledger::open(ledger, key) {
-        Ok(ledger) => ledger,
-        Err((error, ledger)) => return Err((error.into(), ledger, journal)),
-    };
-    match Journal::open(journal) {
-        Ok(journal) => Ok((ledger, journal)),
-        Err((error, journal)) => Err((error.into(), ledger.close(), journal)),
-    }
 }
 
 /// What a journal tells of the client of this user.
@@ -127,49 +97,50 @@ fn remembered<J: Device, A: Allocator + Copy>(
 }
 
 impl<L: Device, J: Device, A: Allocator + Copy> Releases<L, J, A> {
-    /// Opens both devices, and reads from the journal what was released. A refusal hands back what was handed in.
+    /// Opens the ledgers, the first key's first, and then the journal, and reads from it what was released. A refusal
+    /// hands back what was handed in.
     pub fn open(
         alloc: A,
         user: User,
-        key: PrivateKey<A>,
-        ledger: L,
+        keys: Keys<L, A>,
         journal: J,
     ) -> Result<Releases<L, J, A>, (ClientError, Parts<L, J, A>)>
-        ensures whose { IfOk result (λ r. (r.user ≡ user) × (r.secret ≡ key)) }
+        requires { 0 < length keys.items }
+        ensures whose { IfOk result (λ r. (r.user ≡ user) × (r.secrets ≡ map (λ k. k.0) keys.items)) }
         ensures told { IfOk result (λ r. IsToldBy (J.history journal).now.text r) }
-        ensures moments { IfOk result (λ r. IsOpening (L.history ledger) (J.history journal) r.devices.ledger.file
-            r.devices.journal.file) }
-        ensures moments_err { IfErr result
-            (λ e. IsOpening (L.history ledger) (J.history journal) (L.history e.1.ledger) (J.history e.1.journal)) }
-        // The same leaves are used as before: none of a new ledger.
-        ensures used { IfOk result (λ r. UsedAsBefore (L.history ledger).now.text r.devices.ledger.file.now.text) }
-        ensures own { IfOk result (λ _. IsForeign (public_key_of key) (L.history ledger).now.text → ⊥) }
+        // Each ledger is opened: the same leaves are used as before, none of a new ledger.
+        ensures ledgers { IfOk result
+            (λ r. AreOpened (key_files L.history L.fault_count keys.items) r.devices.ledgers) }
+        ensures moments { IfOk result (λ r. IsOpening (map (λ k. L.history k.1) keys.items) (J.history journal)
+            (map (λ l. l.file) r.devices.ledgers) r.devices.journal.file) }
+        ensures moments_err { IfErr result (λ e. IsOpening (map (λ k. L.history k.1) keys.items) (J.history journal)
+            (map (λ k. L.history k.1) e.1.keys.items) (J.history e.1.journal)) }
         ensures foreign { IfErr result (λ e. e.0 ≡ ClientError.Foreign
-            → IsForeign (public_key_of key) (L.history ledger).now.text) }
+            → OneIsForeign (key_files L.history L.fault_count keys.items)) }
         ensures damaged { IfErr result (λ e. e.0 ≡ ClientError.Damaged
             → IsDamaged (J.history journal).now.text ⊎ TellsOfOther user (J.history journal).now.text) }
         ensures device { IfErr result (λ e. e.0 ≡ ClientError.Device
-            → HasRisen (L.fault_count ledger) (L.fault_count e.1.ledger)
+            → OneOfHasRisen (map (λ k. L.fault_count k.1) keys.items) (map (λ k. L.fault_count k.1) e.1.keys.items)
             ⊎ HasRisen (J.fault_count journal) (J.fault_count e.1.journal)) }
         ensures only { IfErr result (λ e. (e.0 ≢ ClientError.NoLeaf) × (e.0 ≢ ClientError.NoNumber)) }
-        ensures later { IfOk result (λ r. (L.fault_count ledger ≤ r.devices.ledger.faults)
-            × (J.fault_count journal ≤ r.devices.journal.faults)) }
+        ensures later { IfOk result (λ r. J.fault_count journal ≤ r.devices.journal.faults) }
         ensures later_err { IfErr result
-            (λ e. (L.fault_count ledger ≤ L.fault_count e.1.ledger)
+            (λ e. AreLater (map (λ k. L.fault_count k.1) keys.items) (map (λ k. L.fault_count k.1) e.1.keys.items)
             × (J.fault_count journal ≤ J.fault_count e.1.journal)) }
-        ensures key_err { IfErr result (λ e. e.1.key ≡ key) }
+        ensures keys_err { IfErr result (λ e. map (λ k. k.0) e.1.keys.items ≡ map (λ k. k.0) keys.items) }
     {
-        let (ledger, mut journal) = match open_both(&key.public(), ledger, journal) {
-            Ok(devices) => devices,
-            Err((error, ledger, journal)) => {
-                return Err((
-                    error,
-                    Parts {
-                        key,
-                        ledger,
-                        journal,
-                    },
-                ));
+        let Ok(own) = Vec::with_capacity(alloc, keys.len()) else {
+            return Err((ClientError::Memory, Parts { keys, journal }));
+        };
+        let (keys, spare) = match open_ledgers(own, keys) {
+            Ok(opened) => opened,
+            Err((error, keys)) => return Err((error.into(), Parts { keys, journal })),
+        };
+        let mut journal = match Journal::open(journal) {
+            Ok(journal) => journal,
+            Err((error, journal)) => {
+                let keys = close_before(keys, spare);
+                return Err((error.into(), Parts { keys, journal }));
             }
         };
         match remembered(alloc, user, &mut journal) {
@@ -182,8 +153,8 @@ impl<L: Device, J: Device, A: Allocator + Copy> Releases<L, J, A> {
                 } = told;
                 Ok(Releases {
                     user,
-                    key,
-                    ledger,
+                    keys,
+                    spare,
                     journal,
                     number,
                     last,
@@ -192,16 +163,9 @@ impl<L: Device, J: Device, A: Allocator + Copy> Releases<L, J, A> {
                 })
             }
             Err(error) => {
-                let ledger = ledger.close();
+                let keys = close_before(keys, spare);
                 let journal = journal.close();
-                Err((
-                    error,
-                    Parts {
-                        key,
-                        ledger,
-                        journal,
-                    },
-                ))
+                Err((error, Parts { keys, journal }))
             }
         }
     }
@@ -217,11 +181,19 @@ impl<L: Device, J: Device, A: Allocator> Releases<L, J, A> {
         self.user
     }
 
-    /// The public key whose leaves sign.
-    pub fn key(&self) -> PublicKey
-        ensures { result ≡ public_key_of self.now.secret }
+    /// How many keys there are.
+    pub fn key_count(&self) -> usize
+        ensures { result ≡ length self.now.secrets }
     {
-        self.key.public()
+        self.keys.len()
+    }
+
+    /// The public key of this number.
+    pub fn key(&self, key: usize) -> PublicKey
+        requires { HasKey key self.now }
+        ensures { result ≡ public_key_of (secret_at key self.now) }
+    {
+        self.keys[key].key.public()
     }
 
     /// The number of the operation that was declared last, 0 where none was.
@@ -252,12 +224,13 @@ impl<L: Device, J: Device, A: Allocator> Releases<L, J, A> {
         &self.text
     }
 
-    /// The device of the ledger, to be looked at.
-    pub fn ledger(&self) -> &L
-        ensures file { L.history result.now ≡ self.now.devices.ledger.file }
-        ensures faults { L.fault_count result.now ≡ self.now.devices.ledger.faults }
+    /// The device of this key's ledger, to be looked at.
+    pub fn ledger(&self, key: usize) -> &L
+        requires { HasKey key self.now }
+        ensures file { L.history result.now ≡ (ledger_at key self.now.devices).file }
+        ensures faults { L.fault_count result.now ≡ (ledger_at key self.now.devices).faults }
     {
-        self.ledger.device()
+        self.keys[key].ledger.device()
     }
 
     /// And that of the journal.
@@ -275,13 +248,16 @@ impl<L: Device, J: Device, A: Allocator> Releases<L, J, A> {
         let _phase = &self.phase;
     }
 
-    /// Whether a leaf is free that can sign: the next one is tried, which takes some hashes where the key was kept.
-    pub fn has_free_leaf(&self) -> bool
-        requires { self.now.phase ≢ Phase.Failed }
-        ensures { result ≡ false ↔ IsUsedUp self.now.secret self.now.devices.ledger }
+    /// Whether a leaf of this key is free that can sign: the next one is tried, which takes some hashes where the key
+    /// was kept.
+    pub fn has_free_leaf(&self, key: usize) -> bool
+        requires key { HasKey key self.now }
+        requires stands { self.now.phase ≢ Phase.Failed }
+        ensures { result ≡ false ↔ IsKeyUsedUp key self.now }
     {
-        match self.ledger.next_free() {
-            Some(leaf) => self.key.has_leaf(leaf),
+        let own = &self.keys[key];
+        match own.ledger.next_free() {
+            Some(leaf) => own.key.has_leaf(leaf),
             None => false,
         }
     }
@@ -290,33 +266,39 @@ impl<L: Device, J: Device, A: Allocator> Releases<L, J, A> {
     /// It takes no memory, and fails by the devices alone.
     pub fn declare(
         &mut self,
+        key: usize,
         number: Version,
         unsigned: Unsigned<A>,
     ) -> Result<Vec<u8, A>, ClientError>
         requires idle { self.old.phase ≡ Phase.Idle }
-        requires free { IsUsedUp self.old.secret self.old.devices.ledger → ⊥ }
+        requires key { HasKey key self.old }
+        requires free { IsKeyUsedUp key self.old → ⊥ }
         requires own { (c : PureCert) × (unsigned ≡ cert.spell c) × cert.Fits c × (c.user ≡ self.old.user)
             × (c.number ≡ number) }
         ensures declared { OnOk result ((leaf : LeafNumber)
-            × IsKept leaf (cert_record (sent self.old leaf unsigned)) self.old.devices self.new.devices
+            × IsKept leaf (cert_record (sent self.old key leaf unsigned)) (under key self.old.devices)
+            (under key self.new.devices)
             × (self.new ≡ record self.old {
               devices = self.new.devices;
               number = number;
               phase = Phase.Declared;
-              text = sent self.old leaf unsigned;
+              text = sent self.old key leaf unsigned;
             })) }
         ensures text { IfOk result (λ text. text.items ≡ self.new.text) }
-        ensures any_moment { (leaf : LeafNumber) → IsLeastFree self.old.devices.ledger.file.now.text leaf
-            → AnyMoment leaf (cert_record (sent self.old leaf unsigned)) self.old.devices self.new.devices }
-        ensures tried { OnErr result (IsTried (λ leaf. cert_record (sent self.old leaf unsigned)) self.old.devices
-            self.new.devices) }
-        ensures device { IfErr result (λ e. (e ≡ ClientError.Device) × OneHasRisen self.old.devices self.new.devices) }
+        ensures others { OthersStay key self.old.devices self.new.devices }
+        ensures any_moment { (leaf : LeafNumber) → IsLeastFree (ledger_at key self.old.devices).file.now.text leaf
+            → AnyMoment leaf (cert_record (sent self.old key leaf unsigned)) (under key self.old.devices)
+            (under key self.new.devices) }
+        ensures tried { OnErr result (IsTried (λ leaf. cert_record (sent self.old key leaf unsigned))
+            (under key self.old.devices) (under key self.new.devices)) }
+        ensures device { IfErr result (λ e. (e ≡ ClientError.Device)
+            × OneHasRisen (under key self.old.devices) (under key self.new.devices)) }
         ensures err { OnErr result (self.new ≡ record self.old { devices = self.new.devices; phase = Phase.Failed }) }
     {
-        match keep(
-            &mut self.ledger,
+        match keep_under(
+            &mut self.keys,
+            key,
             &mut self.journal,
-            &self.key,
             Kind::Certificate,
             unsigned,
         ) {
@@ -342,36 +324,42 @@ impl<L: Device, J: Device, A: Allocator> Releases<L, J, A> {
     /// signature. It takes no memory, and fails by the devices alone.
     pub fn sign(
         &mut self,
+        key: usize,
         structure: Structure<A>,
         unsigned: Unsigned<A>,
     ) -> Result<(Vec<u8, A>, Signature), ClientError>
         requires declared { self.old.phase ≡ Phase.Declared }
-        requires free { IsUsedUp self.old.secret self.old.devices.ledger → ⊥ }
+        requires key { HasKey key self.old }
+        requires free { IsKeyUsedUp key self.old → ⊥ }
         requires text { unsigned ≡ structure_format.spell structure }
         requires own { (structure.plan.user ≡ self.old.user) × (structure.plan.number ≡ self.old.number) }
         ensures signed { OnOk result ((leaf : LeafNumber)
-            × IsKept leaf (structure_record (sent self.old leaf unsigned)) self.old.devices self.new.devices
+            × IsKept leaf (structure_record (sent self.old key leaf unsigned)) (under key self.old.devices)
+            (under key self.new.devices)
             × (self.new ≡ record self.old {
               devices = self.new.devices;
-              last = Some (signed_by self.old.secret leaf structure);
+              last = Some (signed_by (secret_at key self.old) leaf structure);
               phase = Phase.Signed;
-              text = sent self.old leaf unsigned;
+              text = sent self.old key leaf unsigned;
             })) }
         ensures text { IfOk result (λ s. s.0.items ≡ self.new.text) }
         ensures signature { IfOk result (λ s. self.new.last ≡ Some (record { value = structure; signature = s.1 })) }
-        ensures any_moment { (leaf : LeafNumber) → IsLeastFree self.old.devices.ledger.file.now.text leaf
-            → AnyMoment leaf (structure_record (sent self.old leaf unsigned)) self.old.devices self.new.devices }
-        ensures tried { OnErr result (IsTried (λ leaf. structure_record (sent self.old leaf unsigned)) self.old.devices
-            self.new.devices) }
-        ensures device { IfErr result (λ e. (e ≡ ClientError.Device) × OneHasRisen self.old.devices self.new.devices) }
+        ensures others { OthersStay key self.old.devices self.new.devices }
+        ensures any_moment { (leaf : LeafNumber) → IsLeastFree (ledger_at key self.old.devices).file.now.text leaf
+            → AnyMoment leaf (structure_record (sent self.old key leaf unsigned)) (under key self.old.devices)
+            (under key self.new.devices) }
+        ensures tried { OnErr result (IsTried (λ leaf. structure_record (sent self.old key leaf unsigned))
+            (under key self.old.devices) (under key self.new.devices)) }
+        ensures device { IfErr result (λ e. (e ≡ ClientError.Device)
+            × OneHasRisen (under key self.old.devices) (under key self.new.devices)) }
         ensures err { OnErr result (self.new ≡ record self.old { devices = self.new.devices; phase = Phase.Failed }) }
     {
         // Its own contract says that it fits its text.
         let _plan = structure.plan();
-        match keep(
-            &mut self.ledger,
+        match keep_under(
+            &mut self.keys,
+            key,
             &mut self.journal,
-            &self.key,
             Kind::Structure,
             unsigned,
         ) {
@@ -406,18 +394,18 @@ impl<L: Device, J: Device, A: Allocator> Releases<L, J, A> {
         self.phase = Phase::Idle;
     }
 
-    /// Hands back what it was opened over.
+    /// Hands back what it was opened over. It takes no memory.
     pub fn close(self) -> Parts<L, J, A>
-        ensures key { result.key ≡ self.secret }
-        ensures ledger { L.history result.ledger ≡ self.devices.ledger.file }
+        ensures keys { map (λ k. k.0) result.keys.items ≡ self.secrets }
+        ensures ledgers { map (λ k. L.history k.1) result.keys.items ≡ map (λ l. l.file) self.devices.ledgers }
+        ensures faults { map (λ k. L.fault_count k.1) result.keys.items ≡ map (λ l. l.faults) self.devices.ledgers }
         ensures journal { J.history result.journal ≡ self.devices.journal.file }
-        ensures faults { (L.fault_count result.ledger ≡ self.devices.ledger.faults)
-            × (J.fault_count result.journal ≡ self.devices.journal.faults) }
+        ensures journal_faults { J.fault_count result.journal ≡ self.devices.journal.faults }
     {
         let Releases {
             user: _,
-            key,
-            ledger,
+            keys,
+            spare,
             journal,
             number: _,
             last: _,
@@ -425,8 +413,7 @@ impl<L: Device, J: Device, A: Allocator> Releases<L, J, A> {
             text: _,
         } = self;
         Parts {
-            key,
-            ledger: ledger.close(),
+            keys: close_before(keys, spare),
             journal: journal.close(),
         }
     }

@@ -1,5 +1,5 @@
 use Rattle.std.proofs.Common.{◌≡◌, true, is_ok, List, ◌∷◌, ◌++◌, [], map, sym, ◌∙◌, ap, subst, arith}
-use Rattle.client_releases.specs.OwnKeys.{AreSettled, KeyFile, OwnKey, closed_key, key_files, ledgers_of}
+use Rattle.client_releases.specs.OwnKeys.{AreSettled, OwnKey, closed_key, key_files, ledgers_of}
 use Rattle.client_releases.proofs.OwnKeys.{closed_more, settled_last}
 use Rattle.client_releases.proofs.own_key.close_before.Goals as goal
 

@@ -1,7 +1,6 @@
-use Rattle.std.proofs.Common.{◌≡◌, ◌<◌, ◌+◌, ℕ, refl, true, false, is_ok, List, ◌∷◌, ◌++◌, [], length, map, vec_len, sym, ◌∙◌, ap, subst, arith, append_assoc, append-nil}
+use Rattle.std.proofs.Common.{◌≡◌, ◌<◌, ℕ, refl, true, is_ok, List, ◌∷◌, ◌++◌, [], length, map, vec_len, sym, ◌∙◌, ap, subst, arith, append_assoc, append-nil}
 use Rattle.std.proofs.lemmas.Bool.{eqb-true, eqb-false}
 use Rattle.leaf_ledger.specs.Ledger.{IsFileOf, IsForeign, LedgerState}
-use Rattle.lms_sign.specs.Keys.{public_key_of}
 use Rattle.client_releases.specs.OwnKeys.{AreOpened, IsOpened, IsRefused, KeyFile, OneIsRefused, OwnKey, closed_key, key_files, ledgers_of, secrets_of}
 use Rattle.client_releases.proofs.OwnKeys.{first_taken, ledgers_more, none_left, opened_more, refused_after, secrets_more, secrets_same, settled_opened}
 use Rattle.client_releases.proofs.own_key.open_ledgers.Goals as goal

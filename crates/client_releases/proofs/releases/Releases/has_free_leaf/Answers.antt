@@ -1,17 +1,35 @@
-use Rattle.std.proofs.Common.{◌≡◌, false, ap, sym, subst, refl}
+use Rattle.std.proofs.Common.{◌≡◌, ◌<◌, false, true, get_or, length, ap, sym, subst, ◌∙◌, arith}
 use Rattle.std.specs.Prelude.{◌↔◌}
-use Rattle.client_releases.specs.Releasing.{IsUsedUp}
-use Rattle.client_releases.specs.Told.{Released}
-use Rattle.client_releases.proofs.UsedUp.{by_least, by_none}
+use Rattle.std.proofs.lemmas.List.{length-map}
+use Rattle.lms_sign.specs.Secret.{Secret}
+use Rattle.leaf_ledger.specs.Ledger.{LedgerState}
+use Rattle.client_releases.specs.OwnKeys.{OwnKey}
+use Rattle.client_releases.specs.Releasing.{IsUsedUp, no_ledger}
+use Rattle.client_releases.specs.Told.{HasKey, IsKeyUsedUp, Released}
+use Rattle.client_releases.proofs.Under.{ledger_is, seen_key}
+use Rattle.client_releases.proofs.UsedUp.{by_least}
 use Rattle.client_releases.proofs.releases.Releases.has_free_leaf.Goals as goal
+
+pub next_free-requires : goal.next_free-requires
+next_free-requires g c =
+    let keys = c.self.inside.keys.items in
+    let n = c.args.key in
+    let d = c.index-own.result.now in
+    let has = subst (λ (r : Released). HasKey n r) (sym c.self.view_is) c.requires.key in
+    let small : n < length keys = omega (arith, has, length-map keys (λ (k : OwnKey). k.secret)) in
+    let stands = c.self.invariant.2.stands (λ failed. c.requires.stands (sym (ap (λ (r : Released). r.phase) c.self.view_is) ∙ failed)) in
+    let old : OwnKey = record { secret = c.own.inside.key; ledger = c.own.inside.ledger } in
+    let is : old ≡ get_or keys n d = c.own.view_is ∙ c.index-own.ensures in
+    subst (λ (l : LedgerState). l.usable ≡ true) (ledger_is keys n d no_ledger small ∙ sym (ap (λ (x : OwnKey). x.ledger) is)) (stands.ledgers n has).usable
 
 pub returns-in-Some : goal.returns-in-Some
 returns-in-Some g c =
-    subst (λ (r : Released). (c.has_leaf.result ≡ false) ↔ IsUsedUp r.secret r.devices.ledger) c.self.view_is
-    (by_least c.self.inside.key c.self.inside.ledger c.in-Some.leaf c.has_leaf.result c.in-Some.ensures.least c.has_leaf.ensures)
-
-pub returns-in-None : goal.returns-in-None
-returns-in-None g c = (
-  λ _. subst (λ (r : Released). IsUsedUp r.secret r.devices.ledger) c.self.view_is (by_none c.self.inside.key c.self.inside.ledger c.in-None.ensures.none),
-  λ _. refl,
-)
+    let keys = c.self.inside.keys.items in
+    let n = c.args.key in
+    let d = c.index-own.result.now in
+    let has = subst (λ (r : Released). HasKey n r) (sym c.self.view_is) c.requires.key in
+    let small : n < length keys = omega (arith, has, length-map keys (λ (k : OwnKey). k.secret)) in
+    let old : OwnKey = record { secret = c.own.inside.key; ledger = c.own.inside.ledger } in
+    let is : old ≡ get_or keys n d = c.own.view_is ∙ c.index-own.ensures in
+    subst (λ (r : Released). (c.has_leaf.result ≡ false) ↔ IsKeyUsedUp n r) c.self.view_is
+    (seen_key keys n small d old is (λ (s : Secret) (l : LedgerState). (c.has_leaf.result ≡ false) ↔ IsUsedUp s l) (by_least c.own.inside.key c.own.inside.ledger c.in-Some.leaf c.has_leaf.result c.in-Some.ensures.least c.has_leaf.ensures))

@@ -1,69 +1,87 @@
 use Rattle.std.proofs.Common.{◌∙◌, ◌++◌, length, sym, ap, subst, arith}
 use Rattle.client_journal.specs.declared.kind.Kind.TheVariants as kind
 use Rattle.version_order.specs.StructureLaws.{at_most_structure}
-use Rattle.client_releases.specs.Releasing.{IsUsedUp}
-use Rattle.client_releases.specs.Told.{Released}
-use Rattle.client_releases.proofs.Seen.{signed_of, failed_of, moments_of, risen_of, tried_of}
+use Rattle.client_releases.specs.Releasing.{OwnDevices, own_devices}
+use Rattle.client_releases.specs.Told.{HasKey, IsKeyUsedUp, Released}
+use Rattle.client_releases.proofs.Seen.{failed_of, moments_of, risen_of, signed_of, tried_of}
 use Rattle.client_releases.proofs.Standing.{after_fault, after_sign, stands_declared, structure_turn}
 use Rattle.client_releases.proofs.Telling.{structure_there}
 use Rattle.client_releases.proofs.releases.Releases.sign.Goals as goal
 
-pub keep-requires-clause-ledger_usable : goal.keep-requires-clause-ledger_usable
-keep-requires-clause-ledger_usable g c = (stands_declared _ c.self.invariant (ap (λ (r : Released). r.phase) c.self.view_is ∙ c.requires.declared)).ledger_usable
+pub keep_under-requires-clause-ledger_usable : goal.keep_under-requires-clause-ledger_usable
+keep_under-requires-clause-ledger_usable g c =
+    ((stands_declared _ c.self.invariant.2 (ap (λ (r : Released). r.phase) c.self.view_is ∙ c.requires.declared)).ledgers c.args.key (subst (λ (r : Released). HasKey c.args.key r) (sym c.self.view_is) c.requires.key)).usable
 
-pub keep-requires-clause-own_key : goal.keep-requires-clause-own_key
-keep-requires-clause-own_key g c = c.self.invariant.own_key
+pub keep_under-requires-clause-own_key : goal.keep_under-requires-clause-own_key
+keep_under-requires-clause-own_key g c = c.self.invariant.2.own_keys c.args.key (subst (λ (r : Released). HasKey c.args.key r) (sym c.self.view_is) c.requires.key)
 
-pub keep-requires-clause-settled : goal.keep-requires-clause-settled
-keep-requires-clause-settled g c = c.self.invariant.settled
+pub keep_under-requires-clause-settled : goal.keep_under-requires-clause-settled
+keep_under-requires-clause-settled g c = c.self.invariant.2.settled c.args.key (subst (λ (r : Released). HasKey c.args.key r) (sym c.self.view_is) c.requires.key)
 
-pub keep-requires-clause-free : goal.keep-requires-clause-free
-keep-requires-clause-free g c none = c.requires.free (subst (λ (r : Released). IsUsedUp r.secret r.devices.ledger) c.self.view_is none)
+pub keep_under-requires-clause-free : goal.keep_under-requires-clause-free
+keep_under-requires-clause-free g c none = c.requires.free (subst (λ (r : Released). IsKeyUsedUp c.args.key r) c.self.view_is none)
 
-pub keep-requires-clause-journal_usable : goal.keep-requires-clause-journal_usable
-keep-requires-clause-journal_usable g c = (stands_declared _ c.self.invariant (ap (λ (r : Released). r.phase) c.self.view_is ∙ c.requires.declared)).journal_usable
+pub keep_under-requires-clause-journal_usable : goal.keep_under-requires-clause-journal_usable
+keep_under-requires-clause-journal_usable g c = (stands_declared _ c.self.invariant.2 (ap (λ (r : Released). r.phase) c.self.view_is ∙ c.requires.declared)).journal_usable
 
-pub keep-requires-clause-journal_rests : goal.keep-requires-clause-journal_rests
-keep-requires-clause-journal_rests g c = (stands_declared _ c.self.invariant (ap (λ (r : Released). r.phase) c.self.view_is ∙ c.requires.declared)).journal_rests
+pub keep_under-requires-clause-journal_rests : goal.keep_under-requires-clause-journal_rests
+keep_under-requires-clause-journal_rests g c = (stands_declared _ c.self.invariant.2 (ap (λ (r : Released). r.phase) c.self.view_is ∙ c.requires.declared)).journal_rests
 
-pub keep-requires-clause-turn : goal.keep-requires-clause-turn
-keep-requires-clause-turn g c signature fits =
+pub keep_under-requires-clause-turn : goal.keep_under-requires-clause-turn
+keep_under-requires-clause-turn g c signature fits =
     let now = ap (λ (r : Released). r.phase) c.self.view_is ∙ c.requires.declared in
-    structure_turn _ (stands_declared _ c.self.invariant now) now (c.args.unsigned ++ signature)
+    structure_turn _ (stands_declared _ c.self.invariant.2 now) now (c.args.unsigned ++ signature)
 
-pub keep-requires-clause-short : goal.keep-requires-clause-short
-keep-requires-clause-short g c = omega (arith, at_most_structure.holds c.args.structure c.plan-plan.ensures.fits, ap length c.requires.text)
+pub keep_under-requires-clause-short : goal.keep_under-requires-clause-short
+keep_under-requires-clause-short g c =
+    omega (arith, at_most_structure.holds c.args.structure c.plan-plan.ensures.fits, ap length c.requires.text)
 
 pub returns-in-Ok-clause-signed : goal.returns-in-Ok-clause-signed
 returns-in-Ok-clause-signed g c =
+    let new : OwnDevices = own_devices c.keep_under.new.keys.items c.keep_under.new.journal in
     let k = c.in-Ok.ensures.kept in
-    rw c.put_in.ensures (rw c.put_in-in-Ok.ensures (signed_of _ c.args.self.now c.self.view_is c.args.unsigned _ _ _ k.0 k.1 k.2 c.args.structure c.requires.text k.3))
+    rw c.put_in.ensures (rw c.put_in-in-Ok.ensures (rw c.keep_under.ensures.secrets (signed_of _ c.args.self.now c.self.view_is c.args.key c.args.unsigned new _ _ k.0 k.1 k.2 c.args.structure c.requires.text k.3)))
 
 pub returns-in-Ok-clause-any_moment : goal.returns-in-Ok-clause-any_moment
-returns-in-Ok-clause-any_moment g c = moments_of _ c.args.self.now c.self.view_is c.args.unsigned (record { ledger = c.keep.new.ledger; journal = c.keep.new.journal }) kind.Structure c.keep.ensures.any_moment
+returns-in-Ok-clause-any_moment g c =
+    let new : OwnDevices = own_devices c.keep_under.new.keys.items c.keep_under.new.journal in
+    moments_of _ c.args.self.now c.self.view_is c.args.key c.args.unsigned new kind.Structure c.keep_under.ensures.any_moment
 
 pub returns-in-Err-clause-any_moment : goal.returns-in-Err-clause-any_moment
-returns-in-Err-clause-any_moment g c = moments_of _ c.args.self.now c.self.view_is c.args.unsigned (record { ledger = c.keep.new.ledger; journal = c.keep.new.journal }) kind.Structure c.keep.ensures.any_moment
+returns-in-Err-clause-any_moment g c =
+    let new : OwnDevices = own_devices c.keep_under.new.keys.items c.keep_under.new.journal in
+    moments_of _ c.args.self.now c.self.view_is c.args.key c.args.unsigned new kind.Structure c.keep_under.ensures.any_moment
 
 pub returns-in-Err-clause-tried : goal.returns-in-Err-clause-tried
-returns-in-Err-clause-tried g c = tried_of _ c.args.self.now c.self.view_is c.args.unsigned (record { ledger = c.keep.new.ledger; journal = c.keep.new.journal }) kind.Structure c.in-Err.ensures.tried
+returns-in-Err-clause-tried g c =
+    let new : OwnDevices = own_devices c.keep_under.new.keys.items c.keep_under.new.journal in
+    tried_of _ c.args.self.now c.self.view_is c.args.key c.args.unsigned new kind.Structure c.in-Err.ensures.tried
 
 pub returns-in-Err-clause-device : goal.returns-in-Err-clause-device
 returns-in-Err-clause-device g c =
+    let new : OwnDevices = own_devices c.keep_under.new.keys.items c.keep_under.new.journal in
     let d = c.in-Err.ensures.device in
-    (d.0, risen_of _ c.args.self.now c.self.view_is c.args.unsigned (record { ledger = c.keep.new.ledger; journal = c.keep.new.journal }) d.1)
+    (d.0, risen_of _ c.args.self.now c.self.view_is c.args.key c.args.unsigned new d.1)
 
 pub returns-in-Err-clause-err : goal.returns-in-Err-clause-err
-returns-in-Err-clause-err g c = failed_of _ c.args.self.now c.self.view_is _
+returns-in-Err-clause-err g c = rw c.keep_under.ensures.secrets (failed_of _ c.args.self.now c.self.view_is _)
 
 pub invariant_of-self : goal.invariant_of-self
 invariant_of-self g c =
+    let new : OwnDevices = own_devices c.keep_under.new.keys.items c.keep_under.new.journal in
     let now = ap (λ (r : Released). r.phase) c.self.view_is ∙ c.requires.declared in
+    let has = subst (λ (r : Released). HasKey c.args.key r) (sym c.self.view_is) c.requires.key in
     let k = c.in-Ok.ensures.kept in
     let own = c.requires.own in
     let u = c.in-Ok.ensures.usable in
-    rw c.put_in.ensures (rw c.put_in-in-Ok.ensures (after_sign _ c.self.invariant _ u.0 u.1 c.keep.ensures.same_key c.keep.ensures.own_file c.keep.ensures.none_outstanding k.0 _ _ k.3 now (record { value = c.args.structure; signature = c.in-Ok.sealed.signature })
-    (structure_there _ c.args.structure _ c.args.unsigned _ c.plan-plan.ensures.fits c.in-Ok.ensures.fits c.requires.text k.2 (own.0 ∙ sym (ap (λ (r : Released). r.user) c.self.view_is))) (ap (λ (r : Released). r.number) c.self.view_is ∙ sym own.1)))
+    let e = c.keep_under.ensures in
+    let made =
+    after_sign _ c.self.invariant.2 c.args.key has new e.others u.0 u.1 e.same_key e.own_file e.none_outstanding k.0 _ _ k.3 now (record { value = c.args.structure; signature = c.in-Ok.sealed.signature })
+    (structure_there _ c.args.structure _ c.args.unsigned _ c.plan-plan.ensures.fits c.in-Ok.ensures.fits c.requires.text k.2 (own.0 ∙ sym (ap (λ (r : Released). r.user) c.self.view_is))) (ap (λ (r : Released). r.number) c.self.view_is ∙ sym own.1) in
+    rw c.put_in.ensures (rw c.put_in-in-Ok.ensures (c.self.invariant.0, omega (arith, e.as_many, c.self.invariant.1), rw e.secrets made))
 
 pub invariant_of-self-in-Err : goal.invariant_of-self-in-Err
-invariant_of-self-in-Err g c = after_fault _ c.self.invariant _ c.keep.ensures.same_key c.keep.ensures.none_outstanding
+invariant_of-self-in-Err g c =
+    let new : OwnDevices = own_devices c.keep_under.new.keys.items c.keep_under.new.journal in
+    let e = c.keep_under.ensures in
+    (c.self.invariant.0, omega (arith, e.as_many, c.self.invariant.1), rw e.secrets (after_fault _ c.self.invariant.2 c.args.key new e.others e.same_key e.none_outstanding))
