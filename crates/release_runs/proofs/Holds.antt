@@ -1,10 +1,8 @@
 -- What holds of a user's client after each step of a run.
-use Rattle.std.proofs.Common.{◌≡◌, ℕ, ◌+◌, List, [], ◌∷◌, ◌++◌, Option, Some, None, IfSome, refl, sym, ap, ◌∙◌, subst, inl, inr}
-use Rattle.std.specs.Prelude.{◌⊎◌}
+use Rattle.std.proofs.Common.{◌≡◌, List, [], ◌∷◌, ◌++◌, Option, Some, None, IfSome, sym, ap, ◌∙◌, subst, inl, inr}
 use Rattle.layout.specs.Types.{Bytes}
-use Rattle.client_releases.specs.declared.phase.Phase.{Phase}
 use Rattle.client_releases.specs.declared.phase.Phase.TheVariants as phase
-use Rattle.client_releases.specs.Releasing.{Devices}
+use Rattle.client_releases.specs.Releasing.{OwnDevices, ledger_at}
 use Rattle.client_releases.specs.Told.{IsPhase, Released}
 use Rattle.release_runs.specs.Steps.{Call, Client, Closed, HasCommitted, Open, Owner, Parts, journal_of, ledger_of}
 use Rattle.release_runs.specs.Runs.{IsInTurn}
@@ -30,7 +28,7 @@ module _ (o : Owner) where
   -- So it is unless a device has failed.
   pub record IsOwn (story : List Release) (tried : Option Release) (s : Released) : Type 0 where
     pub user : s.user ≡ o.user
-    pub secret : s.secret ≡ o.secret
+    pub secrets : s.secrets ≡ o.secret ∷ []
     pub stands : (s.phase ≡ phase.Failed → ⊥) → IsAt story tried s
 
   abbrev pub IsOwnClient : List Release → Option Release → Client → Type 0
@@ -85,10 +83,10 @@ module _ (o : Owner) where
       is_story = h.is_story;
       is_tried = h.is_tried;
       numbered = λ t. h.numbered (turn t);
-      lies = subst (λ (d : Devices). Lies o story tried d.ledger.file d.journal.file) (sym (ap (λ (r : Released). r.devices) is.state)) h.lies;
+      lies = subst (λ (d : OwnDevices). Lies o story tried (ledger_at 0 d).file d.journal.file) (sym (ap (λ (r : Released). r.devices) is.state)) h.lies;
       own = record {
         user = ap (λ (r : Released). r.user) is.state ∙ h.own.user;
-        secret = ap (λ (r : Released). r.secret) is.state ∙ h.own.secret;
+        secrets = ap (λ (r : Released). r.secrets) is.state ∙ h.own.secrets;
         stands = λ _. committed;
       };
       released = h.released;

@@ -1,5 +1,5 @@
 -- What holds after a client is opened.
-use Rattle.std.proofs.Common.{◌≡◌, ℕ, ◌+◌, ◌<◌, List, [], ◌∷◌, ◌++◌, length, Option, Some, None, Ok, IfSome, refl, sym, ap, ◌∙◌, subst, inl, inr, arith}
+use Rattle.std.proofs.Common.{◌≡◌, ◌<◌, List, [], ◌∷◌, ◌++◌, length, Option, Some, None, Ok, IfSome, refl, sym, ap, ◌∙◌, subst, inl, inr, arith}
 use Rattle.std.specs.Prelude.{◌⊎◌}
 use Rattle.layout.specs.Types.{Bytes}
 use Rattle.lms_sign.specs.Signature.{signature_of}
@@ -8,11 +8,13 @@ use Rattle.leaf_ledger.specs.Device.{Disk, MayLeave}
 use Rattle.leaf_ledger.specs.Life.{IsSure}
 use Rattle.leaf_ledger.specs.Moments.{rest_only}
 use Rattle.client_journal.specs.Life.{IsPossible}
-use Rattle.client_journal.specs.Records.{Record, State as Recorded, Tells, TellsState, state_of}
+use Rattle.client_journal.specs.Records.{State as Recorded, Tells, TellsState, state_of}
 use Rattle.client_journal.proofs.Chains.{one_telling}
 use Rattle.version_order.specs.Structure.{structure}
 use Rattle.update_cert.specs.Cert.{cert}
 use Rattle.client_releases.specs.declared.phase.Phase.TheVariants as phase
+use Rattle.client_releases.proofs.OwnKeys.{first_still}
+use Rattle.client_releases.specs.Releasing.{ledger_at}
 use Rattle.client_releases.specs.Told.{IsPhase, IsReleased, Released, Stands, Told, told_by, told_of}
 use Rattle.release_runs.specs.Steps.{Closed, IsOpened, Open, Opens, Owner, Parts}
 use Rattle.release_runs.specs.Released.{found_text}
@@ -97,8 +99,8 @@ signed_long o (r ∷ older) e = long_release o r
 -- ---- the step
 
 module _ (o : Owner) (InTurn : Type 0) (story : List Release) (tried : Option Release) (texts : List Bytes) (p : Parts) (h : Holds o InTurn story tried (Closed p) texts) (s : Released) (opens : IsOpened o p s) (sound : IsReleased s) where
-  after : Lies o story tried s.devices.ledger.file s.devices.journal.file
-  after = lies_on o story tried p.ledger p.journal s.devices.ledger.file s.devices.journal.file h.lies opens.moments.leaves opens.moments.records
+  after : Lies o story tried (ledger_at 0 s.devices).file s.devices.journal.file
+  after = lies_on o story tried p.ledger p.journal (ledger_at 0 s.devices).file s.devices.journal.file h.lies (first_still p.ledger s.devices.ledgers opens.moments.ledgers).leaves opens.moments.records
 
   before_told : Reads o story tried p.journal.now.text (told_of s.phase s)
   before_told =
@@ -134,7 +136,7 @@ module _ (o : Owner) (InTurn : Type 0) (story : List Release) (tried : Option Re
   record Found (one : List Release) : Type 0 where
     is_story : IsStory o one
     numbered : InTurn → IsNumbered one
-    lies : Lies o one None s.devices.ledger.file s.devices.journal.file
+    lies : Lies o one None (ledger_at 0 s.devices).file s.devices.journal.file
     number : s.number ≡ number_in one
     last : s.last ≡ last_in o one
     text : s.text ≡ text_in o one
@@ -144,7 +146,7 @@ module _ (o : Owner) (InTurn : Type 0) (story : List Release) (tried : Option Re
   only_file file (inl same) = same
   only_file file (inr may) = rest_only s.devices.journal.file.now.text file (subst (λ (d : Disk). MayLeave d file) stands.journal_rests may)
 
-  still_used : (one : List Release) → IsOf story tried one → (r : Release) → In r one → IsSure s.devices.ledger.file (leaf r)
+  still_used : (one : List Release) → IsOf story tried one → (r : Release) → In r one → IsSure (ledger_at 0 s.devices).file (leaf r)
   still_used one (inl same) r i = after.used r (in_either tried (subst (λ (l : List Release). In r l) same i))
     where
       in_either : (some : Option Release) → In r story → In r (with_tried some story)
@@ -182,7 +184,7 @@ module _ (o : Owner) (InTurn : Type 0) (story : List Release) (tried : Option Re
       lies = f.lies;
       own = record {
         user = opens.user;
-        secret = opens.secret;
+        secrets = opens.secrets;
         stands = λ _. record { none_tried = refl; number = f.number; last = f.last; text = f.text; phase = inl f.phase };
       };
       released = λ a i. elim (in-append a (found_text s.text) texts i) [

@@ -1,6 +1,6 @@
 -- What holds after a certificate is declared, and after a structure is signed.
-use Rattle.std.proofs.Common.{◌≡◌, ℕ, ◌+◌, ◌<◌, List, [], ◌∷◌, ◌++◌, Option, Some, None, Ok, Err, IfSome, refl, sym, ap, ◌∙◌, subst, inl, inr}
-use Rattle.std.specs.Prelude.{◌⊎◌}
+use Rattle.std.proofs.Common.{◌≡◌, ◌+◌, ◌<◌, List, ◌∷◌, ◌++◌, Option, Some, None, Ok, Err, IfSome, refl, sym, ap, ◌∙◌, subst, inl, inr}
+use Rattle.std.specs.Prelude.{◌⊎◌, slice_index_or}
 use Rattle.layout.specs.Types.{Bytes}
 use Rattle.lms_sign.specs.Secret.{Secret}
 use Rattle.lms_sign.specs.Signature.{signature_of}
@@ -14,13 +14,12 @@ use Rattle.pending_list.specs.declared.signed.Signed.{Signed}
 use Rattle.client_releases.specs.declared.error.ClientError.{ClientError}
 use Rattle.client_releases.specs.declared.phase.Phase.{Phase}
 use Rattle.client_releases.specs.declared.phase.Phase.TheVariants as phase
-use Rattle.client_releases.specs.Releasing.{IsTried, cert_record, structure_record}
+use Rattle.client_releases.specs.Releasing.{IsTried, cert_record, ledger_at, no_secret, structure_record, under}
 use Rattle.client_releases.specs.Told.{IsPhase, Released, sent}
-use Rattle.release_runs.specs.Steps.{Call, Client, Declares, HasDeclared, HasSigned, Open, Owner, Signs, failed}
+use Rattle.release_runs.specs.Steps.{Declares, HasDeclared, HasSigned, Open, Owner, Signs, failed}
 use Rattle.release_runs.proofs.Files.{Lies, fresh_leaf, lies_on, lies_tried, lies_with, with_tried}
 use Rattle.release_runs.proofs.Holds.{Holds, HoldsAfter, IsAt, numbered_older}
-use Rattle.release_runs.proofs.Members.{In}
-use Rattle.release_runs.proofs.Stories.{IsAfter, IsNumbered, OfCert, OfStructure, Release, last_in, number_in, phase_in, record_of, text, text_in}
+use Rattle.release_runs.proofs.Stories.{IsAfter, IsNumbered, OfCert, OfStructure, Release, phase_in, record_of, text}
 
 -- a client that is idle declares nothing
 not_declared : (told now : Phase) → IsPhase told now → now ≡ phase.Idle → told ≡ phase.Declared → ⊥
@@ -41,21 +40,21 @@ abbrev pub IsTriedStructure : Structure → Option Release → Type 0
 IsTriedStructure z some = (some ≡ None) ⊎ ((q : LeafNumber) × (some ≡ Some (OfStructure z q)))
 
 module _ (o : Owner) (InTurn : Type 0) (story : List Release) (tried : Option Release) (texts : List Bytes) (s : Released) (h : Holds o InTurn story tried (Open s) texts) where
-  lies_none : tried ≡ None → Lies o story None s.devices.ledger.file s.devices.journal.file
-  lies_none none = subst (λ (t : Option Release). Lies o story t s.devices.ledger.file s.devices.journal.file) none h.lies
+  lies_none : tried ≡ None → Lies o story None (ledger_at 0 s.devices).file s.devices.journal.file
+  lies_none none = subst (λ (t : Option Release). Lies o story t (ledger_at 0 s.devices).file s.devices.journal.file) none h.lies
 
   story_numbered : InTurn → IsNumbered story
   story_numbered t = numbered_older story tried (h.numbered t)
 
   -- a text that was signed by the client is one signed by its owner
-  same_sent : (m : Bytes) (q : LeafNumber) → sent s q m ≡ m ++ signature_of o.secret q m
-  same_sent m q = ap (λ (k : Secret). m ++ signature_of k q m) h.own.secret
+  same_sent : (m : Bytes) (q : LeafNumber) → sent s 0 q m ≡ m ++ signature_of o.secret q m
+  same_sent m q = ap (λ (l : List Secret). m ++ signature_of (slice_index_or l 0 no_secret) q m) h.own.secrets
 
   -- ---- a device fails
 
   module _ (new : Released) (is : new ≡ failed new.devices s) where
     -- a call that released nothing, and after which no client stands
-    fails : (some : Option Release) (Now : Type 0) → IfSome some (IsAfter o story) → (Now → IsNumbered (with_tried some story)) → Lies o story some new.devices.ledger.file new.devices.journal.file → Holds o Now story some (Open new) texts
+    fails : (some : Option Release) (Now : Type 0) → IfSome some (IsAfter o story) → (Now → IsNumbered (with_tried some story)) → Lies o story some (ledger_at 0 new.devices).file new.devices.journal.file → Holds o Now story some (Open new) texts
     fails some Now is_tried numbered lies = record {
       is_story = h.is_story;
       is_tried = is_tried;
@@ -63,7 +62,7 @@ module _ (o : Owner) (InTurn : Type 0) (story : List Release) (tried : Option Re
       lies = lies;
       own = record {
         user = ap (λ (r : Released). r.user) is ∙ h.own.user;
-        secret = ap (λ (r : Released). r.secret) is ∙ h.own.secret;
+        secrets = ap (λ (r : Released). r.secrets) is ∙ h.own.secrets;
         stands = λ up. absurd (up (ap (λ (r : Released). r.phase) is));
       };
       released = h.released;
@@ -77,14 +76,14 @@ module _ (o : Owner) (InTurn : Type 0) (story : List Release) (tried : Option Re
       at_idle : IsAt o story tried s
       at_idle = h.own.stands (λ down. let two : phase.Idle ≡ phase.Failed = sym idle ∙ down in cc two)
 
-      cert_is : (q : LeafNumber) → cert_record (sent s q (cert.spell c)) ≡ record_of o (OfCert c q)
+      cert_is : (q : LeafNumber) → cert_record (sent s 0 q (cert.spell c)) ≡ record_of o (OfCert c q)
       cert_is q = ap cert_record (same_sent (cert.spell c) q)
 
-      cert_after : (q : LeafNumber) → q < 1024 → cert.Fits c → c.user ≡ s.user → Handed (Some q) s.devices.ledger.file new.devices.ledger.file → IsAfter o story (OfCert c q)
+      cert_after : (q : LeafNumber) → q < 1024 → cert.Fits c → c.user ≡ s.user → Handed (Some q) (ledger_at 0 s.devices).file (ledger_at 0 new.devices).file → IsAfter o story (OfCert c q)
       cert_after q small fits user taken = record {
         next = record { turn = not_declared (phase_in story) s.phase at_idle.phase idle; fits = fits; user = user ∙ h.own.user };
         small = small;
-        fresh = fresh_leaf o story s.devices.ledger.file s.devices.journal.file new.devices.ledger.file q (lies_none at_idle.none_tried) taken;
+        fresh = fresh_leaf o story (ledger_at 0 s.devices).file s.devices.journal.file (ledger_at 0 new.devices).file q (lies_none at_idle.none_tried) taken;
       }
 
       cert_numbered : (q : LeafNumber) → c.number ≡ s.number + 1 → InTurn → IsNumbered (OfCert c q ∷ story)
@@ -104,11 +103,11 @@ module _ (o : Owner) (InTurn : Type 0) (story : List Release) (tried : Option Re
             is_tried = tt;
             numbered = λ t. cert_numbered b.idle q t.0 t.1;
             lies =
-                lies_with o story r s.devices.ledger.file s.devices.journal.file new.devices.ledger.file new.devices.journal.file (lies_none at.none_tried) kept.taken
+                lies_with o story r (ledger_at 0 s.devices).file s.devices.journal.file (ledger_at 0 new.devices).file new.devices.journal.file (lies_none at.none_tried) kept.taken
                 (subst (λ (x : Record). Added (Appended x) s.devices.journal.file new.devices.journal.file) (cert_is b.idle q) kept.added);
             own = record {
               user = ap (λ (n : Released). n.user) is ∙ h.own.user;
-              secret = ap (λ (n : Released). n.secret) is ∙ h.own.secret;
+              secrets = ap (λ (n : Released). n.secrets) is ∙ h.own.secrets;
               stands = λ up. record {
                 none_tried = refl;
                 number = ap (λ (n : Released). n.number) is;
@@ -128,19 +127,19 @@ module _ (o : Owner) (InTurn : Type 0) (story : List Release) (tried : Option Re
         at : IsAt o story tried s
         at = at_idle b.idle
 
-        go : IsTried (λ q. cert_record (sent s q (cert.spell c))) s.devices new.devices → (some : Option Release) × IsTriedCert c some × HoldsAfter o InTurn story some (Open s) texts (Declares c (Err e)) (Open new)
+        go : IsTried (λ q. cert_record (sent s 0 q (cert.spell c))) (under 0 s.devices) (under 0 new.devices) → (some : Option Release) × IsTriedCert c some × HoldsAfter o InTurn story some (Open s) texts (Declares c (Err e)) (Open new)
         go (inl none) = (
           None,
           inl refl,
           fails new b.err None ((c.number ≡ s.number + 1) × InTurn) tt (λ t. story_numbered t.1)
-              (lies_on o story None s.devices.ledger.file s.devices.journal.file new.devices.ledger.file new.devices.journal.file (lies_none at.none_tried) none.0 none.1),
+              (lies_on o story None (ledger_at 0 s.devices).file s.devices.journal.file (ledger_at 0 new.devices).file new.devices.journal.file (lies_none at.none_tried) none.0 none.1),
         )
         go (inr (q, least, taken, added)) = (
           Some (OfCert c q),
           inr (q, refl),
           fails new b.err (Some (OfCert c q)) ((c.number ≡ s.number + 1) × InTurn)
               (cert_after b.idle q least.below b.fits b.user taken) (λ t. cert_numbered b.idle q t.0 t.1)
-              (lies_tried o story (OfCert c q) s.devices.ledger.file s.devices.journal.file new.devices.ledger.file new.devices.journal.file (lies_none at.none_tried) taken
+              (lies_tried o story (OfCert c q) (ledger_at 0 s.devices).file s.devices.journal.file (ledger_at 0 new.devices).file new.devices.journal.file (lies_none at.none_tried) taken
               (subst (λ (x : Record). Added (Tried x) s.devices.journal.file new.devices.journal.file) (cert_is b.idle q) added)),
         )
 
@@ -151,10 +150,10 @@ module _ (o : Owner) (InTurn : Type 0) (story : List Release) (tried : Option Re
       at_declared : IsAt o story tried s
       at_declared = h.own.stands (λ down. let two : phase.Declared ≡ phase.Failed = sym declared ∙ down in cc two)
 
-      structure_is : (q : LeafNumber) → structure_record (sent s q (structure.spell z)) ≡ record_of o (OfStructure z q)
+      structure_is : (q : LeafNumber) → structure_record (sent s 0 q (structure.spell z)) ≡ record_of o (OfStructure z q)
       structure_is q = ap structure_record (same_sent (structure.spell z) q)
 
-      structure_after : (q : LeafNumber) → q < 1024 → structure.Fits z → z.plan.user ≡ s.user → z.plan.number ≡ s.number → Handed (Some q) s.devices.ledger.file new.devices.ledger.file → IsAfter o story (OfStructure z q)
+      structure_after : (q : LeafNumber) → q < 1024 → structure.Fits z → z.plan.user ≡ s.user → z.plan.number ≡ s.number → Handed (Some q) (ledger_at 0 s.devices).file (ledger_at 0 new.devices).file → IsAfter o story (OfStructure z q)
       structure_after q small fits user number taken = record {
         next = record {
           turn = is_declared (phase_in story) s.phase at_declared.phase declared;
@@ -163,7 +162,7 @@ module _ (o : Owner) (InTurn : Type 0) (story : List Release) (tried : Option Re
           number = number ∙ at_declared.number;
         };
         small = small;
-        fresh = fresh_leaf o story s.devices.ledger.file s.devices.journal.file new.devices.ledger.file q (lies_none at_declared.none_tried) taken;
+        fresh = fresh_leaf o story (ledger_at 0 s.devices).file s.devices.journal.file (ledger_at 0 new.devices).file q (lies_none at_declared.none_tried) taken;
       }
 
     pub signs : (answer : Bytes) → HasSigned s z (Ok answer) new → (q : LeafNumber) × HoldsAfter o InTurn (OfStructure z q ∷ story) None (Open s) texts (Signs z (Ok answer)) (Open new)
@@ -180,18 +179,18 @@ module _ (o : Owner) (InTurn : Type 0) (story : List Release) (tried : Option Re
             is_tried = tt;
             numbered = λ t. story_numbered t.1;
             lies =
-                lies_with o story r s.devices.ledger.file s.devices.journal.file new.devices.ledger.file new.devices.journal.file (lies_none at.none_tried) kept.taken
+                lies_with o story r (ledger_at 0 s.devices).file s.devices.journal.file (ledger_at 0 new.devices).file new.devices.journal.file (lies_none at.none_tried) kept.taken
                 (subst (λ (x : Record). Added (Appended x) s.devices.journal.file new.devices.journal.file) (structure_is b.declared q) kept.added);
             own = record {
               user = ap (λ (n : Released). n.user) is ∙ h.own.user;
-              secret = ap (λ (n : Released). n.secret) is ∙ h.own.secret;
+              secrets = ap (λ (n : Released). n.secrets) is ∙ h.own.secrets;
               stands = λ up. record {
                 none_tried = refl;
                 number = ap (λ (n : Released). n.number) is ∙ at.number;
                 last =
                     ap (λ (n : Released). n.last) is
                     ∙ ap (λ (g : Bytes). let last : Option (Signed Structure) = Some (record { value = z; signature = g }) in last)
-                    (ap (λ (k : Secret). signature_of k q (structure.spell z)) h.own.secret);
+                    (ap (λ (l : List Secret). signature_of (slice_index_or l 0 no_secret) q (structure.spell z)) h.own.secrets);
                 text = ap (λ (n : Released). n.text) is ∙ same_sent (structure.spell z) q;
                 phase = inl (ap (λ (n : Released). n.phase) is);
               };
@@ -207,18 +206,18 @@ module _ (o : Owner) (InTurn : Type 0) (story : List Release) (tried : Option Re
         at : IsAt o story tried s
         at = at_declared b.declared
 
-        go : IsTried (λ q. structure_record (sent s q (structure.spell z))) s.devices new.devices → (some : Option Release) × IsTriedStructure z some × HoldsAfter o InTurn story some (Open s) texts (Signs z (Err e)) (Open new)
+        go : IsTried (λ q. structure_record (sent s 0 q (structure.spell z))) (under 0 s.devices) (under 0 new.devices) → (some : Option Release) × IsTriedStructure z some × HoldsAfter o InTurn story some (Open s) texts (Signs z (Err e)) (Open new)
         go (inl none) = (
           None,
           inl refl,
           fails new b.err None (Unit {0} × InTurn) tt (λ t. story_numbered t.1)
-              (lies_on o story None s.devices.ledger.file s.devices.journal.file new.devices.ledger.file new.devices.journal.file (lies_none at.none_tried) none.0 none.1),
+              (lies_on o story None (ledger_at 0 s.devices).file s.devices.journal.file (ledger_at 0 new.devices).file new.devices.journal.file (lies_none at.none_tried) none.0 none.1),
         )
         go (inr (q, least, taken, added)) = (
           Some (OfStructure z q),
           inr (q, refl),
           fails new b.err (Some (OfStructure z q)) (Unit {0} × InTurn)
               (structure_after b.declared q least.below b.fits b.user b.number taken) (λ t. story_numbered t.1)
-              (lies_tried o story (OfStructure z q) s.devices.ledger.file s.devices.journal.file new.devices.ledger.file new.devices.journal.file (lies_none at.none_tried) taken
+              (lies_tried o story (OfStructure z q) (ledger_at 0 s.devices).file s.devices.journal.file (ledger_at 0 new.devices).file new.devices.journal.file (lies_none at.none_tried) taken
               (subst (λ (x : Record). Added (Tried x) s.devices.journal.file new.devices.journal.file) (structure_is b.declared q) added)),
         )

@@ -1,24 +1,23 @@
 -- What holds after each run, and the laws.
-use Rattle.std.proofs.Common.{◌≡◌, ℕ, ◌<◌, List, [], ◌∷◌, ◌++◌, length, Option, Some, None, Ok, Err, refl, sym, ap, ◌∙◌, subst, inl, inr, arith}
+use Rattle.std.proofs.Common.{◌≡◌, List, [], ◌∷◌, ◌++◌, Option, None, Ok, Err, refl, sym, ap, ◌∙◌, subst, inl, arith}
 use Rattle.layout.specs.Types.{Bytes}
 use Rattle.leaf_ledger.specs.Device.{started}
 use Rattle.client_journal.specs.Life.{IsPossible}
 use Rattle.client_journal.specs.Records.{Tells}
 use Rattle.version_order.specs.Structure.{Structure}
 use Rattle.update_cert.specs.Cert.{Cert}
-use Rattle.pending_list.specs.declared.signed.Signed.{Signed}
 use Rattle.client_releases.specs.Told.{cert_in, structure_in}
-use Rattle.release_runs.specs.Steps.{Call, Client, Closed, Closes, Commits, Crashes, Declares, IsHandedBack, IsLeft, IsSound, IsStep, Open, Opens, Owner, Parts, Signs, first, journal_of, ledger_of}
+use Rattle.release_runs.specs.Steps.{Call, Client, Closed, Closes, Commits, Crashes, Declares, IsLeft, IsSound, IsStep, Open, Opens, Owner, Parts, Signs, first, journal_of, ledger_of}
 use Rattle.release_runs.specs.Runs.{AreInTurn, Event, IsInTurn, IsRun, client_of}
 use Rattle.release_runs.specs.Released.{leaf_in, released, released_by}
 use Rattle.release_runs.specs.UsedOnce.{CertificatesOnce, EachRun, LeavesOnce, StructuresOnce}
-use Rattle.release_runs.proofs.Files.{Lies, TellsOne, lies_left, lies_on, only_this}
+use Rattle.release_runs.proofs.Files.{Lies, lies_left, lies_on, only_this}
 use Rattle.release_runs.proofs.Holds.{Holds, closes, commits, numbered_older}
 use Rattle.release_runs.proofs.Members.{In, contains_in}
 use Rattle.release_runs.proofs.Once.{came, leaf_told, of_cert, of_structure, one_cert, one_leaf, one_structure, small_leaf}
 use Rattle.release_runs.proofs.Opening.{opened_holds}
 use Rattle.release_runs.proofs.Releasing.{declare_fails, declares, sign_fails, signs}
-use Rattle.release_runs.proofs.Stories.{IsNumbered, OfCert, OfStructure, Release, leaf, records, text}
+use Rattle.release_runs.proofs.Stories.{OfCert, OfStructure, Release, leaf, text}
 
 module _ (o : Owner) where
   -- ---- the beginning
@@ -66,7 +65,7 @@ module _ (o : Owner) where
     step (Closed p) (Opens (Err e)) (Closed q) h is sound = record {
       story = story;
       tried = tried;
-      held = closes o InTurn (Unit {0} × InTurn) story tried texts (λ t. t.1) (Closed p) q h (lies_on o story tried p.ledger p.journal q.ledger q.journal h.lies is.leaves is.records);
+      held = closes o InTurn (Unit {0} × InTurn) story tried texts (λ t. t.1) (Closed p) q h (lies_on o story tried p.ledger p.journal q.ledger q.journal h.lies is.ledgers.0.leaves is.records);
     }
     step (Closed p) Crashes (Closed q) h is sound =
         record { story = story; tried = tried; held = closes o InTurn (Unit {0} × InTurn) story tried texts (λ t. t.1) (Closed p) q h (left story tried (Closed p) h.lies q is) }

@@ -3,7 +3,7 @@
 --
 -- A crash inside a call is a call whose device fails, and then a crash: whatever part of the call was done by then is
 -- one that a device may have done that fails there.
-use Rattle.std.specs.Prelude.{◌≡◌, [], Some, IfOk, OnOk, OnErr, Result, Ok, Err}
+use Rattle.std.specs.Prelude.{◌≡◌, [], ◌∷◌, map, Some, IfOk, OnOk, OnErr, Result, Ok, Err}
 use Rattle.layout.specs.Types.{Bytes, User}
 use Rattle.lms_sign.specs.Secret.{Secret}
 use Rattle.leaf_ledger.specs.Device.{History, MayLeave, started}
@@ -12,12 +12,13 @@ use Rattle.version_order.specs.Structure.{Structure, structure}
 use Rattle.update_cert.specs.Cert.{Cert, cert}
 use Rattle.client_releases.specs.declared.error.ClientError.{ClientError}
 use Rattle.client_releases.specs.declared.phase.Phase.TheVariants as phase
-use Rattle.client_releases.specs.Releasing.{Devices, IsKept, IsOpening, IsTried, cert_record, structure_record}
-use Rattle.client_releases.specs.Told.{IsReleased, IsToldBy, Released, sent, signed_by}
+use Rattle.client_releases.specs.Releasing.{IsKept, IsOpening, IsTried, OwnDevices, cert_record, ledger_at, structure_record}
+use Rattle.client_releases.specs.Releasing.{under}
+use Rattle.client_releases.specs.Told.{IsReleased, IsToldBy, Released, secret_at, sent, signed_by}
 
 -- ---- clients
 
--- the devices of a client: the ledger's and the journal's
+-- the devices of a client with one key: its ledger's and the journal's
 pub record Parts : Type 0 where
   pub ledger : History
   pub journal : History
@@ -34,13 +35,13 @@ first = Closed (record { ledger = started []; journal = started [] })
 -- the file of the ledger, and that of the journal
 abbrev pub ledger_of : Client → History
 ledger_of (Closed p) = p.ledger
-ledger_of (Open s) = s.devices.ledger.file
+ledger_of (Open s) = (ledger_at 0 s.devices).file
 
 abbrev pub journal_of : Client → History
 journal_of (Closed p) = p.journal
 journal_of (Open s) = s.devices.journal.file
 
--- whose client it is, and what the own key is made of
+-- whose client it is, and what its one key is made of
 pub record Owner : Type 0 where
   pub user : User
   pub secret : Secret
@@ -58,31 +59,31 @@ pub data Call : Type 0 where
 
 pub record IsOpened (o : Owner) (p : Parts) (new : Released) : Type 0 where
   pub user : new.user ≡ o.user
-  pub secret : new.secret ≡ o.secret
+  pub secrets : new.secrets ≡ o.secret ∷ []
   pub told : IsToldBy p.journal.now.text new
-  pub moments : IsOpening p.ledger p.journal new.devices.ledger.file new.devices.journal.file
+  pub moments : IsOpening (p.ledger ∷ []) p.journal (map (λ l. l.file) new.devices.ledgers) new.devices.journal.file
 
 pub record IsHandedBack (s : Released) (p : Parts) : Type 0 where
-  pub ledger : p.ledger ≡ s.devices.ledger.file
+  pub ledger : p.ledger ≡ (ledger_at 0 s.devices).file
   pub journal : p.journal ≡ s.devices.journal.file
 
 -- what is released once a certificate is declared by this leaf
-abbrev pub with_cert : Devices → Released → LeafNumber → Cert → Released
+abbrev pub with_cert : OwnDevices → Released → LeafNumber → Cert → Released
 with_cert devices s leaf c =
-    record s { devices = devices; number = c.number; phase = phase.Declared; text = sent s leaf (cert.spell c) }
+    record s { devices = devices; number = c.number; phase = phase.Declared; text = sent s 0 leaf (cert.spell c) }
 
 -- and once a structure is signed by it
-abbrev pub with_structure : Devices → Released → LeafNumber → Structure → Released
+abbrev pub with_structure : OwnDevices → Released → LeafNumber → Structure → Released
 with_structure devices s leaf z =
     record s {
       devices = devices;
-      last = Some (signed_by s.secret leaf z);
+      last = Some (signed_by (secret_at 0 s) leaf z);
       phase = phase.Signed;
-      text = sent s leaf (structure.spell z);
+      text = sent s 0 leaf (structure.spell z);
     }
 
 -- what stays released when a device fails
-abbrev pub failed : Devices → Released → Released
+abbrev pub failed : OwnDevices → Released → Released
 failed devices s = record s { devices = devices; phase = phase.Failed }
 
 pub record HasDeclared (s : Released) (c : Cert) (answer : Result Bytes ClientError) (new : Released) : Type 0 where
@@ -90,10 +91,11 @@ pub record HasDeclared (s : Released) (c : Cert) (answer : Result Bytes ClientEr
   pub fits : cert.Fits c
   pub user : c.user ≡ s.user
   pub declared : OnOk answer ((leaf : LeafNumber)
-      × IsKept leaf (cert_record (sent s leaf (cert.spell c))) s.devices new.devices
+      × IsKept leaf (cert_record (sent s 0 leaf (cert.spell c))) (under 0 s.devices) (under 0 new.devices)
       × (new ≡ with_cert new.devices s leaf c))
   pub text : IfOk answer (λ text. text ≡ new.text)
-  pub tried : OnErr answer (IsTried (λ leaf. cert_record (sent s leaf (cert.spell c))) s.devices new.devices)
+  pub tried : OnErr answer (IsTried (λ leaf. cert_record (sent s 0 leaf (cert.spell c))) (under 0 s.devices)
+      (under 0 new.devices))
   pub err : OnErr answer (new ≡ failed new.devices s)
 
 pub record HasSigned (s : Released) (z : Structure) (answer : Result Bytes ClientError) (new : Released) : Type 0 where
@@ -102,10 +104,11 @@ pub record HasSigned (s : Released) (z : Structure) (answer : Result Bytes Clien
   pub user : z.plan.user ≡ s.user
   pub number : z.plan.number ≡ s.number
   pub signed : OnOk answer ((leaf : LeafNumber)
-      × IsKept leaf (structure_record (sent s leaf (structure.spell z))) s.devices new.devices
+      × IsKept leaf (structure_record (sent s 0 leaf (structure.spell z))) (under 0 s.devices) (under 0 new.devices)
       × (new ≡ with_structure new.devices s leaf z))
   pub text : IfOk answer (λ text. text ≡ new.text)
-  pub tried : OnErr answer (IsTried (λ leaf. structure_record (sent s leaf (structure.spell z))) s.devices new.devices)
+  pub tried : OnErr answer (IsTried (λ leaf. structure_record (sent s 0 leaf (structure.spell z))) (under 0 s.devices)
+      (under 0 new.devices))
   pub err : OnErr answer (new ≡ failed new.devices s)
 
 pub record HasCommitted (s new : Released) : Type 0 where
@@ -126,7 +129,7 @@ pub record IsLeft (before : Client) (p : Parts) : Type 0 where
 -- what comes of a closed client
 abbrev pub FromClosed : Owner → Parts → Call → Client → Type 0
 FromClosed o p (Opens (Ok x)) (Open s) = IsOpened o p s
-FromClosed o p (Opens (Err e)) (Closed q) = IsOpening p.ledger p.journal q.ledger q.journal
+FromClosed o p (Opens (Err e)) (Closed q) = IsOpening (p.ledger ∷ []) p.journal (q.ledger ∷ []) q.journal
 FromClosed o p Crashes (Closed q) = IsLeft (Closed p) q
 FromClosed o p call after = ⊥
 
