@@ -1,5 +1,6 @@
 -- What a client's releases do, seen from the client.
 use Rattle.std.proofs.Common.{◌≡◌, ◌≢◌, ℕ, ◌+◌, List, ◌++◌, length, Option, Some, None, Ok, Err, Bool, true, false, inl, inr, refl, sym, ap, subst, ◌<◌, ◌∙◌, length-append, arith}
+use Rattle.std.proofs.lemmas.List.{set-get_or}
 use Rattle.std.specs.Prelude.{◌↔◌, ◌⊎◌, Result, IfErr, IfSome, IsErrOf, IsSome, IsSomeAnd, OnErr, OnOk}
 use Rattle.layout.specs.Types.{Bytes, Digest}
 use Rattle.layout.specs.Format.{be}
@@ -19,8 +20,8 @@ use Rattle.principals.specs.Table.{Table}
 use Rattle.reply_rules.specs.Lists.{Lists}
 use Rattle.pending_list.specs.Reply.{digest_of_last}
 use Rattle.checked_blocks.specs.CheckedBlocks.{CheckedBlocks}
-use Rattle.client_releases.specs.Releasing.{AnyMoment, Devices, IsKept, IsTried, IsUsedUp, cert_record, structure_record}
-use Rattle.client_releases.specs.Told.{IsReleased, Released, Stands, sent, signed_by}
+use Rattle.client_releases.specs.Releasing.{AnyMoment, IsKept, IsTried, OthersStay, OwnDevices, cert_record, ledger_at, no_ledger, structure_record, under}
+use Rattle.client_releases.specs.Told.{HasKey, IsKeyUsedUp, IsReleased, Released, Stands, secret_at, sent, signed_by}
 use Rattle.client_releases.specs.declared.error.ClientError.{ClientError}
 use Rattle.client_releases.specs.declared.error.ClientError.TheVariants as error
 use Rattle.client_releases.specs.declared.phase.Phase.{Phase}
@@ -37,7 +38,7 @@ use Rattle.reply_check.proofs.VerifiedLaws.{seals}
 abbrev pub client_over : Released → List ℕ → CheckedBlocks → Option Checked → Option Ready → Option AcceptedView → State
 client_over r pinned blocks checked accepted view = record {
   user = r.user;
-  secret = r.secret;
+  secrets = r.secrets;
   pinned = pinned;
   devices = r.devices;
   number = r.number;
@@ -115,9 +116,9 @@ always None P each = tt
 always (Some a) P each = each a
 
 -- where a leaf can be used the key isn't used up
-pub no_full : (r s : Released) (free : Bool) → r ≡ s → ((free ≡ false) ↔ IsUsedUp r.secret r.devices.ledger) → free ≡ true → IsUsedUp s.secret s.devices.ledger → ⊥
+pub no_full : (r s : Released) (free : Bool) → r ≡ s → ((free ≡ false) ↔ IsKeyUsedUp 0 r) → free ≡ true → IsKeyUsedUp 0 s → ⊥
 no_full r s free is told has full =
-    let none : free ≡ false = told.1 (subst (λ (o : Released). IsUsedUp o.secret o.devices.ledger) (sym is) full) in
+    let none : free ≡ false = told.1 (subst (λ (o : Released). IsKeyUsedUp 0 o) (sym is) full) in
     let two : true ≡ false = sym has ∙ none in
     cc two
 
@@ -133,13 +134,18 @@ stands_ready r None held of some = absurd (cc some)
 stands_ready r (Some y) held of some = stands_in r phase.Declared held of.is_declared (λ two. cc two)
 
 -- the devices of a client that stands, at rest
-pub refused_moments : (r : Released) (s new : State) → r ≡ released s → Stands r → new ≡ s → (record_by : LeafNumber → Record) (leaf : LeafNumber) → AnyMoment leaf (record_by leaf) s.devices new.devices
-refused_moments r s new is stands same record_by leaf =
-    let here = untouched leaf (record_by leaf) r.devices stands.ledger_rests stands.own_file stands.journal_rests in
-    subst (λ (n : State). AnyMoment leaf (record_by leaf) s.devices n.devices) (sym same) (subst (λ (o : Released). AnyMoment leaf (record_by leaf) o.devices o.devices) is here)
+pub refused_moments : (r : Released) (s new : State) → r ≡ released s → HasKey 0 r → Stands r → new ≡ s → (record_by : LeafNumber → Record) (leaf : LeafNumber) → AnyMoment leaf (record_by leaf) (under 0 s.devices) (under 0 new.devices)
+refused_moments r s new is has stands same record_by leaf =
+    let ready = stands.ledgers 0 has in
+    let here = untouched leaf (record_by leaf) (under 0 r.devices) ready.rests ready.own_file stands.journal_rests in
+    subst (λ (n : State). AnyMoment leaf (record_by leaf) (under 0 s.devices) (under 0 n.devices)) (sym same) (subst (λ (o : Released). AnyMoment leaf (record_by leaf) (under 0 o.devices) (under 0 o.devices)) is here)
 
-pub refused_tried : (s new : State) → new ≡ s → (record_by : LeafNumber → Record) → IsTried record_by s.devices new.devices
-refused_tried s new same record_by = subst (λ (n : State). IsTried record_by s.devices n.devices) (sym same) (none_tried record_by s.devices)
+pub refused_tried : (s new : State) → new ≡ s → (record_by : LeafNumber → Record) → IsTried record_by (under 0 s.devices) (under 0 new.devices)
+refused_tried s new same record_by = subst (λ (n : State). IsTried record_by (under 0 s.devices) (under 0 n.devices)) (sym same) (none_tried record_by (under 0 s.devices))
+
+-- no ledger was used
+pub none_used : (s new : State) → new ≡ s → OthersStay 0 s.devices new.devices
+none_used s new same = subst (λ (n : State). OthersStay 0 s.devices n.devices) (sym same) (sym (set-get_or s.devices.ledgers 0 no_ledger))
 
 -- ---- a text was released, or tried
 
@@ -151,7 +157,7 @@ over_is : (r s : Released) (pinned other : List ℕ) (blocks held : CheckedBlock
     → client_over r pinned blocks checked accepted view ≡ client_over s other held checked ready shown
 over_is r s pinned other blocks held checked accepted ready view shown is key same same_ready same_view = rw (is, key, same, same_ready, same_view) refl
 
-declared_is : (r s : Released) (d : Devices) (n m : ℕ) (unsigned text : Bytes) (leaf : LeafNumber) → r ≡ s → n ≡ m → unsigned ≡ text → declared_with r d n (sent r leaf unsigned) ≡ declared_with s d m (sent s leaf text)
+declared_is : (r s : Released) (d : OwnDevices) (n m : ℕ) (unsigned text : Bytes) (leaf : LeafNumber) → r ≡ s → n ≡ m → unsigned ≡ text → declared_with r d n (sent r 0 leaf unsigned) ≡ declared_with s d m (sent s 0 leaf text)
 declared_is r s d n m unsigned text leaf is number same = rw (is, number, same) refl
 
 -- a client after it declared: what it released before stands in the state before, whatever it knows of blocks by then
@@ -159,11 +165,11 @@ module _ (r new : Released) (s : State) (pinned : List ℕ) (blocks : CheckedBlo
   pub of_released : r ≡ released s
   of_released = ap released is
 
-  pub begun : (changes : List (Change Digest)) (unsigned : Bytes) (n : ℕ) (leaf : LeafNumber) → unsigned ≡ cert.spell (next_cert s changes) → n ≡ s.number + 1 → IsKept leaf (cert_record (sent r leaf unsigned)) r.devices new.devices → new ≡ declared_with r new.devices n (sent r leaf unsigned)
-      → (k : LeafNumber) × IsKept k (cert_record (declared_text s k changes)) s.devices new.devices × (client_over new pinned blocks None None view ≡ over blocks (on new.devices (declared s k changes)))
+  pub begun : (changes : List (Change Digest)) (unsigned : Bytes) (n : ℕ) (leaf : LeafNumber) → unsigned ≡ cert.spell (next_cert s changes) → n ≡ s.number + 1 → IsKept leaf (cert_record (sent r 0 leaf unsigned)) (under 0 r.devices) (under 0 new.devices) → new ≡ declared_with r new.devices n (sent r 0 leaf unsigned)
+      → (k : LeafNumber) × IsKept k (cert_record (declared_text s k changes)) (under 0 s.devices) (under 0 new.devices) × (client_over new pinned blocks None None view ≡ over blocks (on new.devices (declared s k changes)))
   begun changes unsigned n leaf text number kept made = (
     leaf,
-    seen (λ (o : Released) (t : Bytes). IsKept leaf (cert_record (sent o leaf t)) o.devices new.devices) r (released s) unsigned _ of_released text kept,
+    seen (λ (o : Released) (t : Bytes). IsKept leaf (cert_record (sent o 0 leaf t)) (under 0 o.devices) (under 0 new.devices)) r (released s) unsigned _ of_released text kept,
     over_is new _ pinned s.pinned blocks blocks None None None view s.view (made ∙ declared_is r (released s) new.devices n (s.number + 1) unsigned _ leaf of_released number text) (ap (λ (o : State). o.pinned) is) refl refl (ap (λ (o : State). o.view) is),
   )
 
@@ -181,26 +187,26 @@ module _ (r new : Released) (s : State) (pinned : List ℕ) (blocks : CheckedBlo
       rw (same, of_table, of_lost, all) refl
 
   pub shown_is : (y : Ready) (leaf : LeafNumber) (z shown : Structure) (signature text : List ℕ) → z ≡ next_structure s y → shown ≡ z → new.last ≡ Some (record { value = z; signature = signature })
-      → new ≡ signed_with r new.devices (signed_by r.secret leaf z) text → with_signature shown signature ≡ signed_structure s leaf y
+      → new ≡ signed_with r new.devices (signed_by (secret_at 0 r) leaf z) text → with_signature shown signature ≡ signed_structure s leaf y
   shown_is y leaf z shown signature text next same last made =
-      let both : Some (with_signature z signature) ≡ Some (signed_by r.secret leaf z) = sym last ∙ ap (λ (o : Released). o.last) made in
-      let one : with_signature z signature ≡ signed_by r.secret leaf z = cc in
-      ap (λ (q : Structure). with_signature q signature) same ∙ one ∙ ap (λ (o : Released). signed_by o.secret leaf z) (ap released is) ∙ ap (λ (q : Structure). signed_by s.secret leaf q) next
+      let both : Some (with_signature z signature) ≡ Some (signed_by (secret_at 0 r) leaf z) = sym last ∙ ap (λ (o : Released). o.last) made in
+      let one : with_signature z signature ≡ signed_by (secret_at 0 r) leaf z = cc in
+      ap (λ (q : Structure). with_signature q signature) same ∙ one ∙ ap (λ (o : Released). signed_by (secret_at 0 o) leaf z) (ap released is) ∙ ap (λ (q : Structure). signed_by (secret_at 0 (released s)) leaf q) next
 
   signed_is : (y : Ready) (leaf : LeafNumber) (z : Structure) (unsigned : Bytes) → z ≡ next_structure s y → unsigned ≡ structure.spell z
-      → signed_with r new.devices (signed_by r.secret leaf z) (sent r leaf unsigned) ≡ signed_with (released s) new.devices (signed_structure s leaf y) (signed_text s leaf y)
+      → signed_with r new.devices (signed_by (secret_at 0 r) leaf z) (sent r 0 leaf unsigned) ≡ signed_with (released s) new.devices (signed_structure s leaf y) (signed_text s leaf y)
   signed_is y leaf z unsigned next spelled =
       let of_text : unsigned ≡ structure.spell (next_structure s y) = spelled ∙ ap structure.spell next in
-      ap (λ (o : Released). signed_with o new.devices (signed_by o.secret leaf z) (sent o leaf unsigned)) (ap released is)
-      ∙ ap (λ (q : Structure). signed_with (released s) new.devices (signed_by s.secret leaf q) (sent (released s) leaf unsigned)) next
-      ∙ ap (λ (t : Bytes). signed_with (released s) new.devices (signed_structure s leaf y) (sent (released s) leaf t)) of_text
+      ap (λ (o : Released). signed_with o new.devices (signed_by (secret_at 0 o) leaf z) (sent o 0 leaf unsigned)) (ap released is)
+      ∙ ap (λ (q : Structure). signed_with (released s) new.devices (signed_by (secret_at 0 (released s)) leaf q) (sent (released s) 0 leaf unsigned)) next
+      ∙ ap (λ (t : Bytes). signed_with (released s) new.devices (signed_structure s leaf y) (sent (released s) 0 leaf t)) of_text
 
-  pub signed_of : (after : CheckedBlocks) (y : Ready) (leaf : LeafNumber) (z : Structure) (unsigned : Bytes) (shown : Option AcceptedView) → z ≡ next_structure s y → unsigned ≡ structure.spell z → IsKept leaf (structure_record (sent r leaf unsigned)) r.devices new.devices
-      → new ≡ signed_with r new.devices (signed_by r.secret leaf z) (sent r leaf unsigned) → shown ≡ Some (view_of s leaf y)
-      → (k : LeafNumber) × IsKept k (structure_record (signed_text s k y)) s.devices new.devices × (client_over new pinned after None None shown ≡ over after (on new.devices (signed_over s k y)))
+  pub signed_of : (after : CheckedBlocks) (y : Ready) (leaf : LeafNumber) (z : Structure) (unsigned : Bytes) (shown : Option AcceptedView) → z ≡ next_structure s y → unsigned ≡ structure.spell z → IsKept leaf (structure_record (sent r 0 leaf unsigned)) (under 0 r.devices) (under 0 new.devices)
+      → new ≡ signed_with r new.devices (signed_by (secret_at 0 r) leaf z) (sent r 0 leaf unsigned) → shown ≡ Some (view_of s leaf y)
+      → (k : LeafNumber) × IsKept k (structure_record (signed_text s k y)) (under 0 s.devices) (under 0 new.devices) × (client_over new pinned after None None shown ≡ over after (on new.devices (signed_over s k y)))
   signed_of after y leaf z unsigned shown next spelled kept made seen_is = (
     leaf,
-    seen (λ (o : Released) (t : Bytes). IsKept leaf (structure_record (sent o leaf t)) o.devices new.devices) r (released s) unsigned _ (ap released is) (spelled ∙ ap structure.spell next) kept,
+    seen (λ (o : Released) (t : Bytes). IsKept leaf (structure_record (sent o 0 leaf t)) (under 0 o.devices) (under 0 new.devices)) r (released s) unsigned _ (ap released is) (spelled ∙ ap structure.spell next) kept,
     over_is new _ pinned s.pinned after after None None None shown (Some (view_of s leaf y)) (made ∙ signed_is y leaf z unsigned next spelled) (ap (λ (o : State). o.pinned) is) refl refl seen_is,
   )
 
@@ -225,24 +231,24 @@ id_size secret key is size =
     let all : length (lms_type ++ ots_type ++ id ++ node secret 10 1) ≡ 56 = sym (ap length is) ∙ size in
     omega (arith, all, four, also_four, node_size secret, length-append (lms_type ++ ots_type ++ id) (node secret 10 1), length-append (lms_type ++ ots_type) id, length-append lms_type ots_type)
 
-module _ (r : Released) (key : List ℕ) (is : key ≡ public_key_of r.secret) (size : length key ≡ 56) (leaf : LeafNumber) (small : leaf < 1024) (has : HasLeaf r.secret leaf) where
-  pub seals_sent : (unsigned : Bytes) → IsSealed (public_key_of r.secret) (sent r leaf unsigned)
+module _ (r : Released) (key : List ℕ) (is : key ≡ public_key_of (secret_at 0 r)) (size : length key ≡ 56) (leaf : LeafNumber) (small : leaf < 1024) (has : HasLeaf (secret_at 0 r) leaf) where
+  pub seals_sent : (unsigned : Bytes) → IsSealed (public_key_of (secret_at 0 r)) (sent r 0 leaf unsigned)
   seals_sent unsigned =
-      seals (public_key_of r.secret) unsigned (signature_of r.secret leaf unsigned) (length-signature r.secret unsigned leaf) (signed_valid r.secret unsigned leaf (id_size r.secret key is size) small has)
+      seals (public_key_of (secret_at 0 r)) unsigned (signature_of (secret_at 0 r) leaf unsigned) (length-signature (secret_at 0 r) unsigned leaf) (signed_valid (secret_at 0 r) unsigned leaf (id_size (secret_at 0 r) key is size) small has)
 
   -- after a certificate was declared, the last structure is as it was
-  pub own_begun : (new : Released) (n : ℕ) (unsigned : Bytes) → new ≡ declared_with r new.devices n (sent r leaf unsigned) → AreOwn (public_key_of r.secret) r.last r.text → AreOwn (public_key_of new.secret) new.last new.text
+  pub own_begun : (new : Released) (n : ℕ) (unsigned : Bytes) → new ≡ declared_with r new.devices n (sent r 0 leaf unsigned) → AreOwn (public_key_of (secret_at 0 r)) r.last r.text → AreOwn (public_key_of (secret_at 0 new)) new.last new.text
   own_begun new n unsigned made own =
-      subst (λ (o : Released). AreOwn (public_key_of o.secret) o.last o.text) (sym made) (record { structure = own.structure; sealed = seals_sent unsigned })
+      subst (λ (o : Released). AreOwn (public_key_of (secret_at 0 o)) o.last o.text) (sym made) (record { structure = own.structure; sealed = seals_sent unsigned })
 
-  pub own_signed : (new : Released) (z : Structure) (unsigned : Bytes) → new ≡ signed_with r new.devices (signed_by r.secret leaf z) (sent r leaf unsigned) → AreOwn (public_key_of new.secret) new.last new.text
+  pub own_signed : (new : Released) (z : Structure) (unsigned : Bytes) → new ≡ signed_with r new.devices (signed_by (secret_at 0 r) leaf z) (sent r 0 leaf unsigned) → AreOwn (public_key_of (secret_at 0 new)) new.last new.text
   own_signed new z unsigned made =
-      subst (λ (o : Released). AreOwn (public_key_of o.secret) o.last o.text) (sym made)
-      (record { structure = signed_valid r.secret (structure.spell z) leaf (id_size r.secret key is size) small has; sealed = seals_sent unsigned })
+      subst (λ (o : Released). AreOwn (public_key_of (secret_at 0 o)) o.last o.text) (sym made)
+      (record { structure = signed_valid (secret_at 0 r) (structure.spell z) leaf (id_size (secret_at 0 r) key is size) small has; sealed = seals_sent unsigned })
 
 -- after a device failed both are as they were
-pub own_failed : (r new : Released) → new ≡ failed_with r new.devices → AreOwn (public_key_of r.secret) r.last r.text → AreOwn (public_key_of new.secret) new.last new.text
-own_failed r new made own = subst (λ (o : Released). AreOwn (public_key_of o.secret) o.last o.text) (sym made) own
+pub own_failed : (r new : Released) → new ≡ failed_with r new.devices → AreOwn (public_key_of (secret_at 0 r)) r.last r.text → AreOwn (public_key_of (secret_at 0 new)) new.last new.text
+own_failed r new made own = subst (λ (o : Released). AreOwn (public_key_of (secret_at 0 o)) o.last o.text) (sym made) own
 
 -- what a certificate that comes next says fits, where its parts do
 pub fits_next : (s : State) (user number : ℕ) (last : Digest) (changes : List (Change Digest)) → user ≡ s.user → number ≡ s.number + 1 → last ≡ digest_of_last s.last → cert.Fits (record { user = user; number = number; last = last; changes = changes }) → cert.Fits (next_cert s changes)
@@ -254,10 +260,10 @@ fits_next s user number last changes of_user of_number of_last fits =
 -- ---- what is under way
 
 -- the own texts after a call that declared, or failed
-pub own_after : {T E : Type 0} (res : Result T E) (r new : Released) (key : List ℕ) (n : ℕ) (unsigned : Bytes) → key ≡ public_key_of r.secret → length key ≡ 56 → (IsUsedUp r.secret r.devices.ledger → ⊥)
-    → OnOk res ((leaf : LeafNumber) × IsKept leaf (cert_record (sent r leaf unsigned)) r.devices new.devices × (new ≡ declared_with r new.devices n (sent r leaf unsigned))) → OnErr res (new ≡ failed_with r new.devices)
-    → AreOwn (public_key_of r.secret) r.last r.text → AreOwn (public_key_of new.secret) new.last new.text
-own_after (Ok v) r new key n unsigned is size some done fault own = own_begun r key is size done.0 done.1.least.below (can_sign r.secret r.devices.ledger done.0 done.1.least some) new n unsigned done.2 own
+pub own_after : {T E : Type 0} (res : Result T E) (r new : Released) (key : List ℕ) (n : ℕ) (unsigned : Bytes) → key ≡ public_key_of (secret_at 0 r) → length key ≡ 56 → (IsKeyUsedUp 0 r → ⊥)
+    → OnOk res ((leaf : LeafNumber) × IsKept leaf (cert_record (sent r 0 leaf unsigned)) (under 0 r.devices) (under 0 new.devices) × (new ≡ declared_with r new.devices n (sent r 0 leaf unsigned))) → OnErr res (new ≡ failed_with r new.devices)
+    → AreOwn (public_key_of (secret_at 0 r)) r.last r.text → AreOwn (public_key_of (secret_at 0 new)) new.last new.text
+own_after (Ok v) r new key n unsigned is size some done fault own = own_begun r key is size done.0 done.1.least.below (can_sign (secret_at 0 r) (ledger_at 0 r.devices) done.0 done.1.least some) new n unsigned done.2 own
 own_after (Err e) r new key n unsigned is size some done fault own = own_failed r new fault own
 
 -- what is under check is a reply to the declared operation, as its callers see it or by its fields

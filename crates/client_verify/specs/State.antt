@@ -28,8 +28,8 @@ use Rattle.client_verify.specs.declared.view.Stage.{Stage as Held}
 use Rattle.client_verify.specs.declared.view.Stage.TheVariants as stage
 use Rattle.reply_check.specs.FirstBroken.{Known}
 use Rattle.reply_check.specs.Good.{Good, with_own}
-use Rattle.client_releases.specs.Releasing.{Devices}
-use Rattle.client_releases.specs.Told.{Released, sent, signed_by}
+use Rattle.client_releases.specs.Releasing.{OwnDevices}
+use Rattle.client_releases.specs.Told.{Released, secret_at, sent, signed_by}
 
 -- A reply that breaks none of the rules on itself, of which a block is asked for: one of the table of principals; or,
 -- once that is read and the lists break no rule by it, one that tells what the own operation makes.
@@ -66,12 +66,12 @@ pub record AcceptedView : Type 0 where
 
 pub record State : Type 0 where
   pub user : User
-  -- what the own key is made of
-  pub secret : Secret
+  -- what the own keys are made of, the first key first
+  pub secrets : List Secret
   -- user 0's public key
   pub pinned : Key
-  -- the leaves of the own key, and the signed texts that were released
-  pub devices : Devices
+  -- the leaves of the own keys, and the signed texts that were released
+  pub devices : OwnDevices
   -- what the records of the journal tell (client_releases/specs/Told.antt): the number of the operation that was
   -- declared last, 0 where none was; the structure that was signed last; how far the operation is, but for its commit;
   -- and the signed text that was released last, a certificate or a structure
@@ -92,11 +92,11 @@ pub record State : Type 0 where
 abbrev pub known : State → Known
 known s = record { user = s.user; pinned = s.pinned; last = s.last; declared = s.text }
 
--- a client of this user and key as it is opened: what it released, and the blocks of the beginning
+-- a client of this user and these keys as it is opened: what it released, and the blocks of the beginning
 abbrev pub opened : Key → Released → State
 opened pinned r = record {
   user = r.user;
-  secret = r.secret;
+  secrets = r.secrets;
   pinned = pinned;
   devices = r.devices;
   number = r.number;
@@ -114,7 +114,7 @@ abbrev pub released : State → Released
 released s =
     record {
       user = s.user;
-      secret = s.secret;
+      secrets = s.secrets;
       devices = s.devices;
       number = s.number;
       last = s.last;
@@ -123,7 +123,7 @@ released s =
     }
 
 -- the state with these devices
-abbrev pub on : Devices → State → State
+abbrev pub on : OwnDevices → State → State
 on devices s = record s { devices = devices }
 
 -- the state with these blocks
@@ -140,9 +140,9 @@ failed s = record s { phase = phase.Failed; checked = None; accepted = None }
 abbrev pub next_cert : State → List (Change Digest) → Cert
 next_cert s changes = record { user = s.user; number = s.number + 1; last = digest_of_last s.last; changes = changes }
 
--- the certificate of these changes that comes next, as it is sent, signed by this leaf
+-- the certificate of these changes that comes next, as it is sent, signed by this leaf of the first key
 abbrev pub declared_text : State → LeafNumber → List (Change Digest) → Bytes
-declared_text s leaf changes = sent (released s) leaf (cert.spell (next_cert s changes))
+declared_text s leaf changes = sent (released s) 0 leaf (cert.spell (next_cert s changes))
 
 -- the state after these changes are declared by this leaf
 abbrev pub declared : State → LeafNumber → List (Change Digest) → State
@@ -183,7 +183,7 @@ abbrev pub next_structure : State → Ready → Structure
 next_structure s r = structure_over r.handle r.records s.last r.lists.own.plan
 
 abbrev pub signed_structure : State → LeafNumber → Ready → Signed Structure
-signed_structure s leaf r = signed_by s.secret leaf (next_structure s r)
+signed_structure s leaf r = signed_by (secret_at 0 (released s)) leaf (next_structure s r)
 
 -- the structure over an accepted reply, as it is sent, signed by this leaf
 abbrev pub signed_text : State → LeafNumber → Ready → Bytes

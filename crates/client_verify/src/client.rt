@@ -2,25 +2,25 @@
 
 ghost use Rattle.std.specs.Prelude.{◌↔◌, ◌≡◌, ◌≢◌, ◌≤◌, ◌⊎◌, IfErr, IfOk, IsSome, IsSomeAnd, IsTrue, None, Some, []};
 ghost use Rattle.std.specs.Prelude.{false, true};
-ghost use Rattle.std.specs.Prelude.{◌<◌, ◌^◌, length};
+ghost use Rattle.std.specs.Prelude.{◌<◌, ◌^◌, length, map};
 ghost use Rattle.std.specs.Option.{option_map};
 ghost use Rattle.client_tree.specs.Genesis.{first_blocks};
 ghost use Rattle.checked_blocks.specs.CheckedBlocks.{at_first};
 
 use crate::view::{AcceptedView, Progress};
 use checked_blocks::CheckedBlocks;
-use client_releases::{ClientError, Parts, Phase, Releases};
+use client_releases::{ClientError, Keys, Parts, Phase, Releases};
 use client_tree::first_blocks;
 use layout::{Memory, User, let_go};
 use leaf_ledger::Device;
-use lms_sign::{PrivateKey, PublicKey};
+use lms_sign::PublicKey;
 use pending_list::Signed;
 use principals::Table;
 use std::alloc::Allocator;
 use std::marker::Model;
 use version_order::Structure;
 
-/// A client of one user, over a ledger of its key's leaves and a journal of what it released.
+/// A client of one user, over ledgers of its keys' leaves and a journal of what it released.
 ///
 /// A key has one ledger file, and a user one journal. One that is dropped is as after a crash.
 #[derive(Drop)]
@@ -28,7 +28,7 @@ pub struct Client<L: Device, J: Device, A: Allocator> {
     pub(crate) alloc: A,
     pub(crate) pinned: PublicKey,
     pub(crate) releases: Releases<L, J, A>,
-    // Whether it is known that the own key signed the last structure and the last text. It isn't of those that a
+    // Whether it is known that the own first key signed the last structure and the last text. It isn't of those that a
     // journal tells.
     pub(crate) is_own: bool,
     pub(crate) blocks: CheckedBlocks<A>,
@@ -42,12 +42,13 @@ impl<L: Device, J: Device, A: Allocator> Model for Client<L, J, A> {
     ghost use Rattle.client_verify.specs.State.{AreReplies, State};
     ghost use Rattle.client_verify.specs.Progress.{accepted_of, checked_of};
     ghost use Rattle.reply_check.specs.Verified.{AreOwn};
+    ghost use Rattle.client_releases.specs.Told.{secret_at};
 
     ghost Value = { State };
 
     ghost view = { λ c. record {
       user = c.releases.user;
-      secret = c.releases.secret;
+      secrets = c.releases.secrets;
       pinned = c.pinned;
       devices = c.releases.devices;
       number = c.releases.number;
@@ -61,7 +62,7 @@ impl<L: Device, J: Device, A: Allocator> Model for Client<L, J, A> {
     } };
 
     ghost invariant = { λ c. AreReplies c.releases (checked_of c.progress) (accepted_of c.progress)
-        × (c.is_own ≡ true → AreOwn (public_key_of c.releases.secret) c.releases.last c.releases.text) };
+        × (c.is_own ≡ true → AreOwn (public_key_of (secret_at 0 c.releases)) c.releases.last c.releases.text) };
 }
 
 /// Whether nothing was released yet.
@@ -91,11 +92,10 @@ impl<L: Device, J: Device, A: Allocator + Copy> Client<L, J, A> {
     ghost use Rattle.tree_parts.specs.Blocks.{Agrees};
     ghost use Rattle.checked_blocks.specs.CheckedBlocks.{AreChecked, known_blocks};
     ghost use Rattle.client_tree.specs.Genesis.{first_table, first_texts, table_text};
-    ghost use Rattle.lms_sign.specs.Keys.{public_key_of};
     ghost use Rattle.leaf_ledger.specs.Device.{HasRisen};
-    ghost use Rattle.leaf_ledger.specs.Ledger.{IsForeign, UsedAsBefore};
     ghost use Rattle.client_journal.specs.Records.{IsDamaged};
-    ghost use Rattle.client_releases.specs.Releasing.{IsOpening};
+    ghost use Rattle.client_releases.specs.OwnKeys.{AreLater, AreOpened, OneIsForeign, OneOfHasRisen, key_files};
+    ghost use Rattle.client_releases.specs.Releasing.{IsOpening, ledger_at};
     ghost use Rattle.client_verify.specs.State.{AreReplies, opened, released};
     ghost use Rattle.client_releases.specs.Told.{IsReleased, IsToldBy, TellsOfOther};
 
@@ -105,38 +105,37 @@ impl<L: Device, J: Device, A: Allocator + Copy> Client<L, J, A> {
     pub fn open(
         alloc: A,
         user: User,
-        key: PrivateKey<A>,
+        keys: Keys<L, A>,
         pinned: PublicKey,
-        ledger: L,
         journal: J,
     ) -> Result<Client<L, J, A>, (ClientError, Parts<L, J, A>)>
+        // A user has one key.
+        requires { length keys.items ≡ 1 }
         ensures state { IfOk result (λ client. client ≡ opened pinned (released client)) }
-        ensures whose { IfOk result (λ client. (client.user ≡ user) × (client.secret ≡ key)) }
+        ensures whose { IfOk result (λ client. (client.user ≡ user) × (client.secrets ≡ map (λ k. k.0) keys.items)) }
         // It is as the journal told, and as it tells still.
         ensures told { IfOk result (λ client. IsToldBy (J.history journal).now.text (released client)) }
-        // What both devices go through meanwhile.
-        ensures moments { IfOk result (λ client. IsOpening (L.history ledger) (J.history journal)
-            client.devices.ledger.file client.devices.journal.file) }
-        ensures moments_err { IfErr result
-            (λ e. IsOpening (L.history ledger) (J.history journal) (L.history e.1.ledger) (J.history e.1.journal)) }
-        // The same leaves are used as before: none of a new ledger.
-        ensures used { IfOk result (λ client. UsedAsBefore (L.history ledger).now.text
-            client.devices.ledger.file.now.text) }
-        ensures own { IfOk result (λ _. IsForeign (public_key_of key) (L.history ledger).now.text → ⊥) }
+        // Each ledger is opened: the same leaves are used as before, none of a new ledger.
+        ensures ledgers { IfOk result
+            (λ client. AreOpened (key_files L.history L.fault_count keys.items) client.devices.ledgers) }
+        // What all devices go through meanwhile.
+        ensures moments { IfOk result (λ client. IsOpening (map (λ k. L.history k.1) keys.items) (J.history journal)
+            (map (λ l. l.file) client.devices.ledgers) client.devices.journal.file) }
+        ensures moments_err { IfErr result (λ e. IsOpening (map (λ k. L.history k.1) keys.items) (J.history journal)
+            (map (λ k. L.history k.1) e.1.keys.items) (J.history e.1.journal)) }
         ensures foreign { IfErr result (λ e. e.0 ≡ ClientError.Foreign
-            → IsForeign (public_key_of key) (L.history ledger).now.text) }
+            → OneIsForeign (key_files L.history L.fault_count keys.items)) }
         ensures damaged { IfErr result (λ e. e.0 ≡ ClientError.Damaged
             → IsDamaged (J.history journal).now.text ⊎ TellsOfOther user (J.history journal).now.text) }
         ensures device { IfErr result (λ e. e.0 ≡ ClientError.Device
-            → HasRisen (L.fault_count ledger) (L.fault_count e.1.ledger)
+            → OneOfHasRisen (map (λ k. L.fault_count k.1) keys.items) (map (λ k. L.fault_count k.1) e.1.keys.items)
             ⊎ HasRisen (J.fault_count journal) (J.fault_count e.1.journal)) }
         ensures only { IfErr result (λ e. (e.0 ≢ ClientError.NoLeaf) × (e.0 ≢ ClientError.NoNumber)) }
-        ensures later { IfOk result (λ client. (L.fault_count ledger ≤ client.devices.ledger.faults)
-            × (J.fault_count journal ≤ client.devices.journal.faults)) }
+        ensures later { IfOk result (λ client. J.fault_count journal ≤ client.devices.journal.faults) }
         ensures later_err { IfErr result
-            (λ e. (L.fault_count ledger ≤ L.fault_count e.1.ledger)
+            (λ e. AreLater (map (λ k. L.fault_count k.1) keys.items) (map (λ k. L.fault_count k.1) e.1.keys.items)
             × (J.fault_count journal ≤ J.fault_count e.1.journal)) }
-        ensures key_err { IfErr result (λ e. e.1.key ≡ key) }
+        ensures keys_err { IfErr result (λ e. map (λ k. k.0) e.1.keys.items ≡ map (λ k. k.0) keys.items) }
         // What the i-tables of the beginning have is the tree of the beginning, unless two texts of it have one digest.
         ensures genesis { IfOk result (λ client. NoneCollide (first_texts pinned) (first_texts pinned)
             → (reads : Reading) → Agrees (known_blocks client.blocks) reads
@@ -149,14 +148,9 @@ impl<L: Device, J: Device, A: Allocator + Copy> Client<L, J, A> {
     {
         let _size = pinned.as_bytes();
         let Ok(blocks) = known_at_first(alloc, &pinned) else {
-            let parts = Parts {
-                key,
-                ledger,
-                journal,
-            };
-            return Err((ClientError::Memory, parts));
+            return Err((ClientError::Memory, Parts { keys, journal }));
         };
-        match Releases::open(alloc, user, key, ledger, journal) {
+        match Releases::open(alloc, user, keys, journal) {
             Ok(releases) => {
                 let is_own = is_first(&releases);
                 Ok(Client {
@@ -175,11 +169,11 @@ impl<L: Device, J: Device, A: Allocator + Copy> Client<L, J, A> {
 
     /// Hands back what it was opened over, in any phase.
     pub fn close(self) -> Parts<L, J, A>
-        ensures key { result.key ≡ self.secret }
-        ensures ledger { L.history result.ledger ≡ self.devices.ledger.file }
+        ensures keys { map (λ k. k.0) result.keys.items ≡ self.secrets }
+        ensures ledgers { map (λ k. L.history k.1) result.keys.items ≡ map (λ l. l.file) self.devices.ledgers }
+        ensures faults { map (λ k. L.fault_count k.1) result.keys.items ≡ map (λ l. l.faults) self.devices.ledgers }
         ensures journal { J.history result.journal ≡ self.devices.journal.file }
-        ensures faults { (L.fault_count result.ledger ≡ self.devices.ledger.faults)
-            × (J.fault_count result.journal ≡ self.devices.journal.faults) }
+        ensures journal_faults { J.fault_count result.journal ≡ self.devices.journal.faults }
     {
         let Client {
             alloc: _,
@@ -216,12 +210,13 @@ impl<L: Device, J: Device, A: Allocator + Copy> Client<L, J, A> {
         &self.blocks
     }
 
-    /// The device of the ledger, to be looked at.
+    /// The device of the first key's ledger, to be looked at.
     pub fn ledger(&self) -> &L
-        ensures file { L.history result.now ≡ self.now.devices.ledger.file }
-        ensures faults { L.fault_count result.now ≡ self.now.devices.ledger.faults }
+        ensures file { L.history result.now ≡ (ledger_at 0 self.now.devices).file }
+        ensures faults { L.fault_count result.now ≡ (ledger_at 0 self.now.devices).faults }
     {
-        self.releases.ledger()
+        self.releases.type_invariant();
+        self.releases.ledger(0)
     }
 
     /// And that of the journal.

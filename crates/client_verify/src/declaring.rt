@@ -5,10 +5,12 @@ ghost use Rattle.std.specs.Vec.{vec_items};
 ghost use Rattle.layout.specs.Ranges.{last_version};
 ghost use Rattle.leaf_ledger.specs.Ledger.{IsLeastFree, LeafNumber};
 ghost use Rattle.update_cert.specs.Cert.{cert};
-ghost use Rattle.client_releases.specs.Releasing.{AnyMoment, IsKept, IsTried, IsUsedUp, OneHasRisen, cert_record};
+ghost use Rattle.client_releases.specs.Releasing.{AnyMoment, IsKept, IsTried, OneHasRisen, OthersStay};
+ghost use Rattle.client_releases.specs.Releasing.{cert_record, ledger_at, under};
+ghost use Rattle.client_releases.specs.Told.{IsKeyUsedUp};
 ghost use Rattle.client_verify.specs.Holding.{LaysOut};
 ghost use Rattle.client_verify.specs.Laid.{are_laid};
-ghost use Rattle.client_verify.specs.State.{declared, declared_text, failed, next_cert, on, over};
+ghost use Rattle.client_verify.specs.State.{declared, declared_text, failed, next_cert, on, over, released};
 
 use crate::client::Client;
 use crate::view::Progress;
@@ -24,12 +26,13 @@ impl<L: Device, J: Device, A: Allocator + Copy> Client<L, J, A> {
     fn next_number(&self) -> Result<Version, ClientError>
         requires { self.now.phase ≡ Phase.Idle }
         ensures number { IfOk result (λ number. number ≡ self.now.number + 1) }
-        ensures no_leaf { IsErrOf result ClientError.NoLeaf ↔ IsUsedUp self.now.secret self.now.devices.ledger }
+        ensures no_leaf { IsErrOf result ClientError.NoLeaf ↔ IsKeyUsedUp 0 (released self.now) }
         ensures no_number { IsErrOf result ClientError.NoNumber
-            ↔ ((self.now.number ≡ last_version) × (IsUsedUp self.now.secret self.now.devices.ledger → ⊥)) }
+            ↔ ((self.now.number ≡ last_version) × (IsKeyUsedUp 0 (released self.now) → ⊥)) }
         ensures only { IfErr result (λ e. (e ≡ ClientError.NoLeaf) ⊎ (e ≡ ClientError.NoNumber)) }
     {
-        if !self.releases.has_free_leaf() {
+        self.releases.type_invariant();
+        if !self.releases.has_free_leaf(0) {
             return Err(ClientError::NoLeaf);
         }
         match self.releases.number().checked_add(1).and_then(Version::new) {
@@ -75,11 +78,11 @@ impl<L: Device, J: Device, A: Allocator + Copy> Client<L, J, A> {
         ensures number { IfOk result (λ p. p.0 ≡ self.old.number + 1) }
         ensures text { IfOk result (λ p. p.1 ≡ cert.spell (next_cert self.old changes.now)) }
         ensures fits { OnOk result (cert.Fits (next_cert self.old changes.now)) }
-        ensures free { OnOk result (IsUsedUp self.old.secret self.old.devices.ledger → ⊥) }
+        ensures free { OnOk result (IsKeyUsedUp 0 (released self.old) → ⊥) }
         ensures below { OnOk result (self.old.number ≢ last_version) }
-        ensures no_leaf { IsErrOf result ClientError.NoLeaf ↔ IsUsedUp self.old.secret self.old.devices.ledger }
+        ensures no_leaf { IsErrOf result ClientError.NoLeaf ↔ IsKeyUsedUp 0 (released self.old) }
         ensures no_number { IsErrOf result ClientError.NoNumber
-            ↔ ((self.old.number ≡ last_version) × (IsUsedUp self.old.secret self.old.devices.ledger → ⊥)) }
+            ↔ ((self.old.number ≡ last_version) × (IsKeyUsedUp 0 (released self.old) → ⊥)) }
         ensures only { IfErr result (λ e. (e ≢ ClientError.Device) × (e ≢ ClientError.Foreign)
             × (e ≢ ClientError.Damaged)) }
         ensures err { OnErr result (self.new ≡ self.old) }
@@ -106,19 +109,24 @@ impl<L: Device, J: Device, A: Allocator + Copy> Client<L, J, A> {
         requires few { length changes.now ≤ MOST_CHANGES }
         requires laid { are_laid (map vec_items laid.now) changes.now ≡ true }
         ensures declared { OnOk result ((leaf : LeafNumber)
-            × IsKept leaf (cert_record (declared_text self.old leaf changes.now)) self.old.devices self.new.devices
+            × IsKept leaf (cert_record (declared_text self.old leaf changes.now)) (under 0 self.old.devices)
+            (under 0 self.new.devices)
             × (self.new ≡ over self.new.blocks (on self.new.devices (declared self.old leaf changes.now)))) }
         ensures kept { OnOk result (LaysOut self.old (map vec_items laid.now) self.new.blocks) }
         ensures text { IfOk result (λ text. text.items ≡ self.new.text) }
         // What a crash leaves at any moment of the call, whatever it answers.
-        ensures any_moment { (leaf : LeafNumber) → IsLeastFree self.old.devices.ledger.file.now.text leaf
-            → AnyMoment leaf (cert_record (declared_text self.old leaf changes.now)) self.old.devices self.new.devices }
+        ensures any_moment { (leaf : LeafNumber) → IsLeastFree (ledger_at 0 self.old.devices).file.now.text leaf
+            → AnyMoment leaf (cert_record (declared_text self.old leaf changes.now)) (under 0 self.old.devices)
+            (under 0 self.new.devices) }
         ensures tried { OnErr result (IsTried (λ leaf. cert_record (declared_text self.old leaf changes.now))
-            self.old.devices self.new.devices) }
-        ensures no_leaf { IsErrOf result ClientError.NoLeaf ↔ IsUsedUp self.old.secret self.old.devices.ledger }
+            (under 0 self.old.devices) (under 0 self.new.devices)) }
+        ensures no_leaf { IsErrOf result ClientError.NoLeaf ↔ IsKeyUsedUp 0 (released self.old) }
         ensures no_number { IsErrOf result ClientError.NoNumber
-            ↔ ((self.old.number ≡ last_version) × (IsUsedUp self.old.secret self.old.devices.ledger → ⊥)) }
-        ensures rose { IsErrOf result ClientError.Device → OneHasRisen self.old.devices self.new.devices }
+            ↔ ((self.old.number ≡ last_version) × (IsKeyUsedUp 0 (released self.old) → ⊥)) }
+        ensures rose { IsErrOf result ClientError.Device
+            → OneHasRisen (under 0 self.old.devices) (under 0 self.new.devices) }
+        // Of several keys the first one signs.
+        ensures others { OthersStay 0 self.old.devices self.new.devices }
         ensures fails { IsErrOf result ClientError.Device
             → self.new ≡ over self.new.blocks (on self.new.devices (failed self.old)) }
         ensures kept_device { IsErrOf result ClientError.Device
@@ -130,12 +138,12 @@ impl<L: Device, J: Device, A: Allocator + Copy> Client<L, J, A> {
         ensures err { IfErr result (λ e. e ≢ ClientError.Device → self.new ≡ self.old) }
     {
         self.releases.type_invariant();
-        let _size = self.releases.key().as_bytes();
+        let _size = self.releases.key(0).as_bytes();
         let (number, unsigned) = match self.prepare(changes, laid) {
             Ok(prepared) => prepared,
             Err(error) => return Err(error),
         };
         put_in(&mut self.progress, Progress::None);
-        self.releases.declare(number, unsigned)
+        self.releases.declare(0, number, unsigned)
     }
 }

@@ -51,8 +51,9 @@ impl<L: Device, J: Device, A: Allocator + Copy> Client<L, J, A> {
     fn own(&self) -> Option<PublicKey>
         ensures { IfSome result (λ key. AreOwn key self.now.last self.now.text) }
     {
+        self.releases.type_invariant();
         if self.is_own {
-            Some(self.releases.key())
+            Some(self.releases.key(0))
         } else {
             None
         }

@@ -15,7 +15,7 @@ mod structure;
 mod view;
 
 pub use client::Client;
-pub use client_releases::{ClientError, Parts, Phase};
+pub use client_releases::{ClientError, Keys, Parts, Phase};
 pub use client_tree::SeenKind;
 pub use laid::{are_laid, laid_file_is_laid};
 pub use look::Look;

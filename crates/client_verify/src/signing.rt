@@ -7,9 +7,11 @@ ghost use Rattle.layout.specs.Ascending.{Ascends};
 ghost use Rattle.leaf_ledger.specs.Ledger.{IsLeastFree, LeafNumber};
 ghost use Rattle.version_order.specs.Structure.{structure};
 ghost use Rattle.pending_list.specs.Reply.{user_of};
-ghost use Rattle.client_releases.specs.Releasing.{AnyMoment, IsKept, IsTried, IsUsedUp, OneHasRisen};
-ghost use Rattle.client_releases.specs.Releasing.{structure_record};
-ghost use Rattle.client_verify.specs.State.{committed, failed, next_structure, on, over, signed_over, signed_text};
+ghost use Rattle.client_releases.specs.Releasing.{AnyMoment, IsKept, IsTried, OneHasRisen, OthersStay};
+ghost use Rattle.client_releases.specs.Releasing.{ledger_at, structure_record, under};
+ghost use Rattle.client_releases.specs.Told.{IsKeyUsedUp};
+ghost use Rattle.client_verify.specs.State.{committed, failed, next_structure, on, over, released};
+ghost use Rattle.client_verify.specs.State.{signed_over, signed_text};
 ghost use Rattle.checked_blocks.specs.CheckedBlocks.{LetsGo};
 
 use crate::client::Client;
@@ -57,20 +59,25 @@ impl<L: Device, J: Device, A: Allocator + Copy> Client<L, J, A> {
     pub fn sign(&mut self) -> Result<Vec<u8, A>, ClientError>
         requires { IsSome self.old.accepted }
         ensures signed { OnOk result (IfSome self.old.accepted (λ r. (leaf : LeafNumber)
-            × IsKept leaf (structure_record (signed_text self.old leaf r)) self.old.devices self.new.devices
+            × IsKept leaf (structure_record (signed_text self.old leaf r)) (under 0 self.old.devices)
+            (under 0 self.new.devices)
             × (self.new ≡ over self.new.blocks (on self.new.devices (signed_over self.old leaf r))))) }
         // A look that was under way is over, so that nothing is.
         ensures gone { OnOk result (LetsGo self.old.blocks self.new.blocks) }
         ensures text { IfOk result (λ text. text.items ≡ self.new.text) }
         // What a crash leaves at any moment of the call, whatever it answers.
         ensures any_moment { IfSome self.old.accepted
-            (λ r. (leaf : LeafNumber) → IsLeastFree self.old.devices.ledger.file.now.text leaf
-            → AnyMoment leaf (structure_record (signed_text self.old leaf r)) self.old.devices self.new.devices) }
+            (λ r. (leaf : LeafNumber) → IsLeastFree (ledger_at 0 self.old.devices).file.now.text leaf
+            → AnyMoment leaf (structure_record (signed_text self.old leaf r)) (under 0 self.old.devices)
+            (under 0 self.new.devices)) }
         ensures tried { IfSome self.old.accepted
-            (λ r. OnErr result (IsTried (λ leaf. structure_record (signed_text self.old leaf r)) self.old.devices
-            self.new.devices)) }
-        ensures no_leaf { IsErrOf result ClientError.NoLeaf ↔ IsUsedUp self.old.secret self.old.devices.ledger }
-        ensures rose { IsErrOf result ClientError.Device → OneHasRisen self.old.devices self.new.devices }
+            (λ r. OnErr result (IsTried (λ leaf. structure_record (signed_text self.old leaf r))
+            (under 0 self.old.devices) (under 0 self.new.devices))) }
+        ensures no_leaf { IsErrOf result ClientError.NoLeaf ↔ IsKeyUsedUp 0 (released self.old) }
+        ensures rose { IsErrOf result ClientError.Device
+            → OneHasRisen (under 0 self.old.devices) (under 0 self.new.devices) }
+        // Of several keys the first one signs.
+        ensures others { OthersStay 0 self.old.devices self.new.devices }
         ensures fails { IsErrOf result ClientError.Device → self.new ≡ on self.new.devices (failed self.old) }
         // What is signed can be read again.
         ensures fits { OnOk result (IfSome self.old.accepted (λ r. structure.Fits (next_structure self.old r))) }
@@ -81,8 +88,8 @@ impl<L: Device, J: Device, A: Allocator + Copy> Client<L, J, A> {
         ensures err { IfErr result (λ e. e ≢ ClientError.Device → self.new ≡ self.old) }
     {
         self.releases.type_invariant();
-        let _size = self.releases.key().as_bytes();
-        if !self.releases.has_free_leaf() {
+        let _size = self.releases.key(0).as_bytes();
+        if !self.releases.has_free_leaf(0) {
             return Err(ClientError::NoLeaf);
         }
         let (draft, copies) = match self.draft() {
@@ -95,7 +102,7 @@ impl<L: Device, J: Device, A: Allocator + Copy> Client<L, J, A> {
             shown,
             text,
         } = draft;
-        match self.releases.sign(structure, text) {
+        match self.releases.sign(0, structure, text) {
             Ok((sent, signature)) => {
                 let shown = Signed {
                     value: shown,

@@ -7,23 +7,32 @@ use Rattle.leaf_ledger.specs.Ledger.{IsLeastFree, LeafNumber}
 use Rattle.update_cert.specs.Cert.{cert}
 use Rattle.client_releases.specs.declared.error.ClientError.TheVariants as error
 use Rattle.client_releases.specs.declared.phase.Phase.TheVariants as phase
-use Rattle.client_releases.specs.Releasing.{AnyMoment, IsTried, IsUsedUp, OneHasRisen, cert_record}
-use Rattle.client_releases.specs.Told.{Released, sent}
+use Rattle.client_releases.specs.Releasing.{AnyMoment, IsTried, OneHasRisen, OthersStay, cert_record, ledger_at, under}
+use Rattle.client_releases.specs.Told.{HasKey, IsKeyUsedUp, Released, secret_at, sent}
 use Rattle.checked_blocks.specs.CheckedBlocks.{CheckedBlocks}
 use Rattle.client_verify.specs.Holding.{LaysOut}
 use Rattle.client_verify.specs.Progress.{accepted_of, checked_of}
 use Rattle.client_verify.specs.State.{State, declared_text, next_cert, released}
-use Rattle.client_verify.proofs.Releasing.{at_device, begun, begun_failed, but_device, err_at, never_else, ok_either, only_device, own_after, refused_moments, refused_tried, same_error, seen, stands_in}
+use Rattle.client_verify.proofs.Releasing.{at_device, begun, begun_failed, but_device, err_at, never_else, none_used, ok_either, only_device, own_after, refused_moments, refused_tried, same_error, seen, stands_in}
 use Rattle.client_verify.proofs.client.Client.begin.Goals as goal
 
 pub returns-in-Err-clause-any_moment : goal.returns-in-Err-clause-any_moment
 returns-in-Err-clause-any_moment g c leaf least =
     let s = c.args.self.now in
     let stands = stands_in c.self.inside.releases phase.Idle c.type_invariant.ensures (ap (λ (q : State). q.phase) c.self.view_is ∙ c.requires.idle) (λ two. cc two) in
-    refused_moments c.self.inside.releases s c.prepare.new.self (ap released c.self.view_is) stands c.in-Err.ensures.err (λ k. cert_record (declared_text s k c.args.changes.now)) leaf
+    refused_moments c.self.inside.releases s c.prepare.new.self (ap released c.self.view_is) c.type_invariant.ensures.some stands c.in-Err.ensures.err (λ k. cert_record (declared_text s k c.args.changes.now)) leaf
 
 pub returns-in-Err-clause-tried : goal.returns-in-Err-clause-tried
 returns-in-Err-clause-tried g c = refused_tried c.args.self.now c.prepare.new.self c.in-Err.ensures.err (λ k. cert_record (declared_text c.args.self.now k c.args.changes.now))
+
+pub returns-in-Err-clause-others : goal.returns-in-Err-clause-others
+returns-in-Err-clause-others g c = none_used c.args.self.now c.prepare.new.self c.in-Err.ensures.err
+
+pub returns-clause-others : goal.returns-clause-others
+returns-clause-others g c =
+    let new = c.declare.new.self in
+    let is = c.self-2.view_is ∙ c.in-Ok.ensures.over in
+    subst (λ (o : Released). OthersStay 0 o.devices new.devices) (ap released is) c.declare.ensures.others
 
 pub returns-in-Err-clause-no_leaf : goal.returns-in-Err-clause-no_leaf
 returns-in-Err-clause-no_leaf g c = same_error c.in-Err.error error.NoLeaf _ c.in-Err.ensures.no_leaf
@@ -31,10 +40,18 @@ returns-in-Err-clause-no_leaf g c = same_error c.in-Err.error error.NoLeaf _ c.i
 pub returns-in-Err-clause-no_number : goal.returns-in-Err-clause-no_number
 returns-in-Err-clause-no_number g c = same_error c.in-Err.error error.NoNumber _ c.in-Err.ensures.no_number
 
+pub key-requires : goal.key-requires
+key-requires g c = c.type_invariant.ensures.some
+
+pub declare-requires-clause-key : goal.declare-requires-clause-key
+declare-requires-clause-key g c =
+    let is = c.self-2.view_is ∙ c.in-Ok.ensures.over in
+    subst (λ (o : Released). HasKey 0 o) (ap released c.self.view_is ∙ sym (ap released is)) c.type_invariant.ensures.some
+
 pub declare-requires-clause-free : goal.declare-requires-clause-free
 declare-requires-clause-free g c full =
     let is = c.self-2.view_is ∙ c.in-Ok.ensures.over in
-    c.in-Ok.ensures.free (subst (λ (o : Released). IsUsedUp o.secret o.devices.ledger) (ap released is) full)
+    c.in-Ok.ensures.free (subst (λ (o : Released). IsKeyUsedUp 0 o) (ap released is) full)
 
 pub declare-requires-clause-own : goal.declare-requires-clause-own
 declare-requires-clause-own g c =
@@ -48,8 +65,8 @@ invariant_of-self g c =
     let new = c.declare.new.self in
     let is = c.self-2.view_is ∙ c.in-Ok.ensures.over in
     let same : c.self.inside.releases ≡ r = ap released c.self.view_is ∙ sym (ap released is) in
-    let key = c.as_bytes-size.ensures.same ∙ c.key.ensures ∙ ap (λ (o : Released). public_key_of o.secret) same in
-    let some : IsUsedUp r.secret r.devices.ledger → ⊥ = λ none. c.in-Ok.ensures.free (subst (λ (o : Released). IsUsedUp o.secret o.devices.ledger) (ap released is) none) in
+    let key = c.as_bytes-size.ensures.same ∙ c.key.ensures ∙ ap (λ (o : Released). public_key_of (secret_at 0 o)) same in
+    let some : IsKeyUsedUp 0 r → ⊥ = λ none. c.in-Ok.ensures.free (subst (λ (o : Released). IsKeyUsedUp 0 o) (ap released is) none) in
     rw c.put_in.ensures (record { of_checked = tt; of_accepted = tt }, λ own. own_after c.declare.result r new c.as_bytes-size.result.now c.in-Ok.prepared.0 c.in-Ok.prepared.1 key c.as_bytes-size.ensures.size some c.declare.ensures.declared c.declare.ensures.err (c.self-2.invariant.1 own))
 
 pub returns-clause-declared : goal.returns-clause-declared
@@ -67,7 +84,7 @@ returns-clause-any_moment g c =
     let r = c.self-2.inside.releases in
     let new = c.declare.new.self in
     let is = c.self-2.view_is ∙ c.in-Ok.ensures.over in
-    seen (λ (o : Released) (t : Bytes). (leaf : LeafNumber) → IsLeastFree o.devices.ledger.file.now.text leaf → AnyMoment leaf (cert_record (sent o leaf t)) o.devices new.devices)
+    seen (λ (o : Released) (t : Bytes). (leaf : LeafNumber) → IsLeastFree (ledger_at 0 o.devices).file.now.text leaf → AnyMoment leaf (cert_record (sent o 0 leaf t)) (under 0 o.devices) (under 0 new.devices))
     r (released s) c.in-Ok.prepared.1 (cert.spell (next_cert s c.args.changes.now)) (ap released is) c.in-Ok.ensures.text c.declare.ensures.any_moment
 
 pub returns-clause-tried : goal.returns-clause-tried
@@ -77,7 +94,7 @@ returns-clause-tried g c =
     let new = c.declare.new.self in
     let is = c.self-2.view_is ∙ c.in-Ok.ensures.over in
     on_err_weaker c.declare.result
-    (seen (λ (o : Released) (t : Bytes). IsTried (λ leaf. cert_record (sent o leaf t)) o.devices new.devices) r (released s) c.in-Ok.prepared.1 (cert.spell (next_cert s c.args.changes.now)) (ap released is) c.in-Ok.ensures.text) c.declare.ensures.tried
+    (seen (λ (o : Released) (t : Bytes). IsTried (λ leaf. cert_record (sent o 0 leaf t)) (under 0 o.devices) (under 0 new.devices)) r (released s) c.in-Ok.prepared.1 (cert.spell (next_cert s c.args.changes.now)) (ap released is) c.in-Ok.ensures.text) c.declare.ensures.tried
 
 pub returns-clause-no_leaf : goal.returns-clause-no_leaf
 returns-clause-no_leaf g c = (λ is. absurd (never_else _ c.declare.result error.NoLeaf (λ two. cc two) c.declare.ensures.device is), λ full. absurd (c.in-Ok.ensures.free full))
@@ -91,7 +108,7 @@ returns-clause-rose g c fault =
     let r = c.self-2.inside.releases in
     let new = c.declare.new.self in
     let is = c.self-2.view_is ∙ c.in-Ok.ensures.over in
-    subst (λ (o : Released). OneHasRisen o.devices new.devices) (ap released is) (at_device _ c.declare.result c.declare.ensures.device fault)
+    subst (λ (o : Released). OneHasRisen (under 0 o.devices) (under 0 new.devices)) (ap released is) (at_device _ c.declare.result c.declare.ensures.device fault)
 
 pub returns-clause-fails : goal.returns-clause-fails
 returns-clause-fails g c fault =
