@@ -13,11 +13,12 @@ use Rattle.update_cert.specs.declared.cert.TheConstants.{MOST_CHANGES}
 use Rattle.client_releases.specs.declared.error.ClientError.{ClientError}
 use Rattle.client_releases.specs.declared.error.ClientError.TheVariants as error
 use Rattle.client_releases.specs.declared.phase.Phase.TheVariants as phase
-use Rattle.client_releases.specs.Releasing.{AnyMoment, IsKept, IsTried, IsUsedUp, OneHasRisen, cert_record, structure_record}
+use Rattle.client_releases.specs.Releasing.{AnyMoment, IsKept, IsTried, OneHasRisen, OthersStay, cert_record, ledger_at, structure_record, under}
+use Rattle.client_releases.specs.Told.{IsKeyUsedUp}
 use Rattle.client_verify.specs.Laid.{are_laid}
 use Rattle.checked_blocks.specs.CheckedBlocks.{LetsGo}
 use Rattle.client_verify.specs.Holding.{LaysOut}
-use Rattle.client_verify.specs.State.{Ready, State, declared, declared_text, failed, next_cert, next_structure, on, over, signed_over, signed_text}
+use Rattle.client_verify.specs.State.{Ready, State, declared, declared_text, failed, next_cert, next_structure, on, over, released, signed_over, signed_text}
 use Rattle.client_steps.specs.Steps.{HasBegun, HasSigned}
 use Rattle.client_steps.specs.Anywhere.{on_ok}
 
@@ -42,22 +43,23 @@ module _ {A : Type 0} where
 module _ {A : Type 0} (s new : State) (changes : List (Change Digest)) (laid : List Bytes) where
   pub begun : (answer : Result (Vec ℕ A) ClientError)
       → s.phase ≡ phase.Idle → length changes ≤ MOST_CHANGES → are_laid laid changes ≡ true
-      → OnOk answer ((leaf : LeafNumber) × IsKept leaf (cert_record (declared_text s leaf changes)) s.devices new.devices × (new ≡ over new.blocks (on new.devices (declared s leaf changes))))
+      → OnOk answer ((leaf : LeafNumber) × IsKept leaf (cert_record (declared_text s leaf changes)) (under 0 s.devices) (under 0 new.devices) × (new ≡ over new.blocks (on new.devices (declared s leaf changes))))
       → OnOk answer (LaysOut s laid new.blocks)
       → IfOk answer (λ x. x.items ≡ new.text)
       → OnOk answer (cert.Fits (next_cert s changes))
-      → ((leaf : LeafNumber) → IsLeastFree s.devices.ledger.file.now.text leaf → AnyMoment leaf (cert_record (declared_text s leaf changes)) s.devices new.devices)
-      → OnErr answer (IsTried (λ leaf. cert_record (declared_text s leaf changes)) s.devices new.devices)
-      → (IsErrOf answer error.NoLeaf ↔ IsUsedUp s.secret s.devices.ledger)
-      → (IsErrOf answer error.NoNumber ↔ ((s.number ≡ last_version) × (IsUsedUp s.secret s.devices.ledger → ⊥)))
-      → (IsErrOf answer error.Device → OneHasRisen s.devices new.devices)
+      → ((leaf : LeafNumber) → IsLeastFree (ledger_at 0 s.devices).file.now.text leaf → AnyMoment leaf (cert_record (declared_text s leaf changes)) (under 0 s.devices) (under 0 new.devices))
+      → OnErr answer (IsTried (λ leaf. cert_record (declared_text s leaf changes)) (under 0 s.devices) (under 0 new.devices))
+      → (IsErrOf answer error.NoLeaf ↔ IsKeyUsedUp 0 (released s))
+      → (IsErrOf answer error.NoNumber ↔ ((s.number ≡ last_version) × (IsKeyUsedUp 0 (released s) → ⊥)))
+      → (IsErrOf answer error.Device → OneHasRisen (under 0 s.devices) (under 0 new.devices))
+      → OthersStay 0 s.devices new.devices
       → (IsErrOf answer error.Device → new ≡ over new.blocks (on new.devices (failed s)))
       → (IsErrOf answer error.Device → LaysOut s laid new.blocks)
       → (IsErrOf answer error.Device → cert.Fits (next_cert s changes))
       → IfErr answer (λ e. (e ≢ error.Foreign) × (e ≢ error.Damaged))
       → IfErr answer (λ e. e ≢ error.Device → new ≡ s)
       → HasBegun s changes laid (on_ok vec_items answer) new
-  begun (Ok x) i few l d k t f any tr nl nn r fl kd fd only e =
+  begun (Ok x) i few l d k t f any tr nl nn r ot fl kd fd only e =
       record {
         idle = i;
         few = few;
@@ -68,16 +70,17 @@ module _ {A : Type 0} (s new : State) (changes : List (Change Digest)) (laid : L
         fits = f;
         any_moment = any;
         tried = tr;
-        no_leaf = told_errs (Ok x) error.NoLeaf (IsUsedUp s.secret s.devices.ledger) nl;
-        no_number = told_errs (Ok x) error.NoNumber ((s.number ≡ last_version) × (IsUsedUp s.secret s.devices.ledger → ⊥)) nn;
+        no_leaf = told_errs (Ok x) error.NoLeaf (IsKeyUsedUp 0 (released s)) nl;
+        no_number = told_errs (Ok x) error.NoNumber ((s.number ≡ last_version) × (IsKeyUsedUp 0 (released s) → ⊥)) nn;
         rose = λ h. r (told_err (Ok x) error.Device h);
+        others = ot;
         fails = λ h. fl (told_err (Ok x) error.Device h);
         kept_device = λ h. kd (told_err (Ok x) error.Device h);
         fits_device = λ h. fd (told_err (Ok x) error.Device h);
         only = only;
         err = e;
       }
-  begun (Err x) i few l d k t f any tr nl nn r fl kd fd only e =
+  begun (Err x) i few l d k t f any tr nl nn r ot fl kd fd only e =
       record {
         idle = i;
         few = few;
@@ -88,9 +91,10 @@ module _ {A : Type 0} (s new : State) (changes : List (Change Digest)) (laid : L
         fits = f;
         any_moment = any;
         tried = tr;
-        no_leaf = told_errs (Err x) error.NoLeaf (IsUsedUp s.secret s.devices.ledger) nl;
-        no_number = told_errs (Err x) error.NoNumber ((s.number ≡ last_version) × (IsUsedUp s.secret s.devices.ledger → ⊥)) nn;
+        no_leaf = told_errs (Err x) error.NoLeaf (IsKeyUsedUp 0 (released s)) nl;
+        no_number = told_errs (Err x) error.NoNumber ((s.number ≡ last_version) × (IsKeyUsedUp 0 (released s) → ⊥)) nn;
         rose = λ h. r (told_err (Err x) error.Device h);
+        others = ot;
         fails = λ h. fl (told_err (Err x) error.Device h);
         kept_device = λ h. kd (told_err (Err x) error.Device h);
         fits_device = λ h. fd (told_err (Err x) error.Device h);
@@ -100,7 +104,7 @@ module _ {A : Type 0} (s new : State) (changes : List (Change Digest)) (laid : L
 
 -- what an error leaves of the devices
 abbrev Tries : State → State → Ready → Type 0
-Tries s new r = IsTried (λ leaf. structure_record (signed_text s leaf r)) s.devices new.devices
+Tries s new r = IsTried (λ leaf. structure_record (signed_text s leaf r)) (under 0 s.devices) (under 0 new.devices)
 
 module _ {A : Type 0} (s new : State) where
   tr_on : (answer : Result (Vec ℕ A) ClientError) (ready : Option Ready) → IfSome ready (λ r. OnErr answer (Tries s new r)) → IfSome ready (λ r. OnErr (on_ok vec_items answer) (Tries s new r))
@@ -109,20 +113,21 @@ module _ {A : Type 0} (s new : State) where
 
   pub signed : (answer : Result (Vec ℕ A) ClientError)
       → IsSome s.accepted
-      → OnOk answer (IfSome s.accepted (λ r. (leaf : LeafNumber) × IsKept leaf (structure_record (signed_text s leaf r)) s.devices new.devices × (new ≡ over new.blocks (on new.devices (signed_over s leaf r)))))
+      → OnOk answer (IfSome s.accepted (λ r. (leaf : LeafNumber) × IsKept leaf (structure_record (signed_text s leaf r)) (under 0 s.devices) (under 0 new.devices) × (new ≡ over new.blocks (on new.devices (signed_over s leaf r)))))
       → OnOk answer (LetsGo s.blocks new.blocks)
       → IfOk answer (λ x. x.items ≡ new.text)
       → OnOk answer (IfSome s.accepted (λ r. structure.Fits (next_structure s r)))
-      → IfSome s.accepted (λ r. (leaf : LeafNumber) → IsLeastFree s.devices.ledger.file.now.text leaf → AnyMoment leaf (structure_record (signed_text s leaf r)) s.devices new.devices)
-      → IfSome s.accepted (λ r. OnErr answer (IsTried (λ leaf. structure_record (signed_text s leaf r)) s.devices new.devices))
-      → (IsErrOf answer error.NoLeaf ↔ IsUsedUp s.secret s.devices.ledger)
-      → (IsErrOf answer error.Device → OneHasRisen s.devices new.devices)
+      → IfSome s.accepted (λ r. (leaf : LeafNumber) → IsLeastFree (ledger_at 0 s.devices).file.now.text leaf → AnyMoment leaf (structure_record (signed_text s leaf r)) (under 0 s.devices) (under 0 new.devices))
+      → IfSome s.accepted (λ r. OnErr answer (IsTried (λ leaf. structure_record (signed_text s leaf r)) (under 0 s.devices) (under 0 new.devices)))
+      → (IsErrOf answer error.NoLeaf ↔ IsKeyUsedUp 0 (released s))
+      → (IsErrOf answer error.Device → OneHasRisen (under 0 s.devices) (under 0 new.devices))
+      → OthersStay 0 s.devices new.devices
       → (IsErrOf answer error.Device → new ≡ on new.devices (failed s))
       → (IsErrOf answer error.Device → IfSome s.accepted (λ r. structure.Fits (next_structure s r)))
       → IfErr answer (λ e. (e ≢ error.NoNumber) × (e ≢ error.Foreign) × (e ≢ error.Damaged))
       → IfErr answer (λ e. e ≢ error.Device → new ≡ s)
       → HasSigned s (on_ok vec_items answer) new
-  signed (Ok x) ready d k t f any tr nl r fl fd only e =
+  signed (Ok x) ready d k t f any tr nl r ot fl fd only e =
       record {
         ready = ready;
         signed = d;
@@ -131,14 +136,15 @@ module _ {A : Type 0} (s new : State) where
         fits = f;
         any_moment = any;
         tried = tr_on (Ok x) s.accepted tr;
-        no_leaf = told_errs (Ok x) error.NoLeaf (IsUsedUp s.secret s.devices.ledger) nl;
+        no_leaf = told_errs (Ok x) error.NoLeaf (IsKeyUsedUp 0 (released s)) nl;
         rose = λ h. r (told_err (Ok x) error.Device h);
+        others = ot;
         fails = λ h. fl (told_err (Ok x) error.Device h);
         fits_device = λ h. fd (told_err (Ok x) error.Device h);
         only = only;
         err = e;
       }
-  signed (Err x) ready d k t f any tr nl r fl fd only e =
+  signed (Err x) ready d k t f any tr nl r ot fl fd only e =
       record {
         ready = ready;
         signed = d;
@@ -147,8 +153,9 @@ module _ {A : Type 0} (s new : State) where
         fits = f;
         any_moment = any;
         tried = tr_on (Err x) s.accepted tr;
-        no_leaf = told_errs (Err x) error.NoLeaf (IsUsedUp s.secret s.devices.ledger) nl;
+        no_leaf = told_errs (Err x) error.NoLeaf (IsKeyUsedUp 0 (released s)) nl;
         rose = λ h. r (told_err (Err x) error.Device h);
+        others = ot;
         fails = λ h. fl (told_err (Err x) error.Device h);
         fits_device = λ h. fd (told_err (Err x) error.Device h);
         only = only;

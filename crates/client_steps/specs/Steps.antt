@@ -2,14 +2,14 @@
 --
 -- A crash inside a call is a call whose device fails, and then a crash: whatever part of the call was done by then is
 -- one that a device may have done that fails there.
-use Rattle.std.specs.Prelude.{◌≡◌, ◌≢◌, ◌⊎◌, ◌↔◌, ℕ, ◌<◌, ◌≤◌, List, [], ◌∷◌, length, Option, Some, None, IfOk, IfErr, IsErrOf, IfSome, IsSome, IsSomeAnd, OnOk, OnErr, Result, Ok, Err, true, IsOk}
+use Rattle.std.specs.Prelude.{◌≡◌, ◌≢◌, ◌⊎◌, ◌↔◌, ℕ, ◌<◌, ◌≤◌, List, [], ◌∷◌, length, map, Option, Some, None, IfOk, IfErr, IsErrOf, IfSome, IsSome, IsSomeAnd, OnOk, OnErr, Result, Ok, Err, true, IsOk}
 use Rattle.layout.specs.Format.{IsBytes}
 use Rattle.layout.specs.Ranges.{last_version}
 use Rattle.layout.specs.Types.{Bytes, Digest, Key, Principal, User}
 use Rattle.lms_sign.specs.Keys.{public_key_of}
 use Rattle.lms_sign.specs.Secret.{Secret}
 use Rattle.leaf_ledger.specs.Device.{HasRisen, History, MayLeave, started}
-use Rattle.leaf_ledger.specs.Ledger.{IsForeign, IsLeastFree, LeafNumber, UsedAsBefore}
+use Rattle.leaf_ledger.specs.Ledger.{IsForeign, IsLeastFree, LeafNumber}
 use Rattle.client_journal.specs.Records.{IsDamaged}
 use Rattle.version_order.specs.Structure.{structure}
 use Rattle.update_cert.specs.Change.{Change}
@@ -23,8 +23,10 @@ use Rattle.wire.specs.declared.kinds.Status.{Status}
 use Rattle.client_releases.specs.declared.error.ClientError.{ClientError}
 use Rattle.client_releases.specs.declared.error.ClientError.TheVariants as error
 use Rattle.client_releases.specs.declared.phase.Phase.TheVariants as phase
-use Rattle.client_releases.specs.Releasing.{AnyMoment, IsKept, IsOpening, IsTried, IsUsedUp, OneHasRisen, cert_record, structure_record}
-use Rattle.client_releases.specs.Told.{IsReleased, IsToldBy, TellsOfOther}
+use Rattle.client_releases.specs.OwnKeys.{AreOpened, KeyFile}
+use Rattle.client_releases.specs.Releasing.{AnyMoment, IsKept, IsOpening, IsTried, OneHasRisen, OthersStay, cert_record}
+use Rattle.client_releases.specs.Releasing.{ledger_at, no_secret, structure_record, under}
+use Rattle.client_releases.specs.Told.{IsKeyUsedUp, IsReleased, IsToldBy, TellsOfOther}
 use Rattle.client_verify.specs.declared.look.Look.{Look}
 use Rattle.client_verify.specs.declared.step.Step.{Step}
 use Rattle.client_verify.specs.Laid.{are_laid}
@@ -41,7 +43,7 @@ pub record Device : Type 0 where
   pub history : History
   pub faults : ℕ
 
--- what a client is opened over, and hands back
+-- what a client with one key is opened over, and hands back
 pub record Parts : Type 0 where
   pub ledger : Device
   pub journal : Device
@@ -62,21 +64,26 @@ first = Closed (record { ledger = empty; journal = empty })
 -- the file of the ledger, and that of the journal
 abbrev pub ledger_of : Client → History
 ledger_of (Closed p) = p.ledger.history
-ledger_of (Open s) = s.devices.ledger.file
+ledger_of (Open s) = (ledger_at 0 s.devices).file
 
 abbrev pub journal_of : Client → History
 journal_of (Closed p) = p.journal.history
 journal_of (Open s) = s.devices.journal.file
 
--- the client that is closed, with these files and counts of faults
-abbrev pub closed_over : History → ℕ → History → ℕ → Client
-closed_over ledger ledger_faults journal journal_faults =
-    Closed (record {
-      ledger = record { history = ledger; faults = ledger_faults };
-      journal = record { history = journal; faults = journal_faults };
-    })
+-- the device of the one key's ledger, of a key with its device and no other, and what that key is made of
+abbrev pub ledger_in : {D : Type 0} → (D → History) → (D → ℕ) → List (Secret × D) → Device
+ledger_in history faults [] = empty
+ledger_in history faults (k ∷ keys) = record { history = history k.1; faults = faults k.1 }
 
--- whose client it is: the user, what the own key is made of, and user 0's public key
+abbrev pub secret_in : {D : Type 0} → List (Secret × D) → Secret
+secret_in [] = no_secret
+secret_in (k ∷ keys) = k.0
+
+-- the client that is closed, over these devices
+abbrev pub closed_over : Device → Device → Client
+closed_over ledger journal = Closed (record { ledger = ledger; journal = journal })
+
+-- whose client it is: the user, what its one key is made of, and user 0's public key
 pub record Owner : Type 0 where
   pub user : User
   pub secret : Secret
@@ -87,6 +94,10 @@ owner_of user secret pinned = record { user = user; secret = secret; pinned = pi
 
 abbrev pub own_key : Owner → Key
 own_key o = public_key_of o.secret
+
+-- the own key with the device of its ledger
+abbrev pub own_file : Owner → Device → KeyFile
+own_file o d = record { secret = o.secret; file = d.history; faults = d.faults }
 
 -- what a client asks for, and what it sees, wherever that lies in memory
 abbrev pub Asks : Type 0
@@ -114,16 +125,15 @@ pub data Call : Type 0 where
 pub record IsOpened (o : Owner) (p : Parts) (new : State) : Type 0 where
   pub state : new ≡ opened o.pinned (released new)
   pub user : new.user ≡ o.user
-  pub secret : new.secret ≡ o.secret
+  pub secrets : new.secrets ≡ o.secret ∷ []
   pub told : IsToldBy p.journal.history.now.text (released new)
-  pub moments : IsOpening p.ledger.history p.journal.history new.devices.ledger.file new.devices.journal.file
-  pub used : UsedAsBefore p.ledger.history.now.text new.devices.ledger.file.now.text
-  pub own : IsForeign (own_key o) p.ledger.history.now.text → ⊥
-  pub ledger_later : p.ledger.faults ≤ new.devices.ledger.faults
+  pub ledgers : AreOpened (own_file o p.ledger ∷ []) new.devices.ledgers
+  pub moments : IsOpening (p.ledger.history ∷ []) p.journal.history (map (λ l. l.file) new.devices.ledgers)
+      new.devices.journal.file
   pub journal_later : p.journal.faults ≤ new.devices.journal.faults
 
 pub record IsRefused (o : Owner) (p : Parts) (e : ClientError) (new : Parts) : Type 0 where
-  pub moments : IsOpening p.ledger.history p.journal.history new.ledger.history new.journal.history
+  pub moments : IsOpening (p.ledger.history ∷ []) p.journal.history (new.ledger.history ∷ []) new.journal.history
   pub foreign : e ≡ error.Foreign → IsForeign (own_key o) p.ledger.history.now.text
   pub damaged : e ≡ error.Damaged → IsDamaged p.journal.history.now.text
       ⊎ TellsOfOther o.user p.journal.history.now.text
@@ -135,9 +145,9 @@ pub record IsRefused (o : Owner) (p : Parts) (e : ClientError) (new : Parts) : T
   pub journal_later : p.journal.faults ≤ new.journal.faults
 
 pub record IsHandedBack (s : State) (p : Parts) : Type 0 where
-  pub ledger : p.ledger.history ≡ s.devices.ledger.file
+  pub ledger : p.ledger.history ≡ (ledger_at 0 s.devices).file
   pub journal : p.journal.history ≡ s.devices.journal.file
-  pub ledger_faults : p.ledger.faults ≡ s.devices.ledger.faults
+  pub ledger_faults : p.ledger.faults ≡ (ledger_at 0 s.devices).faults
   pub journal_faults : p.journal.faults ≡ s.devices.journal.faults
 
 pub record HasBegun (s : State) (changes : List (Change Digest)) (laid : List Bytes) (answer : Result Bytes ClientError)
@@ -146,18 +156,20 @@ pub record HasBegun (s : State) (changes : List (Change Digest)) (laid : List By
   pub few : length changes ≤ MOST_CHANGES
   pub were_laid : are_laid laid changes ≡ true
   pub declared : OnOk answer ((leaf : LeafNumber)
-      × IsKept leaf (cert_record (declared_text s leaf changes)) s.devices new.devices
+      × IsKept leaf (cert_record (declared_text s leaf changes)) (under 0 s.devices) (under 0 new.devices)
       × (new ≡ over new.blocks (on new.devices (declared s leaf changes))))
   pub kept : OnOk answer (LaysOut s laid new.blocks)
   pub text : IfOk answer (λ text. text ≡ new.text)
   pub fits : OnOk answer (cert.Fits (next_cert s changes))
-  pub any_moment : (leaf : LeafNumber) → IsLeastFree s.devices.ledger.file.now.text leaf
-      → AnyMoment leaf (cert_record (declared_text s leaf changes)) s.devices new.devices
-  pub tried : OnErr answer (IsTried (λ leaf. cert_record (declared_text s leaf changes)) s.devices new.devices)
-  pub no_leaf : IsErrOf answer error.NoLeaf ↔ IsUsedUp s.secret s.devices.ledger
+  pub any_moment : (leaf : LeafNumber) → IsLeastFree (ledger_at 0 s.devices).file.now.text leaf
+      → AnyMoment leaf (cert_record (declared_text s leaf changes)) (under 0 s.devices) (under 0 new.devices)
+  pub tried : OnErr answer (IsTried (λ leaf. cert_record (declared_text s leaf changes)) (under 0 s.devices)
+      (under 0 new.devices))
+  pub no_leaf : IsErrOf answer error.NoLeaf ↔ IsKeyUsedUp 0 (released s)
   pub no_number : IsErrOf answer error.NoNumber
-      ↔ ((s.number ≡ last_version) × (IsUsedUp s.secret s.devices.ledger → ⊥))
-  pub rose : IsErrOf answer error.Device → OneHasRisen s.devices new.devices
+      ↔ ((s.number ≡ last_version) × (IsKeyUsedUp 0 (released s) → ⊥))
+  pub rose : IsErrOf answer error.Device → OneHasRisen (under 0 s.devices) (under 0 new.devices)
+  pub others : OthersStay 0 s.devices new.devices
   pub fails : IsErrOf answer error.Device → new ≡ over new.blocks (on new.devices (failed s))
   pub kept_device : IsErrOf answer error.Device → LaysOut s laid new.blocks
   pub fits_device : IsErrOf answer error.Device → cert.Fits (next_cert s changes)
@@ -185,17 +197,19 @@ pub record HasTaken (s : State) (block : Option Bytes) (answer : Result Asks Cli
 pub record HasSigned (s : State) (answer : Result Bytes ClientError) (new : State) : Type 0 where
   pub ready : IsSome s.accepted
   pub signed : OnOk answer (IfSome s.accepted (λ r. (leaf : LeafNumber)
-      × IsKept leaf (structure_record (signed_text s leaf r)) s.devices new.devices
+      × IsKept leaf (structure_record (signed_text s leaf r)) (under 0 s.devices) (under 0 new.devices)
       × (new ≡ over new.blocks (on new.devices (signed_over s leaf r)))))
   pub gone : OnOk answer (LetsGo s.blocks new.blocks)
   pub text : IfOk answer (λ text. text ≡ new.text)
   pub fits : OnOk answer (IfSome s.accepted (λ r. structure.Fits (next_structure s r)))
-  pub any_moment : IfSome s.accepted (λ r. (leaf : LeafNumber) → IsLeastFree s.devices.ledger.file.now.text leaf
-      → AnyMoment leaf (structure_record (signed_text s leaf r)) s.devices new.devices)
+  pub any_moment : IfSome s.accepted (λ r. (leaf : LeafNumber) → IsLeastFree (ledger_at 0 s.devices).file.now.text leaf
+      → AnyMoment leaf (structure_record (signed_text s leaf r)) (under 0 s.devices) (under 0 new.devices))
   pub tried : IfSome s.accepted (λ r.
-      OnErr answer (IsTried (λ leaf. structure_record (signed_text s leaf r)) s.devices new.devices))
-  pub no_leaf : IsErrOf answer error.NoLeaf ↔ IsUsedUp s.secret s.devices.ledger
-  pub rose : IsErrOf answer error.Device → OneHasRisen s.devices new.devices
+      OnErr answer (IsTried (λ leaf. structure_record (signed_text s leaf r)) (under 0 s.devices)
+      (under 0 new.devices)))
+  pub no_leaf : IsErrOf answer error.NoLeaf ↔ IsKeyUsedUp 0 (released s)
+  pub rose : IsErrOf answer error.Device → OneHasRisen (under 0 s.devices) (under 0 new.devices)
+  pub others : OthersStay 0 s.devices new.devices
   pub fails : IsErrOf answer error.Device → new ≡ on new.devices (failed s)
   pub fits_device : IsErrOf answer error.Device → IfSome s.accepted (λ r. structure.Fits (next_structure s r))
   pub only : IfErr answer (λ e. (e ≢ error.NoNumber) × (e ≢ error.Foreign) × (e ≢ error.Damaged))

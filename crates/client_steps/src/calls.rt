@@ -1,14 +1,15 @@
 //! The calls of a client that a step makes, where it may.
 
 ghost use Rattle.std.specs.Prelude.{Err, IfErr, Ok};
-ghost use Rattle.std.specs.Prelude.{◌≡◌, ◌≢◌, ◌≤◌, IfOk, IfSome, IsSome, MatchOption, OnOk, false, map, true};
+ghost use Rattle.std.specs.Prelude.{◌≡◌, ◌≢◌, ◌≤◌, IfOk, IfSome, IsSome, MatchOption, OnOk, false, length, map, true};
 ghost use Rattle.std.specs.Option.{option_copied};
 ghost use Rattle.std.specs.Vec.{vec_items};
 ghost use Rattle.layout.specs.Format.{IsBytes};
 ghost use Rattle.client_tree.specs.declared.questions.Question.TheVariants.{At, Free, Kind};
 ghost use Rattle.client_steps.specs.Steps.{HasBegun, HasCached, HasCommitted, HasGiven, HasHeard, HasLooked};
 ghost use Rattle.client_steps.specs.Steps.{HasSigned, HasTaken};
-ghost use Rattle.client_steps.specs.Steps.{Closes, IsSound, IsStep, Open, Opens, Owner, closed_over, owner_of};
+ghost use Rattle.client_steps.specs.Steps.{Closes, IsSound, IsStep, Open, Opens, Owner, closed_over, ledger_in};
+ghost use Rattle.client_steps.specs.Steps.{owner_of, secret_in};
 ghost use Rattle.client_steps.specs.Anywhere.{asked, on_ok, seen};
 ghost use Rattle.client_steps.specs.NotCalled.{CantBegin, CantCache, CantCommit, CantGive, CantHear, CantLook};
 ghost use Rattle.client_steps.specs.NotCalled.{CantSign, CantTake};
@@ -29,23 +30,21 @@ pub fn open<L: Device, J: Device, A: Allocator + Copy>(
     pinned: PublicKey,
     parts: Parts<L, J, A>,
 ) -> Result<Client<L, J, A>, (ClientError, Parts<L, J, A>)>
-    ensures opened { IfOk result (λ client. IsStep (owner_of user parts.key pinned)
-        (closed_over (L.history parts.ledger) (L.fault_count parts.ledger) (J.history parts.journal)
-        (J.fault_count parts.journal)) (Opens (Ok tt)) (Open client)) }
+    requires { length parts.keys.items ≡ 1 }
+    ensures opened { IfOk result (λ client. IsStep (owner_of user (secret_in parts.keys.items) pinned)
+        (closed_over (ledger_in L.history L.fault_count parts.keys.items)
+        (record { history = J.history parts.journal; faults = J.fault_count parts.journal }))
+        (Opens (Ok tt)) (Open client)) }
     ensures sound { IfOk result (λ client. IsSound (Open client)) }
-    ensures refused { IfErr result (λ e. IsStep (owner_of user parts.key pinned)
-        (closed_over (L.history parts.ledger) (L.fault_count parts.ledger) (J.history parts.journal)
-        (J.fault_count parts.journal)) (Opens (Err e.0))
-        (closed_over (L.history e.1.ledger) (L.fault_count e.1.ledger) (J.history e.1.journal)
-        (J.fault_count e.1.journal))) }
-    ensures key { IfErr result (λ e. e.1.key ≡ parts.key) }
+    ensures refused { IfErr result (λ e. IsStep (owner_of user (secret_in parts.keys.items) pinned)
+        (closed_over (ledger_in L.history L.fault_count parts.keys.items)
+        (record { history = J.history parts.journal; faults = J.fault_count parts.journal })) (Opens (Err e.0))
+        (closed_over (ledger_in L.history L.fault_count e.1.keys.items)
+        (record { history = J.history e.1.journal; faults = J.fault_count e.1.journal }))) }
+    ensures key { IfErr result (λ e. map (λ k. k.0) e.1.keys.items ≡ map (λ k. k.0) parts.keys.items) }
 {
-    let Parts {
-        key,
-        ledger,
-        journal,
-    } = parts;
-    let opened = Client::open(alloc, user, key, pinned, ledger, journal);
+    let Parts { keys, journal } = parts;
+    let opened = Client::open(alloc, user, keys, pinned, journal);
     is_sound(&opened);
     opened
 }
@@ -65,10 +64,11 @@ fn is_sound<L: Device, J: Device, A: Allocator + Copy>(
 /// Closes an open client, and hands back what it was opened over.
 pub fn close<L: Device, J: Device, A: Allocator + Copy>(client: Client<L, J, A>) -> Parts<L, J, A>
     ensures closed { (o : Owner) → IsStep o (Open client) Closes
-        (closed_over (L.history result.ledger) (L.fault_count result.ledger) (J.history result.journal)
-        (J.fault_count result.journal)) }
-    ensures key { result.key ≡ client.secret }
+        (closed_over (ledger_in L.history L.fault_count result.keys.items)
+        (record { history = J.history result.journal; faults = J.fault_count result.journal })) }
+    ensures key { map (λ k. k.0) result.keys.items ≡ client.secrets }
 {
+    client.type_invariant();
     client.close()
 }
 

@@ -7,4 +7,4 @@ pub returns : goal.returns
 returns g c =
     let e = c.begin.ensures in
     begun c.args.client.now c.begin.new.self c.args.changes.now (map vec_items c.args.laid.now) c.begin.result (search (rules, c.is_idle.ensures.yes)) (omega arith) (search rules)
-    e.declared e.kept e.text e.fits e.any_moment e.tried e.no_leaf e.no_number e.rose e.fails e.kept_device e.fits_device e.only e.err
+    e.declared e.kept e.text e.fits e.any_moment e.tried e.no_leaf e.no_number e.rose e.others e.fails e.kept_device e.fits_device e.only e.err
