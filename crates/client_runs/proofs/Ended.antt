@@ -2,7 +2,7 @@
 use Rattle.std.proofs.Common.{◌≡◌, ◌≢◌, ℕ, zero, suc, ◌<◌, ◌≤◌, ◌+◌, take, List, [], ◌∷◌, ◌++◌, length, get_or, set, true, false, ◌==◌, refl, sym, ap, subst, ◌∙◌}
 use Rattle.std.proofs.lemmas.Bool.{eqb-true, eqb-false}
 use Rattle.std.proofs.lemmas.List.{get_or-set_other, get_or-set_same, get_or_read, length-set, take_all, take_more}
-use Rattle.layout.specs.Types.{Bytes, Key, User}
+use Rattle.layout.specs.Types.{Key, User}
 use Rattle.lms_sign.specs.Keys.{public_key_of}
 use Rattle.lms_sign.specs.Secret.{Secret}
 use Rattle.client_runs.specs.declared.slot.Slot.{Slot}

@@ -5,7 +5,7 @@ use Rattle.leaf_ledger.specs.Ledger.{LeafNumber}
 use Rattle.version_order.specs.Structure.{structure}
 use Rattle.update_cert.specs.Change.{Change}
 use Rattle.client_releases.specs.declared.error.ClientError.TheVariants as error
-use Rattle.client_releases.specs.Releasing.{IsKept, IsTried, structure_record}
+use Rattle.client_releases.specs.Releasing.{IsKept, IsTried, structure_record, under}
 use Rattle.release_runs.specs.Steps as low
 use Rattle.client_verify.specs.State.{IsOfDeclared, Ready, State, next_cert, next_structure, on, over, released, signed_over, signed_text}
 use Rattle.client_steps.specs.Steps.{Client, Closed, HasBegun, HasSigned, IsHandedBack, IsLeft, IsOpened, IsSound, Open, Owner, Parts}
@@ -26,7 +26,7 @@ low_left (Closed q) p is = record { ledger_text = is.ledger_text; journal_text =
 low_left (Open s) p is = record { ledger_text = is.ledger_text; journal_text = is.journal_text; ledger_may = is.ledger_may; journal_may = is.journal_may; ledger = is.ledger; journal = is.journal }
 
 pub low_opened : (o : Owner) (p : Parts) (s : State) → IsOpened o p s → low.IsOpened (low_owner o) (low_parts p) (released s)
-low_opened o p s is = record { user = is.user; secret = is.secret; told = is.told; moments = is.moments }
+low_opened o p s is = record { user = is.user; secrets = is.secrets; told = is.told; moments = is.moments }
 
 pub low_handed_back : (s : State) (p : Parts) → IsHandedBack s p → low.IsHandedBack (released s) (low_parts p)
 low_handed_back s p is = record { ledger = is.ledger; journal = is.journal }
@@ -59,7 +59,7 @@ module _ (s new : State) (y : Ready) (ready : s.accepted ≡ Some y) where
   pub low_signed : (text : Bytes) → IsSound (Open s) → HasSigned s (Ok text) new → low.HasSigned (released s) (next_structure s y) (Ok text) (released new)
   low_signed text before b =
       let declared = of_declared before in
-      let done = if_ready (λ r. (leaf : LeafNumber) × IsKept leaf (structure_record (signed_text s leaf r)) s.devices new.devices × (new ≡ over new.blocks (on new.devices (signed_over s leaf r)))) b.signed in
+      let done = if_ready (λ r. (leaf : LeafNumber) × IsKept leaf (structure_record (signed_text s leaf r)) (under 0 s.devices) (under 0 new.devices) × (new ≡ over new.blocks (on new.devices (signed_over s leaf r)))) b.signed in
       record {
         declared = declared.is_declared;
         fits = if_ready (λ r. structure.Fits (next_structure s r)) b.fits;
@@ -81,6 +81,6 @@ module _ (s new : State) (y : Ready) (ready : s.accepted ≡ Some y) where
         number = declared.number;
         signed = tt;
         text = tt;
-        tried = if_ready (λ r. IsTried (λ leaf. structure_record (signed_text s leaf r)) s.devices new.devices) b.tried;
+        tried = if_ready (λ r. IsTried (λ leaf. structure_record (signed_text s leaf r)) (under 0 s.devices) (under 0 new.devices)) b.tried;
         err = ap released (b.fails refl);
       }

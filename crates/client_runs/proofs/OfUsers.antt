@@ -4,8 +4,8 @@ use Rattle.std.proofs.lemmas.Bool.{eq-eqb, eqb-true}
 use Rattle.layout.specs.Types.{User}
 use Rattle.client_steps.specs.Steps.{AreSteps, Client, IsSound, IsStep, Owner, StepTaken, first}
 use Rattle.client_steps.proofs.Joins.{steps_join}
-use Rattle.client_runs.specs.Runs.{Event, IsRun, Keys, client_of, owner}
-use Rattle.client_runs.specs.OfUsers.{AreStepsOfEach, RunsAreSteps, StepsAreRuns, step_in, steps_of}
+use Rattle.client_runs.specs.Runs.{Event, Keys, client_of, owner}
+use Rattle.client_runs.specs.OfUsers.{RunsAreSteps, StepsAreRuns, step_in, steps_of}
 
 -- ---- steps, and a last one
 

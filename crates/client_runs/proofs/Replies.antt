@@ -76,7 +76,7 @@ kept_sound run s new same a = record {
 pub record IsQuiet (s new : State) : Type 0 where
   pub devices : new.devices ≡ s.devices
   pub user : new.user ≡ s.user
-  pub secret : new.secret ≡ s.secret
+  pub secrets : new.secrets ≡ s.secrets
   pub pinned : new.pinned ≡ s.pinned
   pub number : new.number ≡ s.number
   pub last : new.last ≡ s.last
@@ -84,7 +84,7 @@ pub record IsQuiet (s new : State) : Type 0 where
   pub phase : new.phase ≡ s.phase
 
 pub still : (s : State) → IsQuiet s s
-still s = record { devices = refl; user = refl; secret = refl; pinned = refl; number = refl; last = refl; text = refl; phase = refl }
+still s = record { devices = refl; user = refl; secrets = refl; pinned = refl; number = refl; last = refl; text = refl; phase = refl }
 
 -- ---- later
 
@@ -142,19 +142,19 @@ pub record StaysSound (run : List Event) (s new : State) : Type 0 where
 
 writes : (run : List Event) (s : State) (b : CheckedBlocks) (good : Good) (a : Asked) → IsGoodBy run (known s) good.lists good.table → StaysSound run s (record s { blocks = b; checked = Some (Writing good a); accepted = None })
 writes run s b good a g = record {
-  quiet = record { devices = refl; user = refl; secret = refl; pinned = refl; number = refl; last = refl; text = refl; phase = refl };
+  quiet = record { devices = refl; user = refl; secrets = refl; pinned = refl; number = refl; last = refl; text = refl; phase = refl };
   sound = record { checked = g; accepted = tt };
 }
 
 reads : (run : List Event) (s : State) (b : CheckedBlocks) (r : Reply) (a : Asked) → IsJudged run (known s) r → StaysSound run s (record s { blocks = b; checked = Some (Reading r a); accepted = None })
 reads run s b r a j = record {
-  quiet = record { devices = refl; user = refl; secret = refl; pinned = refl; number = refl; last = refl; text = refl; phase = refl };
+  quiet = record { devices = refl; user = refl; secrets = refl; pinned = refl; number = refl; last = refl; text = refl; phase = refl };
   sound = record { checked = j; accepted = tt };
 }
 
 accepts : (run : List Event) (s : State) (b : CheckedBlocks) (y : Ready) → IsGoodBy run (known s) y.lists y.table → StaysSound run s (record s { blocks = b; checked = None; accepted = Some y })
 accepts run s b y g = record {
-  quiet = record { devices = refl; user = refl; secret = refl; pinned = refl; number = refl; last = refl; text = refl; phase = refl };
+  quiet = record { devices = refl; user = refl; secrets = refl; pinned = refl; number = refl; last = refl; text = refl; phase = refl };
   sound = record { checked = tt; accepted = g };
 }
 
@@ -215,7 +215,7 @@ module _ (run : List Event) (s : State) where
   some_block k (Some text) step new u h =
       let g = on_from k text step new u h in
       record {
-        quiet = record { devices = g.quiet.devices; user = g.quiet.user; secret = g.quiet.secret; pinned = g.quiet.pinned; number = g.quiet.number; last = g.quiet.last; text = g.quiet.text; phase = g.quiet.phase };
+        quiet = record { devices = g.quiet.devices; user = g.quiet.user; secrets = g.quiet.secrets; pinned = g.quiet.pinned; number = g.quiet.number; last = g.quiet.last; text = g.quiet.text; phase = g.quiet.phase };
         sound = g.sound;
       }
 

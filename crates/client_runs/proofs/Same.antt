@@ -8,7 +8,7 @@ use Rattle.wire.specs.declared.kinds.Status.TheVariants as status
 use Rattle.client_tree.specs.declared.questions.Question.{Question}
 use Rattle.client_releases.specs.declared.error.ClientError.{ClientError}
 use Rattle.client_releases.specs.declared.error.ClientError.TheVariants as error
-use Rattle.client_releases.specs.Releasing.{IsKept, structure_record}
+use Rattle.client_releases.specs.Releasing.{IsKept, structure_record, under}
 use Rattle.leaf_ledger.specs.Ledger.{LeafNumber}
 use Rattle.client_verify.specs.State.{State, on, over, released, signed_over, signed_text}
 use Rattle.client_runs.specs.Slots.{AreSame}
@@ -22,7 +22,7 @@ told_error e x is = subst (λ (y : ClientError). IsErrOf {T = Bytes} {E = Client
 
 module _ (s new : State) where
   quietly : released new ≡ released s → AreSame s new
-  quietly e = ap (λ r. r.secret) e
+  quietly e = ap (λ r. r.secrets) e
 
   pub stays : new ≡ s → AreSame s new
   stays e = quietly (ap released e)
@@ -37,8 +37,8 @@ module _ (s new : State) where
   unless_device error.Damaged failed else_same = stays (else_same (λ e. cc e))
 
   pub begins : (changes : List (Change Digest)) (laid : List Bytes) (answer : Result Bytes ClientError) → HasBegun s changes laid answer new → AreSame s new
-  begins changes laid (Ok text) b = ap (λ (n : State). n.secret) b.declared.2
-  begins changes laid (Err e) b = unless_device e (λ is. let left = b.fails (told_error e error.Device is) in ap (λ (n : State). n.secret) left) b.err
+  begins changes laid (Ok text) b = ap (λ (n : State). n.secrets) b.declared.2
+  begins changes laid (Err e) b = unless_device e (λ is. let left = b.fails (told_error e error.Device is) in ap (λ (n : State). n.secrets) left) b.err
 
   pub hears : (text : Bytes) (answer : Result Asks ClientError) → HasHeard s text answer new → AreSame s new
   hears text answer b = quietly (quiet.hears s text answer new b)
@@ -55,12 +55,12 @@ module _ (s new : State) where
   pub signs : (answer : Result Bytes ClientError) → HasSigned s answer new → AreSame s new
   signs (Ok text) b =
       with_ready s (AreSame s new) b.ready
-      (λ y is. let done = if_ready s new y is (λ r. (leaf : LeafNumber) × IsKept leaf (structure_record (signed_text s leaf r)) s.devices new.devices × (new ≡ over new.blocks (on new.devices (signed_over s leaf r)))) b.signed in
-      ap (λ (n : State). n.secret) done.2)
-  signs (Err e) b = unless_device e (λ is. let left = b.fails (told_error e error.Device is) in ap (λ (n : State). n.secret) left) b.err
+      (λ y is. let done = if_ready s new y is (λ r. (leaf : LeafNumber) × IsKept leaf (structure_record (signed_text s leaf r)) (under 0 s.devices) (under 0 new.devices) × (new ≡ over new.blocks (on new.devices (signed_over s leaf r)))) b.signed in
+      ap (λ (n : State). n.secrets) done.2)
+  signs (Err e) b = unless_device e (λ is. let left = b.fails (told_error e error.Device is) in ap (λ (n : State). n.secrets) left) b.err
 
   pub commits : (answer : Status) → HasCommitted s answer new → AreSame s new
-  commits status.Ok b = ap (λ (n : State). n.secret) b.state
+  commits status.Ok b = ap (λ (n : State). n.secrets) b.state
   commits status.Form b = stays b.state
   commits status.UnknownUser b = stays b.state
   commits status.BadSignature b = stays b.state
@@ -72,7 +72,7 @@ module _ (s new : State) where
   commits status.Memory b = stays b.state
 
   pub caches : (capacity : ℕ) → HasCached s capacity new → AreSame s new
-  caches capacity b = ap (λ (n : State). n.secret) b.state
+  caches capacity b = ap (λ (n : State). n.secrets) b.state
 
   -- so no step of one that stays open does
   pub steps : (call : Call) → FromOpen s call (Open new) → AreSame s new

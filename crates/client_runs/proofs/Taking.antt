@@ -1,8 +1,9 @@
 -- Steps that are taken: what a call ensures is what its step tells.
-use Rattle.std.proofs.Common.{◌≡◌, ℕ, ◌≤◌, Option, Ok, Err, Result, IfOk, option_map, refl, sym, ap, subst, ◌∙◌}
+use Rattle.std.proofs.lemmas.List.{length-map}
+use Rattle.std.proofs.Common.{arith, ◌≡◌, ℕ, List, [], ◌∷◌, length, map, Option, Ok, Err, Result, IfOk, option_map, refl, sym, ap, subst, ◌∙◌}
 use Rattle.std.specs.Vec.{vec_items}
 use Rattle.std.specs.declared.vec.Vec.{Vec}
-use Rattle.layout.specs.Types.{Bytes, Digest, INumber, Key, Principal}
+use Rattle.layout.specs.Types.{Bytes, Digest, INumber, Key, Principal, User}
 use Rattle.lms_sign.specs.Secret.{Secret}
 use Rattle.leaf_ledger.specs.Device.{History, MayLeave, started}
 use Rattle.update_cert.specs.Change.{Change}
@@ -18,10 +19,10 @@ use Rattle.client_runs.specs.declared.world.Act.{Act}
 use Rattle.client_runs.specs.declared.world.Act.TheVariants as act
 use Rattle.client_runs.specs.declared.world.Answer.{Answer}
 use Rattle.client_runs.specs.declared.world.Answer.TheVariants as answer
-use Rattle.client_steps.specs.Steps.{Begins, Caches, Client, Closed, Closes, Commits, Gives, HasBegun, HasCached, HasCommitted, HasGiven, HasHeard, HasLooked, HasSigned, HasTaken, Hears, IsHandedBack, IsOpened, IsRefused, IsSound, Looks, Open, Opens, Owner, Parts, Signs, Takes, journal_of, ledger_of, owner_of}
+use Rattle.client_steps.specs.Steps.{Begins, Caches, Client, Closed, Closes, Commits, Gives, HasBegun, HasCached, HasCommitted, HasGiven, HasHeard, HasLooked, HasSigned, HasTaken, Hears, IsHandedBack, IsOpened, IsRefused, IsSound, Looks, Open, Opens, Owner, IsStep, Device, Parts, Signs, Takes, closed_over, journal_of, ledger_in, ledger_of, owner_of, secret_in}
 use Rattle.client_runs.specs.Carried.{ComesOf}
 use Rattle.client_runs.specs.NotTaken.{CantFromOpen, MayLeaveBoth}
-use Rattle.client_runs.specs.Slots.{AreSame}
+use Rattle.client_runs.specs.Slots.{AreSame, StaysOpen}
 use Rattle.client_steps.specs.Anywhere.{asked, on_ok, seen}
 use Rattle.client_runs.specs.Told.{IsAcceptedBy, IsTold, resent, texts_in}
 use Rattle.client_runs.proofs.Same as unchanged
@@ -115,6 +116,12 @@ module _ {A : Type 0} (o : Owner) (old new : State) (t : Act A) where
       same_step act.Close answer.Closed (Closed p) is
       (record { call = Closes; is_call = refl; told = tt; step = back; sound = tt })
 
+-- what is neither a close nor a crash leaves it open
+pub stays_open : {A : Type 0} (t : Act A) → (t ≡ act.Close → ⊥) → ((ledger journal : Vec ℕ A) → t ≡ act.Crash ledger journal → ⊥) → StaysOpen t
+stays_open act.Close no_close no_crash = no_close refl
+stays_open (act.Crash ledger journal) no_close no_crash = no_crash ledger journal refl
+stays_open other no_close no_crash = tt
+
 -- whatever comes of an open client, it is of the same key while it stays open
 pub same_key : {A : Type 0} (o : Owner) (old new : State) (t : Act A) (a : Answer A) → ComesOf o (Open old) t a (Open new) → AreSame old new
 same_key o old new t answer.NotTaken h = let is : new ≡ old = cc h.0 in unchanged.stays old new is
@@ -133,7 +140,7 @@ same_key o old new t (answer.Served status) h = unchanged.steps old new h.call h
 -- ---- crashes
 
 -- what may be left may be left by another name
-may_of : (file same : History) (left alike : Bytes) → file ≡ same → left ≡ alike → MayLeave file.now left → MayLeave same.now alike
+pub may_of : (file same : History) (left alike : Bytes) → file ≡ same → left ≡ alike → MayLeave file.now left → MayLeave same.now alike
 may_of file same left alike at_file at_left may = subst (λ (x : Bytes). MayLeave same.now x) at_left (subst (λ (h : History). MayLeave h.now left) at_file may)
 
 -- The step, the files of both devices and what is left on them are those of the test and of the crash by other names.
@@ -147,6 +154,63 @@ module _ {A : Type 0} (o : Owner) (before : Client) (t : Act A) (ledger journal 
       (may_of file (ledger_of before) left ledger.items at_file at_left may.0, may_of other (journal_of before) kept journal.items at_other at_kept may.1) in
       subst (λ (x : Act A). ComesOf o before x answer.Crashed (Closed p)) (sym is)
       (crashes o before ledger journal p both (l ∙ ap started at_left) (j ∙ ap started at_kept))
+
+-- what it may not leave it doesn't
+pub not_left : {A : Type 0} (s : State) (t : Act A) (ledger journal : Vec ℕ A) (file other : History) (left kept : Bytes) → t ≡ act.Crash ledger journal → file ≡ ledger_of (Open s) → other ≡ journal_of (Open s)
+    → left ≡ ledger.items → kept ≡ journal.items → (MayLeaveBoth file other left kept → ⊥) → CantFromOpen s t
+not_left {A} s t ledger journal file other left kept is at_file at_other at_left at_kept none =
+    subst (λ (x : Act A). CantFromOpen s x) (sym is)
+    (λ may. none (may_of (ledger_of (Open s)) file ledger.items left (sym at_file) (sym at_left) may.0, may_of (journal_of (Open s)) other journal.items kept (sym at_other) (sym at_kept) may.1))
+
+-- ---- a client with one key in a vector
+
+abbrev Own : Type 0
+Own = List (Secret × Device)
+
+abbrev ledger_of_own : Own → Device
+ledger_of_own keys = ledger_in (λ (d : Device). d.history) (λ (d : Device). d.faults) keys
+
+abbrev told : Device → Device
+told d = record { history = d.history; faults = d.faults }
+
+module _ (user : User) (pinned : Key) (keys : Own) (under : Device) (key : Secret) (ledger journal : Device) (one : keys ≡ (key, ledger) ∷ []) (same : under ≡ journal) where
+  pub opened_over : (s : State) → IsStep (owner_of user (secret_in keys) pinned) (closed_over (ledger_of_own keys) (told under)) (Opens (Ok tt)) (Open s)
+      → IsOpened (owner_of user key pinned) (record { ledger = ledger; journal = journal }) s
+  opened_over s is =
+      subst (λ (j : Device). IsStep (owner_of user key pinned) (closed_over ledger j) (Opens (Ok tt)) (Open s)) same
+      (subst (λ (l : Own). IsStep (owner_of user (secret_in l) pinned) (closed_over (ledger_of_own l) (told under)) (Opens (Ok tt)) (Open s)) one is)
+
+  pub refused_over : (back : Own) (left : Device) (k : Secret) (l j : Device) → back ≡ (k, l) ∷ [] → j ≡ left → (e : ClientError)
+      → IsStep (owner_of user (secret_in keys) pinned) (closed_over (ledger_of_own keys) (told under)) (Opens (Err e)) (closed_over (ledger_of_own back) (told left))
+      → IsRefused (owner_of user key pinned) (record { ledger = ledger; journal = journal }) e (record { ledger = l; journal = j })
+  refused_over back left k l j other alike e is =
+      subst (λ (x : Device). IsStep (owner_of user key pinned) (closed_over ledger x) (Opens (Err e)) (closed_over l j)) same
+      (subst (λ (x : Own). IsStep (owner_of user (secret_in x) pinned) (closed_over (ledger_of_own x) (told under)) (Opens (Err e)) (closed_over l j)) one
+      (subst (λ (x : Device). IsStep (owner_of user (secret_in keys) pinned) (closed_over (ledger_of_own keys) (told under)) (Opens (Err e)) (closed_over l x)) (sym alike)
+      (subst (λ (x : Own). IsStep (owner_of user (secret_in keys) pinned) (closed_over (ledger_of_own keys) (told under)) (Opens (Err e)) (closed_over (ledger_of_own x) (told left))) other is)))
+
+-- the same key comes back
+module _ (back keys : Own) (key : Secret) (ledger : Device) where
+  pub one_back : map (λ k. k.0) back ≡ map (λ k. k.0) keys → keys ≡ (key, ledger) ∷ [] → length back ≡ 1
+  one_back same one =
+      let size = ap (λ (l : List Secret). length l) same in
+      omega (arith, size, length-map back (λ (k : Secret × Device). k.0), length-map keys (λ (k : Secret × Device). k.0), ap (λ (l : Own). length l) one)
+
+  pub key_back : (k : Secret) (l : Device) → map (λ k. k.0) back ≡ map (λ k. k.0) keys → keys ≡ (key, ledger) ∷ [] → back ≡ (k, l) ∷ [] → k ≡ key
+  key_back k l same one other =
+      let heads : k ∷ [] ≡ key ∷ [] = sym (ap (λ (l : Own). map (λ x. x.0) l) other) ∙ same ∙ ap (λ (l : Own). map (λ x. x.0) l) one in cc heads
+
+pub key_handed : (back : Own) (secrets : List Secret) (k : Secret) (l : Device) (key : Secret) → map (λ k. k.0) back ≡ secrets → secrets ≡ key ∷ [] → back ≡ (k, l) ∷ [] → k ≡ key
+key_handed back secrets k l key same one other =
+    let heads : k ∷ [] ≡ key ∷ [] = sym (ap (λ (l : Own). map (λ x. x.0) l) other) ∙ same ∙ one in cc heads
+
+pub one_handed : (back : Own) (secrets : List Secret) → map (λ k. k.0) back ≡ secrets → length secrets ≡ 1 → length back ≡ 1
+one_handed back secrets same one = omega (arith, ap (λ (l : List Secret). length l) same, one, length-map back (λ (k : Secret × Device). k.0))
+
+pub handed_over : (s : State) (back : Own) (left : Device) (k : Secret) (l j : Device) → back ≡ (k, l) ∷ [] → j ≡ left → IsHandedBack s (record { ledger = ledger_of_own back; journal = told left }) → IsHandedBack s (record { ledger = l; journal = j })
+handed_over s back left k l j other alike is =
+    subst (λ (x : Device). IsHandedBack s (record { ledger = l; journal = x })) (sym alike)
+    (subst (λ (x : Own). IsHandedBack s (record { ledger = ledger_of_own x; journal = told left })) other is)
 
 -- ---- a closed client
 

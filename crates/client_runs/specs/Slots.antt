@@ -1,5 +1,5 @@
 -- Users' clients in memory: for private contracts. Nobody has to believe this file.
-use Rattle.std.specs.Prelude.{◌≡◌, ℕ, List, length, map, slice_index_or}
+use Rattle.std.specs.Prelude.{◌≡◌, ℕ, List, [], ◌∷◌, length, map, slice_index_or}
 use Rattle.layout.specs.Types.{Key}
 use Rattle.client_verify.specs.State.{State}
 use Rattle.client_runs.specs.declared.slot.Slot.{Slot}
@@ -21,11 +21,11 @@ client_in (slot.Open s) = Open s
 abbrev pub IsOf : {A : Type 0} → Owner → Slot A → Type 0
 IsOf o slot.Unmade = Unit {0}
 IsOf o (slot.Closed p) = p.key ≡ o.secret
-IsOf o (slot.Open s) = s.secret ≡ o.secret
+IsOf o (slot.Open s) = s.secrets ≡ o.secret ∷ []
 
--- the client of the same key
+-- the client of the same keys
 abbrev pub AreSame : State → State → Type 0
-AreSame old new = new.secret ≡ old.secret
+AreSame old new = new.secrets ≡ old.secrets
 
 -- what neither closes an open client nor lets it crash
 abbrev pub StaysOpen : {A : Type 0} → Act A → Type 0

@@ -1,6 +1,6 @@
 //! A user's client in memory, open or closed, and a step of it.
 
-ghost use Rattle.std.specs.Prelude.{◌≡◌, false, true, IfOk};
+ghost use Rattle.std.specs.Prelude.{◌≡◌, [], ◌∷◌, false, length, true, IfOk};
 ghost use Rattle.std.specs.Option.{option_copied};
 ghost use Rattle.leaf_ledger.specs.Device.{started};
 ghost use Rattle.client_steps.specs.Steps.{Open, Owner, first};
@@ -14,14 +14,22 @@ ghost use Rattle.client_runs.specs.NotTaken.{MayLeaveBoth};
 use crate::answering::call;
 use crate::armed::{ArmedDevice, MemoryClient, Order};
 use crate::world::{Act, Answer};
-use client_steps::type_invariant;
+use client_steps::{close, type_invariant};
 use client_verify::{Parts, Phase};
 use layout::{Memory, User, beside, let_go};
 use lms_sign::{PrivateKey, PublicKey};
 use std::alloc::Allocator;
 
-/// What a client is opened over, in memory.
-type MemoryParts<A> = Parts<ArmedDevice<A>, ArmedDevice<A>, A>;
+/// What a client is opened over, in memory: its one key, with the device of its ledger, and the device of its journal.
+#[derive(Drop)]
+pub(crate) struct MemoryParts<A: Allocator + Copy> {
+    key: PrivateKey<A>,
+    ledger: ArmedDevice<A>,
+    journal: ArmedDevice<A>,
+}
+
+/// The same as a client takes it and hands it back.
+type ClientParts<A> = Parts<ArmedDevice<A>, ArmedDevice<A>, A>;
 
 /// A user's client.
 #[derive(Drop)]
@@ -60,11 +68,40 @@ fn first_parts<A: Allocator + Copy>(
     let key = key_of(alloc, user)?;
     let ledger = ArmedDevice::empty(alloc, orders.ledger.clone()?)?;
     let journal = ArmedDevice::empty(alloc, orders.journal.clone()?)?;
-    Ok(Parts {
+    Ok(MemoryParts {
         key,
         ledger,
         journal,
     })
+}
+
+/// As a client takes it.
+fn given<A: Allocator + Copy>(alloc: A, parts: MemoryParts<A>) -> Result<ClientParts<A>, Memory>
+    ensures keys { IfOk result (λ p. p.keys.items ≡ (parts.key, parts.ledger) ∷ []) }
+    ensures journal { IfOk result (λ p. p.journal ≡ parts.journal) }
+{
+    let MemoryParts {
+        key,
+        ledger,
+        journal,
+    } = parts;
+    Parts::of_one(alloc, key, ledger, journal)
+}
+
+/// What a client with one key handed back.
+fn taken_back<A: Allocator + Copy>(parts: ClientParts<A>) -> MemoryParts<A>
+    requires { length parts.keys.items ≡ 1 }
+    ensures keys { parts.keys.items ≡ (result.key, result.ledger) ∷ [] }
+    ensures journal { result.journal ≡ parts.journal }
+{
+    let Some((key, ledger, journal)) = parts.last() else {
+        unreachable!()
+    };
+    MemoryParts {
+        key,
+        ledger,
+        journal,
+    }
 }
 
 /// The text that an opened client has to send again, if there is one.
@@ -131,6 +168,7 @@ fn open<A: Allocator + Copy>(
         (client_in r.0)) }
     ensures own { IfOk result (λ r. IsOf (owner script_keys user) r.0) }
 {
+    let parts = given(alloc, parts)?;
     match client_steps::open(alloc, user, pinned, parts) {
         Ok(client) => {
             let phase = client.phase();
@@ -138,7 +176,10 @@ fn open<A: Allocator + Copy>(
             let (client, text) = beside(client, text)?;
             Ok((Slot::Open(client), Answer::Opened(phase, text)))
         }
-        Err((error, parts)) => Ok((Slot::Closed(parts), Answer::Refused(error))),
+        Err((error, parts)) => {
+            let parts = taken_back(parts);
+            Ok((Slot::Closed(parts), Answer::Refused(error)))
+        }
     }
 }
 
@@ -208,14 +249,14 @@ fn crash<A: Allocator + Copy>(
     ensures journal { IfOk result (λ p. p.journal.history ≡ started journal_left.now) }
     ensures key { IfOk result (λ p. p.key ≡ parts.key) }
 {
-    let Parts {
+    let MemoryParts {
         key,
         ledger,
         journal,
     } = parts;
     let devices = both_left_over(alloc, ledger, journal, ledger_left, journal_left);
     let (key, (ledger, journal)) = beside(key, devices)?;
-    Ok(Parts {
+    Ok(MemoryParts {
         key,
         ledger,
         journal,
@@ -255,16 +296,20 @@ fn open_step<A: Allocator + Copy>(
     client: MemoryClient<A>,
     act: &Act<A>,
 ) -> Result<(Slot<A>, Answer<A>), Memory>
+    requires { length client.secrets ≡ 1 }
     ensures step { IfOk result (λ r. (o : Owner) → ComesOf o (Open client) act.now r.1 (client_in r.0)) }
-    ensures own { IfOk result (λ r. (o : Owner) → client.secret ≡ o.secret → IsOf o r.0) }
+    ensures own { IfOk result (λ r. (o : Owner) → client.secrets ≡ o.secret ∷ [] → IsOf o r.0) }
 {
     match act {
-        Act::Close => Ok((Slot::Closed(client.close()), Answer::Closed)),
+        Act::Close => {
+            let parts = taken_back(close(client));
+            Ok((Slot::Closed(parts), Answer::Closed))
+        }
         Act::Crash(ledger, journal) => {
             if !may_leave(client.ledger(), client.journal(), ledger, journal) {
                 return Ok((Slot::Open(client), Answer::NotTaken));
             }
-            let parts = crash(alloc, client.close(), ledger, journal)?;
+            let parts = crash(alloc, taken_back(close(client)), ledger, journal)?;
             Ok((Slot::Closed(parts), Answer::Crashed))
         }
         _ => {
