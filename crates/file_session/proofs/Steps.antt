@@ -7,7 +7,7 @@ use Rattle.leaf_ledger.specs.Ledger.{LeafNumber}
 use Rattle.wire.specs.declared.kinds.Status.{Status}
 use Rattle.wire.specs.declared.kinds.Status.TheVariants as status
 use Rattle.client_releases.specs.declared.phase.Phase.TheVariants as phase
-use Rattle.client_releases.specs.Releasing.{IsKept, structure_record}
+use Rattle.client_releases.specs.Releasing.{IsKept, structure_record, under}
 use Rattle.client_releases.specs.Told.{Released}
 use Rattle.client_releases.specs.declared.error.ClientError.{ClientError}
 use Rattle.client_verify.specs.declared.look.Look.{Look}
@@ -61,13 +61,13 @@ of_declared r (Some y) some h = h.is_declared
 
 -- ---- a structure was signed, or it wasn't
 
-signed_at : (s new : State) (o : Option Ready) → IsSome o → IfSome o (λ r. (leaf : LeafNumber) × IsKept leaf (structure_record (signed_text s leaf r)) s.devices new.devices × (new ≡ over new.blocks (on new.devices (signed_over s leaf r)))) → new.phase ≡ phase.Signed
+signed_at : (s new : State) (o : Option Ready) → IsSome o → IfSome o (λ r. (leaf : LeafNumber) × IsKept leaf (structure_record (signed_text s leaf r)) (under 0 s.devices) (under 0 new.devices) × (new ≡ over new.blocks (on new.devices (signed_over s leaf r)))) → new.phase ≡ phase.Signed
 signed_at s new None some h = absurd cc
 signed_at s new (Some r) some (leaf, kept, is) = ap (λ (n : State). n.phase) is
 
 -- the operation isn't committed
 pub sign_unfinished : {A : Type 0} (s new : State) (x : Result (Vec ℕ A) ClientError) → IsSome s.accepted → s.phase ≡ phase.Declared
-    → OnOk x (IfSome s.accepted (λ r. (leaf : LeafNumber) × IsKept leaf (structure_record (signed_text s leaf r)) s.devices new.devices × (new ≡ over new.blocks (on new.devices (signed_over s leaf r)))))
+    → OnOk x (IfSome s.accepted (λ r. (leaf : LeafNumber) × IsKept leaf (structure_record (signed_text s leaf r)) (under 0 s.devices) (under 0 new.devices) × (new ≡ over new.blocks (on new.devices (signed_over s leaf r)))))
     → (IsErrOf x error.Device → new ≡ on new.devices (failed s)) → IfErr x (λ e. e ≢ error.Device → new ≡ s)
     → IsUnfinished new
 sign_unfinished s new (Ok x) some is ok device err = signed_is new (signed_at s new s.accepted some ok)

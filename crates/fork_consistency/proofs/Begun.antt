@@ -96,7 +96,7 @@ module _ (Inside : Cert → List Bytes → Type 0) where
     refused p e q sent h is =
         with_low (Closed p) (Closed q) sent sent h
         (low_holds.closes (low_owner o) (Unit {0}) (Unit {0}) h.story h.tried sent (λ t. t) (low_client (Closed p)) (low_parts q) h.low
-        (lies_on (low_owner o) h.story h.tried p.ledger.history p.journal.history q.ledger.history q.journal.history h.low.lies is.moments.leaves is.moments.records))
+        (lies_on (low_owner o) h.story h.tried p.ledger.history p.journal.history q.ledger.history q.journal.history h.low.lies is.moments.ledgers.0.leaves is.moments.records))
 
     handed_back : (s : State) (p : Parts) (sent : List Bytes) → Holds (Open s) sent → IsHandedBack s p → Holds (Closed p) sent
     handed_back s p sent h is =

@@ -10,7 +10,7 @@ use Rattle.wire.specs.declared.kinds.Status.TheVariants as status
 use Rattle.client_releases.specs.declared.error.ClientError.TheVariants as error
 use Rattle.client_releases.specs.declared.phase.Phase.{Phase}
 use Rattle.client_releases.specs.declared.phase.Phase.TheVariants as phase
-use Rattle.client_releases.specs.Releasing.{IsKept, structure_record}
+use Rattle.client_releases.specs.Releasing.{IsKept, structure_record, under}
 use Rattle.client_releases.specs.Told.{IsPhase, Released}
 use Rattle.reply_check.specs.FirstBroken.{Known}
 use Rattle.agreement.specs.Runs.{View, user_of}
@@ -276,7 +276,7 @@ module _ (o : Owner) where
 
         pub signs_ok : (text : Bytes) → HasSigned s (Ok text) new → HoldsAfter older (Open s) texts signed view (Signs (Ok text)) (Open new)
         signs_ok text b =
-            let done = if_ready s new y ready (λ r. (leaf : LeafNumber) × IsKept leaf (structure_record (signed_text s leaf r)) s.devices new.devices × (new ≡ over_blocks new.blocks (on new.devices (signed_over s leaf r)))) b.signed in
+            let done = if_ready s new y ready (λ r. (leaf : LeafNumber) × IsKept leaf (structure_record (signed_text s leaf r)) (under 0 s.devices) (under 0 new.devices) × (new ≡ over_blocks new.blocks (on new.devices (signed_over s leaf r)))) b.signed in
             let is = done.2 in
             let k = signs (low_owner o) (Unit {0}) h.story h.tried texts (released s) h.low (next_structure s y) (released new) text (low_signed s new y ready text h.own.always b) in
             record {

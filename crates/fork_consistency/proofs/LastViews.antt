@@ -17,7 +17,7 @@ use Rattle.client_tree.specs.View.{lost as lost_of}
 use Rattle.client_tree.specs.declared.questions.Question.{Question}
 use Rattle.client_releases.specs.declared.error.ClientError.{ClientError}
 use Rattle.client_releases.specs.declared.error.ClientError.TheVariants as error
-use Rattle.client_releases.specs.Releasing.{IsKept, structure_record}
+use Rattle.client_releases.specs.Releasing.{IsKept, structure_record, under}
 use Rattle.client_verify.specs.declared.look.Look.TheVariants as look
 use Rattle.client_verify.specs.declared.step.Step.TheVariants.{Need, Store, Broken}
 use Rattle.client_verify.specs.declared.view.Looking.{Looking}
@@ -237,7 +237,7 @@ module _ (texts : List Bytes) (apart : NoneCollide texts texts) (key : Key) wher
   signs : (s new : State) (text : Bytes) (last : Option View) → HasSigned s (Ok text) new → KnowsClient texts apart key (Open s) → HasLastView (next (option_to_list (option_map (over s) s.accepted)) last) (Open new)
   signs s new text last h knows = go s.accepted h.ready h.signed knows.accepted
     where
-      go : (o : Option Ready) → IsSome o → IfSome o (λ r. (leaf : LeafNumber) × IsKept leaf (structure_record (signed_text s leaf r)) s.devices new.devices × (new ≡ over_blocks new.blocks (on new.devices (signed_over s leaf r)))) → IfSome o (IsReady texts apart key)
+      go : (o : Option Ready) → IsSome o → IfSome o (λ r. (leaf : LeafNumber) × IsKept leaf (structure_record (signed_text s leaf r)) (under 0 s.devices) (under 0 new.devices) × (new ≡ over_blocks new.blocks (on new.devices (signed_over s leaf r)))) → IfSome o (IsReady texts apart key)
           → HasLastView (next (option_to_list (option_map (over s) o)) last) (Open new)
       go None some h made = absurd (cc some)
       go (Some y) some h made = signed_view s new y h.0 h.2 made

@@ -49,7 +49,7 @@ module _ (o : Owner) where
     refused p e q h is =
         closes o older texts signed view (event o (Opens (Err e)) (Closed q)) (Closed p) q h
         (low_holds.closes (low_owner o) (Unit {0}) (Unit {0}) h.story h.tried texts (λ t. t) (low_client (Closed p)) (low_parts q) h.low
-        (lies_on (low_owner o) h.story h.tried p.ledger.history p.journal.history q.ledger.history q.journal.history h.low.lies is.moments.leaves is.moments.records))
+        (lies_on (low_owner o) h.story h.tried p.ledger.history p.journal.history q.ledger.history q.journal.history h.low.lies is.moments.ledgers.0.leaves is.moments.records))
 
     handed_back : (s : State) (p : Parts) → Holds o older (Open s) texts signed view → IsHandedBack s p → HoldsAfter o older (Open s) texts signed view Closes (Closed p)
     handed_back s p h is =

@@ -27,7 +27,7 @@ use Rattle.client_tree.specs.declared.questions.Question.{Question}
 use Rattle.client_releases.specs.declared.error.ClientError.{ClientError}
 use Rattle.client_releases.specs.declared.error.ClientError.TheVariants as error
 use Rattle.client_releases.specs.declared.phase.Phase.{Phase}
-use Rattle.client_releases.specs.Releasing.{IsKept, structure_record}
+use Rattle.client_releases.specs.Releasing.{IsKept, structure_record, under}
 use Rattle.client_releases.specs.declared.phase.Phase.TheVariants as phase
 use Rattle.client_verify.specs.declared.look.Look.TheVariants as look
 use Rattle.client_verify.specs.declared.step.Step.TheVariants.{Need, Store, Broken}
@@ -285,7 +285,7 @@ module _ (texts : List Bytes) (apart : NoneCollide texts texts) (key : Key) wher
     signs : (answer : Result Bytes ClientError) → HasSigned s answer new → Knows new
     signs (Ok text) h = go s.accepted h.ready h.signed
       where
-        go : (y : Option Ready) → IsSome y → IfSome y (λ r. (leaf : LeafNumber) × IsKept leaf (structure_record (signed_text s leaf r)) s.devices new.devices × (new ≡ over_blocks new.blocks (on new.devices (signed_over s leaf r)))) → Knows new
+        go : (y : Option Ready) → IsSome y → IfSome y (λ r. (leaf : LeafNumber) × IsKept leaf (structure_record (signed_text s leaf r)) (under 0 s.devices) (under 0 new.devices) × (new ≡ over_blocks new.blocks (on new.devices (signed_over s leaf r)))) → Knows new
         go None some h = absurd (cc some)
         go (Some y) some signed_so = subst (λ (n : State). Knows n) (sym signed_so.2) (record { pinned = k.pinned; among = among_part texts s.blocks new.blocks k.among h.gone.known; checked = tt; accepted = tt })
     signs (Err error.Device) h = subst (λ (n : State). Knows n) (sym (h.fails refl)) (record { pinned = k.pinned; among = k.among; checked = tt; accepted = tt })

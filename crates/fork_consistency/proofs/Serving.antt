@@ -44,7 +44,7 @@ use Rattle.wire.specs.declared.kinds.Status.{Status}
 use Rattle.wire.specs.declared.kinds.Status.TheVariants as status
 use Rattle.client_releases.specs.declared.error.ClientError.{ClientError}
 use Rattle.client_releases.specs.declared.error.ClientError.TheVariants as error
-use Rattle.client_releases.specs.Releasing.{IsKept, structure_record}
+use Rattle.client_releases.specs.Releasing.{IsKept, structure_record, under}
 use Rattle.client_verify.specs.declared.look.Look.TheVariants as look
 use Rattle.client_verify.specs.declared.step.Step.TheVariants.{Need, Store, Broken}
 use Rattle.client_verify.specs.declared.view.Looking.{Looking}
@@ -440,7 +440,7 @@ module _ (put : List Bytes) (key : Key) (apart : NoneCollide (put ++ first_texts
     signs : (answer : Result Bytes ClientError) → HasSigned s answer new → Serves new
     signs (Ok text) h = go s.accepted h.ready h.signed
       where
-        go : (y : Option Ready) → IsSome y → IfSome y (λ r. (leaf : LeafNumber) × IsKept leaf (structure_record (signed_text s leaf r)) s.devices new.devices × (new ≡ over new.blocks (on new.devices (signed_over s leaf r)))) → Serves new
+        go : (y : Option Ready) → IsSome y → IfSome y (λ r. (leaf : LeafNumber) × IsKept leaf (structure_record (signed_text s leaf r)) (under 0 s.devices) (under 0 new.devices) × (new ≡ over new.blocks (on new.devices (signed_over s leaf r)))) → Serves new
         go None some so = absurd (cc some)
         go (Some y) some so =
             serves_none s.blocks new h.gone.first (ap is_under_way so.2)

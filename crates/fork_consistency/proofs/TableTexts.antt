@@ -1,12 +1,11 @@
 -- What a certificate makes of a table of principals that has a text still has one, where no row begins later than its
 -- number.
-use Rattle.std.proofs.Common.{◌≡◌, ◌≢◌, ℕ, Bool, true, false, ◌==◌, ◌&&◌, not, List, [], ◌∷◌, length, refl, subst, if◌then◌else◌, arith}
+use Rattle.std.proofs.Common.{◌≡◌, ℕ, Bool, true, false, ◌==◌, ◌&&◌, not, List, [], ◌∷◌, length, refl, subst, if◌then◌else◌, arith}
 use Rattle.std.specs.Prelude.{nat_lt}
 use Rattle.std.specs.Int.{w32}
 use Rattle.std.specs.List.{All}
 use Rattle.std.proofs.lemmas.Bool.{and_parts, ltb-true}
 use Rattle.std.proofs.lemmas.List.Elements.{All-head, All-tail}
-use Rattle.layout.specs.Format.{uint_in}
 use Rattle.layout.specs.Laws.{in_range, in_range_fits}
 use Rattle.layout.specs.Ranges.{user, group, version}
 use Rattle.layout.specs.Types.{Digest}

@@ -13,7 +13,7 @@ use Rattle.client_releases.specs.declared.error.ClientError.TheVariants as error
 use Rattle.client_releases.specs.declared.phase.Phase.{Phase}
 use Rattle.client_releases.specs.declared.phase.Phase.TheVariants as phase
 use Rattle.client_releases.specs.Told.{IsPhase, Released}
-use Rattle.client_releases.specs.Releasing.{IsKept, structure_record}
+use Rattle.client_releases.specs.Releasing.{IsKept, structure_record, under}
 use Rattle.client_verify.specs.State.{Ready, State, committed, next_cert, next_structure, on, over, released, signed_over, signed_text}
 use Rattle.client_steps.specs.Steps.{Begins, Call, Client, Closed, HasBegun, HasSigned, IsHandedBack, IsLeft, IsOpened, IsRefused, IsSound, Open, Opens, Parts}
 use Rattle.agreement.specs.Runs.{View, user_of}
@@ -73,7 +73,7 @@ module _ (keys : Keys) (naming : Naming) (u : User) (can : CanSign keys u) (hist
   left before p f is = closes before p f (low_runs.left (o keys naming u) f.story f.tried (low_client before) f.low.lies (low_parts p) (low_left before p is))
 
   pub refused : (p : Parts) (e : ClientError) (q : Parts) → At (Closed p) view stage → IsRefused (owner keys u) p e q → At (Closed q) view stage
-  refused p e q f is = closes (Closed p) q f (lies_on (o keys naming u) f.story f.tried p.ledger.history p.journal.history q.ledger.history q.journal.history f.low.lies is.moments.leaves is.moments.records)
+  refused p e q f is = closes (Closed p) q f (lies_on (o keys naming u) f.story f.tried p.ledger.history p.journal.history q.ledger.history q.journal.history f.low.lies is.moments.ledgers.0.leaves is.moments.records)
 
   pub handed_back : (s : State) (p : Parts) → At (Open s) view stage → IsHandedBack s p → At (Closed p) view stage
   handed_back s p f is = closes (Open s) p f (low_runs.handed_back (o keys naming u) f.story f.tried (low_client (Open s)) f.low.lies (low_parts p) is.ledger is.journal)
@@ -353,7 +353,7 @@ module _ (keys : Keys) (naming : Naming) (u : User) (can : CanSign keys u) (hist
 
       pub signs_ok : (answer : Bytes) → HasSigned s (Ok answer) new → Covers (option_to_list (in_hand (Open s))) → IsMove keys naming u history stage (Open new) (answer ∷ texts) view [] (option_to_list (in_hand (Open s)))
       signs_ok answer b covers =
-          let done = if_ready s new y ready (λ r. (leaf : LeafNumber) × IsKept leaf (structure_record (signed_text s leaf r)) s.devices new.devices × (new ≡ over new.blocks (on new.devices (signed_over s leaf r)))) b.signed in
+          let done = if_ready s new y ready (λ r. (leaf : LeafNumber) × IsKept leaf (structure_record (signed_text s leaf r)) (under 0 s.devices) (under 0 new.devices) × (new ≡ over new.blocks (on new.devices (signed_over s leaf r)))) b.signed in
           let is = done.2 in
           let k = signs (o keys naming u) (Unit {0}) f.story f.tried texts (released s) f.low z (released new) answer (low_signed s new y ready answer f.own.always b) in
           let q = k.0 in

@@ -10,7 +10,7 @@ use Rattle.reply_rules.specs.Lists.{Lists, lists_of}
 use Rattle.client_tree.specs.declared.questions.Question.{Question}
 use Rattle.client_releases.specs.declared.error.ClientError.{ClientError}
 use Rattle.client_releases.specs.declared.error.ClientError.TheVariants as error
-use Rattle.client_releases.specs.Releasing.{IsKept, structure_record}
+use Rattle.client_releases.specs.Releasing.{IsKept, structure_record, under}
 use Rattle.reply_check.specs.FirstBroken.{reply_in}
 use Rattle.reply_check.specs.Good.{Good}
 use Rattle.client_verify.specs.declared.look.Look.TheVariants as look
@@ -69,7 +69,7 @@ module _ (w : Wanted) where
     signs : (answer : Result Bytes ClientError) → HasSigned s answer new → IsNoted (Open new) w
     signs (Ok text) b =
         with_ready s (IsNoted (Open new) w) b.ready
-        (λ y is. let done = if_ready s new y is (λ r. (leaf : LeafNumber) × IsKept leaf (structure_record (signed_text s leaf r)) s.devices new.devices × (new ≡ over new.blocks (on new.devices (signed_over s leaf r)))) b.signed in
+        (λ y is. let done = if_ready s new y is (λ r. (leaf : LeafNumber) × IsKept leaf (structure_record (signed_text s leaf r)) (under 0 s.devices) (under 0 new.devices) × (new ≡ over new.blocks (on new.devices (signed_over s leaf r)))) b.signed in
         noted_by new None (on new.devices (signed_over s done.0 y)).view (ap (λ (n : State). n.checked) done.2) (ap (λ (n : State). n.view) done.2) tt tt)
     signs (Err e) b =
         unless_device e (λ is. let left = b.fails (ap (λ (x : ClientError). Err x) is) in unasked (ap (λ (n : State). n.checked) left) (ap (λ (n : State). n.view) left)) b.err

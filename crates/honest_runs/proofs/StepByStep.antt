@@ -8,7 +8,6 @@ use Rattle.client_tree.specs.Held.{Block, keeping_all}
 use Rattle.client_steps.specs.Steps.{StepTaken, first}
 use Rattle.client_runs.specs.declared.world.Answer.{Answer}
 use Rattle.client_runs.specs.Runs.{Event, client_of}
-use Rattle.client_runs.specs.Carried.{script_keys}
 use Rattle.client_runs.specs.Clients.{client_at}
 use Rattle.consistency_server.specs.Answers.{Call}
 use Rattle.honest_runs.specs.declared.step.HonestStep.{HonestStep}

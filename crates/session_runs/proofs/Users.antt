@@ -7,7 +7,7 @@ use Rattle.wire.specs.declared.kinds.Status.TheVariants as status
 use Rattle.leaf_ledger.specs.Ledger.{LeafNumber}
 use Rattle.client_releases.specs.declared.error.ClientError.{ClientError}
 use Rattle.client_releases.specs.declared.error.ClientError.TheVariants as error
-use Rattle.client_releases.specs.Releasing.{IsKept, structure_record}
+use Rattle.client_releases.specs.Releasing.{IsKept, structure_record, under}
 use Rattle.client_verify.specs.State.{State, on, over, released, signed_over, signed_text}
 use Rattle.client_steps.specs.Steps.{AreSteps, Begins, Caches, Call, Client, Closed, Closes, Commits, Crashes, FromOpen, Gives, HasCommitted, HasSigned, Hears, IsStep, Looks, Open, Opens, Owner, Signs, StepTaken, Takes}
 use Rattle.client_runs.proofs.Lowering.{if_ready, with_ready}
@@ -35,7 +35,7 @@ module _ (s new : State) where
   signs : (answer : Result Bytes ClientError) → HasSigned s answer new → new.user ≡ s.user
   signs (Ok text) b =
       with_ready s (new.user ≡ s.user) b.ready
-      (λ y is. let done = if_ready s new y is (λ r. (leaf : LeafNumber) × IsKept leaf (structure_record (signed_text s leaf r)) s.devices new.devices × (new ≡ over new.blocks (on new.devices (signed_over s leaf r)))) b.signed in
+      (λ y is. let done = if_ready s new y is (λ r. (leaf : LeafNumber) × IsKept leaf (structure_record (signed_text s leaf r)) (under 0 s.devices) (under 0 new.devices) × (new ≡ over new.blocks (on new.devices (signed_over s leaf r)))) b.signed in
       ap (λ (n : State). n.user) done.2)
   signs (Err e) b = unless_device e (λ is. ap (λ (n : State). n.user) (b.fails (told_error e error.Device is))) b.err
 

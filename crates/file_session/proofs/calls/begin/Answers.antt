@@ -14,7 +14,7 @@ returns-clause-leads g c =
     let after = c.type_invariant.ensures in
     leads _ (Begins c.args.changes.now (map vec_items c.args.laid.now) (on_ok vec_items c.begin-text.result)) _
     (begun c.args.client.now c.begin-text.new.self c.args.changes.now (map vec_items c.args.laid.now) c.begin-text.result c.requires.idle c.requires.few c.requires.laid
-    e.declared e.kept e.text e.fits e.any_moment e.tried e.no_leaf e.no_number e.rose e.fails e.kept_device e.fits_device e.only e.err) (after.released, after.replies) tt tt
+    e.declared e.kept e.text e.fits e.any_moment e.tried e.no_leaf e.no_number e.rose e.others e.fails e.kept_device e.fits_device e.only e.err) (after.released, after.replies) tt tt
 
 pub returns-clause-declared : goal.returns-clause-declared
 returns-clause-declared g c = on_ok_weaker c.begin-text.result (λ h. ap (λ (s : State). s.phase) h.2) c.begin-text.ensures.declared

@@ -1,4 +1,4 @@
-use Rattle.std.proofs.Common.{subst, sym, ℕ}
+use Rattle.std.proofs.Common.{subst, sym}
 use Rattle.std.specs.declared.vec.Vec.{Vec}
 use Rattle.client_runs.specs.declared.world.Answer.{Answer}
 use Rattle.honest_runs.specs.Served.{AreServed}
