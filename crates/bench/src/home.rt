@@ -13,8 +13,13 @@ use transport::Transport;
 /// A client whose devices are in memory.
 type MemoryClient = Client<MemoryDevice<Global>, MemoryDevice<Global>, Global>;
 
-/// What it is opened over.
-type Kept = Parts<MemoryDevice<Global>, MemoryDevice<Global>, Global>;
+/// What is kept of it while it is closed: its key, and the devices of its ledger and of its journal.
+#[derive(Drop)]
+struct Kept {
+    key: PrivateKey<Global>,
+    ledger: MemoryDevice<Global>,
+    journal: MemoryDevice<Global>,
+}
 
 /// User 0's client, and the transport to its server. When something failed, it does nothing more.
 #[derive(Drop)]
@@ -31,7 +36,7 @@ pub(crate) fn own_key(alloc: Global) -> Result<PrivateKey<Global>, Memory> {
 fn nothing_yet(alloc: Global) -> Result<Kept, Memory> {
     let ledger = MemoryDevice::new(alloc, Vec::new(alloc))?;
     let journal = MemoryDevice::new(alloc, Vec::new(alloc))?;
-    Ok(Parts {
+    Ok(Kept {
         key: own_key(alloc)?,
         ledger,
         journal,
@@ -40,13 +45,14 @@ fn nothing_yet(alloc: Global) -> Result<Kept, Memory> {
 
 /// User 0's client, opened over what it keeps. It holds no block.
 fn open(alloc: Global, kept: Kept) -> Result<MemoryClient, ClientError> {
-    let Parts {
+    let Kept {
         key,
         ledger,
         journal,
     } = kept;
     let pinned = key.public();
-    match Client::open(alloc, User::superuser(), key, pinned, ledger, journal) {
+    let Parts { keys, journal } = Parts::of_one(alloc, key, ledger, journal)?;
+    match Client::open(alloc, User::superuser(), keys, pinned, journal) {
         Ok(client) => Ok(client),
         Err((error, parts)) => {
             let_go(parts);
@@ -79,7 +85,18 @@ impl<T: Transport<Global> + Drop> Home<T> {
     /// Opens the client anew over what it keeps, so that it holds no block.
     pub(crate) fn reopen(&mut self, alloc: Global) {
         if let Some((client, transport)) = self.both.take()
-            && let Ok((transport, client)) = beside(transport, open(alloc, client.close()))
+            && let Some((key, ledger, journal)) = client.close().last()
+            && let Ok((transport, client)) = beside(
+                transport,
+                open(
+                    alloc,
+                    Kept {
+                        key,
+                        ledger,
+                        journal,
+                    },
+                ),
+            )
         {
             put_in(&mut self.both, Some((client, transport)));
         }

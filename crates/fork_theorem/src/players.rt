@@ -5,7 +5,7 @@ ghost use Rattle.std.specs.Prelude.{◌≡◌, ◌<◌, IfOk, IfSome, length, ve
 use crate::who::Who;
 use checked_blocks::MOST_CACHED;
 use client_verify::{Client, Parts, Phase};
-use layout::{Memory, User, let_go};
+use layout::{Memory, User, beside, let_go};
 use leaf_ledger::MemoryDevice;
 use lms_sign::{PrivateKey, PublicKey};
 use std::alloc::Allocator;
@@ -19,6 +19,14 @@ pub(crate) struct Player<A: Allocator + Copy> {
     key: PublicKey,
     /// The text of its last signed structure: no bytes before the first.
     pub(crate) last: Vec<u8, A>,
+}
+
+/// What is kept of a client while it is closed: its key, and the devices of its ledger and of its journal.
+#[derive(Drop)]
+struct Kept<A: Allocator + Copy> {
+    key: PrivateKey<A>,
+    ledger: MemoryDevice<A>,
+    journal: MemoryDevice<A>,
 }
 
 /// The clients that were named so far, and how many blocks the cache of each may have.
@@ -56,16 +64,19 @@ fn open<A: Allocator + Copy>(
     who: Who,
     pinned: PublicKey,
     capacity: usize,
-    parts: Parts<MemoryDevice<A>, MemoryDevice<A>, A>,
+    kept: Kept<A>,
     last: Vec<u8, A>,
 ) -> Result<Player<A>, Memory> {
-    let Parts {
+    let Kept {
         key,
         ledger,
         journal,
-    } = parts;
+    } = kept;
     let public = key.public();
-    match Client::open(alloc, who.user, key, pinned, ledger, journal) {
+    let parts = Parts::of_one(alloc, key, ledger, journal);
+    let (last, parts) = beside(last, parts)?;
+    let Parts { keys, journal } = parts;
+    match Client::open(alloc, who.user, keys, pinned, journal) {
         Ok(mut client) => {
             client.cache(capacity.clamp(1, MOST_CACHED));
             Ok(Player {
@@ -93,12 +104,12 @@ fn first_open<A: Allocator + Copy>(
 ) -> Result<Player<A>, Memory> {
     let ledger = MemoryDevice::new(alloc, Vec::new(alloc))?;
     let journal = MemoryDevice::new(alloc, journal)?;
-    let parts = Parts {
+    let kept = Kept {
         key,
         ledger,
         journal,
     };
-    open(alloc, who, pinned, capacity, parts, Vec::new(alloc))
+    open(alloc, who, pinned, capacity, kept, Vec::new(alloc))
 }
 
 /// Where a client stands in the list, if it was made.
@@ -201,19 +212,18 @@ impl<A: Allocator + Copy> Players<A> {
             key: _,
             last,
         } = self.list.remove(place);
-        let Parts {
-            key,
-            ledger,
-            journal,
-        } = client.close();
+        let Some((key, ledger, journal)) = client.close().last() else {
+            // A client has a key.
+            return Err(Memory);
+        };
         let ledger = crashed(self.alloc, ledger)?;
         let journal = crashed(self.alloc, journal)?;
-        let parts = Parts {
+        let kept = Kept {
             key,
             ledger,
             journal,
         };
-        let player = open(self.alloc, who, self.pinned, self.capacity, parts, last)?;
+        let player = open(self.alloc, who, self.pinned, self.capacity, kept, last)?;
         let phase = player.client.phase();
         self.list.push(player)?;
         Ok(Some(phase))

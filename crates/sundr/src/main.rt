@@ -11,7 +11,7 @@ mod reaching;
 mod reason;
 
 use batch::carry_out_batch;
-use client_verify::Client;
+use client_verify::{Client, ClientError, Parts};
 use commands::{Answer, Command};
 use connection::Socket;
 use defaults::with_defaults;
@@ -101,7 +101,10 @@ fn open_client<H: Threads + Sync>(
     let ledger = open_device(rt, line.dir, FolderFile::Ledger)?;
     let journal = open_device(rt, line.dir, FolderFile::Journal)?;
     let key = own_key(rt, host, line.dir, keys)?;
-    match Client::open(alloc, line.user, key, keys.pinned, ledger, journal) {
+    let Ok(Parts { keys: own, journal }) = Parts::of_one(alloc, key, ledger, journal) else {
+        return Err(Hindrance::Refused(refusal_of(ClientError::Memory)));
+    };
+    match Client::open(alloc, line.user, own, keys.pinned, journal) {
         Ok(client) => Ok(client),
         Err((error, parts)) => {
             let_go(parts);

@@ -17,8 +17,28 @@ use wire::Status;
 /// A client whose devices are in memory.
 pub type MemoryClient = Client<MemoryDevice<Global>, MemoryDevice<Global>, Global>;
 
-/// What it is opened over, and hands back: its key and its devices.
-pub type Kept = Parts<MemoryDevice<Global>, MemoryDevice<Global>, Global>;
+/// What is kept of it while it is closed: its key and its devices.
+#[derive(Drop)]
+pub struct Kept {
+    pub key: PrivateKey<Global>,
+    pub ledger: MemoryDevice<Global>,
+    pub journal: MemoryDevice<Global>,
+}
+
+/// What it is opened over, and hands back.
+type ClientParts = Parts<MemoryDevice<Global>, MemoryDevice<Global>, Global>;
+
+/// What is kept of a client that handed this back.
+pub(crate) fn kept_of(rt: &impl Aided, parts: ClientParts) -> Kept {
+    match parts.last() {
+        Some((key, ledger, journal)) => Kept {
+            key,
+            ledger,
+            journal,
+        },
+        None => rt.fail("no key"),
+    }
+}
 
 /// A device in memory with this text.
 pub fn device_of(rt: &impl Aided, text: &[u8]) -> MemoryDevice<Global> {
@@ -28,7 +48,7 @@ pub fn device_of(rt: &impl Aided, text: &[u8]) -> MemoryDevice<Global> {
 
 /// This key, and devices on which nothing stands.
 pub fn nothing_yet(rt: &impl Aided, key: PrivateKey<Global>) -> Kept {
-    Parts {
+    Kept {
         key,
         ledger: device_of(rt, b""),
         journal: device_of(rt, b""),
@@ -43,12 +63,17 @@ pub fn opened(
     pinned: PublicKey,
     kept: Kept,
 ) -> Result<MemoryClient, (ClientError, Kept)> {
-    let Parts {
+    let Kept {
         key,
         ledger,
         journal,
     } = kept;
-    Client::open(rt.alloc(), user, key, pinned, ledger, journal)
+    let parts = Parts::of_one(rt.alloc(), key, ledger, journal);
+    let Parts { keys, journal } = given(rt, parts, "memory");
+    match Client::open(rt.alloc(), user, keys, pinned, journal) {
+        Ok(client) => Ok(client),
+        Err((error, parts)) => Err((error, kept_of(rt, parts))),
+    }
 }
 
 /// The client of a user over what was kept.

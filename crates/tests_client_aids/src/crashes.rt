@@ -1,7 +1,7 @@
 //! A client whose devices fail, or crash, and one that is opened again.
 
-use crate::clients::{Kept, MemoryClient, is_in};
-use client_verify::{ClientError, Parts, Phase};
+use crate::clients::{Kept, MemoryClient, is_in, kept_of};
+use client_verify::{ClientError, Phase};
 use leaf_ledger::MemoryDevice;
 use std::alloc::Global;
 use tests_aids::texts::joined;
@@ -34,18 +34,18 @@ fn crashed(rt: &impl Aided, device: MemoryDevice<Global>, left: Left) -> MemoryD
 }
 
 /// What the client hands back when it is closed.
-pub fn closed(client: MemoryClient) -> Kept {
-    client.close()
+pub fn closed(rt: &impl Aided, client: MemoryClient) -> Kept {
+    kept_of(rt, client.close())
 }
 
 /// What is kept of a client after a crash that left this.
 pub fn after_crash(rt: &impl Aided, client: MemoryClient, left: Left) -> Kept {
-    let Parts {
+    let Kept {
         key,
         ledger,
         journal,
-    } = closed(client);
-    Parts {
+    } = closed(rt, client);
+    Kept {
         key,
         ledger: crashed(rt, ledger, left),
         journal: crashed(rt, journal, left),

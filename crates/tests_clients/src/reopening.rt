@@ -1,7 +1,7 @@
 //! How a script closes a client, or crashes it, and opens it again; and what it tells of itself then.
 
 use crate::words::{ByHand, letter_of, number, put_text, text_of};
-use client_verify::{ClientError, Parts, Phase};
+use client_verify::{ClientError, Phase};
 use layout::{Text, User, let_go, put_in};
 use lms_sign::PrivateKey;
 use std::alloc::Global;
@@ -26,7 +26,7 @@ pub(crate) fn error_name(rt: &impl Host, error: ClientError) -> Vec<u8> {
 
 /// The key of what was kept.
 fn key_kept(kept: Kept) -> PrivateKey<Global> {
-    let Parts {
+    let Kept {
         key,
         ledger,
         journal,
@@ -39,11 +39,11 @@ fn key_kept(kept: Kept) -> PrivateKey<Global> {
 /// (`synced`) or all that was written (`written`), or its key alone, with a ledger of this text and an empty journal.
 fn left_of(rt: &impl Host, client: MemoryClient, left: &[u8], ledger: &[u8]) -> Kept {
     match left {
-        b"closed" => closed(client),
+        b"closed" => closed(rt, client),
         b"synced" => after_crash(rt, client, Left::Synced),
         b"written" => after_crash(rt, client, Left::Written),
-        _ => Parts {
-            key: key_kept(closed(client)),
+        _ => Kept {
+            key: key_kept(closed(rt, client)),
             ledger: device_of(rt, ledger),
             journal: device_of(rt, b""),
         },

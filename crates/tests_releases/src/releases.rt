@@ -17,12 +17,30 @@ use version_order::{Entries, GroupRecords, Plan, Structure, Vector};
 /// Releases over devices in memory.
 type InMemory = Releases<MemoryDevice<Global>, MemoryDevice<Global>, Global>;
 
-/// What they are opened over.
-type Kept = Parts<MemoryDevice<Global>, MemoryDevice<Global>, Global>;
+/// What is kept of them while they are closed: the key, the ledger's device and the journal's.
+#[derive(Drop)]
+struct Kept {
+    key: PrivateKey<Global>,
+    ledger: MemoryDevice<Global>,
+    journal: MemoryDevice<Global>,
+}
+
+/// What they are opened over, and hand back.
+type AllParts = Parts<MemoryDevice<Global>, MemoryDevice<Global>, Global>;
+
+/// What is kept of what was handed back.
+fn kept_of(rt: &impl Host, parts: AllParts) -> Kept {
+    let (key, ledger, journal) = parts.last().expect(rt, "a key");
+    Kept {
+        key,
+        ledger,
+        journal,
+    }
+}
 
 /// A key and devices of which nothing was made yet.
 fn nothing_yet(rt: &impl Host) -> Kept {
-    Parts {
+    Kept {
         key: PrivateKey::from_seed(rt.alloc(), [7; 32], [7; 16]).expect(rt, "memory"),
         ledger: device_of(rt, b""),
         journal: device_of(rt, b""),
@@ -31,13 +49,18 @@ fn nothing_yet(rt: &impl Host) -> Kept {
 
 /// What a user released over these, or why that isn't opened, and these.
 fn open(rt: &impl Host, user: u8, parts: Kept) -> Result<InMemory, (ClientError, Kept)> {
-    let Parts {
+    let Kept {
         key,
         ledger,
         journal,
     } = parts;
     let user = User::new(user).expect(rt, "a user");
-    Releases::open(rt.alloc(), user, key, ledger, journal)
+    let parts = Parts::of_one(rt.alloc(), key, ledger, journal);
+    let Parts { keys, journal } = parts.expect(rt, "memory");
+    match Releases::open(rt.alloc(), user, keys, journal) {
+        Ok(releases) => Ok(releases),
+        Err((error, parts)) => Err((error, kept_of(rt, parts))),
+    }
 }
 
 /// What user 0 released over these.
@@ -78,8 +101,9 @@ fn declare(rt: &impl Host, releases: &mut InMemory, number: u32) -> Result<Vec<u
     let number = Version::new(number).expect(rt, "a number");
     let text = certificate(rt, releases.user(), number, Digest::from_bytes([3; 32]));
     assert!(rt; releases.phase() == Phase::Idle);
-    assert!(rt; releases.has_free_leaf());
-    releases.declare(number, text)
+    releases.type_invariant();
+    assert!(rt; releases.has_free_leaf(0));
+    releases.declare(0, number, text)
 }
 
 /// Signs the structure of the declared operation.
@@ -89,8 +113,9 @@ fn sign(rt: &impl Host, releases: &mut InMemory) -> Result<Vec<u8>, ClientError>
     let text = structure.text(rt.alloc()).expect(rt, "memory");
     let text = Unsigned::new(rt.alloc(), text).expect(rt, "memory");
     assert!(rt; releases.phase() == Phase::Declared);
-    assert!(rt; releases.has_free_leaf());
-    let (text, _) = releases.sign(structure, text)?;
+    releases.type_invariant();
+    assert!(rt; releases.has_free_leaf(0));
+    let (text, _) = releases.sign(0, structure, text)?;
     Ok(text)
 }
 
@@ -120,7 +145,7 @@ fn after(rt: &impl Host, releases: InMemory, step: &Step, text: &mut Vec<u8>) ->
             releases.commit();
         }
         Step::Reopen(size) => {
-            let parts = releases.close();
+            let parts = kept_of(rt, releases.close());
             let found = parts.journal.text().len();
             assert!(rt; found == *size, "{found} bytes and not {size}");
             return opened(rt, parts);
@@ -134,7 +159,8 @@ fn is_last(rt: &impl Host, releases: &InMemory, text: &[u8]) {
     assert!(rt; releases.text() == text, "another text");
     let size = text.len().saturating_sub(SIGNATURE_SIZE);
     let (unsigned, signature) = text.split_at(size);
-    assert!(rt; verify(&releases.key(), unsigned, signature), "not signed");
+    releases.type_invariant();
+    assert!(rt; verify(&releases.key(0), unsigned, signature), "not signed");
 }
 
 /// What is done, and then how far it is, the number, and whether a structure was signed.
@@ -186,7 +212,7 @@ fn after_fault(rt: &impl Host, parts: Kept) -> Phase {
         releases.last().is_some(),
     );
     assert!(rt; found == (Phase::Failed, 0, false), "{found:?}");
-    opened(rt, releases.close()).phase()
+    opened(rt, kept_of(rt, releases.close())).phase()
 }
 
 /// Each call of a declaration fails: two of the ledger, and six of the journal. By the last of them the gate is open,
@@ -224,7 +250,7 @@ fn what_is_not_opened(rt: HostRuntime) {
     let mut releases = opened(&rt, nothing_yet(&rt));
     let _update = declare(&rt, &mut releases, 1).expect(&rt, "declared");
     // A journal of user 0.
-    let mut parts = refused(&rt, releases.close(), "Damaged");
+    let mut parts = refused(&rt, kept_of(&rt, releases.close()), "Damaged");
     assert!(rt; parts.journal.text().len() == 2557);
     // A third kind of record.
     parts.journal = device_of(&rt, &[1, 3, 0, 0, 0, 1, 9, 0]);
@@ -247,7 +273,8 @@ fn the_last_leaf_declares(rt: HostRuntime) {
     let mut releases = opened(&rt, parts);
     let _update = declare(&rt, &mut releases, 1).expect(&rt, "declared");
     assert!(rt; releases.phase() == Phase::Declared);
-    assert!(rt; !releases.has_free_leaf());
+    releases.type_invariant();
+    assert!(rt; !releases.has_free_leaf(0));
 }
 
 #[test]

@@ -146,6 +146,6 @@ pub(crate) fn make_many(
         operate(rt, &mut client, &mut server, planned);
         next = end;
     }
-    town.come_home(0, closed(client));
+    town.come_home(0, closed(rt, client));
     town.bring_back(server);
 }

@@ -225,7 +225,7 @@ impl Town {
                 let (outcome, _none, client, transport) = process(
                     rt, client, transport, command, None,
                 );
-                self.come_home(place, closed(client));
+                self.come_home(place, closed(rt, client));
                 (outcome, transport)
             }
             Err((error, kept)) => {
@@ -245,7 +245,7 @@ impl Town {
         let server = self.leave_server(rt);
         let client = open_over(rt, User::superuser(), self.pinned, kept);
         let (first, second, client, server) = process(rt, client, server, one, Some(other));
-        self.come_home(0, closed(client));
+        self.come_home(0, closed(rt, client));
         self.bring_back(server);
         (first, found(rt, second, "the second command"))
     }
