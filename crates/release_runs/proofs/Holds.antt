@@ -1,20 +1,20 @@
 -- What holds of a user's client after each step of a run.
-use Rattle.std.proofs.Common.{◌≡◌, List, [], ◌∷◌, ◌++◌, Option, Some, None, IfSome, sym, ap, ◌∙◌, subst, inl, inr}
+use Rattle.std.proofs.Common.{◌≡◌, ℕ, List, ◌++◌, Option, Some, None, IfSome, take, sym, ap, ◌∙◌, subst, inl, inr}
 use Rattle.layout.specs.Types.{Bytes}
 use Rattle.client_releases.specs.declared.phase.Phase.TheVariants as phase
-use Rattle.client_releases.specs.Releasing.{OwnDevices, ledger_at}
+use Rattle.client_releases.specs.Releasing.{OwnDevices}
 use Rattle.client_releases.specs.Told.{IsPhase, Released}
-use Rattle.release_runs.specs.Steps.{Call, Client, Closed, HasCommitted, Open, Owner, Parts, journal_of, ledger_of}
+use Rattle.release_runs.specs.Steps.{Call, Client, Closed, HasCommitted, Open, Owner, Parts, journal_of, ledgers_of}
 use Rattle.release_runs.specs.Runs.{IsInTurn}
 use Rattle.release_runs.specs.Released.{released_by}
-use Rattle.release_runs.proofs.Files.{Lies, with_tried}
+use Rattle.release_runs.proofs.Files.{Lies, files_of, with_tried}
 use Rattle.release_runs.proofs.Members.{In}
 use Rattle.release_runs.proofs.Stories.{IsAfter, IsNumbered, IsStory, OfCert, OfStructure, Release, last_in, number_in, phase_in, text, text_in}
 
 pub numbered_older : (story : List Release) (tried : Option Release) → IsNumbered (with_tried tried story) → IsNumbered story
 numbered_older story None each = each
-numbered_older story (Some (OfCert c q)) each = each.1
-numbered_older story (Some (OfStructure z q)) each = each
+numbered_older story (Some (OfCert k c q)) each = each.1
+numbered_older story (Some (OfStructure k z q)) each = each
 
 module _ (o : Owner) where
   -- The client is as its story tells, and nothing was tried.
@@ -28,7 +28,8 @@ module _ (o : Owner) where
   -- So it is unless a device has failed.
   pub record IsOwn (story : List Release) (tried : Option Release) (s : Released) : Type 0 where
     pub user : s.user ≡ o.user
-    pub secrets : s.secrets ≡ o.secret ∷ []
+    pub opened : ℕ
+    pub secrets : s.secrets ≡ take opened o.secrets
     pub stands : (s.phase ≡ phase.Failed → ⊥) → IsAt story tried s
 
   abbrev pub IsOwnClient : List Release → Option Release → Client → Type 0
@@ -41,7 +42,7 @@ module _ (o : Owner) where
     pub is_story : IsStory o story
     pub is_tried : IfSome tried (IsAfter o story)
     pub numbered : InTurn → IsNumbered (with_tried tried story)
-    pub lies : Lies o story tried (ledger_of client) (journal_of client)
+    pub lies : Lies o story tried (ledgers_of client) (journal_of client)
     pub own : IsOwnClient story tried client
     pub released : (a : Bytes) → In a texts → (r : Release) × In r story × (a ≡ text o r)
     pub kept : (r : Release) → In r story → In (text o r) texts
@@ -66,7 +67,7 @@ module _ (o : Owner) where
 
   module _ (InTurn Now : Type 0) (story : List Release) (tried : Option Release) (texts : List Bytes) (turn : Now → InTurn) where
     -- it leaves the client closed
-    pub closes : (before : Client) (p : Parts) → (h : Holds InTurn story tried before texts) → Lies o story tried p.ledger p.journal → Holds Now story tried (Closed p) texts
+    pub closes : (before : Client) (p : Parts) → (h : Holds InTurn story tried before texts) → Lies o story tried p.ledgers p.journal → Holds Now story tried (Closed p) texts
     closes before p h lies = record {
       is_story = h.is_story;
       is_tried = h.is_tried;
@@ -83,9 +84,10 @@ module _ (o : Owner) where
       is_story = h.is_story;
       is_tried = h.is_tried;
       numbered = λ t. h.numbered (turn t);
-      lies = subst (λ (d : OwnDevices). Lies o story tried (ledger_at 0 d).file d.journal.file) (sym (ap (λ (r : Released). r.devices) is.state)) h.lies;
+      lies = subst (λ (d : OwnDevices). Lies o story tried (files_of d) d.journal.file) (sym (ap (λ (r : Released). r.devices) is.state)) h.lies;
       own = record {
         user = ap (λ (r : Released). r.user) is.state ∙ h.own.user;
+        opened = h.own.opened;
         secrets = ap (λ (r : Released). r.secrets) is.state ∙ h.own.secrets;
         stands = λ _. committed;
       };

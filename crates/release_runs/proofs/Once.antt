@@ -1,16 +1,21 @@
--- The releases of a story: each has a leaf of its own, and each certificate and each structure a number of its own.
-use Rattle.std.proofs.Common.{◌≡◌, ◌<◌, List, [], ◌∷◌, map, Some, None, refl, sym, ap, ◌∙◌, subst, inl, inr, arith}
+-- The releases of a story: each has a leaf of its own of its key, and each certificate and each structure a number of its
+-- own.
+use Rattle.std.proofs.Common.{◌≡◌, ◌<◌, ℕ, Bool, true, false, List, [], ◌∷◌, ◌++◌, map, Some, None, length, refl, sym, ap, ◌∙◌, subst, inl, inr, arith, if◌then◌else◌}
+use Rattle.std.specs.Str.{bytes_eq}
+use Rattle.std.proofs.lemmas.Slice.Eq.{bytes_eq-Decides}
+use Rattle.layout.specs.Types.{Bytes}
 use Rattle.lms_sign.specs.Signature.{signature_of}
 use Rattle.leaf_ledger.specs.Ledger.{LeafNumber}
 use Rattle.version_order.specs.Structure.{Structure, structure}
 use Rattle.update_cert.specs.Cert.{Cert, cert}
 use Rattle.pending_list.specs.declared.signed.Signed.{Signed}
+use Rattle.client_journal.specs.Records.{unsigned}
 use Rattle.client_releases.specs.Told.{cert_in, structure_in}
-use Rattle.release_runs.specs.Steps.{Owner}
-use Rattle.release_runs.specs.Released.{leaf_in}
+use Rattle.release_runs.specs.Steps.{Owner, secret_of}
+use Rattle.release_runs.specs.Released.{leaf_in, signature_in}
 use Rattle.release_runs.proofs.Members.{In, map-in}
-use Rattle.release_runs.proofs.Stories.{IsNext, IsNumbered, IsStory, OfCert, OfStructure, Release, cert_of, leaf, number_within, structure_below, structure_of, text}
-use Rattle.release_runs.proofs.Texts.{leaf_in_sent, no_cert, no_structure}
+use Rattle.release_runs.proofs.Stories.{IsNext, IsNumbered, IsStory, OfCert, OfStructure, Release, cert_of, key, leaf, mark, number_within, size_of, structure_below, structure_of, text}
+use Rattle.release_runs.proofs.Texts.{leaf_in_sent, no_cert, no_structure, signature_at, unsigned_of}
 
 module _ (o : Owner) where
   -- what a release of the story met when it came
@@ -26,90 +31,138 @@ module _ (o : Owner) where
   small_leaf (x ∷ older) is r (inl e) = subst (λ (y : Release). leaf y < 1024) (sym e) is.0.small
   small_leaf (x ∷ older) is r (inr i) = small_leaf older is.1 r i
 
-  pub leaf_told : (r : Release) → leaf r < 1024 → leaf_in (text o r) ≡ leaf r
-  leaf_told (OfCert c q) small = leaf_in_sent o.secret (cert.spell c) q small
-  leaf_told (OfStructure z q) small = leaf_in_sent o.secret (structure.spell z) q small
+  pub own_key : (story : List Release) → IsStory o story → (r : Release) → In r story → key r < length o.secrets
+  own_key [] is r i = absurd i
+  own_key (x ∷ older) is r (inl e) = subst (λ (y : Release). key y < length o.secrets) (sym e) is.0.own
+  own_key (x ∷ older) is r (inr i) = own_key older is.1 r i
 
-  pub one_leaf : (story : List Release) → IsStory o story → (r s : Release) → In r story → In s story → leaf r ≡ leaf s → r ≡ s
+  pub leaf_told : (r : Release) → leaf r < 1024 → leaf_in (text o r) ≡ leaf r
+  leaf_told (OfCert k c q) small = leaf_in_sent (secret_of k o) (cert.spell c) q small
+  leaf_told (OfStructure k z q) small = leaf_in_sent (secret_of k o) (structure.spell z) q small
+
+  signed_so : (k : ℕ) (m : Bytes) (q : LeafNumber) → q < 1024
+      → signature_in (m ++ signature_of (secret_of k o) q m) ≡ signature_of (secret_of k o) (leaf_in (m ++ signature_of (secret_of k o) q m)) (unsigned (m ++ signature_of (secret_of k o) q m))
+  signed_so k m q small =
+      let sig = signature_of (secret_of k o) q m in
+      signature_at m sig (size_of o k m q)
+      ∙ ap (λ (n : LeafNumber). signature_of (secret_of k o) n m) (sym (leaf_in_sent (secret_of k o) m q small))
+      ∙ ap (signature_of (secret_of k o) (leaf_in (m ++ sig))) (sym (unsigned_of m sig (size_of o k m q)))
+
+  -- a release is signed by its key, by the leaf that it carries
+  pub signed_told : (r : Release) → leaf r < 1024 → signature_in (text o r) ≡ signature_of (secret_of (key r) o) (leaf_in (text o r)) (unsigned (text o r))
+  signed_told (OfCert k c q) small = signed_so k (cert.spell c) q small
+  signed_told (OfStructure k z q) small = signed_so k (structure.spell z) q small
+
+  pub one_leaf : (story : List Release) → IsStory o story → (r s : Release) → In r story → In s story → mark r ≡ mark s → r ≡ s
   one_leaf [] is r s i j e = absurd i
   one_leaf (x ∷ older) is r s (inl i) (inl j) e = i ∙ sym j
-  one_leaf (x ∷ older) is r s (inl i) (inr j) e = absurd (is.0.fresh (subst (λ n. In n (map leaf older)) (sym e ∙ ap leaf i) (map-in leaf older s j)))
-  one_leaf (x ∷ older) is r s (inr i) (inl j) e = absurd (is.0.fresh (subst (λ n. In n (map leaf older)) (e ∙ ap leaf j) (map-in leaf older r i)))
+  one_leaf (x ∷ older) is r s (inl i) (inr j) e = absurd (is.0.fresh (subst (λ (m : ℕ × LeafNumber). In m (map mark older)) (sym e ∙ ap mark i) (map-in mark older s j)))
+  one_leaf (x ∷ older) is r s (inr i) (inl j) e = absurd (is.0.fresh (subst (λ (m : ℕ × LeafNumber). In m (map mark older)) (e ∙ ap mark j) (map-in mark older r i)))
   one_leaf (x ∷ older) is r s (inr i) (inr j) e = one_leaf older is.1 r s i j e
+
+  -- ---- which key signed a text
+
+  -- the key of the release of this text that came last, 0 where there is none
+  abbrev pub key_by : List Release → Bytes → ℕ
+  key_by [] a = 0
+  key_by (r ∷ older) a = if bytes_eq (text o r) a then key r else key_by older a
+
+  -- the release of this text that came last
+  pub record IsBy (story : List Release) (a : Bytes) (r : Release) : Type 0 where
+    pub inside : In r story
+    pub text_is : a ≡ text o r
+    pub key_is : key_by story a ≡ key r
+
+  found_more : (x : Release) (older : List Release) (a : Bytes) (r : Release) → a ≡ text o r → (In r older → (s : Release) × IsBy older a s) → (b : Bool) → bytes_eq (text o x) a ≡ b → In r (x ∷ older) → (s : Release) × IsBy (x ∷ older) a s
+  found_more x older a r e rest true is j = (x, record { inside = inl refl; text_is = sym ((bytes_eq-Decides (text o x) a).0 is); key_is = ap (λ (b : Bool). if b then key x else key_by older a) is })
+  found_more x older a r e rest false is (inl same) = absurd (let no : true ≡ false = sym ((bytes_eq-Decides (text o x) a).1 (sym (ap (text o) same) ∙ sym e)) ∙ is in cc no)
+  found_more x older a r e rest false is (inr j) =
+      let s = rest j in
+      (s.0, record { inside = inr s.1.inside; text_is = s.1.text_is; key_is = ap (λ (b : Bool). if b then key x else key_by older a) is ∙ s.1.key_is })
+
+  pub found_by : (story : List Release) (a : Bytes) (r : Release) → In r story → a ≡ text o r → (s : Release) × IsBy story a s
+  found_by [] a r i e = absurd i
+  found_by (x ∷ older) a r i e = found_more x older a r e (λ j. found_by older a r j e) (bytes_eq (text o x) a) refl i
 
   -- ---- certificates
 
-  pub one_cert : (story : List Release) → IsNumbered story → (c d : Cert) (p q : LeafNumber) → In (OfCert c p) story → In (OfCert d q) story → c.number ≡ d.number → OfCert c p ≡ OfCert d q
-  one_cert [] is c d p q i j e = absurd i
-  one_cert (x ∷ older) is c d p q (inl i) (inl j) e = i ∙ sym j
-  one_cert (OfCert b r ∷ older) is c d p q (inl i) (inr j) e =
+  pub one_cert : (story : List Release) → IsNumbered story → (r s : Release) (c d : Cert) (k l : ℕ) (p q : LeafNumber) → r ≡ OfCert k c p → s ≡ OfCert l d q → In r story → In s story → c.number ≡ d.number → r ≡ s
+  one_cert [] is r s c d k l p q r_is s_is i j e = absurd i
+  one_cert (x ∷ older) is r s c d k l p q r_is s_is (inl i) (inl j) e = i ∙ sym j
+  one_cert (OfCert m b n ∷ older) is r s c d k l p q r_is s_is (inl i) (inr j) e =
+      let two : OfCert k c p ≡ OfCert m b n = sym r_is ∙ i in
       let same : c ≡ b = cc in
-      let n = ap (λ (y : Cert). y.number) same in
-      let below = number_within older is.1 d q j in
+      let number = ap (λ (y : Cert). y.number) same in
+      let below = number_within older is.1 l d q (subst (λ (y : Release). In y older) s_is j) in
       let next = is.0 in
       absurd (omega arith)
-  one_cert (OfCert b r ∷ older) is c d p q (inr i) (inl j) e =
+  one_cert (OfCert m b n ∷ older) is r s c d k l p q r_is s_is (inr i) (inl j) e =
+      let two : OfCert l d q ≡ OfCert m b n = sym s_is ∙ j in
       let same : d ≡ b = cc in
-      let n = ap (λ (y : Cert). y.number) same in
-      let below = number_within older is.1 c p i in
+      let number = ap (λ (y : Cert). y.number) same in
+      let below = number_within older is.1 k c p (subst (λ (y : Release). In y older) r_is i) in
       let next = is.0 in
       absurd (omega arith)
-  one_cert (OfStructure z r ∷ older) is c d p q (inl i) (inr j) e = absurd cc
-  one_cert (OfStructure z r ∷ older) is c d p q (inr i) (inl j) e = absurd cc
-  one_cert (OfCert b r ∷ older) is c d p q (inr i) (inr j) e = one_cert older is.1 c d p q i j e
-  one_cert (OfStructure z r ∷ older) is c d p q (inr i) (inr j) e = one_cert older is c d p q i j e
+  one_cert (OfStructure m z n ∷ older) is r s c d k l p q r_is s_is (inl i) (inr j) e = absurd (let two : OfCert k c p ≡ OfStructure m z n = sym r_is ∙ i in cc two)
+  one_cert (OfStructure m z n ∷ older) is r s c d k l p q r_is s_is (inr i) (inl j) e = absurd (let two : OfCert l d q ≡ OfStructure m z n = sym s_is ∙ j in cc two)
+  one_cert (OfCert m b n ∷ older) is r s c d k l p q r_is s_is (inr i) (inr j) e = one_cert older is.1 r s c d k l p q r_is s_is i j e
+  one_cert (OfStructure m z n ∷ older) is r s c d k l p q r_is s_is (inr i) (inr j) e = one_cert older is r s c d k l p q r_is s_is i j e
 
   -- the release of which a text is a certificate
   pub record ReleasesCert (r : Release) (c : Signed Cert) : Type 0 where
+    pub by : ℕ
     pub one : Cert
-    pub by : LeafNumber
-    pub is : r ≡ OfCert one by
+    pub leaf : LeafNumber
+    pub is : r ≡ OfCert by one leaf
     pub value : c.value ≡ one
 
   pub of_cert : (r : Release) (older : List Release) → IsNext o older r → (c : Signed Cert) → cert_in o.user (text o r) ≡ Some c → ReleasesCert r c
-  of_cert (OfCert d q) older next c e =
-      let two : Some c ≡ Some (record { value = d; signature = signature_of o.secret q (cert.spell d) }) = sym e ∙ cert_of o d q older next in
-      let same : c ≡ record { value = d; signature = signature_of o.secret q (cert.spell d) } = cc in
-      record { one = d; by = q; is = refl; value = ap (λ (s : Signed Cert). s.value) same }
-  of_cert (OfStructure z q) older next c e =
-      let two : Some c ≡ None = sym e ∙ no_cert o.user z (signature_of o.secret q (structure.spell z)) in
+  of_cert (OfCert k d q) older next c e =
+      let two : Some c ≡ Some (record { value = d; signature = signature_of (secret_of k o) q (cert.spell d) }) = sym e ∙ cert_of o k d q older next in
+      let same : c ≡ record { value = d; signature = signature_of (secret_of k o) q (cert.spell d) } = cc in
+      record { by = k; one = d; leaf = q; is = refl; value = ap (λ (s : Signed Cert). s.value) same }
+  of_cert (OfStructure k z q) older next c e =
+      let two : Some c ≡ None = sym e ∙ no_cert o.user z (signature_of (secret_of k o) q (structure.spell z)) in
       absurd cc
 
   -- ---- structures
 
-  pub one_structure : (story : List Release) → IsStory o story → IsNumbered story → (y z : Structure) (p q : LeafNumber) → In (OfStructure y p) story → In (OfStructure z q) story → y.plan.number ≡ z.plan.number
-      → OfStructure y p ≡ OfStructure z q
-  one_structure [] is each y z p q i j e = absurd i
-  one_structure (x ∷ older) is each y z p q (inl i) (inl j) e = i ∙ sym j
-  one_structure (OfStructure b r ∷ older) is each y z p q (inl i) (inr j) e =
+  pub one_structure : (story : List Release) → IsStory o story → IsNumbered story → (r s : Release) (y z : Structure) (k l : ℕ) (p q : LeafNumber) → r ≡ OfStructure k y p → s ≡ OfStructure l z q → In r story → In s story
+      → y.plan.number ≡ z.plan.number → r ≡ s
+  one_structure [] is each r s y z k l p q r_is s_is i j e = absurd i
+  one_structure (x ∷ older) is each r s y z k l p q r_is s_is (inl i) (inl j) e = i ∙ sym j
+  one_structure (OfStructure m b n ∷ older) is each r s y z k l p q r_is s_is (inl i) (inr j) e =
+      let two : OfStructure k y p ≡ OfStructure m b n = sym r_is ∙ i in
       let same : y ≡ b = cc in
-      let n = ap (λ (x : Structure). x.plan.number) same in
-      let below = structure_below o older is.1 each is.0.next.turn z q j in
+      let number = ap (λ (x : Structure). x.plan.number) same in
+      let below = structure_below o older is.1 each is.0.next.turn l z q (subst (λ (x : Release). In x older) s_is j) in
       let next = is.0.next.number in
       absurd (omega arith)
-  one_structure (OfStructure b r ∷ older) is each y z p q (inr i) (inl j) e =
+  one_structure (OfStructure m b n ∷ older) is each r s y z k l p q r_is s_is (inr i) (inl j) e =
+      let two : OfStructure l z q ≡ OfStructure m b n = sym s_is ∙ j in
       let same : z ≡ b = cc in
-      let n = ap (λ (x : Structure). x.plan.number) same in
-      let below = structure_below o older is.1 each is.0.next.turn y p i in
+      let number = ap (λ (x : Structure). x.plan.number) same in
+      let below = structure_below o older is.1 each is.0.next.turn k y p (subst (λ (x : Release). In x older) r_is i) in
       let next = is.0.next.number in
       absurd (omega arith)
-  one_structure (OfCert c r ∷ older) is each y z p q (inl i) (inr j) e = absurd cc
-  one_structure (OfCert c r ∷ older) is each y z p q (inr i) (inl j) e = absurd cc
-  one_structure (OfCert c r ∷ older) is each y z p q (inr i) (inr j) e = one_structure older is.1 each.1 y z p q i j e
-  one_structure (OfStructure b r ∷ older) is each y z p q (inr i) (inr j) e = one_structure older is.1 each y z p q i j e
+  one_structure (OfCert m c n ∷ older) is each r s y z k l p q r_is s_is (inl i) (inr j) e = absurd (let two : OfStructure k y p ≡ OfCert m c n = sym r_is ∙ i in cc two)
+  one_structure (OfCert m c n ∷ older) is each r s y z k l p q r_is s_is (inr i) (inl j) e = absurd (let two : OfStructure l z q ≡ OfCert m c n = sym s_is ∙ j in cc two)
+  one_structure (OfCert m c n ∷ older) is each r s y z k l p q r_is s_is (inr i) (inr j) e = one_structure older is.1 each.1 r s y z k l p q r_is s_is i j e
+  one_structure (OfStructure m b n ∷ older) is each r s y z k l p q r_is s_is (inr i) (inr j) e = one_structure older is.1 each r s y z k l p q r_is s_is i j e
 
   -- the release of which a text is a structure
   pub record ReleasesStructure (r : Release) (s : Signed Structure) : Type 0 where
+    pub by : ℕ
     pub one : Structure
-    pub by : LeafNumber
-    pub is : r ≡ OfStructure one by
+    pub leaf : LeafNumber
+    pub is : r ≡ OfStructure by one leaf
     pub value : s.value ≡ one
 
   pub of_structure : (r : Release) (older : List Release) → IsNext o older r → (s : Signed Structure) → structure_in o.user (text o r) ≡ Some s → ReleasesStructure r s
-  of_structure (OfStructure z q) older next s e =
-      let two : Some s ≡ Some (record { value = z; signature = signature_of o.secret q (structure.spell z) }) = sym e ∙ structure_of o z q older next in
-      let same : s ≡ record { value = z; signature = signature_of o.secret q (structure.spell z) } = cc in
-      record { one = z; by = q; is = refl; value = ap (λ (x : Signed Structure). x.value) same }
-  of_structure (OfCert c q) older next s e =
-      let two : Some s ≡ None = sym e ∙ no_structure o.user c (signature_of o.secret q (cert.spell c)) in
+  of_structure (OfStructure k z q) older next s e =
+      let two : Some s ≡ Some (record { value = z; signature = signature_of (secret_of k o) q (structure.spell z) }) = sym e ∙ structure_of o k z q older next in
+      let same : s ≡ record { value = z; signature = signature_of (secret_of k o) q (structure.spell z) } = cc in
+      record { by = k; one = z; leaf = q; is = refl; value = ap (λ (x : Signed Structure). x.value) same }
+  of_structure (OfCert k c q) older next s e =
+      let two : Some s ≡ None = sym e ∙ no_structure o.user c (signature_of (secret_of k o) q (cert.spell c)) in
       absurd cc

@@ -3,7 +3,6 @@ use Rattle.std.proofs.Common.{◌≡◌, ◌<◌, List, [], ◌∷◌, ◌++◌,
 use Rattle.std.specs.Prelude.{◌⊎◌}
 use Rattle.layout.specs.Types.{Bytes}
 use Rattle.lms_sign.specs.Signature.{signature_of}
-use Rattle.lms_sign.proofs.Validity.{length-signature}
 use Rattle.leaf_ledger.specs.Device.{Disk, MayLeave}
 use Rattle.leaf_ledger.specs.Life.{IsSure}
 use Rattle.leaf_ledger.specs.Moments.{rest_only}
@@ -13,15 +12,13 @@ use Rattle.client_journal.proofs.Chains.{one_telling}
 use Rattle.version_order.specs.Structure.{structure}
 use Rattle.update_cert.specs.Cert.{cert}
 use Rattle.client_releases.specs.declared.phase.Phase.TheVariants as phase
-use Rattle.client_releases.proofs.OwnKeys.{first_still}
-use Rattle.client_releases.specs.Releasing.{ledger_at}
 use Rattle.client_releases.specs.Told.{IsPhase, IsReleased, Released, Stands, Told, told_by, told_of}
-use Rattle.release_runs.specs.Steps.{Closed, IsOpened, Open, Opens, Owner, Parts}
+use Rattle.release_runs.specs.Steps.{Closed, IsOpened, Open, Opens, Owner, Parts, secret_of}
 use Rattle.release_runs.specs.Released.{found_text}
-use Rattle.release_runs.proofs.Files.{Lies, TellsOne, lies_on, with_tried}
+use Rattle.release_runs.proofs.Files.{Lies, TellsOne, file_at, files_of, lies_on, still_sure, with_tried}
 use Rattle.release_runs.proofs.Holds.{Holds, HoldsAfter, numbered_older}
 use Rattle.release_runs.proofs.Members.{In, in-append, in-left, in-right}
-use Rattle.release_runs.proofs.Stories.{IsAfter, IsNumbered, IsStory, OfCert, OfStructure, Release, last_in, leaf, number_in, phase_in, records, state_in, state_is, text, text_in, told_in, told_is}
+use Rattle.release_runs.proofs.Stories.{IsAfter, IsNumbered, IsStory, OfCert, OfStructure, Release, key, last_in, leaf, number_in, phase_in, records, size_of, state_in, state_is, text, text_in, told_in, told_is}
 use Rattle.release_runs.proofs.Texts.{long_text}
 
 -- ---- what a file tells of a story
@@ -65,13 +62,13 @@ module _ (o : Owner) where
 
 never_failed : (story : List Release) → phase_in story ≡ phase.Failed → ⊥
 never_failed [] e = cc e
-never_failed (OfCert c q ∷ older) e = cc e
-never_failed (OfStructure z q ∷ older) e = cc e
+never_failed (OfCert k c q ∷ older) e = cc e
+never_failed (OfStructure k z q ∷ older) e = cc e
 
 idle_empty : (o : Owner) (story : List Release) → phase_in story ≡ phase.Idle → text_in o story ≡ []
 idle_empty o [] e = refl
-idle_empty o (OfCert c q ∷ older) e = absurd (cc e)
-idle_empty o (OfStructure z q ∷ older) e = absurd (cc e)
+idle_empty o (OfCert k c q ∷ older) e = absurd (cc e)
+idle_empty o (OfStructure k z q ∷ older) e = absurd (cc e)
 
 -- ---- the text that is found
 
@@ -85,8 +82,8 @@ found_has [] long = absurd (omega arith)
 found_has (x ∷ xs) long = inl refl
 
 long_release : (o : Owner) (r : Release) → 0 < length (text o r)
-long_release o (OfCert c q) = omega (arith, long_text (cert.spell c) (signature_of o.secret q (cert.spell c)) (length-signature o.secret (cert.spell c) q))
-long_release o (OfStructure z q) = omega (arith, long_text (structure.spell z) (signature_of o.secret q (structure.spell z)) (length-signature o.secret (structure.spell z) q))
+long_release o (OfCert k c q) = omega (arith, long_text (cert.spell c) (signature_of (secret_of k o) q (cert.spell c)) (size_of o k (cert.spell c) q))
+long_release o (OfStructure k z q) = omega (arith, long_text (structure.spell z) (signature_of (secret_of k o) q (structure.spell z)) (size_of o k (structure.spell z) q))
 
 found_of : (o : Owner) (story : List Release) (a : Bytes) → In a (found_text (text_in o story)) → (r : Release) × In r story × (a ≡ text o r)
 found_of o [] a i = absurd i
@@ -99,8 +96,8 @@ signed_long o (r ∷ older) e = long_release o r
 -- ---- the step
 
 module _ (o : Owner) (InTurn : Type 0) (story : List Release) (tried : Option Release) (texts : List Bytes) (p : Parts) (h : Holds o InTurn story tried (Closed p) texts) (s : Released) (opens : IsOpened o p s) (sound : IsReleased s) where
-  after : Lies o story tried (ledger_at 0 s.devices).file s.devices.journal.file
-  after = lies_on o story tried p.ledger p.journal (ledger_at 0 s.devices).file s.devices.journal.file h.lies (first_still p.ledger s.devices.ledgers opens.moments.ledgers).leaves opens.moments.records
+  after : Lies o story tried (files_of s.devices) s.devices.journal.file
+  after = lies_on o story tried p.ledgers (files_of s.devices) p.journal s.devices.journal.file h.lies (still_sure p.ledgers (files_of s.devices) opens.moments.ledgers) opens.moments.records
 
   before_told : Reads o story tried p.journal.now.text (told_of s.phase s)
   before_told =
@@ -136,7 +133,7 @@ module _ (o : Owner) (InTurn : Type 0) (story : List Release) (tried : Option Re
   record Found (one : List Release) : Type 0 where
     is_story : IsStory o one
     numbered : InTurn → IsNumbered one
-    lies : Lies o one None (ledger_at 0 s.devices).file s.devices.journal.file
+    lies : Lies o one None (files_of s.devices) s.devices.journal.file
     number : s.number ≡ number_in one
     last : s.last ≡ last_in o one
     text : s.text ≡ text_in o one
@@ -146,7 +143,7 @@ module _ (o : Owner) (InTurn : Type 0) (story : List Release) (tried : Option Re
   only_file file (inl same) = same
   only_file file (inr may) = rest_only s.devices.journal.file.now.text file (subst (λ (d : Disk). MayLeave d file) stands.journal_rests may)
 
-  still_used : (one : List Release) → IsOf story tried one → (r : Release) → In r one → IsSure (ledger_at 0 s.devices).file (leaf r)
+  still_used : (one : List Release) → IsOf story tried one → (r : Release) → In r one → IsSure (file_at (key r) (files_of s.devices)) (leaf r)
   still_used one (inl same) r i = after.used r (in_either tried (subst (λ (l : List Release). In r l) same i))
     where
       in_either : (some : Option Release) → In r story → In r (with_tried some story)
@@ -184,6 +181,7 @@ module _ (o : Owner) (InTurn : Type 0) (story : List Release) (tried : Option Re
       lies = f.lies;
       own = record {
         user = opens.user;
+        opened = length p.ledgers;
         secrets = opens.secrets;
         stands = λ _. record { none_tried = refl; number = f.number; last = f.last; text = f.text; phase = inl f.phase };
       };

@@ -1,6 +1,8 @@
 -- What holds after a certificate is declared, and after a structure is signed.
-use Rattle.std.proofs.Common.{◌≡◌, ◌+◌, ◌<◌, List, ◌∷◌, ◌++◌, Option, Some, None, Ok, Err, IfSome, refl, sym, ap, ◌∙◌, subst, inl, inr}
-use Rattle.std.specs.Prelude.{◌⊎◌, slice_index_or}
+use Rattle.std.proofs.Common.{◌≡◌, ◌+◌, ◌<◌, ℕ, List, ◌∷◌, ◌++◌, length, get_or, arith, Option, Some, None, Ok, Err, IfSome, refl, sym, ap, ◌∙◌, subst, inl, inr}
+use Rattle.std.specs.Prelude.{◌⊎◌, min}
+use Rattle.std.proofs.Math.Nat.{min-le_left, min-le_right}
+use Rattle.std.proofs.lemmas.List.{get_or-take, length-take}
 use Rattle.layout.specs.Types.{Bytes}
 use Rattle.lms_sign.specs.Secret.{Secret}
 use Rattle.lms_sign.specs.Signature.{signature_of}
@@ -15,9 +17,9 @@ use Rattle.client_releases.specs.declared.error.ClientError.{ClientError}
 use Rattle.client_releases.specs.declared.phase.Phase.{Phase}
 use Rattle.client_releases.specs.declared.phase.Phase.TheVariants as phase
 use Rattle.client_releases.specs.Releasing.{IsTried, cert_record, ledger_at, no_secret, structure_record, under}
-use Rattle.client_releases.specs.Told.{IsPhase, Released, sent}
-use Rattle.release_runs.specs.Steps.{Declares, HasDeclared, HasSigned, Open, Owner, Signs, failed}
-use Rattle.release_runs.proofs.Files.{Lies, fresh_leaf, lies_on, lies_tried, lies_with, with_tried}
+use Rattle.client_releases.specs.Told.{HasKey, IsPhase, Released, secret_at, sent}
+use Rattle.release_runs.specs.Steps.{Declares, HasDeclared, HasSigned, Open, Owner, Signs, failed, secret_of}
+use Rattle.release_runs.proofs.Files.{Lies, called_sure, files_of, fresh_leaf, lies_on, lies_tried, lies_with, with_tried}
 use Rattle.release_runs.proofs.Holds.{Holds, HoldsAfter, IsAt, numbered_older}
 use Rattle.release_runs.proofs.Stories.{IsAfter, IsNumbered, OfCert, OfStructure, Release, phase_in, record_of, text}
 
@@ -32,29 +34,38 @@ is_declared told now (inl same) declared = sym same ∙ declared
 is_declared told now (inr other) declared = let two : phase.Declared ≡ phase.Idle = sym declared ∙ other.1 in absurd (cc two)
 
 -- nothing was tried, or this certificate
-abbrev pub IsTriedCert : Cert → Option Release → Type 0
-IsTriedCert c some = (some ≡ None) ⊎ ((q : LeafNumber) × (some ≡ Some (OfCert c q)))
+abbrev pub IsTriedCert : ℕ → Cert → Option Release → Type 0
+IsTriedCert n c some = (some ≡ None) ⊎ ((q : LeafNumber) × (some ≡ Some (OfCert n c q)))
 
 -- nothing was tried, or this structure
-abbrev pub IsTriedStructure : Structure → Option Release → Type 0
-IsTriedStructure z some = (some ≡ None) ⊎ ((q : LeafNumber) × (some ≡ Some (OfStructure z q)))
+abbrev pub IsTriedStructure : ℕ → Structure → Option Release → Type 0
+IsTriedStructure n z some = (some ≡ None) ⊎ ((q : LeafNumber) × (some ≡ Some (OfStructure n z q)))
 
 module _ (o : Owner) (InTurn : Type 0) (story : List Release) (tried : Option Release) (texts : List Bytes) (s : Released) (h : Holds o InTurn story tried (Open s) texts) where
-  lies_none : tried ≡ None → Lies o story None (ledger_at 0 s.devices).file s.devices.journal.file
-  lies_none none = subst (λ (t : Option Release). Lies o story t (ledger_at 0 s.devices).file s.devices.journal.file) none h.lies
+  lies_none : tried ≡ None → Lies o story None (files_of s.devices) s.devices.journal.file
+  lies_none none = subst (λ (t : Option Release). Lies o story t (files_of s.devices) s.devices.journal.file) none h.lies
 
   story_numbered : InTurn → IsNumbered story
   story_numbered t = numbered_older story tried (h.numbered t)
 
+  -- a key of the client is its owner's
+  own_key : (n : ℕ) → HasKey n s → n < length o.secrets
+  own_key n has = let size : length s.secrets ≡ min h.own.opened (length o.secrets) = ap length h.own.secrets ∙ length-take h.own.opened o.secrets in omega (arith, min-le_right h.own.opened (length o.secrets))
+
+  same_secret : (n : ℕ) → HasKey n s → secret_at n s ≡ secret_of n o
+  same_secret n has =
+      let size : length s.secrets ≡ min h.own.opened (length o.secrets) = ap length h.own.secrets ∙ length-take h.own.opened o.secrets in
+      ap (λ (l : List Secret). get_or l n no_secret) h.own.secrets ∙ get_or-take h.own.opened o.secrets n no_secret (omega (arith, min-le_left h.own.opened (length o.secrets)))
+
   -- a text that was signed by the client is one signed by its owner
-  same_sent : (m : Bytes) (q : LeafNumber) → sent s 0 q m ≡ m ++ signature_of o.secret q m
-  same_sent m q = ap (λ (l : List Secret). m ++ signature_of (slice_index_or l 0 no_secret) q m) h.own.secrets
+  same_sent : (n : ℕ) → HasKey n s → (m : Bytes) (q : LeafNumber) → sent s n q m ≡ m ++ signature_of (secret_of n o) q m
+  same_sent n has m q = ap (λ (x : Secret). m ++ signature_of x q m) (same_secret n has)
 
   -- ---- a device fails
 
   module _ (new : Released) (is : new ≡ failed new.devices s) where
     -- a call that released nothing, and after which no client stands
-    fails : (some : Option Release) (Now : Type 0) → IfSome some (IsAfter o story) → (Now → IsNumbered (with_tried some story)) → Lies o story some (ledger_at 0 new.devices).file new.devices.journal.file → Holds o Now story some (Open new) texts
+    fails : (some : Option Release) (Now : Type 0) → IfSome some (IsAfter o story) → (Now → IsNumbered (with_tried some story)) → Lies o story some (files_of new.devices) new.devices.journal.file → Holds o Now story some (Open new) texts
     fails some Now is_tried numbered lies = record {
       is_story = h.is_story;
       is_tried = is_tried;
@@ -62,6 +73,7 @@ module _ (o : Owner) (InTurn : Type 0) (story : List Release) (tried : Option Re
       lies = lies;
       own = record {
         user = ap (λ (r : Released). r.user) is ∙ h.own.user;
+        opened = h.own.opened;
         secrets = ap (λ (r : Released). r.secrets) is ∙ h.own.secrets;
         stands = λ up. absurd (up (ap (λ (r : Released). r.phase) is));
       };
@@ -71,49 +83,51 @@ module _ (o : Owner) (InTurn : Type 0) (story : List Release) (tried : Option Re
 
   -- ---- certificates
 
-  module _ (c : Cert) (new : Released) where
+  module _ (n : ℕ) (c : Cert) (new : Released) where
     module _ (idle : s.phase ≡ phase.Idle) where
       at_idle : IsAt o story tried s
       at_idle = h.own.stands (λ down. let two : phase.Idle ≡ phase.Failed = sym idle ∙ down in cc two)
 
-      cert_is : (q : LeafNumber) → cert_record (sent s 0 q (cert.spell c)) ≡ record_of o (OfCert c q)
-      cert_is q = ap cert_record (same_sent (cert.spell c) q)
+      cert_is : HasKey n s → (q : LeafNumber) → cert_record (sent s n q (cert.spell c)) ≡ record_of o (OfCert n c q)
+      cert_is has q = ap cert_record (same_sent n has (cert.spell c) q)
 
-      cert_after : (q : LeafNumber) → q < 1024 → cert.Fits c → c.user ≡ s.user → Handed (Some q) (ledger_at 0 s.devices).file (ledger_at 0 new.devices).file → IsAfter o story (OfCert c q)
-      cert_after q small fits user taken = record {
+      cert_after : HasKey n s → (q : LeafNumber) → q < 1024 → cert.Fits c → c.user ≡ s.user → Handed (Some q) (ledger_at n s.devices).file (ledger_at n new.devices).file → IsAfter o story (OfCert n c q)
+      cert_after has q small fits user taken = record {
         next = record { turn = not_declared (phase_in story) s.phase at_idle.phase idle; fits = fits; user = user ∙ h.own.user };
+        own = own_key n has;
         small = small;
-        fresh = fresh_leaf o story (ledger_at 0 s.devices).file s.devices.journal.file (ledger_at 0 new.devices).file q (lies_none at_idle.none_tried) taken;
+        fresh = fresh_leaf o story n s.devices new.devices s.devices.journal.file q (lies_none at_idle.none_tried) taken;
       }
 
-      cert_numbered : (q : LeafNumber) → c.number ≡ s.number + 1 → InTurn → IsNumbered (OfCert c q ∷ story)
+      cert_numbered : (q : LeafNumber) → c.number ≡ s.number + 1 → InTurn → IsNumbered (OfCert n c q ∷ story)
       cert_numbered q next t = (next ∙ ap (λ n. n + 1) at_idle.number, story_numbered t)
 
-    pub declares : (answer : Bytes) → HasDeclared s c (Ok answer) new → (q : LeafNumber) × HoldsAfter o InTurn (OfCert c q ∷ story) None (Open s) texts (Declares c (Ok answer)) (Open new)
+    pub declares : (answer : Bytes) → HasDeclared s n c (Ok answer) new → (q : LeafNumber) × HoldsAfter o InTurn (OfCert n c q ∷ story) None (Open s) texts (Declares n c (Ok answer)) (Open new)
     declares answer b =
         let at = at_idle b.idle in
         let q = b.declared.0 in
         let kept = b.declared.1 in
         let is = b.declared.2 in
-        let r = OfCert c q in
-        let given : answer ≡ text o r = b.text ∙ ap (λ (n : Released). n.text) is ∙ same_sent (cert.spell c) q in (
+        let r = OfCert n c q in
+        let given : answer ≡ text o r = b.text ∙ ap (λ (r : Released). r.text) is ∙ same_sent n b.has (cert.spell c) q in (
           q,
           record {
-            is_story = (cert_after b.idle q kept.least.below b.fits b.user kept.taken, h.is_story);
+            is_story = (cert_after b.idle b.has q kept.least.below b.fits b.user kept.taken, h.is_story);
             is_tried = tt;
             numbered = λ t. cert_numbered b.idle q t.0 t.1;
             lies =
-                lies_with o story r (ledger_at 0 s.devices).file s.devices.journal.file (ledger_at 0 new.devices).file new.devices.journal.file (lies_none at.none_tried) kept.taken
-                (subst (λ (x : Record). Added (Appended x) s.devices.journal.file new.devices.journal.file) (cert_is b.idle q) kept.added);
+                lies_with o story r s.devices new.devices s.devices.journal.file new.devices.journal.file (lies_none at.none_tried) b.others kept.taken
+                (subst (λ (x : Record). Added (Appended x) s.devices.journal.file new.devices.journal.file) (cert_is b.idle b.has q) kept.added);
             own = record {
-              user = ap (λ (n : Released). n.user) is ∙ h.own.user;
-              secrets = ap (λ (n : Released). n.secrets) is ∙ h.own.secrets;
+              user = ap (λ (r : Released). r.user) is ∙ h.own.user;
+              opened = h.own.opened;
+              secrets = ap (λ (r : Released). r.secrets) is ∙ h.own.secrets;
               stands = λ up. record {
                 none_tried = refl;
-                number = ap (λ (n : Released). n.number) is;
-                last = ap (λ (n : Released). n.last) is ∙ at.last;
-                text = ap (λ (n : Released). n.text) is ∙ same_sent (cert.spell c) q;
-                phase = inl (ap (λ (n : Released). n.phase) is);
+                number = ap (λ (r : Released). r.number) is;
+                last = ap (λ (r : Released). r.last) is ∙ at.last;
+                text = ap (λ (r : Released). r.text) is ∙ same_sent n b.has (cert.spell c) q;
+                phase = inl (ap (λ (r : Released). r.phase) is);
               };
             };
             released = λ a i. elim i [ inl e ↦ (r, inl refl, e ∙ given) | inr j ↦ (let k = h.released a j in (k.0, inr k.1, k.2)) ];
@@ -121,78 +135,80 @@ module _ (o : Owner) (InTurn : Type 0) (story : List Release) (tried : Option Re
           },
         )
 
-    pub declare_fails : (e : ClientError) → HasDeclared s c (Err e) new → (some : Option Release) × IsTriedCert c some × HoldsAfter o InTurn story some (Open s) texts (Declares c (Err e)) (Open new)
+    pub declare_fails : (e : ClientError) → HasDeclared s n c (Err e) new → (some : Option Release) × IsTriedCert n c some × HoldsAfter o InTurn story some (Open s) texts (Declares n c (Err e)) (Open new)
     declare_fails e b = go b.tried
       where
         at : IsAt o story tried s
         at = at_idle b.idle
 
-        go : IsTried (λ q. cert_record (sent s 0 q (cert.spell c))) (under 0 s.devices) (under 0 new.devices) → (some : Option Release) × IsTriedCert c some × HoldsAfter o InTurn story some (Open s) texts (Declares c (Err e)) (Open new)
+        go : IsTried (λ q. cert_record (sent s n q (cert.spell c))) (under n s.devices) (under n new.devices) → (some : Option Release) × IsTriedCert n c some × HoldsAfter o InTurn story some (Open s) texts (Declares n c (Err e)) (Open new)
         go (inl none) = (
           None,
           inl refl,
           fails new b.err None ((c.number ≡ s.number + 1) × InTurn) tt (λ t. story_numbered t.1)
-              (lies_on o story None (ledger_at 0 s.devices).file s.devices.journal.file (ledger_at 0 new.devices).file new.devices.journal.file (lies_none at.none_tried) none.0 none.1),
+              (lies_on o story None (files_of s.devices) (files_of new.devices) s.devices.journal.file new.devices.journal.file (lies_none at.none_tried) (called_sure o story n s.devices new.devices s.devices.journal.file None b.others none.0) none.1),
         )
         go (inr (q, least, taken, added)) = (
-          Some (OfCert c q),
+          Some (OfCert n c q),
           inr (q, refl),
-          fails new b.err (Some (OfCert c q)) ((c.number ≡ s.number + 1) × InTurn)
-              (cert_after b.idle q least.below b.fits b.user taken) (λ t. cert_numbered b.idle q t.0 t.1)
-              (lies_tried o story (OfCert c q) (ledger_at 0 s.devices).file s.devices.journal.file (ledger_at 0 new.devices).file new.devices.journal.file (lies_none at.none_tried) taken
-              (subst (λ (x : Record). Added (Tried x) s.devices.journal.file new.devices.journal.file) (cert_is b.idle q) added)),
+          fails new b.err (Some (OfCert n c q)) ((c.number ≡ s.number + 1) × InTurn)
+              (cert_after b.idle b.has q least.below b.fits b.user taken) (λ t. cert_numbered b.idle q t.0 t.1)
+              (lies_tried o story (OfCert n c q) s.devices new.devices s.devices.journal.file new.devices.journal.file (lies_none at.none_tried) b.others taken
+              (subst (λ (x : Record). Added (Tried x) s.devices.journal.file new.devices.journal.file) (cert_is b.idle b.has q) added)),
         )
 
   -- ---- structures
 
-  module _ (z : Structure) (new : Released) where
+  module _ (n : ℕ) (z : Structure) (new : Released) where
     module _ (declared : s.phase ≡ phase.Declared) where
       at_declared : IsAt o story tried s
       at_declared = h.own.stands (λ down. let two : phase.Declared ≡ phase.Failed = sym declared ∙ down in cc two)
 
-      structure_is : (q : LeafNumber) → structure_record (sent s 0 q (structure.spell z)) ≡ record_of o (OfStructure z q)
-      structure_is q = ap structure_record (same_sent (structure.spell z) q)
+      structure_is : HasKey n s → (q : LeafNumber) → structure_record (sent s n q (structure.spell z)) ≡ record_of o (OfStructure n z q)
+      structure_is has q = ap structure_record (same_sent n has (structure.spell z) q)
 
-      structure_after : (q : LeafNumber) → q < 1024 → structure.Fits z → z.plan.user ≡ s.user → z.plan.number ≡ s.number → Handed (Some q) (ledger_at 0 s.devices).file (ledger_at 0 new.devices).file → IsAfter o story (OfStructure z q)
-      structure_after q small fits user number taken = record {
+      structure_after : HasKey n s → (q : LeafNumber) → q < 1024 → structure.Fits z → z.plan.user ≡ s.user → z.plan.number ≡ s.number → Handed (Some q) (ledger_at n s.devices).file (ledger_at n new.devices).file → IsAfter o story (OfStructure n z q)
+      structure_after has q small fits user number taken = record {
         next = record {
           turn = is_declared (phase_in story) s.phase at_declared.phase declared;
           fits = fits;
           user = user ∙ h.own.user;
           number = number ∙ at_declared.number;
         };
+        own = own_key n has;
         small = small;
-        fresh = fresh_leaf o story (ledger_at 0 s.devices).file s.devices.journal.file (ledger_at 0 new.devices).file q (lies_none at_declared.none_tried) taken;
+        fresh = fresh_leaf o story n s.devices new.devices s.devices.journal.file q (lies_none at_declared.none_tried) taken;
       }
 
-    pub signs : (answer : Bytes) → HasSigned s z (Ok answer) new → (q : LeafNumber) × HoldsAfter o InTurn (OfStructure z q ∷ story) None (Open s) texts (Signs z (Ok answer)) (Open new)
+    pub signs : (answer : Bytes) → HasSigned s n z (Ok answer) new → (q : LeafNumber) × HoldsAfter o InTurn (OfStructure n z q ∷ story) None (Open s) texts (Signs n z (Ok answer)) (Open new)
     signs answer b =
         let at = at_declared b.declared in
         let q = b.signed.0 in
         let kept = b.signed.1 in
         let is = b.signed.2 in
-        let r = OfStructure z q in
-        let given : answer ≡ text o r = b.text ∙ ap (λ (n : Released). n.text) is ∙ same_sent (structure.spell z) q in (
+        let r = OfStructure n z q in
+        let given : answer ≡ text o r = b.text ∙ ap (λ (r : Released). r.text) is ∙ same_sent n b.has (structure.spell z) q in (
           q,
           record {
-            is_story = (structure_after b.declared q kept.least.below b.fits b.user b.number kept.taken, h.is_story);
+            is_story = (structure_after b.declared b.has q kept.least.below b.fits b.user b.number kept.taken, h.is_story);
             is_tried = tt;
             numbered = λ t. story_numbered t.1;
             lies =
-                lies_with o story r (ledger_at 0 s.devices).file s.devices.journal.file (ledger_at 0 new.devices).file new.devices.journal.file (lies_none at.none_tried) kept.taken
-                (subst (λ (x : Record). Added (Appended x) s.devices.journal.file new.devices.journal.file) (structure_is b.declared q) kept.added);
+                lies_with o story r s.devices new.devices s.devices.journal.file new.devices.journal.file (lies_none at.none_tried) b.others kept.taken
+                (subst (λ (x : Record). Added (Appended x) s.devices.journal.file new.devices.journal.file) (structure_is b.declared b.has q) kept.added);
             own = record {
-              user = ap (λ (n : Released). n.user) is ∙ h.own.user;
-              secrets = ap (λ (n : Released). n.secrets) is ∙ h.own.secrets;
+              user = ap (λ (r : Released). r.user) is ∙ h.own.user;
+              opened = h.own.opened;
+              secrets = ap (λ (r : Released). r.secrets) is ∙ h.own.secrets;
               stands = λ up. record {
                 none_tried = refl;
-                number = ap (λ (n : Released). n.number) is ∙ at.number;
+                number = ap (λ (r : Released). r.number) is ∙ at.number;
                 last =
-                    ap (λ (n : Released). n.last) is
+                    ap (λ (r : Released). r.last) is
                     ∙ ap (λ (g : Bytes). let last : Option (Signed Structure) = Some (record { value = z; signature = g }) in last)
-                    (ap (λ (l : List Secret). signature_of (slice_index_or l 0 no_secret) q (structure.spell z)) h.own.secrets);
-                text = ap (λ (n : Released). n.text) is ∙ same_sent (structure.spell z) q;
-                phase = inl (ap (λ (n : Released). n.phase) is);
+                    (ap (λ (x : Secret). signature_of x q (structure.spell z)) (same_secret n b.has));
+                text = ap (λ (r : Released). r.text) is ∙ same_sent n b.has (structure.spell z) q;
+                phase = inl (ap (λ (r : Released). r.phase) is);
               };
             };
             released = λ a i. elim i [ inl e ↦ (r, inl refl, e ∙ given) | inr j ↦ (let k = h.released a j in (k.0, inr k.1, k.2)) ];
@@ -200,24 +216,24 @@ module _ (o : Owner) (InTurn : Type 0) (story : List Release) (tried : Option Re
           },
         )
 
-    pub sign_fails : (e : ClientError) → HasSigned s z (Err e) new → (some : Option Release) × IsTriedStructure z some × HoldsAfter o InTurn story some (Open s) texts (Signs z (Err e)) (Open new)
+    pub sign_fails : (e : ClientError) → HasSigned s n z (Err e) new → (some : Option Release) × IsTriedStructure n z some × HoldsAfter o InTurn story some (Open s) texts (Signs n z (Err e)) (Open new)
     sign_fails e b = go b.tried
       where
         at : IsAt o story tried s
         at = at_declared b.declared
 
-        go : IsTried (λ q. structure_record (sent s 0 q (structure.spell z))) (under 0 s.devices) (under 0 new.devices) → (some : Option Release) × IsTriedStructure z some × HoldsAfter o InTurn story some (Open s) texts (Signs z (Err e)) (Open new)
+        go : IsTried (λ q. structure_record (sent s n q (structure.spell z))) (under n s.devices) (under n new.devices) → (some : Option Release) × IsTriedStructure n z some × HoldsAfter o InTurn story some (Open s) texts (Signs n z (Err e)) (Open new)
         go (inl none) = (
           None,
           inl refl,
           fails new b.err None (Unit {0} × InTurn) tt (λ t. story_numbered t.1)
-              (lies_on o story None (ledger_at 0 s.devices).file s.devices.journal.file (ledger_at 0 new.devices).file new.devices.journal.file (lies_none at.none_tried) none.0 none.1),
+              (lies_on o story None (files_of s.devices) (files_of new.devices) s.devices.journal.file new.devices.journal.file (lies_none at.none_tried) (called_sure o story n s.devices new.devices s.devices.journal.file None b.others none.0) none.1),
         )
         go (inr (q, least, taken, added)) = (
-          Some (OfStructure z q),
+          Some (OfStructure n z q),
           inr (q, refl),
-          fails new b.err (Some (OfStructure z q)) (Unit {0} × InTurn)
-              (structure_after b.declared q least.below b.fits b.user b.number taken) (λ t. story_numbered t.1)
-              (lies_tried o story (OfStructure z q) (ledger_at 0 s.devices).file s.devices.journal.file (ledger_at 0 new.devices).file new.devices.journal.file (lies_none at.none_tried) taken
-              (subst (λ (x : Record). Added (Tried x) s.devices.journal.file new.devices.journal.file) (structure_is b.declared q) added)),
+          fails new b.err (Some (OfStructure n z q)) (Unit {0} × InTurn)
+              (structure_after b.declared b.has q least.below b.fits b.user b.number taken) (λ t. story_numbered t.1)
+              (lies_tried o story (OfStructure n z q) s.devices new.devices s.devices.journal.file new.devices.journal.file (lies_none at.none_tried) b.others taken
+              (subst (λ (x : Record). Added (Tried x) s.devices.journal.file new.devices.journal.file) (structure_is b.declared b.has q) added)),
         )

@@ -1,23 +1,26 @@
 -- What holds after each run, and the laws.
-use Rattle.std.proofs.Common.{◌≡◌, List, [], ◌∷◌, ◌++◌, Option, None, Ok, Err, refl, sym, ap, ◌∙◌, subst, inl, arith}
+use Rattle.std.specs.List.{Contains}
+use Rattle.std.proofs.Common.{◌≡◌, ◌<◌, ℕ, List, [], ◌∷◌, ◌++◌, length, Option, None, Ok, Err, refl, sym, ap, ◌∙◌, subst, inl, arith}
 use Rattle.layout.specs.Types.{Bytes}
-use Rattle.leaf_ledger.specs.Device.{started}
+use Rattle.lms_sign.specs.Signature.{signature_of}
+use Rattle.leaf_ledger.specs.Device.{History, started}
+use Rattle.leaf_ledger.specs.Life.{IsSure}
 use Rattle.client_journal.specs.Life.{IsPossible}
-use Rattle.client_journal.specs.Records.{Tells}
+use Rattle.client_journal.specs.Records.{Tells, unsigned}
 use Rattle.version_order.specs.Structure.{Structure}
 use Rattle.update_cert.specs.Cert.{Cert}
 use Rattle.client_releases.specs.Told.{cert_in, structure_in}
-use Rattle.release_runs.specs.Steps.{Call, Client, Closed, Closes, Commits, Crashes, Declares, IsLeft, IsSound, IsStep, Open, Opens, Owner, Parts, Signs, first, journal_of, ledger_of}
+use Rattle.release_runs.specs.Steps.{Call, Client, Closed, Closes, Commits, Crashes, Declares, Gains, IsLeft, IsSound, IsStep, Open, Opens, Owner, Parts, Signs, first, journal_of, ledgers_of, secret_of}
 use Rattle.release_runs.specs.Runs.{AreInTurn, Event, IsInTurn, IsRun, client_of}
-use Rattle.release_runs.specs.Released.{leaf_in, released, released_by}
+use Rattle.release_runs.specs.Released.{leaf_in, released, released_by, signature_in}
 use Rattle.release_runs.specs.UsedOnce.{CertificatesOnce, EachRun, LeavesOnce, StructuresOnce}
-use Rattle.release_runs.proofs.Files.{Lies, lies_left, lies_on, only_this}
+use Rattle.release_runs.proofs.Files.{Lies, file_at, gained_sure, lies_left, lies_on, only_this, still_sure}
 use Rattle.release_runs.proofs.Holds.{Holds, closes, commits, numbered_older}
-use Rattle.release_runs.proofs.Members.{In, contains_in}
-use Rattle.release_runs.proofs.Once.{came, leaf_told, of_cert, of_structure, one_cert, one_leaf, one_structure, small_leaf}
+use Rattle.release_runs.proofs.Members.{contains_in}
+use Rattle.release_runs.proofs.Once.{IsBy, came, found_by, key_by, leaf_told, of_cert, of_structure, one_cert, one_leaf, one_structure, own_key, signed_told, small_leaf}
 use Rattle.release_runs.proofs.Opening.{opened_holds}
 use Rattle.release_runs.proofs.Releasing.{declare_fails, declares, sign_fails, signs}
-use Rattle.release_runs.proofs.Stories.{OfCert, OfStructure, Release, leaf, text}
+use Rattle.release_runs.proofs.Stories.{OfCert, OfStructure, Release, key, leaf, mark, text}
 
 module _ (o : Owner) where
   -- ---- the beginning
@@ -47,17 +50,24 @@ module _ (o : Owner) where
   abbrev SomeAfter : Type 0 → Client → List Bytes → Call → Client → Type 0
   SomeAfter InTurn before texts call after = HoldsSome (IsInTurn before call × InTurn) after (released_by call after ++ texts)
 
-  module _ (story : List Release) (tried : Option Release) (before : Client) (lies : Lies o story tried (ledger_of before) (journal_of before)) where
+  module _ (story : List Release) (tried : Option Release) (before : Client) (lies : Lies o story tried (ledgers_of before) (journal_of before)) where
     -- what lies on devices that are handed back, or left by a crash
-    pub handed_back : (p : Parts) → p.ledger ≡ ledger_of before → p.journal ≡ journal_of before → Lies o story tried p.ledger p.journal
+    pub handed_back : (p : Parts) → p.ledgers ≡ ledgers_of before → p.journal ≡ journal_of before → Lies o story tried p.ledgers p.journal
     handed_back p l j =
-        subst (λ x. Lies o story tried x p.journal) (sym l) (subst (λ y. Lies o story tried (ledger_of before) y) (sym j) lies)
+        subst (λ x. Lies o story tried x p.journal) (sym l) (subst (λ y. Lies o story tried (ledgers_of before) y) (sym j) lies)
 
-    pub left : (p : Parts) → IsLeft before p → Lies o story tried p.ledger p.journal
-    left p is =
-        subst (λ x. Lies o story tried x p.journal) (sym is.ledger)
-        (subst (λ y. Lies o story tried (started is.ledger_text) y) (sym is.journal)
-        (lies_left o story tried (ledger_of before) (journal_of before) is.ledger_text is.journal_text lies is.ledger_may is.journal_may))
+    pub left : (p : Parts) → IsLeft before p → Lies o story tried p.ledgers p.journal
+    left p is = lies_left o story tried (ledgers_of before) p.ledgers (journal_of before) p.journal lies is.ledgers is.journal
+
+    -- or that have one ledger more
+    pub gained : (p : Parts) → p.ledgers ≡ ledgers_of before ++ started [] ∷ [] → p.journal ≡ journal_of before → Lies o story tried p.ledgers p.journal
+    gained p l j = handed_on (subst (λ y. Lies o story tried (ledgers_of before) y) (sym j) lies)
+      where
+        handed_on : Lies o story tried (ledgers_of before) p.journal → Lies o story tried p.ledgers p.journal
+        handed_on here = record {
+          tells = here.tells;
+          used = λ r i. subst (λ (x : List History). IsSure (file_at (key r) x) (leaf r)) (sym l) (gained_sure (ledgers_of before) (key r) (leaf r) (here.used r i));
+        }
 
   module _ (InTurn : Type 0) (story : List Release) (tried : Option Release) (texts : List Bytes) where
     pub step : (before : Client) (call : Call) (after : Client) → Holds o InTurn story tried before texts → IsStep o before call after → IsSound after → SomeAfter InTurn before texts call after
@@ -65,23 +75,25 @@ module _ (o : Owner) where
     step (Closed p) (Opens (Err e)) (Closed q) h is sound = record {
       story = story;
       tried = tried;
-      held = closes o InTurn (Unit {0} × InTurn) story tried texts (λ t. t.1) (Closed p) q h (lies_on o story tried p.ledger p.journal q.ledger q.journal h.lies is.ledgers.0.leaves is.records);
+      held = closes o InTurn (Unit {0} × InTurn) story tried texts (λ t. t.1) (Closed p) q h (lies_on o story tried p.ledgers q.ledgers p.journal q.journal h.lies (still_sure p.ledgers q.ledgers is.ledgers) is.records);
     }
     step (Closed p) Crashes (Closed q) h is sound =
         record { story = story; tried = tried; held = closes o InTurn (Unit {0} × InTurn) story tried texts (λ t. t.1) (Closed p) q h (left story tried (Closed p) h.lies q is) }
+    step (Closed p) Gains (Closed q) h is sound =
+        record { story = story; tried = tried; held = closes o InTurn (Unit {0} × InTurn) story tried texts (λ t. t.1) (Closed p) q h (gained story tried (Closed p) h.lies q is.ledgers is.journal) }
     step (Closed p) call after h is sound = absurd is
     step (Open s) Closes (Closed p) h is sound =
-        record { story = story; tried = tried; held = closes o InTurn (Unit {0} × InTurn) story tried texts (λ t. t.1) (Open s) p h (handed_back story tried (Open s) h.lies p is.ledger is.journal) }
+        record { story = story; tried = tried; held = closes o InTurn (Unit {0} × InTurn) story tried texts (λ t. t.1) (Open s) p h (handed_back story tried (Open s) h.lies p is.ledgers is.journal) }
     step (Open s) Crashes (Closed p) h is sound =
         record { story = story; tried = tried; held = closes o InTurn (Unit {0} × InTurn) story tried texts (λ t. t.1) (Open s) p h (left story tried (Open s) h.lies p is) }
-    step (Open s) (Declares c (Ok answer)) (Open new) h is sound =
-        let k = declares o InTurn story tried texts s h c new answer is in record { story = OfCert c k.0 ∷ story; tried = None; held = k.1 }
-    step (Open s) (Declares c (Err e)) (Open new) h is sound =
-        let k = declare_fails o InTurn story tried texts s h c new e is in record { story = story; tried = k.0; held = k.2 }
-    step (Open s) (Signs z (Ok answer)) (Open new) h is sound =
-        let k = signs o InTurn story tried texts s h z new answer is in record { story = OfStructure z k.0 ∷ story; tried = None; held = k.1 }
-    step (Open s) (Signs z (Err e)) (Open new) h is sound =
-        let k = sign_fails o InTurn story tried texts s h z new e is in record { story = story; tried = k.0; held = k.2 }
+    step (Open s) (Declares n c (Ok answer)) (Open new) h is sound =
+        let k = declares o InTurn story tried texts s h n c new answer is in record { story = OfCert n c k.0 ∷ story; tried = None; held = k.1 }
+    step (Open s) (Declares n c (Err e)) (Open new) h is sound =
+        let k = declare_fails o InTurn story tried texts s h n c new e is in record { story = story; tried = k.0; held = k.2 }
+    step (Open s) (Signs n z (Ok answer)) (Open new) h is sound =
+        let k = signs o InTurn story tried texts s h n z new answer is in record { story = OfStructure n z k.0 ∷ story; tried = None; held = k.1 }
+    step (Open s) (Signs n z (Err e)) (Open new) h is sound =
+        let k = sign_fails o InTurn story tried texts s h n z new e is in record { story = story; tried = k.0; held = k.2 }
     step (Open s) Commits (Open new) h is sound = record { story = story; tried = tried; held = commits o InTurn (Unit {0} × InTurn) story tried texts (λ t. t.1) s new h is }
     step (Open s) call after h is sound = absurd is
 
@@ -93,16 +105,39 @@ module _ (o : Owner) where
 
 -- ---- the laws
 
+-- the release of a text that was released
+module _ (o : Owner) (run : List Event) (is : IsRun o run) where
+  abbrev some : HoldsSome o (AreInTurn run) (client_of run) (released run)
+  some = holds o run is
+
+  by : (a : Bytes) → Contains (released run) a → (r : Release) × IsBy o some.story a r
+  by a has = let r = some.held.released a (contains_in a (released run) has) in found_by o some.story a r.0 r.1 r.2
+
+  small : (a : Bytes) (has : Contains (released run) a) → leaf (by a has).0 < 1024
+  small a has = small_leaf o some.story some.held.is_story (by a has).0 (by a has).1.inside
+
+  pub one_text : (a b : Bytes) → Contains (released run) a → Contains (released run) b → key_by o some.story a ≡ key_by o some.story b → leaf_in a ≡ leaf_in b → a ≡ b
+  one_text a b has_a has_b same_key same_leaf =
+      let r = by a has_a in
+      let s = by b has_b in
+      let keys : key r.0 ≡ key s.0 = sym r.1.key_is ∙ same_key ∙ s.1.key_is in
+      let leaves : leaf r.0 ≡ leaf s.0 = sym (leaf_told o r.0 (small a has_a)) ∙ sym (ap leaf_in r.1.text_is) ∙ same_leaf ∙ ap leaf_in s.1.text_is ∙ leaf_told o s.0 (small b has_b) in
+      let marks : mark r.0 ≡ mark s.0 = ap (λ (n : ℕ). (n, leaf r.0)) keys ∙ ap (λ (q : ℕ). (key s.0, q)) leaves in
+      r.1.text_is ∙ ap (text o) (one_leaf o some.story some.held.is_story r.0 s.0 r.1.inside s.1.inside marks) ∙ sym s.1.text_is
+
+  pub each_own : (a : Bytes) → Contains (released run) a → key_by o some.story a < length o.secrets
+  each_own a has = subst (λ (n : ℕ). n < length o.secrets) (sym (by a has).1.key_is) (own_key o some.story some.held.is_story (by a has).0 (by a has).1.inside)
+
+  pub each_signed : (a : Bytes) → Contains (released run) a → signature_in a ≡ signature_of (secret_of (key_by o some.story a) o) (leaf_in a) (unsigned a)
+  each_signed a has =
+      let r = by a has in
+      ap signature_in r.1.text_is
+      ∙ signed_told o r.0 (small a has)
+      ∙ ap (λ (n : ℕ). signature_of (secret_of n o) (leaf_in (text o r.0)) (unsigned (text o r.0))) (sym r.1.key_is)
+      ∙ ap (λ (t : Bytes). signature_of (secret_of (key_by o some.story a) o) (leaf_in t) (unsigned t)) (sym r.1.text_is)
+
 pub leaves_once : EachRun LeavesOnce
-leaves_once o run is a b has_a has_b same_leaf =
-    let some = holds o run is in
-    let h = some.held in
-    let r = h.released a (contains_in a (released run) has_a) in
-    let s = h.released b (contains_in b (released run) has_b) in
-    let told_a = leaf_told o r.0 (small_leaf o some.story h.is_story r.0 r.1) in
-    let told_b = leaf_told o s.0 (small_leaf o some.story h.is_story s.0 s.1) in
-    let same : leaf r.0 ≡ leaf s.0 = sym told_a ∙ sym (ap leaf_in r.2) ∙ same_leaf ∙ ap leaf_in s.2 ∙ told_b in
-    r.2 ∙ ap (text o) (one_leaf o some.story h.is_story r.0 s.0 r.1 s.1 same) ∙ sym s.2
+leaves_once o run is = record { key_of = key_by o (some o run is).story; own = each_own o run is; signed = each_signed o run is; once = one_text o run is }
 
 pub certificates_once : EachRun CertificatesOnce
 certificates_once o run is turn a b c d has_a has_b in_a in_b same_number =
@@ -116,8 +151,8 @@ certificates_once o run is turn a b c d has_a has_b in_a in_b same_number =
     let y = of_cert o s.0 came_s.0 came_s.1 d (ap (cert_in o.user) (sym s.2) ∙ in_b) in
     let same : x.one.number ≡ y.one.number = sym (ap (λ (v : Cert). v.number) x.value) ∙ same_number ∙ ap (λ (v : Cert). v.number) y.value in
     let one =
-    one_cert o some.story (numbered_older some.story some.tried (h.numbered turn)) x.one y.one x.by y.by (subst (λ (v : Release). In v some.story) x.is r.1) (subst (λ (v : Release). In v some.story) y.is s.1) same in
-    r.2 ∙ ap (text o) (x.is ∙ one ∙ sym y.is) ∙ sym s.2
+    one_cert o some.story (numbered_older some.story some.tried (h.numbered turn)) r.0 s.0 x.one y.one x.by y.by x.leaf y.leaf x.is y.is r.1 s.1 same in
+    r.2 ∙ ap (text o) one ∙ sym s.2
 
 pub structures_once : EachRun StructuresOnce
 structures_once o run is turn a b y z has_a has_b in_a in_b same_number =
@@ -131,5 +166,5 @@ structures_once o run is turn a b y z has_a has_b in_a in_b same_number =
     let w = of_structure o s.0 came_s.0 came_s.1 z (ap (structure_in o.user) (sym s.2) ∙ in_b) in
     let same : v.one.plan.number ≡ w.one.plan.number = sym (ap (λ (x : Structure). x.plan.number) v.value) ∙ same_number ∙ ap (λ (x : Structure). x.plan.number) w.value in
     let one =
-    one_structure o some.story h.is_story (numbered_older some.story some.tried (h.numbered turn)) v.one w.one v.by w.by (subst (λ (x : Release). In x some.story) v.is r.1) (subst (λ (x : Release). In x some.story) w.is s.1) same in
-    r.2 ∙ ap (text o) (v.is ∙ one ∙ sym w.is) ∙ sym s.2
+    one_structure o some.story h.is_story (numbered_older some.story some.tried (h.numbered turn)) r.0 s.0 v.one w.one v.by w.by v.leaf w.leaf v.is w.is r.1 s.1 same in
+    r.2 ∙ ap (text o) one ∙ sym s.2

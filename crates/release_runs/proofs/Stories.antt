@@ -13,53 +13,61 @@ use Rattle.client_releases.specs.declared.phase.Phase.{Phase}
 use Rattle.client_releases.specs.declared.phase.Phase.TheVariants as phase
 use Rattle.client_releases.specs.Releasing.{cert_record, structure_record}
 use Rattle.client_releases.specs.Told.{Told, after_cert, after_structure, cert_in, signed_by, structure_in, told_by}
-use Rattle.release_runs.specs.Steps.{Owner}
+use Rattle.release_runs.specs.Steps.{Owner, secret_of}
 use Rattle.release_runs.proofs.Members.{In}
 use Rattle.release_runs.proofs.Texts.{cert_read, structure_read}
 
--- a text that was signed by a leaf: a certificate's, or a structure's
+-- a text that was signed by a leaf of a key: a certificate's, or a structure's
 pub data Release : Type 0 where
-  OfCert : Cert → LeafNumber → Release
-  OfStructure : Structure → LeafNumber → Release
+  OfCert : ℕ → Cert → LeafNumber → Release
+  OfStructure : ℕ → Structure → LeafNumber → Release
 
 abbrev pub leaf : Release → LeafNumber
-leaf (OfCert c q) = q
-leaf (OfStructure z q) = q
+leaf (OfCert k c q) = q
+leaf (OfStructure k z q) = q
+
+-- the number of its key, and that with the leaf
+abbrev pub key : Release → ℕ
+key (OfCert k c q) = k
+key (OfStructure k z q) = k
+
+abbrev pub mark : Release → ℕ × LeafNumber
+mark r = (key r, leaf r)
 
 -- the text that is signed
 abbrev pub message : Release → Bytes
-message (OfCert c q) = cert.spell c
-message (OfStructure z q) = structure.spell z
+message (OfCert k c q) = cert.spell c
+message (OfStructure k z q) = structure.spell z
 
 -- ---- what releases tell, the latest first
 
 -- the number of the operation that was declared last, 0 where none was
 abbrev pub number_in : List Release → ℕ
 number_in [] = 0
-number_in (OfCert c q ∷ older) = c.number
-number_in (OfStructure z q ∷ older) = number_in older
+number_in (OfCert k c q ∷ older) = c.number
+number_in (OfStructure k z q ∷ older) = number_in older
 
 -- how far the last one is
 abbrev pub phase_in : List Release → Phase
 phase_in [] = phase.Idle
-phase_in (OfCert c q ∷ older) = phase.Declared
-phase_in (OfStructure z q ∷ older) = phase.Signed
+phase_in (OfCert k c q ∷ older) = phase.Declared
+phase_in (OfStructure k z q ∷ older) = phase.Signed
 
 -- each certificate has the next number
 abbrev pub IsNumbered : List Release → Type 0
 IsNumbered [] = Unit {0}
-IsNumbered (OfCert c q ∷ older) = (c.number ≡ number_in older + 1) × IsNumbered older
-IsNumbered (OfStructure z q ∷ older) = IsNumbered older
+IsNumbered (OfCert k c q ∷ older) = (c.number ≡ number_in older + 1) × IsNumbered older
+IsNumbered (OfStructure k z q ∷ older) = IsNumbered older
 
 module _ (o : Owner) where
   -- the text as it is sent
   abbrev pub text : Release → Bytes
-  text (OfCert c q) = cert.spell c ++ signature_of o.secret q (cert.spell c)
-  text (OfStructure z q) = structure.spell z ++ signature_of o.secret q (structure.spell z)
+  text (OfCert k c q) = cert.spell c ++ signature_of (secret_of k o) q (cert.spell c)
+  text (OfStructure k z q) = structure.spell z ++ signature_of (secret_of k o) q (structure.spell z)
 
   abbrev pub record_of : Release → Record
-  record_of (OfCert c q) = cert_record (text (OfCert c q))
-  record_of (OfStructure z q) = structure_record (text (OfStructure z q))
+  record_of (OfCert k c q) = cert_record (text (OfCert k c q))
+  record_of (OfStructure k z q) = structure_record (text (OfStructure k z q))
 
   -- the records of a journal, the first of them first
   abbrev pub records : List Release → List Record
@@ -69,13 +77,13 @@ module _ (o : Owner) where
   -- the structure that was signed last, and its text
   abbrev pub last_in : List Release → Option (Signed Structure)
   last_in [] = None
-  last_in (OfCert c q ∷ older) = last_in older
-  last_in (OfStructure z q ∷ older) = Some (signed_by o.secret q z)
+  last_in (OfCert k c q ∷ older) = last_in older
+  last_in (OfStructure k z q ∷ older) = Some (signed_by (secret_of k o) q z)
 
   abbrev pub last_text : List Release → Option Bytes
   last_text [] = None
-  last_text (OfCert c q ∷ older) = last_text older
-  last_text (OfStructure z q ∷ older) = Some (text (OfStructure z q))
+  last_text (OfCert k c q ∷ older) = last_text older
+  last_text (OfStructure k z q ∷ older) = Some (text (OfStructure k z q))
 
   -- the text that was released last
   abbrev pub text_in : List Release → Bytes
@@ -98,14 +106,15 @@ module _ (o : Owner) where
     pub number : z.plan.number ≡ number_in older
 
   abbrev pub IsNext : List Release → Release → Type 0
-  IsNext older (OfCert c q) = IsNextCert older c
-  IsNext older (OfStructure z q) = IsNextStructure older z
+  IsNext older (OfCert k c q) = IsNextCert older c
+  IsNext older (OfStructure k z q) = IsNextStructure older z
 
-  -- and it is signed by a leaf that signed none of those before
+  -- and it is signed by a key of the owner's, by a leaf of it that signed none of those before
   pub record IsAfter (older : List Release) (r : Release) : Type 0 where
     pub next : IsNext older r
+    pub own : key r < length o.secrets
     pub small : leaf r < 1024
-    pub fresh : In (leaf r) (map leaf older) → ⊥
+    pub fresh : In (mark r) (map mark older) → ⊥
 
   abbrev pub IsStory : List Release → Type 0
   IsStory [] = Unit {0}
@@ -115,8 +124,8 @@ module _ (o : Owner) where
 
   abbrev pub state_in : List Release → Recorded
   state_in [] = Idle
-  state_in (OfCert c q ∷ older) = Declared (last_text older) (text (OfCert c q))
-  state_in (OfStructure z q ∷ older) = Ended (text (OfStructure z q))
+  state_in (OfCert k c q ∷ older) = Declared (last_text older) (text (OfCert k c q))
+  state_in (OfStructure k z q ∷ older) = Ended (text (OfStructure k z q))
 
   abbrev pub told_in : List Release → Told
   told_in story = record { number = number_in story; last = last_in story; phase = phase_in story; text = text_in story }
@@ -137,12 +146,12 @@ one_more s (x ∷ rs) r = go (next_state s x.kind x.text) (λ t. one_more t rs r
 
 module _ (o : Owner) where
   step_of : (older : List Release) (r : Release) → IsNext o older r → next_state (state_in o older) (record_of o r).kind (record_of o r).text ≡ Some (state_in o (r ∷ older))
-  step_of [] (OfCert c q) next = refl
-  step_of (OfCert d p ∷ older) (OfCert c q) next = absurd (next.turn refl)
-  step_of (OfStructure z p ∷ older) (OfCert c q) next = refl
-  step_of [] (OfStructure z q) next = absurd (let e = next.turn in cc)
-  step_of (OfCert d p ∷ older) (OfStructure z q) next = refl
-  step_of (OfStructure y p ∷ older) (OfStructure z q) next = absurd (let e = next.turn in cc)
+  step_of [] (OfCert k c q) next = refl
+  step_of (OfCert j d p ∷ older) (OfCert k c q) next = absurd (next.turn refl)
+  step_of (OfStructure j z p ∷ older) (OfCert k c q) next = refl
+  step_of [] (OfStructure k z q) next = absurd (let e = next.turn in cc)
+  step_of (OfCert j d p ∷ older) (OfStructure k z q) next = refl
+  step_of (OfStructure j y p ∷ older) (OfStructure k z q) next = absurd (let e = next.turn in cc)
 
   pub state_is : (story : List Release) → IsStory o story → state_of (records o story) ≡ Some (state_in o story)
   state_is [] is = refl
@@ -151,54 +160,54 @@ module _ (o : Owner) where
       ∙ ap (option_and_then (λ t. next_state t (record_of o r).kind (record_of o r).text)) (state_is older is.1)
       ∙ step_of older r is.0.next
 
-  size_of : (m : Bytes) (q : LeafNumber) → length (signature_of o.secret q m) ≡ 2508
-  size_of m q = length-signature o.secret m q
+  pub size_of : (k : ℕ) (m : Bytes) (q : LeafNumber) → length (signature_of (secret_of k o) q m) ≡ 2508
+  size_of k m q = length-signature (secret_of k o) m q
 
-  pub cert_of : (c : Cert) (q : LeafNumber) (older : List Release) → IsNextCert o older c → cert_in o.user (text o (OfCert c q)) ≡ Some (record { value = c; signature = signature_of o.secret q (cert.spell c) })
-  cert_of c q older next = cert_read o.user (signature_of o.secret q (cert.spell c)) (size_of (cert.spell c) q) c next.fits next.user
+  pub cert_of : (k : ℕ) (c : Cert) (q : LeafNumber) (older : List Release) → IsNextCert o older c → cert_in o.user (text o (OfCert k c q)) ≡ Some (record { value = c; signature = signature_of (secret_of k o) q (cert.spell c) })
+  cert_of k c q older next = cert_read o.user (signature_of (secret_of k o) q (cert.spell c)) (size_of k (cert.spell c) q) c next.fits next.user
 
-  pub structure_of : (z : Structure) (q : LeafNumber) (older : List Release) → IsNextStructure o older z → structure_in o.user (text o (OfStructure z q)) ≡ Some (signed_by o.secret q z)
-  structure_of z q older next = structure_read o.user (signature_of o.secret q (structure.spell z)) (size_of (structure.spell z) q) z next.fits next.user
+  pub structure_of : (k : ℕ) (z : Structure) (q : LeafNumber) (older : List Release) → IsNextStructure o older z → structure_in o.user (text o (OfStructure k z q)) ≡ Some (signed_by (secret_of k o) q z)
+  structure_of k z q older next = structure_read o.user (signature_of (secret_of k o) q (structure.spell z)) (size_of k (structure.spell z) q) z next.fits next.user
 
   -- the journal tells number, structure, phase and text
   pub told_is : (story : List Release) → IsStory o story → told_by o.user (state_in o story) ≡ Some (told_in o story)
   told_is [] is = refl
-  told_is (OfCert c q ∷ []) is =
-      ap (option_map (after_cert None (text o (OfCert c q)))) (cert_of c q [] is.0.next)
-  told_is (OfCert c q ∷ (OfCert d p ∷ older)) is = absurd (is.0.next.turn refl)
-  told_is (OfCert c q ∷ (OfStructure z p ∷ older)) is =
-      ap (option_and_then (λ y. option_map (after_cert (Some y) (text o (OfCert c q))) (cert_in o.user (text o (OfCert c q))))) (structure_of z p older is.1.0.next)
-      ∙ ap (option_map (after_cert (Some (signed_by o.secret p z)) (text o (OfCert c q)))) (cert_of c q (OfStructure z p ∷ older) is.0.next)
-  told_is (OfStructure z q ∷ older) is =
-      ap (option_map (after_structure (text o (OfStructure z q)))) (structure_of z q older is.0.next)
-      ∙ ap (λ n. Some (record { number = n; last = Some (signed_by o.secret q z); phase = phase.Signed; text = text o (OfStructure z q) })) is.0.next.number
+  told_is (OfCert k c q ∷ []) is =
+      ap (option_map (after_cert None (text o (OfCert k c q)))) (cert_of k c q [] is.0.next)
+  told_is (OfCert k c q ∷ (OfCert j d p ∷ older)) is = absurd (is.0.next.turn refl)
+  told_is (OfCert k c q ∷ (OfStructure j z p ∷ older)) is =
+      ap (option_and_then (λ y. option_map (after_cert (Some y) (text o (OfCert k c q))) (cert_in o.user (text o (OfCert k c q))))) (structure_of j z p older is.1.0.next)
+      ∙ ap (option_map (after_cert (Some (signed_by (secret_of j o) p z)) (text o (OfCert k c q)))) (cert_of k c q (OfStructure j z p ∷ older) is.0.next)
+  told_is (OfStructure k z q ∷ older) is =
+      ap (option_map (after_structure (text o (OfStructure k z q)))) (structure_of k z q older is.0.next)
+      ∙ ap (λ n. Some (record { number = n; last = Some (signed_by (secret_of k o) q z); phase = phase.Signed; text = text o (OfStructure k z q) })) is.0.next.number
 
 -- ---- numbers
 
 -- a certificate's number is at most that of the last one, where each has the next one
-pub number_within : (story : List Release) → IsNumbered story → (c : Cert) (q : LeafNumber) → In (OfCert c q) story → c.number < number_in story + 1
-number_within [] is c q i = absurd i
-number_within (OfCert d p ∷ older) is c q (inl e) = let same : c ≡ d = cc in let n = ap (λ (x : Cert). x.number) same in omega arith
-number_within (OfCert d p ∷ older) is c q (inr i) = let below = number_within older is.1 c q i in let n = is.0 in omega arith
-number_within (OfStructure z p ∷ older) is c q (inl e) = absurd cc
-number_within (OfStructure z p ∷ older) is c q (inr i) = number_within older is c q i
+pub number_within : (story : List Release) → IsNumbered story → (k : ℕ) (c : Cert) (q : LeafNumber) → In (OfCert k c q) story → c.number < number_in story + 1
+number_within [] is k c q i = absurd i
+number_within (OfCert j d p ∷ older) is k c q (inl e) = let same : c ≡ d = cc in let n = ap (λ (x : Cert). x.number) same in omega arith
+number_within (OfCert j d p ∷ older) is k c q (inr i) = let below = number_within older is.1 k c q i in let n = is.0 in omega arith
+number_within (OfStructure j z p ∷ older) is k c q (inl e) = absurd cc
+number_within (OfStructure j z p ∷ older) is k c q (inr i) = number_within older is k c q i
 
 module _ (o : Owner) where
   -- and so is a structure's
-  pub structure_within : (story : List Release) → IsStory o story → IsNumbered story → (z : Structure) (q : LeafNumber) → In (OfStructure z q) story → z.plan.number < number_in story + 1
-  structure_within [] is each z q i = absurd i
-  structure_within (OfCert d p ∷ older) is each z q (inl e) = absurd cc
-  structure_within (OfCert d p ∷ older) is each z q (inr i) = let below = structure_within older is.1 each.1 z q i in let n = each.0 in omega arith
-  structure_within (OfStructure y p ∷ older) is each z q (inl e) =
+  pub structure_within : (story : List Release) → IsStory o story → IsNumbered story → (k : ℕ) (z : Structure) (q : LeafNumber) → In (OfStructure k z q) story → z.plan.number < number_in story + 1
+  structure_within [] is each k z q i = absurd i
+  structure_within (OfCert j d p ∷ older) is each k z q (inl e) = absurd cc
+  structure_within (OfCert j d p ∷ older) is each k z q (inr i) = let below = structure_within older is.1 each.1 k z q i in let n = each.0 in omega arith
+  structure_within (OfStructure j y p ∷ older) is each k z q (inl e) =
       let same : z ≡ y = cc in
       let n = ap (λ (x : Structure). x.plan.number) same in
       let m = is.0.next.number in
       omega arith
-  structure_within (OfStructure y p ∷ older) is each z q (inr i) = structure_within older is.1 each z q i
+  structure_within (OfStructure j y p ∷ older) is each k z q (inr i) = structure_within older is.1 each k z q i
 
   -- below it, where a certificate was declared last
-  pub structure_below : (story : List Release) → IsStory o story → IsNumbered story → phase_in story ≡ phase.Declared → (z : Structure) (q : LeafNumber) → In (OfStructure z q) story → z.plan.number < number_in story
-  structure_below [] is each declared z q i = absurd i
-  structure_below (OfCert d p ∷ older) is each declared z q (inl e) = absurd cc
-  structure_below (OfCert d p ∷ older) is each declared z q (inr i) = let below = structure_within older is.1 each.1 z q i in let n = each.0 in omega arith
-  structure_below (OfStructure y p ∷ older) is each declared z q i = absurd (let two : phase.Signed ≡ phase.Declared = declared in cc two)
+  pub structure_below : (story : List Release) → IsStory o story → IsNumbered story → phase_in story ≡ phase.Declared → (k : ℕ) (z : Structure) (q : LeafNumber) → In (OfStructure k z q) story → z.plan.number < number_in story
+  structure_below [] is each declared k z q i = absurd i
+  structure_below (OfCert j d p ∷ older) is each declared k z q (inl e) = absurd cc
+  structure_below (OfCert j d p ∷ older) is each declared k z q (inr i) = let below = structure_within older is.1 each.1 k z q i in let n = each.0 in omega arith
+  structure_below (OfStructure j y p ∷ older) is each declared k z q i = absurd (let two : phase.Signed ≡ phase.Declared = declared in cc two)

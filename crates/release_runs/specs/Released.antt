@@ -27,8 +27,8 @@ found_by (Open s) = found_text s.text
 -- what a call releases: `declare` and `sign` the text that they give, `open` the one that it finds
 abbrev pub released_by : Call → Client → List Bytes
 released_by (Opens (Ok x)) after = found_by after
-released_by (Declares c (Ok text)) after = text ∷ []
-released_by (Signs z (Ok text)) after = text ∷ []
+released_by (Declares n c (Ok text)) after = text ∷ []
+released_by (Signs n z (Ok text)) after = text ∷ []
 released_by call after = []
 
 -- the texts that were released in a run, the latest first

@@ -20,7 +20,7 @@ IsRun o (e ∷ older) = IsStep o (client_of older) e.call e.after × IsSound e.a
 -- a certificate that is declared has the next number
 abbrev pub IsInTurn : Client → Call → Type 0
 IsInTurn (Closed p) call = Unit {0}
-IsInTurn (Open s) (Declares c answer) = c.number ≡ s.number + 1
+IsInTurn (Open s) (Declares n c answer) = c.number ≡ s.number + 1
 IsInTurn (Open s) call = Unit {0}
 
 -- and so has each in the run

@@ -1,22 +1,30 @@
--- What a user's client releases: of each leaf one text, and of each number one certificate and one structure.
-use Rattle.std.specs.Prelude.{◌≡◌, List, Some}
+-- What a user's client releases: of each leaf of each key one text, and of each number one certificate and one structure.
+use Rattle.std.specs.Prelude.{◌≡◌, ◌<◌, ℕ, List, Some, length}
 use Rattle.std.specs.List.{Contains}
 use Rattle.layout.specs.Types.{Bytes}
+use Rattle.lms_sign.specs.Signature.{signature_of}
+use Rattle.client_journal.specs.Records.{unsigned}
 use Rattle.pending_list.specs.declared.signed.Signed.{Signed}
 use Rattle.version_order.specs.Structure.{Structure}
 use Rattle.update_cert.specs.Cert.{Cert}
 use Rattle.client_releases.specs.Told.{cert_in, structure_in}
-use Rattle.release_runs.specs.Steps.{Owner}
+use Rattle.release_runs.specs.Steps.{Owner, secret_of}
 use Rattle.release_runs.specs.Runs.{AreInTurn, Event, IsRun}
-use Rattle.release_runs.specs.Released.{leaf_in, released}
+use Rattle.release_runs.specs.Released.{leaf_in, released, signature_in}
 
 -- what holds of each run
 abbrev pub EachRun : (Owner → List Event → Type 0) → Type 0
 EachRun holds = (o : Owner) (run : List Event) → IsRun o run → holds o run
 
--- texts that carry one leaf number are one text
-abbrev pub LeavesOnce : Owner → List Event → Type 0
-LeavesOnce o run = (a b : Bytes) → Contains (released run) a → Contains (released run) b → leaf_in a ≡ leaf_in b → a ≡ b
+-- Each released text is signed by one of the owner's keys, by the leaf that it carries; and texts of one key that carry
+-- one leaf number are one text.
+pub record LeavesOnce (o : Owner) (run : List Event) : Type 0 where
+  pub key_of : Bytes → ℕ
+  pub own : (a : Bytes) → Contains (released run) a → key_of a < length o.secrets
+  pub signed : (a : Bytes) → Contains (released run) a
+      → signature_in a ≡ signature_of (secret_of (key_of a) o) (leaf_in a) (unsigned a)
+  pub once : (a b : Bytes) → Contains (released run) a → Contains (released run) b → key_of a ≡ key_of b
+      → leaf_in a ≡ leaf_in b → a ≡ b
 
 -- where each certificate has the next number, certificates of one number are one text
 abbrev pub CertificatesOnce : Owner → List Event → Type 0
