@@ -1,44 +1,75 @@
 -- What a client's calls are to client_releases.
-use Rattle.std.proofs.Common.{◌≡◌, List, Option, Some, None, Ok, Err, IfSome, IsSome, refl, ap, subst}
+use Rattle.std.proofs.Common.{◌≡◌, ◌<◌, ℕ, zero, suc, List, [], ◌∷◌, length, map, take, get_or, Option, Some, None, Ok, Err, IfSome, IsSome, refl, sym, ap, ◌∙◌, subst, arith}
 use Rattle.layout.specs.Types.{Bytes, Digest}
-use Rattle.leaf_ledger.specs.Ledger.{LeafNumber}
+use Rattle.lms_sign.specs.Secret.{Secret}
+use Rattle.leaf_ledger.specs.Device.{History}
+use Rattle.leaf_ledger.specs.Ledger.{LeafNumber, LedgerState}
 use Rattle.version_order.specs.Structure.{structure}
 use Rattle.update_cert.specs.Change.{Change}
 use Rattle.client_releases.specs.declared.error.ClientError.TheVariants as error
-use Rattle.client_releases.specs.Releasing.{IsKept, IsTried, structure_record, under}
+use Rattle.client_releases.specs.Releasing.{IsKept, IsTried, ledger_at, no_ledger, structure_record, under}
+use Rattle.client_releases.specs.Told.{HasKey, IsReleased}
 use Rattle.release_runs.specs.Steps as low
 use Rattle.client_verify.specs.State.{IsOfDeclared, Ready, State, next_cert, next_structure, on, over, released, signed_over, signed_text}
 use Rattle.client_steps.specs.Steps.{Client, Closed, HasBegun, HasSigned, IsHandedBack, IsLeft, IsOpened, IsSound, Open, Owner, Parts}
 
 -- the owner, the devices and the client, as client_releases has them
 abbrev pub low_owner : Owner → low.Owner
-low_owner o = record { user = o.user; secret = o.secret }
+low_owner o = record { user = o.user; secrets = o.secret ∷ [] }
 
 abbrev pub low_parts : Parts → low.Parts
-low_parts p = record { ledger = p.ledger.history; journal = p.journal.history }
+low_parts p = record { ledgers = p.ledger.history ∷ []; journal = p.journal.history }
 
 abbrev pub low_client : Client → low.Client
 low_client (Closed p) = low.Closed (low_parts p)
 low_client (Open s) = low.Open (released s)
 
-pub low_left : (before : Client) (p : Parts) → IsLeft before p → low.IsLeft (low_client before) (low_parts p)
-low_left (Closed q) p is = record { ledger_text = is.ledger_text; journal_text = is.journal_text; ledger_may = is.ledger_may; journal_may = is.journal_may; ledger = is.ledger; journal = is.journal }
-low_left (Open s) p is = record { ledger_text = is.ledger_text; journal_text = is.journal_text; ledger_may = is.ledger_may; journal_may = is.journal_may; ledger = is.ledger; journal = is.journal }
+-- an open client with one ledger
+abbrev pub HasOneLedger : Client → Type 0
+HasOneLedger (Closed p) = Unit {0}
+HasOneLedger (Open s) = s.devices.ledgers ≡ ledger_at 0 s.devices ∷ []
+
+-- which is so where it has the owner's key
+pub one_ledger : (s : State) (secret : Secret) → IsReleased (released s) → (opened : ℕ) → s.secrets ≡ take opened (secret ∷ []) → HasOneLedger (Open s)
+one_ledger s secret is opened own = go opened s.devices.ledgers own is.some is.as_many
+  where
+    go : (n : ℕ) (ledgers : List LedgerState) → s.secrets ≡ take n (secret ∷ []) → 0 < length s.secrets → length ledgers ≡ length s.secrets → ledgers ≡ get_or ledgers 0 no_ledger ∷ []
+    go zero ledgers keys some size = absurd (omega (arith, some, ap length keys))
+    go (suc n) [] keys some size = absurd (omega (arith, some, size))
+    go (suc n) (l ∷ []) keys some size = refl
+    go (suc zero) (l ∷ (m ∷ ledgers)) keys some size = absurd (omega (arith, size, ap length keys))
+    go (suc (suc n)) (l ∷ (m ∷ ledgers)) keys some size = absurd (omega (arith, size, ap length keys))
+
+abbrev pub files : State → List History
+files s = map (λ l. l.file) s.devices.ledgers
+
+files_one : (s : State) → HasOneLedger (Open s) → files s ≡ (ledger_at 0 s.devices).file ∷ []
+files_one s one = ap (λ (l : List LedgerState). map (λ (x : LedgerState). x.file) l) one
+
+pub low_left : (before : Client) (p : Parts) → HasOneLedger before → IsLeft before p → low.IsLeft (low_client before) (low_parts p)
+low_left (Closed q) p one is = record {
+  ledgers = (record { text = is.ledger_text; may = is.ledger_may; is = is.ledger }, tt);
+  journal = record { text = is.journal_text; may = is.journal_may; is = is.journal };
+}
+low_left (Open s) p one is = record {
+  ledgers = subst (λ (l : List History). low.AreLeft l (p.ledger.history ∷ [])) (sym (files_one s one)) (record { text = is.ledger_text; may = is.ledger_may; is = is.ledger }, tt);
+  journal = record { text = is.journal_text; may = is.journal_may; is = is.journal };
+}
 
 pub low_opened : (o : Owner) (p : Parts) (s : State) → IsOpened o p s → low.IsOpened (low_owner o) (low_parts p) (released s)
 low_opened o p s is = record { user = is.user; secrets = is.secrets; told = is.told; moments = is.moments }
 
-pub low_handed_back : (s : State) (p : Parts) → IsHandedBack s p → low.IsHandedBack (released s) (low_parts p)
-low_handed_back s p is = record { ledger = is.ledger; journal = is.journal }
+pub low_handed_back : (s : State) (p : Parts) → HasOneLedger (Open s) → IsHandedBack s p → low.IsHandedBack (released s) (low_parts p)
+low_handed_back s p one is = record { ledgers = ap (λ (h : History). h ∷ []) is.ledger ∙ sym (files_one s one); journal = is.journal }
 
 -- ---- certificates
 
-module _ (s new : State) (changes : List (Change Digest)) (laid : List Bytes) where
-  pub low_begun : (text : Bytes) → HasBegun s changes laid (Ok text) new → low.HasDeclared (released s) (next_cert s changes) (Ok text) (released new)
-  low_begun text b = record { idle = b.idle; fits = b.fits; user = refl; declared = (b.declared.0, b.declared.1, ap released b.declared.2); text = b.text; tried = tt; err = tt }
+module _ (s new : State) (has : HasKey 0 (released s)) (changes : List (Change Digest)) (laid : List Bytes) where
+  pub low_begun : (text : Bytes) → HasBegun s changes laid (Ok text) new → low.HasDeclared (released s) 0 (next_cert s changes) (Ok text) (released new)
+  low_begun text b = record { idle = b.idle; has = has; fits = b.fits; user = refl; declared = (b.declared.0, b.declared.1, ap released b.declared.2); text = b.text; tried = tt; others = b.others; err = tt }
 
-  pub low_begin_failed : HasBegun s changes laid (Err error.Device) new → low.HasDeclared (released s) (next_cert s changes) (Err error.Device) (released new)
-  low_begin_failed b = record { idle = b.idle; fits = b.fits_device refl; user = refl; declared = tt; text = tt; tried = b.tried; err = ap released (b.fails refl) }
+  pub low_begin_failed : HasBegun s changes laid (Err error.Device) new → low.HasDeclared (released s) 0 (next_cert s changes) (Err error.Device) (released new)
+  low_begin_failed b = record { idle = b.idle; has = has; fits = b.fits_device refl; user = refl; declared = tt; text = tt; tried = b.tried; others = b.others; err = ap released (b.fails refl) }
 
 -- ---- structures
 
@@ -56,31 +87,35 @@ module _ (s new : State) (y : Ready) (ready : s.accepted ≡ Some y) where
   pub of_declared : IsSound (Open s) → IsOfDeclared (released s) y.lists.own.plan
   of_declared before = if_ready (λ r. IsOfDeclared (released s) r.lists.own.plan) before.1.of_accepted
 
-  pub low_signed : (text : Bytes) → IsSound (Open s) → HasSigned s (Ok text) new → low.HasSigned (released s) (next_structure s y) (Ok text) (released new)
+  pub low_signed : (text : Bytes) → IsSound (Open s) → HasSigned s (Ok text) new → low.HasSigned (released s) 0 (next_structure s y) (Ok text) (released new)
   low_signed text before b =
       let declared = of_declared before in
       let done = if_ready (λ r. (leaf : LeafNumber) × IsKept leaf (structure_record (signed_text s leaf r)) (under 0 s.devices) (under 0 new.devices) × (new ≡ over new.blocks (on new.devices (signed_over s leaf r)))) b.signed in
       record {
         declared = declared.is_declared;
+        has = before.0.some;
         fits = if_ready (λ r. structure.Fits (next_structure s r)) b.fits;
         user = declared.user;
         number = declared.number;
         signed = (done.0, done.1, ap released done.2);
         text = b.text;
         tried = tt;
+        others = b.others;
         err = tt;
       }
 
-  pub low_sign_failed : IsSound (Open s) → HasSigned s (Err error.Device) new → low.HasSigned (released s) (next_structure s y) (Err error.Device) (released new)
+  pub low_sign_failed : IsSound (Open s) → HasSigned s (Err error.Device) new → low.HasSigned (released s) 0 (next_structure s y) (Err error.Device) (released new)
   low_sign_failed before b =
       let declared = of_declared before in
       record {
         declared = declared.is_declared;
+        has = before.0.some;
         fits = if_ready (λ r. structure.Fits (next_structure s r)) (b.fits_device refl);
         user = declared.user;
         number = declared.number;
         signed = tt;
         text = tt;
         tried = if_ready (λ r. IsTried (λ leaf. structure_record (signed_text s leaf r)) (under 0 s.devices) (under 0 new.devices)) b.tried;
+        others = b.others;
         err = ap released (b.fails refl);
       }

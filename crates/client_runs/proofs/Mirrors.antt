@@ -10,11 +10,13 @@ use Rattle.client_releases.specs.declared.error.ClientError.TheVariants as error
 use Rattle.release_runs.specs.Steps as low
 use Rattle.release_runs.specs.Runs as low_run
 use Rattle.release_runs.specs.Released as low_released
+use Rattle.release_runs.proofs.Holds as low_holds
+use Rattle.release_runs.proofs.Runs as low_runs
 use Rattle.client_verify.specs.State.{State, next_cert, next_structure, released}
 use Rattle.client_steps.specs.Steps.{Begins, Caches, Call, Client, Closed, Closes, Commits, Crashes, Gives, HasBegun, HasCommitted, HasSigned, Hears, IsSound, IsStep, Looks, Open, Opens, Owner, Signs, Takes, first}
 use Rattle.client_runs.specs.Runs.{Event, IsRun, Keys, client_of, owner}
 use Rattle.client_runs.specs.Released.{released as released_in, released_by}
-use Rattle.client_runs.proofs.Lowering.{low_begin_failed, low_begun, low_client, low_handed_back, low_left, low_opened, low_owner, low_sign_failed, low_signed, with_ready}
+use Rattle.client_runs.proofs.Lowering.{HasOneLedger, low_begin_failed, low_begun, low_client, low_handed_back, low_left, low_opened, low_owner, low_sign_failed, low_signed, one_ledger, with_ready}
 use Rattle.client_runs.proofs.Quiet.{gives, hears, looks, takes}
 use Rattle.client_runs.proofs.Replies.{Kept}
 
@@ -48,31 +50,38 @@ module _ (o : Owner) where
       texts_are = ap (λ l. low_released.released_by call (low_client after) ++ l) m.texts_are;
     }
 
+  -- it has one ledger
+  has_one : (texts : List Bytes) (s : State) → Mirrors o (Open s) texts → IsSound (Open s) → HasOneLedger (Open s)
+  has_one texts s m was =
+      let held = (low_runs.holds (low_owner o) m.run m.is_run).held in
+      let own = subst (λ (c : low.Client). low_holds.IsOwnClient (low_owner o) (low_runs.holds (low_owner o) m.run m.is_run).story (low_runs.holds (low_owner o) m.run m.is_run).tried c) m.after held.own in
+      one_ledger s o.secret was.0 own.opened own.secrets
+
   -- ---- calls
 
-  module _ (texts : List Bytes) (s : State) (m : Mirrors o (Open s) texts) (new : State) (sound : IsSound (Open new)) where
+  module _ (texts : List Bytes) (s : State) (m : Mirrors o (Open s) texts) (was : IsSound (Open s)) (new : State) (sound : IsSound (Open new)) where
     same_as : new ≡ s → Mirrors o (Open new) texts
     same_as is = quiet texts (Open s) m (Open new) (ap low.Open (ap released is))
 
     module _ (changes : List (Change Digest)) (laid : List Bytes) where
       begins : (text : Bytes) → HasBegun s changes laid (Ok text) new → Mirrors o (Open new) (text ∷ texts)
-      begins text b = moves texts (Open s) m (low.Declares (next_cert s changes) (Ok text)) (Open new) (low_begun s new changes laid text b) sound.0 refl
+      begins text b = moves texts (Open s) m (low.Declares 0 (next_cert s changes) (Ok text)) (Open new) (low_begun s new was.0.some changes laid text b) sound.0 refl
 
       begin_fails : HasBegun s changes laid (Err error.Device) new → Mirrors o (Open new) texts
-      begin_fails b = moves texts (Open s) m (low.Declares (next_cert s changes) (Err error.Device)) (Open new) (low_begin_failed s new changes laid b) sound.0 refl
+      begin_fails b = moves texts (Open s) m (low.Declares 0 (next_cert s changes) (Err error.Device)) (Open new) (low_begin_failed s new was.0.some changes laid b) sound.0 refl
 
       begin_refused : (e : ClientError) → e ≢ error.Device → HasBegun s changes laid (Err e) new → Mirrors o (Open new) texts
       begin_refused e other b = same_as (b.err other)
 
-    signs : (text : Bytes) → IsSound (Open s) → HasSigned s (Ok text) new → Mirrors o (Open new) (text ∷ texts)
-    signs text before b =
+    signs : (text : Bytes) → HasSigned s (Ok text) new → Mirrors o (Open new) (text ∷ texts)
+    signs text b =
         with_ready s (Mirrors o (Open new) (text ∷ texts)) b.ready
-        (λ y ready. moves texts (Open s) m (low.Signs (next_structure s y) (Ok text)) (Open new) (low_signed s new y ready text before b) sound.0 tt)
+        (λ y ready. moves texts (Open s) m (low.Signs 0 (next_structure s y) (Ok text)) (Open new) (low_signed s new y ready text was b) sound.0 tt)
 
-    sign_fails : IsSound (Open s) → HasSigned s (Err error.Device) new → Mirrors o (Open new) texts
-    sign_fails before b =
+    sign_fails : HasSigned s (Err error.Device) new → Mirrors o (Open new) texts
+    sign_fails b =
         with_ready s (Mirrors o (Open new) texts) b.ready
-        (λ y ready. moves texts (Open s) m (low.Signs (next_structure s y) (Err error.Device)) (Open new) (low_sign_failed s new y ready before b) sound.0 tt)
+        (λ y ready. moves texts (Open s) m (low.Signs 0 (next_structure s y) (Err error.Device)) (Open new) (low_sign_failed s new y ready was b) sound.0 tt)
 
     sign_refused : (e : ClientError) → e ≢ error.Device → HasSigned s (Err e) new → Mirrors o (Open new) texts
     sign_refused e other b = same_as (b.err other)
@@ -87,27 +96,27 @@ module _ (o : Owner) where
   step texts (Closed p) (Opens (Ok x)) (Open s) m was is sound =
       moves texts (Closed p) m (low.Opens (Ok x)) (Open s) (low_opened o p s is) sound.0 tt
   step texts (Closed p) (Opens (Err e)) (Closed q) m was is sound = moves texts (Closed p) m (low.Opens (Err e)) (Closed q) is.moments tt tt
-  step texts (Closed p) Crashes (Closed q) m was is sound = moves texts (Closed p) m low.Crashes (Closed q) (low_left (Closed p) q is) tt tt
+  step texts (Closed p) Crashes (Closed q) m was is sound = moves texts (Closed p) m low.Crashes (Closed q) (low_left (Closed p) q tt is) tt tt
   step texts (Closed p) call after m was is sound = absurd is
-  step texts (Open s) Closes (Closed p) m was is sound = moves texts (Open s) m low.Closes (Closed p) (low_handed_back s p is) tt tt
-  step texts (Open s) Crashes (Closed p) m was is sound = moves texts (Open s) m low.Crashes (Closed p) (low_left (Open s) p is) tt tt
-  step texts (Open s) (Begins changes laid (Ok text)) (Open new) m was is sound = begins texts s m new sound changes laid text is
-  step texts (Open s) (Begins changes laid (Err error.Memory)) (Open new) m was is sound = begin_refused texts s m new sound changes laid error.Memory (λ d. cc d) is
-  step texts (Open s) (Begins changes laid (Err error.NoLeaf)) (Open new) m was is sound = begin_refused texts s m new sound changes laid error.NoLeaf (λ d. cc d) is
-  step texts (Open s) (Begins changes laid (Err error.Device)) (Open new) m was is sound = begin_fails texts s m new sound changes laid is
-  step texts (Open s) (Begins changes laid (Err error.NoNumber)) (Open new) m was is sound = begin_refused texts s m new sound changes laid error.NoNumber (λ d. cc d) is
-  step texts (Open s) (Begins changes laid (Err error.Foreign)) (Open new) m was is sound = begin_refused texts s m new sound changes laid error.Foreign (λ d. cc d) is
-  step texts (Open s) (Begins changes laid (Err error.Damaged)) (Open new) m was is sound = begin_refused texts s m new sound changes laid error.Damaged (λ d. cc d) is
+  step texts (Open s) Closes (Closed p) m was is sound = moves texts (Open s) m low.Closes (Closed p) (low_handed_back s p (has_one texts s m was) is) tt tt
+  step texts (Open s) Crashes (Closed p) m was is sound = moves texts (Open s) m low.Crashes (Closed p) (low_left (Open s) p (has_one texts s m was) is) tt tt
+  step texts (Open s) (Begins changes laid (Ok text)) (Open new) m was is sound = begins texts s m was new sound changes laid text is
+  step texts (Open s) (Begins changes laid (Err error.Memory)) (Open new) m was is sound = begin_refused texts s m was new sound changes laid error.Memory (λ d. cc d) is
+  step texts (Open s) (Begins changes laid (Err error.NoLeaf)) (Open new) m was is sound = begin_refused texts s m was new sound changes laid error.NoLeaf (λ d. cc d) is
+  step texts (Open s) (Begins changes laid (Err error.Device)) (Open new) m was is sound = begin_fails texts s m was new sound changes laid is
+  step texts (Open s) (Begins changes laid (Err error.NoNumber)) (Open new) m was is sound = begin_refused texts s m was new sound changes laid error.NoNumber (λ d. cc d) is
+  step texts (Open s) (Begins changes laid (Err error.Foreign)) (Open new) m was is sound = begin_refused texts s m was new sound changes laid error.Foreign (λ d. cc d) is
+  step texts (Open s) (Begins changes laid (Err error.Damaged)) (Open new) m was is sound = begin_refused texts s m was new sound changes laid error.Damaged (λ d. cc d) is
   step texts (Open s) (Hears text answer) (Open new) m was is sound = quiet texts (Open s) m (Open new) (ap low.Open (hears s text answer new is))
   step texts (Open s) (Takes block answer) (Open new) m was is sound = quiet texts (Open s) m (Open new) (ap low.Open (takes s block answer new is))
-  step texts (Open s) (Signs (Ok text)) (Open new) m was is sound = signs texts s m new sound text was is
-  step texts (Open s) (Signs (Err error.Memory)) (Open new) m was is sound = sign_refused texts s m new sound error.Memory (λ d. cc d) is
-  step texts (Open s) (Signs (Err error.NoLeaf)) (Open new) m was is sound = sign_refused texts s m new sound error.NoLeaf (λ d. cc d) is
-  step texts (Open s) (Signs (Err error.Device)) (Open new) m was is sound = sign_fails texts s m new sound was is
-  step texts (Open s) (Signs (Err error.NoNumber)) (Open new) m was is sound = sign_refused texts s m new sound error.NoNumber (λ d. cc d) is
-  step texts (Open s) (Signs (Err error.Foreign)) (Open new) m was is sound = sign_refused texts s m new sound error.Foreign (λ d. cc d) is
-  step texts (Open s) (Signs (Err error.Damaged)) (Open new) m was is sound = sign_refused texts s m new sound error.Damaged (λ d. cc d) is
-  step texts (Open s) (Commits status) (Open new) m was is sound = commits texts s m new sound status is
+  step texts (Open s) (Signs (Ok text)) (Open new) m was is sound = signs texts s m was new sound text is
+  step texts (Open s) (Signs (Err error.Memory)) (Open new) m was is sound = sign_refused texts s m was new sound error.Memory (λ d. cc d) is
+  step texts (Open s) (Signs (Err error.NoLeaf)) (Open new) m was is sound = sign_refused texts s m was new sound error.NoLeaf (λ d. cc d) is
+  step texts (Open s) (Signs (Err error.Device)) (Open new) m was is sound = sign_fails texts s m was new sound is
+  step texts (Open s) (Signs (Err error.NoNumber)) (Open new) m was is sound = sign_refused texts s m was new sound error.NoNumber (λ d. cc d) is
+  step texts (Open s) (Signs (Err error.Foreign)) (Open new) m was is sound = sign_refused texts s m was new sound error.Foreign (λ d. cc d) is
+  step texts (Open s) (Signs (Err error.Damaged)) (Open new) m was is sound = sign_refused texts s m was new sound error.Damaged (λ d. cc d) is
+  step texts (Open s) (Commits status) (Open new) m was is sound = commits texts s m was new sound status is
   step texts (Open s) (Looks q answer) (Open new) m was is sound = quiet texts (Open s) m (Open new) (ap low.Open (ap (λ (k : Kept). k.0) (looks s q answer new is)))
   step texts (Open s) (Gives block answer) (Open new) m was is sound = quiet texts (Open s) m (Open new) (ap low.Open (ap (λ (k : Kept). k.0) (gives s block answer new is)))
   step texts (Open s) (Caches capacity) (Open new) m was is sound = quiet texts (Open s) m (Open new) (ap low.Open (ap released is.state))

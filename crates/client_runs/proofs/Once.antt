@@ -1,5 +1,5 @@
 -- What a user's client releases it releases once.
-use Rattle.std.proofs.Common.{◌≡◌, List, Some, sym, ap, subst, ◌∙◌}
+use Rattle.std.proofs.Common.{◌≡◌, List, Some, sym, ap, subst, ◌∙◌, arith}
 use Rattle.std.specs.List.{Contains}
 use Rattle.layout.specs.Types.{Bytes, User}
 use Rattle.update_cert.specs.Cert.{Cert}
@@ -17,10 +17,14 @@ use Rattle.client_runs.proofs.Mirrors.{mirrors}
 in_mirror : (low texts : List Bytes) (a : Bytes) → low ≡ texts → Contains texts a → Contains low a
 in_mirror low texts a same has = subst (λ (l : List Bytes). Contains l a) (sym same) has
 
+-- the one key signed each text
 pub leaves_once : EachClient LeavesOnce
 leaves_once keys run u is a b has_a has_b same =
     let m = mirrors keys u run is in
-    low_leaves (low_owner (owner keys u)) m.run m.is_run a b (in_mirror (low_released.released m.run) (released u run) a m.texts_are has_a) (in_mirror (low_released.released m.run) (released u run) b m.texts_are has_b) same
+    let low = low_leaves (low_owner (owner keys u)) m.run m.is_run in
+    let in_a = in_mirror (low_released.released m.run) (released u run) a m.texts_are has_a in
+    let in_b = in_mirror (low_released.released m.run) (released u run) b m.texts_are has_b in
+    low.once a b in_a in_b (omega (arith, low.own a in_a, low.own b in_b)) same
 
 pub certificates_once : EachClient CertificatesOnce
 certificates_once keys run u is a b c d has_a has_b in_a in_b same =
