@@ -33,8 +33,8 @@ use Rattle.fork_consistency.proofs.Views.{first_in, first_of, in_views, last_vie
 
 last_fits : (o : low.Owner) (story : List Release) → IsStory o story → IfSome (last_in o story) (λ z. structure.Fits z.value)
 last_fits o [] is = tt
-last_fits o (OfCert c q ∷ older) is = last_fits o older is.1
-last_fits o (OfStructure z q ∷ older) is = is.0.next.fits
+last_fits o (OfCert n c q ∷ older) is = last_fits o older is.1
+last_fits o (OfStructure n z q ∷ older) is = is.0.next.fits
 
 -- ---- texts of which digests are taken
 

@@ -17,7 +17,7 @@ use Rattle.client_releases.specs.Told.{Released, cert_in}
 use Rattle.client_verify.specs.Laid.{are_laid}
 use Rattle.client_verify.specs.State.{Ready, State, next_cert, next_structure, released as released_in_state}
 use Rattle.agreement.proofs.Members.{In, in-left, in-right}
-use Rattle.release_runs.proofs.Files.{lies_on}
+use Rattle.release_runs.proofs.Files.{lies_on, still_sure}
 use Rattle.release_runs.proofs.Holds as low_holds
 use Rattle.release_runs.proofs.Opening.{IsOf, opened_holds}
 use Rattle.release_runs.proofs.Once.{came}
@@ -30,7 +30,7 @@ use Rattle.client_steps.specs.Steps.{Begins, Caches, Call, Client, Closed, Close
 use Rattle.fork_consistency.proofs.BlocksOf.{are_hashed, blocks_at, blocks_by}
 use Rattle.client_runs.specs.Released.{hashed_at, released, released_by}
 use Rattle.client_runs.specs.Runs.{Event, IsRun, Keys, client_of, owner}
-use Rattle.client_runs.proofs.Lowering.{low_begin_failed, low_begun, low_client, low_left, low_opened, low_owner, low_parts, low_sign_failed, low_signed, with_ready}
+use Rattle.client_runs.proofs.Lowering.{HasOneLedger, low_begin_failed, low_begun, low_client, low_handed_back, low_left, low_opened, low_owner, low_parts, low_sign_failed, low_signed, one_ledger, with_ready}
 use Rattle.client_runs.proofs.Quiet.{gives, hears, looks, takes}
 use Rattle.client_runs.proofs.Replies.{Kept}
 
@@ -57,15 +57,15 @@ module _ (Inside : Cert → List Bytes → Type 0) where
 
   abbrev TriedIsBegun : Option Release → Type 0
   TriedIsBegun None = Unit {0}
-  TriedIsBegun (Some (OfCert c q)) = IsBegun c
-  TriedIsBegun (Some (OfStructure z q)) = Unit {0}
+  TriedIsBegun (Some (OfCert n c q)) = IsBegun c
+  TriedIsBegun (Some (OfStructure n z q)) = Unit {0}
 
   module _ (o : Owner) where
     abbrev Low : List Release → Option Release → Client → List Bytes → Type 0
     Low story tried client sent = low_holds.Holds (low_owner o) (Unit {0}) story tried (low_client client) sent
 
     abbrev AreBegun : List Release → Type 0
-    AreBegun story = (c : Cert) (q : ℕ) → In (OfCert c q) story → IsBegun c
+    AreBegun story = (n : ℕ) (c : Cert) (q : ℕ) → In (OfCert n c q) story → IsBegun c
 
     -- After a run the client has a story each of whose certificates was begun so, and so was one that was tried since.
     pub record Holds (client : Client) (sent : List Bytes) : Type 0 where
@@ -76,7 +76,7 @@ module _ (Inside : Cert → List Bytes → Type 0) where
       pub last : TriedIsBegun tried
 
     at_first : Holds first []
-    at_first = record { story = []; tried = None; low = low_runs.at_first (low_owner o); certs = λ c q i. absurd i; last = tt }
+    at_first = record { story = []; tried = None; low = low_runs.at_first (low_owner o); certs = λ n c q i. absurd i; last = tt }
 
     abbrev After : List Bytes → Call → Client → Type 0
     After sent call after = Holds after (released_by call after ++ sent)
@@ -86,23 +86,23 @@ module _ (Inside : Cert → List Bytes → Type 0) where
 
     -- ---- closed clients
 
-    left : (before : Client) (sent : List Bytes) (p : Parts) → Holds before sent → IsLeft before p → Holds (Closed p) sent
-    left before sent p h is =
+    left : (before : Client) (sent : List Bytes) (p : Parts) → Holds before sent → HasOneLedger before → IsLeft before p → Holds (Closed p) sent
+    left before sent p h one is =
         with_low before (Closed p) sent sent h
         (low_holds.closes (low_owner o) (Unit {0}) (Unit {0}) h.story h.tried sent (λ t. t) (low_client before) (low_parts p) h.low
-        (low_runs.left (low_owner o) h.story h.tried (low_client before) h.low.lies (low_parts p) (low_left before p is)))
+        (low_runs.left (low_owner o) h.story h.tried (low_client before) h.low.lies (low_parts p) (low_left before p one is)))
 
     refused : (p : Parts) (e : ClientError) (q : Parts) (sent : List Bytes) → Holds (Closed p) sent → IsRefused o p e q → Holds (Closed q) sent
     refused p e q sent h is =
         with_low (Closed p) (Closed q) sent sent h
         (low_holds.closes (low_owner o) (Unit {0}) (Unit {0}) h.story h.tried sent (λ t. t) (low_client (Closed p)) (low_parts q) h.low
-        (lies_on (low_owner o) h.story h.tried p.ledger.history p.journal.history q.ledger.history q.journal.history h.low.lies is.moments.ledgers.0.leaves is.moments.records))
+        (lies_on (low_owner o) h.story h.tried (low_parts p).ledgers (low_parts q).ledgers p.journal.history q.journal.history h.low.lies (still_sure (low_parts p).ledgers (low_parts q).ledgers is.moments.ledgers) is.moments.records))
 
-    handed_back : (s : State) (p : Parts) (sent : List Bytes) → Holds (Open s) sent → IsHandedBack s p → Holds (Closed p) sent
-    handed_back s p sent h is =
+    handed_back : (s : State) (p : Parts) (sent : List Bytes) → Holds (Open s) sent → HasOneLedger (Open s) → IsHandedBack s p → Holds (Closed p) sent
+    handed_back s p sent h one is =
         with_low (Open s) (Closed p) sent sent h
         (low_holds.closes (low_owner o) (Unit {0}) (Unit {0}) h.story h.tried sent (λ t. t) (low_client (Open s)) (low_parts p) h.low
-        (low_runs.handed_back (low_owner o) h.story h.tried (low_client (Open s)) h.low.lies (low_parts p) is.ledger is.journal))
+        (low_runs.handed_back (low_owner o) h.story h.tried (low_client (Open s)) h.low.lies (low_parts p) (low_handed_back s p one is).ledgers is.journal))
 
     opens : (p : Parts) (s : State) (x : Unit {0}) (sent : List Bytes) → Holds (Closed p) sent → IsOpened o p s → IsSound (Open s) → After sent (Opens (Ok x)) (Open s)
     opens p s x sent h is sound =
@@ -120,9 +120,9 @@ module _ (Inside : Cert → List Bytes → Type 0) where
         found one (inr (r, tried, same)) = subst AreBegun (sym same) (both r (subst TriedIsBegun tried h.last))
           where
             both : (r : Release) → TriedIsBegun (Some r) → AreBegun (r ∷ h.story)
-            both (OfCert d p) is c q (inl e) = let same : c ≡ d = cc e in subst IsBegun (sym same) is
-            both (OfStructure z p) is c q (inl e) = absurd (cc e)
-            both r is c q (inr i) = h.certs c q i
+            both (OfCert m d p) is n c q (inl e) = let same : c ≡ d = cc e in subst IsBegun (sym same) is
+            both (OfStructure m z p) is n c q (inl e) = absurd (cc e)
+            both r is n c q (inr i) = h.certs n c q i
 
     -- ---- open ones
 
@@ -133,25 +133,25 @@ module _ (Inside : Cert → List Bytes → Type 0) where
     same_as : (s new : State) (sent : List Bytes) → Holds (Open s) sent → new ≡ s → Holds (Open new) sent
     same_as s new sent h is = same_released s new sent h (ap released_in_state is)
 
-    begins : (s new : State) (changes : List (Change Digest)) (laid : List Bytes) (text : Bytes) (sent : List Bytes) → Inside (next_cert s changes) laid → Holds (Open s) sent → HasBegun s changes laid (Ok text) new → After sent (Begins changes laid (Ok text)) (Open new)
-    begins s new changes laid text sent inside h b =
-        let k = declares (low_owner o) (Unit {0}) h.story h.tried sent (released_in_state s) h.low (next_cert s changes) (released_in_state new) text (low_begun s new changes laid text b) in
+    begins : (s new : State) (changes : List (Change Digest)) (laid : List Bytes) (text : Bytes) (sent : List Bytes) → IsSound (Open s) → Inside (next_cert s changes) laid → Holds (Open s) sent → HasBegun s changes laid (Ok text) new → After sent (Begins changes laid (Ok text)) (Open new)
+    begins s new changes laid text sent always inside h b =
+        let k = declares (low_owner o) (Unit {0}) h.story h.tried sent (released_in_state s) h.low 0 (next_cert s changes) (released_in_state new) text (low_begun s new always.0.some changes laid text b) in
         record {
-          story = OfCert (next_cert s changes) k.0 ∷ h.story;
+          story = OfCert 0 (next_cert s changes) k.0 ∷ h.story;
           tried = None;
           low =
-              low_holds.where_in_turn (low_owner o) ((s.number + 1 ≡ s.number + 1) × Unit {0}) (Unit {0}) (OfCert (next_cert s changes) k.0 ∷ h.story) None (low_client (Open new)) (text ∷ sent)
+              low_holds.where_in_turn (low_owner o) ((s.number + 1 ≡ s.number + 1) × Unit {0}) (Unit {0}) (OfCert 0 (next_cert s changes) k.0 ∷ h.story) None (low_client (Open new)) (text ∷ sent)
               (λ _. (refl, tt)) k.1;
-          certs = λ c q i. elim i [
+          certs = λ n c q i. elim i [
             | inl e ↦ (let same : c ≡ next_cert s changes = cc e in subst IsBegun (sym same) (record { laid = laid; inside = inside; are = b.were_laid }))
-            | inr j ↦ h.certs c q j
+            | inr j ↦ h.certs n c q j
           ];
           last = tt;
         }
 
-    begin_fails : (s new : State) (changes : List (Change Digest)) (laid : List Bytes) (sent : List Bytes) → Inside (next_cert s changes) laid → Holds (Open s) sent → HasBegun s changes laid (Err error.Device) new → Holds (Open new) sent
-    begin_fails s new changes laid sent inside h b =
-        let k = declare_fails (low_owner o) (Unit {0}) h.story h.tried sent (released_in_state s) h.low (next_cert s changes) (released_in_state new) error.Device (low_begin_failed s new changes laid b) in
+    begin_fails : (s new : State) (changes : List (Change Digest)) (laid : List Bytes) (sent : List Bytes) → IsSound (Open s) → Inside (next_cert s changes) laid → Holds (Open s) sent → HasBegun s changes laid (Err error.Device) new → Holds (Open new) sent
+    begin_fails s new changes laid sent always inside h b =
+        let k = declare_fails (low_owner o) (Unit {0}) h.story h.tried sent (released_in_state s) h.low 0 (next_cert s changes) (released_in_state new) error.Device (low_begin_failed s new always.0.some changes laid b) in
         record {
           story = h.story;
           tried = k.0;
@@ -160,27 +160,27 @@ module _ (Inside : Cert → List Bytes → Type 0) where
           last = tried_cert k.0 k.1;
         }
       where
-        tried_cert : (some : Option Release) → IsTriedCert (next_cert s changes) some → TriedIsBegun some
+        tried_cert : (some : Option Release) → IsTriedCert 0 (next_cert s changes) some → TriedIsBegun some
         tried_cert some (inl none) = subst TriedIsBegun (sym none) tt
         tried_cert some (inr (q, one)) = subst TriedIsBegun (sym one) (record { laid = laid; inside = inside; are = b.were_laid })
 
     signs_ok : (s new : State) (y : Ready) → s.accepted ≡ Some y → (text : Bytes) (sent : List Bytes) → IsSound (Open s) → Holds (Open s) sent → HasSigned s (Ok text) new → After sent (Signs (Ok text)) (Open new)
     signs_ok s new y ready text sent always h b =
-        let k = signs (low_owner o) (Unit {0}) h.story h.tried sent (released_in_state s) h.low (next_structure s y) (released_in_state new) text (low_signed s new y ready text always b) in
+        let k = signs (low_owner o) (Unit {0}) h.story h.tried sent (released_in_state s) h.low 0 (next_structure s y) (released_in_state new) text (low_signed s new y ready text always b) in
         record {
-          story = OfStructure (next_structure s y) k.0 ∷ h.story;
+          story = OfStructure 0 (next_structure s y) k.0 ∷ h.story;
           tried = None;
-          low = low_holds.where_in_turn (low_owner o) (Unit {0} × Unit {0}) (Unit {0}) (OfStructure (next_structure s y) k.0 ∷ h.story) None (low_client (Open new)) (text ∷ sent) (λ _. (tt, tt)) k.1;
-          certs = λ c q i. elim i [
+          low = low_holds.where_in_turn (low_owner o) (Unit {0} × Unit {0}) (Unit {0}) (OfStructure 0 (next_structure s y) k.0 ∷ h.story) None (low_client (Open new)) (text ∷ sent) (λ _. (tt, tt)) k.1;
+          certs = λ n c q i. elim i [
             | inl e ↦ absurd (cc e)
-            | inr j ↦ h.certs c q j
+            | inr j ↦ h.certs n c q j
           ];
           last = tt;
         }
 
     sign_fails_here : (s new : State) (y : Ready) → s.accepted ≡ Some y → (sent : List Bytes) → IsSound (Open s) → Holds (Open s) sent → HasSigned s (Err error.Device) new → Holds (Open new) sent
     sign_fails_here s new y ready sent always h b =
-        let k = sign_fails (low_owner o) (Unit {0}) h.story h.tried sent (released_in_state s) h.low (next_structure s y) (released_in_state new) error.Device (low_sign_failed s new y ready always b) in
+        let k = sign_fails (low_owner o) (Unit {0}) h.story h.tried sent (released_in_state s) h.low 0 (next_structure s y) (released_in_state new) error.Device (low_sign_failed s new y ready always b) in
         record {
           story = h.story;
           tried = k.0;
@@ -189,7 +189,7 @@ module _ (Inside : Cert → List Bytes → Type 0) where
           last = tried_structure k.0 k.1;
         }
       where
-        tried_structure : (some : Option Release) → IsTriedStructure (next_structure s y) some → TriedIsBegun some
+        tried_structure : (some : Option Release) → IsTriedStructure 0 (next_structure s y) some → TriedIsBegun some
         tried_structure some (inl none) = subst TriedIsBegun (sym none) tt
         tried_structure some (inr (q, one)) = subst TriedIsBegun (sym one) tt
 
@@ -202,12 +202,12 @@ module _ (Inside : Cert → List Bytes → Type 0) where
     step : (before : Client) (call : Call) (after : Client) (sent : List Bytes) → LaysSuch before call → IsSound before → Holds before sent → IsStep o before call after → IsSound after → After sent call after
     step (Closed p) (Opens (Ok x)) (Open s) sent into was h is sound = opens p s x sent h is sound
     step (Closed p) (Opens (Err e)) (Closed q) sent into was h is sound = refused p e q sent h is
-    step (Closed p) Crashes (Closed q) sent into was h is sound = left (Closed p) sent q h is
+    step (Closed p) Crashes (Closed q) sent into was h is sound = left (Closed p) sent q h tt is
     step (Closed p) call after sent into was h is sound = absurd is
-    step (Open s) Closes (Closed p) sent into was h is sound = handed_back s p sent h is
-    step (Open s) Crashes (Closed p) sent into was h is sound = left (Open s) sent p h is
-    step (Open s) (Begins changes laid (Ok text)) (Open new) sent into was h is sound = begins s new changes laid text sent into h is
-    step (Open s) (Begins changes laid (Err error.Device)) (Open new) sent into was h is sound = begin_fails s new changes laid sent into h is
+    step (Open s) Closes (Closed p) sent into was h is sound = handed_back s p sent h (one_ledger s o.secret was.0 h.low.own.opened h.low.own.secrets) is
+    step (Open s) Crashes (Closed p) sent into was h is sound = left (Open s) sent p h (one_ledger s o.secret was.0 h.low.own.opened h.low.own.secrets) is
+    step (Open s) (Begins changes laid (Ok text)) (Open new) sent into was h is sound = begins s new changes laid text sent was into h is
+    step (Open s) (Begins changes laid (Err error.Device)) (Open new) sent into was h is sound = begin_fails s new changes laid sent was into h is
     step (Open s) (Begins changes laid (Err error.Memory)) (Open new) sent into was h is sound = same_as s new sent h (is.err (λ d. cc d))
     step (Open s) (Begins changes laid (Err error.NoLeaf)) (Open new) sent into was h is sound = same_as s new sent h (is.err (λ d. cc d))
     step (Open s) (Begins changes laid (Err error.NoNumber)) (Open new) sent into was h is sound = same_as s new sent h (is.err (λ d. cc d))
@@ -261,12 +261,12 @@ module _ (Inside : Cert → List Bytes → Type 0) where
         go h r j (sym (ap (cert_in u) at) ∙ read)
       where
         go : (h : Holds (owner keys u) (client_of u run) (released u run)) → (r : Release) → In r h.story → cert_in u (release_text own r) ≡ Some s → IsBegun s.value
-        go h (OfCert d q) j some =
-            let before = came own h.story h.low.is_story (OfCert d q) j in
-            let two : Some (record { value = d; signature = signature_of own.secret q (cert.spell d) }) ≡ Some s = sym (cert_of own d q before.0 before.1) ∙ some in
-            let same : record { value = d; signature = signature_of own.secret q (cert.spell d) } ≡ s = cc two in
-            subst (λ (y : Signed Cert). IsBegun y.value) same (h.certs d q j)
-        go h (OfStructure z q) j some = absurd (cc (sym (no_cert u z (signature_of own.secret q (structure.spell z))) ∙ some))
+        go h (OfCert n d q) j some =
+            let before = came own h.story h.low.is_story (OfCert n d q) j in
+            let two : Some (record { value = d; signature = signature_of (low.secret_of n own) q (cert.spell d) }) ≡ Some s = sym (cert_of own n d q before.0 before.1) ∙ some in
+            let same : record { value = d; signature = signature_of (low.secret_of n own) q (cert.spell d) } ≡ s = cc two in
+            subst (λ (y : Signed Cert). IsBegun y.value) same (h.certs n d q j)
+        go h (OfStructure n z q) j some = absurd (cc (sym (no_cert u z (signature_of (low.secret_of n own) q (structure.spell z))) ∙ some))
 
 -- ---- among texts
 

@@ -60,18 +60,18 @@ module _ (keys : Keys) (run : List Event) (is : IsRun keys run) (u : User) where
       go a i r j at (same ∙ ap unsigned at ∙ message_of own r)
     where
       go : (a : Bytes) → In a (released u run) → (r : Release) → In r (holds_at keys u run is).story → a ≡ release_text own r → cert.spell c ≡ message r → IsIn c
-      go a i (OfCert d q) j at spelled =
-          let before = came own (holds_at keys u run is).story (holds_at keys u run is).low.is_story (OfCert d q) j in
+      go a i (OfCert n d q) j at spelled =
+          let before = came own (holds_at keys u run is).story (holds_at keys u run is).low.is_story (OfCert n d q) j in
           record {
             text = a;
             there = i;
-            one = record { value = d; signature = signature_of own.secret q (cert.spell d) };
-            read = ap (cert_in u) at ∙ cert_of own d q before.0 before.1;
+            one = record { value = d; signature = signature_of (low.secret_of n own) q (cert.spell d) };
+            read = ap (cert_in u) at ∙ cert_of own n d q before.0 before.1;
             value = same_spelled cert lawful_cert d c before.1.fits fits (sym spelled);
           }
-      go a i (OfStructure z q) j at spelled =
-          let sig = signature_of own.secret q (structure.spell z) in
-          let some = cert_read u sig (length-signature own.secret (structure.spell z) q) c fits user in
+      go a i (OfStructure n z q) j at spelled =
+          let sig = signature_of (low.secret_of n own) q (structure.spell z) in
+          let some = cert_read u sig (length-signature (low.secret_of n own) (structure.spell z) q) c fits user in
           let none = ap (λ (m : Bytes). cert_in u (m ++ sig)) spelled ∙ no_cert u z sig in
           absurd (cc (sym some ∙ none))
 
@@ -119,10 +119,10 @@ module _ (keys : Keys) (run : List Event) (is : IsRun keys run) (u : User) where
           of r i (sym (ap (cert_in u) same) ∙ at) value
         where
           of : (r : Release) → In r (holds_at keys u run is).story → cert_in u (release_text own r) ≡ Some s → s.value ≡ c → IsReleased c k
-          of (OfCert d q) i some value =
-              let before = came own (holds_at keys u run is).story (holds_at keys u run is).low.is_story (OfCert d q) i in
-              let two : Some (record { value = d; signature = signature_of own.secret q (cert.spell d) }) ≡ Some s = sym (cert_of own d q before.0 before.1) ∙ some in
-              let same : record { value = d; signature = signature_of own.secret q (cert.spell d) } ≡ s = cc two in
+          of (OfCert n d q) i some value =
+              let before = came own (holds_at keys u run is).story (holds_at keys u run is).low.is_story (OfCert n d q) i in
+              let two : Some (record { value = d; signature = signature_of (low.secret_of n own) q (cert.spell d) }) ≡ Some s = sym (cert_of own n d q before.0 before.1) ∙ some in
+              let same : record { value = d; signature = signature_of (low.secret_of n own) q (cert.spell d) } ≡ s = cc two in
               let is_c : d ≡ c = ap (λ (y : Signed Cert). y.value) same ∙ value in
               record {
                 fits = subst cert.Fits is_c before.1.fits;
@@ -130,7 +130,7 @@ module _ (keys : Keys) (run : List Event) (is : IsRun keys run) (u : User) where
                 number = number;
                 text = record { text = b; there = j; one = s; read = at; value = value };
               }
-          of (OfStructure z q) i some value = absurd (cc (sym (no_cert u z (signature_of own.secret q (structure.spell z))) ∙ some))
+          of (OfStructure n z q) i some value = absurd (cc (sym (no_cert u z (signature_of (low.secret_of n own) q (structure.spell z))) ∙ some))
 
 all_front : (P : ℕ → Type 0) (xs : List ℕ) (y : ℕ) → All P (xs ++ y ∷ []) → All P xs × P y
 all_front P [] y all = (All-nil P, All-head P y [] all)

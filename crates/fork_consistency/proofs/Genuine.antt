@@ -68,28 +68,28 @@ genuine keys (e ∷ older) none t i v =
 
 -- ---- structures
 
-in_structures : (story : List Release) (y : Structure) (q : ℕ) → In (OfStructure y q) story → In y (structures story)
-in_structures [] y q i = absurd i
-in_structures (OfCert c p ∷ older) y q (inl e) = absurd cc
-in_structures (OfCert c p ∷ older) y q (inr i) = in_structures older y q i
-in_structures (OfStructure z p ∷ older) y q (inl e) = inl cc
-in_structures (OfStructure z p ∷ older) y q (inr i) = inr (in_structures older y q i)
+in_structures : (story : List Release) (n : ℕ) (y : Structure) (q : ℕ) → In (OfStructure n y q) story → In y (structures story)
+in_structures [] n y q i = absurd i
+in_structures (OfCert m c p ∷ older) n y q (inl e) = absurd cc
+in_structures (OfCert m c p ∷ older) n y q (inr i) = in_structures older n y q i
+in_structures (OfStructure m z p ∷ older) n y q (inl e) = inl cc
+in_structures (OfStructure m z p ∷ older) n y q (inr i) = inr (in_structures older n y q i)
 
 module _ (o : low.Owner) where
   pub message_of : (r : Release) → unsigned (release_text o r) ≡ message r
-  message_of (OfCert c q) = unsigned_of (cert.spell c) (signature_of o.secret q (cert.spell c)) (length-signature o.secret (cert.spell c) q)
-  message_of (OfStructure z q) = unsigned_of (structure.spell z) (signature_of o.secret q (structure.spell z)) (length-signature o.secret (structure.spell z) q)
+  message_of (OfCert n c q) = unsigned_of (cert.spell c) (signature_of (low.secret_of n o) q (cert.spell c)) (length-signature (low.secret_of n o) (cert.spell c) q)
+  message_of (OfStructure n z q) = unsigned_of (structure.spell z) (signature_of (low.secret_of n o) q (structure.spell z)) (length-signature (low.secret_of n o) (structure.spell z) q)
 
 module _ (o : low.Owner) (z : Structure) (fits : structure.Fits z) where
   of_release : (story : List Release) → IsStory o story → (r : Release) → In r story → structure.spell z ≡ message r → In z (structures story)
-  of_release story is_story (OfStructure y q) j spelled =
-      let before = came o story is_story (OfStructure y q) j in
+  of_release story is_story (OfStructure n y q) j spelled =
+      let before = came o story is_story (OfStructure n y q) j in
       let one = same_spelled structure lawful_structure z y fits before.1.fits spelled in
-      subst (λ (x : Structure). In x (structures story)) (sym one) (in_structures story y q j)
-  of_release story is_story (OfCert c q) j spelled =
-      let before = came o story is_story (OfCert c q) j in
-      let some = cert_of o c q before.0 before.1 in
-      let none = ap (λ (m : Bytes). cert_in o.user (m ++ signature_of o.secret q (cert.spell c))) (sym spelled) ∙ no_cert o.user z (signature_of o.secret q (cert.spell c)) in
+      subst (λ (x : Structure). In x (structures story)) (sym one) (in_structures story n y q j)
+  of_release story is_story (OfCert n c q) j spelled =
+      let before = came o story is_story (OfCert n c q) j in
+      let some = cert_of o n c q before.0 before.1 in
+      let none = ap (λ (m : Bytes). cert_in o.user (m ++ signature_of (low.secret_of n o) q (cert.spell c))) (sym spelled) ∙ no_cert o.user z (signature_of (low.secret_of n o) q (cert.spell c)) in
       absurd (cc (sym some ∙ none))
 
 -- a structure whose text was released is signed over an accepted view

@@ -30,8 +30,8 @@ use Rattle.client_runs.proofs.Replies.{AreSound, IsGoodBy, good_later, none_soun
 -- the structures of a story
 abbrev pub structures : List Release → List Structure
 structures [] = []
-structures (OfCert c q ∷ older) = structures older
-structures (OfStructure z q ∷ older) = z ∷ structures older
+structures (OfCert n c q ∷ older) = structures older
+structures (OfStructure n z q ∷ older) = z ∷ structures older
 
 abbrev pub signed_in : View → Structure
 signed_in x = x.signed
@@ -57,10 +57,10 @@ module _ (o : Owner) where
   abbrev pub Tries : List Release → List Event → Option Release → Option View → Type 0
   Tries story run None None = Unit {0}
   Tries story run None (Some v) = IsTriedOver story run v
-  Tries story run (Some (OfCert c q)) None = Unit {0}
-  Tries story run (Some (OfCert c q)) (Some v) = ⊥
-  Tries story run (Some (OfStructure z q)) None = ⊥
-  Tries story run (Some (OfStructure z q)) (Some v) = IsTriedOver story run v × (v.signed ≡ z)
+  Tries story run (Some (OfCert n c q)) None = Unit {0}
+  Tries story run (Some (OfCert n c q)) (Some v) = ⊥
+  Tries story run (Some (OfStructure n z q)) None = ⊥
+  Tries story run (Some (OfStructure n z q)) (Some v) = IsTriedOver story run v × (v.signed ≡ z)
 
   -- what holds of a client while it is open
   pub record IsOpen (run : List Event) (view : Option View) (s : State) : Type 0 where
@@ -102,10 +102,10 @@ module _ (o : Owner) where
   pub tries_later : (e : Event) (story : List Release) (run : List Event) (tried : Option Release) (view : Option View) → Tries story run tried view → Tries story (e ∷ run) tried view
   tries_later e story run None None t = tt
   tries_later e story run None (Some v) t = over_later e story run v t
-  tries_later e story run (Some (OfCert c q)) None t = tt
-  tries_later e story run (Some (OfCert c q)) (Some v) t = absurd t
-  tries_later e story run (Some (OfStructure z q)) None t = absurd t
-  tries_later e story run (Some (OfStructure z q)) (Some v) t = (over_later e story run v t.0, t.1)
+  tries_later e story run (Some (OfCert n c q)) None t = tt
+  tries_later e story run (Some (OfCert n c q)) (Some v) t = absurd t
+  tries_later e story run (Some (OfStructure n z q)) None t = absurd t
+  tries_later e story run (Some (OfStructure n z q)) (Some v) t = (over_later e story run v t.0, t.1)
 
   none_tries : (story : List Release) (run : List Event) (view : Option View) → view ≡ None → Tries story run None view
   none_tries story run view none = subst (λ (v : Option View). Tries story run None v) (sym none) tt
@@ -152,20 +152,20 @@ module _ (o : Owner) where
       where
         go : (story : List Release) (v : Option View) (tried : Option Release) → Tries story older tried v → where_signed (phase_in story) v ≡ []
         go [] v tried t = refl
-        go (OfCert c q ∷ before) v tried t = refl
-        go (OfStructure z q ∷ before) None tried t = refl
-        go (OfStructure z q ∷ before) (Some v) None t = absurd (let two : phase.Signed ≡ phase.Declared = t.declared in cc two)
-        go (OfStructure z q ∷ before) (Some v) (Some (OfCert d p)) t = absurd t
-        go (OfStructure z q ∷ before) (Some v) (Some (OfStructure y p)) t = absurd (let two : phase.Signed ≡ phase.Declared = t.0.declared in cc two)
+        go (OfCert n c q ∷ before) v tried t = refl
+        go (OfStructure n z q ∷ before) None tried t = refl
+        go (OfStructure n z q ∷ before) (Some v) None t = absurd (let two : phase.Signed ≡ phase.Declared = t.declared in cc two)
+        go (OfStructure n z q ∷ before) (Some v) (Some (OfCert m d p)) t = absurd t
+        go (OfStructure n z q ∷ before) (Some v) (Some (OfStructure m y p)) t = absurd (let two : phase.Signed ≡ phase.Declared = t.0.declared in cc two)
 
     -- one whose structure is found is
     accepted_found : (story : List Release) (r : Release) → Tries story older (Some r) view → map signed_in (where_signed (phase_in (r ∷ story)) view) ++ structures story ≡ structures (r ∷ story)
     accepted_found story r t = go view r t
       where
         go : (v : Option View) (r : Release) → Tries story older (Some r) v → map signed_in (where_signed (phase_in (r ∷ story)) v) ++ structures story ≡ structures (r ∷ story)
-        go v (OfCert c q) t = refl
-        go None (OfStructure z q) t = absurd t
-        go (Some v) (OfStructure z q) t = ap (λ y. y ∷ structures story) t.1
+        go v (OfCert n c q) t = refl
+        go None (OfStructure n z q) t = absurd t
+        go (Some v) (OfStructure n z q) t = ap (λ y. y ∷ structures story) t.1
 
     pub opens : (p : Parts) (s : State) (x : Unit {0}) → Holds older (Closed p) texts signed view → IsOpened o p s → IsSound (Open s) → HoldsAfter older (Closed p) texts signed view (Opens (Ok x)) (Open s)
     opens p s x h is sound =
@@ -202,15 +202,15 @@ module _ (o : Owner) where
 
         pub begins : (text : Bytes) → HasBegun s changes laid (Ok text) new → HoldsAfter older (Open s) texts signed view (Begins changes laid (Ok text)) (Open new)
         begins text b =
-            let k = declares (low_owner o) (Unit {0}) h.story h.tried texts (released s) h.low (next_cert s changes) (released new) text (low_begun s new changes laid text b) in
+            let k = declares (low_owner o) (Unit {0}) h.story h.tried texts (released s) h.low 0 (next_cert s changes) (released new) text (low_begun s new h.own.always.0.some changes laid text b) in
             let is = b.declared.2 in
             record {
-              story = OfCert (next_cert s changes) k.0 ∷ h.story;
+              story = OfCert 0 (next_cert s changes) k.0 ∷ h.story;
               tried = None;
               low =
-                  where_in_turn (low_owner o) ((s.number + 1 ≡ s.number + 1) × Unit {0}) (Unit {0}) (OfCert (next_cert s changes) k.0 ∷ h.story) None (low_client (Open new)) (text ∷ texts)
+                  where_in_turn (low_owner o) ((s.number + 1 ≡ s.number + 1) × Unit {0}) (Unit {0}) (OfCert 0 (next_cert s changes) k.0 ∷ h.story) None (low_client (Open new)) (text ∷ texts)
                   (λ _. (refl, tt)) k.1;
-              tries = none_tries (OfCert (next_cert s changes) k.0 ∷ h.story) (event (Begins changes laid (Ok text)) (Open new) ∷ older) view (view_idle b.idle);
+              tries = none_tries (OfCert 0 (next_cert s changes) k.0 ∷ h.story) (event (Begins changes laid (Ok text)) (Open new) ∷ older) view (view_idle b.idle);
               own = record {
                 pinned = ap (λ (n : State). n.pinned) is ∙ h.own.pinned;
                 no_view = λ _. view_idle b.idle;
@@ -222,7 +222,7 @@ module _ (o : Owner) where
 
         pub begin_fails : HasBegun s changes laid (Err error.Device) new → HoldsAfter older (Open s) texts signed view (Begins changes laid (Err error.Device)) (Open new)
         begin_fails b =
-            let k = declare_fails (low_owner o) (Unit {0}) h.story h.tried texts (released s) h.low (next_cert s changes) (released new) error.Device (low_begin_failed s new changes laid b) in
+            let k = declare_fails (low_owner o) (Unit {0}) h.story h.tried texts (released s) h.low 0 (next_cert s changes) (released new) error.Device (low_begin_failed s new h.own.always.0.some changes laid b) in
             let is = b.fails refl in
             record {
               story = h.story;
@@ -238,11 +238,11 @@ module _ (o : Owner) where
               viewed = h.viewed;
             }
           where
-            tried_cert : (some : Option Release) → IsTriedCert (next_cert s changes) some → Tries h.story (event (Begins changes laid (Err error.Device)) (Open new) ∷ older) some view
+            tried_cert : (some : Option Release) → IsTriedCert 0 (next_cert s changes) some → Tries h.story (event (Begins changes laid (Err error.Device)) (Open new) ∷ older) some view
             tried_cert some (inl none) = subst (λ (t : Option Release). Tries h.story (event (Begins changes laid (Err error.Device)) (Open new) ∷ older) t view) (sym none) (none_tries h.story (event (Begins changes laid (Err error.Device)) (Open new) ∷ older) view (view_idle b.idle))
             tried_cert some (inr (q, one)) =
                 subst (λ (t : Option Release). Tries h.story (event (Begins changes laid (Err error.Device)) (Open new) ∷ older) t view) (sym one)
-                (subst (λ (v : Option View). Tries h.story (event (Begins changes laid (Err error.Device)) (Open new) ∷ older) (Some (OfCert (next_cert s changes) q)) v) (sym (view_idle b.idle)) tt)
+                (subst (λ (v : Option View). Tries h.story (event (Begins changes laid (Err error.Device)) (Open new) ∷ older) (Some (OfCert 0 (next_cert s changes) q)) v) (sym (view_idle b.idle)) tt)
 
       -- ---- sign
 
@@ -278,12 +278,12 @@ module _ (o : Owner) where
         signs_ok text b =
             let done = if_ready s new y ready (λ r. (leaf : LeafNumber) × IsKept leaf (structure_record (signed_text s leaf r)) (under 0 s.devices) (under 0 new.devices) × (new ≡ over_blocks new.blocks (on new.devices (signed_over s leaf r)))) b.signed in
             let is = done.2 in
-            let k = signs (low_owner o) (Unit {0}) h.story h.tried texts (released s) h.low (next_structure s y) (released new) text (low_signed s new y ready text h.own.always b) in
+            let k = signs (low_owner o) (Unit {0}) h.story h.tried texts (released s) h.low 0 (next_structure s y) (released new) text (low_signed s new y ready text h.own.always b) in
             record {
-              story = OfStructure (next_structure s y) k.0 ∷ h.story;
+              story = OfStructure 0 (next_structure s y) k.0 ∷ h.story;
               tried = None;
-              low = where_in_turn (low_owner o) (Unit {0} × Unit {0}) (Unit {0}) (OfStructure (next_structure s y) k.0 ∷ h.story) None (low_client (Open new)) (text ∷ texts) (λ _. (tt, tt)) k.1;
-              tries = none_tries (OfStructure (next_structure s y) k.0 ∷ h.story) (event (Signs (Ok text)) (Open new) ∷ older) view (h.own.no_view up);
+              low = where_in_turn (low_owner o) (Unit {0} × Unit {0}) (Unit {0}) (OfStructure 0 (next_structure s y) k.0 ∷ h.story) None (low_client (Open new)) (text ∷ texts) (λ _. (tt, tt)) k.1;
+              tries = none_tries (OfStructure 0 (next_structure s y) k.0 ∷ h.story) (event (Signs (Ok text)) (Open new) ∷ older) view (h.own.no_view up);
               own = record {
                 pinned = ap (λ (n : State). n.pinned) is ∙ h.own.pinned;
                 no_view = λ _. h.own.no_view up;
@@ -295,7 +295,7 @@ module _ (o : Owner) where
 
         pub sign_fails_here : HasSigned s (Err error.Device) new → HoldsAfter older (Open s) texts signed view (Signs (Err error.Device)) (Open new)
         sign_fails_here b =
-            let k = sign_fails (low_owner o) (Unit {0}) h.story h.tried texts (released s) h.low (next_structure s y) (released new) error.Device (low_sign_failed s new y ready h.own.always b) in
+            let k = sign_fails (low_owner o) (Unit {0}) h.story h.tried texts (released s) h.low 0 (next_structure s y) (released new) error.Device (low_sign_failed s new y ready h.own.always b) in
             let is = b.fails refl in
             record {
               story = h.story;
@@ -314,7 +314,7 @@ module _ (o : Owner) where
             over : IsTriedOver h.story (event (Signs (Err error.Device)) (Open new) ∷ older) (view_over s y)
             over = over_later (event (Signs (Err error.Device)) (Open new)) h.story older (view_over s y) is_over
 
-            tried_structure : (some : Option Release) → IsTriedStructure (next_structure s y) some → Tries h.story (event (Signs (Err error.Device)) (Open new) ∷ older) some (Some (view_over s y))
+            tried_structure : (some : Option Release) → IsTriedStructure 0 (next_structure s y) some → Tries h.story (event (Signs (Err error.Device)) (Open new) ∷ older) some (Some (view_over s y))
             tried_structure some (inl none) = subst (λ (t : Option Release). Tries h.story (event (Signs (Err error.Device)) (Open new) ∷ older) t (Some (view_over s y))) (sym none) over
             tried_structure some (inr (q, one)) = subst (λ (t : Option Release). Tries h.story (event (Signs (Err error.Device)) (Open new) ∷ older) t (Some (view_over s y))) (sym one) (over, refl)
 

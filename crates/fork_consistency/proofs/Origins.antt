@@ -419,8 +419,8 @@ module _ (texts : List Bytes) (apart : NoneCollide texts texts) (key : Key) wher
 
 last_fits : (o : low.Owner) (story : List Release) → IsStory o story → IfSome (last_in o story) (λ z. structure.Fits z.value)
 last_fits o [] is = tt
-last_fits o (OfCert c q ∷ older) is = last_fits o older is.1
-last_fits o (OfStructure z q ∷ older) is = is.0.next.fits
+last_fits o (OfCert n c q ∷ older) is = last_fits o older is.1
+last_fits o (OfStructure n z q ∷ older) is = is.0.next.fits
 
 module _ (texts : List Bytes) (apart : NoneCollide texts texts) (key : Key) (keys : Keys) (u : User) (run : List Event) (is : IsRun keys run) where
   open_has_last : (s : State) (signed : List Structure) (view : Option View) → Holds (owner keys u) run (Open s) (released u run) signed view → IfSome s.accepted (HasLast texts apart key s)

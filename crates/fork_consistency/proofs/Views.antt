@@ -24,8 +24,8 @@ use Rattle.fork_consistency.proofs.Moves.{holds_at, signed_of}
 module _ (o : Owner) (older : List Event) where
   tried_is_over : (story : List Release) (tried : Option Release) (x : View) → Tries o story older tried (Some x) → IsTriedOver o story older x
   tried_is_over story None x t = t
-  tried_is_over story (Some (OfCert c q)) x t = absurd t
-  tried_is_over story (Some (OfStructure z q)) x t = t.0
+  tried_is_over story (Some (OfCert n c q)) x t = absurd t
+  tried_is_over story (Some (OfStructure n z q)) x t = t.0
 
   the_tried : (f : Phase) (v : Option View) (x : View) → In x (where_signed f v) → v ≡ Some x
   the_tried phase.Idle v x i = absurd i
@@ -77,8 +77,8 @@ first_of (z ∷ zs) = Some z
 
 pub first_in : (o : low.Owner) (story : List Release) → first_of (structures story) ≡ option_map value_of (last_in o story)
 first_in o [] = refl
-first_in o (OfCert c q ∷ older) = first_in o older
-first_in o (OfStructure z q ∷ older) = refl
+first_in o (OfCert n c q ∷ older) = first_in o older
+first_in o (OfStructure n z q ∷ older) = refl
 
 module _ (u : User) (vs : List View) (rest : List Structure) (ih : last_signed u vs ≡ first_of rest) where
   -- after views of this user, or of another
