@@ -31,10 +31,10 @@ module _ (keys : Keys) (naming : Naming) (u : User) where
   o = low_owner (owner keys u)
 
   abbrev pub signed_cert : Cert → LeafNumber → Signed Cert
-  signed_cert c q = record { value = c; signature = signature_of o.secret q (cert.spell c) }
+  signed_cert c q = record { value = c; signature = signature_of (low.secret_of 0 o) q (cert.spell c) }
 
   abbrev pub signed_structure : Structure → LeafNumber → Signed Structure
-  signed_structure z q = signed_by o.secret q z
+  signed_structure z q = signed_by (low.secret_of 0 o) q z
 
   -- ---- what may come
 
@@ -51,17 +51,17 @@ module _ (keys : Keys) (naming : Naming) (u : User) where
   -- the stage is what these releases tell, or the structure that was signed last is committed
   abbrev pub IsOfStory : List Release → Stage → Type 0
   IsOfStory [] stage = stage ≡ Idle None
-  IsOfStory (OfCert c q ∷ older) stage = (heard : Option Lists) × (stage ≡ Declared (last_in o older) (signed_cert c q) heard)
-  IsOfStory (OfStructure z q ∷ older) stage = (stage ≡ Sealed (signed_structure z q)) ⊎ (stage ≡ Idle (Some (signed_structure z q)))
+  IsOfStory (OfCert n c q ∷ older) stage = (heard : Option Lists) × (stage ≡ Declared (last_in o older) (signed_cert c q) heard)
+  IsOfStory (OfStructure n z q ∷ older) stage = (stage ≡ Sealed (signed_structure z q)) ⊎ (stage ≡ Idle (Some (signed_structure z q)))
 
   -- what was tried since is a move of it, once it is found
   abbrev pub IsTriedAt : List Release → Option Release → Option View → Stage → Type 0
   IsTriedAt story None None stage = Unit {0}
   IsTriedAt story None (Some v) stage = phase_in story ≡ phase.Declared
-  IsTriedAt story (Some (OfCert c q)) None stage = (stage ≡ Idle (last_in o story)) × MayDeclare (last_in o story) (signed_cert c q)
-  IsTriedAt story (Some (OfCert c q)) (Some v) stage = ⊥
-  IsTriedAt story (Some (OfStructure z q)) None stage = ⊥
-  IsTriedAt story (Some (OfStructure z q)) (Some v) stage = (phase_in story ≡ phase.Declared)
+  IsTriedAt story (Some (OfCert n c q)) None stage = (stage ≡ Idle (last_in o story)) × MayDeclare (last_in o story) (signed_cert c q)
+  IsTriedAt story (Some (OfCert n c q)) (Some v) stage = ⊥
+  IsTriedAt story (Some (OfStructure n z q)) None stage = ⊥
+  IsTriedAt story (Some (OfStructure n z q)) (Some v) stage = (phase_in story ≡ phase.Declared)
       × ((c : Signed Cert) × (x : Lists) × (stage ≡ Declared (last_in o story) c (Some x)) × MaySeal (last_in o story) x v (signed_structure z q))
 
   -- ---- open clients
@@ -75,9 +75,9 @@ module _ (keys : Keys) (naming : Naming) (u : User) where
   abbrev pub IsInPhase : Phase → State → Stage → Type 0
   IsInPhase phase.Idle s stage = stage ≡ Idle s.last
   IsInPhase phase.Declared s stage = (c : Cert) × (q : LeafNumber) × (heard : Option Lists)
-      × (stage ≡ Declared s.last (signed_cert c q) heard) × (s.text ≡ text o (OfCert c q)) × HoldsHeard s heard
+      × (stage ≡ Declared s.last (signed_cert c q) heard) × (s.text ≡ text o (OfCert 0 c q)) × HoldsHeard s heard
   IsInPhase phase.Signed s stage = (z : Structure) × (q : LeafNumber)
-      × (stage ≡ Sealed (signed_structure z q)) × (s.last ≡ Some (signed_structure z q)) × (s.text ≡ text o (OfStructure z q))
+      × (stage ≡ Sealed (signed_structure z q)) × (s.last ≡ Some (signed_structure z q)) × (s.text ≡ text o (OfStructure 0 z q))
   IsInPhase phase.Failed s stage = Unit {0}
 
   pub record IsOpenAt (s : State) (view : Option View) (stage : Stage) : Type 0 where

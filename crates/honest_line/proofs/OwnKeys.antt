@@ -30,7 +30,7 @@ all_give keys (c ∷ cs) all =
 
 module _ (keys : Keys) (u : User) (c : Cert) (q : LeafNumber) (fits : cert.Fits c) (user : c.user ≡ u) where
   abbrev sent : Bytes
-  sent = text (low_owner (owner keys u)) (OfCert c q)
+  sent = text (low_owner (owner keys u)) (OfCert 0 c q)
 
   pub own_keys : (u ≡ 0 → TextAddsOwnKeysOf everybody keys sent) → u ≡ 0 → All (λ change. GivesOwnKey (public_key keys) change.action) c.changes
   own_keys adds zero =

@@ -84,35 +84,35 @@ module _ (keys : Keys) (u : User) (run : List Event) (is : IsRun keys run) where
 
   latest_cert : (story : List Release) → IsStory o story → AreReleased story → phase_in story ≡ phase.Declared → IsOwnCert run u (text_in o story)
   latest_cert [] story kept now = absurd (let two : phase.Idle ≡ phase.Declared = now in cc two)
-  latest_cert (OfStructure z q ∷ older) story kept now = absurd (let two : phase.Signed ≡ phase.Declared = now in cc two)
-  latest_cert (OfCert c q ∷ older) story kept now =
-      let signature = signature_of o.secret q (cert.spell c) in
-      let long = length-signature o.secret (cert.spell c) q in
+  latest_cert (OfStructure n z q ∷ older) story kept now = absurd (let two : phase.Signed ≡ phase.Declared = now in cc two)
+  latest_cert (OfCert n c q ∷ older) story kept now =
+      let signature = signature_of (low.secret_of n o) q (cert.spell c) in
+      let long = length-signature (low.secret_of n o) (cert.spell c) q in
       let next = story.0.next in
       record {
         value = record { value = c; signature = signature };
         spelled = refl;
         user = next.user;
         is_released = record {
-          fits = (next.fits, (long, signature_is_bytes o.secret (cert.spell c) q));
-          released = released_one (cert.spell c) signature c.user next.user long (kept (OfCert c q) (inl refl));
+          fits = (next.fits, (long, signature_is_bytes (low.secret_of n o) (cert.spell c) q));
+          released = released_one (cert.spell c) signature c.user next.user long (kept (OfCert n c q) (inl refl));
         };
       }
 
   latest_structure : (story : List Release) → IsStory o story → AreReleased story → phase_in story ≡ phase.Signed → IsOwnStructure run u (text_in o story)
   latest_structure [] story kept now = absurd (let two : phase.Idle ≡ phase.Signed = now in cc two)
-  latest_structure (OfCert c q ∷ older) story kept now = absurd (let two : phase.Declared ≡ phase.Signed = now in cc two)
-  latest_structure (OfStructure z q ∷ older) story kept now =
-      let signature = signature_of o.secret q (structure.spell z) in
-      let long = length-signature o.secret (structure.spell z) q in
+  latest_structure (OfCert n c q ∷ older) story kept now = absurd (let two : phase.Declared ≡ phase.Signed = now in cc two)
+  latest_structure (OfStructure n z q ∷ older) story kept now =
+      let signature = signature_of (low.secret_of n o) q (structure.spell z) in
+      let long = length-signature (low.secret_of n o) (structure.spell z) q in
       let next = story.0.next in
       record {
         value = record { value = z; signature = signature };
         spelled = refl;
         user = next.user;
         is_released = record {
-          fits = (next.fits, (long, signature_is_bytes o.secret (structure.spell z) q));
-          released = released_one (structure.spell z) signature z.plan.user next.user long (kept (OfStructure z q) (inl refl));
+          fits = (next.fits, (long, signature_is_bytes (low.secret_of n o) (structure.spell z) q));
+          released = released_one (structure.spell z) signature z.plan.user next.user long (kept (OfStructure n z q) (inl refl));
         };
       }
 

@@ -30,8 +30,8 @@ module _ (keys : Keys) (naming : Naming) (u : User) where
   -- the number of a client that has declared nothing is that of its last structure
   pub number_is : (story : List Release) → IsStory (o keys naming u) story → (phase_in story ≡ phase.Declared → ⊥) → stories.number_in story ≡ number_in (last_in (o keys naming u) story)
   number_is [] is up = refl
-  number_is (OfCert c q ∷ older) is up = absurd (up refl)
-  number_is (OfStructure z q ∷ older) is up = sym is.0.next.number
+  number_is (OfCert n c q ∷ older) is up = absurd (up refl)
+  number_is (OfStructure n z q ∷ older) is up = sym is.0.next.number
 
   module _ (can : CanSign keys u) where
     pub may_declare : (last : Option (Signed Structure)) (c : Cert) (q : LeafNumber) → cert.Fits c → q < 1024 → c.user ≡ u → c.number ≡ number_in last + 1 → c.last ≡ digest_of_last last → MayDeclare keys naming u last (signed_cert keys naming u c q)

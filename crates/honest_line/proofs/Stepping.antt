@@ -1,5 +1,5 @@
 -- A step of a user's client that asks no server is at most one move of a dialogue.
-use Rattle.std.proofs.Common.{◌≡◌, ◌+◌, ◌<◌, List, [], ◌∷◌, ◌++◌, length, Option, Some, None, Ok, Err, IfSome, refl, sym, ap, ◌∙◌, subst, inl, inr, option_map, option_to_list}
+use Rattle.std.proofs.Common.{◌≡◌, ◌+◌, ◌<◌, zero, suc, arith, List, [], ◌∷◌, ◌++◌, length, Option, Some, None, Ok, Err, IfSome, refl, sym, ap, ◌∙◌, subst, inl, inr, option_map, option_to_list}
 use Rattle.layout.specs.Types.{Bytes, Digest, User}
 use Rattle.leaf_ledger.specs.Ledger.{LeafNumber}
 use Rattle.version_order.specs.Structure.{Structure}
@@ -19,17 +19,17 @@ use Rattle.client_steps.specs.Steps.{Begins, Call, Client, Closed, HasBegun, Has
 use Rattle.agreement.specs.Runs.{View, user_of}
 use Rattle.agreement.proofs.Members.{In}
 use Rattle.release_runs.specs.Steps as low
-use Rattle.release_runs.proofs.Files.{Lies, lies_on}
+use Rattle.release_runs.proofs.Files.{Lies, lies_on, still_sure}
 use Rattle.release_runs.proofs.Holds.{IsAt, where_in_turn}
 use Rattle.release_runs.proofs.Members.{In as Released_in}
 use Rattle.release_runs.proofs.Holds as low_holds
 use Rattle.release_runs.proofs.Opening.{IsOf, opened_holds}
 use Rattle.release_runs.proofs.Releasing.{IsTriedCert, IsTriedStructure, declare_fails, declares, sign_fails, signs}
 use Rattle.release_runs.proofs.Runs as low_runs
-use Rattle.release_runs.proofs.Stories.{IsAfter, OfCert, OfStructure, Release, last_in, phase_in, text}
+use Rattle.release_runs.proofs.Stories.{IsAfter, IsStory, OfCert, OfStructure, Release, last_in, phase_in, text}
 use Rattle.client_runs.specs.Released.{accepted_by, in_hand, released_by, tried_by, view_over, where_signed}
 use Rattle.client_runs.specs.Runs.{Keys, owner, public_key}
-use Rattle.client_runs.proofs.Lowering.{if_ready, low_begin_failed, low_begun, low_client, low_left, low_opened, low_parts, low_sign_failed, low_signed, of_declared}
+use Rattle.client_runs.proofs.Lowering.{HasOneLedger, if_ready, low_begin_failed, low_begun, low_client, low_handed_back, low_left, low_opened, low_parts, low_sign_failed, low_signed, of_declared, one_ledger}
 use Rattle.consistency_server.specs.Answers.{Call as ServerCall}
 use Rattle.consistency_server.specs.History.{commit_of}
 use Rattle.fork_consistency.specs.Premises.{TextAddsOwnKeysOf, everybody}
@@ -59,7 +59,7 @@ module _ (keys : Keys) (naming : Naming) (u : User) (can : CanSign keys u) (hist
   Stays before after call = Goes keys naming u history stage after (released_by call after ++ texts) (tried_by call before view) [] (accepted_by call before after view)
 
   -- the client is closed
-  closes : (before : Client) (p : Parts) → (f : At before view stage) → Lies (o keys naming u) f.story f.tried (low_parts p).ledger (low_parts p).journal → At (Closed p) view stage
+  closes : (before : Client) (p : Parts) → (f : At before view stage) → Lies (o keys naming u) f.story f.tried (low_parts p).ledgers (low_parts p).journal → At (Closed p) view stage
   closes before p f lies = record {
     story = f.story;
     tried = f.tried;
@@ -69,14 +69,19 @@ module _ (keys : Keys) (naming : Naming) (u : User) (can : CanSign keys u) (hist
     own = tt;
   }
 
+  -- an open client has one ledger
+  has_one : (before : Client) → At before view stage → HasOneLedger before
+  has_one (Closed p) f = tt
+  has_one (Open s) f = one_ledger s (keys u) f.own.always.0 f.low.own.opened f.low.own.secrets
+
   pub left : (before : Client) (p : Parts) → At before view stage → IsLeft before p → At (Closed p) view stage
-  left before p f is = closes before p f (low_runs.left (o keys naming u) f.story f.tried (low_client before) f.low.lies (low_parts p) (low_left before p is))
+  left before p f is = closes before p f (low_runs.left (o keys naming u) f.story f.tried (low_client before) f.low.lies (low_parts p) (low_left before p (has_one before f) is))
 
   pub refused : (p : Parts) (e : ClientError) (q : Parts) → At (Closed p) view stage → IsRefused (owner keys u) p e q → At (Closed q) view stage
-  refused p e q f is = closes (Closed p) q f (lies_on (o keys naming u) f.story f.tried p.ledger.history p.journal.history q.ledger.history q.journal.history f.low.lies is.moments.ledgers.0.leaves is.moments.records)
+  refused p e q f is = closes (Closed p) q f (lies_on (o keys naming u) f.story f.tried (low_parts p).ledgers (low_parts q).ledgers p.journal.history q.journal.history f.low.lies (still_sure (low_parts p).ledgers (low_parts q).ledgers is.moments.ledgers) is.moments.records)
 
   pub handed_back : (s : State) (p : Parts) → At (Open s) view stage → IsHandedBack s p → At (Closed p) view stage
-  handed_back s p f is = closes (Open s) p f (low_runs.handed_back (o keys naming u) f.story f.tried (low_client (Open s)) f.low.lies (low_parts p) is.ledger is.journal)
+  handed_back s p f is = closes (Open s) p f (low_runs.handed_back (o keys naming u) f.story f.tried (low_client (Open s)) f.low.lies (low_parts p) (low_handed_back s p (has_one (Open s) f) is).ledgers is.journal)
 
   -- what was released is as it was, and so are the lists in hand
   module _ (s new : State) (always : IsSound (Open new)) where
@@ -123,11 +128,11 @@ module _ (keys : Keys) (naming : Naming) (u : User) (can : CanSign keys u) (hist
   -- a view that was tried in vain isn't accepted
   in_vain : (story : List Release) (tried : Option Release) (v : Option View) → IsTriedAt keys naming u story tried v stage → where_signed (phase_in story) v ≡ []
   in_vain [] tried v t = refl
-  in_vain (OfCert c q ∷ older) tried v t = refl
-  in_vain (OfStructure z q ∷ older) tried None t = refl
-  in_vain (OfStructure z q ∷ older) None (Some v) t = absurd (let two : phase.Signed ≡ phase.Declared = t in cc two)
-  in_vain (OfStructure z q ∷ older) (Some (OfCert c p)) (Some v) t = absurd t
-  in_vain (OfStructure z q ∷ older) (Some (OfStructure y p)) (Some v) t = absurd (let two : phase.Signed ≡ phase.Declared = t.0 in cc two)
+  in_vain (OfCert n c q ∷ older) tried v t = refl
+  in_vain (OfStructure n z q ∷ older) tried None t = refl
+  in_vain (OfStructure n z q ∷ older) None (Some v) t = absurd (let two : phase.Signed ≡ phase.Declared = t in cc two)
+  in_vain (OfStructure n z q ∷ older) (Some (OfCert j c p)) (Some v) t = absurd t
+  in_vain (OfStructure n z q ∷ older) (Some (OfStructure j y p)) (Some v) t = absurd (let two : phase.Signed ≡ phase.Declared = t.0 in cc two)
 
   module _ (p : Parts) (s : State) (x : Unit {0}) (f : At (Closed p) view stage) (is : IsOpened (owner keys u) p s) (sound : IsSound (Open s)) (has_own : HasOwn (Opens (Ok x)) (Open s)) (covers : Covers (where_signed s.phase view)) where
     abbrev found : List Bytes
@@ -144,8 +149,8 @@ module _ (keys : Keys) (naming : Naming) (u : User) (can : CanSign keys u) (hist
       where
         never : (story : List Release) → phase_in story ≡ phase.Failed → ⊥
         never [] e = cc e
-        never (OfCert c q ∷ older) e = cc e
-        never (OfStructure z q ∷ older) e = cc e
+        never (OfCert n c q ∷ older) e = cc e
+        never (OfStructure n z q ∷ older) e = cc e
 
     -- the client at a stage that its story tells
     opened_at : (story : List Release) → Low story → (now : Stage) → IsOfStory keys naming u story now → IsInPhase keys naming u s.phase s now → Follows keys naming u (Open s) found None now
@@ -159,16 +164,16 @@ module _ (keys : Keys) (naming : Naming) (u : User) (can : CanSign keys u) (hist
     as_before : (story : List Release) → Low story → s.phase ≡ phase_in story → IsOfStory keys naming u story stage → where_signed (phase_in story) view ≡ [] → Opened
     as_before [] l at of none =
         inl (refl, ap (λ (g : Phase). where_signed g view) at ∙ none, opened_at [] l stage of (idle_at keys naming u s stage at (of ∙ ap Idle (sym (at_of [] l at).last))))
-    as_before (OfCert c q ∷ older) l at of none =
-        let own = at_of (OfCert c q ∷ older) l at in
+    as_before (OfCert zero c q ∷ older) l at of none =
+        let own = at_of (OfCert zero c q ∷ older) l at in
         let here = declared_at keys naming u s stage at (c, q, of.0, of.1 ∙ ap (λ (n : Option (Signed Structure)). Declared n (signed_cert keys naming u c q) of.0) (sym own.last), own.text, nothing of.0) in
-        inl (refl, ap (λ (g : Phase). where_signed g view) at ∙ none, opened_at (OfCert c q ∷ older) l stage of here)
-    as_before (OfStructure z q ∷ older) l at (inl of) none =
-        let own = at_of (OfStructure z q ∷ older) l at in
+        inl (refl, ap (λ (g : Phase). where_signed g view) at ∙ none, opened_at (OfCert zero c q ∷ older) l stage of here)
+    as_before (OfStructure zero z q ∷ older) l at (inl of) none =
+        let own = at_of (OfStructure zero z q ∷ older) l at in
         let here = signed_at keys naming u s stage at (z, q, of, own.last, own.text) in
-        inl (refl, ap (λ (g : Phase). where_signed g view) at ∙ none, opened_at (OfStructure z q ∷ older) l stage (inl of) here)
-    as_before (OfStructure z q ∷ older) l at (inr of) none =
-        let own = at_of (OfStructure z q ∷ older) l at in
+        inl (refl, ap (λ (g : Phase). where_signed g view) at ∙ none, opened_at (OfStructure zero z q ∷ older) l stage (inl of) here)
+    as_before (OfStructure zero z q ∷ older) l at (inr of) none =
+        let own = at_of (OfStructure zero z q ∷ older) l at in
         let now : Stage = Sealed (signed_structure keys naming u z q) in
         let here = signed_at keys naming u s now at (z, q, refl, own.last, own.text) in
         inr (record {
@@ -177,16 +182,18 @@ module _ (keys : Keys) (naming : Naming) (u : User) (can : CanSign keys u) (hist
           may = subst (λ (b : Stage). MayMove (public_key keys) naming history u b Reopens now) (sym of) refl;
           sends = refl;
           accepts = sym (ap (λ (g : Phase). where_signed g view) at ∙ none);
-          follows = opened_at (OfStructure z q ∷ older) l now (inl refl) here;
+          follows = opened_at (OfStructure zero z q ∷ older) l now (inl refl) here;
         })
+    as_before (OfCert (suc n) c q ∷ older) l at of none = absurd (omega (arith, l.is_story.0.own))
+    as_before (OfStructure (suc n) z q ∷ older) l at of none = absurd (omega (arith, l.is_story.0.own))
 
     -- what was tried is found
     tried_found : (story : List Release) (r : Release) (v : Option View) → view ≡ v → Low (r ∷ story) → s.phase ≡ phase_in (r ∷ story) → IsTriedAt keys naming u story (Some r) v stage → Opened
-    tried_found story (OfCert c q) None same l at t =
-        let own = at_of (OfCert c q ∷ story) l at in
+    tried_found story (OfCert zero c q) None same l at t =
+        let own = at_of (OfCert zero c q ∷ story) l at in
         let now : Stage = Declared (last_in (o keys naming u) story) (signed_cert keys naming u c q) None in
         let here = declared_at keys naming u s now at (c, q, None, ap (λ (n : Option (Signed Structure)). Declared n (signed_cert keys naming u c q) None) (sym own.last), own.text, nothing None) in
-        let given = own_keys keys u c q l.is_story.0.next.fits l.is_story.0.next.user (λ zero. has_own zero (text (o keys naming u) (OfCert c q)) (l.kept (OfCert c q) (inl refl))) in
+        let given = own_keys keys u c q l.is_story.0.next.fits l.is_story.0.next.user (λ first. has_own first (text (o keys naming u) (OfCert zero c q)) (l.kept (OfCert zero c q) (inl refl))) in
         let next : IsNextCert (public_key keys) u (last_in (o keys naming u) story) (signed_cert keys naming u c q) = t.1 given in
         inr (record {
           act = Declares;
@@ -194,12 +201,12 @@ module _ (keys : Keys) (naming : Naming) (u : User) (can : CanSign keys u) (hist
           may = subst (λ (b : Stage). MayMove (public_key keys) naming history u b Declares now) (sym t.0) (refl, next);
           sends = refl;
           accepts = sym (ap (λ (g : Phase). where_signed g view) at);
-          follows = opened_at (OfCert c q ∷ story) l now (None, refl) here;
+          follows = opened_at (OfCert zero c q ∷ story) l now (None, refl) here;
         })
-    tried_found story (OfCert c q) (Some v) same l at t = absurd t
-    tried_found story (OfStructure z q) None same l at t = absurd t
-    tried_found story (OfStructure z q) (Some v) same l at t =
-        let own = at_of (OfStructure z q ∷ story) l at in
+    tried_found story (OfCert zero c q) (Some v) same l at t = absurd t
+    tried_found story (OfStructure zero z q) None same l at t = absurd t
+    tried_found story (OfStructure zero z q) (Some v) same l at t =
+        let own = at_of (OfStructure zero z q ∷ story) l at in
         let now : Stage = Sealed (signed_structure keys naming u z q) in
         let here = signed_at keys naming u s now at (z, q, refl, own.last, own.text) in
         let shows : where_signed s.phase view ≡ v ∷ [] = ap (λ (g : Phase). where_signed g view) at ∙ ap option_to_list same in
@@ -211,8 +218,10 @@ module _ (keys : Keys) (naming : Naming) (u : User) (can : CanSign keys u) (hist
           may = subst (λ (b : Stage). MayMove (public_key keys) naming history u b (Accepts v) now) (sym t.1.2) may;
           sends = refl;
           accepts = sym shows;
-          follows = opened_at (OfStructure z q ∷ story) l now (inl refl) here;
+          follows = opened_at (OfStructure zero z q ∷ story) l now (inl refl) here;
         })
+    tried_found story (OfCert (suc n) c q) v same l at t = absurd (omega (arith, l.is_story.0.own))
+    tried_found story (OfStructure (suc n) z q) v same l at t = absurd (omega (arith, l.is_story.0.own))
 
     pub opens : Opened
     opens =
@@ -258,13 +267,13 @@ module _ (keys : Keys) (naming : Naming) (u : User) (can : CanSign keys u) (hist
 
       pub begins : (answer : Bytes) → HasBegun s changes laid (Ok answer) new → HasOwn (Begins changes laid (Ok answer)) (Open new) → IsMove keys naming u history stage (Open new) (answer ∷ texts) view [] []
       begins answer b has_own =
-          let k = declares (o keys naming u) (Unit {0}) f.story f.tried texts (released s) f.low next (released new) answer (low_begun s new changes laid answer b) in
+          let k = declares (o keys naming u) (Unit {0}) f.story f.tried texts (released s) f.low 0 next (released new) answer (low_begun s new f.own.always.0.some changes laid answer b) in
           let q = k.0 in
           let is = b.declared.2 in
-          let l = where_in_turn (o keys naming u) ((s.number + 1 ≡ s.number + 1) × Unit {0}) (Unit {0}) (OfCert next q ∷ f.story) None (low_client (Open new)) (answer ∷ texts) (λ _. (refl, tt)) k.1 in
+          let l = where_in_turn (o keys naming u) ((s.number + 1 ≡ s.number + 1) × Unit {0}) (Unit {0}) (OfCert 0 next q ∷ f.story) None (low_client (Open new)) (answer ∷ texts) (λ _. (refl, tt)) k.1 in
           let own = l.own.stands (λ down. let two : phase.Declared ≡ phase.Failed = sym (ap (λ (n : State). n.phase) is) ∙ down in cc two) in
           let now : Stage = Declared s.last (signed_cert keys naming u next q) None in
-          let given = own_keys keys u next q l.is_story.0.next.fits l.is_story.0.next.user (λ zero. has_own zero (text (o keys naming u) (OfCert next q)) (l.kept (OfCert next q) (inl refl))) in
+          let given = own_keys keys u next q l.is_story.0.next.fits l.is_story.0.next.user (λ zero. has_own zero (text (o keys naming u) (OfCert 0 next q)) (l.kept (OfCert 0 next q) (inl refl))) in
           let last : new.last ≡ s.last = ap (λ (n : State). n.last) is in
           record {
             act = Declares;
@@ -273,11 +282,11 @@ module _ (keys : Keys) (naming : Naming) (u : User) (can : CanSign keys u) (hist
             sends = refl;
             accepts = refl;
             follows = record {
-              story = OfCert next q ∷ f.story;
+              story = OfCert 0 next q ∷ f.story;
               tried = None;
               low = l;
               of_story = (None, ap (λ (n : Option (Signed Structure)). Declared n (signed_cert keys naming u next q) None) (at_idle b.idle).last);
-              tries = subst (λ (v : Option View). IsTriedAt keys naming u (OfCert next q ∷ f.story) None v now) (sym (no_view b.idle)) tt;
+              tries = subst (λ (v : Option View). IsTriedAt keys naming u (OfCert 0 next q ∷ f.story) None v now) (sym (no_view b.idle)) tt;
               own = record {
                 no_view = λ _. no_view b.idle;
                 in_phase = declared_at keys naming u new now (ap (λ (n : State). n.phase) is) (
@@ -295,7 +304,7 @@ module _ (keys : Keys) (naming : Naming) (u : User) (can : CanSign keys u) (hist
 
       pub begin_fails : HasBegun s changes laid (Err error.Device) new → At (Open new) view stage
       begin_fails b =
-          let k = declare_fails (o keys naming u) (Unit {0}) f.story f.tried texts (released s) f.low next (released new) error.Device (low_begin_failed s new changes laid b) in
+          let k = declare_fails (o keys naming u) (Unit {0}) f.story f.tried texts (released s) f.low 0 next (released new) error.Device (low_begin_failed s new f.own.always.0.some changes laid b) in
           let is = b.fails refl in
           let l = where_in_turn (o keys naming u) ((s.number + 1 ≡ s.number + 1) × Unit {0}) (Unit {0}) f.story k.0 (low_client (Open new)) texts (λ _. (refl, tt)) k.2 in
           record {
@@ -311,7 +320,7 @@ module _ (keys : Keys) (naming : Naming) (u : User) (can : CanSign keys u) (hist
             };
           }
         where
-          tried : (some : Option Release) → IsTriedCert next some → IfSome some (IsAfter (o keys naming u) f.story) → IsTriedAt keys naming u f.story some None stage
+          tried : (some : Option Release) → IsTriedCert 0 next some → IfSome some (IsAfter (o keys naming u) f.story) → IsTriedAt keys naming u f.story some None stage
           tried some (inl none) after = subst (λ (t : Option Release). IsTriedAt keys naming u f.story t None stage) (sym none) tt
           tried some (inr (q, one)) after =
               let here = subst (λ (t : Option Release). IfSome t (IsAfter (o keys naming u) f.story)) one after in
@@ -355,9 +364,9 @@ module _ (keys : Keys) (naming : Naming) (u : User) (can : CanSign keys u) (hist
       signs_ok answer b covers =
           let done = if_ready s new y ready (λ r. (leaf : LeafNumber) × IsKept leaf (structure_record (signed_text s leaf r)) (under 0 s.devices) (under 0 new.devices) × (new ≡ over new.blocks (on new.devices (signed_over s leaf r)))) b.signed in
           let is = done.2 in
-          let k = signs (o keys naming u) (Unit {0}) f.story f.tried texts (released s) f.low z (released new) answer (low_signed s new y ready answer f.own.always b) in
+          let k = signs (o keys naming u) (Unit {0}) f.story f.tried texts (released s) f.low 0 z (released new) answer (low_signed s new y ready answer f.own.always b) in
           let q = k.0 in
-          let l = where_in_turn (o keys naming u) (Unit {0} × Unit {0}) (Unit {0}) (OfStructure z q ∷ f.story) None (low_client (Open new)) (answer ∷ texts) (λ _. (tt, tt)) k.1 in
+          let l = where_in_turn (o keys naming u) (Unit {0} × Unit {0}) (Unit {0}) (OfStructure 0 z q ∷ f.story) None (low_client (Open new)) (answer ∷ texts) (λ _. (tt, tt)) k.1 in
           let own = l.own.stands (λ down. let two : phase.Signed ≡ phase.Failed = sym (ap (λ (n : State). n.phase) is) ∙ down in cc two) in
           let now : Stage = Sealed (signed_structure keys naming u z q) in
           let shows : option_to_list (in_hand (Open s)) ≡ v ∷ [] = ap option_to_list hand_is in
@@ -369,11 +378,11 @@ module _ (keys : Keys) (naming : Naming) (u : User) (can : CanSign keys u) (hist
             sends = refl;
             accepts = sym shows;
             follows = record {
-              story = OfStructure z q ∷ f.story;
+              story = OfStructure 0 z q ∷ f.story;
               tried = None;
               low = l;
               of_story = inl refl;
-              tries = subst (λ (w : Option View). IsTriedAt keys naming u (OfStructure z q ∷ f.story) None w now) (sym (f.own.no_view up)) tt;
+              tries = subst (λ (w : Option View). IsTriedAt keys naming u (OfStructure 0 z q ∷ f.story) None w now) (sym (f.own.no_view up)) tt;
               own = record {
                 no_view = λ _. f.own.no_view up;
                 in_phase = signed_at keys naming u new now (ap (λ (n : State). n.phase) is) (z, q, refl, own.last, own.text);
@@ -384,7 +393,7 @@ module _ (keys : Keys) (naming : Naming) (u : User) (can : CanSign keys u) (hist
 
       pub sign_fails_here : HasSigned s (Err error.Device) new → At (Open new) (in_hand (Open s)) stage
       sign_fails_here b =
-          let k = sign_fails (o keys naming u) (Unit {0}) f.story f.tried texts (released s) f.low z (released new) error.Device (low_sign_failed s new y ready f.own.always b) in
+          let k = sign_fails (o keys naming u) (Unit {0}) f.story f.tried texts (released s) f.low 0 z (released new) error.Device (low_sign_failed s new y ready f.own.always b) in
           let is = b.fails refl in
           let l = where_in_turn (o keys naming u) (Unit {0} × Unit {0}) (Unit {0}) f.story k.0 (low_client (Open new)) texts (λ _. (tt, tt)) k.2 in
           record {
@@ -406,7 +415,7 @@ module _ (keys : Keys) (naming : Naming) (u : User) (can : CanSign keys u) (hist
             | inr other ↦ (let two : phase.Declared ≡ phase.Idle = sym is_declared ∙ other.1 in absurd (cc two))
           ]
 
-          tried : (some : Option Release) → IsTriedStructure z some → IfSome some (IsAfter (o keys naming u) f.story) → IsTriedAt keys naming u f.story some (Some v) stage
+          tried : (some : Option Release) → IsTriedStructure 0 z some → IfSome some (IsAfter (o keys naming u) f.story) → IsTriedAt keys naming u f.story some (Some v) stage
           tried some (inl none) after = subst (λ (t : Option Release). IsTriedAt keys naming u f.story t (Some v) stage) (sym none) told
           tried some (inr (q, one)) after =
               let here = subst (λ (t : Option Release). IfSome t (IsAfter (o keys naming u) f.story)) one after in
@@ -439,7 +448,7 @@ module _ (keys : Keys) (naming : Naming) (u : User) (can : CanSign keys u) (hist
             story = f.story;
             tried = f.tried;
             low = l;
-            of_story = ended f.story z (sym at.last ∙ e.3) at.phase;
+            of_story = ended f.story f.low.is_story z (sym at.last ∙ e.3) at.phase;
             tries =
                 subst (λ (t : Option Release). IsTriedAt keys naming u f.story t view now) (sym at.none_tried)
                 (subst (λ (w : Option View). IsTriedAt keys naming u f.story None w now) (sym (f.own.no_view up)) tt);
@@ -454,18 +463,19 @@ module _ (keys : Keys) (naming : Naming) (u : User) (can : CanSign keys u) (hist
         up : s.phase ≡ phase.Failed → ⊥
         up down = let two : phase.Signed ≡ phase.Failed = sym signed_it ∙ down in cc two
 
-        ended : (story : List Release) (z : Signed Structure) → last_in (o keys naming u) story ≡ Some z → IsPhase (phase_in story) s.phase → IsOfStory keys naming u story (Idle (Some z))
-        ended [] z last at = absurd (let two : None ≡ Some z = last in cc two)
-        ended (OfCert c q ∷ older) z last at = absurd (elim at [
+        ended : (story : List Release) → IsStory (o keys naming u) story → (z : Signed Structure) → last_in (o keys naming u) story ≡ Some z → IsPhase (phase_in story) s.phase → IsOfStory keys naming u story (Idle (Some z))
+        ended [] is_story z last at = absurd (let two : None ≡ Some z = last in cc two)
+        ended (OfCert n c q ∷ older) is_story z last at = absurd (elim at [
           | inl same ↦ (let two : phase.Signed ≡ phase.Declared = sym signed_it ∙ same in cc two)
           | inr other ↦ (let two : phase.Declared ≡ phase.Signed = other.0 in cc two)
         ])
-        ended (OfStructure y q ∷ older) z last at = inr (ap Idle (sym last))
+        ended (OfStructure zero y q ∷ older) is_story z last at = inr (ap Idle (sym last))
+        ended (OfStructure (suc n) y q ∷ older) is_story z last at = absurd (omega (arith, is_story.0.own))
 
     -- ---- hearing
 
     pub hears : (c : Cert) (q : LeafNumber) (was : Option Lists) → stage ≡ Declared s.last (signed_cert keys naming u c q) was → s.phase ≡ phase.Declared → released new ≡ released s → (x : Lists) → HoldsHeard keys naming u new (Some x)
-        → IsReply (public_key keys) history (signed_cert keys naming u c q) x → s.text ≡ text (o keys naming u) (OfCert c q)
+        → IsReply (public_key keys) history (signed_cert keys naming u c q) x → s.text ≡ text (o keys naming u) (OfCert 0 c q)
         → IsMove keys naming u history stage (Open new) texts view [] []
     hears c q was at declared same x in_hand reply sent =
         let now : Stage = Declared s.last (signed_cert keys naming u c q) (Some x) in
@@ -507,8 +517,8 @@ module _ (keys : Keys) (naming : Naming) (u : User) (can : CanSign keys u) (hist
 
         of_story : (story : List Release) → IsOfStory keys naming u story stage → IsOfStory keys naming u story (Declared s.last (signed_cert keys naming u c q) (Some x))
         of_story [] of = absurd (let two : Declared s.last (signed_cert keys naming u c q) was ≡ Idle None = sym at ∙ of in cc two)
-        of_story (OfCert d p ∷ older) of =
+        of_story (OfCert n d p ∷ older) of =
             let two : Declared s.last (signed_cert keys naming u c q) was ≡ Declared (last_in (o keys naming u) older) (signed_cert keys naming u d p) of.0 = sym at ∙ of.1 in
             (Some x, cc two)
-        of_story (OfStructure z p ∷ older) (inl of) = absurd (let two : Declared s.last (signed_cert keys naming u c q) was ≡ Sealed (signed_structure keys naming u z p) = sym at ∙ of in cc two)
-        of_story (OfStructure z p ∷ older) (inr of) = absurd (let two : Declared s.last (signed_cert keys naming u c q) was ≡ Idle (Some (signed_structure keys naming u z p)) = sym at ∙ of in cc two)
+        of_story (OfStructure n z p ∷ older) (inl of) = absurd (let two : Declared s.last (signed_cert keys naming u c q) was ≡ Sealed (signed_structure keys naming u z p) = sym at ∙ of in cc two)
+        of_story (OfStructure n z p ∷ older) (inr of) = absurd (let two : Declared s.last (signed_cert keys naming u c q) was ≡ Idle (Some (signed_structure keys naming u z p)) = sym at ∙ of in cc two)
