@@ -1,5 +1,6 @@
 pub mod Hashes
 pub mod Blocks
+pub mod Cuts
 pub mod FileLaws
 pub mod Runs
 pub mod ChunkLaws

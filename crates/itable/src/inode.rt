@@ -43,7 +43,7 @@ impl Kind {
 }
 
 /// A kind: 1 is a file, 2 a directory.
-fn read_kind(reader: &mut Reader<'_>) -> Result<Kind, ReadError>
+pub(crate) fn read_kind(reader: &mut Reader<'_>) -> Result<Kind, ReadError>
     ensures reads { Reads result reader.new (kind_format.read reader.old) }
     ensures bytes { IsBytes reader.old }
     ensures no_memory { IfErr result (λ e. e ≢ read_error.Memory) }
@@ -58,7 +58,7 @@ fn read_kind(reader: &mut Reader<'_>) -> Result<Kind, ReadError>
 }
 
 /// The size of what is of this kind.
-fn read_size(reader: &mut Reader<'_>, kind: Kind) -> Result<u32, ReadError>
+pub(crate) fn read_size(reader: &mut Reader<'_>, kind: Kind) -> Result<u32, ReadError>
     ensures reads { Reads result reader.new ((size_format kind).read reader.old) }
     ensures bytes { IsBytes reader.old }
     ensures no_memory { IfErr result (λ e. e ≢ read_error.Memory) }
