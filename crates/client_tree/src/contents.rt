@@ -13,7 +13,7 @@ use directory::Directory;
 use itable::{Inode, Kind};
 use layout::{Digest, INumber, Principal};
 use std::alloc::Allocator;
-use tree_parts::{ApplyError, Blocks, read_directory, read_file, read_inode};
+use tree_parts::{ApplyError, Blocks, look_for_absent, read_directory, read_file, read_inode};
 
 /// What stands at an i-number.
 #[derive(Drop)]
@@ -67,6 +67,8 @@ pub(crate) fn read_content<A: Allocator + Copy, B: Blocks>(
     ensures missing { IfErr result
         (Lacks (B.held blocks.now) (IsOfInode (B.held blocks.now) principal i_number digest)) }
 {
+    // While blocks of a file are missing, its i-node isn't read as a whole.
+    look_for_absent(blocks, digest)?;
     let inode = read_inode(alloc, blocks, principal, i_number, digest)?;
     match inode.kind() {
         Kind::File => {

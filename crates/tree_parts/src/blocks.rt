@@ -11,7 +11,7 @@ ghost use Rattle.update_cert.specs.Reading.{Reading};
 ghost use Rattle.tree_parts.specs.Blocks.{Agrees, Blocks as Held, inode_at as inode_of, joined};
 ghost use Rattle.tree_parts.specs.Slots.{holds as is_held};
 
-use itable::{Inode, Laid};
+use itable::{Inode, InodeText, Laid};
 use layout::{Digest, Memory, ReadError, Text, digest};
 use std::alloc::Allocator;
 
@@ -104,6 +104,13 @@ pub(crate) fn inode_at<A: Allocator + Copy, B: Blocks>(
     ensures no_memory { B.held blocks.now digest ≡ None → IsOk result }
 {
     value_at(alloc, blocks, digest)
+}
+
+/// The same, as its text lies there.
+pub(crate) fn inode_text_at<B: Blocks>(blocks: &B, digest: Digest) -> Option<InodeText<'_>>
+    ensures { result ≡ inode_of (B.held blocks.now) digest }
+{
+    InodeText::read(blocks.get(digest)?)
 }
 
 /// The texts of these digests one after another, if all are held.

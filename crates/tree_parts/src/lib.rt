@@ -18,6 +18,6 @@ pub use blocks::{Blocks, holds_laid, some_reading_agrees, value_at};
 pub use chunks::{chunk_of, root_of};
 pub use error::ApplyError;
 pub use part::{LaidPart, Part, Slot, has_digest};
-pub use reading::{read_directory, read_file, read_inode, read_principals};
+pub use reading::{look_for_absent, read_directory, read_file, read_inode, read_principals};
 pub use scope::Scope;
 pub use spot::{Spot, is_table, size_of_block, takes_chunk, takes_root};

@@ -13,11 +13,11 @@ ghost use Rattle.itable.specs.Inode.{inode as inode_format};
 ghost use Rattle.itable.specs.declared.inode.Kind.TheVariants as kinds;
 ghost use Rattle.tree_parts.specs.declared.spot.Spot.TheVariants as spots;
 
-use crate::blocks::{Blocks, inode_at, join, spelled};
+use crate::blocks::{Blocks, inode_at, inode_text_at, join, spelled};
 use crate::error::ApplyError;
 use crate::spot::{Spot, size_of_block, takes_inode};
 use directory::Directory;
-use itable::Inode;
+use itable::{Inode, Kind};
 use layout::{Digest, INumber, Principal, User};
 use principals::Table;
 use std::alloc::Allocator;
@@ -97,22 +97,48 @@ fn text_of<A: Allocator + Copy, B: Blocks>(
     Ok(text)
 }
 
+/// Whether a text of this digest is held.
+fn is_held<B: Blocks>(blocks: &B, digest: &[u8; 32]) -> bool {
+    blocks.get(Digest::from_bytes(*digest)).is_some()
+}
+
 /// A block of these that isn't held, and its place, if halving finds one. Where the first ones are held and the others
 /// aren't, it is the first of those, and few are looked up for it. It finds none where all are held, and may find none
 /// where they are held here and there.
-fn find_absent<B: Blocks>(blocks: &B, digests: &[Digest]) -> Option<(usize, Digest)>
+fn find_absent<B: Blocks>(blocks: &B, digests: &[[u8; 32]]) -> Option<(usize, Digest)>
     ensures named { IfSome result (λ found. slice_get digests.now found.0 ≡ Some found.1) }
     ensures absent { IfSome result (λ found. B.held blocks.now found.1 ≡ None) }
 {
-    let place = digests.partition_point(|digest| blocks.get(*digest).is_some());
-    match digests.get(place) {
-        Some(digest) if blocks.get(*digest).is_none() => Some((place, *digest)),
-        _ => None,
+    let place = digests.partition_point(|digest| is_held(blocks, digest));
+    let digest = Digest::from_bytes(*digests.get(place)?);
+    if blocks.get(digest).is_none() {
+        Some((place, digest))
+    } else {
+        None
     }
 }
 
-/// The bytes of the file that the i-node of this digest is of. The errors are Missing of a block, not always the first
-/// one, and Memory.
+/// Looks for a block that isn't held of the file that the i-node of this digest is of, if it is held. Few digests are
+/// read for it: it may find none where blocks are held here and there. The error is Missing of a block.
+pub fn look_for_absent<B: Blocks>(blocks: &B, digest: Digest) -> Result<(), ApplyError>
+    // Missing names a block of it of which no text is held that its spot takes.
+    ensures missing { IfErr result (Lacks (B.held blocks.now) (IsBlock (B.held blocks.now) kinds.File digest)) }
+{
+    let Some(inode) = inode_text_at(blocks, digest) else {
+        return Ok(());
+    };
+    if inode.kind() != Kind::File {
+        return Ok(());
+    }
+    // It has at most 1,024 blocks.
+    if let Some((place, block)) = find_absent(blocks, inode.blocks()) {
+        return Err(ApplyError::Missing(block, Spot::File(digest, place as u16)));
+    }
+    Ok(())
+}
+
+/// The bytes of the file that the i-node of this digest is of. The errors are Missing of the first block that isn't
+/// held, and Memory.
 pub fn read_file<A: Allocator + Copy, B: Blocks>(
     alloc: A,
     blocks: &B,
@@ -127,11 +153,6 @@ pub fn read_file<A: Allocator + Copy, B: Blocks>(
     // Missing names a block of it of which no text is held that its spot takes.
     ensures missing { IfErr result (Lacks (B.held blocks.now) (IsBlock (B.held blocks.now) kinds.File digest)) }
 {
-    // It has at most 1,024 blocks.
-    let _kind = inode.kind();
-    if let Some((place, block)) = find_absent(blocks, inode.blocks()) {
-        return Err(ApplyError::Missing(block, Spot::File(digest, place as u16)));
-    }
     text_of(alloc, blocks, digest, inode)
 }
 

@@ -8,9 +8,9 @@ ghost use Rattle.tree_parts.specs.Spot.{takes_block as block_is_taken, takes_fil
 ghost use Rattle.tree_parts.specs.Spot.{takes_table_block as table_block_is_taken, takes_chunk as chunk_is_taken};
 ghost use Rattle.tree_parts.specs.Spot.{takes_inode as inode_is_taken, takes_root as root_is_taken};
 
-use crate::blocks::{Blocks, inode_at, join, spelled};
+use crate::blocks::{Blocks, inode_at, inode_text_at, join, spelled};
 use directory::Directory;
-use itable::{BLOCK_SIZE, Chunk, ChunkNumber, Inode, Kind, Root};
+use itable::{BLOCK_SIZE, Chunk, ChunkNumber, Inode, InodeText, Kind, Root};
 use layout::{Digest, INumber, Memory, Principal, Text};
 use principals::Table;
 use std::alloc::Allocator;
@@ -66,7 +66,7 @@ pub fn size_of_block(size: u32, place: u16) -> u32
 }
 
 /// Whether the text has the size of the block of this place of the i-node's file.
-fn takes_file_block<A: Allocator>(inode: &Inode<A>, place: u16, text: &[u8]) -> bool
+fn takes_file_block(inode: &InodeText<'_>, place: u16, text: &[u8]) -> bool
     ensures { result ≡ file_block_is_taken place text.now inode.now }
 {
     inode.kind() == Kind::File
@@ -240,7 +240,7 @@ impl Spot {
                 Ok(inode.is_some_and(|inode| takes_inode(*principal, *i_number, &inode)))
             }
             Spot::File(digest, place) => {
-                let inode = inode_at(alloc, blocks, *digest)?;
+                let inode = inode_text_at(blocks, *digest);
                 Ok(inode.is_some_and(|inode| takes_file_block(&inode, *place, text)))
             }
             Spot::Directory(digest, place) => match inode_at(alloc, blocks, *digest)? {
