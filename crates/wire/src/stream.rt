@@ -67,10 +67,13 @@ fn let_go<A: Allocator>(bytes: &mut Vec<u8, A>, handed_out: usize) -> usize
     // Nothing is moved while more than half of the bytes wait.
     ensures same { handed_out + handed_out < length bytes.old.items → bytes.new.items ≡ bytes.old.items }
 {
-    if handed_out < bytes.len() - handed_out {
+    let waiting = bytes.len() - handed_out;
+    if handed_out < waiting {
         return handed_out;
     }
-    bytes.drain(..handed_out);
+    let (front, back) = bytes.split_at_mut(handed_out);
+    front[..waiting].copy_from_slice(back);
+    bytes.truncate(waiting);
     0
 }
 
