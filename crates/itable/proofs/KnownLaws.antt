@@ -1,10 +1,10 @@
 -- What a table knows of its chunks through changes.
-use Rattle.std.proofs.Common.{◌≡◌, ◌≢◌, ℕ, zero, suc, ◌<◌, Bool, true, false, List, [], ◌∷◌, length, get_or, set, replicate, Option, Result, Ok, Err, Some, None, refl, sym, ap, subst, ◌∙◌, ◌⊎◌, inl, inr, arith}
+use Rattle.std.proofs.Common.{◌≡◌, ◌≢◌, ℕ, zero, suc, Bool, true, false, List, [], ◌∷◌, get_or, set, replicate, Option, Result, Ok, Err, Some, None, refl, sym, ap, subst, ◌∙◌, ◌⊎◌, inl, inr, arith}
 use Rattle.std.specs.Prelude.{filter, OnOk, OnErr}
 use Rattle.std.specs.Option.{option_map}
 use Rattle.std.specs.Ordering.{nat_cmp, is_eq, is_lt}
 use Rattle.std.proofs.lemmas.Bool.{cases_lt, ne_eqb}
-use Rattle.std.proofs.lemmas.List.{get_or-replicate, get_or_past, length-replicate, length-set, get_or_default}
+use Rattle.std.proofs.lemmas.List.{get_or-replicate, get_or_past, length-replicate}
 use Rattle.layout.specs.Hash.{hash}
 use Rattle.layout.specs.Ranges.{principal as principals}
 use Rattle.layout.specs.Ascending.{with_row, without_row}
@@ -60,7 +60,7 @@ Known = List (Option (List ℕ))
 abbrev known_at : Known → ℕ → Option (List ℕ)
 known_at known n = get_or known n None
 
-none_known : (k n : ℕ) (d : List ℕ) → known_at (replicate k None) n ≡ Some d → ⊥
+pub none_known : (k n : ℕ) (d : List ℕ) → known_at (replicate k None) n ≡ Some d → ⊥
 none_known k n d h =
     let none : known_at (replicate k None) n ≡ None = elim (cases_lt n k) [
       | inl lt ↦ get_or-replicate k n None None lt
@@ -85,17 +85,20 @@ learned (k ∷ ks) (suc i) (suc n) new d h = elim (learned ks i n new d h) [ inl
 -- ---- what a table keeps
 
 -- nothing is known of a table
-pub keeps_nothing : (t : ITable) → IsTable t → IsKept t (replicate 64 None)
-keeps_nothing t is = record { is_table = is; size = refl; known_is = λ n d h. absurd (none_known 64 n d h) }
+pub keeps_nothing : (t : ITable) → IsTable t → IsKept t []
+keeps_nothing t is = record { is_table = is; known_is = λ n d h. absurd cc }
 
-pub keeps_empty : (p : ℕ) → principals.Fits p → IsKept (record { principal = p; pairs = []; unloaded = [] }) (replicate 64 None)
+pub keeps_empty : (p : ℕ) → principals.Fits p → IsKept (record { principal = p; pairs = []; unloaded = [] }) []
 keeps_empty p fits = keeps_nothing (record { principal = p; pairs = []; unloaded = [] }) (is_empty_table p fits)
+
+-- no more is known than before
+pub keeps_less : (t : ITable) (known less : Known) → IsKept t known → ((n : ℕ) (d : List ℕ) → known_at less n ≡ Some d → known_at known n ≡ Some d) → IsKept t less
+keeps_less t known less kept fewer = record { is_table = kept.is_table; known_is = λ n d h. kept.known_is n d (fewer n d h) }
 
 -- one chunk is forgotten, and the texts of the others stay
 pub keeps_others : (t u : ITable) (known : Known) (i : ℕ) → IsKept t known → IsTable u → ((n : ℕ) → i ≢ n → text_of_chunk u n ≡ text_of_chunk t n) → IsKept u (set known i None)
 keeps_others t u known i kept is same = record {
   is_table = is;
-  size = length-set known i None ∙ kept.size;
   known_is = λ n d h. let rest = forgotten known i n d h in ap (option_map hash) (same n rest.0) ∙ kept.known_is n d rest.1;
 }
 
@@ -117,13 +120,8 @@ keeps_removed t known i pairs kept is =
 pub keeps_more : (t : ITable) (known : Known) (i : ℕ) (text : List ℕ) → IsKept t known → text_of_chunk t i ≡ Some text → IsKept t (set known i (Some (hash text)))
 keeps_more t known i text kept is = record {
   is_table = kept.is_table;
-  size = length-set known i (Some (hash text)) ∙ kept.size;
   known_is = λ n d h. elim (learned known i n (hash text) d h) [
     | inl here ↦ ap (λ (m : ℕ). option_map hash (text_of_chunk t m)) (sym here.0) ∙ ap (option_map hash) is ∙ ap Some here.1
     | inr there ↦ kept.known_is n d there
   ];
 }
-
--- what is read inside is known
-pub known_here : (known : Known) (i : ℕ) (other : Option (List ℕ)) (d : List ℕ) → i < length known → get_or known i other ≡ Some d → known_at known i ≡ Some d
-known_here known i other d lt h = get_or_default known i None other lt ∙ h

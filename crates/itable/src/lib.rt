@@ -7,6 +7,7 @@ mod error;
 mod file;
 mod inode;
 mod inode_text;
+mod known;
 mod laws;
 mod listed;
 mod pairs;

@@ -17,6 +17,7 @@ ghost use Rattle.itable.specs.ITable.{listing as listing_of, listings as listing
 ghost use Rattle.itable.specs.ITable.{IsKnownByDigests, IsKnownByHandle, new_chunk, new_texts, texts as texts_of};
 
 use crate::chunk::{Chunk, ChunkNumber, Pair, write_chunk};
+use crate::known::{known_at, make_room, set_known};
 use crate::listed::{listed_at, take_listed};
 use crate::pairs::{are_same, count_below, pair_at, put, put_run, run_of, take_out};
 use crate::root::{ListedChunk, Root, write_root};
@@ -25,10 +26,10 @@ use std::alloc::Allocator;
 use std::marker::Model;
 
 /// Forgets the digest of the chunk that an i-number is in.
-fn forget(known: &mut [Option<Digest>; 64], i_number: INumber)
-    ensures { known.new ≡ slice_set known.old (chunk_number i_number) None }
+fn forget<A: Allocator>(known: &mut Vec<Option<Digest>, A>, i_number: INumber)
+    ensures { known.new.items ≡ slice_set known.old.items (chunk_number i_number) None }
 {
-    known[usize::from(ChunkNumber::of(i_number).get())] = None;
+    set_known(known, ChunkNumber::of(i_number), None);
 }
 
 /// A digest for each i-number of a principal that has one. A chunk's pairs may not be loaded: it has its digest alone
@@ -38,7 +39,7 @@ fn forget(known: &mut [Option<Digest>; 64], i_number: INumber)
 pub struct ITable<A: Allocator> {
     principal: Principal,
     pairs: Vec<Pair, A>,
-    known: [Option<Digest>; 64],
+    known: Vec<Option<Digest>, A>,
     unloaded: Vec<ListedChunk, A>,
 }
 
@@ -51,7 +52,7 @@ impl<A: Allocator> Model for ITable<A> {
     ghost view = { λ t. record { principal = t.principal; pairs = t.pairs.items; unloaded = t.unloaded.items } };
 
     ghost invariant = { λ t. IsKept
-        (record { principal = t.principal; pairs = t.pairs.items; unloaded = t.unloaded.items }) t.known };
+        (record { principal = t.principal; pairs = t.pairs.items; unloaded = t.unloaded.items }) t.known.items };
 }
 
 impl<A: Allocator + Copy> ITable<A> {
@@ -66,7 +67,7 @@ impl<A: Allocator + Copy> ITable<A> {
         ITable {
             principal,
             pairs: Vec::new(alloc),
-            known: [None; 64],
+            known: Vec::new(alloc),
             unloaded: Vec::new(alloc),
         }
     }
@@ -81,7 +82,7 @@ impl<A: Allocator + Copy> ITable<A> {
         ITable {
             principal: root.principal(),
             pairs: Vec::new(alloc),
-            known: [None; 64],
+            known: Vec::new(alloc),
             unloaded: root.into_chunks(),
         }
     }
@@ -183,10 +184,11 @@ impl<A: Allocator> ITable<A> {
         ensures err { OnErr result (self.new ≡ self.old) }
     {
         let number = chunk.number();
+        make_room(&mut self.known)?;
         let place = count_below(&self.pairs, number.get());
         put_run(&mut self.pairs, place, chunk.pairs())?;
         take_listed(&mut self.unloaded, number);
-        self.known[usize::from(number.get())] = Some(digest);
+        set_known(&mut self.known, number, Some(digest));
         Ok(())
     }
 
@@ -248,12 +250,10 @@ impl<A: Allocator + Copy> ITable<A> {
     pub fn copy(&self, alloc: A) -> Result<ITable<A>, Memory>
         ensures { IfOk result (λ copy. copy ≡ self.now) }
     {
-        let mut known = [None; 64];
-        known.copy_from_slice(&self.known);
         Ok(ITable {
             principal: self.principal,
             pairs: Vec::from_slice(alloc, &self.pairs)?,
-            known,
+            known: Vec::from_slice(alloc, &self.known)?,
             unloaded: Vec::from_slice(alloc, &self.unloaded)?,
         })
     }
@@ -284,15 +284,15 @@ impl<A: Allocator + Copy> ITable<A> {
         if let Some(chunk) = listed_at(&self.unloaded, number) {
             return Ok(Some(chunk));
         }
-        let place = usize::from(number.get());
-        if let Some(digest) = self.known[place] {
+        if let Some(digest) = known_at(&self.known, number) {
             return Ok(Some(ListedChunk { number, digest }));
         }
         let Some(text) = self.chunk_text(alloc, number)? else {
             return Ok(None);
         };
         let digest = digest(&text);
-        self.known[place] = Some(digest);
+        make_room(&mut self.known)?;
+        set_known(&mut self.known, number, Some(digest));
         Ok(Some(ListedChunk { number, digest }))
     }
 

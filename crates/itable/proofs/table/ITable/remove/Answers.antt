@@ -6,7 +6,7 @@ use Rattle.itable.proofs.table.ITable.remove.Goals as goal
 pub invariant_of-self : goal.invariant_of-self
 invariant_of-self g c =
     let t : ITable = record { principal = c.self.inside.principal; pairs = c.self.inside.pairs.items; unloaded = c.self.inside.unloaded.items } in
-    rw c.forget.ensures (keeps_removed t c.self.inside.known c.args.i_number c.take_out.new.pairs.items c.self.invariant c.take_out.ensures.left)
+    rw c.forget.ensures (keeps_removed t c.self.inside.known.items c.args.i_number c.take_out.new.pairs.items c.self.invariant c.take_out.ensures.left)
 
 pub returns-clause-digests : goal.returns-clause-digests
 returns-clause-digests g c =
