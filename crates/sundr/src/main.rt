@@ -13,7 +13,6 @@ mod reason;
 use batch::carry_out_batch;
 use client_verify::{Client, ClientError, Parts};
 use commands::{Answer, Command};
-use connection::Socket;
 use defaults::with_defaults;
 use drawn_key::drawn_key;
 use file_commands::{Line, LineError, NewFolder, Request, Wanted};
@@ -29,7 +28,7 @@ use kept_blocks::{Keeping, KeptBlocks};
 use layout::let_go;
 use leaf_ledger::FileDevice;
 use lms_sign::PrivateKey;
-use reaching::{Reach, Server};
+use reaching::{Reach, Server, Stream};
 use reason::{Reason, reason_of_answer, reason_of_hindrance, reason_of_unmade};
 use std::alloc::Global;
 use std::cell::Cell;
@@ -53,7 +52,7 @@ const UNPRINTED: u8 = 6;
 type OwnClient = Client<FileDevice<Global>, FileDevice<Global>, Global>;
 
 /// What carries its requests to the server at an address, unless they ask for blocks that are kept.
-type OwnTransport<'a, H> = Keeping<Connecting<Server<'a, H>, Socket, Global>, Global>;
+type OwnTransport<'a, H> = Keeping<Connecting<Server<'a, H>, Stream<'a>, Global>, Global>;
 
 /// Its session with the server at an address.
 type OwnSession<'a, H> = Session<
@@ -68,7 +67,7 @@ type OwnSession<'a, H> = Session<
 enum Outcome {
     /// The own public key in hexadecimal digits.
     Key(String),
-    /// What came of a command, and of the latest try to connect.
+    /// What came of a command, and of the latest try to reach the server.
     Answer(Answer<Global>, Reach),
     /// Commands were carried out, of which all is printed, and this is the status to end with.
     Ended(u8),

@@ -189,8 +189,9 @@ fn words_of_path_in(wanted: &Wanted<'_>) -> &'static str {
 fn words_of_reach(reach: Reach) -> &'static str {
     match reach {
         Reach::Unreached(unreached) => unreached.words(),
+        Reach::Broken(broken) => broken.words(),
         Reach::Untried | Reach::Joined => {
-            "no answer came before the connection ended, or within a minute: try again, what was begun is finished first"
+            "what came is no answer: does sundrd listen there, of the same version?"
         }
     }
 }
