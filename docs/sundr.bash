@@ -2,7 +2,7 @@
 
 _sundr() {
     local word=${COMP_WORDS[COMP_CWORD]} before=${COMP_WORDS[COMP_CWORD - 1]} command= at place=0
-    local commands="init key ls cat put get mkdir rm link adduser addmember dropmember batch help"
+    local commands="init key status ls cat put get mkdir rm link adduser addmember dropmember batch help"
     # The command, and how many words come between it and this one.
     for ((at = 1; at < COMP_CWORD; at++)); do
         if [[ -n $command ]]; then

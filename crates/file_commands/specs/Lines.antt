@@ -26,6 +26,7 @@ use Rattle.file_commands.specs.declared.reading.Unread.TheVariants as unread
 -- what is to be done: a command with its words
 pub data Order : Type 0 where
   ShowKey : Order
+  ShowStatus : Order
   Ls : Text → Order
   Cat : Text → Order
   Put : Text → Text → Order
@@ -58,6 +59,7 @@ pub data Asked : Type 0 where
 
 abbrev pub order_of : Wanted → Option Order
 order_of wanted.Key = Some ShowKey
+order_of wanted.Status = Some ShowStatus
 order_of (wanted.Put path file) = Some (Put path.now file.now)
 order_of (wanted.Get path file) = Some (Get path.now file.now)
 order_of (wanted.Batch stops) = Some (Batch stops)
@@ -189,6 +191,7 @@ is_set id rows = is_true (text_in id rows)
 
 abbrev pub order_in : Text → List Row → Result (Option Order) Unread
 order_in name rows = if bytes_eq name (codes "key") then Ok (Some ShowKey)
+    else (if bytes_eq name (codes "status") then Ok (Some ShowStatus)
     else (if bytes_eq name (codes "ls") then path_in Ls rows
     else (if bytes_eq name (codes "cat") then path_in Cat rows
     else (if bytes_eq name (codes "put") then file_in Put rows
@@ -200,7 +203,7 @@ order_in name rows = if bytes_eq name (codes "key") then Ok (Some ShowKey)
     else (if bytes_eq name (codes "addmember") then change_in AddMember rows
     else (if bytes_eq name (codes "dropmember") then change_in DropMember rows
     else (if bytes_eq name (codes "batch") then Ok (Some (Batch (is_set (codes "stop") rows)))
-    else Err unread.Words)))))))))))
+    else Err unread.Words))))))))))))
 
 abbrev pub order_met : Option (Text × List Row) → Result (Option Order) Unread
 order_met None = Err unread.Words

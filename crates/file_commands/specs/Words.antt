@@ -39,6 +39,9 @@ of_group = numbered 64 95
 abbrev pub key_app : App
 key_app = new_app (codes "key")
 
+abbrev pub status_app : App
+status_app = new_app (codes "status")
+
 -- a command that takes a path alone
 abbrev pub path_app : Text → App
 path_app name = with_rule (new_app name) (placed (codes "PATH"))
@@ -91,9 +94,9 @@ app with sub = with_subcommand app sub.top
 
 -- the commands of a user
 abbrev pub with_commands : App → App
-with_commands app = app with key_app with path_app (codes "ls") with path_app (codes "cat") with put_app
-    with get_app with path_app (codes "mkdir") with path_app (codes "rm") with link_app with adduser_app
-    with member_app (codes "addmember") with member_app (codes "dropmember")
+with_commands app = app with key_app with status_app with path_app (codes "ls") with path_app (codes "cat")
+    with put_app with get_app with path_app (codes "mkdir") with path_app (codes "rm") with link_app
+    with adduser_app with member_app (codes "addmember") with member_app (codes "dropmember")
 
 abbrev pub sundr_app : App
 sundr_app = with_commands (versioned (requires_command options_app) with init_app) with batch_app

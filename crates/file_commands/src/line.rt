@@ -29,6 +29,8 @@ pub enum LineError {
 pub enum Wanted<'a> {
     /// To print the own public key.
     Key,
+    /// To print whose the folder is, how far its last operation is, and how many leaves its key has left.
+    Status,
     /// To carry out a command; none that puts a file's content, of which a line has the name alone.
     Run(Command<'a>),
     /// To put the content of a file of the system at a path.

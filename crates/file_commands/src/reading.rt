@@ -134,6 +134,7 @@ fn wanted<'a>(name: &str, matches: &ArgMatches<'a>) -> Result<Wanted<'a>, Unread
 {
     let command = match name {
         "key" => return Ok(Wanted::Key),
+        "status" => return Ok(Wanted::Status),
         "batch" => return Ok(Wanted::Batch {
             stops: is_set(matches, "stop"),
         }),

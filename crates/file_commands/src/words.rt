@@ -4,7 +4,7 @@ ghost use Rattle.std.specs.Prelude.{◌≡◌, false, codes, IfOk};
 ghost use Rattle.clap.specs.Words.{app_of, rule_of};
 ghost use Rattle.file_commands.specs.Words.{adduser_app, batch_app, flag, folder_app, get_app, init_app, key_app, line_app};
 ghost use Rattle.file_commands.specs.Words.{link_app, member_app, of_group, of_user, option, optional, options_app, path_app, placed};
-ghost use Rattle.file_commands.specs.Words.{put_app, requires_command, sundr_app, valued, versioned, with_commands};
+ghost use Rattle.file_commands.specs.Words.{put_app, requires_command, status_app, sundr_app, valued, versioned, with_commands};
 
 use clap::{Arg, ArgAction, Command, value_parser};
 use std::alloc::{AllocError, Global};
@@ -192,6 +192,16 @@ fn key_command<'a>(alloc: Global) -> Command<'a>
         .after_help("Example: sundr --dir alice --server localhost:7440 --user 1 key")
 }
 
+fn status_command<'a>(alloc: Global) -> Command<'a>
+    ensures { app_of result ≡ status_app }
+{
+    Command::new(alloc, "status")
+        .about(
+            "Prints whose DIR is, how far its last operation is, and how many leaves its key has left; no server is asked",
+        )
+        .after_help("Example: sundr --dir alice --server localhost:7440 --user 1 status")
+}
+
 /// A command that takes a path alone.
 fn path_command<'a>(alloc: Global, name: &'a str, help: Help) -> Result<Command<'a>, AllocError>
     ensures { IfOk result (λ c. app_of c ≡ path_app name.entry.now) }
@@ -323,6 +333,7 @@ fn with_commands<'a>(alloc: Global, command: Command<'a>) -> Result<Command<'a>,
 {
     command
         .subcommand(key_command(alloc))?
+        .subcommand(status_command(alloc))?
         .subcommand(path_command(alloc, "ls", LS)?)?
         .subcommand(path_command(alloc, "cat", CAT)?)?
         .subcommand(put_command(alloc)?)?

@@ -5,9 +5,10 @@ use crate::folder::{
 };
 use crate::hindrance::Hindrance;
 use crate::reaching::{Reach, Server};
+use crate::standing::read_standing;
 use crate::{
-    Outcome, OwnClient, OwnSession, WORDS, answer, end, into_file, open_client, own_key_digits,
-    parted, print_with_reason, refuse, session_of, tell,
+    Beside, Outcome, OwnClient, OwnSession, WORDS, answer, end, into_file, open_client,
+    own_key_digits, parted, print_with_reason, refuse, session_of, tell, tell_leaves,
 };
 use commands::{Answer, Command, Refusal};
 use file_commands::{Line, Wanted, split_words};
@@ -68,12 +69,20 @@ fn obey<H: Net<Stream = TcpStream> + Threads + Sync>(
 ) -> Result<Outcome, Hindrance> {
     let answer = match wanted {
         Wanted::Key => return Ok(Outcome::Key(own_key_digits(rt, server.host(), line)?)),
+        Wanted::Status => return Ok(Outcome::Status(read_standing(rt, server.host(), line)?)),
         Wanted::Batch { .. } => return Ok(Outcome::Ended(WORDS)),
         Wanted::Run(command) => answer(rt, session, command),
         Wanted::Put { path, file } => put(rt, session, path, file)?,
         Wanted::Get { path, file } => get(rt, session, path, file)?,
     };
-    Ok(Outcome::Answer(answer, server.reach()))
+    let reach = server.reach();
+    Ok(Outcome::Answer(
+        answer,
+        Beside {
+            reach,
+            leaves: None,
+        },
+    ))
 }
 
 /// Whether an answer tells that nothing can be sent any more over the connection that its command went over.
@@ -88,7 +97,7 @@ fn tells_cut(answer: &Answer<Global>) -> bool {
 fn is_cut(outcome: &Outcome) -> bool {
     match outcome {
         Outcome::Answer(answer, _) => tells_cut(answer),
-        Outcome::Key(_) | Outcome::Ended(_) => false,
+        Outcome::Key(_) | Outcome::Status(_) | Outcome::Ended(_) => false,
     }
 }
 
@@ -234,7 +243,7 @@ fn carry_out_all<H: Net<Stream = TcpStream> + Threads + Sync>(
             break;
         }
     }
-    end(rt, line.dir, session);
+    tell_leaves(rt, end(rt, line.dir, session));
     first
 }
 

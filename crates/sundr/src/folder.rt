@@ -7,7 +7,7 @@ use drawn_key::{LEDGER_SIZE, kept_key};
 use itable::FILE_SIZE;
 use kept_blocks::{KeptBlocks, MOST_BLOCKS, MOST_BYTES};
 use layout::{Memory, Text, User};
-use leaf_ledger::FileDevice;
+use leaf_ledger::{FileDevice, MemoryDevice};
 use lms_sign::{ID_SIZE, KEPT_SIZE, KEY_SIZE, PrivateKey, PublicKey, SEED_SIZE};
 use std::alloc::{AllocError, Global};
 use std::fs::{self, File, OpenOptions, TryLockError};
@@ -402,6 +402,25 @@ fn place_hindrance(fault: &io::Error) -> Hindrance {
     device_hindrance(FolderFile::Place, fault)
 }
 
+/// What is told of a folder that isn't at the place at which it was used last.
+fn elsewhere() -> Hindrance {
+    Hindrance::OfFile(Refusal::Foreign, FolderFile::Place, FileFault::Elsewhere)
+}
+
+/// Whether a folder was used last at the place that it has; None where it tells of none yet.
+fn is_in_place(rt: &HostRuntime, folder: &str, own: &str) -> Result<Option<bool>, Hindrance> {
+    match read_place(rt, folder) {
+        Ok(Some(text)) => Ok(Some(text.as_slice() == own.as_bytes())),
+        Ok(None) => Ok(None),
+        Err(fault) => Err(place_hindrance(&fault)),
+    }
+}
+
+/// The place that a folder has, with the ledger that is open.
+fn own_place(rt: &HostRuntime, folder: &str, ledger: &File) -> Result<String, Hindrance> {
+    place_text(rt, folder, ledger).map_err(|fault| place_hindrance(&fault))
+}
+
 /// Refuses a folder that isn't at the place at which it was used last: it is a copy, or was put back, and would sign with
 /// leaves that were used. One that says that it was moved, or has no place yet, has this one from now on.
 pub(crate) fn check_place(
@@ -410,20 +429,61 @@ pub(crate) fn check_place(
     ledger: &File,
     moved: bool,
 ) -> Result<(), Hindrance> {
-    let own = place_text(rt, folder, ledger).map_err(|fault| place_hindrance(&fault))?;
-    let found = read_place(rt, folder).map_err(|fault| place_hindrance(&fault))?;
-    match found {
-        Some(text) if text.as_slice() == own.as_bytes() => return Ok(()),
-        Some(_) if !moved => {
-            return Err(Hindrance::OfFile(
-                Refusal::Foreign,
-                FolderFile::Place,
-                FileFault::Elsewhere,
-            ));
-        }
-        _ => (),
+    let own = own_place(rt, folder, ledger)?;
+    match is_in_place(rt, folder, &own)? {
+        Some(true) => Ok(()),
+        Some(false) if !moved => Err(elsewhere()),
+        _ => put_place(rt, folder, &own).map_err(|fault| place_hindrance(&fault)),
     }
-    put_place(rt, folder, &own).map_err(|fault| place_hindrance(&fault))
+}
+
+/// A file of a folder, if there is one.
+fn open_present(
+    rt: &HostRuntime,
+    folder: &str,
+    file: FolderFile,
+) -> Result<Option<File>, Hindrance> {
+    let path = path_of(rt.alloc(), folder, file)?;
+    match File::open(rt, &path) {
+        Ok(found) => Ok(Some(found)),
+        Err(fault) if fault.kind() == ErrorKind::NotFound => Ok(None),
+        Err(fault) => Err(device_hindrance(file, &fault)),
+    }
+}
+
+/// Refuses a folder as `check_place` does, and writes nothing.
+pub(crate) fn look_at_place(rt: &HostRuntime, folder: &str, moved: bool) -> Result<(), Hindrance> {
+    let Some(ledger) = open_present(rt, folder, FolderFile::Ledger)? else {
+        return Ok(());
+    };
+    let own = own_place(rt, folder, &ledger)?;
+    match is_in_place(rt, folder, &own)? {
+        Some(false) if !moved => Err(elsewhere()),
+        _ => Ok(()),
+    }
+}
+
+/// What a file of a folder holds; nothing where there is none.
+fn read_present(rt: &HostRuntime, folder: &str, file: FolderFile) -> Result<Vec<u8>, Hindrance> {
+    let mut text = Vec::new(rt.alloc());
+    let Some(found) = open_present(rt, folder, file)? else {
+        return Ok(text);
+    };
+    let mut found = found;
+    match found.read_to_end(&mut text) {
+        Ok(_) => Ok(text),
+        Err(fault) => Err(device_hindrance(file, &fault)),
+    }
+}
+
+/// A device in memory, with what a file of a folder holds. The file is left as it is.
+pub(crate) fn read_device(
+    rt: &HostRuntime,
+    folder: &str,
+    file: FolderFile,
+) -> Result<MemoryDevice<Global>, Hindrance> {
+    let text = read_present(rt, folder, file)?;
+    Ok(MemoryDevice::new(rt.alloc(), text)?)
 }
 
 /// The device over a file of a folder.

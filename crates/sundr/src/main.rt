@@ -9,6 +9,7 @@ mod hindrance;
 mod init;
 mod reaching;
 mod reason;
+mod standing;
 
 use batch::carry_out_batch;
 use client_verify::{Client, ClientError, Parts};
@@ -25,11 +26,12 @@ use folder::{
 use hindrance::{FolderFile, Hindrance};
 use init::{init, print_made};
 use kept_blocks::{Keeping, KeptBlocks};
-use layout::let_go;
-use leaf_ledger::FileDevice;
+use layout::{User, let_go};
+use leaf_ledger::{Device, FileDevice};
 use lms_sign::PrivateKey;
 use reaching::{Reach, Server, Stream};
 use reason::{Reason, reason_of_answer, reason_of_hindrance, reason_of_unmade};
+use standing::{Standing, few_leaves, read_standing};
 use std::alloc::Global;
 use std::cell::Cell;
 use std::env;
@@ -62,13 +64,24 @@ type OwnSession<'a, H> = Session<
     Global,
 >;
 
+/// What is told beside an answer.
+#[derive(Clone, Copy)]
+struct Beside {
+    /// What came of the latest try to reach the server.
+    reach: Reach,
+    /// How many leaves the key has left, if that is told.
+    leaves: Option<usize>,
+}
+
 /// What is printed of a line.
 #[derive(Drop)]
 enum Outcome {
     /// The own public key in hexadecimal digits.
     Key(String),
-    /// What came of a command, and of the latest try to reach the server.
-    Answer(Answer<Global>, Reach),
+    /// What the folder's ledger and journal tell.
+    Status(Standing),
+    /// What came of a command, and what is told beside it.
+    Answer(Answer<Global>, Beside),
     /// Commands were carried out, of which all is printed, and this is the status to end with.
     Ended(u8),
 }
@@ -89,6 +102,27 @@ fn own_key<H: Threads + Sync>(
     Ok(key)
 }
 
+/// A client of a user with this key, over these devices.
+pub(crate) fn client_over<D: Device + Drop>(
+    alloc: Global,
+    user: User,
+    keys: &Keys,
+    key: PrivateKey<Global>,
+    ledger: D,
+    journal: D,
+) -> Result<Client<D, D, Global>, Hindrance> {
+    let Ok(Parts { keys: own, journal }) = Parts::of_one(alloc, key, ledger, journal) else {
+        return Err(Hindrance::Refused(refusal_of(ClientError::Memory)));
+    };
+    match Client::open(alloc, user, own, keys.pinned, journal) {
+        Ok(client) => Ok(client),
+        Err((error, parts)) => {
+            let_go(parts);
+            Err(Hindrance::Refused(refusal_of(error)))
+        }
+    }
+}
+
 /// The user's client.
 fn open_client<H: Threads + Sync>(
     rt: &HostRuntime,
@@ -96,20 +130,10 @@ fn open_client<H: Threads + Sync>(
     line: &Line<'_>,
     keys: &Keys,
 ) -> Result<OwnClient, Hindrance> {
-    let alloc = rt.alloc();
     let ledger = open_device(rt, line.dir, FolderFile::Ledger)?;
     let journal = open_device(rt, line.dir, FolderFile::Journal)?;
     let key = own_key(rt, host, line.dir, keys)?;
-    let Ok(Parts { keys: own, journal }) = Parts::of_one(alloc, key, ledger, journal) else {
-        return Err(Hindrance::Refused(refusal_of(ClientError::Memory)));
-    };
-    match Client::open(alloc, line.user, own, keys.pinned, journal) {
-        Ok(client) => Ok(client),
-        Err((error, parts)) => {
-            let_go(parts);
-            Err(Hindrance::Refused(refusal_of(error)))
-        }
-    }
+    client_over(rt.alloc(), line.user, keys, key, ledger, journal)
 }
 
 /// Tells which operation was finished first, and the numbers of its changes that had no effect.
@@ -145,12 +169,19 @@ fn parted<H: Net<Stream = TcpStream>>(
     (client, kept)
 }
 
-/// Ends a session. The blocks that it has are kept in the folder; that they can't be is no fault.
-fn end<H: Net<Stream = TcpStream>>(rt: &HostRuntime, folder: &str, session: OwnSession<'_, H>) {
+/// Ends a session, and gives how many leaves its key has left, if that is told. The blocks that it has are kept in the
+/// folder; that they can't be is no fault.
+fn end<H: Net<Stream = TcpStream>>(
+    rt: &HostRuntime,
+    folder: &str,
+    session: OwnSession<'_, H>,
+) -> Option<usize> {
     let (client, kept) = parted(session);
+    let leaves = few_leaves(client.ledger().text());
     let_go(client);
     let _ = keep_blocks(rt, folder, &kept);
     let_go(kept);
+    leaves
 }
 
 /// Carries a command out, and tells which operation was finished before it.
@@ -182,8 +213,9 @@ fn carry_out<H: Net<Stream = TcpStream> + Threads + Sync>(
     let server = Server::new(host, line.server, &reach);
     let mut session = session_of(rt, server, client, read_blocks(rt, line.dir));
     let answer = answer(rt, &mut session, command);
-    end(rt, line.dir, session);
-    Ok(Outcome::Answer(answer, reach.get()))
+    let leaves = end(rt, line.dir, session);
+    let reach = reach.get();
+    Ok(Outcome::Answer(answer, Beside { reach, leaves }))
 }
 
 /// The own public key in hexadecimal digits.
@@ -240,7 +272,9 @@ fn get_file<H: Net<Stream = TcpStream> + Threads + Sync>(
 ) -> Result<Outcome, Hindrance> {
     check_target(rt, file)?;
     match obey_command(rt, host, line, &Command::Cat(path))? {
-        Outcome::Answer(answer, reach) => Ok(Outcome::Answer(into_file(rt, answer, file)?, reach)),
+        Outcome::Answer(answer, beside) => {
+            Ok(Outcome::Answer(into_file(rt, answer, file)?, beside))
+        }
         other => Ok(other),
     }
 }
@@ -264,6 +298,7 @@ fn obey<H: Net<Stream = TcpStream> + Threads + Sync>(
 ) -> Result<Outcome, Hindrance> {
     match &line.wanted {
         Wanted::Key => Ok(Outcome::Key(own_key_digits(rt, host, line)?)),
+        Wanted::Status => Ok(Outcome::Status(read_standing(rt, host, line)?)),
         Wanted::Batch { stops } => Ok(Outcome::Ended(carry_out_batch(rt, host, line, *stops)?)),
         Wanted::Run(command) => obey_command(rt, host, line, command),
         Wanted::Put { path, file } => put_file(rt, host, line, path, file),
@@ -295,6 +330,10 @@ fn print(rt: &HostRuntime, outcome: &Result<Outcome, Hindrance>) -> anyhow::Resu
             println!(rt; "{digits}")?;
             Ok(0)
         }
+        Ok(Outcome::Status(standing)) => {
+            println!(rt; "{standing}")?;
+            Ok(0)
+        }
         Ok(Outcome::Answer(answer, _)) => print_answer(rt, answer),
         Ok(Outcome::Ended(status)) => Ok(*status),
         Err(hindrance) => print_hindrance(rt, *hindrance),
@@ -308,9 +347,26 @@ fn reason_of<'a>(
     outcome: &Result<Outcome, Hindrance>,
 ) -> Option<Reason<'a>> {
     match outcome {
-        Ok(Outcome::Answer(answer, reach)) => reason_of_answer(line, wanted, *reach, answer),
-        Ok(Outcome::Key(_) | Outcome::Ended(_)) => None,
+        Ok(Outcome::Answer(answer, beside)) => {
+            reason_of_answer(line, wanted, beside.reach, answer)
+        }
+        Ok(Outcome::Key(_) | Outcome::Status(_) | Outcome::Ended(_)) => None,
         Err(hindrance) => Some(reason_of_hindrance(line, wanted, *hindrance)),
+    }
+}
+
+/// Tells how many leaves the key has left, where these are few.
+fn tell_leaves(rt: &HostRuntime, leaves: Option<usize>) {
+    if let Some(count) = leaves {
+        let _ = eprintln!(rt; "leaves {count}");
+    }
+}
+
+/// How many leaves the key has left, if that is told beside what came.
+fn leaves_beside(outcome: &Result<Outcome, Hindrance>) -> Option<usize> {
+    match outcome {
+        Ok(Outcome::Answer(_, beside)) => beside.leaves,
+        _ => None,
     }
 }
 
@@ -325,6 +381,7 @@ fn print_with_reason(
     if let Some(reason) = reason_of(line, wanted, outcome) {
         let _ = eprintln!(rt; "sundr: {reason}");
     }
+    tell_leaves(rt, leaves_beside(outcome));
     Ok(status)
 }
 

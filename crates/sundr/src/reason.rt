@@ -74,6 +74,7 @@ fn name_of<'a>(command: &Command<'a>) -> &'a str {
 fn name_in<'a>(wanted: &Wanted<'a>) -> &'a str {
     match wanted {
         Wanted::Key => "key",
+        Wanted::Status => "status",
         Wanted::Batch { .. } => "batch",
         Wanted::Put { path, .. } | Wanted::Get { path, .. } => *path,
         Wanted::Run(command) => name_of(command),

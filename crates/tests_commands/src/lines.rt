@@ -72,6 +72,7 @@ fn number_of(wanted: &Wanted<'_>) -> u8 {
             path: "/p",
             file: "f",
         } => 13,
+        Wanted::Status => 14,
         Wanted::Put { .. } | Wanted::Get { .. } => 0,
     }
 }
@@ -112,6 +113,7 @@ fn lines_of_commands(rt: HostRuntime) {
     assert!(rt; reads(&rt, alloc, "batch") == 11);
     assert!(rt; reads(&rt, alloc, "batch --stop") == 12);
     assert!(rt; reads(&rt, alloc, "get /p f") == 13);
+    assert!(rt; reads(&rt, alloc, "status") == 14);
 }
 
 /// The number of what the words of a line of a batch want; 0 where they aren't read.
@@ -151,6 +153,7 @@ fn lines_of_a_batch(rt: HostRuntime) {
         assert!(rt; reads_alone(&rt, alloc, command) == number);
     }
     assert!(rt; reads_alone(&rt, alloc, "get /p f") == 13);
+    assert!(rt; reads_alone(&rt, alloc, "status") == 14);
     for command in ["", "batch", "batch --stop", "--user 7 ls /p", "ls"] {
         assert!(rt; reads_alone(&rt, alloc, command) == 0);
     }

@@ -55,7 +55,7 @@ fn run_line<'a, T: Transport<Global>>(
             &Command::Cat(path),
             transport,
         ),
-        Wanted::Key | Wanted::Batch { .. } => rt.fail("no command over a server"),
+        Wanted::Key | Wanted::Status | Wanted::Batch { .. } => rt.fail("no command over a server"),
     }
 }
 
