@@ -280,7 +280,7 @@ fn options<'a>(alloc: Global) -> Result<Command<'a>, AllocError>
             alloc,
             "server",
             "ADDR",
-            "The server's address; else that of SUNDR_SERVER",
+            "The server's address; else that of SUNDR_SERVER, or of the file config in DIR",
         ))?
         .arg(of_user(option(
             alloc,

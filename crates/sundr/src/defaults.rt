@@ -1,5 +1,7 @@
-//! Options that stand in the environment where the words don't give them.
+//! Options that stand in the environment, or in the folder, where the words don't give them.
 
+use crate::config::{ConfigFault, server_of};
+use std::alloc::{AllocError, Global};
 use std::env::{self, VarError};
 use std::io::{self, ErrorKind};
 
@@ -10,14 +12,20 @@ struct Default {
     variable: &'static str,
 }
 
+/// The option that names the folder.
+const DIR: &str = "--dir";
+
+/// The option that names the server, which may stand in the folder, too.
+const SERVER: &str = "--server";
+
 /// The options that may stand in the environment.
 const DEFAULTS: [Default; 3] = [
     Default {
-        option: "--dir",
+        option: DIR,
         variable: "SUNDR_DIR",
     },
     Default {
-        option: "--server",
+        option: SERVER,
         variable: "SUNDR_SERVER",
     },
     Default {
@@ -45,15 +53,32 @@ fn value_of(rt: &HostRuntime, variable: &str) -> io::Result<Option<String>> {
     }
 }
 
-/// Puts an option behind the program's name, if no word gives it and the environment has its value. Both are one word,
-/// so that a value is taken for no other option, whatever it begins with.
+/// Whether an option can be put behind the program's name, since no word gives it.
+fn lacks(words: &[String], option: &str) -> bool {
+    !words.is_empty() && !words.iter().any(|word| gives(word, option))
+}
+
+/// Puts an option behind the program's name. It is one word with its value, so that this is taken for no other option,
+/// whatever it begins with.
+fn put(
+    alloc: Global,
+    words: &mut Vec<String>,
+    option: &str,
+    value: &str,
+) -> Result<(), AllocError> {
+    let word = format!(in alloc; "{option}={value}")?;
+    let place = words.len().min(1);
+    words.insert(place, word)?;
+    Ok(())
+}
+
+/// Puts an option behind the program's name, if no word gives it and the environment has its value.
 fn add(rt: &HostRuntime, words: &mut Vec<String>, default: Default) -> io::Result<()> {
-    if words.is_empty() || words.iter().any(|word| gives(word, default.option)) {
+    if !lacks(words, default.option) {
         return Ok(());
     }
     if let Some(value) = value_of(rt, default.variable)? {
-        let option = default.option;
-        words.insert(1, format!(in rt.alloc(); "{option}={value}")?)?;
+        put(rt.alloc(), words, default.option, &value)?;
     }
     Ok(())
 }
@@ -63,6 +88,42 @@ pub(crate) fn with_defaults(rt: &HostRuntime, words: Vec<String>) -> io::Result<
     let mut words = words;
     for default in DEFAULTS {
         add(rt, &mut words, default)?;
+    }
+    Ok(words)
+}
+
+/// The value that the words give an option first: behind it in one word, or the word after it.
+fn value_in<'a>(words: &'a [String], option: &str) -> Option<&'a str> {
+    for (place, word) in words.iter().enumerate() {
+        match word.strip_prefix(option) {
+            Some("") => return Some(words.get(place.saturating_add(1))?.as_str()),
+            Some(rest) if rest.starts_with('=') => return rest.strip_prefix('='),
+            _ => (),
+        }
+    }
+    None
+}
+
+/// The server's address that the folder names which the words do.
+fn server_named(rt: &HostRuntime, words: &[String]) -> Result<Option<String>, ConfigFault> {
+    match value_in(words, DIR) {
+        Some(folder) => server_of(rt, folder),
+        None => Ok(None),
+    }
+}
+
+/// Puts the server's address behind the program's name, where no word gives it and the folder has it.
+pub(crate) fn with_config(
+    rt: &HostRuntime,
+    words: Vec<String>,
+) -> Result<Vec<String>, ConfigFault> {
+    let mut words = words;
+    if !lacks(&words, SERVER) {
+        return Ok(words);
+    }
+    let server = server_named(rt, &words)?;
+    if let Some(server) = server {
+        put(rt.alloc(), &mut words, SERVER, &server)?;
     }
     Ok(words)
 }

@@ -3,6 +3,7 @@
 #![tactic(auto)]
 
 mod batch;
+mod config;
 mod defaults;
 mod folder;
 mod hindrance;
@@ -14,7 +15,7 @@ mod standing;
 use batch::carry_out_batch;
 use client_verify::{Client, ClientError, Parts};
 use commands::{Answer, Command};
-use defaults::with_defaults;
+use defaults::{with_config, with_defaults};
 use drawn_key::drawn_key;
 use file_commands::{Line, LineError, NewFolder, Request, Wanted};
 use file_session::{Resumed, Session, refusal_of};
@@ -442,6 +443,23 @@ fn given_words(rt: &HostRuntime) -> io::Result<Vec<String>> {
     with_defaults(rt, words)
 }
 
+/// Does what these words say, the program's name first.
+fn run_words<H: Net<Stream = TcpStream> + Threads + Sync>(
+    rt: &HostRuntime,
+    host: &H,
+    words: &[String],
+) -> anyhow::Result<u8> {
+    match Request::read(rt.alloc(), words) {
+        Ok(Request::Line(line)) => obey_and_print(rt, host, &line),
+        Ok(Request::Init(new)) => init_and_print(rt, host, &new),
+        Err(error) => {
+            let status = refuse(rt, &error);
+            let_go(error);
+            status
+        }
+    }
+}
+
 /// Does what the words say. Threads and connections are made by the host.
 fn run<H: Net<Stream = TcpStream> + Threads + Sync>(
     rt: &HostRuntime,
@@ -457,13 +475,11 @@ fn run<H: Net<Stream = TcpStream> + Threads + Sync>(
             return Ok(WORDS);
         }
     };
-    match Request::read(rt.alloc(), words.as_slice()) {
-        Ok(Request::Line(line)) => obey_and_print(rt, host, &line),
-        Ok(Request::Init(new)) => init_and_print(rt, host, &new),
-        Err(error) => {
-            let status = refuse(rt, &error);
-            let_go(error);
-            status
+    match with_config(rt, words) {
+        Ok(words) => run_words(rt, host, &words),
+        Err(fault) => {
+            let _ = eprintln!(rt; "{}", fault.words());
+            Ok(WORDS)
         }
     }
 }

@@ -1,0 +1,113 @@
+//! What the file `config` of a user's folder says.
+
+use file_commands::split_words;
+use layout::put_in;
+use std::alloc::{AllocError, Global};
+use std::fs::File;
+use std::io::{self, ErrorKind, Read};
+
+/// The name of the file.
+const CONFIG: &str = "config";
+
+/// How many bytes it has at most.
+const CONFIG_SIZE: usize = 4096;
+
+/// The word before the server's address.
+const SERVER: &str = "server";
+
+/// Why what the file says can't be used.
+#[derive(Clone, Copy)]
+pub(crate) enum ConfigFault {
+    /// Memory ran out.
+    Memory,
+    /// It can't be read, is too large, or isn't text.
+    Unread,
+    /// A line isn't one of the file's.
+    Line,
+}
+
+impl ConfigFault {
+    /// What a fault of the system at the file is.
+    fn of(fault: &io::Error) -> ConfigFault {
+        match fault.kind() {
+            ErrorKind::OutOfMemory => ConfigFault::Memory,
+            _ => ConfigFault::Unread,
+        }
+    }
+
+    /// What is told of it.
+    pub(crate) fn words(self) -> &'static str {
+        match self {
+            ConfigFault::Memory => "memory",
+            ConfigFault::Unread => {
+                "error: the file config in DIR can't be read as text of at most 4096 bytes"
+            }
+            ConfigFault::Line => "error: the file config in DIR has a line that isn't: server ADDR",
+        }
+    }
+}
+
+impl From<AllocError> for ConfigFault {
+    fn from(_e: AllocError) -> ConfigFault {
+        ConfigFault::Memory
+    }
+}
+
+/// The address of a line's words, of which there are two, the first of them `server`.
+fn address_of(words: Vec<String>) -> Result<Option<String>, ConfigFault> {
+    let mut words = words;
+    let is_server = words.len() == 2 && words[0].as_str() == SERVER;
+    match words.pop() {
+        Some(address) if is_server => Ok(Some(address)),
+        Some(_) => Err(ConfigFault::Line),
+        None => Ok(None),
+    }
+}
+
+/// The address that a line names; None where it has no words.
+fn address_in(alloc: Global, line: &str) -> Result<Option<String>, ConfigFault> {
+    match split_words(alloc, line) {
+        Ok(words) => address_of(words),
+        Err(_) => Err(ConfigFault::Line),
+    }
+}
+
+/// The address that the lines of a text name, the last where several do.
+fn server_in(alloc: Global, text: &str) -> Result<Option<String>, ConfigFault> {
+    let mut server = None;
+    for line in text.lines() {
+        match address_in(alloc, line) {
+            Ok(None) => (),
+            Ok(address) => put_in(&mut server, address),
+            Err(fault) => return Err(fault),
+        }
+    }
+    Ok(server)
+}
+
+/// What the file at a path holds; None where there is none.
+fn read_text(rt: &HostRuntime, path: &str) -> Result<Option<Vec<u8>>, ConfigFault> {
+    let file = match File::open(rt, path) {
+        Ok(file) => file,
+        Err(fault) if fault.kind() == ErrorKind::NotFound => return Ok(None),
+        Err(fault) => return Err(ConfigFault::of(&fault)),
+    };
+    let mut text = Vec::new(rt.alloc());
+    match file.take(CONFIG_SIZE as u64 + 1).read_to_end(&mut text) {
+        Ok(count) if count <= CONFIG_SIZE => Ok(Some(text)),
+        Ok(_) => Err(ConfigFault::Unread),
+        Err(fault) => Err(ConfigFault::of(&fault)),
+    }
+}
+
+/// The server's address that the file of a folder names, if there is one that does.
+pub(crate) fn server_of(rt: &HostRuntime, folder: &str) -> Result<Option<String>, ConfigFault> {
+    let path = format!(in rt.alloc(); "{folder}/{CONFIG}")?;
+    let Some(text) = read_text(rt, &path)? else {
+        return Ok(None);
+    };
+    match std::str::from_utf8(&text) {
+        Ok(text) => server_in(rt.alloc(), text),
+        Err(_) => Err(ConfigFault::Unread),
+    }
+}
