@@ -1,0 +1,68 @@
+//! Each growth of what these rows do is refused, one a run, until a run meets no refusal.
+
+use crate::courses::{Course, sweep};
+use crate::here::Here;
+use crate::served::{serve_blocks, serve_calls};
+use crate::stored::sweep_blocks;
+
+/// What a client keeps of blocks for later it goes without where memory runs out for it: these calls answer as always.
+const KEEPS: &[u8] = b"brnlg";
+
+/// User 0's first operation, without changes.
+static FIRST: Course = Course {
+    users: 1,
+    before: b"",
+    moves: b"b0 u0 c0",
+    seen: b"",
+};
+
+/// Users 1 and 2 are pending, each with a write on an own file. User 2 commits and user 0 reads, then user 1 commits
+/// and user 0 reads: both writes both times.
+static TWO_WRITERS: Course = Course {
+    users: 3,
+    before: b"+1 +2 b0 u0 c0 m1one b1 u1 c1 m2two b2 u2 c2",
+    moves: b"p1uno b1 p2due b2 u1 u2 c2 b0 u0 c0 l01 l02 c1 b0 u0 c0 l01 l02",
+    seen: b"unodueunodue",
+};
+
+/// A member declares that it puts a file, and is dropped before that is placed: the change is lost.
+static DROPPED_MEMBER: Course = Course {
+    users: 2,
+    before: b"",
+    moves: b"+1 j1 b0 u0 c0 mgold b1 u1 c1 pgnew b1 d1 b0 u0 c0 u1 c1 l1g",
+    seen: b"1old",
+};
+
+#[test]
+fn each_growth_refused_first_operation(rt: HostRuntime) {
+    let rt = &(rt, Here);
+    sweep(rt, &FIRST).is(rt, 110, 0, b"");
+}
+
+#[test]
+fn each_growth_refused_two_writers(rt: HostRuntime) {
+    let rt = &(rt, Here);
+    sweep(rt, &TWO_WRITERS).is(rt, 992, 65, KEEPS);
+}
+
+#[test]
+fn each_growth_refused_dropped_member(rt: HostRuntime) {
+    let rt = &(rt, Here);
+    sweep(rt, &DROPPED_MEMBER).is(rt, 725, 38, KEEPS);
+}
+
+/// Of a store's forty blocks one makes room for later ones early, and goes without where memory runs out for that.
+#[test]
+fn each_growth_refused_blocks(rt: HostRuntime) {
+    let host = &(&rt, Here);
+    sweep_blocks(&rt).is(host, 46, 1, b"p");
+}
+
+/// Whose signature a structure bears is read before the lock is taken, and under it where memory runs out for that: it
+/// is committed all the same.
+#[test]
+fn each_growth_refused_requests(rt: HostRuntime) {
+    let host = &(&rt, Here);
+    serve_blocks(&rt).is(host, 22, 0, b"");
+    serve_calls(&rt).is(host, 50, 2, b"a");
+}
