@@ -293,38 +293,60 @@ pub(crate) fn after<'h>(
     clients
 }
 
-/// Makes all moves of a course, where the growth of this number is refused. The keys are there again in the end.
+/// Makes all moves of a course, where the growth of this number is refused: what is answered. The keys are there again
+/// in the end.
 fn run<'h>(
     rt: &impl Aided,
     heap: Heap<'h>,
     keys: &mut Vec<PrivateKey<Heap<'h>>>,
     course: &Course,
     number: u64,
-) -> Town<'h> {
+) -> (Meter<'h>, Vec<u8>) {
     let mut town = beginning(rt, heap, keys);
     let mut clients = clients_of(rt, &town, keys);
     make_all(rt, &mut town, &mut clients, course.before);
     put_in(&mut town.meter, Meter::new(heap, number));
     make_all(rt, &mut town, &mut clients, course.moves);
     check_text(rt, &town.seen, course.seen);
+    take_keys(rt, clients, keys);
+    let Town { meter, said, .. } = town;
+    (meter, said)
+}
+
+/// The keys of clients, which are closed.
+fn take_keys<'h>(
+    rt: &impl Aided,
+    clients: Vec<HeapClient<'h>>,
+    keys: &mut Vec<PrivateKey<Heap<'h>>>,
+) {
     for client in clients {
         given(rt, keys.push(closed(rt, client)), "memory");
     }
-    town
 }
 
-/// Refuses each growth of a course in turn, until a run meets no refusal. What is answered is what is always answered.
-pub(crate) fn sweep(rt: &impl Aided, course: &Course) -> Swept {
-    let heap = Refusing::new(rt.alloc());
-    let mut keys = keys_of(rt, &heap, course.users);
-    let always = run(rt, &heap, &mut keys, course, 0);
+/// Refuses each growth of a course in turn over keys, until a run meets no refusal. What is answered is what is always
+/// answered.
+fn sweep_over<'h>(
+    rt: &impl Aided,
+    heap: Heap<'h>,
+    keys: &mut Vec<PrivateKey<Heap<'h>>>,
+    course: &Course,
+) -> Swept {
+    let (_meter, always) = run(rt, heap, keys, course, 0);
     let mut swept = Swept::new(rt);
     for number in 1..MOST {
-        let town = run(rt, &heap, &mut keys, course, number);
-        check_text(rt, &town.said, &always.said);
-        if swept.is_over(rt, &town.meter) {
+        let (meter, said) = run(rt, heap, keys, course, number);
+        check_text(rt, &said, &always);
+        if swept.is_over(rt, &meter) {
             return swept;
         }
     }
     rt.fail("too many growths")
+}
+
+/// Refuses each growth of a course in turn.
+pub(crate) fn sweep(rt: &impl Aided, course: &Course) -> Swept {
+    let heap = Refusing::new(rt.alloc());
+    let mut keys = keys_of(rt, &heap, course.users);
+    sweep_over(rt, &heap, &mut keys, course)
 }

@@ -1,6 +1,6 @@
 //! What takes no memory, done while all of it is refused.
 
-use crate::clients::HeapClient;
+use crate::clients::{HeapClient, committed};
 use crate::courses::{after, keys_of};
 use crate::here::Here;
 use crate::meter::Heap;
@@ -12,7 +12,6 @@ use lms_sign::{Leaf, PrivateKey, PublicKey, burn, sign, verify};
 use tests_aids::{Aided, check, found, given};
 use tests_refusing::Refusing;
 use version_order::{below, depth};
-use wire::Status;
 
 /// User 1 is listed, a member of a group, and has declared its first operation. User 0 has signed its second one.
 const BEFORE: &[u8] = b"+1 j1 b0 u0 c0 b0 u0 m1one b1";
@@ -36,22 +35,28 @@ fn shows_view(rt: &impl Aided, client: &HeapClient<'_>, pinned: PublicKey) {
     check(rt, below(plan, plan), "no component falls");
 }
 
-/// User 0's client shows what it signed and its view, keeps fewer blocks, and takes the answer to its commit.
-fn goes_on(rt: &impl Aided, client: &mut HeapClient<'_>, pinned: PublicKey) {
+/// User 0's client shows what it signed.
+fn shows_signed(rt: &impl Aided, client: &HeapClient<'_>) {
     if client.phase() != Phase::Signed {
         rt.fail("nothing is signed");
     }
     check(rt, client.signed().starts_with(b"SVS1"), "a structure");
     check(rt, client.number() == 2, "its number");
-    let rests = !client.wants() && !client.ready() && !client.looking();
-    check(rt, rests, "at rest");
+}
+
+/// And its devices.
+fn shows_devices(rt: &impl Aided, client: &HeapClient<'_>) {
     check(rt, client.ledger().text().len() == 1_080, "its ledger");
     check(rt, client.journal().text().len() > 5_000, "its journal");
-    shows_view(rt, client, pinned);
+}
+
+/// It waits for no block, keeps fewer of them, and takes the answer to its commit.
+fn goes_on(rt: &impl Aided, client: &mut HeapClient<'_>) {
+    let rests = !client.wants() && !client.ready() && !client.looking();
+    check(rt, rests, "at rest");
     client.cache(1);
     client.cache(4_096);
-    client.on_committed(Status::Ok);
-    check(rt, client.phase() == Phase::Idle, "it is committed");
+    committed(rt, client);
 }
 
 /// User 1's client shows what it declared.
@@ -103,7 +108,11 @@ fn what_takes_no_memory_is_done_without(rt: HostRuntime) {
     heap.refuse(0);
     let mut clients = after(host, &heap, &mut keys, BEFORE);
     heap.refuse_all();
-    goes_on(host, found(host, clients.first_mut(), "user 0"), pinned);
+    let client = found(host, clients.first_mut(), "user 0");
+    shows_signed(host, client);
+    shows_devices(host, client);
+    shows_view(host, client, pinned);
+    goes_on(host, client);
     shows_declared(host, found(host, clients.last(), "user 1"));
     heap.refuse(0);
 }
