@@ -67,7 +67,7 @@ pub(crate) fn read_content<A: Allocator + Copy, B: Blocks>(
     ensures missing { IfErr result
         (Lacks (B.held blocks.now) (IsOfInode (B.held blocks.now) principal i_number digest)) }
 {
-    // While blocks of a file are missing, its i-node isn't read as a whole.
+    // Where halving finds a block of a file that is missing, its i-node isn't read as a whole.
     look_for_absent(blocks, digest)?;
     let inode = read_inode(alloc, blocks, principal, i_number, digest)?;
     match inode.kind() {

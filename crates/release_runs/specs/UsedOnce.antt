@@ -17,7 +17,8 @@ abbrev pub EachRun : (Owner → List Event → Type 0) → Type 0
 EachRun holds = (o : Owner) (run : List Event) → IsRun o run → holds o run
 
 -- Each released text is signed by one of the owner's keys, by the leaf that it carries; and texts of one key that carry
--- one leaf number are one text.
+-- one leaf number are one text. Keys are told apart by their place alone: that no two are made of the same is their
+-- owner's affair.
 pub record LeavesOnce (o : Owner) (run : List Event) : Type 0 where
   pub key_of : Bytes → ℕ
   pub own : (a : Bytes) → Contains (released run) a → key_of a < length o.secrets

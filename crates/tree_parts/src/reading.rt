@@ -138,7 +138,7 @@ pub fn look_for_absent<B: Blocks>(blocks: &B, digest: Digest) -> Result<(), Appl
 }
 
 /// The bytes of the file that the i-node of this digest is of. The errors are Missing of the first block that isn't
-/// held, and Memory.
+/// held, or hasn't its size, and Memory.
 pub fn read_file<A: Allocator + Copy, B: Blocks>(
     alloc: A,
     blocks: &B,
