@@ -58,7 +58,7 @@ fn address_of(words: Vec<String>) -> Result<Option<String>, ConfigFault> {
     let mut words = words;
     let is_server = words.len() == 2 && words[0].as_str() == SERVER;
     match words.pop() {
-        Some(address) if is_server => Ok(Some(address)),
+        Some(address) if is_server && !address.is_empty() => Ok(Some(address)),
         Some(_) => Err(ConfigFault::Line),
         None => Ok(None),
     }

@@ -113,17 +113,13 @@ fn server_named(rt: &HostRuntime, words: &[String]) -> Result<Option<String>, Co
 }
 
 /// Puts the server's address behind the program's name, where no word gives it and the folder has it.
-pub(crate) fn with_config(
-    rt: &HostRuntime,
-    words: Vec<String>,
-) -> Result<Vec<String>, ConfigFault> {
-    let mut words = words;
-    if !lacks(&words, SERVER) {
-        return Ok(words);
+pub(crate) fn add_config(rt: &HostRuntime, words: &mut Vec<String>) -> Result<(), ConfigFault> {
+    if !lacks(words, SERVER) {
+        return Ok(());
     }
-    let server = server_named(rt, &words)?;
+    let server = server_named(rt, words)?;
     if let Some(server) = server {
-        put(rt.alloc(), &mut words, SERVER, &server)?;
+        put(rt.alloc(), words, SERVER, &server)?;
     }
-    Ok(words)
+    Ok(())
 }

@@ -453,10 +453,11 @@ fn open_present(
 
 /// Refuses a folder as `check_place` does, and writes nothing.
 pub(crate) fn look_at_place(rt: &HostRuntime, folder: &str, moved: bool) -> Result<(), Hindrance> {
-    let Some(ledger) = open_present(rt, folder, FolderFile::Ledger)? else {
-        return Ok(());
+    // Without its ledger a folder isn't at the place that it tells of.
+    let own = match open_present(rt, folder, FolderFile::Ledger)? {
+        Some(ledger) => own_place(rt, folder, &ledger)?,
+        None => String::new(rt.alloc()),
     };
-    let own = own_place(rt, folder, &ledger)?;
     match is_in_place(rt, folder, &own)? {
         Some(false) if !moved => Err(elsewhere()),
         _ => Ok(()),

@@ -15,7 +15,8 @@ mod standing;
 use batch::carry_out_batch;
 use client_verify::{Client, ClientError, Parts};
 use commands::{Answer, Command};
-use defaults::{with_config, with_defaults};
+use config::ConfigFault;
+use defaults::{add_config, with_defaults};
 use drawn_key::drawn_key;
 use file_commands::{Line, LineError, NewFolder, Request, Wanted};
 use file_session::{Resumed, Session, refusal_of};
@@ -443,17 +444,34 @@ fn given_words(rt: &HostRuntime) -> io::Result<Vec<String>> {
     with_defaults(rt, words)
 }
 
-/// Does what these words say, the program's name first.
+/// Tells what words that were refused lack, and after it why the folder's file couldn't help: the status to end with.
+fn refuse_words(
+    rt: &HostRuntime,
+    error: &LineError,
+    config: Option<ConfigFault>,
+) -> anyhow::Result<u8> {
+    let status = refuse(rt, error)?;
+    match config {
+        Some(fault) if status != 0 => {
+            let _ = eprintln!(rt; "{}", fault.words());
+        }
+        _ => (),
+    }
+    Ok(status)
+}
+
+/// Does what these words say, the program's name first, to which the folder's file couldn't add, where it has a fault.
 fn run_words<H: Net<Stream = TcpStream> + Threads + Sync>(
     rt: &HostRuntime,
     host: &H,
     words: &[String],
+    config: Option<ConfigFault>,
 ) -> anyhow::Result<u8> {
     match Request::read(rt.alloc(), words) {
         Ok(Request::Line(line)) => obey_and_print(rt, host, &line),
         Ok(Request::Init(new)) => init_and_print(rt, host, &new),
         Err(error) => {
-            let status = refuse(rt, &error);
+            let status = refuse_words(rt, &error, config);
             let_go(error);
             status
         }
@@ -465,7 +483,7 @@ fn run<H: Net<Stream = TcpStream> + Threads + Sync>(
     rt: &HostRuntime,
     host: &H,
 ) -> anyhow::Result<u8> {
-    let words = match given_words(rt) {
+    let mut words = match given_words(rt) {
         Ok(words) => words,
         Err(fault) if fault.kind() == ErrorKind::OutOfMemory => {
             return refuse(rt, &LineError::Memory);
@@ -475,13 +493,8 @@ fn run<H: Net<Stream = TcpStream> + Threads + Sync>(
             return Ok(WORDS);
         }
     };
-    match with_config(rt, words) {
-        Ok(words) => run_words(rt, host, &words),
-        Err(fault) => {
-            let _ = eprintln!(rt; "{}", fault.words());
-            Ok(WORDS)
-        }
-    }
+    let config = add_config(rt, &mut words).err();
+    run_words(rt, host, &words, config)
 }
 
 /// Tells that what came can't be printed: the status to end with.

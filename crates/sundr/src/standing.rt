@@ -109,8 +109,8 @@ fn read_client<H: Threads + Sync>(
     client_over(rt.alloc(), line.user, keys, key, ledger, journal)
 }
 
-/// How far the user of a folder is. A folder that a command would refuse is refused. Nothing is written to it, it isn't
-/// locked, and no leaf is used.
+/// How far the user of a folder is. A folder that a command would refuse is refused, but for one that is in use. Nothing
+/// is written to it, it isn't locked, and no leaf is used.
 pub(crate) fn read_standing<H: Threads + Sync>(
     rt: &HostRuntime,
     host: &H,
