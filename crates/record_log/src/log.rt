@@ -120,7 +120,7 @@ impl<S: Storage> RecordLog<S> {
             → TellsWithOrWithout rs added.now self.new.file.now.text }
         // A step of the file's life, of which `records_stay` speaks.
         ensures step { S.tells ≡ true → Call (addition_of added.now result) self.old.file self.new.file }
-        // No records are added at once, and nothing is done.
+        // Of no records nothing changes.
         ensures none { added.now ≡ [] → (self.new ≡ self.old) × (IsErr result → ⊥) }
         ensures usable { OnOk result (self.new.usable ≡ true) }
         ensures memory { IsErrOf result LogError.Memory → self.new ≡ self.old }
