@@ -19,7 +19,13 @@ pub(crate) fn device_of(rt: &impl Host, text: &[u8]) -> MemoryDevice<Global> {
 }
 
 /// Leaves an extent that was written since the last sync in one of six ways: old, new, or filled with a byte.
-fn leave(rt: &impl Host, left: &mut Vec<u8>, extent: &Extent, written: &[u8], way: usize) {
+pub(crate) fn leave(
+    rt: &impl Host,
+    left: &mut Vec<u8>,
+    extent: &Extent,
+    written: &[u8],
+    way: usize,
+) {
     let end = extent.at.saturating_add(extent.size);
     if way != 0 && left.len() < end {
         left.resize(end, 0).expect(rt, "memory");

@@ -11,6 +11,8 @@ mod journals;
 #[cfg(test)]
 mod ledgers;
 #[cfg(test)]
+mod record_logs;
+#[cfg(test)]
 mod releases;
 #[cfg(test)]
 mod signed_again;
