@@ -1,0 +1,7 @@
+//! What the log of a server's one order tells: what the order kept, so that one who carries the calls of the log out
+//! again, the first of them first, goes on where the order was.
+#![tactic(auto)]
+
+mod laws;
+
+pub use laws::log_replays;
