@@ -2,6 +2,11 @@
 //! again, the first of them first, goes on where the order was.
 #![tactic(auto)]
 
+mod error;
 mod laws;
+mod replay;
+mod told;
 
+pub use error::ReplayError;
 pub use laws::log_replays;
+pub use replay::replay_call;
