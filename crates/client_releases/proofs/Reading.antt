@@ -1,6 +1,9 @@
 -- What a text of a journal is read as.
-use Rattle.std.proofs.Common.{◌≡◌, ℕ, List, Some, None, Ok, Err, ◌==◌, true, false, refl, arith}
+use Rattle.std.proofs.Common.{◌≡◌, ℕ, Bool, List, Some, None, Result, Ok, Err, ◌==◌, true, false, if◌then◌else◌, refl, sym, ◌∙◌, ap, arith}
+use Rattle.std.proofs.lemmas.Bool.{eqb-true}
 use Rattle.std.proofs.lemmas.Bool.Decides.{nat_tests}
+use Rattle.std.specs.Option.{option_and_then}
+use Rattle.std.specs.Result.{result_ok}
 use Rattle.layout.specs.Format.{Format, whole}
 use Rattle.layout.specs.declared.error.ReadError.{ReadError}
 use Rattle.client_releases.specs.Told.{own_in}
@@ -29,3 +32,17 @@ module _ {V : Type 0} (f : Format V) (user_of : V → ℕ) (user : ℕ) (text : 
   -- nothing
   pub own_fault : (e : ReadError) → whole f text ≡ Err e → own_in f user_of user text ≡ None
   own_fault e read = rw read refl
+
+  -- what is something of this user is read so
+  pub own_read : (v : V) → own_in f user_of user text ≡ Some v → (whole f text ≡ Ok v) × (user_of v ≡ user)
+  own_read v is = go (whole f text) refl is
+    where
+      tested : (b : Bool) (x : V) → (user_of x == user) ≡ b → (if b then Some x else None) ≡ Some v → (x ≡ v) × (user_of x ≡ user)
+      tested true x own found = (cc, eqb-true (user_of x) user own)
+      tested false x own found = absurd (cc found)
+
+      go : (w : Result V ReadError) → whole f text ≡ w → option_and_then (λ x. if user_of x == user then Some x else None) (result_ok w) ≡ Some v → (whole f text ≡ Ok v) × (user_of v ≡ user)
+      go (Err e) read found = absurd (cc found)
+      go (Ok x) read found =
+          let own = tested (user_of x == user) x refl found in
+          (read ∙ ap (λ (y : V). Ok y) own.0, sym (ap user_of own.0) ∙ own.1)

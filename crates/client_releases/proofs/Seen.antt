@@ -14,6 +14,9 @@ use Rattle.client_releases.specs.declared.phase.Phase.TheVariants as phase
 abbrev pub declared_with : Released → OwnDevices → ℕ → List ℕ → Released
 declared_with r new n text = record { user = r.user; secrets = r.secrets; devices = new; number = n; last = r.last; phase = phase.Declared; text = text }
 
+abbrev pub again_with : Released → OwnDevices → List ℕ → Released
+again_with r new text = record { user = r.user; secrets = r.secrets; devices = new; number = r.number; last = r.last; phase = r.phase; text = text }
+
 abbrev pub signed_with : Released → OwnDevices → Signed Structure → List ℕ → Released
 signed_with r new z text = record { user = r.user; secrets = r.secrets; devices = new; number = r.number; last = Some z; phase = phase.Signed; text = text }
 
@@ -49,6 +52,10 @@ module _ (r old : Released) (is : r ≡ old) (n : ℕ) (unsigned : List ℕ) (ne
       kept_of kind.Certificate kept,
       ap (λ (o : Released). declared_with o new a text) is ∙ ap (λ (t : List ℕ). declared_with old new a t) text_is ∙ ap (λ (k : ℕ). declared_with old new k (sent old n leaf unsigned)) number,
     )
+
+    pub again_of : IsKept leaf (record { kind = kind.Certificate; text = text }) (under n r.devices) (under n new)
+        → (k : LeafNumber) × IsKept k (cert_record (sent old n k unsigned)) (under n old.devices) (under n new) × (again_with r new text ≡ again_with old new (sent old n k unsigned))
+    again_of kept = (leaf, kept_of kind.Certificate kept, ap (λ (o : Released). again_with o new text) is ∙ ap (λ (t : List ℕ). again_with old new t) text_is)
 
     signed_is : (z : Structure) → unsigned ≡ structure.spell z → with_signature z signature ≡ signed_by (secret_at n old) leaf z
     signed_is z spelled =

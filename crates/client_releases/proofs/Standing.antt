@@ -95,10 +95,10 @@ module _ (r : Released) (is : IsReleased r) (n : ℕ) (has : HasKey n r) (new : 
           own_file = subst (λ (k : List ℕ). IsFileOf k (ledger_at n new).file.now.text) (sym same_key) own;
         }
 
-  -- after a certificate
-  pub after_declare : IsKept leaf (cert_record text) (under n r.devices) (under n new) → r.phase ≡ phase.Idle → (c : Signed Cert) → cert_in r.user text ≡ Some c → m ≡ c.value.number
+  -- after a certificate, which is in turn
+  pub after_certificate : (s : Stands r) → IsKept leaf (cert_record text) (under n r.devices) (under n new) → IsSome (next_state s.recorded kind.Certificate text) → (c : Signed Cert) → cert_in r.user text ≡ Some c → m ≡ c.value.number
       → IsReleased (record { user = r.user; secrets = r.secrets; devices = new; number = m; last = r.last; phase = phase.Declared; text = text })
-  after_declare kept idle c read number = record {
+  after_certificate s kept may c read number = record {
     some = is.some;
     as_many = as_many_ledgers r.devices new n others ∙ is.as_many;
     own_keys = keys_now;
@@ -115,11 +115,8 @@ module _ (r : Released) (is : IsReleased r) (n : ℕ) (has : HasKey n r) (new : 
     };
   }
     where
-      s : Stands r
-      s = stands_idle r is idle
-
       next : (x : Recorded) × (next_state s.recorded kind.Certificate text ≡ Some x)
-      next = next_of (next_state s.recorded kind.Certificate text) (cert_may r s idle text)
+      next = next_of (next_state s.recorded kind.Certificate text) may
 
   -- after a structure
   pub after_sign : IsKept leaf (structure_record text) (under n r.devices) (under n new) → r.phase ≡ phase.Declared → (z : Signed Structure) → structure_in r.user text ≡ Some z → m ≡ z.value.plan.number

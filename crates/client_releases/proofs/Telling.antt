@@ -48,7 +48,7 @@ after_both_phase : (user : ℕ) (o : Option (Signed Structure)) (text : List ℕ
 after_both_phase user None text t e = absurd (cc e)
 after_both_phase user (Some z) text t e = after_cert_phase (Some z) text (cert_in user text) t e
 
-after_structure_phase : (text : List ℕ) (o : Option (Signed Structure)) (t : Told) → option_map (after_structure text) o ≡ Some t → t.phase ≡ phase.Signed
+pub after_structure_phase : (text : List ℕ) (o : Option (Signed Structure)) (t : Told) → option_map (after_structure text) o ≡ Some t → t.phase ≡ phase.Signed
 after_structure_phase text None t e = absurd (cc e)
 after_structure_phase text (Some z) t e = let same : after_structure text z ≡ t = cc in sym (ap (λ (x : Told). x.phase) same)
 
@@ -62,7 +62,7 @@ idle_may user (Declared None before) t e is text = absurd (not_idle t.phase (aft
 idle_may user (Declared (Some last) before) t e is text = absurd (not_idle t.phase (after_both_phase user (structure_in user last) before t e) is)
 idle_may user (Ended before) t e is text = refl
 
-not_declared : (p q : Phase) → p ≡ q → (phase.Declared ≡ q → ⊥) → IsPhase p phase.Declared → ⊥
+pub not_declared : (p q : Phase) → p ≡ q → (phase.Declared ≡ q → ⊥) → IsPhase p phase.Declared → ⊥
 not_declared p q told other (inl same) = other (same ∙ told)
 not_declared p q told other (inr both) = let two : phase.Declared ≡ phase.Idle = both.1 in cc two
 

@@ -2,7 +2,8 @@
 //! before it is handed out, and after a restart the journal tells what was released last.
 //!
 //! A `Releases` stands on a ledger of the own key's leaves and a journal of the signed texts, each on a device of its
-//! own. It signs certificates and structures in turn, and keeps in memory what the records of the journal tell.
+//! own. It signs certificates and structures in turn, a certificate once more where that is asked for, and keeps in
+//! memory what the records of the journal tell.
 #![tactic(auto)]
 
 mod error;

@@ -6,7 +6,7 @@ ghost use Rattle.std.specs.Option.{option_copied};
 ghost use Rattle.lms_sign.specs.Keys.{public_key_of};
 ghost use Rattle.leaf_ledger.specs.Device.{HasRisen};
 ghost use Rattle.leaf_ledger.specs.Ledger.{IsLeastFree, LeafNumber};
-ghost use Rattle.client_journal.specs.Records.{IsDamaged, State as Recorded, TellsState};
+ghost use Rattle.client_journal.specs.Records.{IsDamaged, State as Recorded, TellsState, unsigned as unsigned_part};
 ghost use Rattle.version_order.specs.Structure.{structure as structure_format};
 ghost use Rattle.update_cert.specs.Cert.{Cert as PureCert, cert};
 ghost use Rattle.client_releases.specs.OwnKeys.{AreLater, AreOpened, OneIsForeign, OneOfHasRisen, key_files};
@@ -23,7 +23,7 @@ use crate::releasing::keep_under;
 use crate::signing::{Sealed, Unsigned};
 use crate::told::{Told, told_by};
 use client_journal::{Journal, Kind};
-use layout::{User, Version, let_go, put_in};
+use layout::{User, Version, are_bytes, let_go, put_in};
 use leaf_ledger::Device;
 use lms_sign::PublicKey;
 use pending_list::{Signature, Signed};
@@ -311,6 +311,50 @@ impl<L: Device, J: Device, A: Allocator> Releases<L, J, A> {
                 self.number = number.get();
                 self.phase = Phase::Declared;
                 self.text = kept;
+                Ok(sent)
+            }
+            Err(error) => {
+                self.phase = Phase::Failed;
+                Err(error)
+            }
+        }
+    }
+
+    /// Signs the certificate that is declared once more, by this key: it is journaled, and then handed out in place of
+    /// the text before. It takes no memory, and fails by the devices alone.
+    pub fn resign(&mut self, key: usize, unsigned: Unsigned<A>) -> Result<Vec<u8, A>, ClientError>
+        requires declared { self.old.phase ≡ Phase.Declared }
+        requires key { HasKey key self.old }
+        requires free { IsKeyUsedUp key self.old → ⊥ }
+        requires same { unsigned ≡ unsigned_part self.old.text }
+        ensures resigned { OnOk result ((leaf : LeafNumber)
+            × IsKept leaf (cert_record (sent self.old key leaf unsigned)) (under key self.old.devices)
+            (under key self.new.devices)
+            × (self.new ≡ record self.old {
+              devices = self.new.devices;
+              text = sent self.old key leaf unsigned;
+            })) }
+        ensures text { IfOk result (λ text. text.items ≡ self.new.text) }
+        ensures others { OthersStay key self.old.devices self.new.devices }
+        ensures any_moment { (leaf : LeafNumber) → IsLeastFree (ledger_at key self.old.devices).file.now.text leaf
+            → AnyMoment leaf (cert_record (sent self.old key leaf unsigned)) (under key self.old.devices)
+            (under key self.new.devices) }
+        ensures tried { OnErr result (IsTried (λ leaf. cert_record (sent self.old key leaf unsigned))
+            (under key self.old.devices) (under key self.new.devices)) }
+        ensures device { IfErr result (λ e. (e ≡ ClientError.Device)
+            × OneHasRisen (under key self.old.devices) (under key self.new.devices)) }
+        ensures err { OnErr result (self.new ≡ record self.old { devices = self.new.devices; phase = Phase.Failed }) }
+    {
+        are_bytes(&self.text);
+        let journal = &mut self.journal;
+        match keep_under(&mut self.keys, key, journal, Kind::Certificate, unsigned) {
+            Ok(sealed) => {
+                let Sealed {
+                    kept: text,
+                    sent,
+                    signature: _,
+                } = sealed;
+                self.text = text;
                 Ok(sent)
             }
             Err(error) => {

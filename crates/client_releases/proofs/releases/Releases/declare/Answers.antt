@@ -4,7 +4,7 @@ use Rattle.update_cert.specs.CertLaws.{at_most_cert}
 use Rattle.client_releases.specs.Releasing.{OwnDevices, own_devices}
 use Rattle.client_releases.specs.Told.{HasKey, IsKeyUsedUp, Released}
 use Rattle.client_releases.proofs.Seen.{declared_of, failed_of, moments_of, risen_of, tried_of}
-use Rattle.client_releases.proofs.Standing.{after_declare, after_fault, cert_turn, stands_idle}
+use Rattle.client_releases.proofs.Standing.{after_certificate, after_fault, cert_may, cert_turn, stands_idle}
 use Rattle.client_releases.proofs.Telling.{cert_there}
 use Rattle.client_releases.proofs.releases.Releases.declare.Goals as goal
 
@@ -71,13 +71,14 @@ pub invariant_of-self : goal.invariant_of-self
 invariant_of-self g c =
     let new : OwnDevices = own_devices c.keep_under.new.keys.items c.keep_under.new.journal in
     let now = ap (λ (r : Released). r.phase) c.self.view_is ∙ c.requires.idle in
+    let s = stands_idle _ c.self.invariant.2 now in
     let has = subst (λ (r : Released). HasKey c.args.key r) (sym c.self.view_is) c.requires.key in
     let k = c.in-Ok.ensures.kept in
     let own = c.requires.own in
     let u = c.in-Ok.ensures.usable in
     let e = c.keep_under.ensures in
     let made =
-    after_declare _ c.self.invariant.2 c.args.key has new e.others u.0 u.1 e.same_key e.own_file e.none_outstanding k.0 _ _ k.3 now (record { value = own.0; signature = c.in-Ok.sealed.signature })
+    after_certificate _ c.self.invariant.2 c.args.key has new e.others u.0 u.1 e.same_key e.own_file e.none_outstanding k.0 _ _ s k.3 (cert_may _ s now _) (record { value = own.0; signature = c.in-Ok.sealed.signature })
     (cert_there _ own.0 _ c.args.unsigned _ own.2 c.in-Ok.ensures.fits own.1 k.2 (own.3 ∙ sym (ap (λ (r : Released). r.user) c.self.view_is))) (c.get-self-inside.ensures.same ∙ sym own.4) in
     (c.self.invariant.0, omega (arith, e.as_many, c.self.invariant.1), rw e.secrets made)
 
