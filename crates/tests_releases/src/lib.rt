@@ -15,4 +15,6 @@ mod record_logs;
 #[cfg(test)]
 mod releases;
 #[cfg(test)]
+mod resigns;
+#[cfg(test)]
 mod signed_again;
