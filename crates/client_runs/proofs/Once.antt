@@ -1,14 +1,11 @@
 -- What a user's client releases it releases once.
-use Rattle.std.proofs.Common.{◌≡◌, List, Some, sym, ap, subst, ◌∙◌, arith}
+use Rattle.std.proofs.Common.{◌≡◌, List, sym, subst, arith}
 use Rattle.std.specs.List.{Contains}
-use Rattle.layout.specs.Types.{Bytes, User}
-use Rattle.update_cert.specs.Cert.{Cert}
-use Rattle.pending_list.specs.declared.signed.Signed.{Signed}
-use Rattle.client_releases.specs.Told.{cert_in}
+use Rattle.layout.specs.Types.{Bytes}
 use Rattle.release_runs.specs.Released as low_released
 use Rattle.release_runs.proofs.Runs.{certificates_once as low_certificates, leaves_once as low_leaves, structures_once as low_structures}
 use Rattle.client_runs.specs.Released.{released}
-use Rattle.client_runs.specs.Runs.{Event, IsRun, Keys, owner}
+use Rattle.client_runs.specs.Runs.{owner}
 use Rattle.client_runs.specs.UsedOnce.{CertificatesOnce, EachClient, LeavesOnce, StructuresOnce}
 use Rattle.client_runs.proofs.Lowering.{low_owner}
 use Rattle.client_runs.proofs.Mirrors.{mirrors}
@@ -31,15 +28,6 @@ certificates_once keys run u is a b c d has_a has_b in_a in_b same =
     let m = mirrors keys u run is in
     low_certificates (low_owner (owner keys u)) m.run m.is_run m.in_turn a b c d (in_mirror (low_released.released m.run) (released u run) a m.texts_are has_a)
     (in_mirror (low_released.released m.run) (released u run) b m.texts_are has_b) in_a in_b same
-
--- so what they certify is one
-pub one_certificate : (keys : Keys) (run : List Event) (u : User) → IsRun keys run → (a b : Bytes) (c d : Signed Cert) → Contains (released u run) a → Contains (released u run) b
-    → cert_in u a ≡ Some c → cert_in u b ≡ Some d → c.value.number ≡ d.value.number → c.value ≡ d.value
-one_certificate keys run u is a b c d has_a has_b in_a in_b same =
-    let texts = certificates_once keys run u is a b c d has_a has_b in_a in_b same in
-    let both : Some c ≡ Some d = sym in_a ∙ ap (cert_in u) texts ∙ in_b in
-    let one : c ≡ d = cc both in
-    ap (λ (y : Signed Cert). y.value) one
 
 pub structures_once : EachClient StructuresOnce
 structures_once keys run u is a b y z has_a has_b in_a in_b same =

@@ -19,13 +19,13 @@ abbrev pub LeavesOnce : User → List Event → Type 0
 LeavesOnce u run = (a b : Bytes) → Contains (released u run) a → Contains (released u run) b → leaf_in a ≡ leaf_in b
     → a ≡ b
 
--- certificates of one number are one text
+-- certificates of one number are one: they differ at most by their signatures
 abbrev pub CertificatesOnce : User → List Event → Type 0
 CertificatesOnce u run =
     (a b : Bytes) (c d : Signed Cert) → Contains (released u run) a → Contains (released u run) b
-    → cert_in u a ≡ Some c → cert_in u b ≡ Some d → c.value.number ≡ d.value.number → a ≡ b
+    → cert_in u a ≡ Some c → cert_in u b ≡ Some d → c.value.number ≡ d.value.number → c.value ≡ d.value
 
--- and so are structures of one number
+-- and structures of one number are one text
 abbrev pub StructuresOnce : User → List Event → Type 0
 StructuresOnce u run =
     (a b : Bytes) (y z : Signed Structure) → Contains (released u run) a → Contains (released u run) b

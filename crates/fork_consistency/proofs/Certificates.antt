@@ -28,7 +28,7 @@ use Rattle.client_runs.specs.Runs.{Event, IsRun, Keys, owner}
 use Rattle.fork_consistency.proofs.Genuine.{message_of}
 use Rattle.client_runs.proofs.Lowering.{low_owner}
 use Rattle.fork_consistency.proofs.Moves.{holds_at}
-use Rattle.client_runs.proofs.Once.{one_certificate}
+use Rattle.client_runs.proofs.Once.{certificates_once}
 use Rattle.fork_consistency.proofs.Lists.{filter_map-in, filter_map-last, found_in, found_some, in-filter_map, next_number}
 use Rattle.fork_consistency.specs.ByCertificates.{HasAllUpTo, certificate, certificates, certificates_up_to, tables_after}
 
@@ -95,7 +95,7 @@ module _ (keys : Keys) (run : List Event) (is : IsRun keys run) (u : User) where
           go b j (Some s) at e =
               let value : s.value ≡ d = cc e in
               let one : t.one.value ≡ s.value =
-              one_certificate keys run u is t.text b t.one s (in_contains t.text (released u run) t.there) (in_contains b (released u run) j) t.read at (ap (λ (y : Cert). y.number) (t.value) ∙ sym number ∙ sym (ap (λ (y : Cert). y.number) value)) in
+              certificates_once keys run u is t.text b t.one s (in_contains t.text (released u run) t.there) (in_contains b (released u run) j) t.read at (ap (λ (y : Cert). y.number) (t.value) ∙ sym number ∙ sym (ap (λ (y : Cert). y.number) value)) in
               sym value ∙ sym one ∙ t.value
 
   -- what is known of the certificate of a number

@@ -14,7 +14,8 @@ use Rattle.client_journal.specs.Records.{unsigned}
 use Rattle.release_runs.specs.Steps as low
 use Rattle.release_runs.proofs.Once.{came}
 use Rattle.release_runs.proofs.Stories.{IsStory, OfCert, OfStructure, Release, cert_of, message, text as release_text}
-use Rattle.release_runs.proofs.Texts.{no_cert, unsigned_of}
+use Rattle.client_releases.proofs.Again.{unsigned_of}
+use Rattle.release_runs.proofs.Texts.{no_cert}
 use Rattle.client_runs.specs.Runs.{Event, IsRun, Keys, owner, public_key}
 use Rattle.client_runs.specs.Released.{Shown, released, released_by, shown_by}
 use Rattle.client_runs.proofs.Replies.{shown}

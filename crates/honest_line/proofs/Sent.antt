@@ -16,7 +16,7 @@ use Rattle.release_runs.specs.Runs as low_run
 use Rattle.release_runs.specs.Steps as low
 use Rattle.release_runs.proofs.Runs.{HoldsSome, holds}
 use Rattle.release_runs.proofs.Stories.{IsStory, OfCert, OfStructure, Release, phase_in, text as release_text, text_in}
-use Rattle.release_runs.proofs.Texts.{unsigned_of}
+use Rattle.client_releases.proofs.Again.{unsigned_of}
 use Rattle.client_steps.specs.Steps.{Client, Closed, Open}
 use Rattle.client_runs.specs.Clients.{certificate_in, certificate_of, structure_in, structure_of}
 use Rattle.client_runs.specs.Released.{released}

@@ -1,5 +1,5 @@
--- The releases of a story: each has a leaf of its own of its key, and each certificate and each structure a number of its
--- own.
+-- The releases of a story: each has a leaf of its own of its key, of each number there is one certificate, which may be
+-- signed several times, and one structure.
 use Rattle.std.proofs.Common.{◌≡◌, ◌<◌, ℕ, Bool, true, false, List, [], ◌∷◌, ◌++◌, map, Some, None, length, refl, sym, ap, ◌∙◌, subst, inl, inr, arith, if◌then◌else◌}
 use Rattle.std.specs.Str.{bytes_eq}
 use Rattle.std.proofs.lemmas.Slice.Eq.{bytes_eq-Decides}
@@ -11,11 +11,12 @@ use Rattle.update_cert.specs.Cert.{Cert, cert}
 use Rattle.pending_list.specs.declared.signed.Signed.{Signed}
 use Rattle.client_journal.specs.Records.{unsigned}
 use Rattle.client_releases.specs.Told.{cert_in, structure_in}
+use Rattle.client_releases.proofs.Again.{unsigned_of}
 use Rattle.release_runs.specs.Steps.{Owner, secret_of}
 use Rattle.release_runs.specs.Released.{leaf_in, signature_in}
 use Rattle.release_runs.proofs.Members.{In, map-in}
 use Rattle.release_runs.proofs.Stories.{IsNext, IsNumbered, IsStory, OfCert, OfStructure, Release, cert_of, key, leaf, mark, number_within, size_of, structure_below, structure_of, text}
-use Rattle.release_runs.proofs.Texts.{leaf_in_sent, no_cert, no_structure, signature_at, unsigned_of}
+use Rattle.release_runs.proofs.Texts.{leaf_in_sent, no_cert, no_structure, signature_at}
 
 module _ (o : Owner) where
   -- what a release of the story met when it came
@@ -86,27 +87,33 @@ module _ (o : Owner) where
 
   -- ---- certificates
 
-  pub one_cert : (story : List Release) → IsNumbered story → (r s : Release) (c d : Cert) (k l : ℕ) (p q : LeafNumber) → r ≡ OfCert k c p → s ≡ OfCert l d q → In r story → In s story → c.number ≡ d.number → r ≡ s
-  one_cert [] is r s c d k l p q r_is s_is i j e = absurd i
-  one_cert (x ∷ older) is r s c d k l p q r_is s_is (inl i) (inl j) e = i ∙ sym j
-  one_cert (OfCert m b n ∷ older) is r s c d k l p q r_is s_is (inl i) (inr j) e =
-      let two : OfCert k c p ≡ OfCert m b n = sym r_is ∙ i in
+  -- the one that came last is those of its number
+  last_cert : (m : ℕ) (b : Cert) (n : LeafNumber) (older : List Release) → IsStory o (OfCert m b n ∷ older) → IsNumbered (OfCert m b n ∷ older) → (l : ℕ) (d : Cert) (q : LeafNumber) → In (OfCert l d q) older → b.number ≡ d.number → b ≡ d
+  last_cert m b n [] is each l d q i e = absurd i
+  last_cert m b n (OfCert j c p ∷ older) is each l d q (inl i) e = let same : d ≡ c = cc in is.0.next.turn ∙ sym same
+  last_cert m b n (OfCert j c p ∷ older) is each l d q (inr i) e =
+      is.0.next.turn ∙ last_cert j c p older is.1 each.1 l d q i (sym each.0 ∙ e)
+  last_cert m b n (OfStructure j z p ∷ older) is each l d q i e =
+      let below = number_within (OfStructure j z p ∷ older) each.1 l d q i in
+      let next = each.0 in
+      absurd (omega arith)
+
+  pub one_cert : (story : List Release) → IsStory o story → IsNumbered story → (k l : ℕ) (c d : Cert) (p q : LeafNumber) → In (OfCert k c p) story → In (OfCert l d q) story → c.number ≡ d.number → c ≡ d
+  one_cert [] is each k l c d p q i j e = absurd i
+  one_cert (OfCert m b n ∷ older) is each k l c d p q (inl i) (inl j) e =
+      let first : c ≡ b = cc in
+      let second : d ≡ b = cc in
+      first ∙ sym second
+  one_cert (OfCert m b n ∷ older) is each k l c d p q (inl i) (inr j) e =
       let same : c ≡ b = cc in
-      let number = ap (λ (y : Cert). y.number) same in
-      let below = number_within older is.1 l d q (subst (λ (y : Release). In y older) s_is j) in
-      let next = is.0 in
-      absurd (omega arith)
-  one_cert (OfCert m b n ∷ older) is r s c d k l p q r_is s_is (inr i) (inl j) e =
-      let two : OfCert l d q ≡ OfCert m b n = sym s_is ∙ j in
+      same ∙ last_cert m b n older is each l d q j (sym (ap (λ (y : Cert). y.number) same) ∙ e)
+  one_cert (OfCert m b n ∷ older) is each k l c d p q (inr i) (inl j) e =
       let same : d ≡ b = cc in
-      let number = ap (λ (y : Cert). y.number) same in
-      let below = number_within older is.1 k c p (subst (λ (y : Release). In y older) r_is i) in
-      let next = is.0 in
-      absurd (omega arith)
-  one_cert (OfStructure m z n ∷ older) is r s c d k l p q r_is s_is (inl i) (inr j) e = absurd (let two : OfCert k c p ≡ OfStructure m z n = sym r_is ∙ i in cc two)
-  one_cert (OfStructure m z n ∷ older) is r s c d k l p q r_is s_is (inr i) (inl j) e = absurd (let two : OfCert l d q ≡ OfStructure m z n = sym s_is ∙ j in cc two)
-  one_cert (OfCert m b n ∷ older) is r s c d k l p q r_is s_is (inr i) (inr j) e = one_cert older is.1 r s c d k l p q r_is s_is i j e
-  one_cert (OfStructure m z n ∷ older) is r s c d k l p q r_is s_is (inr i) (inr j) e = one_cert older is r s c d k l p q r_is s_is i j e
+      sym (same ∙ last_cert m b n older is each k c p i (sym (e ∙ ap (λ (y : Cert). y.number) same)))
+  one_cert (OfCert m b n ∷ older) is each k l c d p q (inr i) (inr j) e = one_cert older is.1 each.1 k l c d p q i j e
+  one_cert (OfStructure m z n ∷ older) is each k l c d p q (inl i) j e = absurd (cc i)
+  one_cert (OfStructure m z n ∷ older) is each k l c d p q (inr i) (inl j) e = absurd (cc j)
+  one_cert (OfStructure m z n ∷ older) is each k l c d p q (inr i) (inr j) e = one_cert older is.1 each k l c d p q i j e
 
   -- the release of which a text is a certificate
   pub record ReleasesCert (r : Release) (c : Signed Cert) : Type 0 where

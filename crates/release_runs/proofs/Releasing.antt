@@ -1,4 +1,4 @@
--- What holds after a certificate is declared, and after a structure is signed.
+-- What holds after a certificate is declared or signed again, and after a structure is signed.
 use Rattle.std.proofs.Common.{◌≡◌, ◌+◌, ◌<◌, ℕ, List, ◌∷◌, ◌++◌, length, get_or, arith, Option, Some, None, Ok, Err, IfSome, refl, sym, ap, ◌∙◌, subst, inl, inr}
 use Rattle.std.specs.Prelude.{◌⊎◌, min}
 use Rattle.std.proofs.Math.Nat.{min-le_left, min-le_right}
@@ -9,19 +9,19 @@ use Rattle.lms_sign.specs.Signature.{signature_of}
 use Rattle.leaf_ledger.specs.Ledger.{LeafNumber}
 use Rattle.leaf_ledger.specs.Life.{Call as Handed}
 use Rattle.client_journal.specs.Life.{Appended, Tried, Call as Added}
-use Rattle.client_journal.specs.Records.{Record}
+use Rattle.client_journal.specs.Records.{Record, unsigned}
 use Rattle.version_order.specs.Structure.{Structure, structure}
 use Rattle.update_cert.specs.Cert.{Cert, cert}
 use Rattle.pending_list.specs.declared.signed.Signed.{Signed}
 use Rattle.client_releases.specs.declared.error.ClientError.{ClientError}
 use Rattle.client_releases.specs.declared.phase.Phase.{Phase}
 use Rattle.client_releases.specs.declared.phase.Phase.TheVariants as phase
-use Rattle.client_releases.specs.Releasing.{IsTried, cert_record, ledger_at, no_secret, structure_record, under}
+use Rattle.client_releases.specs.Releasing.{IsKept, IsTried, OthersStay, cert_record, ledger_at, no_secret, structure_record, under}
 use Rattle.client_releases.specs.Told.{HasKey, IsPhase, Released, secret_at, sent}
-use Rattle.release_runs.specs.Steps.{Declares, HasDeclared, HasSigned, Open, Owner, Signs, failed, secret_of}
+use Rattle.release_runs.specs.Steps.{Declares, HasDeclared, HasResigned, HasSigned, Open, Owner, Resigns, Signs, failed, secret_of, with_cert, with_cert_again}
 use Rattle.release_runs.proofs.Files.{Lies, called_sure, files_of, fresh_leaf, lies_on, lies_tried, lies_with, with_tried}
 use Rattle.release_runs.proofs.Holds.{Holds, HoldsAfter, IsAt, numbered_older}
-use Rattle.release_runs.proofs.Stories.{IsAfter, IsNumbered, OfCert, OfStructure, Release, phase_in, record_of, text}
+use Rattle.release_runs.proofs.Stories.{IsAfter, IsNextCert, IsNumberAfter, IsNumbered, OfCert, OfStructure, Release, cert_turn, declared_cert, next_number, number_in, phase_in, record_of, text, text_in}
 
 -- a client that is idle declares nothing
 not_declared : (told now : Phase) → IsPhase told now → now ≡ phase.Idle → told ≡ phase.Declared → ⊥
@@ -83,79 +83,126 @@ module _ (o : Owner) (InTurn : Type 0) (story : List Release) (tried : Option Re
 
   -- ---- certificates
 
+  module _ (n : ℕ) (c : Cert) (new : Released) (at : IsAt o story tried s) (has : HasKey n s) (next : IsNextCert o story c) (others : OthersStay n s.devices new.devices) where
+    cert_is : (q : LeafNumber) → cert_record (sent s n q (cert.spell c)) ≡ record_of o (OfCert n c q)
+    cert_is q = ap cert_record (same_sent n has (cert.spell c) q)
+
+    cert_after : (q : LeafNumber) → q < 1024 → Handed (Some q) (ledger_at n s.devices).file (ledger_at n new.devices).file → IsAfter o story (OfCert n c q)
+    cert_after q small taken = record {
+      next = next;
+      own = own_key n has;
+      small = small;
+      fresh = fresh_leaf o story n s.devices new.devices s.devices.journal.file q (lies_none at.none_tried) taken;
+    }
+
+    -- one is released
+    cert_released : (Now : Type 0) (answer : Bytes) (q : LeafNumber) → (Now → IsNumbered (OfCert n c q ∷ story)) → IsKept q (cert_record (sent s n q (cert.spell c))) (under n s.devices) (under n new.devices)
+        → new ≡ with_cert new.devices s n q c → answer ≡ new.text → Holds o Now (OfCert n c q ∷ story) None (Open new) (answer ∷ texts)
+    cert_released Now answer q numbered kept is text_is =
+        let r = OfCert n c q in
+        let given : answer ≡ text o r = text_is ∙ ap (λ (r : Released). r.text) is ∙ same_sent n has (cert.spell c) q in
+        record {
+          is_story = (cert_after q kept.least.below kept.taken, h.is_story);
+          is_tried = tt;
+          numbered = numbered;
+          lies =
+              lies_with o story r s.devices new.devices s.devices.journal.file new.devices.journal.file (lies_none at.none_tried) others kept.taken
+              (subst (λ (x : Record). Added (Appended x) s.devices.journal.file new.devices.journal.file) (cert_is q) kept.added);
+          own = record {
+            user = ap (λ (r : Released). r.user) is ∙ h.own.user;
+            opened = h.own.opened;
+            secrets = ap (λ (r : Released). r.secrets) is ∙ h.own.secrets;
+            stands = λ up. record {
+              none_tried = refl;
+              number = ap (λ (r : Released). r.number) is;
+              last = ap (λ (r : Released). r.last) is ∙ at.last;
+              text = ap (λ (r : Released). r.text) is ∙ same_sent n has (cert.spell c) q;
+              phase = inl (ap (λ (r : Released). r.phase) is);
+            };
+          };
+          released = λ a i. elim i [ inl e ↦ (r, inl refl, e ∙ given) | inr j ↦ (let k = h.released a j in (k.0, inr k.1, k.2)) ];
+          kept = λ x i. elim i [ inl e ↦ inl (ap (text o) e ∙ sym given) | inr j ↦ inr (h.kept x j) ];
+        }
+
+    -- none is released, since a device failed
+    cert_fails : (Now : Type 0) → (Now → IsNumberAfter story c.number × InTurn) → new ≡ failed new.devices s → IsTried (λ q. cert_record (sent s n q (cert.spell c))) (under n s.devices) (under n new.devices)
+        → (some : Option Release) × IsTriedCert n c some × Holds o Now story some (Open new) texts
+    cert_fails Now numbered is (inl none) = (
+      None,
+      inl refl,
+      fails new is None Now tt (λ t. story_numbered (numbered t).1)
+          (lies_on o story None (files_of s.devices) (files_of new.devices) s.devices.journal.file new.devices.journal.file (lies_none at.none_tried) (called_sure o story n s.devices new.devices s.devices.journal.file None others none.0) none.1),
+    )
+    cert_fails Now numbered is (inr (q, least, taken, added)) = (
+      Some (OfCert n c q),
+      inr (q, refl),
+      fails new is (Some (OfCert n c q)) Now (cert_after q least.below taken) (λ t. ((numbered t).0, story_numbered (numbered t).1))
+          (lies_tried o story (OfCert n c q) s.devices new.devices s.devices.journal.file new.devices.journal.file (lies_none at.none_tried) others taken
+          (subst (λ (x : Record). Added (Tried x) s.devices.journal.file new.devices.journal.file) (cert_is q) added)),
+    )
+
+  -- ---- a certificate that is new
+
   module _ (n : ℕ) (c : Cert) (new : Released) where
     module _ (idle : s.phase ≡ phase.Idle) where
       at_idle : IsAt o story tried s
       at_idle = h.own.stands (λ down. let two : phase.Idle ≡ phase.Failed = sym idle ∙ down in cc two)
 
-      cert_is : HasKey n s → (q : LeafNumber) → cert_record (sent s n q (cert.spell c)) ≡ record_of o (OfCert n c q)
-      cert_is has q = ap cert_record (same_sent n has (cert.spell c) q)
+      no_turn : phase_in story ≡ phase.Declared → ⊥
+      no_turn = not_declared (phase_in story) s.phase at_idle.phase idle
 
-      cert_after : HasKey n s → (q : LeafNumber) → q < 1024 → cert.Fits c → c.user ≡ s.user → Handed (Some q) (ledger_at n s.devices).file (ledger_at n new.devices).file → IsAfter o story (OfCert n c q)
-      cert_after has q small fits user taken = record {
-        next = record { turn = not_declared (phase_in story) s.phase at_idle.phase idle; fits = fits; user = user ∙ h.own.user };
-        own = own_key n has;
-        small = small;
-        fresh = fresh_leaf o story n s.devices new.devices s.devices.journal.file q (lies_none at_idle.none_tried) taken;
-      }
+      cert_next : cert.Fits c → c.user ≡ s.user → IsNextCert o story c
+      cert_next fits user = record { turn = cert_turn story c no_turn; fits = fits; user = user ∙ h.own.user }
 
-      cert_numbered : (q : LeafNumber) → c.number ≡ s.number + 1 → InTurn → IsNumbered (OfCert n c q ∷ story)
-      cert_numbered q next t = (next ∙ ap (λ n. n + 1) at_idle.number, story_numbered t)
+      cert_number : (c.number ≡ s.number + 1) × InTurn → IsNumberAfter story c.number × InTurn
+      cert_number t = (next_number story c.number no_turn (t.0 ∙ ap (λ n. n + 1) at_idle.number), t.1)
 
     pub declares : (answer : Bytes) → HasDeclared s n c (Ok answer) new → (q : LeafNumber) × HoldsAfter o InTurn (OfCert n c q ∷ story) None (Open s) texts (Declares n c (Ok answer)) (Open new)
-    declares answer b =
-        let at = at_idle b.idle in
-        let q = b.declared.0 in
-        let kept = b.declared.1 in
-        let is = b.declared.2 in
-        let r = OfCert n c q in
-        let given : answer ≡ text o r = b.text ∙ ap (λ (r : Released). r.text) is ∙ same_sent n b.has (cert.spell c) q in (
-          q,
-          record {
-            is_story = (cert_after b.idle b.has q kept.least.below b.fits b.user kept.taken, h.is_story);
-            is_tried = tt;
-            numbered = λ t. cert_numbered b.idle q t.0 t.1;
-            lies =
-                lies_with o story r s.devices new.devices s.devices.journal.file new.devices.journal.file (lies_none at.none_tried) b.others kept.taken
-                (subst (λ (x : Record). Added (Appended x) s.devices.journal.file new.devices.journal.file) (cert_is b.idle b.has q) kept.added);
-            own = record {
-              user = ap (λ (r : Released). r.user) is ∙ h.own.user;
-              opened = h.own.opened;
-              secrets = ap (λ (r : Released). r.secrets) is ∙ h.own.secrets;
-              stands = λ up. record {
-                none_tried = refl;
-                number = ap (λ (r : Released). r.number) is;
-                last = ap (λ (r : Released). r.last) is ∙ at.last;
-                text = ap (λ (r : Released). r.text) is ∙ same_sent n b.has (cert.spell c) q;
-                phase = inl (ap (λ (r : Released). r.phase) is);
-              };
-            };
-            released = λ a i. elim i [ inl e ↦ (r, inl refl, e ∙ given) | inr j ↦ (let k = h.released a j in (k.0, inr k.1, k.2)) ];
-            kept = λ x i. elim i [ inl e ↦ inl (ap (text o) e ∙ sym given) | inr j ↦ inr (h.kept x j) ];
-          },
-        )
+    declares answer b = (
+      b.declared.0,
+      cert_released n c new (at_idle b.idle) b.has (cert_next b.idle b.fits b.user) b.others ((c.number ≡ s.number + 1) × InTurn) answer b.declared.0
+          (λ t. let k = cert_number b.idle t in (k.0, story_numbered k.1)) b.declared.1 b.declared.2 b.text,
+    )
 
     pub declare_fails : (e : ClientError) → HasDeclared s n c (Err e) new → (some : Option Release) × IsTriedCert n c some × HoldsAfter o InTurn story some (Open s) texts (Declares n c (Err e)) (Open new)
-    declare_fails e b = go b.tried
-      where
-        at : IsAt o story tried s
-        at = at_idle b.idle
+    declare_fails e b = cert_fails n c new (at_idle b.idle) b.has (cert_next b.idle b.fits b.user) b.others ((c.number ≡ s.number + 1) × InTurn) (cert_number b.idle) b.err b.tried
 
-        go : IsTried (λ q. cert_record (sent s n q (cert.spell c))) (under n s.devices) (under n new.devices) → (some : Option Release) × IsTriedCert n c some × HoldsAfter o InTurn story some (Open s) texts (Declares n c (Err e)) (Open new)
-        go (inl none) = (
-          None,
-          inl refl,
-          fails new b.err None ((c.number ≡ s.number + 1) × InTurn) tt (λ t. story_numbered t.1)
-              (lies_on o story None (files_of s.devices) (files_of new.devices) s.devices.journal.file new.devices.journal.file (lies_none at.none_tried) (called_sure o story n s.devices new.devices s.devices.journal.file None b.others none.0) none.1),
-        )
-        go (inr (q, least, taken, added)) = (
-          Some (OfCert n c q),
-          inr (q, refl),
-          fails new b.err (Some (OfCert n c q)) ((c.number ≡ s.number + 1) × InTurn)
-              (cert_after b.idle b.has q least.below b.fits b.user taken) (λ t. cert_numbered b.idle q t.0 t.1)
-              (lies_tried o story (OfCert n c q) s.devices new.devices s.devices.journal.file new.devices.journal.file (lies_none at.none_tried) b.others taken
-              (subst (λ (x : Record). Added (Tried x) s.devices.journal.file new.devices.journal.file) (cert_is b.idle b.has q) added)),
-        )
+  -- ---- a certificate that is signed again
+
+  module _ (n : ℕ) (new : Released) (now : s.phase ≡ phase.Declared) where
+    at_again : IsAt o story tried s
+    at_again = h.own.stands (λ down. let two : phase.Declared ≡ phase.Failed = sym now ∙ down in cc two)
+
+    again : (c : Cert) × (unsigned (text_in o story) ≡ cert.spell c) × IsNextCert o story c × IsNumberAfter story c.number × (number_in story ≡ c.number)
+    again = declared_cert o story h.is_story (is_declared (phase_in story) s.phase at_again.phase now)
+
+    unsigned_is : unsigned s.text ≡ cert.spell again.0
+    unsigned_is = ap unsigned at_again.text ∙ again.1
+
+    -- what is released then is as if it were declared
+    as_declared : (q : LeafNumber) → with_cert_again new.devices s n q ≡ with_cert new.devices s n q again.0
+    as_declared q =
+        ap (λ (m : Bytes). let r : Released = record s { devices = new.devices; text = sent s n q m } in r) unsigned_is
+        ∙ ap (λ (p : Phase). let r : Released = record s { devices = new.devices; phase = p; text = sent s n q (cert.spell again.0) } in r) now
+        ∙ ap (λ (k : ℕ). let r : Released = record s { devices = new.devices; number = k; phase = phase.Declared; text = sent s n q (cert.spell again.0) } in r) (at_again.number ∙ again.4)
+
+  pub resigns : (n : ℕ) (new : Released) (answer : Bytes) → HasResigned s n (Ok answer) new → (c : Cert) × (q : LeafNumber) × HoldsAfter o InTurn (OfCert n c q ∷ story) None (Open s) texts (Resigns n (Ok answer)) (Open new)
+  resigns n new answer b =
+      let c = again n new b.declared in
+      let q = b.resigned.0 in (
+        c.0,
+        q,
+        cert_released n c.0 new (at_again n new b.declared) b.has c.2 b.others (Unit {0} × InTurn) answer q (λ t. (c.3, story_numbered t.1))
+            (subst (λ (m : Bytes). IsKept q (cert_record (sent s n q m)) (under n s.devices) (under n new.devices)) (unsigned_is n new b.declared) b.resigned.1)
+            (b.resigned.2 ∙ as_declared n new b.declared q) b.text,
+      )
+
+  pub resign_fails : (n : ℕ) (new : Released) (e : ClientError) → HasResigned s n (Err e) new → (c : Cert) × (some : Option Release) × IsTriedCert n c some × HoldsAfter o InTurn story some (Open s) texts (Resigns n (Err e)) (Open new)
+  resign_fails n new e b =
+      let c = again n new b.declared in
+      let t = subst (λ (m : Bytes). IsTried (λ q. cert_record (sent s n q m)) (under n s.devices) (under n new.devices)) (unsigned_is n new b.declared) b.tried in
+      let k = cert_fails n c.0 new (at_again n new b.declared) b.has c.2 b.others (Unit {0} × InTurn) (λ t. (c.3, t.1)) b.err t in
+      (c.0, k.0, k.1, k.2)
 
   -- ---- structures
 

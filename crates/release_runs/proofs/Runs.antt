@@ -10,16 +10,16 @@ use Rattle.client_journal.specs.Records.{Tells, unsigned}
 use Rattle.version_order.specs.Structure.{Structure}
 use Rattle.update_cert.specs.Cert.{Cert}
 use Rattle.client_releases.specs.Told.{cert_in, structure_in}
-use Rattle.release_runs.specs.Steps.{Call, Client, Closed, Closes, Commits, Crashes, Declares, Gains, IsLeft, IsSound, IsStep, Open, Opens, Owner, Parts, Signs, first, journal_of, ledgers_of, secret_of}
+use Rattle.release_runs.specs.Steps.{Call, Client, Closed, Closes, Commits, Crashes, Declares, Gains, IsLeft, IsSound, IsStep, Open, Opens, Owner, Parts, Resigns, Signs, first, journal_of, ledgers_of, secret_of}
 use Rattle.release_runs.specs.Runs.{AreInTurn, Event, IsInTurn, IsRun, client_of}
 use Rattle.release_runs.specs.Released.{leaf_in, released, released_by, signature_in}
 use Rattle.release_runs.specs.UsedOnce.{CertificatesOnce, EachRun, LeavesOnce, StructuresOnce}
 use Rattle.release_runs.proofs.Files.{Lies, file_at, gained_sure, lies_left, lies_on, only_this, still_sure}
 use Rattle.release_runs.proofs.Holds.{Holds, closes, commits, numbered_older}
-use Rattle.release_runs.proofs.Members.{contains_in}
+use Rattle.release_runs.proofs.Members.{In, contains_in}
 use Rattle.release_runs.proofs.Once.{IsBy, came, found_by, key_by, leaf_told, of_cert, of_structure, one_cert, one_leaf, one_structure, own_key, signed_told, small_leaf}
 use Rattle.release_runs.proofs.Opening.{opened_holds}
-use Rattle.release_runs.proofs.Releasing.{declare_fails, declares, sign_fails, signs}
+use Rattle.release_runs.proofs.Releasing.{declare_fails, declares, resign_fails, resigns, sign_fails, signs}
 use Rattle.release_runs.proofs.Stories.{OfCert, OfStructure, Release, key, leaf, mark, text}
 
 module _ (o : Owner) where
@@ -90,6 +90,10 @@ module _ (o : Owner) where
         let k = declares o InTurn story tried texts s h n c new answer is in record { story = OfCert n c k.0 ∷ story; tried = None; held = k.1 }
     step (Open s) (Declares n c (Err e)) (Open new) h is sound =
         let k = declare_fails o InTurn story tried texts s h n c new e is in record { story = story; tried = k.0; held = k.2 }
+    step (Open s) (Resigns n (Ok answer)) (Open new) h is sound =
+        let k = resigns o InTurn story tried texts s h n new answer is in record { story = OfCert n k.0 k.1 ∷ story; tried = None; held = k.2 }
+    step (Open s) (Resigns n (Err e)) (Open new) h is sound =
+        let k = resign_fails o InTurn story tried texts s h n new e is in record { story = story; tried = k.1; held = k.3 }
     step (Open s) (Signs n z (Ok answer)) (Open new) h is sound =
         let k = signs o InTurn story tried texts s h n z new answer is in record { story = OfStructure n z k.0 ∷ story; tried = None; held = k.1 }
     step (Open s) (Signs n z (Err e)) (Open new) h is sound =
@@ -150,9 +154,9 @@ certificates_once o run is turn a b c d has_a has_b in_a in_b same_number =
     let x = of_cert o r.0 came_r.0 came_r.1 c (ap (cert_in o.user) (sym r.2) ∙ in_a) in
     let y = of_cert o s.0 came_s.0 came_s.1 d (ap (cert_in o.user) (sym s.2) ∙ in_b) in
     let same : x.one.number ≡ y.one.number = sym (ap (λ (v : Cert). v.number) x.value) ∙ same_number ∙ ap (λ (v : Cert). v.number) y.value in
-    let one =
-    one_cert o some.story (numbered_older some.story some.tried (h.numbered turn)) r.0 s.0 x.one y.one x.by y.by x.leaf y.leaf x.is y.is r.1 s.1 same in
-    r.2 ∙ ap (text o) one ∙ sym s.2
+    let in_r = subst (λ (z : Release). In z some.story) x.is r.1 in
+    let in_s = subst (λ (z : Release). In z some.story) y.is s.1 in
+    x.value ∙ one_cert o some.story h.is_story (numbered_older some.story some.tried (h.numbered turn)) x.by y.by x.one y.one x.leaf y.leaf in_r in_s same ∙ sym y.value
 
 pub structures_once : EachRun StructuresOnce
 structures_once o run is turn a b y z has_a has_b in_a in_b same_number =

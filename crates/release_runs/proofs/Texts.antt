@@ -6,7 +6,7 @@ use Rattle.std.specs.List.{starts_with}
 use Rattle.std.specs.Option.{option_and_then}
 use Rattle.std.specs.Result.{result_ok}
 use Rattle.std.proofs.lemmas.Bool.{eq-eqb, le-ltb}
-use Rattle.std.proofs.lemmas.List.{append_assoc, length-append, take_all, take_at, drop_at}
+use Rattle.std.proofs.lemmas.List.{append_assoc, length-append, take_all, drop_at}
 use Rattle.std.proofs.lemmas.Nat.{from_be_bytes-to_be_bytes_4}
 use Rattle.layout.specs.declared.error.ReadError.{ReadError}
 use Rattle.layout.specs.declared.error.ReadError.TheVariants.{Short, BadTag, Trailing}
@@ -25,7 +25,6 @@ use Rattle.update_cert.specs.Cert.{Cert, cert, changes}
 use Rattle.update_cert.specs.CertLaws.{lawful_cert}
 use Rattle.pending_list.specs.declared.signed.Signed.{Signed}
 use Rattle.pending_list.specs.Signed.{signature, signed}
-use Rattle.client_journal.specs.Records.{unsigned}
 use Rattle.client_releases.specs.Told.{cert_in, own_in, structure_in}
 use Rattle.release_runs.specs.Released.{leaf_in, signature_in}
 
@@ -34,9 +33,6 @@ use Rattle.release_runs.specs.Released.{leaf_in, signature_in}
 module _ (text sig : List ℕ) (long : length sig ≡ 2508) where
   front_size : length (text ++ sig) - 2508 ≡ length text
   front_size = omega (arith, length-append text sig)
-
-  pub unsigned_of : unsigned (text ++ sig) ≡ text
-  unsigned_of = ap (λ n. take n (text ++ sig)) front_size ∙ take_at text sig (length text) refl
 
   pub signature_at : signature_in (text ++ sig) ≡ sig
   signature_at = ap (λ n. drop n (text ++ sig)) front_size ∙ drop_at text sig (length text) refl

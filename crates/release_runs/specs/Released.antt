@@ -4,7 +4,7 @@ use Rattle.layout.specs.Types.{Bytes}
 use Rattle.lms_sign.specs.Signature.{leaf_of}
 use Rattle.leaf_ledger.specs.Ledger.{LeafNumber}
 use Rattle.client_journal.specs.Records.{signature_size}
-use Rattle.release_runs.specs.Steps.{Call, Client, Closed, Declares, Open, Opens, Signs}
+use Rattle.release_runs.specs.Steps.{Call, Client, Closed, Declares, Open, Opens, Resigns, Signs}
 use Rattle.release_runs.specs.Runs.{Event}
 
 -- a released text has its signature at its end
@@ -24,10 +24,11 @@ abbrev pub found_by : Client → List Bytes
 found_by (Closed p) = []
 found_by (Open s) = found_text s.text
 
--- what a call releases: `declare` and `sign` the text that they give, `open` the one that it finds
+-- what a call releases: `declare`, `resign` and `sign` the text that they give, `open` the one that it finds
 abbrev pub released_by : Call → Client → List Bytes
 released_by (Opens (Ok x)) after = found_by after
 released_by (Declares n c (Ok text)) after = text ∷ []
+released_by (Resigns n (Ok text)) after = text ∷ []
 released_by (Signs n z (Ok text)) after = text ∷ []
 released_by call after = []
 

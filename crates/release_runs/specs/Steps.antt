@@ -8,6 +8,7 @@ use Rattle.layout.specs.Types.{Bytes, User}
 use Rattle.lms_sign.specs.Secret.{Secret}
 use Rattle.leaf_ledger.specs.Device.{History, MayLeave, started}
 use Rattle.leaf_ledger.specs.Ledger.{LeafNumber}
+use Rattle.client_journal.specs.Records.{unsigned}
 use Rattle.version_order.specs.Structure.{Structure, structure}
 use Rattle.update_cert.specs.Cert.{Cert, cert}
 use Rattle.client_releases.specs.declared.error.ClientError.{ClientError}
@@ -56,6 +57,7 @@ pub data Call : Type 0 where
   Closes : Call
   Gains : Call
   Declares : ℕ → Cert → Result Bytes ClientError → Call
+  Resigns : ℕ → Result Bytes ClientError → Call
   Signs : ℕ → Structure → Result Bytes ClientError → Call
   Commits : Call
   Crashes : Call
@@ -84,6 +86,10 @@ abbrev pub with_cert : OwnDevices → Released → ℕ → LeafNumber → Cert �
 with_cert devices s n leaf c =
     record s { devices = devices; number = c.number; phase = phase.Declared; text = sent s n leaf (cert.spell c) }
 
+-- once the certificate that is declared is signed again by it
+abbrev pub with_cert_again : OwnDevices → Released → ℕ → LeafNumber → Released
+with_cert_again devices s n leaf = record s { devices = devices; text = sent s n leaf (unsigned s.text) }
+
 -- and once a structure is signed by it
 abbrev pub with_structure : OwnDevices → Released → ℕ → LeafNumber → Structure → Released
 with_structure devices s n leaf z =
@@ -109,6 +115,18 @@ pub record HasDeclared (s : Released) (n : ℕ) (c : Cert) (answer : Result Byte
       × (new ≡ with_cert new.devices s n leaf c))
   pub text : IfOk answer (λ text. text ≡ new.text)
   pub tried : OnErr answer (IsTried (λ leaf. cert_record (sent s n leaf (cert.spell c))) (under n s.devices)
+      (under n new.devices))
+  pub others : OthersStay n s.devices new.devices
+  pub err : OnErr answer (new ≡ failed new.devices s)
+
+pub record HasResigned (s : Released) (n : ℕ) (answer : Result Bytes ClientError) (new : Released) : Type 0 where
+  pub declared : s.phase ≡ phase.Declared
+  pub has : HasKey n s
+  pub resigned : OnOk answer ((leaf : LeafNumber)
+      × IsKept leaf (cert_record (sent s n leaf (unsigned s.text))) (under n s.devices) (under n new.devices)
+      × (new ≡ with_cert_again new.devices s n leaf))
+  pub text : IfOk answer (λ text. text ≡ new.text)
+  pub tried : OnErr answer (IsTried (λ leaf. cert_record (sent s n leaf (unsigned s.text))) (under n s.devices)
       (under n new.devices))
   pub others : OthersStay n s.devices new.devices
   pub err : OnErr answer (new ≡ failed new.devices s)
@@ -165,6 +183,7 @@ abbrev pub FromOpen : Released → Call → Client → Type 0
 FromOpen s Closes (Closed p) = IsHandedBack s p
 FromOpen s Crashes (Closed p) = IsLeft (Open s) p
 FromOpen s (Declares n c answer) (Open new) = HasDeclared s n c answer new
+FromOpen s (Resigns n answer) (Open new) = HasResigned s n answer new
 FromOpen s (Signs n z answer) (Open new) = HasSigned s n z answer new
 FromOpen s Commits (Open new) = HasCommitted s new
 FromOpen s call after = ⊥

@@ -1,4 +1,5 @@
--- What a user's client releases: of each leaf of each key one text, and of each number one certificate and one structure.
+-- What a user's client releases: of each leaf of each key one text, and of each number one certificate, which may be
+-- signed several times, and one structure.
 use Rattle.std.specs.Prelude.{◌≡◌, ◌<◌, ℕ, List, Some, length}
 use Rattle.std.specs.List.{Contains}
 use Rattle.layout.specs.Types.{Bytes}
@@ -27,13 +28,14 @@ pub record LeavesOnce (o : Owner) (run : List Event) : Type 0 where
   pub once : (a b : Bytes) → Contains (released run) a → Contains (released run) b → key_of a ≡ key_of b
       → leaf_in a ≡ leaf_in b → a ≡ b
 
--- where each certificate has the next number, certificates of one number are one text
+-- Where each certificate that is declared has the next number, certificates of one number are one: they differ at most
+-- by their signatures.
 abbrev pub CertificatesOnce : Owner → List Event → Type 0
 CertificatesOnce o run =
     AreInTurn run → (a b : Bytes) (c d : Signed Cert) → Contains (released run) a → Contains (released run) b
-    → cert_in o.user a ≡ Some c → cert_in o.user b ≡ Some d → c.value.number ≡ d.value.number → a ≡ b
+    → cert_in o.user a ≡ Some c → cert_in o.user b ≡ Some d → c.value.number ≡ d.value.number → c.value ≡ d.value
 
--- and so are structures of one number
+-- and structures of one number are one text
 abbrev pub StructuresOnce : Owner → List Event → Type 0
 StructuresOnce o run =
     AreInTurn run → (a b : Bytes) (y z : Signed Structure) → Contains (released run) a → Contains (released run) b
