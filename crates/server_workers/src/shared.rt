@@ -115,7 +115,9 @@ impl<'a, A: Allocator + Copy, B: ServerName, L: Ledger, R: Wait> Shared<'a, A, B
                 .fetch_add(1, Ordering::SeqCst)
                 .wrapping_add(1),
         );
-        let signer = self.signer(kind, text);
+        let Ok(signer) = signer_of(self.alloc, kind, text) else {
+            return ReplyBody::bare(self.alloc, Status::Memory);
+        };
         // A copy is handed down, since the user is asked for afterwards.
         let copy = signer;
         let verified = self.verification(rt, *seen, copy, text);
@@ -128,14 +130,6 @@ impl<'a, A: Allocator + Copy, B: ServerName, L: Ledger, R: Wait> Shared<'a, A, B
         let (answer, later) = self.locked.lock(rt).call(tally, call, known, user);
         see(seen, later);
         ReplyBody::of(answer)
-    }
-
-    /// Whose signature a call's text bears. None where it bears none, or memory runs out.
-    fn signer(&self, kind: CallKind, text: &[u8]) -> Option<Signer> {
-        match signer_of(self.alloc, kind, text) {
-            Ok(signer) => signer,
-            Err(_) => None,
-        }
     }
 
     /// The signature of a call's text, verified without the lock. None where there is none, or the signer has no key:
