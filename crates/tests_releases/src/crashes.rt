@@ -1,10 +1,11 @@
-//! What these tests share: what they run in, devices in memory, what a crash leaves of them in each way that is tried,
-//! how tables are read, and how errors print.
+//! What these tests share: what they run in, devices in memory and crashes of them, how tables are read, and how errors
+//! print.
 
-use leaf_ledger::{Extent, MemoryDevice};
+use leaf_ledger::MemoryDevice;
 use std::alloc::Global;
 use std::fmt::Display;
 use std::process::Abort;
+use tests_aids::crashes::left_by_crash;
 
 /// What a test runs in.
 pub(crate) trait Host: Alloc<A = Global> + Abort {}
@@ -18,45 +19,13 @@ pub(crate) fn device_of(rt: &impl Host, text: &[u8]) -> MemoryDevice<Global> {
     MemoryDevice::new(alloc, text).expect(rt, "memory")
 }
 
-/// Leaves an extent that was written since the last sync in one of six ways: old, new, or filled with a byte.
-pub(crate) fn leave(
-    rt: &impl Host,
-    left: &mut Vec<u8>,
-    extent: &Extent,
-    written: &[u8],
-    way: usize,
-) {
-    let end = extent.at.saturating_add(extent.size);
-    if way != 0 && left.len() < end {
-        left.resize(end, 0).expect(rt, "memory");
-    }
-    for place in extent.at..end {
-        if let Some(byte) = left.get_mut(place) {
-            match way {
-                0 => {}
-                1 => *byte = written.get(place).copied().unwrap_or(0),
-                2 => *byte = 0,
-                3 => *byte = 1,
-                4 => *byte = 0x7f,
-                _ => *byte = 0xff,
-            }
-        }
-    }
-}
-
-/// The device after a crash with this outcome, whose digits, to base 6, say how each extent is left. What lies past the
-/// old end is cut short where the last extents are left old.
+/// The device after a crash with this outcome.
 pub(crate) fn crashed(
     rt: &impl Host,
     device: MemoryDevice<Global>,
     outcome: usize,
 ) -> MemoryDevice<Global> {
-    let mut left = Vec::from_slice(rt.alloc(), device.synced_text()).expect(rt, "memory");
-    let mut ways = outcome;
-    for extent in device.unsynced() {
-        leave(rt, &mut left, extent, device.text(), ways % 6);
-        ways /= 6;
-    }
+    let left = left_by_crash(rt.alloc(), &device, outcome).expect(rt, "memory");
     match device.crash(left) {
         Ok(device) => device,
         Err((error, _)) => panic!(rt; "{error}"),

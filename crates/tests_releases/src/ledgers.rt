@@ -4,9 +4,7 @@ use crate::crashes::{Host, crashed, device_of, print_lines};
 use leaf_ledger::{CrashError, Device, DeviceError, Ledger, LedgerError, MemoryDevice};
 use lms_sign::{PublicKey, burn};
 use std::alloc::Global;
-
-/// In how many ways a crash leaves two extents.
-const OUTCOMES: usize = 36;
+use tests_aids::crashes::outcomes;
 
 /// The public key whose identifier and root are this byte.
 fn key(rt: &impl Host, byte: u8) -> PublicKey {
@@ -15,18 +13,34 @@ fn key(rt: &impl Host, byte: u8) -> PublicKey {
     PublicKey::from_bytes(bytes).expect(rt, "a key")
 }
 
+/// What a session was refused, how many leaves there are after it, and which leaf was to come at its beginning.
+#[derive(Clone, Copy)]
+struct Told {
+    refused: Option<LedgerError>,
+    count: usize,
+    next: Option<u32>,
+}
+
 /// Opens the ledger of a key, takes leaves while it can, at most so many, and closes it. Their numbers join those
-/// before. What it was refused comes with the device.
+/// before.
 fn session(
     device: MemoryDevice<Global>,
     key: &PublicKey,
     takes: usize,
     numbers: &mut Vec<u32>,
-) -> (Option<LedgerError>, MemoryDevice<Global>) {
+) -> (Told, MemoryDevice<Global>) {
     let mut ledger = match Ledger::open(device, key) {
         Ok(ledger) => ledger,
-        Err((error, device)) => return (Some(error), device),
+        Err((error, device)) => {
+            let told = Told {
+                refused: Some(error),
+                count: numbers.len(),
+                next: None,
+            };
+            return (told, device);
+        }
     };
+    let next = ledger.next_free();
     let mut refused = None;
     for _ in 0..takes {
         if ledger.usable() {
@@ -39,36 +53,46 @@ fn session(
             }
         }
     }
-    (refused, ledger.close())
+    let told = Told {
+        refused,
+        count: numbers.len(),
+        next,
+    };
+    (told, ledger.close())
 }
 
-/// What a session was refused, and how many leaves there are after it.
-type Told = (Option<LedgerError>, usize);
+/// What comes of sessions, and how many outcomes a crash has between them.
+#[derive(Drop)]
+struct Course {
+    numbers: Vec<u32>,
+    told: Vec<Told>,
+    outcomes: usize,
+}
 
 /// The numbers of the leaves that come of sessions on a new device, and what each session tells. Of those before a
 /// crash with this outcome the call after so many fails; each takes so many leaves.
-fn played(
-    rt: &impl Host,
-    before: &[(u64, usize)],
-    outcome: usize,
-    after: &[usize],
-) -> (Vec<u32>, Vec<Told>) {
+fn played(rt: &impl Host, before: &[(u64, usize)], outcome: usize, after: &[usize]) -> Course {
     let key = key(rt, 1);
     let (mut numbers, mut told) = (Vec::new(rt.alloc()), Vec::new(rt.alloc()));
     let mut device = device_of(rt, b"");
     for (failing, takes) in before {
         device.fail_after(*failing);
-        let (refused, closed) = session(device, &key, *takes, &mut numbers);
+        let (session, closed) = session(device, &key, *takes, &mut numbers);
         device = closed;
-        told.push((refused, numbers.len())).expect(rt, "memory");
+        told.push(session).expect(rt, "memory");
     }
+    let outcomes = outcomes(&device);
     device = crashed(rt, device, outcome);
     for takes in after {
-        let (refused, closed) = session(device, &key, *takes, &mut numbers);
+        let (session, closed) = session(device, &key, *takes, &mut numbers);
         device = closed;
-        told.push((refused, numbers.len())).expect(rt, "memory");
+        told.push(session).expect(rt, "memory");
     }
-    (numbers, told)
+    Course {
+        numbers,
+        told,
+        outcomes,
+    }
 }
 
 /// Each number is greater than the one before.
@@ -95,71 +119,95 @@ fn leaves_before(failing: u64) -> u64 {
 }
 
 /// Takes leaves until a call fails, and more after a crash: each leaf before that call came, and the fault was told. No
-/// leaf comes twice, and at most one is lost.
-fn comes_once(rt: &impl Host, failing: u64, outcome: usize) {
-    let (numbers, told) = played(rt, &[(failing, 3)], outcome, &[3, 1]);
-    let [(refused, count), (again, _), _] = told.as_slice() else {
+/// leaf comes twice, and at most one is lost. Tells how many outcomes the crash has.
+fn comes_once(rt: &impl Host, failing: u64, outcome: usize) -> usize {
+    let Course {
+        numbers,
+        told,
+        outcomes,
+    } = played(rt, &[(failing, 3)], outcome, &[3, 1]);
+    let [first, again, _] = told.as_slice() else {
         panic!(rt; "not three sessions");
     };
     let leaves = leaves_before(failing);
-    let is_told = *refused == (failing < CALLS).then_some(LedgerError::Device);
+    let is_told = first.refused == (failing < CALLS).then_some(LedgerError::Device);
     // Only a file that was never whole is refused, or has marks by chance; no leaf came from it. Of any other at most
     // one leaf is lost.
     let most = leaves.saturating_add(4);
     let goes_on = match numbers.last() {
-        Some(last) => again.is_none() && u64::from(*last) <= most,
+        Some(last) => again.refused.is_none() && u64::from(*last) <= most,
         None => false,
     };
     assert!(rt;
-        is_told && *count as u64 == leaves && (goes_on || failing < 5) && ascend(&numbers),
+        is_told && first.count as u64 == leaves && (goes_on || failing < 5) && ascend(&numbers),
         "call {failing}, outcome {outcome}"
     );
+    outcomes
 }
 
+/// A first opening writes a key and marks, and a take one mark: each is left where it fails, and until it is synced.
 #[test]
 fn no_leaf_comes_twice(rt: HostRuntime) {
+    let mut cases = 0usize;
     for failing in 0..=CALLS {
-        for outcome in 0..OUTCOMES {
-            comes_once(&rt, failing, outcome);
+        let outcomes = comes_once(&rt, failing, 0);
+        for outcome in 1..outcomes {
+            let _outcomes = comes_once(&rt, failing, outcome);
         }
+        cases = cases.saturating_add(outcomes);
     }
+    assert_eq!(rt; cases, 1 + 1 + 6 + 36 + 36 + 3 * (6 + 6) + 1);
 }
 
 /// Takes leaves until a call fails, opens the ledger again, where another call may fail, and once more after a crash.
 /// No leaf comes twice, the second open is refused where a call of it fails, and only there, and then one more leaf
-/// comes.
-fn opens_again(rt: &impl Host, failing: u64, later: u64, outcome: usize) {
-    let (numbers, told) = played(rt, &[(failing, 3), (later, 0)], outcome, &[1]);
-    let [_, (refused, _), _] = told.as_slice() else {
+/// comes: the one that was to come when the ledger was opened before the crash. Tells how many outcomes that has.
+fn opens_again(rt: &impl Host, failing: u64, later: u64, outcome: usize) -> usize {
+    let Course {
+        numbers,
+        told,
+        outcomes,
+    } = played(rt, &[(failing, 3), (later, 0)], outcome, &[1]);
+    let [_, second, third] = told.as_slice() else {
         panic!(rt; "not three sessions");
     };
     // A file that was never whole may be refused, or made.
-    let well = *refused == (later < LATER_OPEN_CALLS).then_some(LedgerError::Device)
+    let well = second.refused == (later < LATER_OPEN_CALLS).then_some(LedgerError::Device)
         && numbers.len() as u64 == leaves_before(failing).saturating_add(1);
+    let agree = second.refused.is_some() || second.next == third.next;
     assert!(rt;
-        ascend(&numbers) && (well || failing < 5),
+        ascend(&numbers) && agree && (well || failing < 5),
         "calls {failing} and {later}, outcome {outcome}"
     );
+    outcomes
 }
 
+/// Both calls may leave extents where there was no file, and else the first sync of the later open alone.
 #[test]
 fn each_call_of_a_later_open_fails(rt: HostRuntime) {
+    let mut cases = 0usize;
     for failing in 0..=CALLS {
         for later in 0..=LATER_OPEN_CALLS {
-            for outcome in 0..OUTCOMES {
-                opens_again(&rt, failing, later, outcome);
+            let outcomes = opens_again(&rt, failing, later, 0);
+            for outcome in 1..outcomes {
+                let _outcomes = opens_again(&rt, failing, later, outcome);
             }
+            cases = cases.saturating_add(outcomes);
         }
     }
+    let no_file = 2 * (1 + 1 + 6 + 36 + 36);
+    let part = (6 + 4) + 2 * (36 + 4);
+    let whole = 6 * (6 + 4) + (1 + 4);
+    assert_eq!(rt; cases, no_file + part + whole);
 }
 
 /// The first leaf's mark was written and not synced: a crash leaves 00, 01 and 7f, and this leaf comes then.
 #[test]
 fn marks_that_a_crash_left(rt: HostRuntime) {
     for (outcome, leaf) in [(2, 0), (3, 1), (4, 1)] {
-        let (numbers, _) = played(&rt, &[(6, 1)], outcome, &[1]);
+        let played = played(&rt, &[(6, 1)], outcome, &[1]);
         assert!(rt;
-            numbers.as_slice() == [leaf].as_slice(),
+            played.numbers.as_slice() == [leaf].as_slice(),
             "outcome {outcome}"
         );
     }
@@ -176,8 +224,9 @@ fn as_many_leaves_as_a_key_has(rt: HostRuntime) {
     // Another key, and another length.
     let (foreign, _) = session(device, &second, 1, &mut numbers);
     let (short, _) = session(device_of(&rt, &[0; 1079]), &first, 1, &mut numbers);
-    assert!(rt; none.is_none() && no_leaf == Some(LedgerError::NoLeaf));
-    assert!(rt; foreign == Some(LedgerError::Foreign) && short == foreign);
+    assert!(rt; none.refused.is_none() && no_leaf.refused == Some(LedgerError::NoLeaf));
+    let is_foreign = foreign.refused == Some(LedgerError::Foreign);
+    assert!(rt; is_foreign && short.refused == foreign.refused);
     assert!(rt; numbers.len() == 1024 && ascend(&numbers));
 }
 

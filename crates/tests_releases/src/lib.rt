@@ -7,6 +7,8 @@ mod crashes;
 #[cfg(test)]
 mod files;
 #[cfg(test)]
+mod here;
+#[cfg(test)]
 mod journals;
 #[cfg(test)]
 mod ledgers;
@@ -18,3 +20,5 @@ mod releases;
 mod resigns;
 #[cfg(test)]
 mod signed_again;
+#[cfg(test)]
+mod stops;

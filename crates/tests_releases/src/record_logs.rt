@@ -1,12 +1,13 @@
 //! Logs of records: files and what they tell, each call of the device failing in turn, with crashes, and a log in a
 //! file of the system.
 
-use crate::crashes::{Host, device_of, leave, pieces, print_lines};
+use crate::crashes::{Host, device_of, pieces, print_lines};
 use leaf_ledger::{Device, MemoryDevice};
 use record_log::{LogError, Record, RecordLog};
 use std::alloc::Global;
 use std::fs::{self, File};
 use storage::{DeviceStorage, FileStorage, Storage};
+use tests_aids::crashes::leave;
 
 /// Each record's kind and text.
 fn shown(rt: &impl Host, records: &[Record<Global>]) -> String {
@@ -160,7 +161,7 @@ fn crashed(rt: &impl Host, device: MemoryDevice<Global>, way: usize) -> MemoryDe
     let mut left = Vec::from_slice(rt.alloc(), device.synced_text()).expect(rt, "memory");
     let least = left.len();
     for extent in device.unsynced() {
-        leave(rt, &mut left, extent, device.text(), way % 6);
+        leave(&mut left, extent, device.text(), way % 6).expect(rt, "memory");
     }
     let more = left.len().saturating_sub(least);
     let cut = match way / 6 {

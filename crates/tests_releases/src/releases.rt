@@ -11,25 +11,18 @@ use layout::{Digest, Text, User, Version};
 use leaf_ledger::MemoryDevice;
 use lms_sign::{PrivateKey, SIGNATURE_SIZE, verify};
 use std::alloc::Global;
+use tests_aids::stops::Kept;
 use update_cert::cert_text;
 use version_order::{Entries, GroupRecords, Plan, Structure, Vector};
 
 /// Releases over devices in memory.
-type InMemory = Releases<MemoryDevice<Global>, MemoryDevice<Global>, Global>;
-
-/// What is kept of them while they are closed: the key, the ledger's device and the journal's.
-#[derive(Drop)]
-struct Kept {
-    key: PrivateKey<Global>,
-    ledger: MemoryDevice<Global>,
-    journal: MemoryDevice<Global>,
-}
+pub(crate) type InMemory = Releases<MemoryDevice<Global>, MemoryDevice<Global>, Global>;
 
 /// What they are opened over, and hand back.
 type AllParts = Parts<MemoryDevice<Global>, MemoryDevice<Global>, Global>;
 
 /// What is kept of what was handed back.
-fn kept_of(rt: &impl Host, parts: AllParts) -> Kept {
+pub(crate) fn kept_of(rt: &impl Host, parts: AllParts) -> Kept {
     let (key, ledger, journal) = parts.last().expect(rt, "a key");
     Kept {
         key,
@@ -48,7 +41,7 @@ fn nothing_yet(rt: &impl Host) -> Kept {
 }
 
 /// What a user released over these, or why that isn't opened, and these.
-fn open(rt: &impl Host, user: u8, parts: Kept) -> Result<InMemory, (ClientError, Kept)> {
+pub(crate) fn open(rt: &impl Host, user: u8, parts: Kept) -> Result<InMemory, (ClientError, Kept)> {
     let Kept {
         key,
         ledger,
@@ -97,7 +90,11 @@ fn structure(rt: &impl Host, user: User, number: Version) -> Structure<Global>
 }
 
 /// Declares the operation of this number.
-fn declare(rt: &impl Host, releases: &mut InMemory, number: u32) -> Result<Vec<u8>, ClientError> {
+pub(crate) fn declare(
+    rt: &impl Host,
+    releases: &mut InMemory,
+    number: u32,
+) -> Result<Vec<u8>, ClientError> {
     let number = Version::new(number).expect(rt, "a number");
     let text = certificate(rt, releases.user(), number, Digest::from_bytes([3; 32]));
     assert!(rt; releases.phase() == Phase::Idle);
@@ -107,7 +104,7 @@ fn declare(rt: &impl Host, releases: &mut InMemory, number: u32) -> Result<Vec<u
 }
 
 /// Signs the structure of the declared operation.
-fn sign(rt: &impl Host, releases: &mut InMemory) -> Result<Vec<u8>, ClientError> {
+pub(crate) fn sign(rt: &impl Host, releases: &mut InMemory) -> Result<Vec<u8>, ClientError> {
     let number = Version::new(releases.number()).expect(rt, "a number");
     let structure = structure(rt, releases.user(), number);
     let text = structure.text(rt.alloc()).expect(rt, "memory");
